@@ -2,6 +2,28 @@
 //! the site's configuration, and readers and writers whose failed calls are counted.
 #![tactic(auto)]
 
+mod actor;
+mod amounts;
+mod answer;
+mod event;
+mod limits;
 mod memory;
+mod numbers;
+mod refusal;
+mod state;
+mod view;
 
+pub use actor::Actor;
+pub use amounts::{Cents, Millilitres, Mills};
+pub use answer::Answer;
+pub use event::Event;
+pub use limits::{
+    GREATEST_CENTS, GREATEST_PRESET, GREATEST_PRICE, GREATEST_READING, GREATEST_ROWS, GREATEST_SEQ,
+    GREATEST_SHIFT, GROWTH_LIMIT, NAME_OCTETS, NOZZLES, POINT_CELLS, POINTS, PRODUCTS, TILL_CELLS,
+    TILLS, UNPAID_LIMIT,
+};
 pub use memory::NoMemory;
+pub use numbers::{FpNo, NozzleNo, ProductNo, Seq, TillNo};
+pub use refusal::{NoRow, Refusal};
+pub use state::{PointState, Preset, Status};
+pub use view::{PointView, ProductView, SiteView, TransactionView};

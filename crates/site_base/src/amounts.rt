@@ -1,0 +1,129 @@
+//! Volumes, prices and amounts of money.
+
+ghost use Rattle.std.specs.Prelude.{◌≡◌, ◌≤◌, ◌↔◌, IsSome, IfSome};
+
+use crate::limits::{GREATEST_CENTS, GREATEST_PRICE, GREATEST_READING};
+use std::marker::Model;
+
+/// A meter reading, or the volume of one fuelling, in millilitres: from 0 to `GREATEST_READING`.
+#[derive(Clone, Copy, Debug, PartialEq, Eq)]
+pub struct Millilitres {
+    volume: u64,
+}
+
+impl Model for Millilitres {
+    ghost use Rattle.std.specs.Prelude.{ℕ, ◌≤◌};
+    ghost use Rattle.site_base.specs.declared.limits.TheConstants.{GREATEST_READING};
+
+    ghost Value = { ℕ };
+
+    ghost view = { λ n. n.volume };
+
+    ghost invariant = { λ n. n.volume ≤ GREATEST_READING };
+
+    ghost inverse = { λ n. record { volume = n } };
+}
+
+impl Millilitres {
+    /// This many millilitres, if that is in range.
+    pub fn new(volume: u64) -> Option<Self>
+        ensures valid { IsSome result ↔ (volume ≤ GREATEST_READING) }
+        ensures value { IfSome result (λ n. n ≡ volume) }
+    {
+        if volume <= GREATEST_READING {
+            Some(Millilitres { volume })
+        } else {
+            None
+        }
+    }
+
+    /// The millilitres.
+    pub fn get(self) -> u64
+        ensures value { result ≡ self }
+        ensures range { result ≤ GREATEST_READING }
+    {
+        self.volume
+    }
+}
+
+/// A price in mills (thousandths of the currency unit) per litre, from 1 to `GREATEST_PRICE`.
+#[derive(Clone, Copy, Debug, PartialEq, Eq)]
+pub struct Mills {
+    price: u32,
+}
+
+impl Model for Mills {
+    ghost use Rattle.std.specs.Prelude.{ℕ, ◌≤◌};
+    ghost use Rattle.site_base.specs.declared.limits.TheConstants.{GREATEST_PRICE};
+
+    ghost Value = { ℕ };
+
+    ghost view = { λ n. n.price };
+
+    ghost invariant = { λ n. (1 ≤ n.price) × (n.price ≤ GREATEST_PRICE) };
+
+    ghost inverse = { λ n. record { price = n } };
+}
+
+impl Mills {
+    /// This price, if it is in range.
+    pub fn new(price: u32) -> Option<Self>
+        ensures valid { IsSome result ↔ ((1 ≤ price) × (price ≤ GREATEST_PRICE)) }
+        ensures value { IfSome result (λ n. n ≡ price) }
+    {
+        if 1 <= price && price <= GREATEST_PRICE {
+            Some(Mills { price })
+        } else {
+            None
+        }
+    }
+
+    /// The mills per litre.
+    pub fn get(self) -> u32
+        ensures value { result ≡ self }
+        ensures range { (1 ≤ result) × (result ≤ GREATEST_PRICE) }
+    {
+        self.price
+    }
+}
+
+/// One amount of money in cents, from 0 to `GREATEST_CENTS`.
+#[derive(Clone, Copy, Debug, PartialEq, Eq)]
+pub struct Cents {
+    amount: u64,
+}
+
+impl Model for Cents {
+    ghost use Rattle.std.specs.Prelude.{ℕ, ◌≤◌};
+    ghost use Rattle.site_base.specs.declared.limits.TheConstants.{GREATEST_CENTS};
+
+    ghost Value = { ℕ };
+
+    ghost view = { λ n. n.amount };
+
+    ghost invariant = { λ n. n.amount ≤ GREATEST_CENTS };
+
+    ghost inverse = { λ n. record { amount = n } };
+}
+
+impl Cents {
+    /// This amount, if it is in range.
+    pub fn new(amount: u64) -> Option<Self>
+        ensures valid { IsSome result ↔ (amount ≤ GREATEST_CENTS) }
+        ensures value { IfSome result (λ n. n ≡ amount) }
+    {
+        if amount <= GREATEST_CENTS {
+            Some(Cents { amount })
+        } else {
+            None
+        }
+    }
+
+    /// The cents.
+    pub fn get(self) -> u64
+        ensures value { result ≡ self }
+        ensures range { result ≤ GREATEST_CENTS }
+    {
+        self.amount
+    }
+}

@@ -1,0 +1,211 @@
+//! The numbers by which the parts of a site are called.
+
+ghost use Rattle.std.specs.Prelude.{◌≡◌, ◌≤◌, ◌↔◌, IsSome, IfSome};
+
+use crate::limits::{GREATEST_SEQ, NOZZLES, POINTS, PRODUCTS, TILLS};
+use std::marker::Model;
+
+/// The number of a fuelling point, from 1 to `POINTS`.
+#[derive(Clone, Copy, Debug, PartialEq, Eq)]
+pub struct FpNo {
+    number: u8,
+}
+
+impl Model for FpNo {
+    ghost use Rattle.std.specs.Prelude.{ℕ, ◌≤◌};
+    ghost use Rattle.site_base.specs.declared.limits.TheConstants.{POINTS};
+
+    ghost Value = { ℕ };
+
+    ghost view = { λ n. n.number };
+
+    ghost invariant = { λ n. (1 ≤ n.number) × (n.number ≤ POINTS) };
+
+    ghost inverse = { λ n. record { number = n } };
+}
+
+impl FpNo {
+    /// The fuelling point with this number, if there can be one.
+    pub fn new(number: u8) -> Option<Self>
+        ensures valid { IsSome result ↔ ((1 ≤ number) × (number ≤ POINTS)) }
+        ensures value { IfSome result (λ n. n ≡ number) }
+    {
+        if 1 <= number && number <= POINTS {
+            Some(FpNo { number })
+        } else {
+            None
+        }
+    }
+
+    /// Its number.
+    pub fn get(self) -> u8
+        ensures value { result ≡ self }
+        ensures range { (1 ≤ result) × (result ≤ POINTS) }
+    {
+        self.number
+    }
+}
+
+/// The number of a nozzle at its fuelling point, from 1 to `NOZZLES`.
+#[derive(Clone, Copy, Debug, PartialEq, Eq)]
+pub struct NozzleNo {
+    number: u8,
+}
+
+impl Model for NozzleNo {
+    ghost use Rattle.std.specs.Prelude.{ℕ, ◌≤◌};
+    ghost use Rattle.site_base.specs.declared.limits.TheConstants.{NOZZLES};
+
+    ghost Value = { ℕ };
+
+    ghost view = { λ n. n.number };
+
+    ghost invariant = { λ n. (1 ≤ n.number) × (n.number ≤ NOZZLES) };
+
+    ghost inverse = { λ n. record { number = n } };
+}
+
+impl NozzleNo {
+    /// The nozzle with this number, if there can be one.
+    pub fn new(number: u8) -> Option<Self>
+        ensures valid { IsSome result ↔ ((1 ≤ number) × (number ≤ NOZZLES)) }
+        ensures value { IfSome result (λ n. n ≡ number) }
+    {
+        if 1 <= number && number <= NOZZLES {
+            Some(NozzleNo { number })
+        } else {
+            None
+        }
+    }
+
+    /// Its number.
+    pub fn get(self) -> u8
+        ensures value { result ≡ self }
+        ensures range { (1 ≤ result) × (result ≤ NOZZLES) }
+    {
+        self.number
+    }
+}
+
+/// The number of a till, from 1 to `TILLS`.
+#[derive(Clone, Copy, Debug, PartialEq, Eq)]
+pub struct TillNo {
+    number: u8,
+}
+
+impl Model for TillNo {
+    ghost use Rattle.std.specs.Prelude.{ℕ, ◌≤◌};
+    ghost use Rattle.site_base.specs.declared.limits.TheConstants.{TILLS};
+
+    ghost Value = { ℕ };
+
+    ghost view = { λ n. n.number };
+
+    ghost invariant = { λ n. (1 ≤ n.number) × (n.number ≤ TILLS) };
+
+    ghost inverse = { λ n. record { number = n } };
+}
+
+impl TillNo {
+    /// The till with this number, if there can be one.
+    pub fn new(number: u8) -> Option<Self>
+        ensures valid { IsSome result ↔ ((1 ≤ number) × (number ≤ TILLS)) }
+        ensures value { IfSome result (λ n. n ≡ number) }
+    {
+        if 1 <= number && number <= TILLS {
+            Some(TillNo { number })
+        } else {
+            None
+        }
+    }
+
+    /// Its number.
+    pub fn get(self) -> u8
+        ensures value { result ≡ self }
+        ensures range { (1 ≤ result) × (result ≤ TILLS) }
+    {
+        self.number
+    }
+}
+
+/// The number of a product, from 1 to `PRODUCTS`.
+#[derive(Clone, Copy, Debug, PartialEq, Eq)]
+pub struct ProductNo {
+    number: u8,
+}
+
+impl Model for ProductNo {
+    ghost use Rattle.std.specs.Prelude.{ℕ, ◌≤◌};
+    ghost use Rattle.site_base.specs.declared.limits.TheConstants.{PRODUCTS};
+
+    ghost Value = { ℕ };
+
+    ghost view = { λ n. n.number };
+
+    ghost invariant = { λ n. (1 ≤ n.number) × (n.number ≤ PRODUCTS) };
+
+    ghost inverse = { λ n. record { number = n } };
+}
+
+impl ProductNo {
+    /// The product with this number, if there can be one.
+    pub fn new(number: u8) -> Option<Self>
+        ensures valid { IsSome result ↔ ((1 ≤ number) × (number ≤ PRODUCTS)) }
+        ensures value { IfSome result (λ n. n ≡ number) }
+    {
+        if 1 <= number && number <= PRODUCTS {
+            Some(ProductNo { number })
+        } else {
+            None
+        }
+    }
+
+    /// Its number.
+    pub fn get(self) -> u8
+        ensures value { result ≡ self }
+        ensures range { (1 ≤ result) × (result ≤ PRODUCTS) }
+    {
+        self.number
+    }
+}
+
+/// The sequence number of a transaction at its fuelling point, from 1 to `GREATEST_SEQ`.
+#[derive(Clone, Copy, Debug, PartialEq, Eq)]
+pub struct Seq {
+    number: u16,
+}
+
+impl Model for Seq {
+    ghost use Rattle.std.specs.Prelude.{ℕ, ◌≤◌};
+    ghost use Rattle.site_base.specs.declared.limits.TheConstants.{GREATEST_SEQ};
+
+    ghost Value = { ℕ };
+
+    ghost view = { λ n. n.number };
+
+    ghost invariant = { λ n. (1 ≤ n.number) × (n.number ≤ GREATEST_SEQ) };
+
+    ghost inverse = { λ n. record { number = n } };
+}
+
+impl Seq {
+    /// The sequence number `number`, if it is in range.
+    pub fn new(number: u16) -> Option<Self>
+        ensures valid { IsSome result ↔ ((1 ≤ number) × (number ≤ GREATEST_SEQ)) }
+        ensures value { IfSome result (λ n. n ≡ number) }
+    {
+        if 1 <= number && number <= GREATEST_SEQ {
+            Some(Seq { number })
+        } else {
+            None
+        }
+    }
+
+    /// Its number.
+    pub fn get(self) -> u16
+        ensures value { result ≡ self }
+        ensures range { (1 ≤ result) × (result ≤ GREATEST_SEQ) }
+    {
+        self.number
+    }
+}

@@ -1,0 +1,136 @@
+//! Why the site refuses an event.
+
+ghost use Rattle.std.specs.Prelude.{◌≡◌, ◌≤◌};
+ghost use Rattle.site_base.specs.Refusals.{refusal_number, refusal_detail, no_row_number};
+
+use crate::amounts::Millilitres;
+use crate::memory::NoMemory;
+use crate::numbers::{NozzleNo, TillNo};
+use crate::state::PointState;
+use std::fmt;
+
+/// Why the site refuses an event. The refused event makes a row and changes nothing else. The
+/// variants stand in the order of their numbers, 1 to 24.
+#[derive(Clone, Copy, Debug, PartialEq, Eq)]
+pub enum Refusal {
+    /// The till isn't signed on.
+    NotSignedOn,
+    /// The till is signed on already.
+    SignedOn,
+    /// The site has no such fuelling point.
+    NoSuchPoint,
+    /// The fuelling point has no such nozzle.
+    NoSuchNozzle,
+    /// The site has no such product.
+    NoSuchProduct,
+    /// The fuelling point has no such transaction.
+    NoSuchTransaction,
+    /// Only a manager may do this.
+    NotManager,
+    /// The price is out of range.
+    BadPrice,
+    /// The preset or prepayment is out of range.
+    BadPreset,
+    /// The event isn't accepted in this state of the fuelling point.
+    WrongState(PointState),
+    /// This other till holds the fuelling point.
+    AssignedToOther(TillNo),
+    /// Nobody holds the fuelling point.
+    NotYours,
+    /// The fuelling point isn't this dispenser's, or the event isn't this kind of actor's.
+    NotYourPoint,
+    /// Another nozzle than this one, which is out.
+    WrongNozzle(NozzleNo),
+    /// The fuelling point has as many unpaid transactions as it may.
+    BufferFull,
+    /// The fuelling point has no sequence number left.
+    SequenceSpent,
+    /// The reading isn't the meter's last one, which is expected here.
+    MeterGap(Millilitres),
+    /// The reading is below the meter's last one, which this is.
+    MeterBack(Millilitres),
+    /// The reading is too far above the meter's last one.
+    MeterJump,
+    /// This other till has locked the transaction.
+    LockedByOther(TillNo),
+    /// Nobody has locked the transaction.
+    NotLocked,
+    /// This till has cleared the transaction already.
+    AlreadyCleared(TillNo),
+    /// The fuelling is ending.
+    Ending,
+    /// The last shift is open.
+    ShiftsSpent,
+}
+
+impl Refusal {
+    /// Its number, 1 to 24.
+    pub fn number(&self) -> u8
+        ensures { result ≡ refusal_number self.now }
+    {
+        match self {
+            Refusal::NotSignedOn => 1,
+            Refusal::SignedOn => 2,
+            Refusal::NoSuchPoint => 3,
+            Refusal::NoSuchNozzle => 4,
+            Refusal::NoSuchProduct => 5,
+            Refusal::NoSuchTransaction => 6,
+            Refusal::NotManager => 7,
+            Refusal::BadPrice => 8,
+            Refusal::BadPreset => 9,
+            Refusal::WrongState(_) => 10,
+            Refusal::AssignedToOther(_) => 11,
+            Refusal::NotYours => 12,
+            Refusal::NotYourPoint => 13,
+            Refusal::WrongNozzle(_) => 14,
+            Refusal::BufferFull => 15,
+            Refusal::SequenceSpent => 16,
+            Refusal::MeterGap(_) => 17,
+            Refusal::MeterBack(_) => 18,
+            Refusal::MeterJump => 19,
+            Refusal::LockedByOther(_) => 20,
+            Refusal::NotLocked => 21,
+            Refusal::AlreadyCleared(_) => 22,
+            Refusal::Ending => 23,
+            Refusal::ShiftsSpent => 24,
+        }
+    }
+
+    /// The detail that goes with it: the state, till, nozzle or reading that it names, as a number;
+    /// None where it names none.
+    pub fn detail(&self) -> Option<u64>
+        ensures { result ≡ refusal_detail self.now }
+    {
+        match self {
+            Refusal::WrongState(state) => Some(u64::from(state.number())),
+            Refusal::AssignedToOther(till) => Some(u64::from(till.get())),
+            Refusal::WrongNozzle(nozzle) => Some(u64::from(nozzle.get())),
+            Refusal::MeterGap(expected) => Some(expected.get()),
+            Refusal::MeterBack(last) => Some(last.get()),
+            Refusal::LockedByOther(till) => Some(u64::from(till.get())),
+            Refusal::AlreadyCleared(till) => Some(u64::from(till.get())),
+            _ => None,
+        }
+    }
+}
+
+/// Why an event made no row. Neither the site nor its history has changed.
+#[derive(Clone, Copy, Debug, PartialEq, Eq)]
+pub enum NoRow {
+    /// The history has as many rows as the site file allows.
+    BookFull,
+    /// A growth was refused.
+    NoMemory,
+}
+
+impl NoRow {
+    /// Its number: 30 or 31.
+    pub fn number(self) -> u8
+        ensures { result ≡ no_row_number self }
+    {
+        match self {
+            NoRow::BookFull => 30,
+            NoRow::NoMemory => 31,
+        }
+    }
+}
