@@ -1,2 +1,4 @@
 pub mod States
 pub mod Refusals
+pub mod History
+pub mod Configured

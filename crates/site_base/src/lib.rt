@@ -5,17 +5,20 @@
 mod actor;
 mod amounts;
 mod answer;
+mod config;
 mod event;
 mod limits;
 mod memory;
 mod numbers;
 mod refusal;
+mod row;
 mod state;
 mod view;
 
 pub use actor::Actor;
 pub use amounts::{Cents, Millilitres, Mills};
 pub use answer::Answer;
+pub use config::{NozzleEntry, PointEntry, ProductEntry, SiteConfig};
 pub use event::Event;
 pub use limits::{
     GREATEST_CENTS, GREATEST_PRESET, GREATEST_PRICE, GREATEST_READING, GREATEST_ROWS, GREATEST_SEQ,
@@ -25,5 +28,6 @@ pub use limits::{
 pub use memory::NoMemory;
 pub use numbers::{FpNo, NozzleNo, ProductNo, Seq, TillNo};
 pub use refusal::{NoRow, Refusal};
+pub use row::{Placed, Reply, Row, Rows};
 pub use state::{PointState, Preset, Status};
 pub use view::{PointView, ProductView, SiteView, TransactionView};
