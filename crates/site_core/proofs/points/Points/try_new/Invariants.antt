@@ -1,0 +1,6 @@
+use Rattle.std.proofs.Common.{◌≡◌, take}
+use Rattle.site_core.specs.State.{points_of}
+use Rattle.site_core.proofs.points.Points.try_new.Given as goal
+
+abbrev pub invariant-loop-entry : goal.invariant-loop-entry
+invariant-loop-entry l = l.rows.items ≡ points_of (take l.entry-index l.entries)
