@@ -1,0 +1,4 @@
+pub mod Telegram
+pub mod Spelling
+pub mod Parts
+pub mod Numbers

@@ -1,0 +1,21 @@
+//! Application messages: octets to messages, and messages to octets.
+//!
+//! A `Message` is valid by its type: it is exactly what can be spelled. `encode` writes its one
+//! spelling. A `Decoder` takes a stream in any pieces, and gives the messages in it, up to the first
+//! fault; what it gives doesn't depend on how the stream was cut.
+#![tactic(auto)]
+
+mod fault;
+mod item;
+mod kind;
+mod message;
+mod parts;
+mod token;
+mod writing;
+
+pub use fault::{GrammarFault, MessageFault, StreamFault};
+pub use item::Item;
+pub use kind::Kind;
+pub use message::Message;
+pub use token::Token;
+pub use writing::encode;
