@@ -1,0 +1,5 @@
+pub mod Faults
+pub mod Stages
+pub mod Nodes
+pub mod Addresses
+pub mod Requests

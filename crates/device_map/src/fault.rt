@@ -1,0 +1,53 @@
+//! Why a message means no event.
+
+ghost use Rattle.std.specs.Prelude.{◌≡◌};
+ghost use Rattle.device_map.specs.Faults.{map_number};
+
+use thiserror::Error;
+
+/// Why a message means no event. Of several faults the first in this order is told; no row is made.
+#[derive(Clone, Copy, Debug, PartialEq, Eq, Error)]
+pub enum MapFault {
+    /// It is an Answer, a Notice or an Ack.
+    #[error("the message is no request")]
+    NotARequest,
+    /// Its recipient isn't the site.
+    #[error("the message isn't for this site")]
+    NotForUs,
+    /// A Read or Write comes from no till, or a Report from no dispenser.
+    #[error("the originator may not ask this")]
+    BadOriginator,
+    /// The address is of no database, or of one without requests of this kind.
+    #[error("there is no such database for this kind of message")]
+    BadAddress,
+    /// An item that doesn't belong to the request, or a first item that is no command.
+    #[error("an item doesn't belong to the request")]
+    UnknownItem,
+    /// An item of the request isn't there.
+    #[error("an item is missing")]
+    ItemMissing,
+    /// A sequence number isn't four decimal digits, or is 0000.
+    #[error("a sequence number isn't decimal")]
+    BadDecimal,
+    /// A content of another width, or a number out of its range.
+    #[error("a content has a wrong width or range")]
+    BadNumber,
+}
+
+impl MapFault {
+    /// The number that a reply tells: 50 to 58.
+    pub fn number(self) -> u8
+        ensures { result ≡ map_number self }
+    {
+        match self {
+            MapFault::NotARequest => 58,
+            MapFault::NotForUs => 50,
+            MapFault::BadOriginator => 51,
+            MapFault::BadAddress => 52,
+            MapFault::UnknownItem => 53,
+            MapFault::ItemMissing => 54,
+            MapFault::BadDecimal => 55,
+            MapFault::BadNumber => 56,
+        }
+    }
+}

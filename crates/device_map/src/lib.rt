@@ -1,0 +1,17 @@
+//! Messages and events: which event a message asks for, and which message tells a reply.
+//!
+//! `request_of` answers the pair of actor and event that a request means, or its first fault.
+//! `reply_of`, `refusal_of` and `stream_refusal` make the message that goes back.
+#![tactic(auto)]
+
+mod address;
+mod fault;
+mod ids;
+mod node;
+
+
+mod request;
+
+pub use fault::MapFault;
+
+pub use request::request_of;
