@@ -1,5 +1,5 @@
 -- The database that an address names.
-use Rattle.std.specs.Prelude.{ℕ, ◌+◌, ◌-◌, List, [], ◌∷◌, length, ◌==◌, slice_index, Result, Ok, Err, if◌then◌else◌}
+use Rattle.std.specs.Prelude.{ℕ, ◌+◌, ◌-◌, List, length, ◌==◌, slice_index, Result, Ok, Err, if◌then◌else◌}
 use Rattle.site_base.specs.declared.limits.TheConstants.{POINTS}
 use Rattle.site_base.specs.Configured.{is_between}
 use Rattle.device_map.specs.declared.address.Database.{Database}

@@ -3,3 +3,5 @@ pub mod Stages
 pub mod Nodes
 pub mod Addresses
 pub mod Requests
+pub mod Items
+pub mod Replies
