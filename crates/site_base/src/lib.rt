@@ -2,6 +2,10 @@
 //! the site's configuration, and readers and writers whose failed calls are counted.
 #![tactic(auto)]
 
+mod counted;
 mod memory;
+mod transfer;
 
+pub use counted::Counted;
 pub use memory::NoMemory;
+pub use transfer::{ReadFault, WriteFault, read_piece, write_whole};
