@@ -4,6 +4,8 @@
 
 mod counted;
 mod memory;
+#[cfg(test)]
+mod tests;
 mod transfer;
 
 pub use counted::Counted;
