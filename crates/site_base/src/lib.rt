@@ -6,6 +6,7 @@ mod actor;
 mod amounts;
 mod answer;
 mod config;
+mod counted;
 mod event;
 mod limits;
 mod memory;
@@ -13,12 +14,16 @@ mod numbers;
 mod refusal;
 mod row;
 mod state;
+#[cfg(test)]
+mod tests;
+mod transfer;
 mod view;
 
 pub use actor::Actor;
 pub use amounts::{Cents, Millilitres, Mills};
 pub use answer::Answer;
 pub use config::{NozzleEntry, PointEntry, ProductEntry, SiteConfig};
+pub use counted::Counted;
 pub use event::Event;
 pub use limits::{
     GREATEST_CENTS, GREATEST_PRESET, GREATEST_PRICE, GREATEST_READING, GREATEST_ROWS, GREATEST_SEQ,
@@ -30,4 +35,5 @@ pub use numbers::{FpNo, NozzleNo, ProductNo, Seq, TillNo};
 pub use refusal::{NoRow, Refusal};
 pub use row::{Placed, Reply, Row, Rows};
 pub use state::{PointState, Preset, Status};
+pub use transfer::{ReadFault, WriteFault, read_piece, write_whole};
 pub use view::{PointView, ProductView, SiteView, TransactionView};

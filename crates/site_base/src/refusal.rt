@@ -1,13 +1,13 @@
 //! Why the site refuses an event.
 
-ghost use Rattle.std.specs.Prelude.{◌≡◌, ◌≤◌};
+ghost use Rattle.std.specs.Prelude.{◌≡◌};
 ghost use Rattle.site_base.specs.Refusals.{refusal_number, refusal_detail, no_row_number};
+ghost use Rattle.site_base.specs.declared.refusal.NoRow.TheVariants.{NoMemory as no_memory};
 
 use crate::amounts::Millilitres;
 use crate::memory::NoMemory;
 use crate::numbers::{NozzleNo, TillNo};
 use crate::state::PointState;
-use std::fmt;
 
 /// Why the site refuses an event. The refused event makes a row and changes nothing else. The
 /// variants stand in the order of their numbers, 1 to 24.
@@ -132,5 +132,13 @@ impl NoRow {
             NoRow::BookFull => 30,
             NoRow::NoMemory => 31,
         }
+    }
+}
+
+impl From<NoMemory> for NoRow {
+    ghost from_gives = { λ _ e. e ≡ no_memory };
+
+    fn from(_e: NoMemory) -> NoRow {
+        NoRow::NoMemory
     }
 }
