@@ -1,0 +1,44 @@
+-- The book: a configuration and the rows of its history.
+use Rattle.std.specs.Prelude.{◌≡◌, ℕ, Bool, List, [], ◌∷◌, ◌++◌, length, nat_le, Result}
+use Rattle.site_base.specs.declared.actor.Actor.{Actor}
+use Rattle.site_base.specs.declared.answer.Answer.{Answer}
+use Rattle.site_base.specs.declared.event.Event.{Event}
+use Rattle.site_base.specs.declared.refusal.Refusal.{Refusal}
+use Rattle.site_base.specs.declared.row.Row.{Row}
+use Rattle.site_base.specs.Configured.{Configured}
+use Rattle.site_core.specs.State.{SiteState, opening}
+use Rattle.site_core.specs.Step.{reply_to}
+use Rattle.site_core.specs.Run.{site_of_rows, IsLegal}
+
+-- a configuration, and the rows so far
+pub record Book : Type 0 where
+  pub config : Configured
+  pub rows : List Row
+
+-- the site that the rows lead to, from the opening site
+abbrev pub site_at : Configured → List Row → SiteState
+site_at config rows = site_of_rows (opening config) rows
+
+abbrev pub site_of_book : Book → SiteState
+site_of_book b = site_at b.config b.rows
+
+-- as many rows as the configuration allows
+abbrev pub is_full : Book → Bool
+is_full b = nat_le b.config.rows (length b.rows)
+
+-- the written step's reply at the book's site
+abbrev pub book_reply : Book → Actor → Event → Result Answer Refusal
+book_reply b actor event = reply_to (site_of_book b) actor event
+
+-- the row of the written step at the book's site
+abbrev pub next_row : Book → Actor → Event → Row
+next_row b actor event = record { actor = actor; event = event; reply = book_reply b actor event }
+
+-- the book with that row
+abbrev pub with_row_of : Book → Actor → Event → Book
+with_row_of b actor event = record b { rows = b.rows ++ next_row b actor event ∷ [] }
+
+-- the site is the site of the rows, and the rows are a legal history
+pub record IsBook (config : Configured) (rows : List Row) (site : SiteState) : Type 0 where
+  pub leads : site ≡ site_at config rows
+  pub legal : IsLegal (opening config) rows
