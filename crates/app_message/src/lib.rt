@@ -10,6 +10,7 @@ mod item;
 mod kind;
 mod message;
 mod parts;
+mod reading;
 mod token;
 mod writing;
 
