@@ -5,3 +5,5 @@ pub mod Numbers
 pub mod Grammar
 pub mod Reading
 pub mod Stream
+pub mod Faults
+pub mod Laws

@@ -1,5 +1,5 @@
 -- A stream of octets: its messages, what is left of it, and the fault that ends it.
-use Rattle.std.specs.Prelude.{ℕ, zero, suc, ◌%◌, List, [], ◌∷◌, ◌++◌, length, slice_index, Option, Some, None, Result, Ok, Err}
+use Rattle.std.specs.Prelude.{◌≡◌, ◌≤◌, IfSome, ℕ, zero, suc, ◌%◌, List, [], ◌∷◌, ◌++◌, length, slice_index, Option, Some, None, Result, Ok, Err}
 use Rattle.app_message.specs.declared.fault.GrammarFault.{GrammarFault}
 use Rattle.app_message.specs.declared.fault.StreamFault.{StreamFault}
 use Rattle.app_message.specs.Telegram.{Telegram}
@@ -10,6 +10,9 @@ pub record Stream : Type 0 where
   pub messages : List Telegram
   pub rest : List ℕ
   pub fault : Option StreamFault
+
+abbrev pub stream : List Telegram → List ℕ → Option StreamFault → Stream
+stream ms rest f = record { messages = ms; rest = rest; fault = f }
 
 -- a fault, with the originator and the token of the header at the front of these octets
 abbrev pub fault_of : GrammarFault → List ℕ → StreamFault
@@ -37,6 +40,11 @@ stream_of s = walk (length s) s
 pub record Held : Type 0 where
   pub rest : List ℕ
   pub fault : Option StreamFault
+
+-- at most 1,031 octets are kept, and none after a fault
+pub record IsHeld (h : Held) : Type 0 where
+  pub few : length h.rest ≤ 1031
+  pub quiet : IfSome h.fault (λ _. h.rest ≡ [])
 
 abbrev pub held : Stream → Held
 held t = record { rest = t.rest; fault = t.fault }
