@@ -1,13 +1,12 @@
 -- However a stream is cut, its messages are the same.
-use Rattle.std.proofs.Common.{◌≡◌, ℕ, zero, suc, ◌+◌, ◌%◌, ◌<◌, ◌≤◌, Bool, true, false, cond, eqb, ltb, refl, sym, ap, subst, ◌∙◌, List, [], ◌∷◌, ◌++◌, length, get_or, take, drop, Option, Some, None, Result, Ok, Err, append_assoc, arith, inl, inr}
-use Rattle.std.specs.Prelude.{IfSome}
-use Rattle.std.proofs.lemmas.Bool.{ltb-false, lt-ltb, le-ltb, cases_lt}
+use Rattle.std.proofs.Common.{◌≡◌, ℕ, zero, suc, ◌<◌, ◌≤◌, cond, ltb, refl, sym, ap, subst, ◌∙◌, List, [], ◌∷◌, ◌++◌, length, get_or, take, drop, Option, Some, None, Result, Ok, Err, append_assoc, arith, inl, inr}
+use Rattle.std.proofs.lemmas.Bool.{lt-ltb, le-ltb, cases_lt}
 use Rattle.std.proofs.lemmas.List.{append-nil, length-append, length-drop, get_or_append_left, take-append-le, drop-append-le}
 use Rattle.app_message.specs.declared.fault.GrammarFault.{GrammarFault}
 use Rattle.app_message.specs.declared.fault.StreamFault.{StreamFault}
 use Rattle.app_message.specs.Telegram.{Telegram, AreOctets}
 use Rattle.app_message.specs.Grammar.{Halt, short, fault, ◌>>=◌, Header, header_at, body_at, front_at}
-use Rattle.app_message.specs.Stream.{Stream, stream, fault_of, walked, stream_on, walk, stream_of, Held, IsHeld, held, held_after, fed_from, fed_by}
+use Rattle.app_message.specs.Stream.{Stream, stream, fault_of, walked, stream_on, walk, stream_of, IsHeld, held, held_after, fed_by}
 use Rattle.app_message.proofs.Stages.{AreOctets-drop, bind_ok, guard_ok, ok_is}
 use Rattle.app_message.proofs.Taking.{header_takes}
 use Rattle.app_message.proofs.Ending.{short_bound}
@@ -62,10 +61,10 @@ stays_behind a b h long =
     elim (cases_lt (length (drop 8 a)) h.len) [
       | inl few ↦ rw (lt-ltb (length (drop 8 a)) h.len few) tt
       | inr enough ↦
-        let longer : drop 8 (a ++ b) ≡ drop 8 a ++ b = drop-append-le 8 a b long in
-        let still : h.len ≤ length (drop 8 a ++ b) = omega (arith, enough, length-append (drop 8 a) b) in
-        rw (longer, le-ltb (length (drop 8 a)) h.len enough, le-ltb (length (drop 8 a ++ b)) h.len still, take-append-le h.len (drop 8 a) b enough, drop-append-le h.len (drop 8 a) b enough)
-        (stays_made b (drop h.len (drop 8 a)) (body_at h (take h.len (drop 8 a))))
+          let longer : drop 8 (a ++ b) ≡ drop 8 a ++ b = drop-append-le 8 a b long in
+          let still : h.len ≤ length (drop 8 a ++ b) = omega (arith, enough, length-append (drop 8 a) b) in
+          rw (longer, le-ltb (length (drop 8 a)) h.len enough, le-ltb (length (drop 8 a ++ b)) h.len still, take-append-le h.len (drop 8 a) b enough, drop-append-le h.len (drop 8 a) b enough)
+          (stays_made b (drop h.len (drop 8 a)) (body_at h (take h.len (drop 8 a))))
     ]
 
 header_stays : (a b : List ℕ) → 8 ≤ length a → header_at (a ++ b) ≡ header_at a
@@ -154,10 +153,10 @@ held_in : (n : ℕ) (s : List ℕ) → AreOctets s → length s ≤ n → IsHeld
 held_in zero s fits p = rw (stream_step s) (held_on s (front_at s) fits refl (λ x e. let t = (front_taken s x e).shorter in absurd (omega arith)))
 held_in (suc n) s fits p =
     rw (stream_step s) (held_on s (front_at s) fits refl (λ x e.
-      let t = front_taken s x e in
-      let less = t.shorter in
-      let inside : AreOctets x.1 = rw t.rest (AreOctets-drop t.len (drop 8 s) (AreOctets-drop 8 s fits)) in
-      held_in n x.1 inside (omega arith)))
+    let t = front_taken s x e in
+    let less = t.shorter in
+    let inside : AreOctets x.1 = rw t.rest (AreOctets-drop t.len (drop 8 s) (AreOctets-drop 8 s fits)) in
+    held_in n x.1 inside (omega arith)))
 
 -- what is kept of octets is a short rest, or a fault and nothing else
 pub is_held : (s : List ℕ) → AreOctets s → IsHeld (held_after s)

@@ -1,5 +1,5 @@
 -- Items one after the other, as the loop reads them.
-use Rattle.std.proofs.Common.{◌≡◌, ℕ, zero, suc, ◌+◌, ◌<◌, ◌≤◌, Bool, true, false, cond, eqb, ltb, refl, sym, ap, ◌∙◌, List, [], ◌∷◌, ◌++◌, length, get_or, take, drop, Result, Ok, Err, append_assoc, arith}
+use Rattle.std.proofs.Common.{◌≡◌, ℕ, zero, suc, ◌+◌, ◌<◌, ◌≤◌, cond, eqb, ltb, refl, sym, ap, ◌∙◌, List, [], ◌∷◌, ◌++◌, length, get_or, take, drop, Result, Ok, Err, append_assoc, arith}
 use Rattle.std.proofs.lemmas.Bool.{ltb-false, eq-eqb, ne_eqb}
 use Rattle.std.proofs.lemmas.List.{append-nil, length-drop}
 use Rattle.app_message.specs.declared.reading.Stop.{Stop}
@@ -8,7 +8,7 @@ use Rattle.app_message.specs.declared.fault.GrammarFault.TheVariants.{BadItem}
 use Rattle.app_message.specs.Telegram.{Entry, entry}
 use Rattle.app_message.specs.Grammar.{Halt, short, fault, ◌>>=◌, item_at, items_at}
 use Rattle.app_message.specs.Reading.{Fails}
-use Rattle.app_message.proofs.Stages.{bind_ok, bind_same, guard_ok, ok_is}
+use Rattle.app_message.proofs.Stages.{bind_same, guard_ok, ok_is}
 
 -- an item is read from more octets than it leaves
 pub item_shorter : (low : ℕ) (s : List ℕ) (x : Entry × List ℕ) → item_at low s ≡ Ok x → length x.1 < length s

@@ -1,16 +1,14 @@
 -- What is read is spelled so, and can be spelled.
-use Rattle.std.proofs.Common.{◌≡◌, ◌≢◌, ℕ, zero, suc, ◌+◌, ◌*◌, ◌/◌, ◌%◌, ◌<◌, ◌≤◌, Bool, true, false, cond, eqb, ltb, refl, sym, ap, subst, ◌∙◌, List, [], ◌∷◌, ◌++◌, length, get_or, take, drop, Result, Ok, Err, append_assoc, arith, inl, inr}
-use Rattle.std.specs.Int.{w16, to_be_bytes, from_be_bytes}
+use Rattle.std.proofs.Common.{◌≡◌, ◌≢◌, ℕ, zero, suc, ◌+◌, ◌*◌, ◌/◌, ◌%◌, ◌<◌, ◌≤◌, cond, eqb, ltb, refl, sym, ap, subst, ◌∙◌, List, [], ◌∷◌, ◌++◌, length, get_or, take, drop, Result, Ok, arith, inl, inr}
 use Rattle.std.specs.List.{flat_map}
 use Rattle.std.proofs.lemmas.Bool.{ltb-false, eqb-true, eqb-false, eq-eqb, ne_eqb, cases_eq}
-use Rattle.std.proofs.lemmas.List.{length-append, length-drop, length-take, take-append-drop, append-nil, nil_from_length}
-use Rattle.std.proofs.lemmas.Nat.{be_bytes_2}
+use Rattle.std.proofs.lemmas.List.{length-drop, length-take, take-append-drop, nil_from_length}
 use Rattle.app_message.specs.declared.kind.Kind.{Kind}
 use Rattle.app_message.specs.declared.kind.Kind.TheVariants.{Read, Answer, Write, Report, Notice, Ack}
-use Rattle.app_message.specs.declared.fault.GrammarFault.TheVariants.{BadCode, BadKind, BadLength, BadItem}
-use Rattle.app_message.specs.Telegram.{Entry, entry, Telegram, telegram, AreOctets, IsEntry, Rises}
-use Rattle.app_message.specs.Spelling.{kind_code, item_text, body_text, body, spelling, IsHead, IsMessage}
-use Rattle.app_message.specs.Grammar.{Halt, short, fault, ◌>>=◌, Header, kind_at, length_at, header_at, item_at, items_at, address_at, body_at, front_at}
+use Rattle.app_message.specs.declared.fault.GrammarFault.TheVariants.{BadCode, BadLength, BadItem}
+use Rattle.app_message.specs.Telegram.{Entry, entry, telegram, AreOctets, IsEntry, Rises}
+use Rattle.app_message.specs.Spelling.{kind_code, item_text, body_text, IsHead, IsMessage}
+use Rattle.app_message.specs.Grammar.{Halt, short, fault, ◌>>=◌, Header, kind_at, length_at, header_at, item_at, items_at, address_at}
 use Rattle.app_message.proofs.Stages.{AreOctets-drop, AreOctets-take, bind_ok, guard_ok, guard_else, ok_is}
 
 -- ---- items
@@ -54,16 +52,16 @@ items_take zero low s es all fits e =
 items_take (suc n) low s es all fits e =
     elim (cases_eq (length s) 0) [
       | inl none ↦
-        let done = rw (eq-eqb (length s) 0 none) at e in
-        subst (λ (y : List Entry). ItemsTaken low s y) (ok_is [] es done) (record { rises = tt; parts = nil_from_length s none })
+          let done = rw (eq-eqb (length s) 0 none) at e in
+          subst (λ (y : List Entry). ItemsTaken low s y) (ok_is [] es done) (record { rises = tt; parts = nil_from_length s none })
       | inr some ↦
-        let more = rw (ne_eqb (length s) 0 some) at e in
-        let a = bind_ok (item_at low s) (λ x. items_at n (x.0.id + 1) x.1 >>= λ es. Ok (x.0 ∷ es)) es more in
-        let first = item_takes low s a.0 fits a.1 in
-        let b = bind_ok (items_at n (a.0.0.id + 1) a.0.1) (λ es. Ok (a.0.0 ∷ es)) es a.2 in
-        let others = items_take n (a.0.0.id + 1) a.0.1 b.0 (omega (arith, first.shorter)) first.rest b.1 in
-        let text : s ≡ item_text a.0.0 ++ flat_map item_text b.0 = first.parts ∙ ap (λ (t : List ℕ). item_text a.0.0 ++ t) others.parts in
-        subst (λ (y : List Entry). ItemsTaken low s y) (ok_is (a.0.0 ∷ b.0) es b.2) (record { rises = (first.order, first.valid, others.rises); parts = text })
+          let more = rw (ne_eqb (length s) 0 some) at e in
+          let a = bind_ok (item_at low s) (λ x. items_at n (x.0.id + 1) x.1 >>= λ es. Ok (x.0 ∷ es)) es more in
+          let first = item_takes low s a.0 fits a.1 in
+          let b = bind_ok (items_at n (a.0.0.id + 1) a.0.1) (λ es. Ok (a.0.0 ∷ es)) es a.2 in
+          let others = items_take n (a.0.0.id + 1) a.0.1 b.0 (omega (arith, first.shorter)) first.rest b.1 in
+          let text : s ≡ item_text a.0.0 ++ flat_map item_text b.0 = first.parts ∙ ap (λ (t : List ℕ). item_text a.0.0 ++ t) others.parts in
+          subst (λ (y : List Entry). ItemsTaken low s y) (ok_is (a.0.0 ∷ b.0) es b.2) (record { rises = (first.order, first.valid, others.rises); parts = text })
     ]
 
 -- ---- the body
@@ -124,8 +122,8 @@ kind_step : (b n : ℕ) (k y : Kind) (r : Result Kind Halt) → kind_code k ≡ 
 kind_step b n k y r code next e =
     elim (cases_eq b n) [
       | inl same ↦
-        let here = rw (eq-eqb b n same) at e in
-        ap kind_code (sym (ok_is k y here)) ∙ code ∙ sym same
+          let here = rw (eq-eqb b n same) at e in
+          ap kind_code (sym (ok_is k y here)) ∙ code ∙ sym same
       | inr other ↦ next (rw (ne_eqb b n other) at e)
     ]
 

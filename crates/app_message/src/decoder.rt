@@ -69,7 +69,10 @@ impl Decoder {
                 fault: self.fault,
             });
         }
-        let mut octets = Vec::with_capacity(self.alloc, self.rest.len().saturating_add(piece.len()))?;
+        let mut octets = Vec::with_capacity(
+            self.alloc,
+            self.rest.len().saturating_add(piece.len()),
+        )?;
         octets.extend_from_slice(&self.rest)?;
         octets.extend_from_slice(piece)?;
         let (fed, rest) = walk(self.alloc, &octets)?;
@@ -122,7 +125,13 @@ fn walk(alloc: Global, octets: &[u8]) -> Result<(Fed, &[u8]), NoMemory>
                 let messages = Messages::from_vec(messages);
                 return match stop {
                     Stop::NoMemory => Err(NoMemory),
-                    Stop::Short => Ok((Fed { messages, fault: None }, rest)),
+                    Stop::Short => Ok((
+                        Fed {
+                            messages,
+                            fault: None,
+                        },
+                        rest,
+                    )),
                     Stop::Fault(fault) => {
                         let fault = Some(fault_in(fault, rest));
                         Ok((Fed { messages, fault }, &rest[..0]))

@@ -8,25 +8,21 @@ ghost use Rattle.app_message.specs.Laws.{OctetsAreSpelled, NoPrefix, ReadAgain, 
 /// fault it begins with that fault.
 pub fn octets_are_spelled()
     ensures { OctetsAreSpelled }
-{
-}
+{}
 
 /// Each message has one spelling, and no spelling begins another: where two spellings, each with
 /// octets behind it, are the same octets, the messages are the same and so is what follows.
 pub fn no_prefix()
     ensures { NoPrefix }
-{
-}
+{}
 
 /// What was spelled is read again, whatever follows it.
 pub fn read_again()
     ensures { ReadAgain }
-{
-}
+{}
 
 /// However a stream is cut, its messages are those of the first piece, and then those that the second
 /// brings.
 pub fn any_cutting()
     ensures { AnyCutting }
-{
-}
+{}

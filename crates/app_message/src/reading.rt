@@ -168,9 +168,7 @@ fn body_of(alloc: Global, head: Head, octets: &[u8]) -> Result<Message, Stop>
     let (address, rest) = octets[1..].split_at(size);
     let items = items_of(alloc, rest)?;
     let address = Vec::from_slice(alloc, address)?;
-    Ok(Message::of_parts(
-        head.to, head.from, head.kind, head.token, address, items,
-    ))
+    Ok(Message::of_parts(head.to, head.from, head.kind, head.token, address, items))
 }
 
 /// The message at the front, and the octets after it.

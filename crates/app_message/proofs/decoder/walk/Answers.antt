@@ -1,6 +1,5 @@
-use Rattle.std.proofs.Common.{◌≡◌, ◌≤◌, [], length, Some, None, Err, refl, arith}
-use Rattle.app_message.specs.Grammar.{short, fault, front_at}
-use Rattle.app_message.specs.Stream.{stream, stream_of, fault_of}
+use Rattle.std.proofs.Common.{None, refl, arith}
+use Rattle.app_message.specs.Stream.{stream_of}
 use Rattle.app_message.proofs.Cutting.{fault_long, walk_on, walk_short, walk_fault, kept_is}
 use Rattle.app_message.proofs.decoder.walk.Goals as goal
 

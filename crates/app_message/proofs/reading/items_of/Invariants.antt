@@ -1,4 +1,4 @@
-use Rattle.std.proofs.Common.{◌≡◌, ◌≤◌, length}
+use Rattle.std.proofs.Common.{◌≡◌, length}
 use Rattle.app_message.specs.Grammar.{items_at}
 use Rattle.app_message.proofs.ItemSteps.{with_front}
 use Rattle.app_message.proofs.reading.items_of.Given as goal
