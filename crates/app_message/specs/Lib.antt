@@ -2,3 +2,8 @@ pub mod Telegram
 pub mod Spelling
 pub mod Parts
 pub mod Numbers
+pub mod Grammar
+pub mod Reading
+pub mod Stream
+pub mod Faults
+pub mod Laws

@@ -5,17 +5,24 @@
 //! fault; what it gives doesn't depend on how the stream was cut.
 #![tactic(auto)]
 
+mod decoder;
 mod fault;
 mod item;
 mod kind;
+mod laws;
 mod message;
+mod messages;
 mod parts;
+mod reading;
 mod token;
 mod writing;
 
+pub use decoder::{Decoder, Fed};
 pub use fault::{GrammarFault, MessageFault, StreamFault};
 pub use item::Item;
 pub use kind::Kind;
+pub use laws::{any_cutting, no_prefix, octets_are_spelled, read_again};
 pub use message::Message;
+pub use messages::Messages;
 pub use token::Token;
 pub use writing::encode;

@@ -78,6 +78,28 @@ impl Message {
         })
     }
 
+    /// The message of parts that can be spelled.
+    pub(crate) fn of_parts(
+        to: [u8; 2],
+        from: [u8; 2],
+        kind: Kind,
+        token: Token,
+        address: Vec<u8>,
+        items: Vec<Item>,
+    ) -> Message
+        requires { IsMessage (telegram to from kind token address.items items.items) }
+        ensures { result ≡ telegram to from kind token address.items items.items }
+    {
+        Message {
+            to,
+            from,
+            kind,
+            token,
+            address,
+            items,
+        }
+    }
+
     /// The recipient, as subnet and node.
     pub fn to(&self) -> [u8; 2]
         ensures { result ≡ self.now.to }

@@ -1,6 +1,6 @@
 //! The number by which a reply is matched to its request.
 
-ghost use Rattle.std.specs.Prelude.{◌≡◌, ◌<◌, SomeIff};
+ghost use Rattle.std.specs.Prelude.{◌≡◌, ◌%◌, ◌<◌, SomeIff};
 
 use std::marker::Model;
 
@@ -31,6 +31,15 @@ impl Token {
             Some(Token { number })
         } else {
             None
+        }
+    }
+
+    /// The token in a status octet.
+    pub(crate) fn of_status(status: u8) -> Token
+        ensures { result ≡ status % 32 }
+    {
+        Token {
+            number: status % 32,
         }
     }
 

@@ -1,0 +1,155 @@
+//! A stream of octets that comes in pieces.
+
+ghost use Rattle.std.specs.Prelude.{◌≡◌, ◌≢◌, ◌≤◌, [], length, IfOk, OnOk, OnErr, IfSome, IsSome, IsOk, Err, Some, None};
+ghost use Rattle.app_message.specs.Numbers.{as_message_fault};
+ghost use Rattle.app_message.specs.Stream.{IsHeld, fault_of, stream, stream_of, fed_by, held, held_after};
+
+use crate::fault::{GrammarFault, MessageFault, StreamFault};
+use crate::message::Message;
+use crate::messages::Messages;
+use crate::reading::{self, Stop};
+use crate::token::Token;
+use site_base::NoMemory;
+use std::alloc::Global;
+use std::marker::Model;
+
+/// What a piece of a stream brings.
+#[derive(Debug, Drop)]
+pub struct Fed {
+    /// The messages that end in the piece, in their order.
+    pub messages: Messages,
+    /// The fault that ends the stream, in this piece or an earlier one.
+    pub fault: Option<StreamFault>,
+}
+
+/// A stream of octets, read piece after piece. Messages follow each other without a further frame;
+/// the first fault ends the stream. A decoder keeps the octets of a message to come, at most 1,031,
+/// or the fault, and nothing else.
+#[derive(Drop)]
+pub struct Decoder {
+    alloc: Global,
+    rest: Vec<u8>,
+    fault: Option<StreamFault>,
+}
+
+impl Model for Decoder {
+    ghost use Rattle.app_message.specs.Stream.{Held, IsHeld};
+
+    ghost Value = { Held };
+
+    ghost view = { λ d. record { rest = d.rest.items; fault = d.fault } };
+
+    ghost invariant = { λ d. IsHeld (record { rest = d.rest.items; fault = d.fault }) };
+}
+
+impl Decoder {
+    /// A decoder at the start of a stream. It takes no memory.
+    pub fn new(alloc: Global) -> Decoder
+        ensures { result ≡ held_after [] }
+    {
+        Decoder {
+            alloc,
+            rest: Vec::new(alloc),
+            fault: None,
+        }
+    }
+
+    /// Takes a piece of the stream, and gives the messages that end in it and the fault of the
+    /// stream, if it has one by now. After a fault there are no messages, and the fault stays the
+    /// same. After `NoMemory` the piece isn't taken: the decoder is as before.
+    pub fn feed(&mut self, piece: &[u8]) -> Result<Fed, NoMemory>
+        ensures messages { IfOk result (λ fed. fed.messages ≡ (fed_by self.old piece.now).messages) }
+        ensures fault { IfOk result (λ fed. fed.fault ≡ (fed_by self.old piece.now).fault) }
+        ensures held { OnOk result (self.new ≡ held (fed_by self.old piece.now)) }
+        ensures err { OnErr result (self.new ≡ self.old) }
+    {
+        if self.fault.is_some() {
+            return Ok(Fed {
+                messages: Messages::new(self.alloc),
+                fault: self.fault,
+            });
+        }
+        let mut octets = Vec::with_capacity(
+            self.alloc,
+            self.rest.len().saturating_add(piece.len()),
+        )?;
+        octets.extend_from_slice(&self.rest)?;
+        octets.extend_from_slice(piece)?;
+        let (fed, rest) = walk(self.alloc, &octets)?;
+        self.rest = Vec::from_slice(self.alloc, rest)?;
+        self.fault = fed.fault;
+        Ok(fed)
+    }
+
+    /// Whether the stream may end here: the stream's fault, if it has one; else `Truncated`, if it
+    /// ends inside a message. It takes no memory.
+    pub fn finish(&self) -> Result<(), MessageFault>
+        ensures faulty { IfSome self.now.fault (λ f. result ≡ Err (as_message_fault f.fault)) }
+        ensures truncated { self.now.fault ≡ None → self.now.rest ≢ [] → result ≡ Err MessageFault.Truncated }
+        ensures whole { self.now.fault ≡ None → self.now.rest ≡ [] → IsOk result }
+    {
+        if let Some(fault) = self.fault {
+            return Err(MessageFault::from(fault.fault));
+        }
+        if self.rest.is_empty() {
+            Ok(())
+        } else {
+            Err(MessageFault::Truncated)
+        }
+    }
+
+    /// The number of octets that are kept for a message to come: at most 1,031, and 0 after a fault.
+    pub fn held(&self) -> u16
+        ensures value { result ≡ length self.now.rest }
+        ensures most { result ≤ 1031 }
+        ensures after_fault { IsSome self.now.fault → result ≡ 0 }
+    {
+        self.rest.len() as u16
+    }
+}
+
+/// The messages of a stream with its fault, and what is left of it.
+fn walk(alloc: Global, octets: &[u8]) -> Result<(Fed, &[u8]), NoMemory>
+    ensures exact { IfOk result (λ x. stream x.0.messages x.1.now x.0.fault ≡ stream_of octets.now) }
+    ensures kept { IfOk result (λ x. IsHeld (record { rest = x.1.now; fault = x.0.fault })) }
+{
+    let mut messages = Vec::new(alloc);
+    let mut rest = octets;
+    loop {
+        match reading::front(alloc, rest) {
+            Ok((message, after)) => {
+                messages.push(message)?;
+                rest = after;
+            }
+            Err(stop) => {
+                let messages = Messages::from_vec(messages);
+                return match stop {
+                    Stop::NoMemory => Err(NoMemory),
+                    Stop::Short => Ok((
+                        Fed {
+                            messages,
+                            fault: None,
+                        },
+                        rest,
+                    )),
+                    Stop::Fault(fault) => {
+                        let fault = Some(fault_in(fault, rest));
+                        Ok((Fed { messages, fault }, &rest[..0]))
+                    }
+                };
+            }
+        }
+    }
+}
+
+/// A fault with the originator and the token of the header at the front of these octets.
+fn fault_in(fault: GrammarFault, octets: &[u8]) -> StreamFault
+    requires { 8 ≤ length octets.now }
+    ensures { result ≡ fault_of fault octets.now }
+{
+    StreamFault {
+        fault,
+        originator: [octets[2], octets[3]],
+        token: Token::of_status(octets[5]),
+    }
+}

@@ -1,0 +1,28 @@
+//! The laws that join reading to spelling. They have no code: each is proved of the definitions that
+//! the contracts of this crate cite.
+
+ghost use Rattle.app_message.specs.Laws.{OctetsAreSpelled, NoPrefix, ReadAgain, AnyCutting};
+
+/// Every stream of octets is the spellings of the messages that are read, each of which can be
+/// spelled, and then what is left: without a fault it is the rest, and no whole message; with a
+/// fault it begins with that fault.
+pub fn octets_are_spelled()
+    ensures { OctetsAreSpelled }
+{}
+
+/// Each message has one spelling, and no spelling begins another: where two spellings, each with
+/// octets behind it, are the same octets, the messages are the same and so is what follows.
+pub fn no_prefix()
+    ensures { NoPrefix }
+{}
+
+/// What was spelled is read again, whatever follows it.
+pub fn read_again()
+    ensures { ReadAgain }
+{}
+
+/// However a stream is cut, its messages are those of the first piece, and then those that the second
+/// brings.
+pub fn any_cutting()
+    ensures { AnyCutting }
+{}

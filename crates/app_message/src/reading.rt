@@ -1,0 +1,189 @@
+//! One message from the front of octets, stage after stage.
+
+ghost use Rattle.std.specs.Prelude.{◌≡◌, ◌+◌, ◌*◌, ◌%◌, ◌≤◌, ◌<◌, length, IfOk};
+ghost use Rattle.app_message.specs.Spelling.{IsHead};
+ghost use Rattle.app_message.specs.Grammar.{kind_at, length_at, header_at, item_at, items_at, address_at, body_at, front_at};
+ghost use Rattle.app_message.specs.Reading.{Gives, header};
+ghost use Rattle.app_message.specs.declared.reading.Stop.TheVariants.{NoMemory as no_memory};
+
+use crate::fault::GrammarFault;
+use crate::item::Item;
+use crate::kind::Kind;
+use crate::message::Message;
+use crate::token::Token;
+use std::alloc::{AllocError, AllocFailed, Global};
+
+/// Why no message was read.
+#[derive(Clone, Copy, Debug, PartialEq, Eq)]
+pub enum Stop {
+    /// The allocator refused a growth.
+    NoMemory,
+    /// The octets end before the message does.
+    Short,
+    /// The octets begin with a fault.
+    Fault(GrammarFault),
+}
+
+impl From<AllocError> for Stop {
+    ghost from_gives = { λ _ e. e ≡ no_memory };
+
+    fn from(_e: AllocError) -> Stop {
+        Stop::NoMemory
+    }
+}
+
+impl<T: Drop> From<AllocFailed<T>> for Stop {
+    ghost from_gives = { λ _ e. e ≡ no_memory };
+
+    fn from(_e: AllocFailed<T>) -> Stop {
+        Stop::NoMemory
+    }
+}
+
+/// The first eight octets of a message.
+#[derive(Clone, Copy)]
+pub struct Head {
+    pub to: [u8; 2],
+    pub from: [u8; 2],
+    pub kind: Kind,
+    pub token: Token,
+    pub len: u16,
+}
+
+fn kind_of(bits: u8) -> Result<Kind, Stop>
+    ensures { Gives (λ k. k) result (kind_at bits) }
+{
+    match bits {
+        0 => Ok(Kind::Read),
+        1 => Ok(Kind::Answer),
+        2 => Ok(Kind::Write),
+        3 => Ok(Kind::Report),
+        4 => Ok(Kind::Notice),
+        7 => Ok(Kind::Ack),
+        _ => Err(Stop::Fault(GrammarFault::BadKind)),
+    }
+}
+
+fn length_of(high: u8, low: u8) -> Result<u16, Stop>
+    ensures { Gives (λ n. n) result (length_at (high * 256 + low)) }
+{
+    let len = u16::from(high) * 256 + u16::from(low);
+    if len < 2 {
+        return Err(Stop::Fault(GrammarFault::BadLength));
+    }
+    if len > 1024 {
+        return Err(Stop::Fault(GrammarFault::BadLength));
+    }
+    Ok(len)
+}
+
+#[tactic(auto, unfolding(crate::specs::Grammar::header_at))]
+fn head_of(octets: &[u8]) -> Result<Head, Stop>
+    ensures exact { Gives header result (header_at octets.now) }
+    ensures long { IfOk result (λ h. 8 ≤ length octets.now) }
+{
+    if octets.len() < 8 {
+        return Err(Stop::Short);
+    }
+    if octets[4] != 0 {
+        return Err(Stop::Fault(GrammarFault::BadCode));
+    }
+    let kind = kind_of(octets[5] / 32)?;
+    let len = length_of(octets[6], octets[7])?;
+    Ok(Head {
+        to: [octets[0], octets[1]],
+        from: [octets[2], octets[3]],
+        kind,
+        token: Token::of_status(octets[5]),
+        len,
+    })
+}
+
+#[tactic(auto, unfolding(crate::specs::Grammar::item_at))]
+fn item_of(alloc: Global, low: u16, octets: &[u8]) -> Result<(Item, &[u8]), Stop>
+    ensures exact { Gives (λ x. (x.0, x.1.now)) result (item_at low octets.now) }
+    ensures shorter { IfOk result (λ x. length x.1.now < length octets.now) }
+{
+    if octets.len() < 2 {
+        return Err(Stop::Fault(GrammarFault::BadItem));
+    }
+    if u16::from(octets[0]) < low {
+        return Err(Stop::Fault(GrammarFault::BadItem));
+    }
+    if octets[1] == 255 {
+        return Err(Stop::Fault(GrammarFault::BadItem));
+    }
+    let after = &octets[2..];
+    let size = usize::from(octets[1]);
+    if after.len() < size {
+        return Err(Stop::Fault(GrammarFault::BadItem));
+    }
+    let (content, rest) = after.split_at(size);
+    let item = Item::copied(alloc, octets[0], content)?;
+    Ok((item, rest))
+}
+
+fn items_of(alloc: Global, octets: &[u8]) -> Result<Vec<Item>, Stop>
+    ensures { Gives (λ v. v.items) result (items_at (length octets.now) 0 octets.now) }
+{
+    let mut items = Vec::new(alloc);
+    let mut rest = octets;
+    let mut low = 0u16;
+    while !rest.is_empty() {
+        let (item, after) = item_of(alloc, low, rest)?;
+        low = u16::from(item.id()) + 1;
+        items.push(item)?;
+        rest = after;
+    }
+    Ok(items)
+}
+
+#[tactic(auto, unfolding(crate::specs::Grammar::address_at))]
+fn address_of(octets: &[u8]) -> Result<usize, Stop>
+    requires { 0 < length octets.now }
+    ensures exact { Gives (λ n. n) result (address_at octets.now) }
+    ensures within { IfOk result (λ n. n < length octets.now) }
+{
+    if octets[0] == 0 {
+        return Err(Stop::Fault(GrammarFault::BadLength));
+    }
+    if octets[0] > 8 {
+        return Err(Stop::Fault(GrammarFault::BadLength));
+    }
+    let size = usize::from(octets[0]);
+    if octets.len() < size + 1 {
+        return Err(Stop::Fault(GrammarFault::BadLength));
+    }
+    Ok(size)
+}
+
+#[tactic(auto, unfolding(crate::specs::Grammar::body_at))]
+fn body_of(alloc: Global, head: Head, octets: &[u8]) -> Result<Message, Stop>
+    requires head { IsHead head.to head.from head.token }
+    requires least { 2 ≤ length octets.now }
+    requires most { length octets.now ≤ 1024 }
+    ensures { Gives (λ m. m) result (body_at (header head) octets.now) }
+{
+    let size = address_of(octets)?;
+    let (address, rest) = octets[1..].split_at(size);
+    let items = items_of(alloc, rest)?;
+    let address = Vec::from_slice(alloc, address)?;
+    Ok(Message::of_parts(head.to, head.from, head.kind, head.token, address, items))
+}
+
+/// The message at the front, and the octets after it.
+#[tactic(auto, unfolding(crate::specs::Grammar::front_at))]
+pub fn front(alloc: Global, octets: &[u8]) -> Result<(Message, &[u8]), Stop>
+    ensures exact { Gives (λ x. (x.0, x.1.now)) result (front_at octets.now) }
+    ensures shorter { IfOk result (λ x. length x.1.now < length octets.now) }
+{
+    let head = head_of(octets)?;
+    let after = &octets[8..];
+    let size = usize::from(head.len);
+    if after.len() < size {
+        return Err(Stop::Short);
+    }
+    let (body, rest) = after.split_at(size);
+    let message = body_of(alloc, head, body)?;
+    Ok((message, rest))
+}
