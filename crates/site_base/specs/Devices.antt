@@ -14,7 +14,7 @@ one_more n = min (n + 1) greatest_count
 abbrev pub Rose : ℕ → ℕ → Type 0
 Rose old new = (old < new) ⊎ (new ≡ greatest_count)
 
--- a front of the text was written, and the rest of it was not
+-- a front of the text was written: none of it, some, or all
 pub record AppendsFront (old new : Option (List ℕ)) (text : List ℕ) : Type 0 where
   pub front : List ℕ
   pub rest : List ℕ
