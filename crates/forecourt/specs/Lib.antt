@@ -1,3 +1,5 @@
 pub mod Book
 pub mod Sites
 pub mod Answers
+pub mod Text
+pub mod Replay

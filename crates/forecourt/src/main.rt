@@ -3,6 +3,10 @@
 
 mod answers;
 mod book;
+mod engine;
+mod fault;
+mod line;
+mod replay;
 mod sites;
 
 fn main(rt: HostRuntime) {
