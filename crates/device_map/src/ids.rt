@@ -2,6 +2,7 @@
 
 /// The subnet and the node of the site.
 pub const SITE_SUBNET: u8 = 0x01;
+
 pub const SITE_NODE: u8 = 0x01;
 
 /// The subnet of the tills: till t is node t.
@@ -18,30 +19,54 @@ pub const POINT_ADDRESS: u8 = 0x20;
 
 // Commands.
 pub const SIGN_ON: u8 = 0x31;
+
 pub const OPEN: u8 = 0x3C;
+
 pub const CLOSE: u8 = 0x3D;
 
 // What replies tell.
 pub const RESULT: u8 = 0x01;
+
 pub const DETAIL: u8 = 0x02;
+
 pub const OUTCOME: u8 = 0x03;
+
 pub const STATE: u8 = 0x10;
+
 pub const NOZZLE_OUT: u8 = 0x11;
+
 pub const HOLDER: u8 = 0x12;
+
 pub const ENDING: u8 = 0x13;
+
 pub const PRESET_VOLUME: u8 = 0x50;
+
 pub const PRESET_MONEY: u8 = 0x51;
+
 pub const PRICE: u8 = 0x72;
+
 pub const VOLUME: u8 = 0x73;
+
 pub const SEQUENCE: u8 = 0x74;
+
 pub const CENTS: u8 = 0x75;
+
 pub const SHIFT: u8 = 0x76;
+
 pub const PREPAID: u8 = 0x77;
+
 pub const STATUS: u8 = 0x78;
+
 pub const TILL: u8 = 0x79;
+
 pub const PRODUCT: u8 = 0x7A;
+
 pub const METERED: u8 = 0x7B;
+
 pub const RUNNING: u8 = 0x7C;
+
 pub const PAYABLE: u8 = 0x7D;
+
 pub const LOCKED: u8 = 0x7E;
+
 pub const CLEARED: u8 = 0x7F;

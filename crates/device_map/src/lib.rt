@@ -10,10 +10,8 @@ mod ids;
 mod node;
 mod part;
 mod reply;
-
 mod request;
 
 pub use fault::MapFault;
 pub use reply::{refusal_of, reply_of, stream_refusal};
-
 pub use request::request_of;

@@ -5,13 +5,12 @@ ghost use Rattle.app_message.specs.Telegram.{telegram};
 ghost use Rattle.device_map.specs.Replies.{preset_items, prepaid_items, point_items, transaction_items, product_items, site_items, outcome, answer_items, answer_kind, detail_items, refusal_items, reply_items, reply_kind, reply_message, number_message, fault_message, packed, AreShort, back};
 ghost use Rattle.device_map.specs.Nodes.{site_node};
 
-use crate::ids;
-use crate::node;
 use crate::part::Parts;
+use crate::{ids, node};
 use app_message::{Kind, Message, MessageFault, StreamFault, Token};
 use site_base::{
-    Answer, Cents, GREATEST_SEQ, Mills, NoMemory, NozzleNo, PointView, Preset, ProductView, Refusal,
-    Reply, Seq, SiteView, TillNo, TransactionView,
+    Answer, Cents, GREATEST_SEQ, Mills, NoMemory, NozzleNo, PointView, Preset, ProductView,
+    Refusal, Reply, Seq, SiteView, TillNo, TransactionView,
 };
 use std::alloc::Global;
 
@@ -46,7 +45,14 @@ pub fn stream_refusal(alloc: Global, fault: &StreamFault) -> Result<Message, NoM
     let mut parts = Parts::new(alloc);
     parts.put_octet(ids::RESULT, fault.fault.number())?;
     let address = [ids::SITE_ADDRESS];
-    sent(alloc, fault.originator, Kind::Ack, fault.token, &address, &parts)
+    sent(
+        alloc,
+        fault.originator,
+        Kind::Ack,
+        fault.token,
+        &address,
+        &parts,
+    )
 }
 
 /// From the site to the originator of the request, with its token and address.
@@ -54,7 +60,14 @@ fn back(alloc: Global, request: &Message, kind: Kind, parts: &Parts) -> Result<M
     requires { AreShort parts.now }
     ensures { IfOk result (λ message. message ≡ back request.now kind parts.now) }
 {
-    sent(alloc, request.from(), kind, request.token(), request.address(), parts)
+    sent(
+        alloc,
+        request.from(),
+        kind,
+        request.token(),
+        request.address(),
+        parts,
+    )
 }
 
 /// A message from the site.

@@ -3,3 +3,4 @@ pub mod Sites
 pub mod Answers
 pub mod Text
 pub mod Replay
+pub mod Ends

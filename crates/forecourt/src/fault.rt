@@ -1,6 +1,5 @@
 //! Why a replay ends before its input does, or after it.
 
-
 use app_message::GrammarFault;
 use site_base::{NoMemory, ReadFault, WriteFault};
 use thiserror::Error;

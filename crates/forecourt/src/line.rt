@@ -30,11 +30,7 @@ fn kept(alloc: Global, line: &[u8]) -> Result<Vec<u8>, NoMemory>
 fn without_spaces(alloc: Global, text: &[u8]) -> Result<Vec<u8>, NoMemory>
     ensures { IfOk result (λ v. v.items ≡ filter (λ b. not (b == 32)) text.now) }
 {
-    let kept = text
-        .iter()
-        .copied()
-        .filter(|b| *b != b' ')
-        .collect(alloc)?;
+    let kept = text.iter().copied().filter(|b| *b != b' ').collect(alloc)?;
     Ok(kept)
 }
 

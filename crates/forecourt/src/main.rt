@@ -1,5 +1,9 @@
-//! The forecourt site controller's program.
+//! The forecourt site controller's program. Without arguments it replays lines of messages from
+//! standard input on the site that it knows by itself, and writes a line for each answer.
 #![tactic(auto)]
+
+ghost use Rattle.std.specs.Prelude.{◌≡◌};
+ghost use Rattle.forecourt.specs.Ends.{exit_status};
 
 mod answers;
 mod book;
@@ -9,6 +13,65 @@ mod line;
 mod replay;
 mod sites;
 
-fn main(rt: HostRuntime) {
-    let _ = rt;
+use crate::fault::ReplayFault;
+use crate::replay::replay;
+use crate::sites::known_site;
+use site_base::Counted;
+use std::process::ExitCode;
+use std::{env, io};
+
+/// The read calls and interrupted write calls that a replay may make.
+const TURNS: u64 = 1_000_000_000;
+
+/// The exit status of a mistake on the command line.
+const COMMAND_LINE: u8 = 2;
+
+fn main(rt: HostRuntime) -> ExitCode {
+    if has_arguments(&rt) {
+        return told(eprintln!(&rt; "usage: forecourt < MESSAGES"), COMMAND_LINE);
+    }
+    match replayed(&rt) {
+        None => ExitCode::SUCCESS,
+        Some(fault) => told(eprintln!(&rt; "{fault}"), status_of(fault)),
+    }
+}
+
+/// Are there words behind the program's name? Words that aren't text count too.
+fn has_arguments(rt: &HostRuntime) -> bool {
+    match env::args(rt) {
+        Ok(mut words) => {
+            let _name = words.next();
+            words.next().is_some()
+        }
+        Err(_) => true,
+    }
+}
+
+/// Replays standard input, and answers why the replay ended.
+fn replayed(rt: &HostRuntime) -> Option<ReplayFault> {
+    let alloc = rt.alloc();
+    match known_site(alloc) {
+        Ok(config) => {
+            let mut reader = Counted::new(rt.stdin());
+            let mut writer = Counted::new(rt.stdout());
+            replay(alloc, &config, &mut reader, &mut writer, TURNS).fault
+        }
+        Err(_) => Some(ReplayFault::NoMemory),
+    }
+}
+
+/// The exit status of this fault: 4 for want of memory, else 1.
+fn status_of(fault: ReplayFault) -> u8
+    ensures { result ≡ exit_status fault }
+{
+    match fault {
+        ReplayFault::NoMemory => 4,
+        _ => 1,
+    }
+}
+
+/// The exit status, where standard error took the text; where it didn't, it is the same.
+fn told(printed: io::Result<()>, status: u8) -> ExitCode {
+    let _ = printed;
+    ExitCode::from(status)
 }

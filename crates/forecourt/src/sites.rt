@@ -4,8 +4,8 @@ ghost use Rattle.std.specs.Prelude.{◌≡◌, ◌≤◌, IfOk};
 ghost use Rattle.forecourt.specs.Sites.{known_site, known_points, known_point};
 
 use site_base::{
-    FpNo, GREATEST_PRICE, GREATEST_READING, GREATEST_ROWS, Millilitres, Mills, NoMemory, NozzleEntry,
-    POINTS, PRODUCTS, PointEntry, ProductEntry, ProductNo, SiteConfig, TillNo,
+    FpNo, GREATEST_PRICE, GREATEST_READING, GREATEST_ROWS, Millilitres, Mills, NoMemory,
+    NozzleEntry, POINTS, PRODUCTS, PointEntry, ProductEntry, ProductNo, SiteConfig, TillNo,
 };
 use std::alloc::Global;
 

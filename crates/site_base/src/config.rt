@@ -271,9 +271,7 @@ fn no_till_twice(tills: &[TillNo]) -> bool
 {
     match tills {
         [] => true,
-        [first, rest @ ..] => {
-            !is_among(*first, rest) && no_till_twice(rest)
-        }
+        [first, rest @ ..] => { !is_among(*first, rest) && no_till_twice(rest) }
     }
 }
 
@@ -282,9 +280,7 @@ fn no_product_twice(products: &[ProductEntry]) -> bool
 {
     match products {
         [] => true,
-        [first, rest @ ..] => {
-            !first.is_among(rest) && no_product_twice(rest)
-        }
+        [first, rest @ ..] => { !first.is_among(rest) && no_product_twice(rest) }
     }
 }
 
@@ -293,18 +289,14 @@ fn no_point_twice(points: &[PointEntry]) -> bool
 {
     match points {
         [] => true,
-        [first, rest @ ..] => {
-            !first.is_among(rest) && no_point_twice(rest)
-        }
+        [first, rest @ ..] => { !first.is_among(rest) && no_point_twice(rest) }
     }
 }
 
 fn are_fit_products(products: &[ProductEntry]) -> bool
     ensures { result ≡ are_products products.now }
 {
-    is_count(products.len(), PRODUCTS as usize)
-        && are_named(products)
-        && no_product_twice(products)
+    is_count(products.len(), PRODUCTS as usize) && are_named(products) && no_product_twice(products)
 }
 
 fn are_fit_points(products: &[ProductEntry], points: &[PointEntry]) -> bool
@@ -315,10 +307,7 @@ fn are_fit_points(products: &[ProductEntry], points: &[PointEntry]) -> bool
         && no_point_twice(points)
 }
 
-fn copy_products(
-    alloc: Global,
-    products: &[ProductEntry],
-) -> Result<Vec<ProductEntry>, NoMemory>
+fn copy_products(alloc: Global, products: &[ProductEntry]) -> Result<Vec<ProductEntry>, NoMemory>
     ensures { IfOk result (λ v. v.items ≡ products.now) }
 {
     let mut copies = Vec::new(alloc);
