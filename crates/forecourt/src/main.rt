@@ -12,6 +12,8 @@ mod fault;
 mod line;
 mod replay;
 mod sites;
+#[cfg(test)]
+mod tests;
 
 use crate::fault::ReplayFault;
 use crate::replay::replay;
