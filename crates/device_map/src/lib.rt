@@ -11,6 +11,8 @@ mod node;
 mod part;
 mod reply;
 mod request;
+#[cfg(test)]
+mod tests;
 
 pub use fault::MapFault;
 pub use reply::{refusal_of, reply_of, stream_refusal};

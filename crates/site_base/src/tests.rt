@@ -1,3 +1,5 @@
 //! What no clause says.
 
+mod config;
 mod devices;
+mod refused;

@@ -7,5 +7,7 @@ mod point;
 mod points;
 mod signed_on;
 mod site;
+#[cfg(test)]
+mod tests;
 
 pub use site::Site;
