@@ -1,2 +1,3 @@
 pub mod Books
+pub mod Lines
 pub mod Running

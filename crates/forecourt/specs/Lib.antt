@@ -4,3 +4,4 @@ pub mod Answers
 pub mod Text
 pub mod Replay
 pub mod Ends
+pub mod Laws

@@ -9,6 +9,7 @@ mod answers;
 mod book;
 mod engine;
 mod fault;
+mod laws;
 mod line;
 mod replay;
 mod sites;

@@ -1,0 +1,122 @@
+-- The text of a replay, line by line.
+use Rattle.std.proofs.Common.{◌≡◌, ℕ, suc, ◌+◌, ◌<◌, ◌≤◌, List, [], ◌∷◌, ◌++◌, length, Bool, true, false, cond, not, eqb, leb, Option, Some, None, inl, inr, refl, sym, ap, ◌∙◌, arith, append_assoc, append-nil, length-append}
+use Rattle.std.specs.Prelude.{◌&&◌}
+use Rattle.std.specs.List.{list_all}
+use Rattle.std.proofs.lemmas.Bool.{lt-leb, le-leb, cases_lt}
+use Rattle.app_message.specs.Stream.{Held}
+use Rattle.forecourt.specs.declared.fault.TextFault.{TextFault}
+use Rattle.forecourt.specs.declared.fault.TextFault.TheVariants.{TooLong}
+use Rattle.forecourt.specs.declared.line.TheConstants.{LINE_OCTETS}
+use Rattle.forecourt.specs.Book.{Book}
+use Rattle.forecourt.specs.Text.{State, kept_of, judged, next_line, next, said, stepped, says, after, text_from, ended, last_text}
+use Rattle.forecourt.proofs.Running.{after-append, text_from-append}
+use Rattle.forecourt.specs.Laws.{between, IsLine, LineSays, LastLineSays, LongLineSays, NothingFollows}
+
+-- in a line whose first octets are these
+abbrev within : List ℕ → ℕ → Held → Book → State
+within line number stream book = record { line = line; number = number; stream = stream; book = book; stop = None }
+
+and_both : (a b : Bool) → (a && b) ≡ true → (a ≡ true) × (b ≡ true)
+and_both true b e = (refl, e)
+and_both false b e = absurd cc
+
+not_true : (a : Bool) → not a ≡ true → a ≡ false
+not_true true e = absurd cc
+not_true false e = refl
+
+-- an octet that goes on with the line
+goes_on : (line : List ℕ) (number : ℕ) (stream : Held) (book : Book) (b : ℕ) → eqb b 10 ≡ false → length line < LINE_OCTETS
+    → (next (within line number stream book) b ≡ within (line ++ b ∷ []) number stream book) × (said (within line number stream book) b ≡ [])
+goes_on line number stream book b other short = (rw (other, lt-leb _ _ short) refl, rw other refl)
+
+-- octets that go on with the line
+line_goes_on : (line more : List ℕ) (number : ℕ) (stream : Held) (book : Book) → IsLine more → length line + length more ≤ LINE_OCTETS
+    → (after (within line number stream book) more ≡ within (line ++ more) number stream book) × (text_from (within line number stream book) more ≡ [])
+line_goes_on line [] number stream book plain short = (ap (λ (l : List ℕ). within l number stream book) (sym (append-nil line)), refl)
+line_goes_on line (b ∷ more) number stream book plain short =
+    let parts = and_both (not (eqb b 10)) (list_all (λ (x : ℕ). not (eqb x 10)) more) plain in
+    let on = goes_on line number stream book b (not_true _ parts.0) (omega arith) in
+    let longer : length (line ++ b ∷ []) + length more ≤ LINE_OCTETS = omega (arith, length-append line (b ∷ [])) in
+    let rest = line_goes_on (line ++ b ∷ []) more number stream book parts.1 longer in
+    (
+      ap (λ (s : State). after s more) on.0 ∙ rest.0 ∙ ap (λ (l : List ℕ). within l number stream book) (append_assoc line (b ∷ []) more),
+      ap (λ (t : List ℕ). t ++ text_from (next (within line number stream book) b) more) on.1 ∙ ap (λ (s : State). text_from s more) on.0 ∙ rest.1,
+    )
+
+-- a line feed ends the line
+line_ends : (line : List ℕ) (number : ℕ) (stream : Held) (book : Book)
+    → (after (within line number stream book) (10 ∷ []) ≡ next_line (between number stream book) (judged number stream book (kept_of line)))
+    × (text_from (within line number stream book) (10 ∷ []) ≡ (judged number stream book (kept_of line)).text)
+line_ends line number stream book = (refl, append-nil (judged number stream book (kept_of line)).text)
+
+pub line_says : LineSays
+line_says number stream book line plain short =
+    let on = line_goes_on [] line number stream book plain (omega arith) in
+    let end = line_ends line number stream book in
+    (
+      after-append (between number stream book) line (10 ∷ []) ∙ ap (λ (s : State). after s (10 ∷ [])) on.0 ∙ end.0,
+      text_from-append (between number stream book) line (10 ∷ []) ∙ ap (λ (t : List ℕ). t ++ text_from (after (between number stream book) line) (10 ∷ [])) on.1
+      ∙ ap (λ (s : State). text_from s (10 ∷ [])) on.0 ∙ end.1,
+    )
+
+pub last_line_says : LastLineSays
+last_line_says number stream book line plain short =
+    let on = line_goes_on [] line number stream book plain (omega arith) in
+    (
+      ap ended on.0,
+      ap (λ (t : List ℕ). t ++ last_text (after (between number stream book) line)) on.1 ∙ ap last_text on.0,
+    )
+
+-- ---- the end of the text
+
+pub nothing_follows : NothingFollows
+nothing_follows st f [] stop = (refl, refl)
+nothing_follows st f (b ∷ bs) stop =
+    let stays : next st b ≡ st = ap (λ (s : Option TextFault). stepped s st b) stop in
+    let rest = nothing_follows st f bs stop in
+    (
+      ap (λ (s : State). after s bs) stays ∙ rest.0,
+      ap (λ (t : List ℕ). t ++ text_from (next st b) bs) (ap (λ (s : Option TextFault). says s st b) stop) ∙ ap (λ (s : State). text_from s bs) stays ∙ rest.1,
+    )
+
+-- a line as long as a line may be, in which one more octet stands
+abbrev stopped : List ℕ → ℕ → Held → Book → State
+stopped line number stream book = record { line = line; number = number; stream = stream; book = book; stop = Some (TooLong number) }
+
+record EndsLong (st : State) (number : ℕ) (book : Book) (text : List ℕ) : Type 0 where
+  pub stop : st.stop ≡ Some (TooLong number)
+  pub book_stays : st.book ≡ book
+  pub silent : text ≡ []
+
+too_long : (line more : List ℕ) (number : ℕ) (stream : Held) (book : Book) → IsLine more → length line ≤ LINE_OCTETS → LINE_OCTETS < length line + length more
+    → EndsLong (after (within line number stream book) more) number book (text_from (within line number stream book) more)
+too_long line [] number stream book plain within_limit long = absurd (omega arith)
+too_long line (b ∷ more) number stream book plain within_limit long =
+    let parts = and_both (not (eqb b 10)) (list_all (λ (x : ℕ). not (eqb x 10)) more) plain in
+    elim (cases_lt (length line) LINE_OCTETS) [
+      | inl short ↦ (
+        let on = goes_on line number stream book b (not_true _ parts.0) short in
+        let longer : length (line ++ b ∷ []) ≤ LINE_OCTETS = omega (arith, length-append line (b ∷ [])) in
+        let still : LINE_OCTETS < length (line ++ b ∷ []) + length more = omega (arith, length-append line (b ∷ [])) in
+        let rest = too_long (line ++ b ∷ []) more number stream book parts.1 longer still in
+        record {
+          stop = ap (λ (s : State). (after s more).stop) on.0 ∙ rest.stop;
+          book_stays = ap (λ (s : State). (after s more).book) on.0 ∙ rest.book_stays;
+          silent = ap (λ (t : List ℕ). t ++ text_from (next (within line number stream book) b) more) on.1 ∙ ap (λ (s : State). text_from s more) on.0 ∙ rest.silent;
+        })
+      | inr full ↦ (
+        let other : eqb b 10 ≡ false = not_true _ parts.0 in
+        let stops : next (within line number stream book) b ≡ stopped line number stream book = rw (other, le-leb _ _ full) refl in
+        let says_nothing : said (within line number stream book) b ≡ [] = rw other refl in
+        let rest = nothing_follows (stopped line number stream book) (TooLong number) more refl in
+        record {
+          stop = ap (λ (s : State). (after s more).stop) stops ∙ ap (λ (s : State). s.stop) rest.0;
+          book_stays = ap (λ (s : State). (after s more).book) stops ∙ ap (λ (s : State). s.book) rest.0;
+          silent = ap (λ (t : List ℕ). t ++ text_from (next (within line number stream book) b) more) says_nothing ∙ ap (λ (s : State). text_from s more) stops ∙ rest.1;
+        })
+    ]
+
+pub long_line_says : LongLineSays
+long_line_says number stream book line plain long =
+    let ends = too_long [] line number stream book plain (omega arith) (omega arith) in
+    (ends.stop, ends.book_stays, ends.silent)
