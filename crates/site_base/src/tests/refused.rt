@@ -13,7 +13,7 @@ fn a_refused_room_leaves_the_rows(rt: HostRuntime) {
     let Some(till) = TillNo::new(1) else {
         panic!(&rt; "no till");
     };
-    let row = Row {
+    let row = &Row {
         actor: Actor::Till(till),
         event: Event::SignOn,
         reply: Ok(Answer::Done),
@@ -29,8 +29,8 @@ fn a_refused_room_leaves_the_rows(rt: HostRuntime) {
             room => room,
         };
         assert_eq!(rt; room, Ok(()));
-        rows.push(row);
+        rows.push(*row);
     }
-    assert_eq!(rt; rows.get(5), Some(row));
+    assert_eq!(rt; rows.get(5), Some(*row));
     assert_eq!(rt; rows.get(6), None);
 }
