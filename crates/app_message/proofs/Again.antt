@@ -16,7 +16,7 @@ use Rattle.app_message.specs.Grammar.{Halt, Header, kind_at, header_at, item_at,
 
 -- ---- items
 
-item_again : (low : ℕ) (e : Entry) (s : List ℕ) → low ≤ e.id → IsEntry e → item_at low (item_text e ++ s) ≡ Ok (e, s)
+pub item_again : (low : ℕ) (e : Entry) (s : List ℕ) → low ≤ e.id → IsEntry e → item_at low (item_text e ++ s) ≡ Ok (e, s)
 unfolding item_at
 item_again low e s order valid =
     let n = length e.content in

@@ -5,8 +5,8 @@ use Rattle.std.specs.List.{flat_map}
 use Rattle.std.proofs.lemmas.Bool.{ltb-false}
 use Rattle.std.proofs.lemmas.List.{length-take, take-append-drop}
 use Rattle.std.proofs.lemmas.Nat.{be_bytes_2}
-use Rattle.app_message.specs.Telegram.{Telegram, telegram, AreOctets}
-use Rattle.app_message.specs.Spelling.{kind_code, body, spelling, IsHead, IsMessage}
+use Rattle.app_message.specs.Telegram.{Entry, Telegram, telegram, AreOctets}
+use Rattle.app_message.specs.Spelling.{kind_code, body_text, spelling, IsHead, IsMessage}
 use Rattle.app_message.specs.Grammar.{Halt, short, fault, ◌>>=◌, Header, header_at, items_at, address_at, body_at, front_at}
 use Rattle.app_message.specs.Stream.{stream_on, stream_of}
 use Rattle.app_message.specs.Laws.{IsStream}
@@ -69,6 +69,23 @@ pub record FrontSpelled (s : List ℕ) (x : Telegram × List ℕ) : Type 0 where
   pub valid : IsMessage x.0
   pub parts : s ≡ spelling x.0 ++ x.1
 
+-- a header, a body as long as it says, and what is left
+joined : (s : List ℕ) (h : Header) (address : List ℕ) (items : List Entry) (text left : List ℕ) → s ≡ head_text h ++ drop 8 s → drop 8 s ≡ text ++ left → text ≡ body_text address items → length text ≡ h.len
+    → s ≡ spelling (telegram h.to h.from h.kind h.token address items) ++ left
+joined s h address items text left parts behind is size =
+    let made : List ℕ = body_text address items in
+    let head : List ℕ → List ℕ = λ b. h.to ++ h.from ++ (0 ∷ (kind_code h.kind * 32 + h.token) ∷ b) in
+    let len : h.len ≡ length made = sym size ∙ ap (λ (b : List ℕ). length b) is in
+    let tail : drop 8 s ≡ made ++ left = behind ∙ ap (λ (b : List ℕ). b ++ left) is in
+    let whole : s ≡ head (to_be_bytes w16 h.len) ++ (made ++ left) = parts ∙ ap (λ (b : List ℕ). head (to_be_bytes w16 h.len) ++ b) tail in
+    let counted : s ≡ head (to_be_bytes w16 (length made)) ++ (made ++ left) = whole ∙ ap (λ (k : ℕ). head (to_be_bytes w16 k) ++ (made ++ left)) len in
+    counted ∙ sym (append_assoc (head (to_be_bytes w16 (length made))) made left)
+
+spelled_as : (s : List ℕ) (made m : Telegram) (left : List ℕ) (x : Telegram × List ℕ) → IsMessage made → s ≡ spelling made ++ left → made ≡ m → (m, left) ≡ x → FrontSpelled s x
+spelled_as s made m left x valid parts is pair =
+    let here : (made, left) ≡ x = ap (λ (y : Telegram). (y, left)) is ∙ pair in
+    subst (λ (y : Telegram × List ℕ). FrontSpelled s y) here (record { valid = valid; parts = parts })
+
 pub front_spelled : (s : List ℕ) (x : Telegram × List ℕ) → AreOctets s → front_at s ≡ Ok x → FrontSpelled s x
 unfolding front_at body_at
 front_spelled s x fits e =
@@ -88,14 +105,11 @@ front_spelled s x fits e =
     let taken = body_takes h.0.to h.0.from h.0.kind h.0.token text n.0 items.0 spelled.head inside least most n.1 items.1 in
     let made : Telegram = telegram h.0.to h.0.from h.0.kind h.0.token (take n.0 (drop 1 text)) items.0 in
     let left : List ℕ = drop h.0.len (drop 8 s) in
-    let len : h.0.len ≡ length (body made) = sym size ∙ ap (λ (b : List ℕ). length b) taken.parts in
-    let behind : drop 8 s ≡ body made ++ left = sym (take-append-drop h.0.len (drop 8 s)) ∙ ap (λ (b : List ℕ). b ++ left) taken.parts in
-    let head : List ℕ → List ℕ = λ b. h.0.to ++ h.0.from ++ (0 ∷ (kind_code h.0.kind * 32 + h.0.token) ∷ b) in
-    let whole : s ≡ head (to_be_bytes w16 (length (body made))) ++ (body made ++ left) = spelled.parts ∙ ap (λ (b : List ℕ). head (to_be_bytes w16 h.0.len) ++ b) behind ∙ ap (λ (k : ℕ). head (to_be_bytes w16 k) ++ (body made ++ left)) len in
+    let behind : drop 8 s ≡ text ++ left = sym (take-append-drop h.0.len (drop 8 s)) in
+    let whole = joined s h.0 (take n.0 (drop 1 text)) items.0 text left spelled.parts behind taken.parts size in
     let made_is : made ≡ m.0 = ok_is made m.0 items.2 in
     let pair : (m.0, left) ≡ x = ok_is (m.0, left) x m.2 in
-    let here : (made, left) ≡ x = ap (λ (y : Telegram). (y, left)) made_is ∙ pair in
-    subst (λ (y : Telegram × List ℕ). FrontSpelled s y) here (record { valid = taken.valid; parts = whole ∙ sym (append_assoc (head (to_be_bytes w16 (length (body made)))) (body made) left) })
+    spelled_as s made m.0 left x taken.valid whole made_is pair
 
 -- ---- the stream
 

@@ -45,6 +45,12 @@ pub record ItemsTaken (low : ℕ) (s : List ℕ) (es : List Entry) : Type 0 wher
   pub rises : Rises low es
   pub parts : s ≡ flat_map item_text es
 
+items_then : (low : ℕ) (s : List ℕ) (e : Entry) (t : List ℕ) (es : List Entry) → ItemTaken low s (e, t) → ItemsTaken (e.id + 1) t es → ItemsTaken low s (e ∷ es)
+items_then low s e t es first others = record {
+  rises = (first.order, first.valid, others.rises);
+  parts = first.parts ∙ ap (λ (x : List ℕ). item_text e ++ x) others.parts;
+}
+
 pub items_take : (n low : ℕ) (s : List ℕ) (es : List Entry) → length s ≤ n → AreOctets s → items_at n low s ≡ Ok es → ItemsTaken low s es
 unfolding items_at
 items_take zero low s es all fits e =
@@ -60,8 +66,7 @@ items_take (suc n) low s es all fits e =
           let first = item_takes low s a.0 fits a.1 in
           let b = bind_ok (items_at n (a.0.0.id + 1) a.0.1) (λ es. Ok (a.0.0 ∷ es)) es a.2 in
           let others = items_take n (a.0.0.id + 1) a.0.1 b.0 (omega (arith, first.shorter)) first.rest b.1 in
-          let text : s ≡ item_text a.0.0 ++ flat_map item_text b.0 = first.parts ∙ ap (λ (t : List ℕ). item_text a.0.0 ++ t) others.parts in
-          subst (λ (y : List Entry). ItemsTaken low s y) (ok_is (a.0.0 ∷ b.0) es b.2) (record { rises = (first.order, first.valid, others.rises); parts = text })
+          subst (λ (y : List Entry). ItemsTaken low s y) {x = a.0.0 ∷ b.0} (ok_is (a.0.0 ∷ b.0) es b.2) (items_then low s a.0.0 a.0.1 b.0 first others)
     ]
 
 -- ---- the body

@@ -24,6 +24,10 @@ pub record IsStream (s : List ℕ) (t : Stream) : Type 0 where
 abbrev pub OctetsAreSpelled : Type 0
 OctetsAreSpelled = (s : List ℕ) → AreOctets s → IsStream s (stream_of s)
 
+-- of no other stream can that be said: the octets fix the messages, the rest and the fault
+abbrev pub OneStream : Type 0
+OneStream = (s : List ℕ) (t : Stream) → AreOctets s → IsStream s t → t ≡ stream_of s
+
 -- no spelling begins another, and two messages have two spellings
 abbrev pub NoPrefix : Type 0
 NoPrefix = (m n : Telegram) (a b : List ℕ) → IsMessage m → IsMessage n → spelling m ++ a ≡ spelling n ++ b → (m ≡ n) × (a ≡ b)

@@ -1,6 +1,6 @@
 //! A stream of octets that comes in pieces.
 
-ghost use Rattle.std.specs.Prelude.{◌≡◌, ◌≢◌, ◌≤◌, [], length, IfOk, OnOk, OnErr, IfSome, IsSome, IsOk, Err, Some, None};
+ghost use Rattle.std.specs.Prelude.{◌≡◌, ◌≢◌, ◌≤◌, [], length, IfOk, OnOk, OnErr, IfSome, IsSome, IsOk, IsOkAnd, Err, Some, None};
 ghost use Rattle.app_message.specs.Numbers.{as_message_fault};
 ghost use Rattle.app_message.specs.Stream.{IsHeld, fault_of, stream, stream_of, fed_by, held, held_after};
 
@@ -58,10 +58,14 @@ impl Decoder {
     /// stream, if it has one by now. After a fault there are no messages, and the fault stays the
     /// same. After `NoMemory` the piece isn't taken: the decoder is as before.
     pub fn feed(&mut self, piece: &[u8]) -> Result<Fed, NoMemory>
+        // What the piece brings is the stream of what was kept and the piece.
         ensures messages { IfOk result (λ fed. fed.messages ≡ (fed_by self.old piece.now).messages) }
         ensures fault { IfOk result (λ fed. fed.fault ≡ (fed_by self.old piece.now).fault) }
         ensures held { OnOk result (self.new ≡ held (fed_by self.old piece.now)) }
         ensures err { OnErr result (self.new ≡ self.old) }
+
+        // After a fault no memory is taken, and the answer is that fault for good.
+        ensures after_fault { IfSome self.old.fault (λ f. IsOkAnd result (λ fed. (fed.messages ≡ []) × (fed.fault ≡ Some f))) }
     {
         if self.fault.is_some() {
             return Ok(Fed {

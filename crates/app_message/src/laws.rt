@@ -1,13 +1,18 @@
 //! The laws that join reading to spelling. They have no code: each is proved of the definitions that
 //! the contracts of this crate cite.
 
-ghost use Rattle.app_message.specs.Laws.{OctetsAreSpelled, NoPrefix, ReadAgain, AnyCutting};
+ghost use Rattle.app_message.specs.Laws.{OctetsAreSpelled, OneStream, NoPrefix, ReadAgain, AnyCutting};
 
 /// Every stream of octets is the spellings of the messages that are read, each of which can be
 /// spelled, and then what is left: without a fault it is the rest, and no whole message; with a
 /// fault it begins with that fault.
 pub fn octets_are_spelled()
     ensures { OctetsAreSpelled }
+{}
+
+/// Octets are spelled so in one way only: the messages, the rest and the fault of a stream are fixed.
+pub fn one_stream()
+    ensures { OneStream }
 {}
 
 /// Each message has one spelling, and no spelling begins another: where two spellings, each with

@@ -21,8 +21,11 @@ pub use decoder::{Decoder, Fed};
 pub use fault::{GrammarFault, MessageFault, StreamFault};
 pub use item::Item;
 pub use kind::Kind;
-pub use laws::{any_cutting, no_prefix, octets_are_spelled, read_again};
+pub use laws::{any_cutting, no_prefix, octets_are_spelled, one_stream, read_again};
 pub use message::Message;
 pub use messages::Messages;
 pub use token::Token;
 pub use writing::encode;
+
+#[cfg(test)]
+mod tests;
