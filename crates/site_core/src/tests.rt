@@ -8,6 +8,7 @@ use site_base::{
     ProductEntry, ProductNo, Refusal, Reply, SiteConfig, TillNo,
 };
 use std::alloc::Global;
+use std::process::Abort;
 use std::test::Fail;
 
 /// A site of the points 2 and 3.
@@ -50,49 +51,94 @@ fn point(number: u8) -> Result<FpNo, Fail> {
     Ok(FpNo::new(number).ok_or("a point")?)
 }
 
+/// The actors and the points of a test.
+#[derive(Clone, Copy)]
+struct Parts {
+    one: Actor,
+    two: Actor,
+    dispenser: Actor,
+    /// A point that is there, one that is there too, and one that isn't.
+    open: FpNo,
+    closed: FpNo,
+    absent: FpNo,
+}
+
+fn named_parts() -> Result<Parts, Fail> {
+    let open = point(2)?;
+    Ok(Parts {
+        one: till(1)?,
+        two: till(2)?,
+        dispenser: Actor::Dispenser(open),
+        open,
+        closed: point(3)?,
+        absent: point(9)?,
+    })
+}
+
+/// Asks the event, and asserts the reply.
+fn assert_reply(
+    rt: &impl Abort,
+    site: &mut Site,
+    actor: &Actor,
+    event: &Event,
+    want: Reply,
+) -> Result<(), Fail> {
+    let reply = asked(site, actor, event)?;
+    assert_eq!(rt; reply, want, "of {event:?}");
+    Ok(())
+}
+
 #[test]
-fn events_in_their_order(rt: HostRuntime) -> Result<(), Fail> {
+fn tills_in_their_order(rt: HostRuntime) -> Result<(), Fail> {
     let alloc = rt.alloc();
     let config = site_of_two(alloc)?.ok_or("a site")?;
-    let mut site = Site::try_open(alloc, &config)?;
-    let one = till(1)?;
-    let two = till(2)?;
-    let dispenser = Actor::Dispenser(point(2)?);
-    let rows: [(Actor, Event, Reply); 13] = [
-        (one, Event::Open(point(9)?), Err(Refusal::NotSignedOn)),
-        (one, Event::SignOn, Ok(Answer::Done)),
-        (one, Event::SignOn, Err(Refusal::SignedOn)),
-        (one, Event::Open(point(9)?), Err(Refusal::NoSuchPoint)),
-        // A dispenser asks nothing of this, but its numbers are looked at first.
-        (dispenser, Event::SignOn, Err(Refusal::NotYourPoint)),
-        (
-            dispenser,
-            Event::Open(point(2)?),
-            Err(Refusal::NotYourPoint),
-        ),
-        (dispenser, Event::Open(point(9)?), Err(Refusal::NoSuchPoint)),
-        (
-            dispenser,
-            Event::ReadPoint(point(9)?),
-            Err(Refusal::NoSuchPoint),
-        ),
-        (one, Event::Open(point(2)?), Ok(Answer::Done)),
-        (
-            one,
-            Event::Open(point(2)?),
-            Err(Refusal::WrongState(PointState::Idle)),
-        ),
-        (two, Event::Close(point(2)?), Err(Refusal::NotSignedOn)),
-        (
-            one,
-            Event::Close(point(3)?),
-            Err(Refusal::WrongState(PointState::Closed)),
-        ),
-        (one, Event::Close(point(2)?), Ok(Answer::Done)),
-    ];
-    for (actor, event, reply) in &rows {
-        assert_eq!(rt; asked(&mut site, actor, event)?, *reply, "of {event:?}");
-    }
+    let site = &mut Site::try_open(alloc, &config)?;
+    let p = named_parts()?;
+    assert_reply(
+        &rt,
+        site,
+        &p.one,
+        &Event::Open(p.absent),
+        Err(Refusal::NotSignedOn),
+    )?;
+    assert_reply(&rt, site, &p.one, &Event::SignOn, Ok(Answer::Done))?;
+    assert_reply(&rt, site, &p.one, &Event::SignOn, Err(Refusal::SignedOn))?;
+    assert_reply(
+        &rt,
+        site,
+        &p.one,
+        &Event::Open(p.absent),
+        Err(Refusal::NoSuchPoint),
+    )?;
+    assert_reply(&rt, site, &p.one, &Event::Open(p.open), Ok(Answer::Done))?;
+    let idle = Err(Refusal::WrongState(PointState::Idle));
+    assert_reply(&rt, site, &p.one, &Event::Open(p.open), idle)?;
+    assert_reply(
+        &rt,
+        site,
+        &p.two,
+        &Event::Close(p.open),
+        Err(Refusal::NotSignedOn),
+    )?;
+    let closed = Err(Refusal::WrongState(PointState::Closed));
+    assert_reply(&rt, site, &p.one, &Event::Close(p.closed), closed)?;
+    assert_reply(&rt, site, &p.one, &Event::Close(p.open), Ok(Answer::Done))?;
+    Ok(())
+}
+
+// A dispenser asks nothing of this, but the event's numbers are looked at first.
+#[test]
+fn dispensers_in_their_order(rt: HostRuntime) -> Result<(), Fail> {
+    let alloc = rt.alloc();
+    let config = site_of_two(alloc)?.ok_or("a site")?;
+    let site = &mut Site::try_open(alloc, &config)?;
+    let p = named_parts()?;
+    let strange = Err(Refusal::NotYourPoint);
+    let absent = Err(Refusal::NoSuchPoint);
+    assert_reply(&rt, site, &p.dispenser, &Event::SignOn, strange)?;
+    assert_reply(&rt, site, &p.dispenser, &Event::Open(p.open), strange)?;
+    assert_reply(&rt, site, &p.dispenser, &Event::Open(p.absent), absent)?;
+    assert_reply(&rt, site, &p.dispenser, &Event::ReadPoint(p.absent), absent)?;
     Ok(())
 }
 
@@ -100,20 +146,18 @@ fn events_in_their_order(rt: HostRuntime) -> Result<(), Fail> {
 fn points_are_shown(rt: HostRuntime) -> Result<(), Fail> {
     let alloc = rt.alloc();
     let config = site_of_two(alloc)?.ok_or("a site")?;
-    let mut site = Site::try_open(alloc, &config)?;
-    let one = till(1)?;
-    assert!(rt; !site.signed_on(TillNo::new(1).ok_or("a till")?));
-    assert_eq!(rt; asked(&mut site, &one, &Event::SignOn)?, Ok(Answer::Done));
-    assert!(rt; site.signed_on(TillNo::new(1).ok_or("a till")?));
+    let site = &mut Site::try_open(alloc, &config)?;
+    let p = named_parts()?;
+    assert_reply(&rt, site, &p.one, &Event::SignOn, Ok(Answer::Done))?;
+    assert_reply(&rt, site, &p.one, &Event::Open(p.closed), Ok(Answer::Done))?;
     assert_eq!(rt;
-        asked(&mut site, &one, &Event::Open(point(3)?))?,
-        Ok(Answer::Done)
+        site.point(p.closed).map(|view| view.state),
+        Some(PointState::Idle)
     );
-    let idle = site.point(point(3)?).ok_or("point 3")?;
-    assert_eq!(rt; idle.state, PointState::Idle);
-    assert_eq!(rt; idle.volume, 0);
-    let closed = site.point(point(2)?).ok_or("point 2")?;
-    assert_eq!(rt; closed.state, PointState::Closed);
-    assert_eq!(rt; site.point(point(1)?), None);
+    assert_eq!(rt;
+        site.point(p.open).map(|view| view.state),
+        Some(PointState::Closed)
+    );
+    assert_eq!(rt; site.point(p.absent), None);
     Ok(())
 }
