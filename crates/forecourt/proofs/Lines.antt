@@ -37,8 +37,7 @@ line_goes_on line (b ∷ more) number stream book plain short =
     let parts = and_both (not (eqb b 10)) (list_all (λ (x : ℕ). not (eqb x 10)) more) plain in
     let on = goes_on line number stream book b (not_true _ parts.0) (omega arith) in
     let longer : length (line ++ b ∷ []) + length more ≤ LINE_OCTETS = omega (arith, length-append line (b ∷ [])) in
-    let rest = line_goes_on (line ++ b ∷ []) more number stream book parts.1 longer in
-    (
+    let rest = line_goes_on (line ++ b ∷ []) more number stream book parts.1 longer in (
       ap (λ (s : State). after s more) on.0 ∙ rest.0 ∙ ap (λ (l : List ℕ). within l number stream book) (append_assoc line (b ∷ []) more),
       ap (λ (t : List ℕ). t ++ text_from (next (within line number stream book) b) more) on.1 ∙ ap (λ (s : State). text_from s more) on.0 ∙ rest.1,
     )
@@ -52,17 +51,15 @@ line_ends line number stream book = (refl, append-nil (judged number stream book
 pub line_says : LineSays
 line_says number stream book line plain short =
     let on = line_goes_on [] line number stream book plain (omega arith) in
-    let end = line_ends line number stream book in
-    (
+    let end = line_ends line number stream book in (
       after-append (between number stream book) line (10 ∷ []) ∙ ap (λ (s : State). after s (10 ∷ [])) on.0 ∙ end.0,
       text_from-append (between number stream book) line (10 ∷ []) ∙ ap (λ (t : List ℕ). t ++ text_from (after (between number stream book) line) (10 ∷ [])) on.1
-      ∙ ap (λ (s : State). text_from s (10 ∷ [])) on.0 ∙ end.1,
+          ∙ ap (λ (s : State). text_from s (10 ∷ [])) on.0 ∙ end.1,
     )
 
 pub last_line_says : LastLineSays
 last_line_says number stream book line plain short =
-    let on = line_goes_on [] line number stream book plain (omega arith) in
-    (
+    let on = line_goes_on [] line number stream book plain (omega arith) in (
       ap ended on.0,
       ap (λ (t : List ℕ). t ++ last_text (after (between number stream book) line)) on.1 ∙ ap last_text on.0,
     )
@@ -73,8 +70,7 @@ pub nothing_follows : NothingFollows
 nothing_follows st f [] stop = (refl, refl)
 nothing_follows st f (b ∷ bs) stop =
     let stays : next st b ≡ st = ap (λ (s : Option TextFault). stepped s st b) stop in
-    let rest = nothing_follows st f bs stop in
-    (
+    let rest = nothing_follows st f bs stop in (
       ap (λ (s : State). after s bs) stays ∙ rest.0,
       ap (λ (t : List ℕ). t ++ text_from (next st b) bs) (ap (λ (s : Option TextFault). says s st b) stop) ∙ ap (λ (s : State). text_from s bs) stays ∙ rest.1,
     )
@@ -95,25 +91,25 @@ too_long line (b ∷ more) number stream book plain within_limit long =
     let parts = and_both (not (eqb b 10)) (list_all (λ (x : ℕ). not (eqb x 10)) more) plain in
     elim (cases_lt (length line) LINE_OCTETS) [
       | inl short ↦ (
-        let on = goes_on line number stream book b (not_true _ parts.0) short in
-        let longer : length (line ++ b ∷ []) ≤ LINE_OCTETS = omega (arith, length-append line (b ∷ [])) in
-        let still : LINE_OCTETS < length (line ++ b ∷ []) + length more = omega (arith, length-append line (b ∷ [])) in
-        let rest = too_long (line ++ b ∷ []) more number stream book parts.1 longer still in
-        record {
-          stop = ap (λ (s : State). (after s more).stop) on.0 ∙ rest.stop;
-          book_stays = ap (λ (s : State). (after s more).book) on.0 ∙ rest.book_stays;
-          silent = ap (λ (t : List ℕ). t ++ text_from (next (within line number stream book) b) more) on.1 ∙ ap (λ (s : State). text_from s more) on.0 ∙ rest.silent;
-        })
+          let on = goes_on line number stream book b (not_true _ parts.0) short in
+          let longer : length (line ++ b ∷ []) ≤ LINE_OCTETS = omega (arith, length-append line (b ∷ [])) in
+          let still : LINE_OCTETS < length (line ++ b ∷ []) + length more = omega (arith, length-append line (b ∷ [])) in
+          let rest = too_long (line ++ b ∷ []) more number stream book parts.1 longer still in
+          record {
+            stop = ap (λ (s : State). (after s more).stop) on.0 ∙ rest.stop;
+            book_stays = ap (λ (s : State). (after s more).book) on.0 ∙ rest.book_stays;
+            silent = ap (λ (t : List ℕ). t ++ text_from (next (within line number stream book) b) more) on.1 ∙ ap (λ (s : State). text_from s more) on.0 ∙ rest.silent;
+          })
       | inr full ↦ (
-        let other : eqb b 10 ≡ false = not_true _ parts.0 in
-        let stops : next (within line number stream book) b ≡ stopped line number stream book = rw (other, le-leb _ _ full) refl in
-        let says_nothing : said (within line number stream book) b ≡ [] = rw other refl in
-        let rest = nothing_follows (stopped line number stream book) (TooLong number) more refl in
-        record {
-          stop = ap (λ (s : State). (after s more).stop) stops ∙ ap (λ (s : State). s.stop) rest.0;
-          book_stays = ap (λ (s : State). (after s more).book) stops ∙ ap (λ (s : State). s.book) rest.0;
-          silent = ap (λ (t : List ℕ). t ++ text_from (next (within line number stream book) b) more) says_nothing ∙ ap (λ (s : State). text_from s more) stops ∙ rest.1;
-        })
+          let other : eqb b 10 ≡ false = not_true _ parts.0 in
+          let stops : next (within line number stream book) b ≡ stopped line number stream book = rw (other, le-leb _ _ full) refl in
+          let says_nothing : said (within line number stream book) b ≡ [] = rw other refl in
+          let rest = nothing_follows (stopped line number stream book) (TooLong number) more refl in
+          record {
+            stop = ap (λ (s : State). (after s more).stop) stops ∙ ap (λ (s : State). s.stop) rest.0;
+            book_stays = ap (λ (s : State). (after s more).book) stops ∙ ap (λ (s : State). s.book) rest.0;
+            silent = ap (λ (t : List ℕ). t ++ text_from (next (within line number stream book) b) more) says_nothing ∙ ap (λ (s : State). text_from s more) stops ∙ rest.1;
+          })
     ]
 
 pub long_line_says : LongLineSays

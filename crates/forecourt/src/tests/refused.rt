@@ -52,15 +52,14 @@ struct Held {
 
 impl Write for Held {
     fn write(&mut self, buf: &[u8]) -> io::Result<usize> {
-        let mut taken = 0;
-        for octet in buf {
-            if self.len < 64 {
-                self.text[self.len] = *octet;
-                self.len += 1;
-                taken += 1;
+        for (place, octet) in buf.iter().enumerate() {
+            if self.len >= 64 {
+                return Ok(place);
             }
+            self.text[self.len] = *octet;
+            self.len += 1;
         }
-        Ok(taken)
+        Ok(buf.len())
     }
 
     fn flush(&mut self) -> io::Result<()> {

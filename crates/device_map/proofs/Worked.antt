@@ -1,0 +1,75 @@
+-- Worked messages, by computing the definitions: what each asks for, and what its reply says.
+use Rattle.std.proofs.Common.{◌≡◌, List, [], ◌∷◌, None, Ok, Err, false, refl}
+use Rattle.site_base.specs.declared.actor.Actor.TheVariants.{Till}
+use Rattle.site_base.specs.declared.answer.Answer.TheVariants.{Done, PointIs}
+use Rattle.site_base.specs.declared.event.Event.TheVariants.{SignOn, Open, ReadPoint}
+use Rattle.site_base.specs.declared.refusal.Refusal.TheVariants.{AssignedToOther}
+use Rattle.site_base.specs.declared.state.PointState.TheVariants.{Idle}
+use Rattle.site_base.specs.declared.state.Preset.TheVariants.{Unset}
+use Rattle.app_message.specs.declared.kind.Kind.TheVariants.{Read, Write}
+use Rattle.app_message.specs.Telegram.{Telegram, entry, telegram}
+use Rattle.app_message.specs.Spelling.{spelling}
+use Rattle.device_map.specs.declared.fault.MapFault.TheVariants.{NotForUs, BadOriginator, BadAddress, UnknownItem, ItemMissing, BadNumber}
+use Rattle.device_map.specs.Nodes.{for_us, till_at}
+use Rattle.device_map.specs.Addresses.{database_at}
+use Rattle.device_map.specs.Requests.{read_at, write_at, request_at}
+use Rattle.device_map.specs.Replies.{reply_message, number_message}
+
+abbrev sign_on : Telegram
+sign_on = telegram (1 ∷ 1 ∷ []) (2 ∷ 1 ∷ []) Write 1 (1 ∷ []) (entry 49 [] ∷ [])
+
+abbrev open_3 : Telegram
+open_3 = telegram (1 ∷ 1 ∷ []) (2 ∷ 1 ∷ []) Write 2 (35 ∷ []) (entry 60 [] ∷ [])
+
+abbrev read_3 : Telegram
+read_3 = telegram (1 ∷ 1 ∷ []) (2 ∷ 1 ∷ []) Read 3 (35 ∷ []) []
+
+asks_sign_on : request_at sign_on ≡ Ok (Till 1, SignOn)
+unfolding request_at for_us till_at database_at write_at
+asks_sign_on = refl
+
+asks_open : request_at open_3 ≡ Ok (Till 1, Open 3)
+unfolding request_at for_us till_at database_at write_at
+asks_open = refl
+
+asks_read : request_at read_3 ≡ Ok (Till 1, ReadPoint 3)
+unfolding request_at for_us till_at database_at read_at
+asks_read = refl
+
+-- the first fault of each is told: another site before another originator, and so on
+another_site : request_at (telegram (1 ∷ 2 ∷ []) (9 ∷ 9 ∷ []) Write 1 (9 ∷ []) []) ≡ Err NotForUs
+unfolding request_at for_us
+another_site = refl
+
+another_originator : request_at (telegram (1 ∷ 1 ∷ []) (2 ∷ 9 ∷ []) Write 1 (9 ∷ []) []) ≡ Err BadOriginator
+unfolding request_at for_us till_at
+another_originator = refl
+
+another_address : request_at (telegram (1 ∷ 1 ∷ []) (2 ∷ 8 ∷ []) Write 1 (49 ∷ []) []) ≡ Err BadAddress
+unfolding request_at for_us till_at database_at
+another_address = refl
+
+no_command : request_at (telegram (1 ∷ 1 ∷ []) (2 ∷ 1 ∷ []) Write 1 (33 ∷ []) []) ≡ Err ItemMissing
+unfolding request_at for_us till_at database_at write_at
+no_command = refl
+
+strange_command : request_at (telegram (1 ∷ 1 ∷ []) (2 ∷ 1 ∷ []) Write 1 (33 ∷ []) (entry 49 (0 ∷ []) ∷ [])) ≡ Err UnknownItem
+unfolding request_at for_us till_at database_at write_at
+strange_command = refl
+
+filled_command : request_at (telegram (1 ∷ 1 ∷ []) (2 ∷ 1 ∷ []) Write 1 (33 ∷ []) (entry 60 (0 ∷ []) ∷ [])) ≡ Err BadNumber
+unfolding request_at for_us till_at database_at write_at
+filled_command = refl
+
+done_is_told : spelling (reply_message sign_on (Ok Done)) ≡ 2 ∷ 1 ∷ 1 ∷ 1 ∷ 0 ∷ 225 ∷ 0 ∷ 8 ∷ 1 ∷ 1 ∷ 1 ∷ 1 ∷ 0 ∷ 3 ∷ 1 ∷ 0 ∷ []
+done_is_told = refl
+
+a_detail_is_told : spelling (reply_message open_3 (Err (AssignedToOther 1))) ≡ 2 ∷ 1 ∷ 1 ∷ 1 ∷ 0 ∷ 226 ∷ 0 ∷ 15 ∷ 1 ∷ 35 ∷ 1 ∷ 1 ∷ 11 ∷ 2 ∷ 8 ∷ 0 ∷ 0 ∷ 0 ∷ 0 ∷ 0 ∷ 0 ∷ 0 ∷ 1 ∷ []
+a_detail_is_told = refl
+
+an_idle_point_is_told : spelling (reply_message read_3 (Ok (PointIs (record { state = Idle; out = None; holder = None; ending = false; preset = Unset; prepaid = None; price = 0; volume = 0 }))))
+    ≡ 2 ∷ 1 ∷ 1 ∷ 1 ∷ 0 ∷ 35 ∷ 0 ∷ 30 ∷ 1 ∷ 35 ∷ 16 ∷ 1 ∷ 3 ∷ 17 ∷ 1 ∷ 0 ∷ 18 ∷ 1 ∷ 0 ∷ 19 ∷ 1 ∷ 0 ∷ 114 ∷ 4 ∷ 0 ∷ 0 ∷ 0 ∷ 0 ∷ 115 ∷ 8 ∷ 0 ∷ 0 ∷ 0 ∷ 0 ∷ 0 ∷ 0 ∷ 0 ∷ 0 ∷ []
+an_idle_point_is_told = refl
+
+a_full_book_is_told : spelling (number_message open_3 30) ≡ 2 ∷ 1 ∷ 1 ∷ 1 ∷ 0 ∷ 226 ∷ 0 ∷ 5 ∷ 1 ∷ 35 ∷ 1 ∷ 1 ∷ 30 ∷ []
+a_full_book_is_told = refl
