@@ -1,5 +1,5 @@
 -- Worked messages, by computing the definitions: what each asks for, and what its reply says.
-use Rattle.std.proofs.Common.{◌≡◌, List, [], ◌∷◌, None, Ok, Err, false, refl}
+use Rattle.std.proofs.Common.{◌≡◌, [], ◌∷◌, None, Ok, Err, false, refl}
 use Rattle.site_base.specs.declared.actor.Actor.TheVariants.{Till}
 use Rattle.site_base.specs.declared.answer.Answer.TheVariants.{Done, PointIs}
 use Rattle.site_base.specs.declared.event.Event.TheVariants.{SignOn, Open, ReadPoint}

@@ -1,5 +1,5 @@
 -- A book with one more row.
-use Rattle.std.proofs.Common.{◌≡◌, List, [], ◌∷◌, ◌++◌, Result, ap, sym, ◌∙◌}
+use Rattle.std.proofs.Common.{List, [], ◌∷◌, ◌++◌, Result, ap, sym, ◌∙◌}
 use Rattle.site_base.specs.declared.actor.Actor.{Actor}
 use Rattle.site_base.specs.declared.answer.Answer.{Answer}
 use Rattle.site_base.specs.declared.event.Event.{Event}
@@ -9,7 +9,7 @@ use Rattle.site_base.specs.Configured.{Configured}
 use Rattle.site_core.specs.State.{SiteState, opening}
 use Rattle.site_core.specs.Step.{Steps, reply_to, site_after}
 use Rattle.site_core.proofs.Runs.{site_of_rows-push, IsLegal-push}
-use Rattle.forecourt.specs.Book.{IsBook, site_at}
+use Rattle.forecourt.specs.Book.{IsBook}
 
 -- a step from the site of the rows leads to the site of the rows with its own
 pub IsBook-push : (config : Configured) (rows : List Row) (site new : SiteState) (actor : Actor) (event : Event) (reply : Result Answer Refusal)

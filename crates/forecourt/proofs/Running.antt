@@ -1,5 +1,5 @@
 -- A replay in its course, and how it ends.
-use Rattle.std.proofs.Common.{◌≡◌, ℕ, List, [], ◌∷◌, ◌++◌, Option, Some, None, Bool, true, false, refl, sym, ap, ◌∙◌, subst, append_assoc, append-nil}
+use Rattle.std.proofs.Common.{◌≡◌, ℕ, List, [], ◌∷◌, ◌++◌, Option, Some, true, refl, sym, ap, ◌∙◌, subst, append_assoc, append-nil}
 use Rattle.std.specs.Io.KnownBytes.{Appends, Consumes, Keeps}
 use Rattle.site_base.specs.Devices.{AppendsFront}
 use Rattle.site_base.proofs.Known.{known, Appends-then, Appends-none, Appends-front, AppendsFront-whole, AppendsFront-longer, AppendsFront-so_far, Consumes-none, Consumes-then, Consumes-kept}
@@ -7,7 +7,7 @@ use Rattle.forecourt.specs.declared.fault.TextFault.{TextFault}
 use Rattle.forecourt.specs.declared.fault.ReplayFault.{ReplayFault}
 use Rattle.forecourt.specs.declared.fault.ReplayFault.TheVariants as faults
 use Rattle.forecourt.specs.Book.{Book}
-use Rattle.forecourt.specs.Text.{State, next, said, after, text_from, ended, ends, last_text, last_says, last_fault, fault_at_end, text_of, fault_of, book_of}
+use Rattle.forecourt.specs.Text.{State, next, said, after, text_from, ended, ends, last_text, last_says, last_fault, fault_at_end, text_of}
 use Rattle.forecourt.specs.Replay.{is_early, as_fault, Replayed}
 
 -- ---- octets one after another

@@ -1,5 +1,5 @@
 -- What a replay has done when it ends.
-use Rattle.std.specs.Prelude.{◌≡◌, ℕ, Bool, true, false, List, ◌++◌, Option, Some, None}
+use Rattle.std.specs.Prelude.{◌≡◌, ℕ, Bool, true, false, List, Option, Some, None}
 use Rattle.std.specs.Io.KnownBytes.{Appends, Consumes}
 use Rattle.site_base.specs.Devices.{AppendsFront}
 use Rattle.forecourt.specs.declared.fault.TextFault.{TextFault}

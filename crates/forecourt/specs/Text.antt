@@ -1,9 +1,8 @@
 -- The text of a replay, octet by octet: what is written for an input, and why it ends.
-use Rattle.std.specs.Prelude.{◌≡◌, ℕ, ◌+◌, ◌-◌, ◌^◌, Bool, true, false, not, min, filter, List, [], ◌∷◌, ◌++◌, length, ◌==◌, nat_le, Option, Some, None, Result, Ok, Err, if◌then◌else◌}
+use Rattle.std.specs.Prelude.{ℕ, ◌+◌, ◌-◌, ◌^◌, Bool, true, not, min, filter, List, [], ◌∷◌, ◌++◌, length, ◌==◌, nat_le, Option, Some, None, Result, Ok, Err, if◌then◌else◌}
 use Rattle.std.specs.Io.BufRead.{strip_last}
 use Rattle.hex.specs.Hex.{decode_of}
 use Rattle.hex.specs.declared.error.FromHexError.{FromHexError}
-use Rattle.site_base.specs.Configured.{Configured}
 use Rattle.app_message.specs.declared.fault.StreamFault.{StreamFault}
 use Rattle.app_message.specs.Stream.{Stream, Held, held, held_after, fed_by}
 use Rattle.device_map.specs.Replies.{fault_message}

@@ -1,5 +1,5 @@
 -- What a site file configures, and which configurations are fit.
-use Rattle.std.specs.Prelude.{ℕ, Bool, true, List, [], ◌∷◌, length, map, not, ◌&&◌, ◌||◌, ◌==◌, nat_eq, nat_le}
+use Rattle.std.specs.Prelude.{ℕ, Bool, true, List, [], ◌∷◌, length, not, ◌&&◌, ◌||◌, ◌==◌, nat_eq, nat_le}
 use Rattle.std.specs.List.{list_all, list_any}
 use Rattle.std.specs.Str.{bytes_eq}
 use Rattle.site_base.specs.declared.config.NozzleEntry.{NozzleEntry}
