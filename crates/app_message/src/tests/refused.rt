@@ -4,12 +4,22 @@
 use super::*;
 use std::process::Abort;
 
+/// Says that a growth was refused in this run.
+fn said(rt: &impl Eprint) {
+    let _ = rt.eprintln("a growth was refused");
+}
+
 /// What a piece brings after it was refused once at most: the number of its messages and of its
 /// fault, and how many octets are kept then.
-fn fed(rt: &impl Abort, decoder: &mut Decoder, piece: &[u8]) -> (usize, Option<u8>, u16) {
+fn fed(
+    rt: &(impl Abort + Eprint),
+    decoder: &mut Decoder,
+    piece: &[u8],
+) -> (usize, Option<u8>, u16) {
     let before = decoder.held();
     let fed = match decoder.feed(piece) {
         Err(NoMemory) => {
+            said(rt);
             assert_eq!(rt; decoder.held(), before);
             decoder.feed(piece)
         }
@@ -44,13 +54,19 @@ fn a_refused_piece_is_not_taken(rt: HostRuntime) {
 #[test]
 fn a_refused_spelling_leaves_the_message(rt: HostRuntime) {
     let message = match sign_on(rt.alloc()) {
-        Err(MessageFault::NoMemory) => sign_on(rt.alloc()),
+        Err(MessageFault::NoMemory) => {
+            said(&rt);
+            sign_on(rt.alloc())
+        }
         told => told,
     };
     match message {
         Ok(message) => {
             let octets = match encode(rt.alloc(), &message) {
-                Err(NoMemory) => encode(rt.alloc(), &message),
+                Err(NoMemory) => {
+                    said(&rt);
+                    encode(rt.alloc(), &message)
+                }
                 told => told,
             };
             match octets {
