@@ -1,0 +1,5 @@
+pub mod Table
+pub mod Kept
+pub mod Checks
+pub mod Step
+pub mod Fields

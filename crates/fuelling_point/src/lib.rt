@@ -1,0 +1,14 @@
+//! One fuelling point: the machine of its nine states. It takes what tills and its dispenser do in
+//! turn, refuses what the point table doesn't list, and keeps what a fuelling needs until it ends.
+//! It takes no memory.
+#![tactic(auto)]
+
+mod delivery;
+mod event;
+mod point;
+mod step;
+mod table;
+
+pub use event::PointEvent;
+pub use point::Point;
+pub use step::PointStep;
