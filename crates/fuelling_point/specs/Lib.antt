@@ -3,3 +3,5 @@ pub mod Kept
 pub mod Checks
 pub mod Step
 pub mod Fields
+pub mod History
+pub mod Laws
