@@ -4,7 +4,7 @@ ghost use Rattle.std.specs.Prelude.{◌≡◌};
 
 use site_base::{Millilitres, Mills};
 
-/// What a fuelling has taken at its start, and what has flowed since.
+/// What a fuelling took when it started and what has flowed since.
 #[derive(Clone, Copy, Debug)]
 pub struct Delivery {
     /// The price that it is sold at.

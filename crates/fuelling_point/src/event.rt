@@ -41,7 +41,13 @@ pub enum PointEvent {
     /// A till ends the release or the fuelling.
     Terminate,
     /// So much fuel (in millilitres) has flowed by this nozzle since the last report.
-    Flow { nozzle: NozzleNo, growth: u64 },
+    Flow {
+        nozzle: NozzleNo,
+        growth: u64,
+    },
     /// The nozzle is put back, and so much fuel (in millilitres) has flowed since the last report.
-    HangUp { nozzle: NozzleNo, growth: u64 },
+    HangUp {
+        nozzle: NozzleNo,
+        growth: u64,
+    },
 }

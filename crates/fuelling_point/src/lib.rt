@@ -9,10 +9,10 @@ mod laws;
 mod point;
 mod step;
 mod table;
+#[cfg(test)]
+mod tests;
 
 pub use event::PointEvent;
-pub use laws::{
-    kept_from_the_start, sold_as_started, sold_at_the_end, terminated_stays_suspended,
-};
+pub use laws::{kept_from_the_start, sold_as_started, sold_at_the_end, terminated_stays_suspended};
 pub use point::Point;
 pub use step::PointStep;

@@ -16,7 +16,10 @@ use crate::table::is_listed;
 use site_base::{Millilitres, Mills, NozzleNo, PointState, PointView, Preset, Refusal};
 use std::marker::Model;
 
-/// One fuelling point.
+/// One fuelling point: its state, and what it keeps from one event to the next. A lifted nozzle is
+/// kept until it is put back, a preset and a prepayment from the release on, the price and the start
+/// reading from the start of the fuelling on, its volume as it is reported. All of it is forgotten on
+/// the way to inoperative and to idle.
 #[derive(Drop)]
 pub struct Point {
     state: PointState,
@@ -53,7 +56,8 @@ impl Point {
         }
     }
 
-    /// The point as a read shows it. Its holder isn't known here.
+    /// The point as a read shows it; its holder isn't known here. Price and volume are 0 unless a
+    /// fuelling is under way: started, fuelling, or either of them suspended.
     pub fn view(&self) -> PointView
         ensures { result ≡ point_view self.now None }
     {
@@ -73,7 +77,11 @@ impl Point {
         }
     }
 
-    /// Why `on` would refuse the event, if it would. Nothing changes.
+    /// Why `on` would refuse the event, if it would; the first of these that holds. Nothing changes.
+    ///
+    /// - `WrongState`: the point table doesn't list the event in the point's state.
+    /// - `Ending`: the fuelling was terminated, so it is neither resumed nor terminated again.
+    /// - `WrongNozzle`: another nozzle than the one that flows or is put back is out.
     pub fn judge(&self, event: &PointEvent) -> Result<(), Refusal>
         ensures accepted { OnOk result (refusal_of event.now self.now ≡ None) }
         ensures refused { IfErr result (λ refusal. refusal_of event.now self.now ≡ Some refusal) }
@@ -90,7 +98,12 @@ impl Point {
         }
     }
 
-    /// What the event does at the point, or why the point refuses it: as `judge` says.
+    /// Does what the point table says of the event, and answers what it did; a sale or a start with
+    /// the values that stood before the point forgot them. A fuelling that starts takes the price and
+    /// the reading handed in, and nothing touches these until it is over. A terminated fuelling takes
+    /// flow until hang up or offline. The refusal is that of `judge`, and leaves the point as it was.
+    ///
+    /// The fuelling's volume with the growth handed in has to be one that a meter can show.
     pub fn on(&mut self, event: PointEvent) -> Result<PointStep, Refusal>
         requires { FitsGrowth event self.old }
         ensures accepted { OnOk result (refusal_of event self.old ≡ None) }

@@ -11,9 +11,14 @@ pub enum PointStep {
     /// A nozzle is out, and the point calls for its release.
     Calling,
     /// The fuelling starts within this preset and at this price.
-    Start { preset: Preset, price: Mills },
+    Start {
+        preset: Preset,
+        price: Mills,
+    },
     /// So much fuel (in millilitres) is added to the fuelling.
-    Flowed { growth: u64 },
+    Flowed {
+        growth: u64,
+    },
     /// The nozzle is back in; the point wasn't released.
     HungUp,
     /// The nozzle is back in; no fuel has flowed.
