@@ -1,5 +1,5 @@
 -- The start of a fuelling that is under way.
-use Rattle.std.proofs.Common.{◌≡◌, ℕ, ◌+◌, Bool, true, false, List, [], ◌∷◌, ◌++◌, ◌⊎◌, inl, inr, Option, Some, Ok, sum_by, refl, sym, ap, subst, ◌∙◌, add_assoc, zero-add, arith, rules}
+use Rattle.std.proofs.Common.{◌≡◌, ℕ, ◌+◌, Bool, true, false, List, [], ◌∷◌, ◌⊎◌, inl, inr, Option, Ok, sum_by, refl, sym, ap, subst, ◌∙◌, add_assoc, zero-add, arith}
 use Rattle.std.specs.List.{list_any}
 use Rattle.std.proofs.lemmas.List.Sums.{sum_by-cons}
 use Rattle.fuelling_point.specs.declared.event.PointEvent.{PointEvent}

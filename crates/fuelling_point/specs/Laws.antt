@@ -1,5 +1,5 @@
 -- The laws of a fuelling point: what holds whatever events a new point has had, refused ones among them.
-use Rattle.std.specs.Prelude.{◌≡◌, ℕ, ◌+◌, Bool, true, false, ◌&&◌, List, ◌∷◌, ◌++◌, sum_by, Option, Some, None, is_ok, Result, Ok, Err}
+use Rattle.std.specs.Prelude.{◌≡◌, ℕ, ◌+◌, Bool, true, false, ◌&&◌, List, ◌∷◌, ◌++◌, sum_by, Option, Some, None, is_ok, Result, Ok}
 use Rattle.std.specs.List.{list_any}
 use Rattle.site_base.specs.declared.refusal.Refusal.{Refusal}
 use Rattle.site_base.specs.declared.state.PointState.{PointState}
@@ -8,8 +8,8 @@ use Rattle.fuelling_point.specs.declared.event.PointEvent.{PointEvent}
 use Rattle.fuelling_point.specs.declared.event.PointEvent.TheVariants.{Offline, Lift, Release, HangUp}
 use Rattle.fuelling_point.specs.declared.step.PointStep.{PointStep}
 use Rattle.fuelling_point.specs.declared.step.PointStep.TheVariants.{Flowed, Sold, Ending}
-use Rattle.fuelling_point.specs.Kept.{Facts, is_under_way, growth_of}
-use Rattle.fuelling_point.specs.History.{Moment, reply_to, facts_after, moments_of, point_after}
+use Rattle.fuelling_point.specs.Kept.{is_under_way, growth_of}
+use Rattle.fuelling_point.specs.History.{Moment, reply_to, moments_of, point_after}
 
 -- what ends a fuelling: a hang up or an offline
 abbrev pub is_end : PointEvent → Bool

@@ -1,12 +1,10 @@
 -- What an accepted event does: the table's line, with what the point keeps of the event.
-use Rattle.std.specs.Prelude.{ℕ, Option, Some, None, unwrap_or, Result, Ok, Err}
-use Rattle.site_base.specs.declared.refusal.Refusal.{Refusal}
+use Rattle.std.specs.Prelude.{ℕ, Option, Some, None, unwrap_or}
 use Rattle.fuelling_point.specs.declared.event.PointEvent.{PointEvent}
 use Rattle.fuelling_point.specs.declared.step.PointStep.{PointStep}
 use Rattle.fuelling_point.specs.declared.step.PointStep.TheVariants.{Moved, Calling, Start, Flowed, HungUp, NoSale, Sold, Stopped, Ending}
 use Rattle.fuelling_point.specs.Table.{Line, Told, done, calling, start, flowed, hung_up, no_sale, sold, stopped, ending, line_of}
 use Rattle.fuelling_point.specs.Kept.{Facts, growth_of, noted, moved}
-use Rattle.fuelling_point.specs.Checks.{refusal_of}
 
 -- the answer with its values: those that stand before the point forgets any, the event's own among them
 abbrev pub step_told : Told → ℕ → Facts → PointStep

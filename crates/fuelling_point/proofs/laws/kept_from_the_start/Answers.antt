@@ -1,4 +1,3 @@
-use Rattle.std.proofs.Common.{inl, inr}
 use Rattle.fuelling_point.proofs.Starts.{started}
 use Rattle.fuelling_point.proofs.laws.kept_from_the_start.Goals as goal
 
