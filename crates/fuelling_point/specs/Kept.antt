@@ -68,7 +68,7 @@ abbrev pub starting : Move → ℕ → ℕ → Facts → Facts
 starting (goes Started) last price f = record f { price = price; start = last; volume = 0 }
 starting move last price f = f
 
--- what the point keeps of an accepted event
+-- what the point keeps of an accepted event, before it forgets any
 abbrev pub noted : PointEvent → Move → Facts → Facts
 noted (Lift nozzle last price) move f = starting move last price (record f { out = Some nozzle })
 noted (Release preset prepaid last price) move f = starting move last price (record f { preset = preset; prepaid = prepaid })

@@ -168,14 +168,13 @@ fn assert_refused(rt: &impl Abort, point: &mut Point, event: PointEvent, refusal
     assert_eq!(rt; point.view(), before);
 }
 
-#[test]
-fn table_is_as_printed(rt: HostRuntime) {
-    let rt = &rt;
+/// The table, line by line.
+fn printed_table(rt: &impl Abort) -> [Line<'static>; 22] {
     let start = PointStep::Start {
         preset: Preset::Money(PREPAID),
         price: price(rt),
     };
-    let table: [Line; 22] = [
+    [
         (PointEvent::Online, &[(1, 2)], PointStep::Moved),
         (
             PointEvent::Offline,
@@ -226,21 +225,13 @@ fn table_is_as_printed(rt: HostRuntime) {
             &[(8, 3), (9, 3)],
             sold(rt, FLOWED + 40),
         ),
-    ];
-    for (event, _, _) in &table {
-        for from in 1..=9 {
-            let mut point = point_in(rt, from);
-            match listed(&table, *event, from) {
-                Some((to, step)) => assert_accepted(rt, &mut point, *event, to, step),
-                None => {
-                    let refusal = Refusal::WrongState(point.view().state);
-                    assert_refused(rt, &mut point, *event, refusal);
-                }
-            }
-        }
-    }
-    // A state, whether its fuelling is terminated there, an event, and why it is refused.
-    let refusals = [
+    ]
+}
+
+/// The refusals of an event that the table lists, and those that come before them: a state, whether
+/// the fuelling is terminated there, an event, and why it is refused.
+fn printed_refusals(rt: &impl Abort) -> [(u8, bool, PointEvent, Refusal); 17] {
+    [
         (7, true, PointEvent::Resume, Refusal::Ending),
         (7, true, PointEvent::Terminate, Refusal::Ending),
         (9, true, PointEvent::Resume, Refusal::Ending),
@@ -278,8 +269,26 @@ fn table_is_as_printed(rt: HostRuntime) {
             hang_up(rt, OTHER, 40),
             Refusal::WrongState(PointState::Authorised),
         ),
-    ];
-    for (state, terminated, event, refusal) in refusals {
+    ]
+}
+
+#[test]
+fn table_is_as_printed(rt: HostRuntime) {
+    let rt = &rt;
+    let table = printed_table(rt);
+    for (event, _, _) in &table {
+        for from in 1..=9 {
+            let mut point = point_in(rt, from);
+            match listed(&table, *event, from) {
+                Some((to, step)) => assert_accepted(rt, &mut point, *event, to, step),
+                None => {
+                    let refusal = Refusal::WrongState(point.view().state);
+                    assert_refused(rt, &mut point, *event, refusal);
+                }
+            }
+        }
+    }
+    for (state, terminated, event, refusal) in printed_refusals(rt) {
         let mut point = point_in(rt, state);
         if terminated {
             assert_eq!(rt; point.on(PointEvent::Terminate), Ok(PointStep::Ending));
