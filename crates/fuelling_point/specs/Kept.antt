@@ -1,0 +1,85 @@
+-- What a fuelling point keeps, when it takes it, and when it forgets it.
+use Rattle.std.specs.Prelude.{ℕ, ◌+◌, ◌≤◌, Bool, true, false, Option, Some, None, if◌then◌else◌}
+use Rattle.site_base.specs.declared.limits.TheConstants.{GREATEST_READING}
+use Rattle.site_base.specs.declared.state.PointState.{PointState}
+use Rattle.site_base.specs.declared.state.PointState.TheVariants.{Inoperative, Idle, Calling, Started, SuspendedStarted, Fuelling, SuspendedFuelling}
+use Rattle.site_base.specs.declared.state.Preset.{Preset}
+use Rattle.site_base.specs.declared.state.Preset.TheVariants.{Unset}
+use Rattle.site_base.specs.declared.view.PointView.{PointView}
+use Rattle.fuelling_point.specs.declared.event.PointEvent.{PointEvent}
+use Rattle.fuelling_point.specs.declared.event.PointEvent.TheVariants.{Lift, Release, Terminate, Flow, HangUp}
+use Rattle.fuelling_point.specs.Table.{Move, stay, goes}
+
+-- its state; the nozzle that is out; whether its fuelling is ending; the preset and the prepaid cents of
+-- its release; and of its fuelling the price taken, the reading at its start and the millilitres since
+pub record Facts : Type 0 where
+  pub state : PointState
+  pub out : Option ℕ
+  pub ending : Bool
+  pub preset : Preset
+  pub prepaid : Option ℕ
+  pub price : ℕ
+  pub start : ℕ
+  pub volume : ℕ
+
+-- a point in this state that keeps nothing
+abbrev pub fresh : PointState → Facts
+fresh s = record { state = s; out = None; ending = false; preset = Unset; prepaid = None; price = 0; start = 0; volume = 0 }
+
+-- a fuelling is under way: it has started and isn't over
+abbrev pub is_under_way : PointState → Bool
+is_under_way Started = true
+is_under_way SuspendedStarted = true
+is_under_way Fuelling = true
+is_under_way SuspendedFuelling = true
+is_under_way state = false
+
+-- a nozzle is out: the point calls, or a fuelling is under way
+abbrev pub has_nozzle_out : PointState → Bool
+has_nozzle_out Calling = true
+has_nozzle_out state = is_under_way state
+
+-- the price taken, 0 where no fuelling is under way
+abbrev pub price_of : Facts → ℕ
+price_of f = if is_under_way f.state then f.price else 0
+
+-- the millilitres of the fuelling so far, 0 where none is under way
+abbrev pub volume_of : Facts → ℕ
+volume_of f = if is_under_way f.state then f.volume else 0
+
+-- the point as a read shows it, with the till that holds it
+abbrev pub point_view : Facts → Option ℕ → PointView
+point_view f holder = record { state = f.state; out = f.out; holder = holder; ending = f.ending; preset = f.preset; prepaid = f.prepaid; price = price_of f; volume = volume_of f }
+
+-- the growth that an event hands in
+abbrev pub growth_of : PointEvent → ℕ
+growth_of (Flow nozzle growth) = growth
+growth_of (HangUp nozzle growth) = growth
+growth_of event = 0
+
+-- the fuelling's volume with the growth handed in is one that a meter can show
+abbrev pub FitsGrowth : PointEvent → Facts → Type 0
+FitsGrowth (Flow nozzle growth) f = volume_of f + growth ≤ GREATEST_READING
+FitsGrowth (HangUp nozzle growth) f = volume_of f + growth ≤ GREATEST_READING
+FitsGrowth event f = Unit {0}
+
+-- a fuelling that starts takes the price and the reading handed in, and no fuel has flowed
+abbrev pub starting : Move → ℕ → ℕ → Facts → Facts
+starting (goes Started) last price f = record f { price = price; start = last; volume = 0 }
+starting move last price f = f
+
+-- what the point keeps of an accepted event, before it forgets any
+abbrev pub noted : PointEvent → Move → Facts → Facts
+noted (Lift nozzle last price) move f = starting move last price (record f { out = Some nozzle })
+noted (Release preset prepaid last price) move f = starting move last price (record f { preset = preset; prepaid = prepaid })
+noted Terminate move f = record f { ending = true }
+noted (Flow nozzle growth) move f = record f { volume = f.volume + growth }
+noted (HangUp nozzle growth) move f = record f { volume = f.volume + growth }
+noted event move f = f
+
+-- a point that goes to inoperative or to idle forgets all that it kept
+abbrev pub moved : Move → Facts → Facts
+moved stay f = f
+moved (goes Inoperative) f = fresh Inoperative
+moved (goes Idle) f = fresh Idle
+moved (goes state) f = record f { state = state }

@@ -1,0 +1,7 @@
+pub mod Table
+pub mod Kept
+pub mod Checks
+pub mod Step
+pub mod Fields
+pub mod History
+pub mod Laws

@@ -1,0 +1,29 @@
+//! What a fuelling under way keeps.
+
+ghost use Rattle.std.specs.Prelude.{◌≡◌};
+
+use site_base::{Millilitres, Mills};
+
+/// What a fuelling took when it started and what has flowed since.
+#[derive(Clone, Copy, Debug)]
+pub struct Delivery {
+    /// The price that it is sold at.
+    pub price: Mills,
+    /// The nozzle's reading at the start.
+    pub start: Millilitres,
+    /// The millilitres since.
+    pub volume: u64,
+}
+
+impl Delivery {
+    /// A delivery that starts at this reading and price.
+    pub fn new(start: Millilitres, price: Mills) -> Self
+        ensures { result ≡ record { price = price; start = start; volume = 0 } }
+    {
+        Delivery {
+            price,
+            start,
+            volume: 0,
+        }
+    }
+}

@@ -1,0 +1,53 @@
+//! What happens at a fuelling point.
+
+use site_base::{Millilitres, Mills, NozzleNo, Preset};
+
+/// One event at a fuelling point. Whose event it is, and whether the meter agrees, was looked at
+/// before.
+#[derive(Clone, Copy, Debug, PartialEq, Eq)]
+pub enum PointEvent {
+    /// The dispenser is reached.
+    Online,
+    /// The dispenser isn't reached any more.
+    Offline,
+    /// A till opens the point for sale.
+    Open,
+    /// A till closes the point.
+    Close,
+    /// A till takes the point.
+    Assign,
+    /// A till gives the point back.
+    Unassign,
+    /// A nozzle is taken out. Where this starts the fuelling, it takes the price and the nozzle's
+    /// last reading.
+    Lift {
+        nozzle: NozzleNo,
+        last: Millilitres,
+        price: Mills,
+    },
+    /// A till releases the point within this preset, which may be prepaid (in cents). Where this
+    /// starts the fuelling, it takes the price and the last reading of the nozzle that is out;
+    /// they are used in calling alone.
+    Release {
+        preset: Preset,
+        prepaid: Option<u32>,
+        last: Millilitres,
+        price: Mills,
+    },
+    /// A till suspends the fuelling.
+    Suspend,
+    /// A till lets the suspended fuelling go on.
+    Resume,
+    /// A till ends the release or the fuelling.
+    Terminate,
+    /// So much fuel (in millilitres) has flowed by this nozzle since the last report.
+    Flow {
+        nozzle: NozzleNo,
+        growth: u64,
+    },
+    /// The nozzle is put back, and so much fuel (in millilitres) has flowed since the last report.
+    HangUp {
+        nozzle: NozzleNo,
+        growth: u64,
+    },
+}

@@ -1,0 +1,18 @@
+//! One fuelling point: the machine of its nine states. It takes what tills and its dispenser do in
+//! turn, refuses what the point table doesn't list, and keeps what a fuelling needs until it ends.
+//! It takes no memory.
+#![tactic(auto)]
+
+mod delivery;
+mod event;
+mod laws;
+mod point;
+mod step;
+mod table;
+#[cfg(test)]
+mod tests;
+
+pub use event::PointEvent;
+pub use laws::{kept_from_the_start, sold_as_started, sold_at_the_end, terminated_stays_suspended};
+pub use point::Point;
+pub use step::PointStep;

@@ -1,0 +1,380 @@
+//! The machine of one fuelling point.
+
+ghost use Rattle.std.specs.Prelude.{◌≡◌, ℕ, ◌≤◌, ◌+◌, true, false, None, Some, is_some, unwrap_or, MatchResult, OnOk, OnErr, IfOk, IfErr};
+ghost use Rattle.site_base.specs.declared.limits.TheConstants.{GREATEST_READING};
+ghost use Rattle.site_base.specs.declared.state.PointState.TheVariants.{Closed, Started};
+ghost use Rattle.fuelling_point.specs.Table.{is_listed};
+ghost use Rattle.fuelling_point.specs.Kept.{fresh, point_view, FitsGrowth, is_under_way, has_nozzle_out, volume_of};
+ghost use Rattle.fuelling_point.specs.Fields.{suspended, flowing};
+ghost use Rattle.fuelling_point.specs.Checks.{refusal_of, is_out};
+ghost use Rattle.fuelling_point.specs.Step.{step_of, after};
+
+use crate::delivery::Delivery;
+use crate::event::PointEvent;
+use crate::step::PointStep;
+use crate::table::is_listed;
+use site_base::{Millilitres, Mills, NozzleNo, PointState, PointView, Preset, Refusal};
+use std::marker::Model;
+
+/// One fuelling point: its state, and what it keeps from one event to the next. A lifted nozzle is
+/// kept until it is put back, a preset and a prepayment from the release on, the price and the start
+/// reading from the start of the fuelling on, its volume as it is reported. All of it is forgotten on
+/// the way to inoperative and to idle.
+#[derive(Drop)]
+pub struct Point {
+    state: PointState,
+    out: Option<NozzleNo>,
+    ending: bool,
+    preset: Preset,
+    prepaid: Option<u32>,
+    delivery: Option<Delivery>,
+}
+
+impl Model for Point {
+    ghost use Rattle.fuelling_point.specs.Kept.{Facts};
+    ghost use Rattle.fuelling_point.specs.Fields.{price_in, start_in, volume_in, AreWhole};
+
+    ghost Value = { Facts };
+
+    ghost view = { λ p. record { state = p.state; out = p.out; ending = p.ending; preset = p.preset; prepaid = p.prepaid; price = price_in p.delivery; start = start_in p.delivery; volume = volume_in p.delivery } };
+
+    ghost invariant = { λ p. AreWhole p.state p.out p.delivery };
+}
+
+impl Point {
+    /// A closed point that keeps nothing.
+    pub fn new() -> Self
+        ensures { result ≡ fresh Closed }
+    {
+        Point {
+            state: PointState::Closed,
+            out: None,
+            ending: false,
+            preset: Preset::Unset,
+            prepaid: None,
+            delivery: None,
+        }
+    }
+
+    /// The point as a read shows it; its holder isn't known here. Price and volume are 0 unless a
+    /// fuelling is under way: started, fuelling, or either of them suspended.
+    pub fn view(&self) -> PointView
+        ensures { result ≡ point_view self.now None }
+    {
+        let (price, volume) = match self.delivery {
+            Some(delivery) => (delivery.price.get(), delivery.volume),
+            None => (0, 0),
+        };
+        PointView {
+            state: self.state,
+            out: self.out,
+            holder: None,
+            ending: self.ending,
+            preset: self.preset,
+            prepaid: self.prepaid,
+            price,
+            volume,
+        }
+    }
+
+    /// Why `on` would refuse the event, if it would; the first of these that holds. Nothing changes.
+    ///
+    /// - `WrongState`: the point table doesn't list the event in the point's state.
+    /// - `Ending`: the fuelling was terminated, so it is neither resumed nor terminated again.
+    /// - `WrongNozzle`: another nozzle than the one that flows or is put back is out.
+    pub fn judge(&self, event: &PointEvent) -> Result<(), Refusal>
+        ensures accepted { OnOk result (refusal_of event.now self.now ≡ None) }
+        ensures refused { IfErr result (λ refusal. refusal_of event.now self.now ≡ Some refusal) }
+    {
+        if !is_listed(event, self.state) {
+            return Err(Refusal::WrongState(self.state));
+        }
+        match event {
+            PointEvent::Resume => self.judge_ending(),
+            PointEvent::Terminate => self.judge_ending(),
+            PointEvent::Flow { nozzle, .. } => self.judge_nozzle(*nozzle),
+            PointEvent::HangUp { nozzle, .. } => self.judge_nozzle(*nozzle),
+            _ => Ok(()),
+        }
+    }
+
+    /// Does what the point table says of the event, and answers what it did; a sale or a start with
+    /// the values that stood before the point forgot them. A fuelling that starts takes the price and
+    /// the reading handed in, and nothing touches these until it is over. A terminated fuelling takes
+    /// flow until hang up or offline. The refusal is that of `judge`, and leaves the point as it was.
+    ///
+    /// The fuelling's volume with the growth handed in has to be one that a meter can show.
+    pub fn on(&mut self, event: PointEvent) -> Result<PointStep, Refusal>
+        requires { FitsGrowth event self.old }
+        ensures accepted { OnOk result (refusal_of event self.old ≡ None) }
+        ensures step { IfOk result (λ step. step ≡ step_of event self.old) }
+        ensures facts { OnOk result (self.new ≡ after event self.old) }
+        ensures refused { IfErr result (λ refusal. refusal_of event self.old ≡ Some refusal) }
+        ensures err { OnErr result (self.new ≡ self.old) }
+    {
+        self.judge(&event)?;
+        match event {
+            PointEvent::Online => Ok(self.online()),
+            PointEvent::Offline => Ok(self.offline()),
+            PointEvent::Open => Ok(self.open()),
+            PointEvent::Close => Ok(self.close()),
+            PointEvent::Assign => Ok(PointStep::Moved),
+            PointEvent::Unassign => Ok(PointStep::Moved),
+            PointEvent::Lift {
+                nozzle,
+                last,
+                price,
+            } => Ok(self.lift(nozzle, last, price)),
+            PointEvent::Release {
+                preset,
+                prepaid,
+                last,
+                price,
+            } => Ok(self.release(preset, prepaid, last, price)),
+            PointEvent::Suspend => Ok(self.suspend()),
+            PointEvent::Resume => Ok(self.resume()),
+            PointEvent::Terminate => Ok(self.terminate()),
+            PointEvent::Flow { growth, .. } => Ok(self.flow(growth)),
+            PointEvent::HangUp { growth, .. } => Ok(self.hang_up(growth)),
+        }
+    }
+
+    fn online(&mut self) -> PointStep
+        requires { is_listed PointEvent.Online self.old.state ≡ true }
+        ensures step { result ≡ step_of PointEvent.Online self.old }
+        ensures facts { self.new ≡ after PointEvent.Online self.old }
+    {
+        self.state = PointState::Closed;
+        PointStep::Moved
+    }
+
+    fn offline(&mut self) -> PointStep
+        requires { is_listed PointEvent.Offline self.old.state ≡ true }
+        ensures step { result ≡ step_of PointEvent.Offline self.old }
+        ensures facts { self.new ≡ after PointEvent.Offline self.old }
+    {
+        let step = match self.state {
+            PointState::Fuelling | PointState::SuspendedFuelling => self.sold(0),
+            _ => PointStep::Moved,
+        };
+        self.forget_in(PointState::Inoperative);
+        step
+    }
+
+    fn open(&mut self) -> PointStep
+        requires { is_listed PointEvent.Open self.old.state ≡ true }
+        ensures step { result ≡ step_of PointEvent.Open self.old }
+        ensures facts { self.new ≡ after PointEvent.Open self.old }
+    {
+        self.forget_in(PointState::Idle);
+        PointStep::Moved
+    }
+
+    fn close(&mut self) -> PointStep
+        requires { is_listed PointEvent.Close self.old.state ≡ true }
+        ensures step { result ≡ step_of PointEvent.Close self.old }
+        ensures facts { self.new ≡ after PointEvent.Close self.old }
+    {
+        self.state = PointState::Closed;
+        PointStep::Moved
+    }
+
+    fn lift(&mut self, nozzle: NozzleNo, last: Millilitres, price: Mills) -> PointStep
+        requires { is_listed (PointEvent.Lift nozzle last price) self.old.state ≡ true }
+        ensures step { result ≡ step_of (PointEvent.Lift nozzle last price) self.old }
+        ensures facts { self.new ≡ after (PointEvent.Lift nozzle last price) self.old }
+    {
+        self.out = Some(nozzle);
+        match self.state {
+            PointState::Authorised => {
+                self.state = PointState::Started;
+                self.delivery = Some(Delivery::new(last, price));
+                PointStep::Start {
+                    preset: self.preset,
+                    price,
+                }
+            }
+            _ => {
+                self.state = PointState::Calling;
+                PointStep::Calling
+            }
+        }
+    }
+
+    fn release(
+        &mut self,
+        preset: Preset,
+        prepaid: Option<u32>,
+        last: Millilitres,
+        price: Mills,
+    ) -> PointStep
+        requires { is_listed (PointEvent.Release preset prepaid last price) self.old.state ≡ true }
+        ensures step { result ≡ step_of (PointEvent.Release preset prepaid last price) self.old }
+        ensures facts { self.new ≡ after (PointEvent.Release preset prepaid last price) self.old }
+    {
+        self.preset = preset;
+        self.prepaid = prepaid;
+        match self.state {
+            PointState::Calling => {
+                self.state = PointState::Started;
+                self.delivery = Some(Delivery::new(last, price));
+            }
+            _ => self.state = PointState::Authorised,
+        }
+        PointStep::Moved
+    }
+
+    fn suspend(&mut self) -> PointStep
+        requires { is_listed PointEvent.Suspend self.old.state ≡ true }
+        ensures step { result ≡ step_of PointEvent.Suspend self.old }
+        ensures facts { self.new ≡ after PointEvent.Suspend self.old }
+    {
+        self.state = suspended(self.state);
+        PointStep::Moved
+    }
+
+    fn resume(&mut self) -> PointStep
+        requires { is_listed PointEvent.Resume self.old.state ≡ true }
+        ensures step { result ≡ step_of PointEvent.Resume self.old }
+        ensures facts { self.new ≡ after PointEvent.Resume self.old }
+    {
+        match self.state {
+            PointState::SuspendedStarted => self.state = PointState::Started,
+            _ => self.state = PointState::Fuelling,
+        }
+        PointStep::Moved
+    }
+
+    fn terminate(&mut self) -> PointStep
+        requires { is_listed PointEvent.Terminate self.old.state ≡ true }
+        ensures step { result ≡ step_of PointEvent.Terminate self.old }
+        ensures facts { self.new ≡ after PointEvent.Terminate self.old }
+    {
+        if self.state == PointState::Authorised {
+            self.forget_in(PointState::Idle);
+            return PointStep::Stopped;
+        }
+        self.state = suspended(self.state);
+        self.ending = true;
+        PointStep::Ending
+    }
+
+    fn flow(&mut self, growth: u64) -> PointStep
+        requires listed { is_under_way self.old.state ≡ true }
+        requires fits { self.old.volume + growth ≤ GREATEST_READING }
+        ensures step { (nozzle : ℕ) → result ≡ step_of (PointEvent.Flow nozzle growth) self.old }
+        ensures facts { (nozzle : ℕ) → self.new ≡ after (PointEvent.Flow nozzle growth) self.old }
+    {
+        self.pump(growth);
+        if growth > 0 {
+            self.state = flowing(self.state);
+        }
+        PointStep::Flowed { growth }
+    }
+
+    fn hang_up(&mut self, growth: u64) -> PointStep
+        requires listed { has_nozzle_out self.old.state ≡ true }
+        requires fits { volume_of self.old + growth ≤ GREATEST_READING }
+        ensures step { (nozzle : ℕ) → result ≡ step_of (PointEvent.HangUp nozzle growth) self.old }
+        ensures facts { (nozzle : ℕ) → self.new ≡ after (PointEvent.HangUp nozzle growth) self.old }
+    {
+        let step = match self.state {
+            PointState::Calling => PointStep::HungUp,
+            PointState::Fuelling | PointState::SuspendedFuelling => self.sold(growth),
+            _ if growth > 0 => self.sold(growth),
+            _ => PointStep::NoSale,
+        };
+        self.forget_in(PointState::Idle);
+        step
+    }
+
+    /// Adds what has flowed.
+    fn pump(&mut self, growth: u64)
+        requires under_way { is_under_way self.old.state ≡ true }
+        requires fits { self.old.volume + growth ≤ GREATEST_READING }
+        ensures { self.new ≡ record self.old { volume = self.old.volume + growth } }
+    {
+        if let Some(delivery) = self.delivery {
+            self.delivery = Some(Delivery {
+                volume: delivery.volume + growth,
+                ..delivery
+            });
+        }
+    }
+
+    /// The sale of the fuelling, with what has flowed last.
+    fn sold(&self, growth: u64) -> PointStep
+        requires under_way { is_under_way self.now.state ≡ true }
+        requires fits { self.now.volume + growth ≤ GREATEST_READING }
+        ensures { result ≡ PointStep.Sold (unwrap_or self.now.out 0) (self.now.volume + growth) self.now.price self.now.prepaid }
+    {
+        if let Some(nozzle) = self.out
+            && let Some(delivery) = self.delivery
+            && let Some(volume) = Millilitres::new(delivery.volume + growth)
+        {
+            PointStep::Sold {
+                nozzle,
+                volume,
+                price: delivery.price,
+                prepaid: self.prepaid,
+            }
+        } else {
+            unreachable!()
+        }
+    }
+
+    /// The point goes to a state in which it keeps nothing.
+    fn forget_in(&mut self, state: PointState)
+        requires { has_nozzle_out state ≡ false }
+        ensures { self.new ≡ fresh state }
+    {
+        self.state = state;
+        self.out = None;
+        self.ending = false;
+        self.preset = Preset::Unset;
+        self.prepaid = None;
+        self.delivery = None;
+    }
+
+    fn judge_ending(&self) -> Result<(), Refusal>
+        ensures { MatchResult result (λ _. self.now.ending ≡ false) (λ refusal. (self.now.ending ≡ true) × (refusal ≡ Refusal.Ending)) }
+    {
+        if self.ending {
+            Err(Refusal::Ending)
+        } else {
+            Ok(())
+        }
+    }
+
+    /// Is this the nozzle that is out?
+    fn judge_nozzle(&self, nozzle: NozzleNo) -> Result<(), Refusal>
+        ensures { MatchResult result (λ _. is_out nozzle self.now.out ≡ None) (λ refusal. is_out nozzle self.now.out ≡ Some refusal) }
+    {
+        match self.out {
+            Some(out) if out != nozzle => Err(Refusal::WrongNozzle(out)),
+            _ => Ok(()),
+        }
+    }
+}
+
+/// The state in which a fuelling in this state is suspended.
+fn suspended(state: PointState) -> PointState
+    ensures { result ≡ suspended state }
+{
+    match state {
+        PointState::Started => PointState::SuspendedStarted,
+        PointState::Fuelling => PointState::SuspendedFuelling,
+        _ => state,
+    }
+}
+
+/// The state of a fuelling in this state once fuel has flowed.
+fn flowing(state: PointState) -> PointState
+    ensures { result ≡ flowing state }
+{
+    match state {
+        PointState::Started => PointState::Fuelling,
+        PointState::SuspendedStarted => PointState::SuspendedFuelling,
+        _ => state,
+    }
+}

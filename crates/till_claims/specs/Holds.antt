@@ -1,0 +1,17 @@
+-- The holds of a site: the finite map from the points that are held to the tills that hold them.
+use Rattle.std.specs.Prelude.{ℕ, Bool, true, List, map, filter, Option, Some, None, ◌==◌}
+use Rattle.std.specs.Ordering.{nat_cmp}
+use Rattle.std.specs.FinMap.{FinMap, entries}
+
+-- no other till than t is the holder
+abbrev pub is_free_for : ℕ → Option ℕ → Bool
+is_free_for t None = true
+is_free_for t (Some holder) = holder == t
+
+-- the points of this till among such pairs, in their order
+abbrev pub points_of : ℕ → List (ℕ × ℕ) → List ℕ
+points_of t holds = map (λ hold. hold.0) (filter (λ hold. hold.1 == t) holds)
+
+-- the points that the till holds: a finite map's entries stand in rising order
+abbrev pub points_held : ℕ → FinMap nat_cmp ℕ → List ℕ
+points_held t holds = points_of t (entries holds)

@@ -1,0 +1,99 @@
+//! The holds of a site.
+
+ghost use Rattle.std.specs.Prelude.{◌≡◌, ◌+◌, ◌<◌, true, is_some, IfOk, IfSome};
+ghost use Rattle.std.specs.Ordering.{nat_cmp};
+ghost use Rattle.std.specs.FinMap as map;
+ghost use Rattle.till_claims.specs.Holds.{is_free_for, points_held};
+
+use site_base::{FpNo, NoMemory, POINT_CELLS, TillNo};
+use std::alloc::Global;
+use std::marker::Model;
+
+/// Which till holds which fuelling point. A point has at most one holder; a till may hold any
+/// number of points. Contracts see the finite map from the points that are held to their tills.
+#[derive(Drop)]
+pub struct Claims {
+    // The holder of point p stands in cell p - 1.
+    holders: [Option<TillNo>; POINT_CELLS],
+}
+
+impl Model for Claims {
+    ghost use Rattle.std.specs.Prelude.{ℕ};
+    ghost use Rattle.std.specs.Ordering.{nat_cmp};
+    ghost use Rattle.std.specs.FinMap as map;
+    ghost use Rattle.std.specs.Coded.{coded_ℕ};
+    ghost use Rattle.till_claims.specs.Cells.{entries_from};
+
+    ghost Value = { map.FinMap nat_cmp ℕ };
+
+    ghost coded = { map.code coded_ℕ coded_ℕ };
+
+    ghost view = { λ c. map.from_entries (entries_from 1 c.holders) };
+}
+
+impl Claims {
+    /// No point is held.
+    pub fn new() -> Self
+        ensures { result ≡ map.empty }
+    {
+        Claims {
+            holders: [None; POINT_CELLS],
+        }
+    }
+
+    /// The till that holds the point; None where nobody does.
+    pub fn holder(&self, p: FpNo) -> Option<TillNo>
+        ensures { result ≡ map.get self.now p }
+    {
+        self.holders[cell_of(p)]
+    }
+
+    /// The till takes the hold of a point that no other till holds. Where it holds the point
+    /// already, nothing changes. Every other hold stays.
+    pub fn take(&mut self, p: FpNo, t: TillNo)
+        requires { is_free_for t (map.get self.old p) ≡ true }
+        ensures { self.new ≡ map.insert self.old p t }
+    {
+        self.holders[cell_of(p)] = Some(t);
+    }
+
+    /// Nobody holds the point any more. Every other hold stays.
+    pub fn free(&mut self, p: FpNo)
+        ensures { self.new ≡ map.remove self.old p }
+    {
+        self.holders[cell_of(p)] = None;
+    }
+
+    /// The points that the till holds, in rising order. The only error is want of memory.
+    pub fn held_by(&self, alloc: Global, t: TillNo) -> Result<Vec<FpNo>, NoMemory>
+        ensures { IfOk result (λ points. points.items ≡ points_held t self.now) }
+    {
+        let mut points = Vec::new(alloc);
+        let holders: &[Option<TillNo>] = &self.holders;
+        for (cell, holder) in holders.iter().enumerate() {
+            if *holder == Some(t)
+                && let Some(p) = point_of(cell)
+            {
+                points.push(p)?;
+            }
+        }
+        Ok(points)
+    }
+}
+
+/// The cell of a point.
+fn cell_of(p: FpNo) -> usize
+    ensures place { result + 1 ≡ p }
+    ensures within { result < POINT_CELLS }
+{
+    usize::from(p.get()) - 1
+}
+
+/// The point of a cell.
+fn point_of(cell: usize) -> Option<FpNo>
+    requires { cell < POINT_CELLS }
+    ensures there { is_some result ≡ true }
+    ensures number { IfSome result (λ p. p ≡ cell + 1) }
+{
+    FpNo::new(cell as u8 + 1)
+}
