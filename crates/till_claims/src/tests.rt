@@ -1,9 +1,9 @@
-//! What no clause says: that a till's points are told where there is memory for them. The tests
-//! allocate nowhere but in `held_by`, which grows twice for more than eight points, and pass
-//! whichever of these growths is refused.
+//! What no clause says: that a till's points are told where there is memory for them.
+
+mod refused;
 
 use crate::Claims;
-use site_base::{FpNo, NoMemory, TillNo};
+use site_base::{FpNo, TillNo};
 use std::alloc::Global;
 use std::process::Abort;
 use std::test::Fail;
@@ -16,8 +16,7 @@ fn till(rt: &impl Abort, number: u8) -> TillNo {
     TillNo::new(number).expect(rt, "the number of a till")
 }
 
-/// These are the points that the till holds. A refused growth is want of memory and changes no
-/// hold; the same call then tells the points.
+/// These are the points that the till holds.
 fn assert_held(
     rt: &impl Abort,
     alloc: Global,
@@ -26,10 +25,7 @@ fn assert_held(
     want: &[u8],
 ) -> Result<(), Fail> {
     let t = till(rt, t);
-    let points = match claims.held_by(alloc, t) {
-        Ok(points) => points,
-        Err(NoMemory) => claims.held_by(alloc, t)?,
-    };
+    let points = claims.held_by(alloc, t)?;
     assert_eq!(rt; points.len(), want.len());
     for (found, number) in points.iter().zip(want) {
         assert_eq!(rt; found.get(), *number);
