@@ -1,0 +1,3 @@
+pub mod Nozzles
+pub mod Reports
+pub mod Places
