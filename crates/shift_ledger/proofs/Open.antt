@@ -1,5 +1,5 @@
 -- The figures of the open shift, as a look-up of its number shows them.
-use Rattle.std.proofs.Common.{◌≡◌, ℕ, suc, false, ◌+◌, ◌<◌, ◌≤◌, ◌^◌, ◌∷◌, ◌++◌, ◌-◌, length, get_or, Some, List, [], arith, refl, sym, subst, ap, ◌∙◌, ◌==◌, unwrap_or}
+use Rattle.std.proofs.Common.{◌≡◌, ℕ, false, ◌+◌, ◌<◌, ◌≤◌, ◌^◌, ◌∷◌, ◌++◌, ◌-◌, length, get_or, Some, List, [], arith, refl, sym, subst, ap, ◌∙◌, ◌==◌, unwrap_or}
 use Rattle.std.specs.List.{slice_get}
 use Rattle.std.proofs.lemmas.Bool.Decides.{nat_tests}
 use Rattle.std.proofs.lemmas.Option.{unwrap_or-slice_get}

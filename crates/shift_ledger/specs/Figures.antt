@@ -1,5 +1,5 @@
 -- The figures of one shift.
-use Rattle.std.specs.Prelude.{◌≡◌, ℕ, ◌+◌, ◌-◌, ◌^◌, ◌<◌, List, [], ◌∷◌, Option, Some, None, unwrap_or, ◌==◌, if◌then◌else◌, replicate, slice_get, slice_set}
+use Rattle.std.specs.Prelude.{ℕ, ◌+◌, ◌-◌, ◌^◌, ◌<◌, List, Option, None, unwrap_or, ◌==◌, if◌then◌else◌, replicate, slice_get, slice_set}
 use Rattle.site_base.specs.declared.limits.TheConstants.{TILL_CELLS}
 use Rattle.shift_ledger.specs.declared.row.TheConstants.{PRODUCT_CELLS}
 use Rattle.shift_ledger.specs.declared.row.ShiftRow.{ShiftRow}

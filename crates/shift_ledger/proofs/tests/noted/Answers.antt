@@ -1,5 +1,4 @@
-use Rattle.std.proofs.Common.{arith, ◌≡◌, ℕ, ◌+◌, ap, sym, ◌∙◌, length, Some, ◌≤◌, subst}
-use Rattle.shift_ledger.specs.Shifts.{figures_of}
+use Rattle.std.proofs.Common.{arith, ◌≡◌, ℕ, ◌+◌, ap, sym, ◌∙◌}
 use Rattle.shift_ledger.proofs.Open.{fits_shown}
 use Rattle.shift_ledger.proofs.tests.noted.Goals as goal
 
