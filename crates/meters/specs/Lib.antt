@@ -1,0 +1,4 @@
+pub mod Nozzles
+pub mod Reports
+pub mod Places
+pub mod Laws

@@ -1,0 +1,16 @@
+//! The meters of a site's nozzles: the last reading of each, what a report of a dispenser must read,
+//! and how much of each product was metered since the site opened. A report that is refused moves no
+//! meter.
+#![tactic(auto)]
+
+mod laws;
+mod meter;
+mod meters;
+mod place;
+mod report;
+#[cfg(test)]
+mod tests;
+
+pub use laws::{each_nozzle_has_a_meter, growth_raises_one_total, never_below_opening};
+pub use meters::Meters;
+pub use report::Report;

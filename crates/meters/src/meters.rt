@@ -1,0 +1,141 @@
+//! The meters of a site.
+
+ghost use Rattle.std.specs.Prelude.{◌≡◌, ◌≤◌, ◌+◌, ◌*◌, ◌++◌, true, take, None, Some, OnOk, IfOk, IfErr, length};
+ghost use Rattle.site_base.specs.declared.limits.TheConstants.{GREATEST_READING, NOZZLES, POINTS};
+ghost use Rattle.meters.specs.declared.report.Report.TheVariants.{Growing};
+ghost use Rattle.meters.specs.Nozzles.{opening_nozzles, nozzles_of_point, last_of, has_nozzle, reading_of, with_last, product_total};
+ghost use Rattle.meters.specs.Reports.{growth_of, report_refusal};
+
+use crate::meter::Meter;
+use crate::place::place_of;
+use crate::report::Report;
+use site_base::{
+    FpNo, Millilitres, NOZZLES, NoMemory, NozzleNo, POINT_CELLS, PointEntry, ProductNo, Refusal,
+    SiteConfig,
+};
+use std::alloc::Global;
+use std::marker::Model;
+
+/// The meters of a site's nozzles, in configured order.
+#[derive(Drop)]
+pub struct Meters {
+    meters: Vec<Meter>,
+}
+
+impl Model for Meters {
+    ghost use Rattle.std.specs.Prelude.{◌≤◌, ◌*◌, List, length};
+    ghost use Rattle.site_base.specs.declared.limits.TheConstants.{NOZZLES, POINTS};
+    ghost use Rattle.meters.specs.Nozzles.{Nozzle};
+
+    ghost Value = { List Nozzle };
+
+    ghost view = { λ m. m.meters.items };
+
+    ghost invariant = { λ m. length m.meters.items ≤ POINTS * NOZZLES };
+}
+
+impl Meters {
+    /// The meters of the site's nozzles when it opens: each with its opening reading as the last one.
+    pub fn try_new(alloc: Global, config: &SiteConfig) -> Result<Self, NoMemory>
+        ensures { IfOk result (λ meters. meters ≡ opening_nozzles config.now) }
+    {
+        let mut meters = Vec::new(alloc);
+        for entry in front(config.points(), POINT_CELLS) {
+            add_point(&mut meters, entry)?;
+        }
+        Ok(Meters { meters })
+    }
+
+    /// The last reading of nozzle n of point p. None where there is no such nozzle.
+    pub fn last(&self, p: FpNo, n: NozzleNo) -> Option<Millilitres>
+        ensures { result ≡ last_of p n self.now }
+    {
+        match place_of(&self.meters, p, n) {
+            Some(place) => {
+                let meter = &self.meters[place];
+                Some(meter.last())
+            }
+            None => None,
+        }
+    }
+
+    /// How much a report of nozzle n of point p, which is there, adds to the nozzle's last reading, in
+    /// millilitres. A `Still` report that doesn't read just the last reading is refused with `MeterGap`,
+    /// which names the reading that is expected. A `Growing` one is refused with `MeterBack`, which names
+    /// the last reading, where it reads less than that, and with `MeterJump` where it reads more than
+    /// `GROWTH_LIMIT` above it. No meter moves.
+    pub fn check(
+        &self,
+        p: FpNo,
+        n: NozzleNo,
+        reading: Millilitres,
+        report: Report,
+    ) -> Result<u64, Refusal>
+        requires there { has_nozzle p n self.now ≡ true }
+        ensures accepted { OnOk result (report_refusal report (reading_of p n self.now) reading ≡ None) }
+        ensures growth { IfOk result (λ growth. growth ≡ growth_of (reading_of p n self.now) reading) }
+        ensures refused { IfErr result (λ refusal. report_refusal report (reading_of p n self.now) reading ≡ Some refusal) }
+    {
+        match place_of(&self.meters, p, n) {
+            Some(place) => {
+                let meter = &self.meters[place];
+                meter.check(reading, &report)
+            }
+            None => Ok(0),
+        }
+    }
+
+    /// Takes a reading of nozzle n of point p, which is there, as its last one. A `Growing` report of it
+    /// would be accepted. No other meter moves.
+    pub fn advance(&mut self, p: FpNo, n: NozzleNo, reading: Millilitres)
+        requires there { has_nozzle p n self.old ≡ true }
+        requires accepted { report_refusal Growing (reading_of p n self.old) reading ≡ None }
+        ensures { self.new ≡ with_last p n reading self.old }
+    {
+        if let Some(place) = place_of(&self.meters, p, n) {
+            let meter = &mut self.meters[place];
+            meter.advance(reading);
+        }
+    }
+
+    /// What the nozzles of product q have metered since the site opened, in millilitres: the sum of the
+    /// last reading less the opening one. 0 where no nozzle delivers q.
+    pub fn product_total(&self, q: ProductNo) -> u64
+        ensures total { result ≡ product_total q self.now }
+        ensures range { result ≤ POINTS * NOZZLES * GREATEST_READING }
+    {
+        let mut total = 0;
+        for meter in &self.meters {
+            if meter.delivers(q) {
+                total += meter.metered();
+            }
+        }
+        total
+    }
+}
+
+/// The first items of a list, at most this many.
+fn front<T>(items: &[T], most: usize) -> &[T]
+    ensures { result.now ≡ take most items.now }
+{
+    if items.len() <= most {
+        items
+    } else {
+        &items[..most]
+    }
+}
+
+/// Adds the meters of a point's nozzles: nozzle n is the nth.
+fn add_point(meters: &mut Vec<Meter>, entry: &PointEntry) -> Result<(), NoMemory>
+    ensures added { OnOk result (meters.new.items ≡ meters.old.items ++ nozzles_of_point entry.now) }
+    ensures few { OnOk result (length meters.new.items ≤ length meters.old.items + NOZZLES) }
+{
+    let nozzles = front(&entry.nozzles, NOZZLES as usize);
+    for (place, nozzle) in nozzles.iter().enumerate() {
+        let Some(number) = NozzleNo::new(place as u8 + 1) else {
+            return Ok(());
+        };
+        meters.push(Meter::opened(entry.number, number, nozzle))?;
+    }
+    Ok(())
+}

@@ -1,0 +1,38 @@
+-- The figures of one shift.
+use Rattle.std.specs.Prelude.{ℕ, ◌+◌, ◌-◌, ◌^◌, ◌<◌, List, Option, None, unwrap_or, ◌==◌, if◌then◌else◌, replicate, slice_get, slice_set}
+use Rattle.site_base.specs.declared.limits.TheConstants.{TILL_CELLS}
+use Rattle.shift_ledger.specs.declared.row.TheConstants.{PRODUCT_CELLS}
+use Rattle.shift_ledger.specs.declared.row.ShiftRow.{ShiftRow}
+
+-- the member with this number, the first one having 1
+abbrev pub numbered : {A : Type 0} → ℕ → List A → Option A
+numbered n xs = if n == 0 then None else slice_get xs (n - 1)
+
+-- the list, with y as the member with this number
+abbrev pub with_numbered : {A : Type 0} → ℕ → A → List A → List A
+with_numbered n y xs = if n == 0 then xs else slice_set xs (n - 1) y
+
+-- the clears of a till and their cents
+abbrev pub till_figures : ℕ → ShiftRow → ℕ × ℕ
+till_figures t row = unwrap_or (numbered t row.tills) (0, 0)
+
+-- the millilitres cleared of a product
+abbrev pub product_figure : ℕ → ShiftRow → ℕ
+product_figure q row = unwrap_or (numbered q row.products) 0
+
+-- a shift without clears
+abbrev pub no_clears : ShiftRow
+no_clears = record { tills = replicate TILL_CELLS (0, 0); products = replicate PRODUCT_CELLS 0 }
+
+-- the figures with one more clear by a till: of this product, millilitres and cents
+abbrev pub with_clear : ℕ → ℕ → ℕ → ℕ → ShiftRow → ShiftRow
+with_clear t q ml cents row = record {
+  tills = with_numbered t ((till_figures t row).0 + 1, (till_figures t row).1 + cents) row.tills;
+  products = with_numbered q (product_figure q row + ml) row.products;
+}
+
+-- the sums that one more clear raises stay in 64 bits
+pub record FitsClear (t q ml cents : ℕ) (row : ShiftRow) : Type 0 where
+  pub clears : (till_figures t row).0 + 1 < 2 ^ 64
+  pub cents_sum : (till_figures t row).1 + cents < 2 ^ 64
+  pub millilitres : product_figure q row + ml < 2 ^ 64

@@ -1,0 +1,106 @@
+//! The shifts of a site.
+
+ghost use Rattle.std.specs.Prelude.{◌≡◌, ◌<◌, ◌≤◌, true, false, length, OnOk, OnErr, IfOk, IfErr};
+ghost use Rattle.site_base.specs.declared.refusal.Refusal.TheVariants.{ShiftsSpent};
+ghost use Rattle.site_base.specs.declared.limits.TheConstants.{GREATEST_SHIFT};
+ghost use Rattle.shift_ledger.specs.Figures.{FitsClear};
+ghost use Rattle.shift_ledger.specs.Shifts.{first_shift, open_number, is_last, figures_of, after_close, after_clear};
+
+use crate::row::ShiftRow;
+use site_base::{GREATEST_SHIFT, NoMemory, ProductNo, Refusal, TillNo};
+use std::alloc::Global;
+use std::marker::Model;
+
+/// The figures of the closed shifts, which are numbered from 1, and of the open one, which is the next.
+#[derive(Drop)]
+pub struct ShiftBook {
+    closed: Vec<ShiftRow>,
+    current: ShiftRow,
+}
+
+impl Model for ShiftBook {
+    ghost use Rattle.std.specs.Prelude.{◌-◌, ◌<◌, vec_len, vec_capacity, length};
+    ghost use Rattle.site_base.specs.declared.limits.TheConstants.{GREATEST_SHIFT};
+    ghost use Rattle.shift_ledger.specs.Shifts.{Book};
+
+    ghost Value = { Book };
+
+    ghost view = { λ b. record { shifts = record { closed = b.closed.items; current = b.current }; room = vec_capacity b.closed - vec_len b.closed } };
+
+    ghost invariant = { λ b. length b.closed.items < GREATEST_SHIFT };
+}
+
+impl ShiftBook {
+    /// No shift is closed, and shift 1 is open with nothing in it. It takes no memory.
+    pub fn new(alloc: Global) -> Self
+        ensures { result.shifts ≡ first_shift }
+    {
+        ShiftBook {
+            closed: Vec::new(alloc),
+            current: ShiftRow::empty(),
+        }
+    }
+
+    /// Makes the room that the next close needs. The shifts stay.
+    pub fn reserve(&mut self) -> Result<(), NoMemory>
+        ensures shifts { self.new.shifts ≡ self.old.shifts }
+        ensures room { OnOk result (0 < self.new.room) }
+        ensures kept { self.old.room ≤ self.new.room }
+    {
+        self.closed.reserve(1)?;
+        Ok(())
+    }
+
+    /// Adds a clear by a till to the open shift: of this product, so many millilitres and cents. The
+    /// open shift's sums with it stay in u64.
+    pub fn note_cleared(&mut self, t: TillNo, q: ProductNo, ml: u64, cents: u64)
+        requires { FitsClear t q ml cents self.old.shifts.current }
+        ensures shifts { self.new.shifts ≡ after_clear t q ml cents self.old.shifts }
+        ensures room { self.new.room ≡ self.old.room }
+    {
+        self.current.note_cleared(t, q, ml, cents);
+    }
+
+    /// Closes the open shift and opens the next, with nothing in it; the answer is the number of the
+    /// shift that was closed. While shift `GREATEST_SHIFT` is open it is refused with `ShiftsSpent`, and
+    /// nothing changes. The room for it is reserved; it takes no memory.
+    pub fn close(&mut self) -> Result<u16, Refusal>
+        requires { 0 < self.old.room }
+        ensures accepted { OnOk result (is_last self.old.shifts ≡ false) }
+        ensures number { IfOk result (λ n. n ≡ open_number self.old.shifts) }
+        ensures shifts { OnOk result (self.new.shifts ≡ after_close self.old.shifts) }
+        ensures spent { OnErr result (is_last self.old.shifts ≡ true) }
+        ensures refused { IfErr result (λ refusal. refusal ≡ ShiftsSpent) }
+        ensures err { OnErr result (self.new ≡ self.old) }
+    {
+        let number = self.rows() + 1;
+        if number == GREATEST_SHIFT {
+            return Err(Refusal::ShiftsSpent);
+        }
+        self.closed.push_reserved(self.current);
+        self.current = ShiftRow::empty();
+        Ok(number)
+    }
+
+    /// How many shifts are closed.
+    pub fn rows(&self) -> u16
+        ensures value { result ≡ length self.now.shifts.closed }
+        ensures range { result < GREATEST_SHIFT }
+    {
+        self.closed.len() as u16
+    }
+
+    /// The figures of shift n, the open one's too. None for 0 and for shifts to come.
+    pub fn row(&self, n: u16) -> Option<ShiftRow>
+        ensures { result ≡ figures_of n self.now.shifts }
+    {
+        let closed = self.rows();
+        if 1 <= n && n <= closed {
+            Some(self.closed[n as usize - 1])
+        } else if n == closed + 1 {
+            Some(self.current)
+        } else {
+            None
+        }
+    }
+}

@@ -1,0 +1,42 @@
+//! The figures of one shift.
+
+ghost use Rattle.std.specs.Prelude.{◌≡◌};
+ghost use Rattle.shift_ledger.specs.Figures.{no_clears, with_clear, FitsClear};
+
+use site_base::{PRODUCTS, ProductNo, TILL_CELLS, TillNo};
+
+/// Cells of an array that has one for each product.
+pub const PRODUCT_CELLS: usize = PRODUCTS as usize;
+
+/// The figures of a shift.
+#[derive(Clone, Copy, Debug, PartialEq, Eq)]
+pub struct ShiftRow {
+    /// Of each till, from 1 on: how many transactions it cleared, and their cents.
+    pub tills: [(u64, u64); TILL_CELLS],
+    /// Of each product, from 1 on: the millilitres that were cleared.
+    pub products: [u64; PRODUCT_CELLS],
+}
+
+impl ShiftRow {
+    /// A shift in which nothing was cleared.
+    pub(crate) fn empty() -> Self
+        ensures { result ≡ no_clears }
+    {
+        ShiftRow {
+            tills: [(0, 0); TILL_CELLS],
+            products: [0; PRODUCT_CELLS],
+        }
+    }
+
+    /// Adds one clear by a till: of this product, so many millilitres and cents. The sums stay in u64.
+    pub(crate) fn note_cleared(&mut self, t: TillNo, q: ProductNo, ml: u64, cents: u64)
+        requires { FitsClear t q ml cents self.old }
+        ensures { self.new ≡ with_clear t q ml cents self.old }
+    {
+        let till = t.get() as usize - 1;
+        let (clears, sum) = self.tills[till];
+        self.tills[till] = (clears + 1, sum + cents);
+        let product = q.get() as usize - 1;
+        self.products[product] += ml;
+    }
+}
