@@ -7,7 +7,10 @@ mod rows;
 use crate::fault::ReplayFault;
 use crate::replay::{ReplayEnd, replay};
 use crate::sites::known_site;
-use site_base::{Counted, SiteConfig};
+use site_base::{
+    Counted, FpNo, Millilitres, Mills, NoMemory, NozzleEntry, PointEntry, ProductEntry, ProductNo,
+    SiteConfig,
+};
 use std::alloc::Global;
 use std::process::Abort;
 use std::test::Fail;
@@ -46,4 +49,27 @@ fn assert_replay(
 /// The site that the program knows.
 fn known(alloc: Global) -> Result<SiteConfig, Fail> {
     Ok(known_site(alloc)?)
+}
+
+/// A site of point 2 alone that allows two rows.
+fn small_site(alloc: Global) -> Result<Option<SiteConfig>, NoMemory> {
+    let (Some(product), Some(price), Some(reading), Some(number)) = (
+        ProductNo::new(1),
+        Mills::new(1500),
+        Millilitres::new(0),
+        FpNo::new(2),
+    ) else {
+        return Ok(None);
+    };
+    let mut products = Vec::new(alloc);
+    products.push(ProductEntry {
+        number: product,
+        name: String::from_str(alloc, "diesel")?,
+        price,
+    })?;
+    let mut nozzles = Vec::new(alloc);
+    nozzles.push(NozzleEntry { product, reading })?;
+    let mut points = Vec::new(alloc);
+    points.push(PointEntry { number, nozzles })?;
+    Ok(SiteConfig::try_new(2, Vec::new(alloc), products, points))
 }

@@ -40,8 +40,6 @@ fn a_refused_piece_is_not_taken(rt: HostRuntime) {
     let mut decoder = Decoder::new(rt.alloc());
     assert_eq!(rt; fed(&rt, &mut decoder, &SIGN_ON[..7]), (0, None, 7));
     assert_eq!(rt; fed(&rt, &mut decoder, &SIGN_ON[7..]), (1, None, 0));
-    assert_eq!(rt; fed(&rt, &mut decoder, &LIFT[..24]), (0, None, 24));
-    assert_eq!(rt; fed(&rt, &mut decoder, &LIFT[24..]), (1, None, 0));
     assert_eq!(rt; decoder.finish(), Ok(()));
     assert_eq!(rt;
         fed(&rt, &mut decoder, &[1, 1, 2, 7, 9, 0x41, 0, 4]),

@@ -12,15 +12,15 @@ const SIGNED_ON: &str = "0201010100e100080101010100030100\n";
 #[test]
 fn a_replay_writes_a_front(rt: HostRuntime) {
     let alloc = rt.alloc();
-    let config = match known_site(alloc) {
-        Err(_) => {
+    let config = match small_site(alloc) {
+        Err(NoMemory) => {
             said(&rt);
-            known_site(alloc)
+            small_site(alloc)
         }
         config => config,
     };
-    let Ok(config) = config else {
-        panic!(&rt; "want of memory twice");
+    let Ok(Some(config)) = config else {
+        panic!(&rt; "no site");
     };
     let mut reader = Counted::new(SIGN_ON.as_bytes());
     let mut writer = Counted::new(Held {

@@ -3,7 +3,6 @@
 use super::*;
 use crate::fault::TextFault;
 use app_message::GrammarFault;
-use site_base::{FpNo, Millilitres, Mills, NozzleEntry, PointEntry, ProductEntry, ProductNo};
 
 /// A line, its answer, and the rows that it makes.
 type Row = (&'static str, &'static str, u64);
@@ -373,31 +372,10 @@ fn long_lines(rt: HostRuntime) -> Result<(), Fail> {
     Ok(())
 }
 
-/// A site of one point that allows two rows.
-fn small_site(alloc: Global) -> Result<SiteConfig, Fail> {
-    let mut products = Vec::new(alloc);
-    products.push(ProductEntry {
-        number: ProductNo::new(1).ok_or("a product")?,
-        name: String::from_str(alloc, "diesel")?,
-        price: Mills::new(1500).ok_or("a price")?,
-    })?;
-    let mut nozzles = Vec::new(alloc);
-    nozzles.push(NozzleEntry {
-        product: ProductNo::new(1).ok_or("a product")?,
-        reading: Millilitres::new(0).ok_or("a reading")?,
-    })?;
-    let mut points = Vec::new(alloc);
-    points.push(PointEntry {
-        number: FpNo::new(2).ok_or("a point")?,
-        nozzles,
-    })?;
-    Ok(SiteConfig::try_new(2, Vec::new(alloc), products, points).ok_or("a site")?)
-}
-
 #[test]
 fn a_full_book(rt: HostRuntime) -> Result<(), Fail> {
     let alloc = rt.alloc();
-    let config = small_site(alloc)?;
+    let config = small_site(alloc)?.ok_or("a site")?;
     let input =
         "010102010041000401013100\n010102010042000401223C00\n010102010043000401223D00\n01010201000400020122\n01010201004500020122\n";
     let text =
