@@ -1,21 +1,12 @@
 -- Which events a fuelling point refuses.
-use Rattle.std.specs.Prelude.{ℕ, Bool, true, false, not, Option, Some, None, ◌==◌}
+use Rattle.std.specs.Prelude.{ℕ, not, Option, Some, None, ◌==◌}
 use Rattle.site_base.specs.declared.refusal.Refusal.{Refusal}
 use Rattle.site_base.specs.declared.refusal.Refusal.TheVariants.{WrongState, WrongNozzle, Ending}
+use Rattle.site_base.specs.Checks.{◌or_else◌, unless}
 use Rattle.fuelling_point.specs.declared.event.PointEvent.{PointEvent}
 use Rattle.fuelling_point.specs.declared.event.PointEvent.TheVariants.{Resume, Terminate, Flow, HangUp}
 use Rattle.fuelling_point.specs.Table.{is_listed}
 use Rattle.fuelling_point.specs.Kept.{Facts}
-
--- the first check that fails decides
-infixr 20 ◌or_else◌
-abbrev pub ◌or_else◌ : Option Refusal → Option Refusal → Option Refusal
-None or_else next = next
-(Some refusal) or_else next = Some refusal
-
-abbrev pub unless : Bool → Refusal → Option Refusal
-unless true refusal = None
-unless false refusal = Some refusal
 
 -- the table has a line for the event in the point's state
 abbrev pub in_state : PointEvent → Facts → Option Refusal

@@ -1,3 +1,4 @@
+pub mod Checks
 pub mod Configured
 pub mod Counted
 pub mod Devices
@@ -5,3 +6,4 @@ pub mod History
 pub mod Refusals
 pub mod States
 pub mod Transfer
+pub mod Table

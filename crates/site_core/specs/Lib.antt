@@ -1,4 +1,3 @@
-pub mod Table
 pub mod Facts
 pub mod Tills
 pub mod State

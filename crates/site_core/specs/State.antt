@@ -6,7 +6,7 @@ use Rattle.std.specs.FinSet as set
 use Rattle.site_base.specs.declared.state.PointState.TheVariants.{Closed}
 use Rattle.site_base.specs.declared.view.PointView.{PointView}
 use Rattle.site_base.specs.Configured.{Configured, ConfiguredPoint}
-use Rattle.site_core.specs.Table.{row_of, with_row}
+use Rattle.site_base.specs.Table.{row_of, with_row}
 use Rattle.site_core.specs.Facts.{Facts, fresh, point_view}
 
 -- the points by their numbers, in configured order; which till holds which point; the tills signed on

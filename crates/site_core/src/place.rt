@@ -1,7 +1,7 @@
 //! Where a number's row stands in a table.
 
 ghost use Rattle.std.specs.Prelude.{◌≡◌, is_some, IfSome};
-ghost use Rattle.site_core.specs.Table.{row_of, IsPlace};
+ghost use Rattle.site_base.specs.Table.{row_of, IsPlace};
 
 use site_base::FpNo;
 

@@ -2,7 +2,7 @@
 
 ghost use Rattle.std.specs.Prelude.{◌≡◌, true, is_some, IfOk};
 ghost use Rattle.std.specs.Option.{option_copied};
-ghost use Rattle.site_core.specs.Table.{row_of, with_row};
+ghost use Rattle.site_base.specs.Table.{row_of, with_row};
 ghost use Rattle.site_core.specs.State.{points_of};
 
 use crate::place::place_of;

@@ -1,5 +1,5 @@
 use Rattle.std.proofs.Common.{◌≡◌, ℕ, ap, sym, ◌∙◌}
-use Rattle.site_core.proofs.Places.{place_found}
+use Rattle.site_base.proofs.Places.{place_found}
 use Rattle.site_core.proofs.place.place_of.Goals as goal
 
 pub returns-then-get-number-clause-found : goal.returns-then-get-number-clause-found

@@ -1,5 +1,5 @@
 use Rattle.std.proofs.Common.{◌≡◌, ◌++◌, take, drop}
-use Rattle.site_core.specs.Table.{row_of, with_row}
+use Rattle.site_base.specs.Table.{row_of, with_row}
 use Rattle.site_core.proofs.place.place_of.Given as goal
 
 abbrev pub invariant-loop-place : goal.invariant-loop-place

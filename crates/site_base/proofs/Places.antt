@@ -3,7 +3,7 @@ use Rattle.std.proofs.Common.{◌≡◌, ℕ, suc, ◌<◌, List, ◌∷◌, ◌
 use Rattle.std.proofs.lemmas.Bool.{eq-eqb}
 use Rattle.std.proofs.lemmas.List.{get_or_default, set_split}
 use Rattle.std.proofs.Math.Seq.{drop-cons}
-use Rattle.site_core.specs.Table.{row_of, with_row, IsPlace}
+use Rattle.site_base.specs.Table.{row_of, with_row, IsPlace}
 
 row_of-here : {V : Type 0} (p : ℕ) (e : ℕ × V) (es : List (ℕ × V)) → e.0 ≡ p → row_of p (e ∷ es) ≡ Some e.1
 row_of-here p e es is = rw (eq-eqb e.0 p is) refl

@@ -1,0 +1,14 @@
+-- Checks one after another: the first that fails gives the refusal.
+use Rattle.std.specs.Prelude.{Bool, true, false, Option, Some, None}
+use Rattle.site_base.specs.declared.refusal.Refusal.{Refusal}
+
+-- the first check that fails decides
+infixr 20 ◌or_else◌
+abbrev pub ◌or_else◌ : Option Refusal → Option Refusal → Option Refusal
+None or_else next = next
+(Some refusal) or_else next = Some refusal
+
+-- a check that fails where this isn't so
+abbrev pub unless : Bool → Refusal → Option Refusal
+unless true refusal = None
+unless false refusal = Some refusal
