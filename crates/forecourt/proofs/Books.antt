@@ -8,7 +8,7 @@ use Rattle.site_base.specs.declared.row.Row.{Row}
 use Rattle.site_base.specs.Configured.{Configured}
 use Rattle.site_core.specs.State.{SiteState, opening}
 use Rattle.site_core.specs.Step.{Steps, reply_to, site_after}
-use Rattle.site_core.proofs.Runs.{site_of_rows-push, IsLegal-push}
+use Rattle.site_core.proofs.Histories.{site_of_rows-push, IsLegal-push}
 use Rattle.forecourt.specs.Book.{IsBook}
 
 -- a step from the site of the rows leads to the site of the rows with its own

@@ -1,8 +1,9 @@
-pub mod Facts
 pub mod Tills
 pub mod State
 pub mod Checks
 pub mod Step
 pub mod Run
+pub mod Slots
+pub mod Holders
 pub mod Shown
 pub mod Lists

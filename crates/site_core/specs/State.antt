@@ -1,13 +1,14 @@
 -- The site state, and the words that read and change it.
-use Rattle.std.specs.Prelude.{ℕ, Bool, List, map, Option, option_and_then, Some, is_some, unwrap_or}
+use Rattle.std.specs.Prelude.{ℕ, Bool, true, false, ◌&&◌, List, map, Option, option_and_then, Some, None, is_some, unwrap_or}
 use Rattle.std.specs.Ordering.{nat_cmp}
 use Rattle.std.specs.FinMap as finite
 use Rattle.std.specs.FinSet as set
-use Rattle.site_base.specs.declared.state.PointState.TheVariants.{Closed}
+use Rattle.site_base.specs.declared.state.PointState.{PointState}
+use Rattle.site_base.specs.declared.state.PointState.TheVariants.{Closed, Idle, Calling}
 use Rattle.site_base.specs.declared.view.PointView.{PointView}
 use Rattle.site_base.specs.Configured.{Configured, ConfiguredPoint}
 use Rattle.site_base.specs.Table.{row_of, with_row}
-use Rattle.site_core.specs.Facts.{Facts, fresh, point_view}
+use Rattle.fuelling_point.specs.Kept.{Facts, fresh, point_view}
 
 -- the points by their numbers, in configured order; which till holds which point; the tills signed on
 pub record SiteState : Type 0 where
@@ -29,13 +30,28 @@ is_signed_on s t = set.contains s.signed_on t
 abbrev pub has_point : SiteState → ℕ → Bool
 has_point s p = is_some (row_of p s.points)
 
+-- what the point with this number keeps; where none has it, what a closed one does
+abbrev pub facts_in : List (ℕ × Facts) → ℕ → Facts
+facts_in points p = unwrap_or (row_of p points) (fresh Closed)
+
 -- what the point keeps; of a point that isn't there, a closed one's
 abbrev pub facts_of : SiteState → ℕ → Facts
-facts_of s p = unwrap_or (row_of p s.points) (fresh Closed)
+facts_of s p = facts_in s.points p
 
 -- the till that holds the point
 abbrev pub holder_of : SiteState → ℕ → Option ℕ
 holder_of s p = finite.get s.holds p
+
+-- a point in this state doesn't deliver, and isn't released to
+abbrev pub is_resting : PointState → Bool
+is_resting Closed = true
+is_resting Idle = true
+is_resting Calling = true
+is_resting state = false
+
+-- the point is there, and rests: it is closed, idle or calling
+abbrev pub rests : List (ℕ × Facts) → ℕ → Bool
+rests points p = is_some (row_of p points) && is_resting (facts_in points p).state
 
 -- the site with these facts kept by the point
 abbrev pub with_facts : SiteState → ℕ → Facts → SiteState

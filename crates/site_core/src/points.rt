@@ -1,13 +1,15 @@
 //! The fuelling points of a site, by their numbers.
 
-ghost use Rattle.std.specs.Prelude.{◌≡◌, true, is_some, IfOk};
-ghost use Rattle.std.specs.Option.{option_copied};
+ghost use Rattle.std.specs.Prelude.{◌≡◌, true, is_some, option_and_then, Option, Some, None, IfOk, OnOk, IfErr, OnErr};
+ghost use Rattle.fuelling_point.specs.Checks.{refusal_of};
+ghost use Rattle.fuelling_point.specs.Kept.{point_view, FitsGrowth};
+ghost use Rattle.fuelling_point.specs.Step.{step_of, after};
 ghost use Rattle.site_base.specs.Table.{row_of, with_row};
-ghost use Rattle.site_core.specs.State.{points_of};
+ghost use Rattle.site_core.specs.State.{points_of, facts_in, rests, is_resting};
 
 use crate::place::place_of;
-use crate::point::Point;
-use site_base::{FpNo, NoMemory, PointEntry, PointState};
+use fuelling_point::{Point, PointEvent, PointStep};
+use site_base::{FpNo, NoMemory, PointEntry, PointState, PointView, Refusal};
 use std::alloc::Global;
 use std::marker::Model;
 
@@ -19,7 +21,7 @@ pub struct Points {
 
 impl Model for Points {
     ghost use Rattle.std.specs.Prelude.{ℕ, List};
-    ghost use Rattle.site_core.specs.Facts.{Facts};
+    ghost use Rattle.fuelling_point.specs.Kept.{Facts};
 
     ghost Value = { List (ℕ × Facts) };
 
@@ -33,7 +35,7 @@ impl Points {
     {
         let mut rows = Vec::new(alloc);
         for entry in entries {
-            rows.push((entry.number, Point::fresh(PointState::Closed)))?;
+            rows.push((entry.number, Point::new()))?;
         }
         Ok(Points { rows })
     }
@@ -45,23 +47,68 @@ impl Points {
         place_of(&self.rows, p).is_some()
     }
 
-    /// The point with this number.
-    pub fn get(&self, p: FpNo) -> Option<&Point>
-        ensures { option_copied result ≡ row_of p self.now }
+    /// The point with this number as a read shows it; its holder isn't known here.
+    pub fn view(&self, p: FpNo) -> Option<PointView>
+        ensures { result ≡ option_and_then (λ f. Some (point_view f None)) (row_of p self.now) }
     {
         match place_of(&self.rows, p) {
-            Some(place) => Some(&self.rows[place].1),
+            Some(place) => Some(self.rows[place].1.view()),
             None => None,
         }
     }
 
-    /// Puts another point in the place of the one with this number.
-    pub fn set(&mut self, p: FpNo, point: Point)
-        requires { is_some (row_of p self.old) ≡ true }
-        ensures { self.new ≡ with_row p point self.old }
+    /// Is the point there, and closed, idle or calling?
+    pub fn rests(&self, p: FpNo) -> bool
+        ensures { result ≡ rests self.now p }
     {
-        if let Some(place) = place_of(&self.rows, p) {
-            self.rows[place] = (p, point);
+        match self.view(p) {
+            Some(view) => is_resting(view.state),
+            None => false,
         }
+    }
+
+    /// Why the point would refuse the event, if it would.
+    pub fn judge(&self, p: FpNo, event: &PointEvent) -> Result<(), Refusal>
+        requires { is_some (row_of p self.now) ≡ true }
+        ensures accepted { OnOk result (refusal_of event.now (facts_in self.now p) ≡ None) }
+        ensures refused { IfErr result (λ refusal. refusal_of event.now (facts_in self.now p) ≡ Some refusal) }
+    {
+        match place_of(&self.rows, p) {
+            Some(place) => self.rows[place].1.judge(event),
+            None => Ok(()),
+        }
+    }
+
+    /// Does at the point what the point table says of the event.
+    pub fn on(&mut self, p: FpNo, event: PointEvent) -> Result<PointStep, Refusal>
+        requires there { is_some (row_of p self.old) ≡ true }
+        requires fits { FitsGrowth event (facts_in self.old p) }
+        ensures accepted { OnOk result (refusal_of event (facts_in self.old p) ≡ None) }
+        ensures step { IfOk result (λ step. step ≡ step_of event (facts_in self.old p)) }
+        ensures points { OnOk result (self.new ≡ with_row p (after event (facts_in self.old p)) self.old) }
+        ensures refused { IfErr result (λ refusal. refusal_of event (facts_in self.old p) ≡ Some refusal) }
+        ensures err { OnErr result (self.new ≡ self.old) }
+    {
+        match place_of(&self.rows, p) {
+            Some(place) => self.rows[place].1.on(event),
+            None => unreachable!(),
+        }
+    }
+
+    /// The points with their numbers, in configured order.
+    pub fn rows(&self) -> &[(FpNo, Point)]
+        ensures { result.now ≡ self.now }
+    {
+        &self.rows
+    }
+}
+
+/// Is this the state of a point that doesn't deliver, and isn't released to?
+fn is_resting(state: PointState) -> bool
+    ensures { result ≡ is_resting state }
+{
+    match state {
+        PointState::Closed | PointState::Idle | PointState::Calling => true,
+        _ => false,
     }
 }

@@ -1,6 +1,6 @@
 //! The tills that are signed on.
 
-ghost use Rattle.std.specs.Prelude.{◌≡◌, ◌<◌, nat_eq, OnOk};
+ghost use Rattle.std.specs.Prelude.{◌≡◌, ◌<◌, ◌==◌, not, filter, nat_eq, OnOk};
 ghost use Rattle.std.specs.List.{list_any};
 ghost use Rattle.std.specs.FinSet as set;
 
@@ -61,6 +61,20 @@ impl SignedOn {
     {
         self.tills.push_reserved(t);
     }
+
+    /// Takes a till out.
+    pub fn remove(&mut self, t: TillNo)
+        ensures { self.new.tills ≡ set.remove self.old.tills t }
+    {
+        take_out(&mut self.tills, t);
+    }
+}
+
+/// Takes every mention of the till out.
+fn take_out(tills: &mut Vec<TillNo>, t: TillNo)
+    ensures { tills.new.items ≡ filter (λ till. not (till == t)) tills.old.items }
+{
+    tills.retain(|till| till.get() != t.get());
 }
 
 fn is_among(tills: &[TillNo], t: TillNo) -> bool

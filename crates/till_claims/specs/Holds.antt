@@ -1,5 +1,5 @@
 -- The holds of a site: the finite map from the points that are held to the tills that hold them.
-use Rattle.std.specs.Prelude.{ℕ, Bool, true, List, map, filter, Option, Some, None, ◌==◌}
+use Rattle.std.specs.Prelude.{ℕ, Bool, true, false, List, map, filter, Option, Some, None, ◌==◌}
 use Rattle.std.specs.Ordering.{nat_cmp}
 use Rattle.std.specs.FinMap.{FinMap, entries}
 
@@ -7,6 +7,11 @@ use Rattle.std.specs.FinMap.{FinMap, entries}
 abbrev pub is_free_for : ℕ → Option ℕ → Bool
 is_free_for t None = true
 is_free_for t (Some holder) = holder == t
+
+-- the till is the holder
+abbrev pub is_held_by : ℕ → Option ℕ → Bool
+is_held_by t None = false
+is_held_by t (Some holder) = holder == t
 
 -- the points of this till among such pairs, in their order
 abbrev pub points_of : ℕ → List (ℕ × ℕ) → List ℕ
