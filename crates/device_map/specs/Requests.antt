@@ -2,7 +2,7 @@
 use Rattle.std.specs.Prelude.{ℕ, List, [], ◌∷◌, length, ◌==◌, Result, Ok, Err, if◌then◌else◌}
 use Rattle.site_base.specs.declared.actor.Actor.{Actor}
 use Rattle.site_base.specs.declared.event.Event.{Event}
-use Rattle.site_base.specs.declared.event.Event.TheVariants.{SignOn, Open, Close, ReadPoint}
+use Rattle.site_base.specs.declared.event.Event.TheVariants.{SignOn, SignOff, Open, Close, Assign, Unassign, ReadPoint}
 use Rattle.app_message.specs.declared.kind.Kind.{Kind}
 use Rattle.app_message.specs.declared.kind.Kind.TheVariants as kinds
 use Rattle.app_message.specs.Telegram.{Entry, Telegram}
@@ -17,11 +17,19 @@ use Rattle.device_map.specs.Addresses.{database_at}
 
 -- the events of the site's commands
 abbrev pub site_command : ℕ → Result Event MapFault
-site_command id = if id == ids.SIGN_ON then Ok SignOn else Err UnknownItem
+site_command id =
+    if id == ids.SIGN_ON then Ok SignOn
+    else if id == ids.SIGN_OFF then Ok SignOff
+    else Err UnknownItem
 
 -- the events of a fuelling point's commands
 abbrev pub point_command : ℕ → ℕ → Result Event MapFault
-point_command p id = if id == ids.OPEN then Ok (Open p) else if id == ids.CLOSE then Ok (Close p) else Err UnknownItem
+point_command p id =
+    if id == ids.OPEN then Ok (Open p)
+    else if id == ids.CLOSE then Ok (Close p)
+    else if id == ids.ASSIGN then Ok (Assign p)
+    else if id == ids.UNASSIGN then Ok (Unassign p)
+    else Err UnknownItem
 
 -- the command that stands first
 abbrev pub first_item : List Entry → Result Entry MapFault

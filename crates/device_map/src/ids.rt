@@ -20,9 +20,15 @@ pub const POINT_ADDRESS: u8 = 0x20;
 // Commands.
 pub const SIGN_ON: u8 = 0x31;
 
+pub const SIGN_OFF: u8 = 0x32;
+
 pub const OPEN: u8 = 0x3C;
 
 pub const CLOSE: u8 = 0x3D;
+
+pub const ASSIGN: u8 = 0x42;
+
+pub const UNASSIGN: u8 = 0x43;
 
 // What replies tell.
 pub const RESULT: u8 = 0x01;

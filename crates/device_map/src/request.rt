@@ -6,7 +6,7 @@ ghost use Rattle.device_map.specs.Requests.{site_command, point_command, command
 
 use crate::address::Database;
 use crate::fault::MapFault;
-use crate::ids::{CLOSE, OPEN, SIGN_ON};
+use crate::ids::{ASSIGN, CLOSE, OPEN, SIGN_OFF, SIGN_ON, UNASSIGN};
 use crate::node;
 use app_message::{Item, Kind, Message};
 use site_base::{Actor, Event, FpNo};
@@ -91,6 +91,7 @@ fn site_command_of(id: u8) -> Result<Event, MapFault>
 {
     match id {
         SIGN_ON => Ok(Event::SignOn),
+        SIGN_OFF => Ok(Event::SignOff),
         _ => Err(MapFault::UnknownItem),
     }
 }
@@ -101,6 +102,8 @@ fn point_command_of(point: FpNo, id: u8) -> Result<Event, MapFault>
     match id {
         OPEN => Ok(Event::Open(point)),
         CLOSE => Ok(Event::Close(point)),
+        ASSIGN => Ok(Event::Assign(point)),
+        UNASSIGN => Ok(Event::Unassign(point)),
         _ => Err(MapFault::UnknownItem),
     }
 }

@@ -1,12 +1,14 @@
 //! Replies against the tables of the profile.
 
 mod refused;
+mod worked;
 
 use super::*;
-use app_message::{GrammarFault, Kind, Message, MessageFault, StreamFault, Token, encode};
+use app_message::{Decoder, GrammarFault, Kind, Message, MessageFault, StreamFault, Token, encode};
 use site_base::{
-    Answer, Cents, Event, FpNo, Millilitres, Mills, NoMemory, NozzleNo, PointState, PointView,
-    Preset, ProductNo, ProductView, Refusal, Reply, Seq, SiteView, Status, TillNo, TransactionView,
+    Actor, Answer, Cents, Event, FpNo, Millilitres, Mills, NoMemory, NozzleNo, PointState,
+    PointView, Preset, ProductNo, ProductView, Refusal, Reply, Seq, SiteView, Status, TillNo,
+    TransactionView,
 };
 use std::alloc::Global;
 use std::test::Fail;
@@ -243,33 +245,5 @@ fn numbers_in_place_of_replies(rt: HostRuntime) -> Result<(), Fail> {
     let refusal = stream_refusal(alloc, &fault)?;
     let want = octets(alloc, "03 09 01 01 00 FF 0005 0101 01012B")?;
     assert_eq!(rt; encode(alloc, &refusal)?.as_slice(), want.as_slice());
-    Ok(())
-}
-
-#[test]
-fn requests(rt: HostRuntime) -> Result<(), Fail> {
-    let alloc = rt.alloc();
-    // Release isn't built yet.
-    assert!(rt; matches!(request_of(&release(alloc)?), Err(MapFault::UnknownItem)));
-    let token = Token::new(0).ok_or("a token")?;
-    let open = Message::try_new(
-        alloc,
-        [1, 1],
-        [2, 8],
-        Kind::Write,
-        token,
-        &[0x30],
-        &[(0x3C, &[])],
-    )?;
-    match request_of(&open) {
-        Ok((actor, event)) => {
-            assert_eq!(rt;
-                actor,
-                site_base::Actor::Till(TillNo::new(8).ok_or("a till")?)
-            );
-            assert_eq!(rt; event, Event::Open(FpNo::new(16).ok_or("a point")?));
-        }
-        Err(fault) => panic!(&rt; "{fault}"),
-    }
     Ok(())
 }

@@ -1,34 +1,10 @@
--- Which nozzles there are, and how readings raise the totals.
-use Rattle.std.proofs.Common.{◌≡◌, ℕ, Bool, true, false, ◌+◌, ◌-◌, ◌≤◌, List, [], ◌∷◌, ◌++◌, take, length, Option, Some, refl, sym, ap, subst, ◌∙◌, arith, ◌==◌, cond, nat_le, unwrap_or, if◌then◌else◌}
-use Rattle.std.specs.List.{list_all}
-use Rattle.std.proofs.lemmas.Bool.{and_parts}
-use Rattle.std.proofs.lemmas.Bool.Decides.{nat_tests}
-use Rattle.std.proofs.lemmas.List.{take_all}
+-- How readings raise the totals, and that no last reading is below its opening one.
+use Rattle.std.proofs.Common.{◌≡◌, ℕ, Bool, true, false, ◌+◌, ◌-◌, ◌≤◌, List, [], ◌∷◌, ◌++◌, Option, Some, refl, sym, ap, subst, ◌∙◌, arith, ◌==◌, cond, unwrap_or, if◌then◌else◌}
 use Rattle.site_base.specs.declared.config.NozzleEntry.{NozzleEntry}
-use Rattle.site_base.specs.declared.limits.TheConstants.{NOZZLES, POINTS}
-use Rattle.site_base.specs.Configured.{ConfiguredPoint, ConfiguredProduct, is_between, are_nozzles, are_points}
+use Rattle.site_base.specs.Configured.{ConfiguredPoint}
 use Rattle.meters.specs.Nozzles.{Nozzle, is_nozzle, numbered, nozzles_of_point, nozzles_of_points, last_of, with_last, product_total}
 use Rattle.meters.specs.Reports.{growth_of}
-use Rattle.meters.specs.Laws.{each_nozzle, EachNozzleHasAMeter, NoneBelowOpening, product_of, GrowthRaisesOneTotal, NeverBelowOpening}
-
-within : (most count : ℕ) → is_between 1 most count ≡ true → count ≤ most
-within most count fits = let high : nat_le count most ≡ true = (and_parts (nat_le 1 count) (nat_le count most) fits).1 in grind (arith, nat_tests)
-
-whole_point : (products : List ConfiguredProduct) (c : ConfiguredPoint) → are_nozzles products c.nozzles ≡ true → nozzles_of_point c ≡ numbered c.number 1 c.nozzles
-whole_point products c fits = ap (numbered c.number 1) (take_all NOZZLES c.nozzles (within NOZZLES (length c.nozzles) (and_parts _ _ fits).0))
-
-whole_points : (products : List ConfiguredProduct) (cs : List ConfiguredPoint) → list_all (λ c. are_nozzles products c.nozzles) cs ≡ true → nozzles_of_points cs ≡ each_nozzle cs
-whole_points products [] fits = refl
-whole_points products (c ∷ cs) fits =
-    let parts = and_parts (are_nozzles products c.nozzles) (list_all (λ c. are_nozzles products c.nozzles) cs) fits in
-    ap (λ (xs : List Nozzle). xs ++ nozzles_of_points cs) (whole_point products c parts.0) ∙ ap (λ (xs : List Nozzle). numbered c.number 1 c.nozzles ++ xs) (whole_points products cs parts.1)
-
-pub each_nozzle_has_a_meter : EachNozzleHasAMeter
-each_nozzle_has_a_meter c fits =
-    let points : are_points c.products c.points ≡ true = (and_parts _ _ fits).1 in
-    let count : length c.points ≤ POINTS = within POINTS (length c.points) (and_parts _ _ (and_parts _ _ points).0).0 in
-    let each : list_all (λ p. are_nozzles c.products p.nozzles) c.points ≡ true = (and_parts _ _ (and_parts _ _ points).0).1 in
-    ap nozzles_of_points (take_all POINTS c.points count) ∙ whole_points c.products c.points each
+use Rattle.meters.specs.Laws.{NoneBelowOpening, product_of, GrowthRaisesOneTotal, NeverBelowOpening}
 
 raised : (b : Bool) (opening last reading rest : ℕ) → opening ≤ last → last ≤ reading
     → cond b (reading - opening) 0 + rest ≡ (cond b (last - opening) 0 + rest) + cond b (reading - last) 0
@@ -72,7 +48,7 @@ both (x ∷ xs) ys low rest = (low.0, both xs ys low.1 rest)
 
 points_open : (cs : List ConfiguredPoint) → NoneBelowOpening (nozzles_of_points cs)
 points_open [] = tt
-points_open (c ∷ cs) = both (nozzles_of_point c) (nozzles_of_points cs) (numbered_opens c.number 1 (take NOZZLES c.nozzles)) (points_open cs)
+points_open (c ∷ cs) = both (nozzles_of_point c) (nozzles_of_points cs) (numbered_opens c.number 1 c.nozzles) (points_open cs)
 
 -- the first nozzle takes the reading, or one behind it
 kept_by : (b : Bool) (x : Nozzle) (xs : List Nozzle) (p n reading last : ℕ) → is_nozzle p n x ≡ b → NoneBelowOpening (x ∷ xs)
@@ -95,4 +71,4 @@ keeps (x ∷ xs) p n reading last low at high =
     kept_by (is_nozzle p n x) x xs p n reading last refl low (λ a. keeps xs p n reading last low.1 a high) at high
 
 pub never_below_opening : NeverBelowOpening
-never_below_opening = record { opens = λ c. points_open (take POINTS c.points); keeps = keeps }
+never_below_opening = record { opens = λ c. points_open c.points; keeps = keeps }

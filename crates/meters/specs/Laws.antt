@@ -1,17 +1,8 @@
 -- What holds of the nozzles' meters by their definitions.
-use Rattle.std.specs.Prelude.{◌≡◌, ℕ, ◌+◌, ◌≤◌, true, List, [], ◌∷◌, ◌++◌, Option, Some, None, ◌==◌, if◌then◌else◌}
-use Rattle.site_base.specs.Configured.{Configured, ConfiguredPoint, is_site}
-use Rattle.meters.specs.Nozzles.{Nozzle, is_nozzle, numbered, opening_nozzles, last_of, with_last, product_total}
+use Rattle.std.specs.Prelude.{◌≡◌, ℕ, ◌+◌, ◌≤◌, List, [], ◌∷◌, Option, Some, None, ◌==◌, if◌then◌else◌}
+use Rattle.site_base.specs.Configured.{Configured}
+use Rattle.meters.specs.Nozzles.{Nozzle, is_nozzle, opening_nozzles, last_of, with_last, product_total}
 use Rattle.meters.specs.Reports.{growth_of}
-
--- each nozzle of each point, in configured order, when the site opens
-abbrev pub each_nozzle : List ConfiguredPoint → List Nozzle
-each_nozzle [] = []
-each_nozzle (c ∷ cs) = numbered c.number 1 c.nozzles ++ each_nozzle cs
-
--- when a fit site opens, each configured nozzle has its meter, and no other has one
-abbrev pub EachNozzleHasAMeter : Type 0
-EachNozzleHasAMeter = (c : Configured) → is_site c ≡ true → opening_nozzles c ≡ each_nozzle c.points
 
 -- no last reading is below its opening one
 abbrev pub NoneBelowOpening : List Nozzle → Type 0

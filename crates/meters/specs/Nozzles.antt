@@ -1,7 +1,6 @@
 -- The nozzles of a site, and what their meters read.
-use Rattle.std.specs.Prelude.{ℕ, ◌+◌, ◌-◌, Bool, List, [], ◌∷◌, ◌++◌, take, Option, Some, None, is_some, unwrap_or, ◌&&◌, ◌==◌, if◌then◌else◌}
+use Rattle.std.specs.Prelude.{ℕ, ◌+◌, ◌-◌, Bool, List, [], ◌∷◌, ◌++◌, Option, Some, None, is_some, unwrap_or, ◌&&◌, ◌==◌, if◌then◌else◌}
 use Rattle.site_base.specs.declared.config.NozzleEntry.{NozzleEntry}
-use Rattle.site_base.specs.declared.limits.TheConstants.{NOZZLES, POINTS}
 use Rattle.site_base.specs.Configured.{Configured, ConfiguredPoint}
 
 -- a nozzle: its fuelling point, its number there, its product, and its meter's readings when the site opened and last
@@ -25,18 +24,18 @@ abbrev pub numbered : ℕ → ℕ → List NozzleEntry → List Nozzle
 numbered p n [] = []
 numbered p n (e ∷ es) = opened p n e ∷ numbered p (n + 1) es
 
--- a configured point's nozzles when the site opens, numbered from 1 (it has at most NOZZLES)
+-- a configured point's nozzles when the site opens, numbered from 1
 abbrev pub nozzles_of_point : ConfiguredPoint → List Nozzle
-nozzles_of_point c = numbered c.number 1 (take NOZZLES c.nozzles)
+nozzles_of_point c = numbered c.number 1 c.nozzles
 
 -- the nozzles of the points, in configured order
 abbrev pub nozzles_of_points : List ConfiguredPoint → List Nozzle
 nozzles_of_points [] = []
 nozzles_of_points (c ∷ cs) = nozzles_of_point c ++ nozzles_of_points cs
 
--- the nozzles of a site when it opens, in configured order (it has at most POINTS points)
+-- the nozzles of a site when it opens: every nozzle of every configured point, in configured order
 abbrev pub opening_nozzles : Configured → List Nozzle
-opening_nozzles c = nozzles_of_points (take POINTS c.points)
+opening_nozzles c = nozzles_of_points c.points
 
 -- the last reading of nozzle n of point p, if there is such a nozzle
 abbrev pub last_of : ℕ → ℕ → List Nozzle → Option ℕ

@@ -1,12 +1,7 @@
 //! Laws of the nozzles' meters. They have no code: each is proved of the definitions that the contracts
 //! of this crate cite.
 
-ghost use Rattle.meters.specs.Laws.{EachNozzleHasAMeter, GrowthRaisesOneTotal, NeverBelowOpening};
-
-/// When a site opens, each configured nozzle has its meter, and no other has one.
-pub fn each_nozzle_has_a_meter()
-    ensures { EachNozzleHasAMeter }
-{}
+ghost use Rattle.meters.specs.Laws.{GrowthRaisesOneTotal, NeverBelowOpening};
 
 /// A reading that isn't below the last one raises the total of the nozzle's product by the growth, and
 /// no other total.

@@ -11,6 +11,6 @@ mod report;
 #[cfg(test)]
 mod tests;
 
-pub use laws::{each_nozzle_has_a_meter, growth_raises_one_total, never_below_opening};
+pub use laws::{growth_raises_one_total, never_below_opening};
 pub use meters::Meters;
 pub use report::Report;

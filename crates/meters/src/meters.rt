@@ -1,6 +1,6 @@
 //! The meters of a site.
 
-ghost use Rattle.std.specs.Prelude.{◌≡◌, ◌≤◌, ◌+◌, ◌*◌, ◌++◌, true, take, None, Some, OnOk, IfOk, IfErr, length};
+ghost use Rattle.std.specs.Prelude.{◌≡◌, ◌≤◌, ◌+◌, ◌*◌, ◌++◌, true, None, Some, OnOk, IfOk, IfErr, length};
 ghost use Rattle.site_base.specs.declared.limits.TheConstants.{GREATEST_READING, NOZZLES, POINTS};
 ghost use Rattle.meters.specs.declared.report.Report.TheVariants.{Growing};
 ghost use Rattle.meters.specs.Nozzles.{opening_nozzles, nozzles_of_point, last_of, has_nozzle, reading_of, with_last, product_total};
@@ -10,8 +10,7 @@ use crate::meter::Meter;
 use crate::place::place_of;
 use crate::report::Report;
 use site_base::{
-    FpNo, Millilitres, NOZZLES, NoMemory, NozzleNo, POINT_CELLS, PointEntry, ProductNo, Refusal,
-    SiteConfig,
+    FpNo, Millilitres, NoMemory, NozzleNo, PointEntry, ProductNo, Refusal, SiteConfig,
 };
 use std::alloc::Global;
 use std::marker::Model;
@@ -40,7 +39,7 @@ impl Meters {
         ensures { IfOk result (λ meters. meters ≡ opening_nozzles config.now) }
     {
         let mut meters = Vec::new(alloc);
-        for entry in front(config.points(), POINT_CELLS) {
+        for entry in config.points() {
             add_point(&mut meters, entry)?;
         }
         Ok(Meters { meters })
@@ -114,24 +113,13 @@ impl Meters {
     }
 }
 
-/// The first items of a list, at most this many.
-fn front<T>(items: &[T], most: usize) -> &[T]
-    ensures { result.now ≡ take most items.now }
-{
-    if items.len() <= most {
-        items
-    } else {
-        &items[..most]
-    }
-}
-
 /// Adds the meters of a point's nozzles: nozzle n is the nth.
 fn add_point(meters: &mut Vec<Meter>, entry: &PointEntry) -> Result<(), NoMemory>
+    requires most { length entry.now.nozzles ≤ NOZZLES }
     ensures added { OnOk result (meters.new.items ≡ meters.old.items ++ nozzles_of_point entry.now) }
     ensures few { OnOk result (length meters.new.items ≤ length meters.old.items + NOZZLES) }
 {
-    let nozzles = front(&entry.nozzles, NOZZLES as usize);
-    for (place, nozzle) in nozzles.iter().enumerate() {
+    for (place, nozzle) in entry.nozzles.iter().enumerate() {
         let Some(number) = NozzleNo::new(place as u8 + 1) else {
             return Ok(());
         };

@@ -1,12 +1,14 @@
 //! What no clause says: the refusals by their details, sums over several nozzles, and what stands after
 //! want of memory.
 
+ghost use Rattle.std.specs.Prelude.{◌≡◌, ◌+◌, ◌*◌};
+
 mod refused;
 
 use crate::{Meters, Report};
 use site_base::{
-    FpNo, Millilitres, Mills, NoMemory, NozzleEntry, NozzleNo, PointEntry, ProductEntry, ProductNo,
-    Refusal, SiteConfig,
+    FpNo, GROWTH_LIMIT, Millilitres, Mills, NOZZLES, NoMemory, NozzleEntry, NozzleNo, POINTS,
+    PointEntry, ProductEntry, ProductNo, Refusal, SiteConfig,
 };
 use std::alloc::Global;
 use std::process::Abort;
@@ -51,6 +53,43 @@ fn site_of_two(alloc: Global) -> Result<Option<SiteConfig>, NoMemory> {
                 product: petrol,
                 reading: thousand,
             })?;
+            points.push(PointEntry { number, nozzles })?;
+        }
+    }
+    Ok(SiteConfig::try_new(10, Vec::new(alloc), products, points))
+}
+
+/// The opening reading of nozzle n of point p in the greatest site.
+fn opening(p: u8, n: u8) -> u64
+    ensures { result ≡ p * 100 + n }
+{
+    u64::from(p) * 100 + u64::from(n)
+}
+
+/// As many nozzles as point p may have.
+fn all_nozzles(alloc: Global, product: ProductNo, p: u8) -> Result<Vec<NozzleEntry>, NoMemory> {
+    let mut nozzles = Vec::new(alloc);
+    for n in 1..=NOZZLES {
+        if let Some(reading) = Millilitres::new(opening(p, n)) {
+            nozzles.push(NozzleEntry { product, reading })?;
+        }
+    }
+    Ok(nozzles)
+}
+
+/// A site of as many points and nozzles as may be.
+fn greatest_site(alloc: Global) -> Result<Option<SiteConfig>, NoMemory> {
+    let Some(diesel) = ProductNo::new(1) else {
+        return Ok(None);
+    };
+    let mut products = Vec::new(alloc);
+    if let Some(entry) = product(alloc, diesel, "diesel")? {
+        products.push(entry)?;
+    }
+    let mut points = Vec::new(alloc);
+    for p in 1..=POINTS {
+        if let Some(number) = FpNo::new(p) {
+            let nozzles = all_nozzles(alloc, diesel, p)?;
             points.push(PointEntry { number, nozzles })?;
         }
     }
@@ -146,5 +185,33 @@ fn nozzles_and_totals(rt: HostRuntime) -> Result<(), Fail> {
     assert_eq!(rt; meters.last(two, second), Some(reading(1000)?));
     assert_eq!(rt; meters.last(two, nozzle(3)?), None);
     assert_eq!(rt; meters.last(point(1)?, first), None);
+    Ok(())
+}
+
+#[test]
+fn every_nozzle(rt: HostRuntime) -> Result<(), Fail> {
+    let alloc = rt.alloc();
+    let config = greatest_site(alloc)?.ok_or("a site")?;
+    let meters = &mut Meters::try_new(alloc, &config)?;
+    for p in 1..=POINTS {
+        for n in 1..=NOZZLES {
+            let last = meters.last(point(p)?, nozzle(n)?);
+            let first = reading(opening(p, n))?;
+            assert_eq!(rt; last, Some(first), "of nozzle {n} of point {p}");
+        }
+    }
+    let grown = opening(POINTS, NOZZLES) + GROWTH_LIMIT;
+    let last_point = point(POINTS)?;
+    let last_nozzle = nozzle(NOZZLES)?;
+    assert_report(
+        &rt,
+        meters,
+        last_point,
+        last_nozzle,
+        grown,
+        Ok(GROWTH_LIMIT),
+    )?;
+    let diesel = ProductNo::new(1).ok_or("a product")?;
+    assert_eq!(rt; meters.product_total(diesel), GROWTH_LIMIT);
     Ok(())
 }

@@ -1,6 +1,6 @@
 //! The configuration of a site, as its site file gives it.
 
-ghost use Rattle.std.specs.Prelude.{◌≡◌, ◌≤◌, ◌==◌, nat_eq, is_some, IfOk, IfSome};
+ghost use Rattle.std.specs.Prelude.{◌≡◌, ◌≤◌, ◌==◌, nat_eq, is_some, true, IfOk, IfSome};
 ghost use Rattle.std.specs.List.{list_any, list_all};
 ghost use Rattle.site_base.specs.Configured.{is_between, is_name_octet, is_name, none_alike, same_product, same_point, are_products, has_product, are_nozzles, are_points, is_site};
 
@@ -117,23 +117,28 @@ impl SiteConfig {
         self.rows
     }
 
-    /// The tills that are managers.
+    /// The tills that are managers, none twice.
     pub fn managers(&self) -> &[TillNo]
-        ensures { result.now ≡ self.now.managers }
+        ensures value { result.now ≡ self.now.managers }
+        ensures fit { none_alike nat_eq self.now.managers ≡ true }
     {
         &self.managers
     }
 
-    /// The products, in configured order.
+    /// The products, in configured order: 1 to `PRODUCTS`, each with a fit name, none of one number or
+    /// one name with another.
     pub fn products(&self) -> &[ProductEntry]
-        ensures { result.now ≡ self.now.products }
+        ensures value { result.now ≡ self.now.products }
+        ensures fit { are_products self.now.products ≡ true }
     {
         &self.products
     }
 
-    /// The fuelling points, in configured order.
+    /// The fuelling points, in configured order: 1 to `POINTS`, none of one number with another, each
+    /// with 1 to `NOZZLES` nozzles of products that are there.
     pub fn points(&self) -> &[PointEntry]
-        ensures { result.now ≡ self.now.points }
+        ensures value { result.now ≡ self.now.points }
+        ensures fit { are_points self.now.products self.now.points ≡ true }
     {
         &self.points
     }
