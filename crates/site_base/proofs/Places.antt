@@ -1,5 +1,5 @@
 -- A place that a search over a table has come to.
-use Rattle.std.proofs.Common.{◌≡◌, ℕ, suc, ◌<◌, List, ◌∷◌, ◌++◌, length, get_or, take, drop, Some, refl, sym, ap, ◌∙◌}
+use Rattle.std.proofs.Common.{◌≡◌, ℕ, suc, ◌<◌, Bool, true, false, cond, ◌==◌, List, [], ◌∷◌, ◌++◌, length, get_or, take, drop, Option, Some, None, is_some, refl, sym, ap, ◌∙◌}
 use Rattle.std.proofs.lemmas.Bool.{eq-eqb}
 use Rattle.std.proofs.lemmas.List.{get_or_default, set_split}
 use Rattle.std.proofs.Math.Seq.{drop-cons}
@@ -22,3 +22,13 @@ place_found {V} p es i d lt is row write =
       row = λ e. sym row ∙ ap (row_of p) left ∙ row_of-here p (get_or es i d) (drop (suc i) es) is ∙ ap (λ (x : ℕ × V). Some x.1) (get_or_default es i d e lt);
       write = λ v. sym (write v) ∙ ap (λ (x : List (ℕ × V)). take i es ++ with_row p v x) left ∙ ap (λ (x : List (ℕ × V)). take i es ++ x) (with_row-here p v (get_or es i d) (drop (suc i) es) is) ∙ sym (set_split es i (p, v) lt);
     }
+
+-- where the number has no row, no row is replaced
+pub with_row-absent : {V : Type 0} (p : ℕ) (v : V) (es : List (ℕ × V)) → is_some (row_of p es) ≡ false → with_row p v es ≡ es
+with_row-absent p v [] none = refl
+with_row-absent {V} p v (e ∷ es) none = by_test (e.0 == p) (with_row-absent p v es) none
+  where
+    by_test : (b : Bool) → (is_some (row_of p es) ≡ false → with_row p v es ≡ es) → is_some (cond b (Some e.1) (row_of p es)) ≡ false
+        → cond b ((p, v) ∷ es) (e ∷ with_row p v es) ≡ e ∷ es
+    by_test true behind stands = cc
+    by_test false behind past = ap (λ (x : List (ℕ × V)). e ∷ x) (behind past)

@@ -1,3 +1,4 @@
+pub mod Amounts
 pub mod Checks
 pub mod Configured
 pub mod Counted
@@ -7,3 +8,4 @@ pub mod Refusals
 pub mod States
 pub mod Transfer
 pub mod Table
+pub mod Prices

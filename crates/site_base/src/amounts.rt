@@ -1,6 +1,7 @@
 //! Volumes, prices and amounts of money.
 
 ghost use Rattle.std.specs.Prelude.{◌≡◌, ◌≤◌, ◌↔◌, IsSome, IfSome};
+ghost use Rattle.site_base.specs.Amounts.{amount, IsGreatestVolume};
 
 use crate::limits::{GREATEST_CENTS, GREATEST_PRICE, GREATEST_READING};
 use std::marker::Model;
@@ -126,4 +127,21 @@ impl Cents {
     {
         self.amount
     }
+}
+
+/// What a volume costs at a price: millilitres times mills per litre, in cents, rounded half up.
+pub fn amount_of(volume: Millilitres, price: Mills) -> Cents
+    ensures { result ≡ amount volume price }
+{
+    Cents {
+        amount: (volume.get() * u64::from(price.get()) + 5_000) / 10_000,
+    }
+}
+
+/// The greatest number of millilitres whose amount at this price isn't above these cents. It may be
+/// above the range of `Millilitres`.
+pub fn greatest_ml(cents: Cents, price: Mills) -> u64
+    ensures { IsGreatestVolume cents price result }
+{
+    ((cents.get() + 1) * 10_000 - 5_001) / u64::from(price.get())
 }

@@ -11,6 +11,7 @@ mod event;
 mod limits;
 mod memory;
 mod numbers;
+mod prices;
 mod refusal;
 mod row;
 mod state;
@@ -20,7 +21,7 @@ mod transfer;
 mod view;
 
 pub use actor::Actor;
-pub use amounts::{Cents, Millilitres, Mills};
+pub use amounts::{Cents, Millilitres, Mills, amount_of, greatest_ml};
 pub use answer::Answer;
 pub use config::{NozzleEntry, PointEntry, ProductEntry, SiteConfig};
 pub use counted::Counted;
@@ -32,6 +33,7 @@ pub use limits::{
 };
 pub use memory::NoMemory;
 pub use numbers::{FpNo, NozzleNo, ProductNo, Seq, TillNo};
+pub use prices::PriceBook;
 pub use refusal::{NoRow, Refusal};
 pub use row::{Placed, Reply, Row, Rows};
 pub use state::{PointState, Preset, Status};

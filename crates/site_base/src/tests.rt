@@ -2,4 +2,5 @@
 
 mod config;
 mod devices;
+mod prices;
 mod refused;

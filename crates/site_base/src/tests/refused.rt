@@ -1,7 +1,8 @@
 //! Made for runs in which one growth is refused: what was there stays, and the same call then answers
 //! as ever.
 
-use crate::{Actor, Answer, Event, NoMemory, Row, Rows, TillNo};
+use super::prices::site_of_two;
+use crate::{Actor, Answer, Event, Mills, NoMemory, PriceBook, ProductNo, Row, Rows, TillNo};
 
 /// Says that a growth was refused in this run.
 fn said(rt: &impl Eprint) {
@@ -33,4 +34,30 @@ fn a_refused_room_leaves_the_rows(rt: HostRuntime) {
     }
     assert_eq!(rt; rows.get(5), Some(*row));
     assert_eq!(rt; rows.get(6), None);
+}
+
+#[test]
+fn refused_prices_are_made_again(rt: HostRuntime) {
+    let alloc = rt.alloc();
+    let config = match site_of_two(alloc) {
+        Err(NoMemory) => {
+            said(&rt);
+            site_of_two(alloc)
+        }
+        config => config,
+    };
+    let Ok(Some(config)) = config else {
+        panic!(&rt; "no site");
+    };
+    let book = match PriceBook::try_new(alloc, &config) {
+        Err(NoMemory) => {
+            said(&rt);
+            PriceBook::try_new(alloc, &config)
+        }
+        book => book,
+    };
+    let (Ok(book), Some(petrol)) = (book, ProductNo::new(2)) else {
+        panic!(&rt; "want of memory twice");
+    };
+    assert_eq!(rt; book.get(petrol), Mills::new(1799));
 }

@@ -1,0 +1,80 @@
+//! Today's prices.
+
+ghost use Rattle.std.specs.Prelude.{◌≡◌, false, is_some, IfOk, IfSome};
+ghost use Rattle.site_base.specs.Prices.{prices_of};
+ghost use Rattle.site_base.specs.Table.{row_of, with_row, IsPlace};
+
+use crate::amounts::Mills;
+use crate::config::SiteConfig;
+use crate::memory::NoMemory;
+use crate::numbers::ProductNo;
+use std::alloc::Global;
+use std::marker::Model;
+
+/// The price of each product of a site, in mills per litre. Contracts see the list of the products'
+/// numbers with their prices, in configured order.
+#[derive(Drop)]
+pub struct PriceBook {
+    rows: Vec<(ProductNo, Mills)>,
+}
+
+impl Model for PriceBook {
+    ghost use Rattle.std.specs.Prelude.{ℕ, List};
+
+    ghost Value = { List (ℕ × ℕ) };
+
+    ghost view = { λ b. b.rows.items };
+}
+
+impl PriceBook {
+    /// Each product of the configuration with its configured price.
+    pub fn try_new(alloc: Global, config: &SiteConfig) -> Result<Self, NoMemory>
+        ensures { IfOk result (λ book. book ≡ prices_of config.now.products) }
+    {
+        let mut rows = Vec::new(alloc);
+        for product in config.products() {
+            rows.push((product.number, product.price))?;
+        }
+        Ok(PriceBook { rows })
+    }
+
+    /// The price of product q. None where it isn't there.
+    pub fn get(&self, q: ProductNo) -> Option<Mills>
+        ensures { result ≡ row_of q self.now }
+    {
+        match place_of(&self.rows, q) {
+            Some(place) => Some(self.rows[place].1),
+            None => None,
+        }
+    }
+
+    /// Gives product q this price; every other price stays. False where q isn't there, and then nothing
+    /// changes.
+    pub fn set(&mut self, q: ProductNo, price: Mills) -> bool
+        ensures there { result ≡ is_some (row_of q self.old) }
+        ensures prices { self.new ≡ with_row q price self.old }
+        ensures absent { result ≡ false → self.new ≡ self.old }
+    {
+        match place_of(&self.rows, q) {
+            Some(place) => {
+                self.rows[place] = (q, price);
+                true
+            }
+            None => false,
+        }
+    }
+}
+
+/// The place of the row of q.
+fn place_of(rows: &[(ProductNo, Mills)], q: ProductNo) -> Option<usize>
+    ensures found { IfSome result (IsPlace q rows.now) }
+    ensures there { is_some result ≡ is_some (row_of q rows.now) }
+{
+    let number = q.get();
+    for (place, row) in rows.iter().enumerate() {
+        if row.0.get() == number {
+            return Some(place);
+        }
+    }
+    None
+}
