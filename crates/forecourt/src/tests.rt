@@ -1,6 +1,7 @@
 //! What no clause says: the worked rows, each fault's text, and how a replay ends.
 
 mod devices;
+mod holds;
 mod refused;
 mod rows;
 

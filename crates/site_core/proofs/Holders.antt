@@ -116,14 +116,14 @@ accepted s a e p ok = idle (holder_of s p)
 -- a refused or accepted event
 does : (s : SiteState) (a : Actor) (e : Event) (p : ℕ)
     → Does (holder_of s p) (holder_of (site_after s a e) p)
-        (takes p (record { before = s; row = record { actor = a; event = e; reply = reply_to s a e } }))
-        (λ t. ends p t (record { before = s; row = record { actor = a; event = e; reply = reply_to s a e } }))
+    (takes p (record { before = s; row = record { actor = a; event = e; reply = reply_to s a e } }))
+    (λ t. ends p t (record { before = s; row = record { actor = a; event = e; reply = reply_to s a e } }))
 does s a e p = by_refusal (refusal_of s a e) refl
   where
     by_refusal : (r : Option Refusal) → refusal_of s a e ≡ r
         → Does (holder_of s p) (holder_of (site_after s a e) p)
-            (takes p (record { before = s; row = record { actor = a; event = e; reply = reply_to s a e } }))
-            (λ t. ends p t (record { before = s; row = record { actor = a; event = e; reply = reply_to s a e } }))
+        (takes p (record { before = s; row = record { actor = a; event = e; reply = reply_to s a e } }))
+        (λ t. ends p t (record { before = s; row = record { actor = a; event = e; reply = reply_to s a e } }))
     by_refusal (Some refusal) is = rw is (idle (holder_of s p))
     by_refusal None is = rw is (accepted s a e p is)
 
@@ -146,8 +146,8 @@ stands_at_end p s (e ∷ es) =
 pub held_by_one : IsHeldByOne
 held_by_one c events p t u before between since first second parts taken taken' differ =
     end_between (takes p) (ends p) _ t u before first between second since
-        (subst (Fair (takes p) (ends p) (holder_of (opening c) p)) parts (fair_run p (opening c) events))
-        taken taken' differ
+    (subst (Fair (takes p) (ends p) (holder_of (opening c) p)) parts (fair_run p (opening c) events))
+    taken taken' differ
 
 pub holds_are_unended_takes : AreUnendedTakes
 holds_are_unended_takes c events p t =

@@ -76,8 +76,8 @@ module _ {M : Type 0} (takes : M → Option ℕ) (ends : ℕ → M → Bool) whe
       let split = subst (Fair holder) (append_assoc before (first ∷ between) (second ∷ since)) fair in
       let rest = Fair-append before (first ∷ between ++ second ∷ since) holder split in
       ended_before t u between second since
-          (subst (λ take. Fair (next take (standing holder before) (λ v. ends v first)) (between ++ second ∷ since)) taken rest.1)
-          taken' differ
+      (subst (λ take. Fair (next take (standing holder before) (λ v. ends v first)) (between ++ second ∷ since)) taken rest.1)
+      taken' differ
 
   -- a slot that nobody ends goes on standing
   unended_stands : (t : ℕ) (since : List M) → Fair (Some t) since → list_any (ends t) since ≡ false → standing (Some t) since ≡ Some t

@@ -7,11 +7,9 @@ ghost use Rattle.site_core.specs.Holders.{IsHeldByOne, AreUnendedTakes};
 /// is closed, idle or calling.
 pub fn held_by_one()
     ensures { IsHeldByOne }
-{
-}
+{}
 
 /// The holds that stand after a list of events are exactly the takes without a later end.
 pub fn holds_are_unended_takes()
     ensures { AreUnendedTakes }
-{
-}
+{}

@@ -5,7 +5,10 @@ ghost use Rattle.site_core.specs.Shown.{HasRoom};
 ghost use Rattle.site_core.specs.Run.{replies_to, site_at_end};
 
 use crate::site::Site;
-use site_base::{Actor, Answer, Cents, Event, Millilitres, Mills, NoMemory, NozzleNo, PointView, ProductNo, Refusal, ProductView, Reply, Seq, SiteView, TillNo, TransactionView};
+use site_base::{
+    Actor, Answer, Cents, Event, Millilitres, Mills, NoMemory, NozzleNo, PointView, ProductNo,
+    ProductView, Refusal, Reply, Seq, SiteView, TillNo, TransactionView,
+};
 use std::alloc::Global;
 
 /// A run that found no memory: it has done the first `done` events, and no other.
@@ -14,6 +17,23 @@ pub struct RunStopped {
     /// How many events are done.
     pub done: usize,
 }
+
+/// The types that a reply tells of. The prover looks for them in a function whose loop carries replies.
+type Told = (
+    Answer,
+    Refusal,
+    PointView,
+    TransactionView,
+    ProductView,
+    SiteView,
+    NozzleNo,
+    TillNo,
+    ProductNo,
+    Seq,
+    Cents,
+    Millilitres,
+    Mills,
+);
 
 /// Takes the written step for each event in turn, from the site as it stands, and answers the replies.
 /// Where a growth is refused it stops: the events before that one are done, and the others aren't.
@@ -27,8 +47,7 @@ pub fn run(
     ensures within { IfErr result (λ stop. stop.done < length events.now) }
     ensures stopped { IfErr result (λ stop. site.new.site ≡ site_at_end site.old.site (take stop.done events.now)) }
 {
-    // Names the types in a reply, which the prover looks for in the function that carries a list of them.
-    let _told: Option<(Answer, Refusal, PointView, NozzleNo, TillNo, Cents, Millilitres, Seq, Mills, ProductNo, TransactionView, ProductView, SiteView)> = None;
+    let _told: Option<Told> = None;
     let mut replies = Vec::new(alloc);
     for entry in events {
         let (actor, event) = entry;

@@ -1,8 +1,9 @@
 //! What no clause says: the order of refusals, and what stands after want of memory.
 
+mod long;
 mod refused;
 
-use crate::Site;
+use crate::{Site, run};
 use site_base::{
     Actor, Answer, Event, FpNo, Millilitres, Mills, NoMemory, NozzleEntry, PointEntry, PointState,
     ProductEntry, ProductNo, Refusal, Reply, SiteConfig, TillNo,
@@ -43,8 +44,8 @@ fn asked(site: &mut Site, actor: &Actor, event: &Event) -> Result<Reply, NoMemor
     Ok(site.step(*actor, *event))
 }
 
-fn till(number: u8) -> Result<Actor, Fail> {
-    Ok(Actor::Till(TillNo::new(number).ok_or("a till")?))
+fn till(number: u8) -> Result<TillNo, Fail> {
+    Ok(TillNo::new(number).ok_or("a till")?)
 }
 
 fn point(number: u8) -> Result<FpNo, Fail> {
@@ -56,6 +57,8 @@ fn point(number: u8) -> Result<FpNo, Fail> {
 struct Parts {
     one: Actor,
     two: Actor,
+    /// The till of the first.
+    first: TillNo,
     dispenser: Actor,
     /// A point that is there, one that is there too, and one that isn't.
     open: FpNo,
@@ -65,9 +68,11 @@ struct Parts {
 
 fn named_parts() -> Result<Parts, Fail> {
     let open = point(2)?;
+    let first = till(1)?;
     Ok(Parts {
-        one: till(1)?,
-        two: till(2)?,
+        one: Actor::Till(first),
+        two: Actor::Till(till(2)?),
+        first,
         dispenser: Actor::Dispenser(open),
         open,
         closed: point(3)?,
@@ -159,5 +164,120 @@ fn points_are_shown(rt: HostRuntime) -> Result<(), Fail> {
         Some(PointState::Closed)
     );
     assert_eq!(rt; site.point(p.absent), None);
+    Ok(())
+}
+
+/// Adds an event to a list.
+fn add(events: &mut Vec<(Actor, Event)>, actor: &Actor, event: &Event) -> Result<(), NoMemory> {
+    events.push((*actor, *event))?;
+    Ok(())
+}
+
+/// The number of a refusal, 0 for Done, 99 for any other answer.
+fn number_of(reply: &Reply) -> u8 {
+    match reply {
+        Ok(Answer::Done) => 0,
+        Ok(_) => 99,
+        Err(refusal) => refusal.number(),
+    }
+}
+
+/// Runs the events on a site of the points 2 and 3, and asserts the numbers of the replies.
+fn assert_run(
+    rt: &impl Abort,
+    alloc: Global,
+    events: &[(Actor, Event)],
+    numbers: &[u8],
+) -> Result<Site, Fail> {
+    let config = site_of_two(alloc)?.ok_or("a site")?;
+    let mut site = Site::try_open(alloc, &config)?;
+    match run(alloc, &mut site, events) {
+        Ok(replies) => {
+            assert_eq!(rt; replies.len(), numbers.len());
+            for (reply, number) in replies.iter().zip(numbers) {
+                assert_eq!(rt; number_of(reply), *number, "{reply:?}");
+            }
+        }
+        Err(stop) => panic!(rt; "no memory after {}", stop.done),
+    }
+    Ok(site)
+}
+
+/// The till that a read shows as the point's holder.
+fn holder_of(site: &Site, point: FpNo) -> Option<TillNo> {
+    match site.point(point) {
+        Some(view) => {
+            let _out = view.out;
+            view.holder
+        }
+        None => None,
+    }
+}
+
+// A second till is refused; a hold is taken again by its holder, and given back once.
+#[test]
+fn one_holder(rt: HostRuntime) -> Result<(), Fail> {
+    let alloc = rt.alloc();
+    let p = named_parts()?;
+    let mut events = Vec::new(alloc);
+    add(&mut events, &p.one, &Event::SignOn)?;
+    add(&mut events, &p.two, &Event::SignOn)?;
+    add(&mut events, &p.one, &Event::Assign(p.open))?;
+    add(&mut events, &p.two, &Event::Assign(p.open))?;
+    add(&mut events, &p.two, &Event::Open(p.open))?;
+    add(&mut events, &p.two, &Event::Unassign(p.open))?;
+    add(&mut events, &p.one, &Event::Assign(p.open))?;
+    add(&mut events, &p.one, &Event::Unassign(p.open))?;
+    add(&mut events, &p.one, &Event::Unassign(p.open))?;
+    add(&mut events, &p.two, &Event::Assign(p.absent))?;
+    let numbers = [0, 0, 0, 11, 11, 11, 0, 0, 12, 3];
+    let site = assert_run(&rt, alloc, &events, &numbers)?;
+    assert_eq!(rt; holder_of(&site, p.open), None);
+    Ok(())
+}
+
+// The refusal names the holder.
+#[test]
+fn the_holder_is_named(rt: HostRuntime) -> Result<(), Fail> {
+    let alloc = rt.alloc();
+    let p = named_parts()?;
+    let mut events = Vec::new(alloc);
+    add(&mut events, &p.one, &Event::SignOn)?;
+    add(&mut events, &p.two, &Event::SignOn)?;
+    add(&mut events, &p.one, &Event::Assign(p.open))?;
+    let mut site = assert_run(&rt, alloc, &events, &[0, 0, 0])?;
+    let first = p.first;
+    let other = &Err(Refusal::AssignedToOther(first));
+    assert_reply(&rt, &mut site, &p.two, &Event::Assign(p.open), *other)?;
+    assert_reply(&rt, &mut site, &p.two, &Event::Close(p.open), *other)?;
+    assert_eq!(rt; holder_of(&site, p.open), Some(p.first));
+    Ok(())
+}
+
+// A till's holds of closed and idle points end when it signs off; another till's stay.
+#[test]
+fn a_till_signs_off(rt: HostRuntime) -> Result<(), Fail> {
+    let alloc = rt.alloc();
+    let p = named_parts()?;
+    let mut events = Vec::new(alloc);
+    add(&mut events, &p.one, &Event::SignOff)?;
+    add(&mut events, &p.one, &Event::SignOn)?;
+    add(&mut events, &p.two, &Event::SignOn)?;
+    add(&mut events, &p.two, &Event::Assign(p.open))?;
+    add(&mut events, &p.two, &Event::Open(p.open))?;
+    add(&mut events, &p.one, &Event::Assign(p.closed))?;
+    add(&mut events, &p.two, &Event::SignOff)?;
+    add(&mut events, &p.two, &Event::SignOff)?;
+    add(&mut events, &p.one, &Event::Close(p.open))?;
+    add(&mut events, &p.dispenser, &Event::SignOff)?;
+    let numbers = [1, 0, 0, 0, 0, 0, 0, 1, 0, 13];
+    let mut site = assert_run(&rt, alloc, &events, &numbers)?;
+    assert_eq!(rt; holder_of(&site, p.open), None);
+    assert_eq!(rt; holder_of(&site, p.closed), Some(p.first));
+    if site.signed_on(p.first) {
+        site.sign_off(p.first);
+    }
+    assert_eq!(rt; holder_of(&site, p.closed), None);
+    assert!(rt; !site.signed_on(p.first));
     Ok(())
 }

@@ -7,16 +7,16 @@ use Rattle.site_core.proofs.lists.let_go.Goals as goal
 pub loop-row-preserved : goal.loop-row-preserved
 loop-row-preserved c = record {
   left = λ q.
-    let points = c.args.points.now in
-    let t = c.args.t in
-    let rows = c.rows-row-items.result.now in
-    let i = c.loop-row.row-index in
-    let row = c.row-item.result in
-    let split : row ∷ drop (i + 1) rows ≡ drop i rows = ap (λ x. x ∷ drop (i + 1) rows) c.row-item.is ∙ sym (drop_more rows i row c.loop-row-test.true) in
-    ap (λ claims. left points t (drop (i + 1) rows) q (finite.get claims q)) c.let_go_of.ensures
-    ∙ left_next points t row (drop (i + 1) rows) c.loop-row.claims q
-    ∙ ap (λ some. left points t some q (finite.get c.loop-row.claims q)) split
-    ∙ c.loop-row.invariant.left q;
+      let points = c.args.points.now in
+      let t = c.args.t in
+      let rows = c.rows-row-items.result.now in
+      let i = c.loop-row.row-index in
+      let row = c.row-item.result in
+      let split : row ∷ drop (i + 1) rows ≡ drop i rows = ap (λ x. x ∷ drop (i + 1) rows) c.row-item.is ∙ sym (drop_more rows i row c.loop-row-test.true) in
+      ap (λ claims. left points t (drop (i + 1) rows) q (finite.get claims q)) c.let_go_of.ensures
+      ∙ left_next points t row (drop (i + 1) rows) c.loop-row.claims q
+      ∙ ap (λ some. left points t some q (finite.get c.loop-row.claims q)) split
+      ∙ c.loop-row.invariant.left q;
 }
 
 pub returns : goal.returns
