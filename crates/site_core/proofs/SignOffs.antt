@@ -1,10 +1,10 @@
 -- The holds that outlive a sign-off, point by point.
-use Rattle.std.proofs.Common.{◌≡◌, ℕ, zero, ◌==◌, not, ◌&&◌, Bool, true, false, cond, List, [], ◌∷◌, Option, Some, None, is_some, refl, sym, ap, subst, ◌∙◌, if◌then◌else◌, arith}
+use Rattle.std.proofs.Common.{◌≡◌, ℕ, ◌==◌, not, ◌&&◌, Bool, true, false, cond, List, ◌∷◌, Option, None, is_some, refl, sym, ap, subst, ◌∙◌, if◌then◌else◌, arith}
 use Rattle.std.proofs.lemmas.Bool.Decides.{nat_tests}
 use Rattle.std.specs.Ordering.{nat_cmp, eq_by_cmp}
 use Rattle.std.specs.Cmp.{nat_cmp_total, unsigned_tied}
 use Rattle.std.specs.FinMap as finite
-use Rattle.std.specs.FinMap.{FinMap, same_map, get-remove, get-retain_keys, get_tied, nat_cmp-IsAntisymmetric}
+use Rattle.std.specs.FinMap.{FinMap, same_map, get-remove, get-retain_keys, nat_cmp-IsAntisymmetric}
 use Rattle.fuelling_point.specs.Kept.{Facts}
 use Rattle.site_base.specs.Table.{row_of}
 use Rattle.till_claims.specs.Holds.{is_held_by}

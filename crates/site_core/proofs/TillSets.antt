@@ -1,10 +1,10 @@
 -- A set of tills without one of them.
-use Rattle.std.proofs.Common.{◌≡◌, ◌≢◌, ℕ, ◌==◌, not, ◌&&◌, ◌||◌, Bool, true, false, List, [], ◌∷◌, refl, sym, ap, ◌∙◌, arith, nat_eq}
+use Rattle.std.proofs.Common.{◌≡◌, ℕ, ◌==◌, not, ◌&&◌, ◌||◌, Bool, true, false, List, [], ◌∷◌, refl, sym, ap, ◌∙◌, arith, nat_eq}
 use Rattle.std.proofs.lemmas.Bool.Decides.{nat_tests}
 use Rattle.std.specs.List.{filter, list_any}
 use Rattle.std.specs.Ordering.{nat_cmp, eq_by_cmp}
 use Rattle.std.specs.Cmp.{nat_cmp_total, unsigned_tied}
-use Rattle.std.specs.FinSet.{from_list, remove, contains, same_set, contains-remove, contains-from_list_nat, nat_cmp-IsAntisymmetric}
+use Rattle.std.specs.FinSet.{from_list, remove, same_set, contains-remove, contains-from_list_nat, nat_cmp-IsAntisymmetric}
 
 abbrev without : ℕ → List ℕ → List ℕ
 without t ks = filter (λ k. not (k == t)) ks

@@ -1,5 +1,5 @@
 -- Worked events, by computing the definitions on a site of the points 2 and 3.
-use Rattle.std.proofs.Common.{◌≡◌, [], ◌∷◌, ℕ, Some, None, Ok, Err, false, true, refl, ◌∙◌, nat_cmp}
+use Rattle.std.proofs.Common.{◌≡◌, [], ◌∷◌, Some, None, Ok, Err, false, true, refl, ◌∙◌, nat_cmp}
 use Rattle.std.specs.Cmp.{nat_cmp_total}
 use Rattle.std.specs.FinSet as set
 use Rattle.std.specs.FinMap as finite

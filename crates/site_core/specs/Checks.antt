@@ -1,9 +1,9 @@
 -- The first refusal: the checks of an event in their order, of which the first that fails decides.
-use Rattle.std.specs.Prelude.{ℕ, Bool, true, false, not, Option, Some, None, is_none, is_some, ◌==◌}
+use Rattle.std.specs.Prelude.{ℕ, Bool, false, not, Option, Some, None, is_none, is_some, ◌==◌}
 use Rattle.site_base.specs.declared.actor.Actor.{Actor}
 use Rattle.site_base.specs.declared.actor.Actor.TheVariants.{Till, Dispenser}
 use Rattle.site_base.specs.declared.event.Event.{Event}
-use Rattle.site_base.specs.declared.event.Event.TheVariants.{SignOn, SignOff, Open, Close, Assign, Unassign, ReadPoint}
+use Rattle.site_base.specs.declared.event.Event.TheVariants.{SignOn, Open, Close, Assign, Unassign, ReadPoint}
 use Rattle.site_base.specs.declared.refusal.Refusal.{Refusal}
 use Rattle.site_base.specs.declared.refusal.Refusal.TheVariants.{NotSignedOn, SignedOn, NoSuchPoint, AssignedToOther, NotYours, NotYourPoint}
 use Rattle.site_base.specs.Checks.{◌or_else◌, unless}
@@ -94,10 +94,7 @@ refusal_of s actor event =
     or_else at_point s event
     or_else is_held s event
 
--- the checks before the state for a till that looks at a point: it is signed on, and the point is there
-abbrev pub may_see : SiteState → ℕ → ℕ → Option Refusal
-may_see s t p = unless (is_signed_on s t) NotSignedOn or_else unless (has_point s p) NoSuchPoint
-
--- those for a till that uses a point: it may see it, and no other till holds it
+-- the checks before the point's own for a till that uses a point: it is signed on, the point is there, and
+-- no other till holds it
 abbrev pub may_use : SiteState → ℕ → ℕ → Option Refusal
 may_use s t p = unless (is_signed_on s t) NotSignedOn or_else unless (has_point s p) NoSuchPoint or_else free_for t (holder_of s p)

@@ -6,4 +6,4 @@ pub mod Run
 pub mod Slots
 pub mod Holders
 pub mod Shown
-pub mod Lists
+pub mod Parts

@@ -4,7 +4,7 @@
 #![tactic(auto)]
 
 mod laws;
-mod lists;
+mod parts;
 mod place;
 mod points;
 mod runs;

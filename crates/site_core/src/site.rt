@@ -5,7 +5,7 @@ ghost use Rattle.site_core.specs.State.{opening, is_signed_on, shown};
 ghost use Rattle.site_core.specs.Step.{Steps};
 ghost use Rattle.site_core.specs.Shown.{HasRoom};
 
-use crate::lists::Lists;
+use crate::parts::Parts;
 use site_base::{Actor, Answer, Event, FpNo, NoMemory, PointView, Reply, SiteConfig, TillNo};
 use std::alloc::Global;
 use std::marker::Model;
@@ -13,7 +13,7 @@ use std::marker::Model;
 /// The one-thread site.
 #[derive(Drop)]
 pub struct Site {
-    lists: Lists,
+    parts: Parts,
 }
 
 impl Model for Site {
@@ -27,9 +27,9 @@ impl Model for Site {
 
     ghost coded = { Prim.hlevel (codes, finite.code {R = nat_cmp} coded_ℕ coded_ℕ, set.code {R = nat_cmp} coded_ℕ) };
 
-    ghost use Rattle.site_core.specs.Lists.{site_of, room_of};
+    ghost use Rattle.site_core.specs.Parts.{site_of, room_of};
 
-    ghost view = { λ s. record { site = site_of s.lists; room = room_of s.lists } };
+    ghost view = { λ s. record { site = site_of s.parts; room = room_of s.parts } };
 }
 
 impl Site {
@@ -37,8 +37,8 @@ impl Site {
     pub fn try_open(alloc: Global, config: &SiteConfig) -> Result<Site, NoMemory>
         ensures { IfOk result (λ s. s.site ≡ opening config.now) }
     {
-        let lists = Lists::try_open(alloc, config)?;
-        Ok(Site { lists })
+        let parts = Parts::try_open(alloc, config)?;
+        Ok(Site { parts })
     }
 
     /// Makes the room that this event needs, so that its step takes no memory. The site stays.
@@ -47,7 +47,7 @@ impl Site {
         ensures room { OnOk result (HasRoom self.new.room event.now) }
     {
         let _ = actor;
-        self.lists.prepare(event)
+        self.parts.prepare(event)
     }
 
     /// The written step: the reply to this event of this actor, and the site that it leads to. After a
@@ -56,7 +56,7 @@ impl Site {
         requires room { HasRoom self.old.room event }
         ensures step { Steps self.old.site actor event self.new.site result }
     {
-        self.lists.step(actor, event)
+        self.parts.step(actor, event)
     }
 
     /// Signs off a till that is signed on, as the written step does. It takes no memory.
@@ -64,20 +64,20 @@ impl Site {
         requires { is_signed_on self.old.site t ≡ true }
         ensures { Steps self.old.site (Actor.Till t) Event.SignOff self.new.site (Ok Answer.Done) }
     {
-        self.lists.leave(t);
+        self.parts.leave(t);
     }
 
     /// Is this till signed on?
     pub fn signed_on(&self, t: TillNo) -> bool
         ensures { result ≡ is_signed_on self.now.site t }
     {
-        self.lists.is_signed_on(t)
+        self.parts.is_signed_on(t)
     }
 
     /// The point as a read shows it. None where the site has no such point.
     pub fn point(&self, p: FpNo) -> Option<PointView>
         ensures { result ≡ shown self.now.site p }
     {
-        self.lists.shown(p)
+        self.parts.shown(p)
     }
 }

@@ -54,7 +54,7 @@ fn point(number: u8) -> Result<FpNo, Fail> {
 
 /// The actors and the points of a test.
 #[derive(Clone, Copy)]
-struct Parts {
+struct Named {
     one: Actor,
     two: Actor,
     /// The till of the first.
@@ -66,10 +66,10 @@ struct Parts {
     absent: FpNo,
 }
 
-fn named_parts() -> Result<Parts, Fail> {
+fn named_parts() -> Result<Named, Fail> {
     let open = point(2)?;
     let first = till(1)?;
-    Ok(Parts {
+    Ok(Named {
         one: Actor::Till(first),
         two: Actor::Till(till(2)?),
         first,
@@ -212,6 +212,20 @@ fn holder_of(site: &Site, point: FpNo) -> Option<TillNo> {
         }
         None => None,
     }
+}
+
+// Till 1 signs on, opens point 3 and reads it.
+#[test]
+fn stored_events(rt: HostRuntime) -> Result<(), Fail> {
+    let alloc = rt.alloc();
+    let p = named_parts()?;
+    let mut events = Vec::new(alloc);
+    add(&mut events, &p.one, &Event::SignOn)?;
+    add(&mut events, &p.one, &Event::Open(p.closed))?;
+    add(&mut events, &p.one, &Event::ReadPoint(p.closed))?;
+    let site = assert_run(&rt, alloc, &events, &[0, 0, 99])?;
+    assert_eq!(rt; holder_of(&site, p.closed), None);
+    Ok(())
 }
 
 // A second till is refused; a hold is taken again by its holder, and given back once.

@@ -5,7 +5,7 @@ ghost use Rattle.std.specs.FinMap as finite;
 ghost use Rattle.site_core.specs.State.{opening, is_signed_on, has_point, shown};
 ghost use Rattle.site_core.specs.Checks.{may_use};
 ghost use Rattle.site_core.specs.Step.{Steps, signed_off, ends_at_sign_off, holds_without};
-ghost use Rattle.site_core.specs.Lists.{site_of, room_of};
+ghost use Rattle.site_core.specs.Parts.{site_of, room_of};
 ghost use Rattle.site_core.specs.Shown.{HasRoom};
 
 use crate::points::Points;
@@ -19,19 +19,19 @@ use till_claims::Claims;
 
 /// The points, which till holds which of them, and the tills that are signed on.
 #[derive(Drop)]
-pub struct Lists {
+pub struct Parts {
     points: Points,
     claims: Claims,
     signed_on: SignedOn,
 }
 
-impl Lists {
+impl Parts {
     /// What the opening site keeps.
-    pub fn try_open(alloc: Global, config: &SiteConfig) -> Result<Lists, NoMemory>
-        ensures { IfOk result (λ l. site_of l ≡ opening config.now) }
+    pub fn try_open(alloc: Global, config: &SiteConfig) -> Result<Parts, NoMemory>
+        ensures { IfOk result (λ parts. site_of parts ≡ opening config.now) }
     {
         let points = Points::try_new(alloc, config.points())?;
-        Ok(Lists {
+        Ok(Parts {
             points,
             claims: Claims::new(),
             signed_on: SignedOn::new(alloc),
