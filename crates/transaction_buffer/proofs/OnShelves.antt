@@ -12,7 +12,8 @@ use Rattle.site_base.proofs.Numbering.{numbered_within}
 use Rattle.transaction_buffer.specs.Sales.{Key, Sale, Sales, no_sales, sales_at, with_sale}
 use Rattle.transaction_buffer.specs.TransactionTable.{Line, refusal_in, sale_after, after_line, let_go, after_sign_off}
 use Rattle.transaction_buffer.specs.Sums.{sum_among, sum_over, volume_with, volume_by}
-use Rattle.transaction_buffer.specs.Shelves.{Shelf, stock, sales_on, rooms_on, room_at, volume_on}
+use Rattle.transaction_buffer.specs.Rooms.{room_at}
+use Rattle.transaction_buffer.specs.Shelves.{Shelf, stock, sales_on, rooms_on, volume_on}
 
 -- the cells in which the shelves' sales stand
 abbrev cells_of : List Shelf → List (Option (List Sale))

@@ -6,7 +6,7 @@ use Rattle.std.specs.FinMap as finite
 use Rattle.transaction_buffer.specs.declared.standing.Standing.{Standing}
 use Rattle.transaction_buffer.specs.declared.standing.Standing.TheVariants.{Payable, LockedBy, ClearedBy}
 use Rattle.transaction_buffer.specs.Sales.{Sale, Sales}
-use Rattle.transaction_buffer.specs.Shelves.{Buffered}
+use Rattle.transaction_buffer.specs.Rooms.{Buffered}
 
 -- a standing as its till, if it names one, and its shift, if it has one
 abbrev pub parts_of : Standing → Option (ℕ × Option ℕ)

@@ -1,4 +1,6 @@
 pub mod Codes
+pub mod Laws
+pub mod Rooms
 pub mod Sales
 pub mod Shelves
 pub mod Sums

@@ -1,5 +1,5 @@
 -- The sales of a site, and the words that read and change them.
-use Rattle.std.specs.Prelude.{ℕ, ◌+◌, List, [], ◌∷◌, ◌++◌, length, map, Bool, true, false, Option, option_map, Some, None, is_some, unwrap_or, nat_lt, if◌then◌else◌}
+use Rattle.std.specs.Prelude.{ℕ, ◌+◌, List, [], ◌∷◌, ◌++◌, length, map, Bool, true, false, Option, option_map, Some, None, is_some, unwrap_or, ◌&&◌, ◌==◌, nat_lt, if◌then◌else◌}
 use Rattle.std.specs.Ordering.{nat_cmp}
 use Rattle.std.specs.FinMap as finite
 use Rattle.std.specs.FinMap.{FinMap}
@@ -47,6 +47,10 @@ sale_of k s = numbered k.number (sales_at k.point s)
 
 abbrev pub has_sale : Key → Sales → Bool
 has_sale k s = is_some (sale_of k s)
+
+-- two names of one sale
+abbrev pub same_key : Key → Key → Bool
+same_key k j = k.point == j.point && k.number == j.number
 
 -- how many sales point p has made
 abbrev pub made_at : ℕ → Sales → ℕ

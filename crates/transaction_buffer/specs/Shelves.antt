@@ -1,8 +1,7 @@
--- How the sales of the points stand in the buffer: a shelf for each point.
-use Rattle.std.specs.Prelude.{ℕ, ◌+◌, List, [], ◌∷◌, map, Option, Some, None, unwrap_or}
+-- How the buffer keeps the sales: on a shelf for each point.
+use Rattle.std.specs.Prelude.{ℕ, ◌+◌, List, [], ◌∷◌, map, Option, Some, None}
 use Rattle.std.specs.FinMap as finite
 use Rattle.site_base.specs.Cells.{entries_from}
-use Rattle.site_base.specs.Numbered.{numbered}
 use Rattle.site_base.specs.declared.state.Status.{Status}
 use Rattle.transaction_buffer.specs.Sales.{Sale, Sales}
 use Rattle.transaction_buffer.specs.Sums.{sum_among, volume_with}
@@ -11,11 +10,6 @@ use Rattle.transaction_buffer.specs.Sums.{sum_among, volume_with}
 pub record Shelf : Type 0 where
   pub sales : List Sale
   pub room : ℕ
-
--- the sales of every point, and of each point, from 1 on, how many more there is room for
-pub record Buffered : Type 0 where
-  pub sales : Sales
-  pub rooms : List ℕ
 
 -- a point that has sold nothing has no sales to show
 abbrev pub stock : List Sale → Option (List Sale)
@@ -28,10 +22,6 @@ sales_on shelves = finite.from_entries (entries_from 1 (map (λ x. stock x.sales
 
 abbrev pub rooms_on : List Shelf → List ℕ
 rooms_on shelves = map (λ x. x.room) shelves
-
--- how many more sales of point p there is room for
-abbrev pub room_at : ℕ → List ℕ → ℕ
-room_at p rooms = unwrap_or (numbered p rooms) 0
 
 -- the millilitres of product q in the sales of this status, on these shelves
 abbrev pub volume_on : ℕ → Status → List Shelf → ℕ

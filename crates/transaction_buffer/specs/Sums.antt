@@ -6,6 +6,7 @@ use Rattle.site_base.specs.declared.state.Status.TheVariants as statuses
 use Rattle.transaction_buffer.specs.declared.standing.Standing.{Standing}
 use Rattle.transaction_buffer.specs.declared.standing.Standing.TheVariants.{Payable, LockedBy, ClearedBy}
 use Rattle.transaction_buffer.specs.Sales.{Sale, Sales}
+use Rattle.transaction_buffer.specs.TransactionTable.{is_locked_by}
 
 -- a figure summed over some sales
 abbrev pub sum_among : (Sale → ℕ) → List Sale → ℕ
@@ -43,3 +44,11 @@ volume_of q s = sum_of (volume_in q) s
 -- the millilitres of product q in the sales of this status
 abbrev pub volume_by : ℕ → Status → Sales → ℕ
 volume_by q status s = sum_of (volume_with q status) s
+
+-- the millilitres of product q in a sale, if till t has locked it
+abbrev pub volume_locked_by : ℕ → ℕ → Sale → ℕ
+volume_locked_by q t x = if is_locked_by t x.standing then volume_in q x else 0
+
+-- the millilitres of product q in the sales that till t has locked
+abbrev pub locked_volume : ℕ → ℕ → Sales → ℕ
+locked_volume q t s = sum_of (volume_locked_by q t) s

@@ -1,5 +1,5 @@
 -- The transaction table: what a till's request does to a transaction, by how it stands.
-use Rattle.std.specs.Prelude.{ℕ, Bool, false, Option, Some, None, Result, Ok, Err, ◌==◌, if◌then◌else◌}
+use Rattle.std.specs.Prelude.{ℕ, Bool, false, Option, option_and_then, Some, None, Result, Ok, Err, ◌==◌, if◌then◌else◌}
 use Rattle.site_base.specs.declared.answer.Answer.{Answer}
 use Rattle.site_base.specs.declared.answer.Answer.TheVariants.{Done, Locked, Unlocked, Cleared}
 use Rattle.site_base.specs.declared.refusal.Refusal.{Refusal}
@@ -69,6 +69,10 @@ abbrev pub sale_after : Result Line Refusal → Sale → Sale
 sale_after (Ok l) x = record x { standing = l.leaves }
 sale_after (Err refusal) x = x
 
+-- the sale after the request of till t; a refusal leaves it
+abbrev pub asked : Request → ℕ → Sale → Sale
+asked request t x = sale_after (line_for request t x) x
+
 -- why the request of till t for this transaction is refused
 abbrev pub refusal_of : Request → ℕ → Key → Sales → Option Refusal
 refusal_of request t k s = refusal_in (line_of request t (sale_of k s))
@@ -95,6 +99,15 @@ after_request request t k s = after_at request t k (sale_of k s) s
 abbrev pub is_locked_by : ℕ → Standing → Bool
 is_locked_by t (LockedBy u) = u == t
 is_locked_by t standing = false
+
+-- the till that has locked a transaction
+abbrev pub locker : Standing → Option ℕ
+locker (LockedBy u) = Some u
+locker standing = None
+
+-- the till that has locked the transaction of this name
+abbrev pub locker_of : Key → Sales → Option ℕ
+locker_of k s = option_and_then (λ x. locker x.standing) (sale_of k s)
 
 -- a sale that the till has locked is payable; every other is as it was
 abbrev pub let_go : ℕ → Sale → Sale

@@ -5,7 +5,8 @@ ghost use Rattle.site_base.specs.declared.limits.TheConstants.{UNPAID_LIMIT};
 ghost use Rattle.transaction_buffer.specs.Sales.{key, no_sales, sale_of, next_number, unpaid_at, with_new, is_new, new_sale, shown};
 ghost use Rattle.transaction_buffer.specs.TransactionTable.{refusal_of, answer_of, after_request, let_go, after_sign_off};
 ghost use Rattle.transaction_buffer.specs.Sums.{volume_by};
-ghost use Rattle.transaction_buffer.specs.Shelves.{room_at, volume_on};
+ghost use Rattle.transaction_buffer.specs.Rooms.{room_at};
+ghost use Rattle.transaction_buffer.specs.Shelves.{volume_on};
 
 use crate::request::Request;
 use crate::sale::Sale;
@@ -28,7 +29,8 @@ pub struct Buffer {
 
 impl Model for Buffer {
     ghost use Rattle.transaction_buffer.specs.Codes.{buffered_code};
-    ghost use Rattle.transaction_buffer.specs.Shelves.{Buffered, sales_on, rooms_on};
+    ghost use Rattle.transaction_buffer.specs.Rooms.{Buffered};
+    ghost use Rattle.transaction_buffer.specs.Shelves.{sales_on, rooms_on};
 
     ghost Value = { Buffered };
 

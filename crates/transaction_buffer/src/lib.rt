@@ -4,6 +4,7 @@
 #![tactic(auto)]
 
 mod buffer;
+mod laws;
 mod request;
 mod sale;
 mod shelf;
@@ -12,5 +13,9 @@ mod standing;
 mod tests;
 
 pub use buffer::Buffer;
+pub use laws::{
+    cleared_by_its_locker, cleared_for_good, counted_after, one_locker, read_after, summed_after,
+    volumes_add_up, volumes_move,
+};
 pub use request::Request;
 pub use standing::Standing;
