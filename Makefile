@@ -1,7 +1,7 @@
 # The forecourt site controller. `make` alone says what there is.
 
 # The crates whose calls can want memory.
-GROWING := site_base app_message meters till_claims shift_ledger site_core device_map forecourt
+GROWING := site_base app_message meters till_claims shift_ledger transaction_buffer site_core device_map forecourt
 PROGRAM := crates/forecourt/out/forecourt
 
 .PHONY: help run try check test bench

@@ -1,2 +1,4 @@
+pub mod Cells
 pub mod Known
+pub mod Numbering
 pub mod Places

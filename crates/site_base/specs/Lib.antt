@@ -1,11 +1,13 @@
 pub mod Amounts
+pub mod Cells
 pub mod Checks
 pub mod Configured
 pub mod Counted
 pub mod Devices
 pub mod History
+pub mod Numbered
+pub mod Prices
 pub mod Refusals
 pub mod States
-pub mod Transfer
 pub mod Table
-pub mod Prices
+pub mod Transfer

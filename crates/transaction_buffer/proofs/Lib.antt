@@ -1,0 +1,9 @@
+pub mod Counting
+pub mod Lists
+pub mod Maps
+pub mod OnShelves
+pub mod Reading
+pub mod Rules
+pub mod Summing
+pub mod Unpaid
+pub mod Volumes

@@ -1,0 +1,48 @@
+//! Laws of the transactions. They have no code: each is proved of the definitions that the contracts of
+//! this crate cite.
+
+ghost use Rattle.transaction_buffer.specs.Laws.{DoAddUp, DoMove, HasOneLocker, IsClearedByItsLocker, IsClearedForGood, IsCountedAfter, IsReadAfter, IsSummedAfter};
+
+/// A transaction that is cleared stays as it is, whatever a till asks, whoever signs off and whatever is
+/// sold.
+pub fn cleared_for_good()
+    ensures { IsClearedForGood }
+{}
+
+/// A clear is accepted only of a transaction that this till has locked, and is answered with its cents.
+pub fn cleared_by_its_locker()
+    ensures { IsClearedByItsLocker }
+{}
+
+/// A transaction has one locker: a lock is accepted only where no other till has locked it, an unlock only
+/// by the till that has. Its locker is the till that locked it last, until that till unlocks or clears it or
+/// signs off.
+pub fn one_locker()
+    ensures { HasOneLocker }
+{}
+
+/// What stands under a name after each change: that of its own transaction, and no other's.
+pub fn read_after()
+    ensures { IsReadAfter }
+{}
+
+/// Only a sale raises how many sales a point has made, by one, and how many of them are unpaid.
+pub fn counted_after()
+    ensures { IsCountedAfter }
+{}
+
+/// How each change moves the sum of any figure over the sales.
+pub fn summed_after()
+    ensures { IsSummedAfter }
+{}
+
+/// A product's payable, locked and cleared volumes add up to its volume in all sales.
+pub fn volumes_add_up()
+    ensures { DoAddUp }
+{}
+
+/// How each change moves a product's volumes from one status to another; only a sale changes the volume in
+/// all sales.
+pub fn volumes_move()
+    ensures { DoMove }
+{}
