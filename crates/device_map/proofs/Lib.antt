@@ -1,2 +1,3 @@
+pub mod OneRequest
 pub mod Short
 pub mod Worked

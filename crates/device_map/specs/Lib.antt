@@ -5,3 +5,4 @@ pub mod Addresses
 pub mod Requests
 pub mod Items
 pub mod Replies
+pub mod Laws

@@ -7,6 +7,7 @@
 mod address;
 mod fault;
 mod ids;
+mod laws;
 mod node;
 mod part;
 mod reply;
@@ -15,5 +16,6 @@ mod request;
 mod tests;
 
 pub use fault::MapFault;
+pub use laws::one_request;
 pub use reply::{refusal_of, reply_of, stream_refusal};
 pub use request::request_of;
