@@ -9,10 +9,11 @@ use Rattle.std.specs.FinMap.{FinMap, find, entries, same_map, get-from_entries, 
 use Rattle.std.specs.FinMap.Entries.{below_all}
 use Rattle.site_base.specs.Cells.{entries_from}
 
-apart : (q p : ℕ) → q ≢ p → eq_by_cmp nat_cmp q p ≡ false
+-- the test of a map, at numbers that differ and at numbers that are one
+pub apart : (q p : ℕ) → q ≢ p → eq_by_cmp nat_cmp q p ≡ false
 apart q p other = unsigned_tied q p ∙ grind (arith, nat_tests)
 
-alike : (q p : ℕ) → q ≡ p → eq_by_cmp nat_cmp q p ≡ true
+pub alike : (q p : ℕ) → q ≡ p → eq_by_cmp nat_cmp q p ≡ true
 alike q p same = unsigned_tied q p ∙ grind (arith, nat_tests)
 
 tied : (q p : ℕ) → eq_by_cmp nat_cmp q p ≡ true → q ≡ p

@@ -18,7 +18,7 @@ use Rattle.site_core.specs.Checks.{refusal_of, signing, numbers, own_kind, not_h
 use Rattle.site_core.specs.Step.{after, site_after, reply_to, ends_at_sign_off, holds_without}
 use Rattle.site_core.specs.Run.{rows_of, site_at_end}
 use Rattle.site_core.specs.Holders.{Moment, moments, history, takes, ends, taken_by, ended_by, IsHeldByOne, AreUnendedTakes}
-use Rattle.till_claims.proofs.CellLemmas.{apart, alike}
+use Rattle.site_base.proofs.Cells.{apart, alike}
 use Rattle.site_core.proofs.Slots.{next, MayTake, standing, Fair, end_between, last_take}
 
 -- what an event does to the hold of a point: the till that takes it, and whose hold it ends

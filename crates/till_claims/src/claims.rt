@@ -22,7 +22,7 @@ impl Model for Claims {
     ghost use Rattle.std.specs.Ordering.{nat_cmp};
     ghost use Rattle.std.specs.FinMap as map;
     ghost use Rattle.std.specs.Coded.{coded_ℕ};
-    ghost use Rattle.till_claims.specs.Cells.{entries_from};
+    ghost use Rattle.site_base.specs.Cells.{entries_from};
 
     ghost Value = { map.FinMap nat_cmp ℕ };
 

@@ -1,5 +1,5 @@
 use Rattle.std.proofs.Common.{◌≡◌, ◌+◌, ◌++◌, drop}
-use Rattle.till_claims.specs.Cells.{entries_from}
+use Rattle.site_base.specs.Cells.{entries_from}
 use Rattle.till_claims.specs.Holds.{points_of}
 use Rattle.till_claims.proofs.claims.Claims.held_by.Given as goal
 

@@ -1,8 +1,8 @@
 use Rattle.std.proofs.Common.{sym, ◌∙◌, arith}
 use Rattle.std.proofs.lemmas.List.{get_or_default}
-use Rattle.till_claims.proofs.CellLemmas.{holder_in}
+use Rattle.site_base.proofs.Cells.{cell_read}
 use Rattle.till_claims.proofs.claims.Claims.holder.Goals as goal
 
 pub returns : goal.returns
 returns c =
-    rw (← c.self.view_is) (get_or_default c.self.inside.holders c.cell_of.result _ _ (omega arith) ∙ sym (holder_in c.self.inside.holders c.cell_of.result c.args.p c.cell_of.ensures.place (omega arith)))
+    rw (← c.self.view_is) (get_or_default c.self.inside.holders c.cell_of.result _ _ (omega arith) ∙ sym (cell_read c.self.inside.holders c.cell_of.result c.args.p c.cell_of.ensures.place (omega arith)))

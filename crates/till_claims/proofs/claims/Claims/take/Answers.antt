@@ -1,7 +1,7 @@
 use Rattle.std.proofs.Common.{arith}
-use Rattle.till_claims.proofs.CellLemmas.{holds_taken}
+use Rattle.site_base.proofs.Cells.{cell_filled}
 use Rattle.till_claims.proofs.claims.Claims.take.Goals as goal
 
 pub returns : goal.returns
 returns c =
-    rw (← c.self.view_is) (holds_taken c.self.inside.holders c.cell_of.result c.args.p c.args.t c.cell_of.ensures.place (omega arith))
+    rw (← c.self.view_is) (cell_filled c.self.inside.holders c.cell_of.result c.args.p c.args.t c.cell_of.ensures.place (omega arith))
