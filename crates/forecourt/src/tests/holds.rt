@@ -15,7 +15,15 @@ fn assert_after_stored(
     input.push_str(lines)?;
     let mut text = String::from_str(alloc, STORED_ANSWERS)?;
     text.push_str(answers)?;
-    assert_replay(rt, alloc, &config, input.as_bytes(), text.as_str(), None, rows);
+    assert_replay(
+        rt,
+        alloc,
+        &config,
+        input.as_bytes(),
+        text.as_str(),
+        None,
+        rows,
+    );
     Ok(())
 }
 
