@@ -5,15 +5,14 @@ use Rattle.std.proofs.lemmas.List.{map-set, get_or-map, set-get_or, length-map}
 use Rattle.std.specs.FinMap as finite
 use Rattle.site_base.specs.Cells.{entries_from}
 use Rattle.site_base.specs.declared.refusal.Refusal.{Refusal}
-use Rattle.site_base.specs.declared.state.Status.{Status}
 use Rattle.site_base.specs.Numbered.{numbered, with_numbered}
 use Rattle.site_base.proofs.Cells.{cell_read, cell_filled, entries_of_cells}
 use Rattle.site_base.proofs.Numbering.{numbered_within}
 use Rattle.transaction_buffer.specs.Sales.{Key, Sale, Sales, no_sales, sales_at, with_sale}
 use Rattle.transaction_buffer.specs.TransactionTable.{Line, refusal_in, sale_after, after_line, let_go, after_sign_off}
-use Rattle.transaction_buffer.specs.Sums.{sum_among, sum_over, volume_with, volume_by}
+use Rattle.transaction_buffer.specs.Sums.{sum_among, sum_over, sum_of}
 use Rattle.transaction_buffer.specs.Rooms.{room_at}
-use Rattle.transaction_buffer.specs.Shelves.{Shelf, stock, sales_on, rooms_on, volume_on}
+use Rattle.transaction_buffer.specs.Shelves.{Shelf, stock, sales_on, rooms_on, sum_on}
 
 -- the cells in which the shelves' sales stand
 abbrev cells_of : List Shelf → List (Option (List Sale))
@@ -83,17 +82,17 @@ stock_with n (z ∷ zs) x y is = by_test (n == 0)
     by_test false = stock_set z zs (n - 1) y
 
 -- the sums over the shelves and over the sales are the same
-sums_from : (q : ℕ) (status : Status) (n : ℕ) (shelves : List Shelf) → sum_over (volume_with q status) (entries_from n (cells_of shelves)) ≡ volume_on q status shelves
-sums_from q status n [] = refl
-sums_from q status n (x ∷ xs) = by_sales x.sales (sums_from q status (n + 1) xs)
+sums_from : (figure : Sale → ℕ) (n : ℕ) (shelves : List Shelf) → sum_over figure (entries_from n (cells_of shelves)) ≡ sum_on figure shelves
+sums_from figure n [] = refl
+sums_from figure n (x ∷ xs) = by_sales x.sales (sums_from figure (n + 1) xs)
   where
-    by_sales : (sales : List Sale) → sum_over (volume_with q status) (entries_from (n + 1) (cells_of xs)) ≡ volume_on q status xs
-        → sum_over (volume_with q status) (entries_from n (stock sales ∷ cells_of xs)) ≡ sum_among (volume_with q status) sales + volume_on q status xs
+    by_sales : (sales : List Sale) → sum_over figure (entries_from (n + 1) (cells_of xs)) ≡ sum_on figure xs
+        → sum_over figure (entries_from n (stock sales ∷ cells_of xs)) ≡ sum_among figure sales + sum_on figure xs
     by_sales [] rest = omega (arith, rest)
-    by_sales (s ∷ ss) rest = ap (λ (k : ℕ). sum_among (volume_with q status) (s ∷ ss) + k) rest
+    by_sales (s ∷ ss) rest = ap (λ (k : ℕ). sum_among figure (s ∷ ss) + k) rest
 
-pub sums_there : (q : ℕ) (status : Status) (shelves : List Shelf) → volume_by q status (sales_on shelves) ≡ volume_on q status shelves
-sums_there q status shelves = ap (sum_over (volume_with q status)) (entries_of_cells (cells_of shelves)) ∙ sums_from q status 1 shelves
+pub sums_there : (figure : Sale → ℕ) (shelves : List Shelf) → sum_of figure (sales_on shelves) ≡ sum_on figure shelves
+sums_there figure shelves = ap (sum_over figure) (entries_of_cells (cells_of shelves)) ∙ sums_from figure 1 shelves
 
 cells_of_sales : (shelves : List Shelf) → cells_of shelves ≡ map stock (map (λ (x : Shelf). x.sales) shelves)
 cells_of_sales [] = refl

@@ -2,9 +2,8 @@
 use Rattle.std.specs.Prelude.{ℕ, ◌+◌, List, [], ◌∷◌, map, Option, Some, None}
 use Rattle.std.specs.FinMap as finite
 use Rattle.site_base.specs.Cells.{entries_from}
-use Rattle.site_base.specs.declared.state.Status.{Status}
 use Rattle.transaction_buffer.specs.Sales.{Sale, Sales}
-use Rattle.transaction_buffer.specs.Sums.{sum_among, volume_with}
+use Rattle.transaction_buffer.specs.Sums.{sum_among}
 
 -- the sales of a point, and how many more there is room for
 pub record Shelf : Type 0 where
@@ -23,7 +22,7 @@ sales_on shelves = finite.from_entries (entries_from 1 (map (λ x. stock x.sales
 abbrev pub rooms_on : List Shelf → List ℕ
 rooms_on shelves = map (λ x. x.room) shelves
 
--- the millilitres of product q in the sales of this status, on these shelves
-abbrev pub volume_on : ℕ → Status → List Shelf → ℕ
-volume_on q status [] = 0
-volume_on q status (x ∷ xs) = sum_among (volume_with q status) x.sales + volume_on q status xs
+-- a figure summed over the sales on these shelves
+abbrev pub sum_on : (Sale → ℕ) → List Shelf → ℕ
+sum_on figure [] = 0
+sum_on figure (x ∷ xs) = sum_among figure x.sales + sum_on figure xs

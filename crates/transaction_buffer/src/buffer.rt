@@ -1,12 +1,12 @@
 //! The transaction buffer of a site.
 
-ghost use Rattle.std.specs.Prelude.{◌≡◌, ◌+◌, ◌<◌, ◌≤◌, true, None, Some, is_some, map, length, OnOk, OnErr, IfOk, IfErr};
+ghost use Rattle.std.specs.Prelude.{◌≡◌, ◌+◌, ◌^◌, ◌<◌, ◌≤◌, true, None, Some, is_some, map, length, OnOk, OnErr, IfOk, IfErr};
 ghost use Rattle.site_base.specs.declared.limits.TheConstants.{UNPAID_LIMIT};
 ghost use Rattle.transaction_buffer.specs.Sales.{key, no_sales, sale_of, next_number, unpaid_at, with_new, is_new, new_sale, shown};
 ghost use Rattle.transaction_buffer.specs.TransactionTable.{refusal_of, answer_of, after_request, let_go, after_sign_off};
-ghost use Rattle.transaction_buffer.specs.Sums.{volume_by};
+ghost use Rattle.transaction_buffer.specs.Sums.{volume_in, volume_with, volume_of, volume_by};
 ghost use Rattle.transaction_buffer.specs.Rooms.{room_at};
-ghost use Rattle.transaction_buffer.specs.Shelves.{volume_on};
+ghost use Rattle.transaction_buffer.specs.Shelves.{sum_on};
 
 use crate::request::Request;
 use crate::sale::Sale;
@@ -151,9 +151,11 @@ impl Buffer {
         }
     }
 
-    /// The millilitres of product q in the transactions of this status. The sum fits in 64 bits.
+    /// The millilitres of product q in the transactions of this status. Those of all transactions fit in
+    /// 64 bits.
     pub fn sum(&self, q: ProductNo, status: Status) -> u64
-        ensures { result ≡ volume_by q status self.now.sales }
+        ensures value { result ≡ volume_by q status self.now.sales }
+        ensures fits { volume_of q self.now.sales < 2 ^ 64 }
     {
         volume_on(&self.shelves, q, &status)
     }
@@ -196,7 +198,8 @@ fn let_go_of_each(shelves: &mut [Shelf], t: TillNo)
 /// The millilitres of this product in the sales of this status, on every shelf.
 fn volume_on(shelves: &[Shelf], q: ProductNo, status: &Status) -> u64
     requires { length shelves.now ≤ POINT_CELLS }
-    ensures { result ≡ volume_on q status.now shelves.now }
+    ensures value { result ≡ sum_on (volume_with q status.now) shelves.now }
+    ensures fits { sum_on (volume_in q) shelves.now < 2 ^ 64 }
 {
     let mut total = 0;
     for shelf in shelves {

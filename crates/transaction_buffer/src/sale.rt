@@ -4,7 +4,7 @@ ghost use Rattle.std.specs.Prelude.{◌≡◌, ◌≤◌, ◌==◌, ◌&&◌, tr
 ghost use Rattle.site_base.specs.declared.limits.TheConstants.{GREATEST_READING};
 ghost use Rattle.transaction_buffer.specs.Sales.{is_unpaid, is_new, new_sale, view_of};
 ghost use Rattle.transaction_buffer.specs.TransactionTable.{line_for, refusal_in, answer_in, sale_after, let_go};
-ghost use Rattle.transaction_buffer.specs.Sums.{volume_with, has_status};
+ghost use Rattle.transaction_buffer.specs.Sums.{volume_in, volume_with, has_status};
 
 use crate::request::Request;
 use crate::standing::Standing;
@@ -88,9 +88,11 @@ impl Sale {
     pub fn volume_with(&self, q: ProductNo, status: &Status) -> u64
         ensures value { result ≡ volume_with q status.now self.now }
         ensures range { result ≤ GREATEST_READING }
+        ensures whole { volume_in q self.now ≤ GREATEST_READING }
     {
+        let volume = self.volume.get();
         if self.product.get() == q.get() && self.has_status(status) {
-            self.volume.get()
+            volume
         } else {
             0
         }

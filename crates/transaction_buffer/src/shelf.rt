@@ -5,7 +5,7 @@ ghost use Rattle.site_base.specs.Numbered.{numbered, with_numbered};
 ghost use Rattle.site_base.specs.declared.limits.TheConstants.{GREATEST_READING, GREATEST_SEQ, UNPAID_LIMIT};
 ghost use Rattle.transaction_buffer.specs.Sales.{is_unpaid, next_after, unpaid_among};
 ghost use Rattle.transaction_buffer.specs.TransactionTable.{let_go};
-ghost use Rattle.transaction_buffer.specs.Sums.{sum_among, volume_with};
+ghost use Rattle.transaction_buffer.specs.Sums.{sum_among, volume_in, volume_with};
 
 use crate::sale::Sale;
 use site_base::{GREATEST_SEQ, NoMemory, ProductNo, Seq, Status, TillNo};
@@ -113,6 +113,7 @@ impl Shelf {
     pub fn volume(&self, q: ProductNo, status: &Status) -> u64
         ensures value { result ≡ sum_among (volume_with q status.now) self.now.sales }
         ensures range { result ≤ GREATEST_SEQ * GREATEST_READING }
+        ensures whole { sum_among (volume_in q) self.now.sales ≤ GREATEST_SEQ * GREATEST_READING }
     {
         let mut total = 0;
         for sale in &self.sales {
