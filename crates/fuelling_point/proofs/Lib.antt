@@ -1,3 +1,6 @@
 pub mod Events
+pub mod Whole
+pub mod Hands
 pub mod Starts
+pub mod Lifted
 pub mod Suspension
