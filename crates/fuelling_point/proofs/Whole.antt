@@ -1,10 +1,12 @@
 -- A point stays whole, and what flows isn't lost.
-use Rattle.std.proofs.Common.{◌≡◌, List, [], ◌∷◌, refl, arith}
+use Rattle.std.proofs.Common.{◌≡◌, List, [], ◌∷◌, None, refl, subst, arith}
 use Rattle.std.proofs.lemmas.Grind.{common_steps}
 use Rattle.site_base.specs.declared.state.PointState.TheVariants.{Closed}
 use Rattle.fuelling_point.specs.declared.event.PointEvent.{PointEvent}
-use Rattle.fuelling_point.specs.Kept.{Facts, fresh, growth_of}
+use Rattle.fuelling_point.specs.Kept.{Facts, fresh}
 use Rattle.fuelling_point.specs.Whole.{IsWhole}
+use Rattle.fuelling_point.specs.Checks.{refusal_of}
+use Rattle.fuelling_point.specs.Step.{after}
 use Rattle.fuelling_point.specs.History.{facts_after, facts_at_end, point_after}
 use Rattle.fuelling_point.specs.Laws.{StaysWhole, IsConserved}
 
@@ -34,6 +36,12 @@ keeps event f w =
 
 pub stays_whole : StaysWhole
 stays_whole = record { begins = begins; keeps = keeps }
+
+-- the same of an event that is accepted
+pub whole_accepted : (event : PointEvent) (f : Facts) → IsWhole f → refusal_of event f ≡ None → IsWhole (after event f)
+whole_accepted event f w taken =
+    let leads : facts_after event f ≡ after event f = rw taken refl in
+    subst IsWhole leads (keeps event f w)
 
 whole_at_end : (f : Facts) (events : List PointEvent) → IsWhole f → IsWhole (facts_at_end f events)
 whole_at_end f [] w = w
