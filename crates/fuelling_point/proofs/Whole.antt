@@ -1,14 +1,15 @@
 -- A point stays whole, and what flows isn't lost.
-use Rattle.std.proofs.Common.{◌≡◌, List, [], ◌∷◌, None, refl, subst, arith}
+use Rattle.std.proofs.Common.{◌≡◌, ℕ, ◌≤◌, List, [], ◌∷◌, Option, None, Ok, refl, subst, arith}
 use Rattle.std.proofs.lemmas.Grind.{common_steps}
 use Rattle.site_base.specs.declared.state.PointState.TheVariants.{Closed}
 use Rattle.fuelling_point.specs.declared.event.PointEvent.{PointEvent}
+use Rattle.fuelling_point.specs.declared.step.PointStep.TheVariants.{Sold}
 use Rattle.fuelling_point.specs.Kept.{Facts, fresh}
 use Rattle.fuelling_point.specs.Whole.{IsWhole}
 use Rattle.fuelling_point.specs.Checks.{refusal_of}
 use Rattle.fuelling_point.specs.Step.{after}
-use Rattle.fuelling_point.specs.History.{facts_after, facts_at_end, point_after}
-use Rattle.fuelling_point.specs.Laws.{StaysWhole, IsConserved}
+use Rattle.fuelling_point.specs.History.{reply_to, facts_after, facts_at_end, point_after}
+use Rattle.fuelling_point.specs.Laws.{StaysWhole, IsConserved, IsNeverNothing}
 
 begins : IsWhole (fresh Closed)
 begins = record { nozzle = refl; nothing = λ state. refl; something = λ state. cc; ending = λ state. refl; price = λ state. refl; start = λ state. refl; preset = λ state. refl; prepaid = λ state. refl }
@@ -54,3 +55,13 @@ pub conserved : IsConserved
 conserved event f w taken still =
     let nothing = w.nothing in
     grind (arith, common_steps)
+
+-- what a whole point sells isn't nothing
+pub sold_something : (event : PointEvent) (f : Facts) (nozzle volume price : ℕ) (prepaid : Option ℕ) → IsWhole f
+    → reply_to event f ≡ Ok (Sold nozzle volume price prepaid) → 1 ≤ volume
+sold_something event f nozzle volume price prepaid w told =
+    let something = w.something in
+    grind (arith, common_steps)
+
+pub never_nothing : IsNeverNothing
+never_nothing events event nozzle volume price prepaid told = sold_something event (point_after events) nozzle volume price prepaid (whole_after events) told

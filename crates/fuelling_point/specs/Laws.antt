@@ -1,5 +1,5 @@
 -- The laws of a fuelling point: what holds whatever events a new point has had, refused ones among them.
-use Rattle.std.specs.Prelude.{◌≡◌, ℕ, ◌+◌, Bool, true, false, ◌&&◌, List, ◌∷◌, ◌++◌, sum_by, Option, Some, None, is_ok, Result, Ok}
+use Rattle.std.specs.Prelude.{◌≡◌, ℕ, ◌+◌, ◌≤◌, Bool, true, false, ◌&&◌, List, ◌∷◌, ◌++◌, sum_by, Option, Some, None, is_ok, Result, Ok}
 use Rattle.std.specs.List.{list_any}
 use Rattle.site_base.specs.declared.refusal.Refusal.{Refusal}
 use Rattle.site_base.specs.declared.state.PointState.{PointState}
@@ -114,3 +114,8 @@ pub record IsTheLifted : Type 0 where
   pub out : (events : List PointEvent) (nozzle : ℕ) → (point_after events).out ≡ Some nozzle → HasLifted (moments_of events) nozzle
   pub sold : (events : List PointEvent) (event : PointEvent) (nozzle volume price : ℕ) (prepaid : Option ℕ)
       → reply_to event (point_after events) ≡ Ok (Sold nozzle volume price prepaid) → HasLifted (moments_of events) nozzle
+
+-- a sale is never of nothing
+abbrev pub IsNeverNothing : Type 0
+IsNeverNothing = (events : List PointEvent) (event : PointEvent) (nozzle volume price : ℕ) (prepaid : Option ℕ)
+    → reply_to event (point_after events) ≡ Ok (Sold nozzle volume price prepaid) → 1 ≤ volume

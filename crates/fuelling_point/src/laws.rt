@@ -1,7 +1,7 @@
 //! What holds whatever events a new point has had, refused ones among them. These laws have no code:
 //! each is proved of the definitions that `Point`'s contracts cite.
 
-ghost use Rattle.fuelling_point.specs.Laws.{StaysWhole, IsConserved, IsSoldAtEnd, StaysSuspended, IsKeptFromStart, IsSoldAsStarted, IsTheLifted};
+ghost use Rattle.fuelling_point.specs.Laws.{StaysWhole, IsConserved, IsSoldAtEnd, StaysSuspended, IsKeptFromStart, IsSoldAsStarted, IsTheLifted, IsNeverNothing};
 
 /// A new point is whole, and an event, accepted or refused, leaves a whole point whole: a nozzle is kept
 /// just where one is out, something has flowed just where the state says so, only a suspended fuelling is
@@ -41,4 +41,9 @@ pub fn sold_as_started()
 /// The nozzle that is out, and that of a sale, is the one that was lifted; since then it wasn't put back.
 pub fn sold_by_the_lifted_nozzle()
     ensures { IsTheLifted }
+{}
+
+/// A sale is never of nothing: its volume is a millilitre at least.
+pub fn nothing_is_never_sold()
+    ensures { IsNeverNothing }
 {}
