@@ -5,7 +5,8 @@ use Rattle.fuelling_point.specs.declared.event.PointEvent.{PointEvent}
 use Rattle.fuelling_point.specs.declared.step.PointStep.TheVariants.{Sold, Ending}
 use Rattle.fuelling_point.specs.Kept.{Facts, is_under_way, growth_of}
 use Rattle.fuelling_point.specs.History.{reply_to, facts_after}
-use Rattle.fuelling_point.specs.Laws.{ends, flowed_in, handed_in, is_suspended}
+use Rattle.fuelling_point.specs.Whole.{is_suspended}
+use Rattle.fuelling_point.specs.Laws.{ends, flowed_in, handed_in}
 
 pub not_ended : (e : PointEvent) (f : Facts) → is_under_way (facts_after e f).state ≡ true → is_under_way f.state ≡ true → ends (record { before = f; event = e }) ≡ false
 not_ended e f after before = grind (arith, common_steps)

@@ -1,3 +1,7 @@
 pub mod Events
+pub mod Whole
+pub mod Hands
+pub mod Growths
 pub mod Starts
+pub mod Lifted
 pub mod Suspension

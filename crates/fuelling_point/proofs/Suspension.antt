@@ -5,7 +5,8 @@ use Rattle.fuelling_point.specs.declared.event.PointEvent.{PointEvent}
 use Rattle.fuelling_point.specs.declared.step.PointStep.TheVariants.{Ending}
 use Rattle.fuelling_point.specs.Kept.{Facts}
 use Rattle.fuelling_point.specs.History.{Moment, history, facts_at_end, facts_after}
-use Rattle.fuelling_point.specs.Laws.{ends, is_suspended, reply_at}
+use Rattle.fuelling_point.specs.Whole.{is_suspended}
+use Rattle.fuelling_point.specs.Laws.{ends, reply_at}
 use Rattle.fuelling_point.proofs.Events.{suspended_when_terminated, ending_when_terminated, suspended_kept, ending_kept}
 
 -- the point is suspended, and its fuelling ending

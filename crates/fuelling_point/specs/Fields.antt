@@ -1,10 +1,12 @@
 -- The fields of a point: what they say of its delivery, and what is true of them.
-use Rattle.std.specs.Prelude.{◌≡◌, ℕ, ◌≤◌, Option, Some, None, is_some}
+use Rattle.std.specs.Prelude.{◌≡◌, ℕ, ◌≤◌, Bool, Option, Some, None, is_some}
 use Rattle.site_base.specs.declared.limits.TheConstants.{GREATEST_READING}
 use Rattle.site_base.specs.declared.state.PointState.{PointState}
 use Rattle.site_base.specs.declared.state.PointState.TheVariants.{Started, SuspendedStarted, Fuelling, SuspendedFuelling}
+use Rattle.site_base.specs.declared.state.Preset.{Preset}
 use Rattle.fuelling_point.specs.declared.delivery.Delivery.{Delivery}
-use Rattle.fuelling_point.specs.Kept.{is_under_way, has_nozzle_out}
+use Rattle.fuelling_point.specs.Kept.{Facts, is_under_way}
+use Rattle.fuelling_point.specs.Whole.{IsWhole}
 
 abbrev pub price_in : Option Delivery → ℕ
 price_in None = 0
@@ -18,9 +20,13 @@ abbrev pub volume_in : Option Delivery → ℕ
 volume_in None = 0
 volume_in (Some delivery) = delivery.volume
 
--- a nozzle is kept where one is out, a delivery where a fuelling is under way, and its volume is in range
-pub record AreWhole (state : PointState) (out : Option ℕ) (delivery : Option Delivery) : Type 0 where
-  pub nozzle : is_some out ≡ has_nozzle_out state
+-- what the fields of a point stand for
+abbrev pub facts_of : PointState → Option ℕ → Bool → Preset → Option ℕ → Option Delivery → Facts
+facts_of state out ending preset prepaid delivery = record { state = state; out = out; ending = ending; preset = preset; prepaid = prepaid; price = price_in delivery; start = start_in delivery; volume = volume_in delivery }
+
+-- the point is whole; a delivery is kept where a fuelling is under way, and its volume is in range
+pub record AreWhole (state : PointState) (out : Option ℕ) (ending : Bool) (preset : Preset) (prepaid : Option ℕ) (delivery : Option Delivery) : Type 0 where
+  pub whole : IsWhole (facts_of state out ending preset prepaid delivery)
   pub under_way : is_some delivery ≡ is_under_way state
   pub in_range : volume_in delivery ≤ GREATEST_READING
 

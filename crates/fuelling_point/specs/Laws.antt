@@ -1,5 +1,5 @@
 -- The laws of a fuelling point: what holds whatever events a new point has had, refused ones among them.
-use Rattle.std.specs.Prelude.{◌≡◌, ℕ, ◌+◌, Bool, true, false, ◌&&◌, List, ◌∷◌, ◌++◌, sum_by, Option, Some, None, is_ok, Result, Ok}
+use Rattle.std.specs.Prelude.{◌≡◌, ℕ, ◌+◌, ◌≤◌, Bool, true, false, ◌&&◌, List, ◌∷◌, ◌++◌, sum_by, Option, Some, None, is_ok, Result, Ok}
 use Rattle.std.specs.List.{list_any}
 use Rattle.site_base.specs.declared.refusal.Refusal.{Refusal}
 use Rattle.site_base.specs.declared.state.PointState.{PointState}
@@ -8,8 +8,11 @@ use Rattle.fuelling_point.specs.declared.event.PointEvent.{PointEvent}
 use Rattle.fuelling_point.specs.declared.event.PointEvent.TheVariants.{Offline, Lift, Release, HangUp}
 use Rattle.fuelling_point.specs.declared.step.PointStep.{PointStep}
 use Rattle.fuelling_point.specs.declared.step.PointStep.TheVariants.{Flowed, Sold, Ending}
-use Rattle.fuelling_point.specs.Kept.{is_under_way, growth_of}
-use Rattle.fuelling_point.specs.History.{Moment, reply_to, moments_of, point_after}
+use Rattle.fuelling_point.specs.Kept.{Facts, fresh, is_under_way, volume_of, growth_of}
+use Rattle.fuelling_point.specs.Whole.{IsWhole, is_suspended}
+use Rattle.fuelling_point.specs.Checks.{refusal_of}
+use Rattle.fuelling_point.specs.Step.{step_of, after}
+use Rattle.fuelling_point.specs.History.{Moment, reply_to, facts_after, moments_of, point_after}
 
 -- what ends a fuelling: a hang up or an offline
 abbrev pub is_end : PointEvent → Bool
@@ -21,16 +24,22 @@ abbrev pub is_sold : Result PointStep Refusal → Bool
 is_sold (Ok (Sold nozzle volume price prepaid)) = true
 is_sold reply = false
 
-abbrev pub is_suspended : PointState → Bool
-is_suspended states.SuspendedStarted = true
-is_suspended states.SuspendedFuelling = true
-is_suspended state = false
+-- the millilitres that a sale tells; of another step, none
+abbrev pub sold_in : PointStep → ℕ
+sold_in (Sold nozzle volume price prepaid) = volume
+sold_in step = 0
 
 -- the price and the reading handed in where the event starts a fuelling
 abbrev pub handed_in : PointEvent → PointState → Option (ℕ × ℕ)
 handed_in (Lift nozzle last price) states.Authorised = Some (price, last)
 handed_in (Release preset prepaid last price) states.Calling = Some (price, last)
 handed_in event state = None
+
+-- the nozzle that the event takes out
+abbrev pub lifted_by : PointEvent → PointState → Option ℕ
+lifted_by (Lift nozzle last price) states.Idle = Some nozzle
+lifted_by (Lift nozzle last price) states.Authorised = Some nozzle
+lifted_by event state = None
 
 -- the growth that a reply takes into the fuelling
 abbrev pub flowed_in : Result PointStep Refusal → ℕ
@@ -55,6 +64,27 @@ pub record HasStarted (moments : List Moment) (price start volume : ℕ) : Type 
   pub goes_on : list_any ends since ≡ false
   pub flowed : volume ≡ sum_by (λ m. flowed_in (reply_at m)) since
 
+-- A nozzle that is out at the end of these moments: in one of them it was lifted, and in none since was it
+-- put back or the point lost.
+pub record HasLifted (moments : List Moment) (nozzle : ℕ) : Type 0 where
+  pub before : List Moment
+  pub lift : Moment
+  pub since : List Moment
+  pub parts : moments ≡ before ++ lift ∷ since
+  pub taken : lifted_by lift.event lift.before.state ≡ Some nozzle
+  pub stays_out : list_any ends since ≡ false
+
+-- a new point is whole, and an event leaves a whole point whole
+pub record StaysWhole : Type 0 where
+  pub begins : IsWhole (fresh states.Closed)
+  pub keeps : (event : PointEvent) (f : Facts) → IsWhole f → IsWhole (facts_after event f)
+
+-- what has flowed in the fuelling so far and what an accepted event hands in is in the fuelling afterwards or
+-- in the sale that it tells; where the point only calls, no growth is handed in
+abbrev pub IsConserved : Type 0
+IsConserved = (event : PointEvent) (f : Facts) → IsWhole f → refusal_of event f ≡ None → (f.state ≡ states.Calling → growth_of event ≡ 0)
+    → volume_of f + growth_of event ≡ volume_of (after event f) + sold_in (step_of event f)
+
 -- a sale is the answer to a hang up or an offline alone
 abbrev pub IsSoldAtEnd : Type 0
 IsSoldAtEnd = (events : List PointEvent) (event : PointEvent) → is_sold (reply_to event (point_after events)) ≡ true → is_end event ≡ true
@@ -78,3 +108,14 @@ abbrev pub IsSoldAsStarted : Type 0
 IsSoldAsStarted = (events : List PointEvent) (event : PointEvent) (nozzle volume price : ℕ) (prepaid : Option ℕ)
     → reply_to event (point_after events) ≡ Ok (Sold nozzle volume price prepaid)
     → (start : ℕ) × ((flowed : ℕ) × (HasStarted (moments_of events) price start flowed × (volume ≡ flowed + growth_of event)))
+
+-- a nozzle that is out, and that of a sale, is the one that was lifted and hasn't been put back since
+pub record IsTheLifted : Type 0 where
+  pub out : (events : List PointEvent) (nozzle : ℕ) → (point_after events).out ≡ Some nozzle → HasLifted (moments_of events) nozzle
+  pub sold : (events : List PointEvent) (event : PointEvent) (nozzle volume price : ℕ) (prepaid : Option ℕ)
+      → reply_to event (point_after events) ≡ Ok (Sold nozzle volume price prepaid) → HasLifted (moments_of events) nozzle
+
+-- a sale is never of nothing
+abbrev pub IsNeverNothing : Type 0
+IsNeverNothing = (events : List PointEvent) (event : PointEvent) (nozzle volume price : ℕ) (prepaid : Option ℕ)
+    → reply_to event (point_after events) ≡ Ok (Sold nozzle volume price prepaid) → 1 ≤ volume

@@ -1,5 +1,6 @@
 pub mod Table
 pub mod Kept
+pub mod Whole
 pub mod Checks
 pub mod Step
 pub mod Fields

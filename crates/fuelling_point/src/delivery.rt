@@ -1,6 +1,7 @@
 //! What a fuelling under way keeps.
 
-ghost use Rattle.std.specs.Prelude.{◌≡◌};
+ghost use Rattle.std.specs.Prelude.{◌≡◌, ◌+◌, ◌≤◌};
+ghost use Rattle.site_base.specs.declared.limits.TheConstants.{GREATEST_READING};
 
 use site_base::{Millilitres, Mills};
 
@@ -24,6 +25,17 @@ impl Delivery {
             price,
             start,
             volume: 0,
+        }
+    }
+
+    /// The delivery once so much more has flowed.
+    pub fn after(self, growth: u64) -> Self
+        requires fits { self.volume + growth ≤ GREATEST_READING }
+        ensures { result ≡ record self { volume = self.volume + growth } }
+    {
+        Delivery {
+            volume: self.volume + growth,
+            ..self
         }
     }
 }

@@ -13,6 +13,9 @@ mod table;
 mod tests;
 
 pub use event::PointEvent;
-pub use laws::{kept_from_the_start, sold_as_started, sold_at_the_end, terminated_stays_suspended};
+pub use laws::{
+    kept_from_the_start, nothing_is_never_sold, sold_as_started, sold_at_the_end,
+    sold_by_the_lifted_nozzle, stays_whole, terminated_stays_suspended, volume_is_conserved,
+};
 pub use point::Point;
 pub use step::PointStep;

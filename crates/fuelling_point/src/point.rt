@@ -5,6 +5,7 @@ ghost use Rattle.site_base.specs.declared.limits.TheConstants.{GREATEST_READING}
 ghost use Rattle.site_base.specs.declared.state.PointState.TheVariants.{Closed, Started};
 ghost use Rattle.fuelling_point.specs.Table.{is_listed};
 ghost use Rattle.fuelling_point.specs.Kept.{fresh, point_view, FitsGrowth, is_under_way, has_nozzle_out, volume_of};
+ghost use Rattle.fuelling_point.specs.Whole.{IsWhole};
 ghost use Rattle.fuelling_point.specs.Fields.{suspended, flowing};
 ghost use Rattle.fuelling_point.specs.Checks.{refusal_of, is_out};
 ghost use Rattle.fuelling_point.specs.Step.{step_of, after};
@@ -32,19 +33,20 @@ pub struct Point {
 
 impl Model for Point {
     ghost use Rattle.fuelling_point.specs.Kept.{Facts};
-    ghost use Rattle.fuelling_point.specs.Fields.{price_in, start_in, volume_in, AreWhole};
+    ghost use Rattle.fuelling_point.specs.Fields.{facts_of, AreWhole};
 
     ghost Value = { Facts };
 
-    ghost view = { λ p. record { state = p.state; out = p.out; ending = p.ending; preset = p.preset; prepaid = p.prepaid; price = price_in p.delivery; start = start_in p.delivery; volume = volume_in p.delivery } };
+    ghost view = { λ p. facts_of p.state p.out p.ending p.preset p.prepaid p.delivery };
 
-    ghost invariant = { λ p. AreWhole p.state p.out p.delivery };
+    ghost invariant = { λ p. AreWhole p.state p.out p.ending p.preset p.prepaid p.delivery };
 }
 
 impl Point {
     /// A closed point that keeps nothing.
     pub fn new() -> Self
-        ensures { result ≡ fresh Closed }
+        ensures closed { result ≡ fresh Closed }
+        ensures whole { IsWhole result }
     {
         Point {
             state: PointState::Closed,
@@ -59,7 +61,8 @@ impl Point {
     /// The point as a read shows it; its holder isn't known here. Price and volume are 0 unless a
     /// fuelling is under way: started, fuelling, or either of them suspended.
     pub fn view(&self) -> PointView
-        ensures { result ≡ point_view self.now None }
+        ensures view { result ≡ point_view self.now None }
+        ensures whole { IsWhole self.now }
     {
         let (price, volume) = match self.delivery {
             Some(delivery) => (delivery.price.get(), delivery.volume),
@@ -85,6 +88,7 @@ impl Point {
     pub fn judge(&self, event: &PointEvent) -> Result<(), Refusal>
         ensures accepted { OnOk result (refusal_of event.now self.now ≡ None) }
         ensures refused { IfErr result (λ refusal. refusal_of event.now self.now ≡ Some refusal) }
+        ensures whole { IsWhole self.now }
     {
         if !is_listed(event, self.state) {
             return Err(Refusal::WrongState(self.state));
@@ -234,7 +238,7 @@ impl Point {
     }
 
     fn resume(&mut self) -> PointStep
-        requires { is_listed PointEvent.Resume self.old.state ≡ true }
+        requires { refusal_of PointEvent.Resume self.old ≡ None }
         ensures step { result ≡ step_of PointEvent.Resume self.old }
         ensures facts { self.new ≡ after PointEvent.Resume self.old }
     {
@@ -265,7 +269,9 @@ impl Point {
         ensures step { (nozzle : ℕ) → result ≡ step_of (PointEvent.Flow nozzle growth) self.old }
         ensures facts { (nozzle : ℕ) → self.new ≡ after (PointEvent.Flow nozzle growth) self.old }
     {
-        self.pump(growth);
+        if let Some(delivery) = self.delivery {
+            self.delivery = Some(delivery.after(growth));
+        }
         if growth > 0 {
             self.state = flowing(self.state);
         }
@@ -286,20 +292,6 @@ impl Point {
         };
         self.forget_in(PointState::Idle);
         step
-    }
-
-    /// Adds what has flowed.
-    fn pump(&mut self, growth: u64)
-        requires under_way { is_under_way self.old.state ≡ true }
-        requires fits { self.old.volume + growth ≤ GREATEST_READING }
-        ensures { self.new ≡ record self.old { volume = self.old.volume + growth } }
-    {
-        if let Some(delivery) = self.delivery {
-            self.delivery = Some(Delivery {
-                volume: delivery.volume + growth,
-                ..delivery
-            });
-        }
     }
 
     /// The sale of the fuelling, with what has flowed last.

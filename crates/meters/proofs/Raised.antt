@@ -2,9 +2,9 @@
 use Rattle.std.proofs.Common.{◌≡◌, ℕ, Bool, true, false, ◌+◌, ◌-◌, ◌≤◌, List, [], ◌∷◌, ◌++◌, Option, Some, refl, sym, ap, subst, ◌∙◌, arith, ◌==◌, cond, unwrap_or, if◌then◌else◌}
 use Rattle.site_base.specs.declared.config.NozzleEntry.{NozzleEntry}
 use Rattle.site_base.specs.Configured.{ConfiguredPoint}
-use Rattle.meters.specs.Nozzles.{Nozzle, is_nozzle, numbered, nozzles_of_point, nozzles_of_points, last_of, with_last, product_total}
+use Rattle.meters.specs.Nozzles.{Nozzle, is_nozzle, numbered, nozzles_of_point, nozzles_of_points, product_of, last_of, with_last, product_total}
 use Rattle.meters.specs.Reports.{growth_of}
-use Rattle.meters.specs.Laws.{NoneBelowOpening, product_of, GrowthRaisesOneTotal, NeverBelowOpening}
+use Rattle.meters.specs.Laws.{NoneBelowOpening, GrowthRaisesOneTotal, NeverBelowOpening}
 
 raised : (b : Bool) (opening last reading rest : ℕ) → opening ≤ last → last ≤ reading
     → cond b (reading - opening) 0 + rest ≡ (cond b (last - opening) 0 + rest) + cond b (reading - last) 0

@@ -1,18 +1,13 @@
 -- What holds of the nozzles' meters by their definitions.
-use Rattle.std.specs.Prelude.{◌≡◌, ℕ, ◌+◌, ◌≤◌, List, [], ◌∷◌, Option, Some, None, ◌==◌, if◌then◌else◌}
+use Rattle.std.specs.Prelude.{◌≡◌, ℕ, ◌+◌, ◌≤◌, List, [], ◌∷◌, Some, ◌==◌, if◌then◌else◌}
 use Rattle.site_base.specs.Configured.{Configured}
-use Rattle.meters.specs.Nozzles.{Nozzle, is_nozzle, opening_nozzles, last_of, with_last, product_total}
+use Rattle.meters.specs.Nozzles.{Nozzle, opening_nozzles, product_of, last_of, with_last, product_total}
 use Rattle.meters.specs.Reports.{growth_of}
 
 -- no last reading is below its opening one
 abbrev pub NoneBelowOpening : List Nozzle → Type 0
 NoneBelowOpening [] = Unit {0}
 NoneBelowOpening (x ∷ xs) = (x.opening ≤ x.last) × NoneBelowOpening xs
-
--- the product of nozzle n of point p, if there is such a nozzle
-abbrev pub product_of : ℕ → ℕ → List Nozzle → Option ℕ
-product_of p n [] = None
-product_of p n (x ∷ xs) = if is_nozzle p n x then Some x.product else product_of p n xs
 
 -- a reading that isn't below the last one raises the total of the nozzle's product by the growth, and no other total
 abbrev pub GrowthRaisesOneTotal : Type 0

@@ -37,6 +37,11 @@ nozzles_of_points (c ∷ cs) = nozzles_of_point c ++ nozzles_of_points cs
 abbrev pub opening_nozzles : Configured → List Nozzle
 opening_nozzles c = nozzles_of_points c.points
 
+-- the product of nozzle n of point p, if there is such a nozzle
+abbrev pub product_of : ℕ → ℕ → List Nozzle → Option ℕ
+product_of p n [] = None
+product_of p n (x ∷ xs) = if is_nozzle p n x then Some x.product else product_of p n xs
+
 -- the last reading of nozzle n of point p, if there is such a nozzle
 abbrev pub last_of : ℕ → ℕ → List Nozzle → Option ℕ
 last_of p n [] = None

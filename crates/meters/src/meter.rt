@@ -51,6 +51,13 @@ impl Meter {
         self.point.get() == p.get() && self.nozzle.get() == n.get()
     }
 
+    /// The product that the nozzle delivers.
+    pub fn product(&self) -> ProductNo
+        ensures { result ≡ self.now.product }
+    {
+        self.product
+    }
+
     /// Does the nozzle deliver this product?
     pub fn delivers(&self, q: ProductNo) -> bool
         ensures { result ≡ (self.now.product == q) }

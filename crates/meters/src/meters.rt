@@ -3,7 +3,7 @@
 ghost use Rattle.std.specs.Prelude.{◌≡◌, ◌≤◌, ◌+◌, ◌*◌, ◌++◌, true, None, Some, OnOk, IfOk, IfErr, length};
 ghost use Rattle.site_base.specs.declared.limits.TheConstants.{GREATEST_READING, NOZZLES, POINTS};
 ghost use Rattle.meters.specs.declared.report.Report.TheVariants.{Growing};
-ghost use Rattle.meters.specs.Nozzles.{opening_nozzles, nozzles_of_point, last_of, has_nozzle, reading_of, with_last, product_total};
+ghost use Rattle.meters.specs.Nozzles.{opening_nozzles, nozzles_of_point, product_of, last_of, has_nozzle, reading_of, with_last, product_total};
 ghost use Rattle.meters.specs.Reports.{growth_of, report_refusal};
 
 use crate::meter::Meter;
@@ -43,6 +43,19 @@ impl Meters {
             add_point(&mut meters, entry)?;
         }
         Ok(Meters { meters })
+    }
+
+    /// The product of nozzle n of point p. None where there is no such nozzle.
+    pub fn product(&self, p: FpNo, n: NozzleNo) -> Option<ProductNo>
+        ensures { result ≡ product_of p n self.now }
+    {
+        match place_of(&self.meters, p, n) {
+            Some(place) => {
+                let meter = &self.meters[place];
+                Some(meter.product())
+            }
+            None => None,
+        }
     }
 
     /// The last reading of nozzle n of point p. None where there is no such nozzle.

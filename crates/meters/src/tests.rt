@@ -182,6 +182,10 @@ fn nozzles_and_totals(rt: HostRuntime) -> Result<(), Fail> {
     assert_eq!(rt; meters.product_total(diesel), 740);
     assert_eq!(rt; meters.product_total(petrol), 5);
     assert_eq!(rt; meters.product_total(absent), 0);
+    assert_eq!(rt; meters.product(two, first), Some(diesel));
+    assert_eq!(rt; meters.product(three, second), Some(petrol));
+    assert_eq!(rt; meters.product(two, nozzle(3)?), None);
+    assert_eq!(rt; meters.product(point(1)?, first), None);
     assert_eq!(rt; meters.last(two, second), Some(reading(1000)?));
     assert_eq!(rt; meters.last(two, nozzle(3)?), None);
     assert_eq!(rt; meters.last(point(1)?, first), None);
