@@ -4,7 +4,8 @@ use Rattle.std.specs.List.{slice_get}
 use Rattle.std.proofs.lemmas.Bool.Decides.{nat_tests}
 use Rattle.std.proofs.lemmas.Option.{unwrap_or-slice_get}
 use Rattle.shift_ledger.specs.declared.row.ShiftRow.{ShiftRow}
-use Rattle.shift_ledger.specs.Figures.{numbered, till_figures, product_figure, FitsClear}
+use Rattle.site_base.specs.Numbered.{numbered}
+use Rattle.shift_ledger.specs.Figures.{till_figures, product_figure, FitsClear}
 use Rattle.shift_ledger.specs.Shifts.{Shifts, figures_of}
 
 at_end : (xs : List ShiftRow) (y : ShiftRow) → slice_get (xs ++ y ∷ []) (length xs) ≡ Some y

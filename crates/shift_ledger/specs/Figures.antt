@@ -1,16 +1,9 @@
 -- The figures of one shift.
-use Rattle.std.specs.Prelude.{ℕ, ◌+◌, ◌-◌, ◌^◌, ◌<◌, List, Option, None, unwrap_or, ◌==◌, if◌then◌else◌, replicate, slice_get, slice_set}
+use Rattle.std.specs.Prelude.{ℕ, ◌+◌, ◌^◌, ◌<◌, unwrap_or, replicate}
 use Rattle.site_base.specs.declared.limits.TheConstants.{TILL_CELLS}
+use Rattle.site_base.specs.Numbered.{numbered, with_numbered}
 use Rattle.shift_ledger.specs.declared.row.TheConstants.{PRODUCT_CELLS}
 use Rattle.shift_ledger.specs.declared.row.ShiftRow.{ShiftRow}
-
--- the member with this number, the first one having 1
-abbrev pub numbered : {A : Type 0} → ℕ → List A → Option A
-numbered n xs = if n == 0 then None else slice_get xs (n - 1)
-
--- the list, with y as the member with this number
-abbrev pub with_numbered : {A : Type 0} → ℕ → A → List A → List A
-with_numbered n y xs = if n == 0 then xs else slice_set xs (n - 1) y
 
 -- the clears of a till and their cents
 abbrev pub till_figures : ℕ → ShiftRow → ℕ × ℕ

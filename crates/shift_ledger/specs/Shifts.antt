@@ -2,7 +2,8 @@
 use Rattle.std.specs.Prelude.{ℕ, ◌+◌, List, [], ◌∷◌, ◌++◌, length, Option, Bool, ◌==◌}
 use Rattle.site_base.specs.declared.limits.TheConstants.{GREATEST_SHIFT}
 use Rattle.shift_ledger.specs.declared.row.ShiftRow.{ShiftRow}
-use Rattle.shift_ledger.specs.Figures.{numbered, no_clears, with_clear}
+use Rattle.site_base.specs.Numbered.{numbered}
+use Rattle.shift_ledger.specs.Figures.{no_clears, with_clear}
 
 -- the figures of the closed shifts in their order, and those of the open one
 pub record Shifts : Type 0 where
