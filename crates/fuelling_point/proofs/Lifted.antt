@@ -1,13 +1,16 @@
 -- The nozzle that is out.
-use Rattle.std.proofs.Common.{◌≡◌, ℕ, Bool, true, false, List, [], ◌∷◌, ◌⊎◌, inl, inr, Option, Some, Ok, refl, sym, ap, ◌∙◌, arith}
+use Rattle.std.proofs.Common.{◌≡◌, ℕ, Bool, true, false, List, [], ◌∷◌, ◌⊎◌, inl, inr, Option, Some, None, Ok, refl, sym, ap, ◌∙◌, arith}
 use Rattle.std.specs.Prelude.{is_some}
 use Rattle.std.specs.List.{list_any}
 use Rattle.std.proofs.lemmas.Bool.{false≢true}
 use Rattle.std.proofs.lemmas.Grind.{common_steps}
 use Rattle.site_base.specs.declared.state.PointState.TheVariants.{Closed}
 use Rattle.fuelling_point.specs.declared.event.PointEvent.{PointEvent}
+use Rattle.fuelling_point.specs.declared.event.PointEvent.TheVariants.{Flow, HangUp}
 use Rattle.fuelling_point.specs.declared.step.PointStep.TheVariants.{Sold}
 use Rattle.fuelling_point.specs.Kept.{Facts, fresh, has_nozzle_out}
+use Rattle.fuelling_point.specs.Whole.{IsWhole}
+use Rattle.fuelling_point.specs.Checks.{refusal_of}
 use Rattle.fuelling_point.specs.History.{Moment, history, facts_at_end, facts_after, reply_to, moments_of, point_after}
 use Rattle.fuelling_point.specs.Laws.{ends, lifted_by, HasLifted, IsTheLifted}
 use Rattle.fuelling_point.proofs.Whole.{whole_after}
@@ -21,9 +24,22 @@ out_kept e f after before = grind (arith, common_steps)
 lifted : (e : PointEvent) (f : Facts) → has_nozzle_out (facts_after e f).state ≡ true → has_nozzle_out f.state ≡ false → lifted_by e f.state ≡ (facts_after e f).out
 lifted e f after before = grind (arith, common_steps)
 
-pub sold_nozzle : (e : PointEvent) (f : Facts) (nozzle volume price : ℕ) (prepaid : Option ℕ) → is_some f.out ≡ has_nozzle_out f.state
+pub sold_nozzle : (e : PointEvent) (f : Facts) (nozzle volume price : ℕ) (prepaid : Option ℕ) → IsWhole f
     → reply_to e f ≡ Ok (Sold nozzle volume price prepaid) → f.out ≡ Some nozzle
-sold_nozzle e f nozzle volume price prepaid whole is = grind (arith, common_steps)
+sold_nozzle e f nozzle volume price prepaid w is =
+    let whole = w.nozzle in
+    grind (arith, common_steps)
+
+-- a report that is accepted is of the nozzle that is out
+pub flow_nozzle : (nozzle growth : ℕ) (f : Facts) → IsWhole f → refusal_of (Flow nozzle growth) f ≡ None → f.out ≡ Some nozzle
+flow_nozzle nozzle growth f w taken =
+    let whole = w.nozzle in
+    grind (arith, common_steps)
+
+pub hang_up_nozzle : (nozzle growth : ℕ) (f : Facts) → IsWhole f → refusal_of (HangUp nozzle growth) f ≡ None → f.out ≡ Some nozzle
+hang_up_nozzle nozzle growth f w taken =
+    let whole = w.nozzle in
+    grind (arith, common_steps)
 
 -- this nozzle is out at f, and at no moment since was it put back
 pub record StaysOut (f : Facts) (moments : List Moment) (nozzle : ℕ) : Type 0 where
@@ -80,5 +96,5 @@ out events nozzle is =
 pub the_lifted : IsTheLifted
 the_lifted = record {
   out = out;
-  sold = λ events event nozzle volume price prepaid is. out events nozzle (sold_nozzle event (point_after events) nozzle volume price prepaid (whole_after events).nozzle is);
+  sold = λ events event nozzle volume price prepaid is. out events nozzle (sold_nozzle event (point_after events) nozzle volume price prepaid (whole_after events) is);
 }

@@ -21,6 +21,10 @@ use std::marker::Model;
 /// kept until it is put back, a preset and a prepayment from the release on, the price and the start
 /// reading from the start of the fuelling on, its volume as it is reported. All of it is forgotten on
 /// the way to inoperative and to idle.
+///
+/// So a nozzle is kept just where one is out, there is a volume just where fuel has flowed, only a
+/// suspended fuelling is ending, and nothing is kept of a release or a fuelling where there is none.
+/// That is true of every point; `view` and `judge` say so.
 #[derive(Drop)]
 pub struct Point {
     state: PointState,
