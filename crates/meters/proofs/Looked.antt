@@ -1,6 +1,5 @@
 -- What is looked up of a nozzle once a reading was taken: the readings move, nozzles and products stay.
-use Rattle.std.proofs.Common.{◌≡◌, ℕ, true, false, Bool, List, [], ◌∷◌, Option, Some, None, ◌&&◌, ◌==◌, cond, arith, refl, sym, ◌∙◌}
-use Rattle.std.specs.Prelude.{is_some}
+use Rattle.std.proofs.Common.{◌≡◌, ℕ, true, false, Bool, List, [], ◌∷◌, Some, ◌&&◌, ◌==◌, arith, refl, sym, ◌∙◌}
 use Rattle.std.proofs.lemmas.Bool.{false≢true}
 use Rattle.std.proofs.lemmas.Grind.{common_steps}
 use Rattle.meters.specs.Nozzles.{Nozzle, is_nozzle, product_of, last_of, has_nozzle, with_last}
