@@ -4,6 +4,7 @@ pub mod Checks
 pub mod Configured
 pub mod Counted
 pub mod Devices
+pub mod Events
 pub mod History
 pub mod Numbered
 pub mod Prices

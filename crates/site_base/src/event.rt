@@ -1,5 +1,8 @@
 //! What a till or a dispenser asks of the site.
 
+ghost use Rattle.std.specs.Prelude.{◌≡◌};
+ghost use Rattle.site_base.specs.Events.{point_named, has_change};
+
 use crate::numbers::FpNo;
 
 /// One event of the site: one atomic step of one actor.
@@ -20,4 +23,27 @@ pub enum Event {
     Unassign(FpNo),
     /// Reads a fuelling point; changes nothing.
     ReadPoint(FpNo),
+}
+
+impl Event {
+    /// The fuelling point that the event names, if it names one.
+    pub fn point(&self) -> Option<FpNo>
+        ensures { result ≡ point_named self.now }
+    {
+        match self {
+            Event::SignOn | Event::SignOff => None,
+            Event::Open(p) => Some(*p),
+            Event::Close(p) => Some(*p),
+            Event::Assign(p) => Some(*p),
+            Event::Unassign(p) => Some(*p),
+            Event::ReadPoint(p) => Some(*p),
+        }
+    }
+
+    /// Is the point's dispenser told of the event, once it was accepted?
+    pub fn has_change(&self) -> bool
+        ensures { result ≡ has_change self.now }
+    {
+        matches!(self, Event::Open(_) | Event::Close(_))
+    }
 }

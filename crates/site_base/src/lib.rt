@@ -28,14 +28,14 @@ pub use counted::Counted;
 pub use event::Event;
 pub use limits::{
     GREATEST_CENTS, GREATEST_PRESET, GREATEST_PRICE, GREATEST_READING, GREATEST_ROWS, GREATEST_SEQ,
-    GREATEST_SHIFT, GROWTH_LIMIT, NAME_OCTETS, NOZZLES, POINT_CELLS, POINTS, PRODUCTS, TILL_CELLS,
-    TILLS, UNPAID_LIMIT,
+    GREATEST_SHIFT, GROWTH_LIMIT, NAME_OCTETS, NOZZLES, POINT_CELLS, POINTS, PRODUCT_CELLS,
+    PRODUCTS, TILL_CELLS, TILLS, UNPAID_LIMIT,
 };
 pub use memory::NoMemory;
 pub use numbers::{FpNo, NozzleNo, ProductNo, Seq, TillNo};
 pub use prices::PriceBook;
 pub use refusal::{NoRow, Refusal};
-pub use row::{Placed, Reply, Row, Rows};
+pub use row::{Placed, Reply, Row, Rows, cents_told, growth_told};
 pub use state::{PointState, Preset, Status};
 pub use transfer::{ReadFault, WriteFault, read_piece, write_whole};
 pub use view::{PointView, ProductView, SiteView, TransactionView};

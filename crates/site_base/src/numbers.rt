@@ -1,8 +1,10 @@
 //! The numbers by which the parts of a site are called.
 
-ghost use Rattle.std.specs.Prelude.{◌≡◌, ◌≤◌, ◌↔◌, IsSome, IfSome};
+ghost use Rattle.std.specs.Prelude.{◌≡◌, ◌+◌, ◌<◌, ◌≤◌, ◌↔◌, IsSome, IfSome};
 
-use crate::limits::{GREATEST_SEQ, NOZZLES, POINTS, PRODUCTS, TILLS};
+use crate::limits::{
+    GREATEST_SEQ, NOZZLES, POINT_CELLS, POINTS, PRODUCT_CELLS, PRODUCTS, TILL_CELLS, TILLS,
+};
 use std::marker::Model;
 
 /// The number of a fuelling point, from 1 to `POINTS`.
@@ -43,6 +45,24 @@ impl FpNo {
         ensures range { (1 ≤ result) × (result ≤ POINTS) }
     {
         self.number
+    }
+
+    /// Its cell in an array that has one for each fuelling point, from number 1 on.
+    pub fn cell(self) -> usize
+        ensures place { result + 1 ≡ self }
+        ensures within { result < POINT_CELLS }
+    {
+        usize::from(self.number) - 1
+    }
+
+    /// The fuelling point of a cell.
+    pub fn of_cell(cell: usize) -> Self
+        requires { cell < POINT_CELLS }
+        ensures { result ≡ cell + 1 }
+    {
+        FpNo {
+            number: cell as u8 + 1,
+        }
     }
 }
 
@@ -126,6 +146,24 @@ impl TillNo {
     {
         self.number
     }
+
+    /// Its cell in an array that has one for each till, from number 1 on.
+    pub fn cell(self) -> usize
+        ensures place { result + 1 ≡ self }
+        ensures within { result < TILL_CELLS }
+    {
+        usize::from(self.number) - 1
+    }
+
+    /// The till of a cell.
+    pub fn of_cell(cell: usize) -> Self
+        requires { cell < TILL_CELLS }
+        ensures { result ≡ cell + 1 }
+    {
+        TillNo {
+            number: cell as u8 + 1,
+        }
+    }
 }
 
 /// The number of a product, from 1 to `PRODUCTS`.
@@ -166,6 +204,24 @@ impl ProductNo {
         ensures range { (1 ≤ result) × (result ≤ PRODUCTS) }
     {
         self.number
+    }
+
+    /// Its cell in an array that has one for each product, from number 1 on.
+    pub fn cell(self) -> usize
+        ensures place { result + 1 ≡ self }
+        ensures within { result < PRODUCT_CELLS }
+    {
+        usize::from(self.number) - 1
+    }
+
+    /// The product of a cell.
+    pub fn of_cell(cell: usize) -> Self
+        requires { cell < PRODUCT_CELLS }
+        ensures { result ≡ cell + 1 }
+    {
+        ProductNo {
+            number: cell as u8 + 1,
+        }
     }
 }
 

@@ -1,6 +1,7 @@
 //! The rows of the site's history.
 
 ghost use Rattle.std.specs.Prelude.{◌≡◌, ◌+◌, ◌<◌, ◌≤◌, [], ◌∷◌, ◌++◌, length, slice_get, ◌==◌, OnOk};
+ghost use Rattle.site_base.specs.Events.{growth_told, cents_told};
 
 use crate::actor::Actor;
 use crate::answer::Answer;
@@ -12,6 +13,27 @@ use std::marker::Model;
 
 /// What the site replies to an event: an answer, or why it refuses.
 pub type Reply = Result<Answer, Refusal>;
+
+/// The millilitres that the reply adds to what was metered: the growth of a report that was taken.
+pub fn growth_told(reply: &Reply) -> u64
+    ensures { result ≡ growth_told reply.now }
+{
+    match reply {
+        Ok(Answer::Flowed(growth)) => *growth,
+        Ok(Answer::Sold { seq: _, growth }) => *growth,
+        _ => 0,
+    }
+}
+
+/// The cents that the reply clears.
+pub fn cents_told(reply: &Reply) -> u64
+    ensures { result ≡ cents_told reply.now }
+{
+    match reply {
+        Ok(Answer::Cleared(cents)) => cents.get(),
+        _ => 0,
+    }
+}
 
 /// One row of the history: an event, who caused it, and what the site replied.
 #[derive(Clone, Copy, Debug, PartialEq, Eq)]
