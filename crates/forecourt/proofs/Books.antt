@@ -6,9 +6,9 @@ use Rattle.site_base.specs.declared.event.Event.{Event}
 use Rattle.site_base.specs.declared.refusal.Refusal.{Refusal}
 use Rattle.site_base.specs.declared.row.Row.{Row}
 use Rattle.site_base.specs.Configured.{Configured}
-use Rattle.site_core.specs.State.{SiteState, opening}
-use Rattle.site_core.specs.Step.{Steps, reply_to, site_after}
-use Rattle.site_core.proofs.Histories.{site_of_rows-push, IsLegal-push}
+use Rattle.written_site.specs.SiteState.{SiteState, opening}
+use Rattle.written_site.specs.SiteStep.{Steps, reply_to, site_after}
+use Rattle.written_site.proofs.Histories.{site_of_rows-push, IsLegal-push}
 use Rattle.forecourt.specs.Book.{IsBook}
 
 -- a step from the site of the rows leads to the site of the rows with its own

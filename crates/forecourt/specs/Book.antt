@@ -6,9 +6,9 @@ use Rattle.site_base.specs.declared.event.Event.{Event}
 use Rattle.site_base.specs.declared.refusal.Refusal.{Refusal}
 use Rattle.site_base.specs.declared.row.Row.{Row}
 use Rattle.site_base.specs.Configured.{Configured}
-use Rattle.site_core.specs.State.{SiteState, opening}
-use Rattle.site_core.specs.Step.{reply_to}
-use Rattle.site_core.specs.Run.{site_of_rows, IsLegal}
+use Rattle.written_site.specs.SiteState.{SiteState, opening}
+use Rattle.written_site.specs.SiteStep.{reply_to}
+use Rattle.written_site.specs.SiteRun.{site_of_rows, IsLegal}
 
 -- a configuration, and the rows so far
 pub record Book : Type 0 where

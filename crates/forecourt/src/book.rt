@@ -1,8 +1,8 @@
 //! The book of the site: its history with the site that it leads to.
 
 ghost use Rattle.std.specs.Prelude.{◌≡◌, [], length, slice_get, true, false, IfOk, OnOk, OnErr, IsErrOf};
-ghost use Rattle.site_core.specs.Run.{IsLegal};
-ghost use Rattle.site_core.specs.State.{opening};
+ghost use Rattle.written_site.specs.SiteRun.{IsLegal};
+ghost use Rattle.written_site.specs.SiteState.{opening};
 ghost use Rattle.forecourt.specs.Book.{is_full, book_reply, with_row_of};
 
 use site_base::{Actor, Event, NoMemory, NoRow, Placed, Row, Rows, SiteConfig};

@@ -21,11 +21,13 @@ point_named (ReadPoint p) = Some p
 abbrev pub reported_by : Event → Option ℕ
 reported_by event = None
 
--- the dispenser is told of an event that was accepted
-abbrev pub has_change : Event → Bool
-has_change (Open p) = true
-has_change (Close p) = true
-has_change event = false
+-- the event is for a point that no other till holds
+abbrev pub needs_free_point : Event → Bool
+needs_free_point (Open p) = true
+needs_free_point (Close p) = true
+needs_free_point (Assign p) = true
+needs_free_point (Unassign p) = true
+needs_free_point event = false
 
 -- the millilitres that a reply adds to what was metered
 abbrev pub growth_told : Result Answer Refusal → ℕ

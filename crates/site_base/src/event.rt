@@ -1,7 +1,7 @@
 //! What a till or a dispenser asks of the site.
 
 ghost use Rattle.std.specs.Prelude.{◌≡◌};
-ghost use Rattle.site_base.specs.Events.{point_named, has_change};
+ghost use Rattle.site_base.specs.Events.{point_named, needs_free_point};
 
 use crate::numbers::FpNo;
 
@@ -40,10 +40,13 @@ impl Event {
         }
     }
 
-    /// Is the point's dispenser told of the event, once it was accepted?
-    pub fn has_change(&self) -> bool
-        ensures { result ≡ has_change self.now }
+    /// Is the event for a point that no other till holds?
+    pub fn needs_free_point(&self) -> bool
+        ensures { result ≡ needs_free_point self.now }
     {
-        matches!(self, Event::Open(_) | Event::Close(_))
+        matches!(
+            self,
+            Event::Open(_) | Event::Close(_) | Event::Assign(_) | Event::Unassign(_)
+        )
     }
 }

@@ -5,9 +5,9 @@ use Rattle.site_base.specs.declared.actor.Actor.{Actor}
 use Rattle.site_base.specs.declared.answer.Answer.{Answer}
 use Rattle.site_base.specs.declared.event.Event.{Event}
 use Rattle.site_base.specs.declared.refusal.Refusal.{Refusal}
-use Rattle.site_core.specs.State.{SiteState}
-use Rattle.site_core.specs.Step.{reply_to, site_after}
-use Rattle.site_core.specs.Run.{replies_to, site_at_end}
+use Rattle.written_site.specs.SiteState.{SiteState}
+use Rattle.written_site.specs.SiteStep.{reply_to, site_after}
+use Rattle.written_site.specs.SiteRun.{replies_to, site_at_end}
 
 site_at_end-push : (s : SiteState) (es : List (Actor × Event)) (e : Actor × Event) → site_at_end s (es ++ e ∷ []) ≡ site_after (site_at_end s es) e.0 e.1
 site_at_end-push s [] e = refl

@@ -8,8 +8,8 @@ use Rattle.std.specs.FinMap.{FinMap, same_map, get-remove, get-retain_keys, nat_
 use Rattle.fuelling_point.specs.Kept.{Facts}
 use Rattle.site_base.specs.Table.{row_of}
 use Rattle.till_claims.specs.Holds.{is_held_by}
-use Rattle.site_core.specs.State.{rests, facts_in, is_resting}
-use Rattle.site_core.specs.Step.{ends_at_sign_off, holds_without}
+use Rattle.written_site.specs.SiteState.{rests, facts_in, is_resting}
+use Rattle.written_site.specs.SiteStep.{ends_at_sign_off, holds_without}
 
 -- the holder of q once the till has let go of those of these points that rest
 abbrev pub left : List (ℕ × Facts) → ℕ → List (ℕ × Facts) → ℕ → Option ℕ → Option ℕ

@@ -1,9 +1,4 @@
 pub mod Tills
-pub mod State
-pub mod Checks
-pub mod Step
-pub mod Run
-pub mod Slots
-pub mod Holders
 pub mod Shown
-pub mod Parts
+pub mod SiteParts
+pub mod Commands

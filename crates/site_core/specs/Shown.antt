@@ -2,7 +2,7 @@
 use Rattle.std.specs.Prelude.{ℕ, ◌<◌}
 use Rattle.site_base.specs.declared.event.Event.{Event}
 use Rattle.site_base.specs.declared.event.Event.TheVariants.{SignOn}
-use Rattle.site_core.specs.State.{SiteState}
+use Rattle.written_site.specs.SiteState.{SiteState}
 
 -- how many more members each list has room for
 pub record Room : Type 0 where

@@ -5,7 +5,7 @@ ghost use Rattle.fuelling_point.specs.Checks.{refusal_of};
 ghost use Rattle.fuelling_point.specs.Kept.{point_view, FitsGrowth};
 ghost use Rattle.fuelling_point.specs.Step.{step_of, after};
 ghost use Rattle.site_base.specs.Table.{row_of, with_row};
-ghost use Rattle.site_core.specs.State.{points_of, facts_in, rests, is_resting};
+ghost use Rattle.written_site.specs.SiteState.{points_of, facts_in, rests, is_resting};
 
 use crate::place::place_of;
 use fuelling_point::{Point, PointEvent, PointStep};

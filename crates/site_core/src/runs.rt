@@ -2,7 +2,7 @@
 
 ghost use Rattle.std.specs.Prelude.{◌≡◌, ◌<◌, length, take, IfOk, OnOk, IfErr, vec_len, vec_capacity};
 ghost use Rattle.site_core.specs.Shown.{HasRoom};
-ghost use Rattle.site_core.specs.Run.{replies_to, site_at_end};
+ghost use Rattle.written_site.specs.SiteRun.{replies_to, site_at_end};
 
 use crate::site::Site;
 use site_base::{

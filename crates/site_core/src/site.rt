@@ -1,11 +1,11 @@
 //! The site, as its callers see it.
 
 ghost use Rattle.std.specs.Prelude.{◌≡◌, true, Ok, OnOk, IfOk};
-ghost use Rattle.site_core.specs.State.{opening, is_signed_on, shown};
-ghost use Rattle.site_core.specs.Step.{Steps};
+ghost use Rattle.written_site.specs.SiteState.{opening, is_signed_on, point_shown};
+ghost use Rattle.written_site.specs.SiteStep.{Steps};
 ghost use Rattle.site_core.specs.Shown.{HasRoom};
 
-use crate::parts::Parts;
+use crate::site_parts::SiteParts;
 use site_base::{Actor, Answer, Event, FpNo, NoMemory, PointView, Reply, SiteConfig, TillNo};
 use std::alloc::Global;
 use std::marker::Model;
@@ -13,7 +13,7 @@ use std::marker::Model;
 /// The one-thread site.
 #[derive(Drop)]
 pub struct Site {
-    parts: Parts,
+    parts: SiteParts,
 }
 
 impl Model for Site {
@@ -27,7 +27,7 @@ impl Model for Site {
 
     ghost coded = { Prim.hlevel (codes, finite.code {R = nat_cmp} coded_ℕ coded_ℕ, set.code {R = nat_cmp} coded_ℕ) };
 
-    ghost use Rattle.site_core.specs.Parts.{site_of, room_of};
+    ghost use Rattle.site_core.specs.SiteParts.{site_of, room_of};
 
     ghost view = { λ s. record { site = site_of s.parts; room = room_of s.parts } };
 }
@@ -37,7 +37,7 @@ impl Site {
     pub fn try_open(alloc: Global, config: &SiteConfig) -> Result<Site, NoMemory>
         ensures { IfOk result (λ s. s.site ≡ opening config.now) }
     {
-        let parts = Parts::try_open(alloc, config)?;
+        let parts = SiteParts::try_open(alloc, config)?;
         Ok(Site { parts })
     }
 
@@ -56,7 +56,7 @@ impl Site {
         requires room { HasRoom self.old.room event }
         ensures step { Steps self.old.site actor event self.new.site result }
     {
-        self.parts.step(actor, event)
+        self.parts.step(actor, &event)
     }
 
     /// Signs off a till that is signed on, as the written step does. It takes no memory.
@@ -76,8 +76,8 @@ impl Site {
 
     /// The point as a read shows it. None where the site has no such point.
     pub fn point(&self, p: FpNo) -> Option<PointView>
-        ensures { result ≡ shown self.now.site p }
+        ensures { result ≡ point_shown self.now.site p }
     {
-        self.parts.shown(p)
+        self.parts.point_shown(p)
     }
 }

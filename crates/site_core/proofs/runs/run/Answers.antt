@@ -1,6 +1,6 @@
 use Rattle.std.proofs.Common.{◌≡◌, ◌+◌, ◌++◌, ◌∷◌, [], drop, ap, ◌∙◌, rules}
-use Rattle.site_core.specs.Step.{reply_to, site_after}
-use Rattle.site_core.specs.Run.{replies_to}
+use Rattle.written_site.specs.SiteStep.{reply_to, site_after}
+use Rattle.written_site.specs.SiteRun.{replies_to}
 use Rattle.site_core.proofs.RunSteps.{IsNext, told_more, end_more, so_far_more}
 use Rattle.site_core.proofs.runs.run.Goals as goal
 

@@ -1,5 +1,5 @@
 use Rattle.std.proofs.Common.{◌≡◌, ◌++◌, length, take, drop}
-use Rattle.site_core.specs.Run.{replies_to, site_at_end}
+use Rattle.written_site.specs.SiteRun.{replies_to, site_at_end}
 use Rattle.site_core.proofs.runs.run.Given as goal
 
 abbrev pub invariant-loop-entry : goal.invariant-loop-entry

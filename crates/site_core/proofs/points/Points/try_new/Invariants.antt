@@ -1,5 +1,5 @@
 use Rattle.std.proofs.Common.{◌≡◌, take}
-use Rattle.site_core.specs.State.{points_of}
+use Rattle.written_site.specs.SiteState.{points_of}
 use Rattle.site_core.proofs.points.Points.try_new.Given as goal
 
 abbrev pub invariant-loop-entry : goal.invariant-loop-entry

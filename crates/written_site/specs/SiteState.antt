@@ -1,4 +1,4 @@
--- The site state, and the words that read and change it.
+-- The site state, and the words that read it.
 use Rattle.std.specs.Prelude.{ℕ, Bool, true, false, ◌&&◌, List, map, Option, option_and_then, Some, is_some, unwrap_or}
 use Rattle.std.specs.Ordering.{nat_cmp}
 use Rattle.std.specs.FinMap as finite
@@ -7,7 +7,7 @@ use Rattle.site_base.specs.declared.state.PointState.{PointState}
 use Rattle.site_base.specs.declared.state.PointState.TheVariants.{Closed, Idle, Calling}
 use Rattle.site_base.specs.declared.view.PointView.{PointView}
 use Rattle.site_base.specs.Configured.{Configured, ConfiguredPoint}
-use Rattle.site_base.specs.Table.{row_of, with_row}
+use Rattle.site_base.specs.Table.{row_of}
 use Rattle.fuelling_point.specs.Kept.{Facts, fresh, point_view}
 
 -- the points by their numbers, in configured order; which till holds which point; the tills signed on
@@ -53,10 +53,6 @@ is_resting state = false
 abbrev pub rests : List (ℕ × Facts) → ℕ → Bool
 rests points p = is_some (row_of p points) && is_resting (facts_in points p).state
 
--- the site with these facts kept by the point
-abbrev pub with_facts : SiteState → ℕ → Facts → SiteState
-with_facts s p f = record s { points = with_row p f s.points }
-
 -- the point as a read shows it
-abbrev pub shown : SiteState → ℕ → Option PointView
-shown s p = option_and_then (λ f. Some (point_view f (holder_of s p))) (row_of p s.points)
+abbrev pub point_shown : SiteState → ℕ → Option PointView
+point_shown s p = option_and_then (λ f. Some (point_view f (holder_of s p))) (row_of p s.points)

@@ -3,7 +3,7 @@
 use Rattle.std.proofs.Common.{◌≡◌, ◌≢◌, ◌↔◌, ◌⊎◌, inl, inr, ℕ, Bool, true, false, ◌||◌, List, [], ◌∷◌, ◌++◌, Option, Some, None, if◌then◌else◌, refl, sym, ap, subst, ◌∙◌}
 use Rattle.std.proofs.lemmas.List.{append_assoc}
 use Rattle.std.specs.List.{list_any}
-use Rattle.site_core.specs.Slots.{IsLastTake}
+use Rattle.written_site.specs.Slots.{IsLastTake}
 
 -- the holder after a moment that takes the slot for some, or for none; ends says whose taking it ends
 abbrev pub next : Option ℕ → Option ℕ → (ℕ → Bool) → Option ℕ

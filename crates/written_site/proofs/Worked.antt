@@ -11,8 +11,8 @@ use Rattle.site_base.specs.declared.refusal.Refusal.TheVariants.{NotSignedOn, Si
 use Rattle.site_base.specs.declared.state.PointState.TheVariants.{Closed, Idle}
 use Rattle.site_base.specs.Configured.{Configured}
 use Rattle.fuelling_point.specs.Kept.{fresh, point_view}
-use Rattle.site_core.specs.State.{SiteState, opening, holder_of}
-use Rattle.site_core.specs.Step.{reply_to, site_after}
+use Rattle.written_site.specs.SiteState.{SiteState, opening, holder_of}
+use Rattle.written_site.specs.SiteStep.{reply_to, site_after}
 
 abbrev two_points : Configured
 two_points = record { rows = 10; managers = []; products = []; points = record { number = 2; nozzles = [] } ∷ record { number = 3; nozzles = [] } ∷ [] }

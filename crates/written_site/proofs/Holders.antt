@@ -1,5 +1,5 @@
 -- The holder of a point is a slot of the site's history.
-use Rattle.std.proofs.Common.{◌≡◌, ℕ, ◌==◌, not, ◌&&◌, Bool, true, false, cond, List, [], ◌∷◌, Option, Some, None, refl, sym, ap, subst, ◌∙◌, if◌then◌else◌, arith}
+use Rattle.std.proofs.Common.{◌≡◌, ℕ, ◌==◌, not, ◌&&◌, Bool, true, false, cond, List, [], ◌∷◌, ◌++◌, Option, Some, None, Result, refl, sym, ap, subst, ◌∙◌, if◌then◌else◌, arith}
 use Rattle.std.proofs.lemmas.Bool.Decides.{nat_tests}
 use Rattle.std.specs.Ordering.{nat_cmp}
 use Rattle.std.specs.Cmp.{nat_cmp_total}
@@ -7,19 +7,24 @@ use Rattle.std.specs.FinMap as finite
 use Rattle.std.specs.FinMap.{FinMap, get-empty, get-insert, get-remove, get-retain_keys, nat_cmp-IsAntisymmetric}
 use Rattle.site_base.specs.declared.actor.Actor.{Actor}
 use Rattle.site_base.specs.declared.actor.Actor.TheVariants.{Till}
+use Rattle.site_base.specs.declared.answer.Answer.{Answer}
 use Rattle.site_base.specs.declared.event.Event.{Event}
 use Rattle.site_base.specs.declared.event.Event.TheVariants.{SignOff, Assign, Unassign}
 use Rattle.site_base.specs.declared.refusal.Refusal.{Refusal}
 use Rattle.site_base.specs.declared.refusal.Refusal.TheVariants.{AssignedToOther}
-use Rattle.site_base.specs.Checks.{◌or_else◌, unless}
+use Rattle.site_base.specs.declared.row.Row.{Row}
+use Rattle.site_base.specs.Checks.{unless}
 use Rattle.till_claims.specs.Holds.{is_held_by}
-use Rattle.site_core.specs.State.{SiteState, opening, holder_of, rests}
-use Rattle.site_core.specs.Checks.{refusal_of, signing, numbers, own_kind, not_held, at_point, is_held, free_for}
-use Rattle.site_core.specs.Step.{after, site_after, reply_to, ends_at_sign_off, holds_without}
-use Rattle.site_core.specs.Run.{rows_of, site_at_end}
-use Rattle.site_core.specs.Holders.{Moment, moments, history, takes, ends, taken_by, ended_by, IsHeldByOne, AreUnendedTakes}
+use Rattle.written_site.specs.SiteState.{SiteState, opening, holder_of, rests}
+use Rattle.written_site.specs.SiteChecks.{first_refusal, free_for}
+use Rattle.written_site.specs.SiteStep.{accepted_site, site_after, ends_at_sign_off, holds_without}
+use Rattle.written_site.specs.SiteRun.{row_to, rows_of, events_of, site_at_end, site_of_rows}
+use Rattle.written_site.specs.Histories.{Moment, moments_after, moments_of}
+use Rattle.written_site.specs.Holders.{takes_hold, ends_hold, hold_taker, is_end, AreHeldByOne, AreHoldsOf, IsHeldByOne, AreUnendedTakes, AreBooksHeldByOne}
 use Rattle.site_base.proofs.Cells.{apart, alike}
-use Rattle.site_core.proofs.Slots.{next, MayTake, standing, Fair, end_between, last_take}
+use Rattle.written_site.proofs.Passed.{passed}
+use Rattle.written_site.proofs.Bridge.{legal_histories_are_runs}
+use Rattle.written_site.proofs.Slots.{next, MayTake, standing, Fair, end_between, last_take}
 
 -- what an event does to the hold of a point: the till that takes it, and whose hold it ends
 record Does (old new : Option ℕ) (take : Option ℕ) (ends : ℕ → Bool) : Type 0 where
@@ -30,14 +35,6 @@ record Does (old new : Option ℕ) (take : Option ℕ) (ends : ℕ → Bool) : T
 idle : (holder : Option ℕ) → Does holder holder None (λ t. false)
 idle None = record { holder = refl; may = tt }
 idle (Some t) = record { holder = refl; may = tt }
-
-left_none : (a b : Option Refusal) → a or_else b ≡ None → a ≡ None
-left_none None b is = refl
-left_none (Some r) b is = is
-
-right_none : (a b : Option Refusal) → a or_else b ≡ None → b ≡ None
-right_none None b is = is
-right_none (Some r) b is = cc
 
 -- a point that is free for a till may be taken by it
 may_take : (t : ℕ) (holder : Option ℕ) → free_for t holder ≡ None → MayTake (Some t) holder
@@ -98,61 +95,71 @@ signed_off : (s : SiteState) (t p : ℕ) → Does (holder_of s p) (finite.get (h
 signed_off s t p = rw (get-retain_keys s.holds (λ q. not (ends_at_sign_off s.points s.holds t q)) p (λ x tied. ap (λ (y : ℕ). not (ends_at_sign_off s.points s.holds t y)) (sym (nat_cmp-IsAntisymmetric p x tied))))
     (let_go (rests s.points p) t (holder_of s p))
 
--- an accepted event has passed the check of the holder
-holder_check : (s : SiteState) (a : Actor) (e : Event) → refusal_of s a e ≡ None → not_held s a e ≡ None
-holder_check s a e ok =
-    let last = at_point s e or_else is_held s e in
-    let from_holder = right_none (own_kind a e) (not_held s a e or_else last) (right_none (numbers s e) (own_kind a e or_else not_held s a e or_else last) (right_none (signing s a e) (numbers s e or_else own_kind a e or_else not_held s a e or_else last) ok)) in
-    left_none (not_held s a e) last from_holder
+-- an accepted event, with its reply
+accepted : (s : SiteState) (a : Actor) (e : Event) (reply : Result Answer Refusal) (p : ℕ) → first_refusal s a e ≡ None
+    → Does (holder_of s p) (holder_of (accepted_site s a e) p) (hold_taker p a e) (λ t. is_end p t s a e reply)
+accepted s (Till t) (Assign q) reply p ok = assigned s.holds p q t (may_take t (holder_of s q) (passed s (Till t) (Assign q) ok).free)
+accepted s (Till t) (Unassign q) reply p ok = unassigned s.holds p q
+accepted s (Till t) SignOff reply p ok = signed_off s t p
+accepted s a e reply p ok = idle (holder_of s p)
 
--- an accepted event
-accepted : (s : SiteState) (a : Actor) (e : Event) (p : ℕ) → refusal_of s a e ≡ None
-    → Does (holder_of s p) (holder_of (after s a e) p) (taken_by p a e) (λ t. ended_by p t s a e)
-accepted s (Till t) (Assign q) p ok = assigned s.holds p q t (may_take t (holder_of s q) (holder_check s (Till t) (Assign q) ok))
-accepted s (Till t) (Unassign q) p ok = unassigned s.holds p q
-accepted s (Till t) SignOff p ok = signed_off s t p
-accepted s a e p ok = idle (holder_of s p)
+-- the moment of an event at this site
+abbrev moment : List Row → SiteState → Actor → Event → Moment
+moment earlier s a e = record { earlier = earlier; before = s; row = row_to s a e }
 
 -- a refused or accepted event
-does : (s : SiteState) (a : Actor) (e : Event) (p : ℕ)
-    → Does (holder_of s p) (holder_of (site_after s a e) p)
-    (takes p (record { before = s; row = record { actor = a; event = e; reply = reply_to s a e } }))
-    (λ t. ends p t (record { before = s; row = record { actor = a; event = e; reply = reply_to s a e } }))
-does s a e p = by_refusal (refusal_of s a e) refl
+does : (earlier : List Row) (s : SiteState) (a : Actor) (e : Event) (p : ℕ)
+    → Does (holder_of s p) (holder_of (site_after s a e) p) (takes_hold p (moment earlier s a e)) (λ t. ends_hold p t (moment earlier s a e))
+does earlier s a e p = by_refusal (first_refusal s a e) refl
   where
-    by_refusal : (r : Option Refusal) → refusal_of s a e ≡ r
-        → Does (holder_of s p) (holder_of (site_after s a e) p)
-        (takes p (record { before = s; row = record { actor = a; event = e; reply = reply_to s a e } }))
-        (λ t. ends p t (record { before = s; row = record { actor = a; event = e; reply = reply_to s a e } }))
+    by_refusal : (r : Option Refusal) → first_refusal s a e ≡ r
+        → Does (holder_of s p) (holder_of (site_after s a e) p) (takes_hold p (moment earlier s a e)) (λ t. ends_hold p t (moment earlier s a e))
     by_refusal (Some refusal) is = rw is (idle (holder_of s p))
-    by_refusal None is = rw is (accepted s a e p is)
+    by_refusal None is = rw is (accepted s a e _ p is)
 
 -- the moments of a run from this site on
-abbrev moments_from : SiteState → List (Actor × Event) → List Moment
-moments_from s es = moments s (rows_of s es)
+abbrev moments_from : List Row → SiteState → List (Actor × Event) → List Moment
+moments_from earlier s es = moments_after earlier s (rows_of s es)
 
-fair_run : (p : ℕ) (s : SiteState) (es : List (Actor × Event)) → Fair (takes p) (ends p) (holder_of s p) (moments_from s es)
-fair_run p s [] = tt
-fair_run p s (e ∷ es) =
-    let done = does s e.0 e.1 p in
-    (done.may, subst (λ holder. Fair (takes p) (ends p) holder (moments_from (site_after s e.0 e.1) es)) done.holder (fair_run p (site_after s e.0 e.1) es))
+fair_run : (p : ℕ) (earlier : List Row) (s : SiteState) (es : List (Actor × Event)) → Fair (takes_hold p) (ends_hold p) (holder_of s p) (moments_from earlier s es)
+fair_run p earlier s [] = tt
+fair_run p earlier s (e ∷ es) =
+    let done = does earlier s e.0 e.1 p in
+    let later = earlier ++ row_to s e.0 e.1 ∷ [] in
+    (done.may, subst (λ holder. Fair (takes_hold p) (ends_hold p) holder (moments_from later (site_after s e.0 e.1) es)) done.holder (fair_run p later (site_after s e.0 e.1) es))
 
-stands_at_end : (p : ℕ) (s : SiteState) (es : List (Actor × Event)) → standing (takes p) (ends p) (holder_of s p) (moments_from s es) ≡ holder_of (site_at_end s es) p
-stands_at_end p s [] = refl
-stands_at_end p s (e ∷ es) =
-    let done = does s e.0 e.1 p in
-    ap (λ holder. standing (takes p) (ends p) holder (moments_from (site_after s e.0 e.1) es)) (sym done.holder) ∙ stands_at_end p (site_after s e.0 e.1) es
+stands_at_end : (p : ℕ) (earlier : List Row) (s : SiteState) (es : List (Actor × Event))
+    → standing (takes_hold p) (ends_hold p) (holder_of s p) (moments_from earlier s es) ≡ holder_of (site_at_end s es) p
+stands_at_end p earlier s [] = refl
+stands_at_end p earlier s (e ∷ es) =
+    let done = does earlier s e.0 e.1 p in
+    let later = earlier ++ row_to s e.0 e.1 ∷ [] in
+    ap (λ holder. standing (takes_hold p) (ends_hold p) holder (moments_from later (site_after s e.0 e.1) es)) (sym done.holder)
+    ∙ stands_at_end p later (site_after s e.0 e.1) es
 
 pub held_by_one : IsHeldByOne
 held_by_one c events p t u before between since first second parts taken taken' differ =
-    end_between (takes p) (ends p) _ t u before first between second since
-    (subst (Fair (takes p) (ends p) (holder_of (opening c) p)) parts (fair_run p (opening c) events))
+    end_between (takes_hold p) (ends_hold p) _ t u before first between second since
+    (subst (Fair (takes_hold p) (ends_hold p) (holder_of (opening c) p)) parts (fair_run p [] (opening c) events))
     taken taken' differ
 
 pub holds_are_unended_takes : AreUnendedTakes
 holds_are_unended_takes c events p t =
+    let moments = moments_of c (rows_of (opening c) events) in
     let free : holder_of (opening c) p ≡ None = get-empty nat_cmp p in
-    let fair = subst (λ holder. Fair (takes p) (ends p) holder (history c events)) free (fair_run p (opening c) events) in
-    let stands = ap (λ holder. standing (takes p) (ends p) holder (history c events)) (sym free) ∙ stands_at_end p (opening c) events in
-    let last = last_take (takes p) (ends p) t (history c events) fair in
+    let fair = subst (λ holder. Fair (takes_hold p) (ends_hold p) holder moments) free (fair_run p [] (opening c) events) in
+    let stands = ap (λ holder. standing (takes_hold p) (ends_hold p) holder moments) (sym free) ∙ stands_at_end p [] (opening c) events in
+    let last = last_take (takes_hold p) (ends_hold p) t moments fair in
     (λ is. last.0 (stands ∙ is), λ taken. sym stands ∙ last.1 taken)
+
+-- a legal history is that of its events
+pub books_held_by_one : AreBooksHeldByOne
+books_held_by_one c rows legal =
+    let run = legal_histories_are_runs.run (opening c) rows legal in
+    let events = events_of rows in
+    record {
+      one = subst (λ history. AreHeldByOne (moments_of c history)) (sym run.rows) (held_by_one c events);
+      unended =
+          subst (λ history. AreHoldsOf (site_of_rows (opening c) rows) (moments_of c history)) (sym run.rows)
+          (subst (λ s. AreHoldsOf s (moments_of c (rows_of (opening c) events))) (sym run.leads) (holds_are_unended_takes c events));
+    }

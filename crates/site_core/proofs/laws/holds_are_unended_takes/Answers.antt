@@ -1,5 +1,0 @@
-use Rattle.site_core.proofs.Holders.{holds_are_unended_takes}
-use Rattle.site_core.proofs.laws.holds_are_unended_takes.Goals as goal
-
-pub returns : goal.returns
-returns c = holds_are_unended_takes

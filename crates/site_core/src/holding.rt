@@ -1,0 +1,35 @@
+//! Taking and giving back the hold of a fuelling point.
+
+ghost use Rattle.site_base.specs.declared.actor.Actor.TheVariants.{Till};
+ghost use Rattle.site_core.specs.SiteParts.{site_of};
+ghost use Rattle.written_site.specs.SiteStep.{Steps};
+
+use crate::site_parts::SiteParts;
+use fuelling_point::PointEvent;
+use site_base::{Answer, Event, FpNo, Refusal, Reply, TillNo};
+
+impl SiteParts {
+    /// The till takes the hold of the point.
+    pub(crate) fn assign(&mut self, t: TillNo, p: FpNo) -> Reply
+        ensures { Steps (site_of self.old) (Till t) (Event.Assign p) (site_of self.new) result }
+    {
+        self.may_ask(t, p, &Event::Assign(p))?;
+        self.points.on(p, PointEvent::Assign)?;
+        self.claims.take(p, t);
+        Ok(Answer::Done)
+    }
+
+    /// The till gives back the hold of the point. That somebody holds it is looked at last.
+    pub(crate) fn unassign(&mut self, t: TillNo, p: FpNo) -> Reply
+        ensures { Steps (site_of self.old) (Till t) (Event.Unassign p) (site_of self.new) result }
+    {
+        self.may_ask(t, p, &Event::Unassign(p))?;
+        self.points.judge(p, &PointEvent::Unassign)?;
+        if self.claims.holder(p).is_none() {
+            return Err(Refusal::NotYours);
+        }
+        self.points.on(p, PointEvent::Unassign)?;
+        self.claims.free(p);
+        Ok(Answer::Done)
+    }
+}

@@ -1,0 +1,29 @@
+-- An event that isn't refused has passed each check.
+use Rattle.std.proofs.Common.{◌≡◌, Option, Some, None, refl}
+use Rattle.site_base.specs.declared.actor.Actor.{Actor}
+use Rattle.site_base.specs.declared.event.Event.{Event}
+use Rattle.site_base.specs.declared.refusal.Refusal.{Refusal}
+use Rattle.site_base.specs.Checks.{◌or_else◌}
+use Rattle.written_site.specs.SiteState.{SiteState}
+use Rattle.written_site.specs.SiteChecks.{Passed, first_refusal, signing, numbers, own_kind, not_held, at_point, is_held}
+
+-- two checks one after the other that refuse nothing: neither does
+pub both_pass : (a b : Option Refusal) → a or_else b ≡ None → (a ≡ None) × (b ≡ None)
+both_pass None b is = (refl, is)
+both_pass (Some refusal) b is = cc
+
+pub passed : (s : SiteState) (a : Actor) (e : Event) → first_refusal s a e ≡ None → Passed s a e
+passed s a e accepted =
+    let to_names = both_pass (signing s a e) _ accepted in
+    let to_asks = both_pass (numbers s e) _ to_names.1 in
+    let to_free = both_pass (own_kind a e) _ to_asks.1 in
+    let to_takes = both_pass (not_held s a e) _ to_free.1 in
+    let to_holds = both_pass (at_point s e) (is_held s e) to_takes.1 in
+    record {
+      signs = to_names.0;
+      names = to_asks.0;
+      asks = to_free.0;
+      free = to_takes.0;
+      takes = to_holds.0;
+      holds = to_holds.1;
+    }

@@ -1,0 +1,33 @@
+//! What is true of the written site. The laws have no code: each is proved of the definitions.
+
+ghost use Rattle.written_site.specs.Bridge.{AreLegalHistoriesRuns};
+ghost use Rattle.written_site.specs.Holders.{IsHeldByOne, AreUnendedTakes, AreBooksHeldByOne};
+ghost use Rattle.written_site.specs.SiteChecks.{PassesEachCheck};
+
+/// An event that isn't refused has passed each of the checks.
+pub fn passes_each_check()
+    ensures { PassesEachCheck }
+{}
+
+/// A legal history is what its events make: the rows are theirs, and so are the replies and the site that
+/// it leads to. What a list of events makes is a legal history of just these events.
+pub fn legal_histories_are_runs()
+    ensures { AreLegalHistoriesRuns }
+{}
+
+/// For every list of events from the opening site of any configuration: between takes of a fuelling point
+/// by two different tills stands an end of the first one's hold. A take is an accepted Assign; an end is an
+/// accepted Unassign, or the holder's sign-off while the point is closed, idle or calling.
+pub fn held_by_one()
+    ensures { IsHeldByOne }
+{}
+
+/// The holds that stand after such a list of events are exactly the takes without a later end.
+pub fn holds_are_unended_takes()
+    ensures { AreUnendedTakes }
+{}
+
+/// Both of the rows of every legal history, such as a book keeps.
+pub fn books_held_by_one()
+    ensures { AreBooksHeldByOne }
+{}
