@@ -19,6 +19,7 @@ mod state;
 mod tests;
 mod transfer;
 mod view;
+mod words;
 
 pub use actor::Actor;
 pub use amounts::{Cents, Millilitres, Mills, amount_of, greatest_ml};
@@ -39,3 +40,4 @@ pub use row::{Placed, Reply, Row, Rows, cents_told, growth_told};
 pub use state::{PointState, Preset, Status};
 pub use transfer::{ReadFault, WriteFault, read_piece, write_whole};
 pub use view::{PointView, ProductView, SiteView, TransactionView};
+pub use words::write_reply;

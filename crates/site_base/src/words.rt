@@ -1,0 +1,200 @@
+//! The words in which actors, events, answers, refusals and rows are written, for people and for tables of
+//! cases: one grammar for all, which docs/PROFILE.md explains.
+
+use crate::actor::Actor;
+use crate::answer::Answer;
+use crate::event::Event;
+use crate::refusal::Refusal;
+use crate::row::{Reply, Row};
+use crate::state::{PointState, Preset, Status};
+use crate::view::{PointView, ProductView, SiteView, TransactionView};
+use std::fmt;
+
+/// `t1` is till 1, `d3` the dispenser of fuelling point 3.
+impl fmt::Display for Actor {
+    fn fmt<W: fmt::Write>(&self, f: &mut fmt::Formatter<W>) -> fmt::Result {
+        match self {
+            Actor::Till(till) => write!(f, "t{}", till.get()),
+            Actor::Dispenser(point) => write!(f, "d{}", point.get()),
+        }
+    }
+}
+
+/// The event's name, and the number of the point that it names: `Open 3`.
+impl fmt::Display for Event {
+    fn fmt<W: fmt::Write>(&self, f: &mut fmt::Formatter<W>) -> fmt::Result {
+        match self {
+            Event::SignOn => f.write_str("SignOn"),
+            Event::SignOff => f.write_str("SignOff"),
+            Event::Open(p) => write!(f, "Open {}", p.get()),
+            Event::Close(p) => write!(f, "Close {}", p.get()),
+            Event::Assign(p) => write!(f, "Assign {}", p.get()),
+            Event::Unassign(p) => write!(f, "Unassign {}", p.get()),
+            Event::ReadPoint(p) => write!(f, "ReadPoint {}", p.get()),
+        }
+    }
+}
+
+/// The state's name: `suspended started`.
+impl fmt::Display for PointState {
+    fn fmt<W: fmt::Write>(&self, f: &mut fmt::Formatter<W>) -> fmt::Result {
+        f.write_str(match self {
+            PointState::Inoperative => "inoperative",
+            PointState::Closed => "closed",
+            PointState::Idle => "idle",
+            PointState::Calling => "calling",
+            PointState::Authorised => "authorised",
+            PointState::Started => "started",
+            PointState::SuspendedStarted => "suspended started",
+            PointState::Fuelling => "fuelling",
+            PointState::SuspendedFuelling => "suspended fuelling",
+        })
+    }
+}
+
+/// The status' name: `payable`.
+impl fmt::Display for Status {
+    fn fmt<W: fmt::Write>(&self, f: &mut fmt::Formatter<W>) -> fmt::Result {
+        f.write_str(match self {
+            Status::Cleared => "cleared",
+            Status::Payable => "payable",
+            Status::Locked => "locked",
+        })
+    }
+}
+
+/// `Unset`, `Volume(3000)` in millilitres, or `Money(2000)` in cents.
+impl fmt::Display for Preset {
+    fn fmt<W: fmt::Write>(&self, f: &mut fmt::Formatter<W>) -> fmt::Result {
+        match self {
+            Preset::Unset => f.write_str("Unset"),
+            Preset::Volume(millilitres) => write!(f, "Volume({millilitres})"),
+            Preset::Money(cents) => write!(f, "Money({cents})"),
+        }
+    }
+}
+
+/// A point's items in the order of their identifiers, 0 for none.
+impl fmt::Display for PointView {
+    fn fmt<W: fmt::Write>(&self, f: &mut fmt::Formatter<W>) -> fmt::Result {
+        let out = self.out.map_or(0, |nozzle| nozzle.get());
+        let holder = self.holder.map_or(0, |till| till.get());
+        let prepaid = self.prepaid.unwrap_or(0);
+        write!(f, "{}, out {}, holder {}, ", self.state, out, holder)?;
+        write!(
+            f,
+            "ending {}, preset {}, ",
+            u8::from(self.ending),
+            self.preset
+        )?;
+        write!(f, "price {}, volume {}, ", self.price, self.volume)?;
+        write!(f, "prepaid {}", prepaid)
+    }
+}
+
+/// A transaction's items in the order of their identifiers, 0 for none.
+impl fmt::Display for TransactionView {
+    fn fmt<W: fmt::Write>(&self, f: &mut fmt::Formatter<W>) -> fmt::Result {
+        let till = self.till.map_or(0, |till| till.get());
+        let prepaid = self.prepaid.unwrap_or(0);
+        write!(
+            f,
+            "price {}, volume {}, ",
+            self.price.get(),
+            self.volume.get()
+        )?;
+        write!(f, "cents {}, prepaid {}, ", self.cents.get(), prepaid)?;
+        write!(f, "{}, till {}, ", self.status, till)?;
+        write!(f, "product {}", self.product.get())
+    }
+}
+
+/// A product's items in the order of their identifiers.
+impl fmt::Display for ProductView {
+    fn fmt<W: fmt::Write>(&self, f: &mut fmt::Formatter<W>) -> fmt::Result {
+        write!(f, "price {}, metered {}, ", self.price.get(), self.metered)?;
+        write!(f, "running {}, payable {}, ", self.running, self.payable)?;
+        write!(f, "locked {}, cleared {}", self.locked, self.cleared)
+    }
+}
+
+/// The site's items in the order of their identifiers.
+impl fmt::Display for SiteView {
+    fn fmt<W: fmt::Write>(&self, f: &mut fmt::Formatter<W>) -> fmt::Result {
+        write!(f, "cents {}, shift {}", self.cents, self.shift)
+    }
+}
+
+/// The answer's name, and what it carries: `Done`, `Sold{1, 10000}`, `Cleared(1500)`.
+impl fmt::Display for Answer {
+    fn fmt<W: fmt::Write>(&self, f: &mut fmt::Formatter<W>) -> fmt::Result {
+        match self {
+            Answer::Done => f.write_str("Done"),
+            Answer::Calling => f.write_str("Calling"),
+            Answer::Start { preset, price } => write!(f, "Start{{{}, {}}}", preset, price.get()),
+            Answer::Flowed(growth) => write!(f, "Flowed({growth})"),
+            Answer::HungUp => f.write_str("HungUp"),
+            Answer::NoSale => f.write_str("NoSale"),
+            Answer::Sold { seq, growth } => write!(f, "Sold{{{}, {}}}", seq.get(), growth),
+            Answer::Stopped => f.write_str("Stopped"),
+            Answer::Ending => f.write_str("Ending"),
+            Answer::Locked => f.write_str("Locked"),
+            Answer::Unlocked => f.write_str("Unlocked"),
+            Answer::Cleared(cents) => write!(f, "Cleared({})", cents.get()),
+            Answer::ShiftClosed(shift) => write!(f, "ShiftClosed({shift})"),
+            Answer::PointIs(view) => write!(f, "PointIs{{{view}}}"),
+            Answer::TransactionIs(view) => write!(f, "TransactionIs{{{view}}}"),
+            Answer::ProductIs(view) => write!(f, "ProductIs{{{view}}}"),
+            Answer::SiteIs(view) => write!(f, "SiteIs{{{view}}}"),
+        }
+    }
+}
+
+/// The refusal's number, its name, and the detail that it carries: `11 AssignedToOther(2)`.
+impl fmt::Display for Refusal {
+    fn fmt<W: fmt::Write>(&self, f: &mut fmt::Formatter<W>) -> fmt::Result {
+        write!(f, "{} ", self.number())?;
+        match self {
+            Refusal::NotSignedOn => f.write_str("NotSignedOn"),
+            Refusal::SignedOn => f.write_str("SignedOn"),
+            Refusal::NoSuchPoint => f.write_str("NoSuchPoint"),
+            Refusal::NoSuchNozzle => f.write_str("NoSuchNozzle"),
+            Refusal::NoSuchProduct => f.write_str("NoSuchProduct"),
+            Refusal::NoSuchTransaction => f.write_str("NoSuchTransaction"),
+            Refusal::NotManager => f.write_str("NotManager"),
+            Refusal::BadPrice => f.write_str("BadPrice"),
+            Refusal::BadPreset => f.write_str("BadPreset"),
+            Refusal::WrongState(state) => write!(f, "WrongState({state})"),
+            Refusal::AssignedToOther(till) => write!(f, "AssignedToOther({})", till.get()),
+            Refusal::NotYours => f.write_str("NotYours"),
+            Refusal::NotYourPoint => f.write_str("NotYourPoint"),
+            Refusal::WrongNozzle(nozzle) => write!(f, "WrongNozzle({})", nozzle.get()),
+            Refusal::BufferFull => f.write_str("BufferFull"),
+            Refusal::SequenceSpent => f.write_str("SequenceSpent"),
+            Refusal::MeterGap(expected) => write!(f, "MeterGap({})", expected.get()),
+            Refusal::MeterBack(last) => write!(f, "MeterBack({})", last.get()),
+            Refusal::MeterJump => f.write_str("MeterJump"),
+            Refusal::LockedByOther(till) => write!(f, "LockedByOther({})", till.get()),
+            Refusal::NotLocked => f.write_str("NotLocked"),
+            Refusal::AlreadyCleared(till) => write!(f, "AlreadyCleared({})", till.get()),
+            Refusal::Ending => f.write_str("Ending"),
+            Refusal::ShiftsSpent => f.write_str("ShiftsSpent"),
+        }
+    }
+}
+
+/// Writes a reply in words: the answer's, or the refusal's with its number.
+pub fn write_reply<W: fmt::Write>(f: &mut fmt::Formatter<W>, reply: &Reply) -> fmt::Result {
+    match reply {
+        Ok(answer) => write!(f, "{answer}"),
+        Err(refusal) => write!(f, "{refusal}"),
+    }
+}
+
+/// Who asked what, and the reply: `t2 Assign 2: 11 AssignedToOther(1)`.
+impl fmt::Display for Row {
+    fn fmt<W: fmt::Write>(&self, f: &mut fmt::Formatter<W>) -> fmt::Result {
+        write!(f, "{} {}: ", self.actor, self.event)?;
+        write_reply(f, &self.reply)
+    }
+}
