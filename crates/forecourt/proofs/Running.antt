@@ -1,6 +1,6 @@
 -- A replay in its course, and how it ends.
-use Rattle.std.proofs.Common.{◌≡◌, ℕ, List, [], ◌∷◌, ◌++◌, Option, Some, true, refl, sym, ap, ◌∙◌, subst, append_assoc, append-nil}
-use Rattle.std.specs.Io.KnownBytes.{Appends, Consumes, Keeps}
+use Rattle.std.proofs.Common.{◌≡◌, ℕ, List, [], ◌∷◌, ◌++◌, Option, Some, is_some, inl, inr, true, refl, sym, ap, ◌∙◌, subst, append_assoc, append-nil}
+use Rattle.std.specs.Io.KnownBytes.{Appends, Consumes, Keeps, IsAtEnd}
 use Rattle.site_base.specs.Devices.{AppendsFront}
 use Rattle.site_base.proofs.Known.{known, Appends-then, Appends-none, Appends-front, AppendsFront-whole, AppendsFront-longer, AppendsFront-so_far, Consumes-none, Consumes-then, Consumes-kept}
 use Rattle.forecourt.specs.declared.fault.TextFault.{TextFault}
@@ -59,6 +59,7 @@ ends_unread st now a b c x y f book early r k = record {
   whole = λ late. cc;
   exact = λ late. cc;
   rows = λ late. cc;
+  there = λ late. cc;
 }
 
 -- a piece was read, and a front of its text was written
@@ -74,6 +75,7 @@ ends_early st now a b c x y z piece f book early r p q =
       whole = λ late. cc;
       exact = λ late. cc;
       rows = λ late. cc;
+      there = λ late. cc;
     }
 
 -- a piece was read, and there was no memory for its text
@@ -96,13 +98,14 @@ ends_late st now a b c x y z piece f book early r none p q = record {
   whole = λ late. cc;
   exact = λ late. cc;
   rows = λ late. cc;
+  there = λ late. cc;
 }
 
 -- the input has ended, and the last text is written
 pub ends_whole : (st now new : State) (a b c x y z : Option (List ℕ)) (piece text : List ℕ) (fault : Option TextFault) → Running st now a b x y
-    → piece ≡ [] → Consumes b c piece → text ≡ last_text now → Appends y z text → fault ≡ last_fault now → new ≡ ended now
+    → piece ≡ [] → Consumes b c piece → text ≡ last_text now → Appends y z text → fault ≡ last_fault now → new ≡ ended now → IsAtEnd c
     → Replayed st a c x z (as_fault fault) (Some new.book)
-ends_whole st now new a b c x y z piece text fault r none p told q why state =
+ends_whole st now new a b c x y z piece text fault r none p told q why state done =
     let last : text ≡ last_text (after st r.read) = told ∙ ap last_text r.leads in
     let written : Appends x z (text_of st r.read) = Appends-then x y z (text_from st r.read) (last_text (after st r.read)) r.written (subst (Appends y z) last q) in
     record {
@@ -112,6 +115,7 @@ ends_whole st now new a b c x y z piece text fault r none p told q why state =
       whole = λ late. written;
       exact = λ late. ap as_fault (why ∙ ap last_fault r.leads);
       rows = λ late. ap (λ (s : State). Some s.book) (state ∙ ap ended r.leads);
+      there = λ late. inr done;
     }
 
 -- ---- the end of the text
@@ -139,6 +143,7 @@ ends_stopped st now a b x y f r stop =
       whole = λ late. written;
       exact = λ late. ap as_fault (sym (stopped_fault (after st r.read) f there));
       rows = λ late. ap (λ (s : State). Some s.book) (r.leads ∙ sym (stopped_ended (after st r.read) f there));
+      there = λ late. inl (ap is_some there);
     }
 
 pub ruleset running = (known, starts)

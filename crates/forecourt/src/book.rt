@@ -52,6 +52,7 @@ impl SiteBook {
         ensures place { IfOk result (λ placed. placed.place ≡ length self.old.rows) }
         ensures room { OnOk result (is_full self.old ≡ false) }
         ensures full { IsErrOf result NoRow.BookFull → is_full self.old ≡ true }
+        ensures told_full { is_full self.old ≡ true → IsErrOf result NoRow.BookFull }
         ensures err { OnErr result (self.new ≡ self.old) }
     {
         if self.rows.len() >= self.config.rows() as usize {
@@ -74,9 +75,10 @@ impl SiteBook {
         })
     }
 
-    /// How many rows there are.
+    /// How many rows there are. They are a legal history of the configuration's site.
     pub fn len(&self) -> u64
-        ensures { result ≡ length self.now.rows }
+        ensures rows { result ≡ length self.now.rows }
+        ensures legal { IsLegal (opening self.now.config) self.now.rows }
     {
         self.rows.len() as u64
     }

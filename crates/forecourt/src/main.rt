@@ -19,9 +19,10 @@ mod tests;
 use crate::fault::ReplayFault;
 use crate::replay::replay;
 use crate::sites::known_site;
-use site_base::Counted;
+use site_base::{Counted, NoMemory};
+use std::env;
+use std::io::{self, ErrorKind};
 use std::process::ExitCode;
-use std::{env, io};
 
 /// The read calls and interrupted write calls that a replay may make.
 const TURNS: u64 = 1_000_000_000;
@@ -30,23 +31,30 @@ const TURNS: u64 = 1_000_000_000;
 const COMMAND_LINE: u8 = 2;
 
 fn main(rt: HostRuntime) -> ExitCode {
-    if has_arguments(&rt) {
-        return told(eprintln!(&rt; "usage: forecourt < MESSAGES"), COMMAND_LINE);
+    match has_arguments(&rt) {
+        Ok(false) => ended(&rt, replayed(&rt)),
+        Ok(true) => told(eprintln!(&rt; "usage: forecourt < MESSAGES"), COMMAND_LINE),
+        Err(NoMemory) => ended(&rt, Some(ReplayFault::NoMemory)),
     }
-    match replayed(&rt) {
+}
+
+/// Tells why the replay ended, if it ended with a fault.
+fn ended(rt: &impl Eprint, fault: Option<ReplayFault>) -> ExitCode {
+    match fault {
         None => ExitCode::SUCCESS,
-        Some(fault) => told(eprintln!(&rt; "{fault}"), status_of(fault)),
+        Some(fault) => told(eprintln!(rt; "{fault}"), status_of(fault)),
     }
 }
 
 /// Are there words behind the program's name? Words that aren't text count too.
-fn has_arguments(rt: &HostRuntime) -> bool {
+fn has_arguments(rt: &HostRuntime) -> Result<bool, NoMemory> {
     match env::args(rt) {
         Ok(mut words) => {
             let _name = words.next();
-            words.next().is_some()
+            Ok(words.next().is_some())
         }
-        Err(_) => true,
+        Err(error) if error.kind() == ErrorKind::OutOfMemory => Err(NoMemory),
+        Err(_) => Ok(true),
     }
 }
 

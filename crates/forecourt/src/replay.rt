@@ -1,6 +1,6 @@
 //! The replay: lines of messages in, lines of answers out.
 
-ghost use Rattle.std.specs.Prelude.{◌≡◌, [], Some, None, OnOk};
+ghost use Rattle.std.specs.Prelude.{◌≡◌, ◌⊎◌, [], Some, None, OnOk};
 ghost use Rattle.std.specs.Result.{IsErrOf, result_err};
 ghost use Rattle.std.specs.Io.KnownBytes.{IsAtEnd};
 ghost use Rattle.site_base.specs.Counted.{device_of, failures_of};
@@ -30,7 +30,8 @@ const PIECE_OCTETS: usize = 4_096;
 /// Replays lines of messages on the opening site of this configuration: each message is answered by
 /// a line, in order. It ends at the end of the input, at the first fault of the text, where a growth
 /// is refused, a device fails, or `turns` are used up (each read call and each interrupted write call
-/// is a turn). Whatever it ends with, what was written is a front of the text of what was read.
+/// is a turn). Whatever it ends with, what was written is a front of the text of what was read. It ends
+/// with a fault of the text only where the text stops at what was read, or the input is at its end.
 pub fn replay<R: Read, W: Write>(
     alloc: Global,
     config: &SiteConfig,
@@ -42,6 +43,8 @@ pub fn replay<R: Read, W: Write>(
         (R.remaining (device_of reader.old)) (R.remaining (device_of reader.new))
         (W.contents (device_of writer.old)) (W.contents (device_of writer.new)) result.fault result.book }
     ensures end { result.fault ≡ None → IsAtEnd (R.remaining (device_of reader.new)) }
+    ensures no_turns { turns ≡ 0
+        → (result.fault ≡ Some (ReplayFault.Read ReadFault.TurnLimit)) ⊎ (result.fault ≡ Some ReplayFault.NoMemory) }
     ensures unopened { result.book ≡ None → result.fault ≡ Some ReplayFault.NoMemory }
     ensures read_failed { result.fault ≡ Some (ReplayFault.Read ReadFault.Failed)
         → Rose (failures_of reader.old) (failures_of reader.new) }
@@ -77,6 +80,7 @@ fn run<R: Read, W: Write>(
         (R.remaining (device_of reader.old)) (R.remaining (device_of reader.new))
         (W.contents (device_of writer.old)) (W.contents (device_of writer.new)) (result_err result) (Some engine.new.book) }
     ensures end { OnOk result (IsAtEnd (R.remaining (device_of reader.new))) }
+    ensures no_turns { turns ≡ 0 → IsErrOf result (ReplayFault.Read ReadFault.TurnLimit) }
     ensures read_failed { IsErrOf result (ReplayFault.Read ReadFault.Failed)
         → Rose (failures_of reader.old) (failures_of reader.new) }
     ensures write_failed { IsErrOf result (ReplayFault.Write WriteFault.Failed)

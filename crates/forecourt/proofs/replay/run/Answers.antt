@@ -1,4 +1,4 @@
-use Rattle.std.proofs.Common.{◌≡◌, ◌++◌, ℕ, List, take, Some, ap, sym, ◌∙◌}
+use Rattle.std.proofs.Common.{◌≡◌, ◌++◌, ℕ, List, take, Some, ap, sym, ◌∙◌, arith}
 use Rattle.forecourt.specs.declared.fault.ReplayFault.{ReplayFault}
 use Rattle.forecourt.specs.Replay.{is_early}
 use Rattle.std.proofs.lemmas.Result.{err_from_is_err_and}
@@ -21,7 +21,7 @@ pub returns-then-n-eq0-clause-told : goal.returns-then-n-eq0-clause-told
 returns-then-n-eq0-clause-told g c =
     let told : c.deref.result.now ≡ last_text c.loop-n.engine = c.deref.ensures.value ∙ c.in_ok-fault.ensures.text ∙ ap (λ (t : List ℕ). t ++ last_text c.loop-n.engine) c.new-text.ensures.items in
     let none = ap (λ (k : ℕ). take k c.read_piece.new.buf) c.if-n-eq0.true in
-    let whole = ends_whole _ _ _ _ _ _ _ _ _ _ _ _ c.loop-n.invariant.running none c.in_ok-n.ensures.bytes told c.in_ok-write_whole.ensures.ok c.in_ok-fault.ensures.fault c.in_ok-fault.ensures.state in
+    let whole = ends_whole _ _ _ _ _ _ _ _ _ _ _ _ c.loop-n.invariant.running none c.in_ok-n.ensures.bytes told c.in_ok-write_whole.ensures.ok c.in_ok-fault.ensures.fault c.in_ok-fault.ensures.state (c.in_ok-n.ensures.end c.if-n-eq0.true) in
     elim c.match-fault.branch [
       | in-None w ↦ rw w.result-is (rw w.in-None.is at whole)
       | in-Some w ↦ rw w.result-is (rw w.in-Some.is at whole)
@@ -55,4 +55,5 @@ loop-n-preserved g c =
       running = goes_on _ _ _ _ _ _ _ _ _ _ _ c.loop-n.invariant.running c.in_ok-n.ensures.bytes c.in_ok-feed.ensures.state told c.in_ok-write_whole-2.ensures.ok;
       reads = c.in_ok-n.ensures.counted ∙ c.loop-n.invariant.reads;
       writes = c.in_ok-write_whole-2.ensures.counted ∙ c.loop-n.invariant.writes;
+      unturned = omega (arith, c.loop-n.invariant.unturned, c.in_ok-n.ensures.spent, c.in_ok-write_whole-2.ensures.turns);
     }

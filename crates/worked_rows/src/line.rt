@@ -1,0 +1,86 @@
+//! What a line of a table says.
+
+use crate::asked::{actor_of, event_of, point_of, till_of};
+use anyhow::{Context, bail};
+use site_base::{
+    Actor, Event, FpNo, Millilitres, Mills, NozzleEntry, PointEntry, ProductEntry, ProductNo,
+    TillNo,
+};
+use std::alloc::Global;
+
+/// What a line of a table says.
+#[derive(Drop)]
+pub enum Line {
+    /// An empty line, or a comment: it ends a paragraph, and is printed as it is.
+    Text(String),
+    /// `rows 10`: a site begins, with the most rows of its history.
+    Rows(u32),
+    /// `manager 1`
+    Manager(TillNo),
+    /// `product 1 diesel 1500`
+    Product(ProductEntry),
+    /// `point 2 1@0 2@1000`: each nozzle's product and opening reading.
+    Point(PointEntry),
+    /// `repeat 998`: the paragraph of events that follows is run so often; the last run is printed.
+    Repeat(u32),
+    /// `show 3`: the point as the site shows it.
+    Show(FpNo),
+    /// `leave 1`: the till is signed off, if it is signed on.
+    Leave(TillNo),
+    /// `t1 Open 3`
+    Asked(Actor, Event),
+}
+
+impl Line {
+    /// Reads a line.
+    pub fn read(alloc: Global, text: &str) -> anyhow::Result<Line> {
+        let words: Vec<&str> = text.split_whitespace().collect(alloc)?;
+        match *words {
+            [] => Ok(Line::Text(String::new(alloc))),
+            ["rows", rows] => Ok(Line::Rows(rows.parse()?)),
+            ["manager", t] => Ok(Line::Manager(till_of(t).context("no till")?)),
+            ["product", q, name, price] => Ok(Line::Product(product_of(alloc, q, name, price)?)),
+            ["point", p, ref nozzles @ ..] => Ok(Line::Point(entry_of(alloc, p, nozzles)?)),
+            ["repeat", times] => Ok(Line::Repeat(times.parse()?)),
+            ["show", p] => Ok(Line::Show(point_of(p).context("no point")?)),
+            ["leave", t] => Ok(Line::Leave(till_of(t).context("no till")?)),
+            [first, ref rest @ ..] => {
+                if first.starts_with('#') {
+                    return Ok(Line::Text(String::from_str(alloc, text)?));
+                }
+                match (actor_of(first), event_of(rest)) {
+                    (Some(actor), Some(event)) => Ok(Line::Asked(actor, event)),
+                    _ => bail!("no such line: {text}"),
+                }
+            }
+        }
+    }
+}
+
+fn product_of(alloc: Global, q: &str, name: &str, price: &str) -> anyhow::Result<ProductEntry> {
+    Ok(ProductEntry {
+        number: ProductNo::new(q.parse()?).context("no product")?,
+        name: String::from_str(alloc, name)?,
+        price: Mills::new(price.parse()?).context("no price")?,
+    })
+}
+
+fn entry_of(alloc: Global, p: &str, words: &[&str]) -> anyhow::Result<PointEntry> {
+    let mut nozzles = Vec::new(alloc);
+    for word in words {
+        nozzles.push(nozzle_of(word)?)?;
+    }
+    Ok(PointEntry {
+        number: point_of(p).context("no point")?,
+        nozzles,
+    })
+}
+
+/// `2@1000`: a nozzle of product 2 whose meter reads 1000.
+fn nozzle_of(word: &str) -> anyhow::Result<NozzleEntry> {
+    let (q, reading) = word.split_once('@').context("no nozzle")?;
+    Ok(NozzleEntry {
+        product: ProductNo::new(q.parse()?).context("no product")?,
+        reading: Millilitres::new(reading.parse()?).context("no reading")?,
+    })
+}

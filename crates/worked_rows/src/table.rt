@@ -1,0 +1,162 @@
+//! A table, as it is run and printed.
+
+use crate::draft::Draft;
+use crate::line::Line;
+use anyhow::Context;
+use site_base::{Actor, Event, NoMemory, Reply, Row, SiteConfig};
+use site_core::{RunStopped, Site, run};
+use std::alloc::Global;
+use std::mem;
+
+/// The site that is written or run, and the events of the paragraph so far.
+#[derive(Drop)]
+pub struct Table {
+    alloc: Global,
+    draft: Draft,
+    site: Option<Site>,
+    events: Vec<(Actor, Event)>,
+    times: u32,
+}
+
+impl Table {
+    /// A table before its first line.
+    pub fn new(alloc: Global) -> Table {
+        Table {
+            alloc,
+            draft: Draft::new(alloc, 0),
+            site: None,
+            events: Vec::new(alloc),
+            times: 1,
+        }
+    }
+
+    /// Takes a line. An event joins its paragraph; every other line ends one.
+    pub fn take(&mut self, rt: &(impl Print + Eprint), line: Line) -> anyhow::Result<()> {
+        if let Line::Asked(actor, event) = line {
+            self.events.push((actor, event))?;
+            return Ok(());
+        }
+        self.end(rt)?;
+        match line {
+            Line::Text(text) => println!(rt; "{text}")?,
+            Line::Rows(rows) => {
+                self.site = None;
+                self.draft = Draft::new(self.alloc, rows);
+            }
+            Line::Manager(till) => self.draft.managers.push(till)?,
+            Line::Product(product) => self.draft.products.push(product)?,
+            Line::Point(point) => self.draft.points.push(point)?,
+            Line::Repeat(times) => self.times = times,
+            _ => self.show(rt, &line)?,
+        }
+        Ok(())
+    }
+
+    /// Ends the paragraph: its events are run, as often as it says, and the rows of the last run printed.
+    pub fn end(&mut self, rt: &(impl Print + Eprint)) -> anyhow::Result<()> {
+        if self.events.is_empty() {
+            return Ok(());
+        }
+        let alloc = self.alloc;
+        let events = mem::replace(&mut self.events, Vec::new(alloc));
+        let times = mem::replace(&mut self.times, 1);
+        let site = self.opened(rt)?;
+        for _ in 1..times {
+            let _ = replies_to(rt, alloc, site, &events)?;
+        }
+        let replies = replies_to(rt, alloc, site, &events)?;
+        print_rows(rt, &events, &replies)
+    }
+
+    /// The site, opened if it isn't.
+    fn opened(&mut self, rt: &impl Eprint) -> anyhow::Result<&mut Site> {
+        if self.site.is_none() {
+            let draft = mem::replace(&mut self.draft, Draft::new(self.alloc, 0));
+            let config = draft.into_config().context("the site isn't fit")?;
+            self.site = Some(open(rt, self.alloc, &config)?);
+        }
+        self.site.as_mut().context("no site")
+    }
+
+    /// Prints what a line asks of the site itself.
+    fn show(&mut self, rt: &(impl Print + Eprint), line: &Line) -> anyhow::Result<()> {
+        let site = self.opened(rt)?;
+        match line {
+            Line::Show(p) => match site.point(*p) {
+                Some(view) => println!(rt; "show {}: {view}", p.get())?,
+                None => println!(rt; "show {}: none", p.get())?,
+            },
+            Line::Leave(t) => {
+                let was = site.signed_on(*t);
+                if was {
+                    site.sign_off(*t);
+                }
+                println!(rt; "leave {}: {was}", t.get())?;
+            }
+            _ => {}
+        }
+        Ok(())
+    }
+}
+
+/// Opens a site. After a refused growth it is opened again.
+fn open(rt: &impl Eprint, alloc: Global, config: &SiteConfig) -> anyhow::Result<Site> {
+    match Site::try_open(alloc, config) {
+        Ok(site) => Ok(site),
+        Err(NoMemory) => {
+            eprintln!(rt; "a growth was refused")?;
+            Ok(Site::try_open(alloc, config)?)
+        }
+    }
+}
+
+/// The replies of a run: those of its first `lost` events were lost with a refused growth.
+#[derive(Drop)]
+struct Replies {
+    lost: usize,
+    replies: Vec<Reply>,
+}
+
+/// Runs the events. After a refused growth the events that aren't done are run.
+fn replies_to(
+    rt: &impl Eprint,
+    alloc: Global,
+    site: &mut Site,
+    events: &[(Actor, Event)],
+) -> anyhow::Result<Replies> {
+    match run(alloc, site, events) {
+        Ok(replies) => Ok(Replies { lost: 0, replies }),
+        Err(RunStopped { done }) => {
+            eprintln!(rt; "a growth was refused")?;
+            match run(alloc, site, &events[done..]) {
+                Ok(replies) => Ok(Replies {
+                    lost: done,
+                    replies,
+                }),
+                Err(_) => Err(NoMemory.into()),
+            }
+        }
+    }
+}
+
+/// The row of the event at a place, if its reply isn't lost.
+fn row_at(events: &[(Actor, Event)], replies: &Replies, place: usize) -> Option<Row> {
+    let (actor, event) = events.get(place)?;
+    let reply = replies.replies.get(place.checked_sub(replies.lost)?)?;
+    Some(Row {
+        actor: *actor,
+        event: *event,
+        reply: *reply,
+    })
+}
+
+/// Prints the rows of a run.
+fn print_rows(rt: &impl Print, events: &[(Actor, Event)], replies: &Replies) -> anyhow::Result<()> {
+    for place in 0..events.len() {
+        match row_at(events, replies, place) {
+            Some(row) => println!(rt; "{row}")?,
+            None => println!(rt; "lost")?,
+        }
+    }
+    Ok(())
+}

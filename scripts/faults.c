@@ -1,0 +1,123 @@
+/* Loaded before a program under test, so that what the system gives it fails where the test says:
+ *
+ *   REFUSE_GROWTH=N    the Nth growth of the process is refused, once
+ *   FAIL_READ=K        the Kth read of standard input fails
+ *   FAIL_WRITE=K       the Kth write to standard output fails
+ *   SHORT_WRITE=M      a write to standard output takes at most M octets
+ *   TAKE_ALL=M         standard output takes M octets in all, and then none
+ *   INTERRUPT=1        every second read and write is interrupted
+ *   MET=FILE           is made when the growth, the read or the write met its fault
+ */
+#include <errno.h>
+#include <fcntl.h>
+#include <stdlib.h>
+#include <sys/syscall.h>
+#include <unistd.h>
+
+extern void *__libc_malloc(size_t size);
+extern void *__libc_realloc(void *old, size_t size);
+extern void *__libc_calloc(size_t count, size_t size);
+extern void *__libc_memalign(size_t alignment, size_t size);
+
+static long number(const char *name)
+{
+    const char *text = getenv(name);
+    return text ? atol(text) : 0;
+}
+
+static void met(void)
+{
+    const char *path = getenv("MET");
+    if (path)
+        close(open(path, O_CREAT | O_WRONLY, 0600));
+}
+
+/* Is this the call that fails? */
+static int fails(const char *name, long *calls)
+{
+    long wanted = number(name);
+    if (wanted == 0 || ++*calls != wanted)
+        return 0;
+    met();
+    return 1;
+}
+
+static long growths, reads, writes, taken;
+static int read_before, written_before;
+
+void *malloc(size_t size)
+{
+    return fails("REFUSE_GROWTH", &growths) ? NULL : __libc_malloc(size);
+}
+
+void *calloc(size_t count, size_t size)
+{
+    return fails("REFUSE_GROWTH", &growths) ? NULL : __libc_calloc(count, size);
+}
+
+void *realloc(void *old, size_t size)
+{
+    return fails("REFUSE_GROWTH", &growths) ? NULL : __libc_realloc(old, size);
+}
+
+void *aligned_alloc(size_t alignment, size_t size)
+{
+    return fails("REFUSE_GROWTH", &growths) ? NULL : __libc_memalign(alignment, size);
+}
+
+int posix_memalign(void **result, size_t alignment, size_t size)
+{
+    void *room = aligned_alloc(alignment, size);
+    if (!room)
+        return ENOMEM;
+    *result = room;
+    return 0;
+}
+
+static int interrupted(int *before)
+{
+    if (!number("INTERRUPT"))
+        return 0;
+    *before = !*before;
+    if (*before)
+        errno = EINTR;
+    return *before;
+}
+
+ssize_t read(int file, void *room, size_t size)
+{
+    if (file == 0) {
+        if (interrupted(&read_before))
+            return -1;
+        if (fails("FAIL_READ", &reads)) {
+            errno = EIO;
+            return -1;
+        }
+    }
+    return syscall(SYS_read, file, room, size);
+}
+
+ssize_t write(int file, const void *text, size_t size)
+{
+    if (file == 1) {
+        if (interrupted(&written_before))
+            return -1;
+        if (fails("FAIL_WRITE", &writes)) {
+            errno = EIO;
+            return -1;
+        }
+        if (number("SHORT_WRITE") && size > (size_t)number("SHORT_WRITE"))
+            size = number("SHORT_WRITE");
+        if (getenv("TAKE_ALL")) {
+            size_t left = number("TAKE_ALL") - taken;
+            if (size > left) {
+                met();
+                size = left;
+            }
+            if (size == 0)
+                return 0;
+            taken += size;
+        }
+    }
+    return syscall(SYS_write, file, text, size);
+}
