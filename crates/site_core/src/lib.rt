@@ -12,8 +12,6 @@ mod signed_on;
 mod signing;
 mod site;
 mod site_parts;
-#[cfg(test)]
-mod tests;
 
 pub use runs::{RunStopped, run};
 pub use site::Site;

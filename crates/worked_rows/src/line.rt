@@ -21,7 +21,8 @@ pub enum Line {
     Product(ProductEntry),
     /// `point 2 1@0 2@1000`: each nozzle's product and opening reading.
     Point(PointEntry),
-    /// `repeat 998`: the paragraph of events that follows is run so often; the last run is printed.
+    /// `repeat 998`: the paragraph of events that follows is run so often, in one run; its last rows are
+    /// printed.
     Repeat(u32),
     /// `show 3`: the point as the site shows it.
     Show(FpNo),

@@ -52,20 +52,17 @@ impl Table {
         Ok(())
     }
 
-    /// Ends the paragraph: its events are run, as often as it says, and the rows of the last run printed.
+    /// Ends the paragraph: its events are run, in one run as often as it says, and the last rows printed.
     pub fn end(&mut self, rt: &(impl Print + Eprint)) -> anyhow::Result<()> {
         if self.events.is_empty() {
             return Ok(());
         }
         let alloc = self.alloc;
-        let events = mem::replace(&mut self.events, Vec::new(alloc));
+        let paragraph = mem::replace(&mut self.events, Vec::new(alloc));
         let times = mem::replace(&mut self.times, 1);
-        let site = self.opened(rt)?;
-        for _ in 1..times {
-            let _ = replies_to(rt, alloc, site, &events)?;
-        }
-        let replies = replies_to(rt, alloc, site, &events)?;
-        print_rows(rt, &events, &replies)
+        let events = repeated(alloc, &paragraph, times)?;
+        let replies = replies_to(rt, alloc, self.opened(rt)?, &events)?;
+        print_rows(rt, &events, &replies, paragraph.len())
     }
 
     /// The site, opened if it isn't.
@@ -97,6 +94,19 @@ impl Table {
         }
         Ok(())
     }
+}
+
+/// The events of a paragraph, so often.
+fn repeated(
+    alloc: Global,
+    paragraph: &[(Actor, Event)],
+    times: u32,
+) -> Result<Vec<(Actor, Event)>, NoMemory> {
+    let mut events = Vec::new(alloc);
+    for _ in 0..times {
+        events.extend_from_slice(paragraph)?;
+    }
+    Ok(events)
 }
 
 /// Opens a site. After a refused growth it is opened again.
@@ -150,9 +160,14 @@ fn row_at(events: &[(Actor, Event)], replies: &Replies, place: usize) -> Option<
     })
 }
 
-/// Prints the rows of a run.
-fn print_rows(rt: &impl Print, events: &[(Actor, Event)], replies: &Replies) -> anyhow::Result<()> {
-    for place in 0..events.len() {
+/// Prints the last rows of a run.
+fn print_rows(
+    rt: &impl Print,
+    events: &[(Actor, Event)],
+    replies: &Replies,
+    last: usize,
+) -> anyhow::Result<()> {
+    for place in events.len().saturating_sub(last)..events.len() {
         match row_at(events, replies, place) {
             Some(row) => println!(rt; "{row}")?,
             None => println!(rt; "lost")?,
