@@ -64,14 +64,15 @@ impl SiteBook {
         self.site.prepare(*actor, event)?;
         let place = self.rows.len() as u64;
         let reply = &self.site.step(*actor, *event);
-        self.rows.push(Row {
+        let row = &Row {
             actor: *actor,
             event: *event,
             reply: *reply,
-        });
+        };
+        self.rows.push(*row);
         Ok(Placed {
             place,
-            reply: *reply,
+            reply: row.reply,
         })
     }
 
