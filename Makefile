@@ -1,23 +1,24 @@
 # The forecourt site controller. `make` alone says what there is.
 
-# The crates whose calls can want memory.
-GROWING := site_base app_message meters till_claims shift_ledger transaction_buffer site_core device_map forecourt
 PROGRAM := crates/forecourt/out/forecourt
+CRATES := $(notdir $(patsubst %/,%,$(dir $(wildcard crates/*/wrong-bodies))))
 
-.PHONY: help run try check test bench
+.PHONY: help run build check test audit bench
 
 help:
-	@echo 'make run    proves and builds the program, and runs it on the three stored messages'
-	@echo 'make try    runs it on them at once, without proof'
-	@echo 'make check  proves every crate, lowest first'
-	@echo 'make test   the gate: every proof from nothing, every test, and the built program'
-	@echo 'make bench  messages a second, memory, and their growth with the input'
+	@echo 'make run      compiles the program without proof and runs it on the three stored messages'
+	@echo 'make build    proves and builds the program: $(PROGRAM)'
+	@echo 'make check    proves every crate, lowest first'
+	@echo 'make test     the gate: every proof from nothing, the wrong bodies of the first shelf, every test,'
+	@echo '              the built programs, refused growths and failing devices'
+	@echo 'make audit    the wrong bodies of the second shelf, of every crate or of CRATES="a b"'
+	@echo 'make bench    messages a second, memory, and their growth with the input'
 
 run:
-	@cd crates/forecourt && rt run < stdin
-
-try:
 	@cd crates/forecourt && rt try < stdin
+
+build:
+	@cd crates/forecourt && rt run < stdin > /dev/null && echo '$(PROGRAM)'
 
 check:
 	rt all check
@@ -25,8 +26,10 @@ check:
 test:
 	rt ci
 	scripts/test-program $(PROGRAM)
-	for crate in $(GROWING); do scripts/refuse-growths $$crate || exit 1; done
+	scripts/test-faults
 
-bench:
-	@test -x $(PROGRAM) || (cd crates/forecourt && rt run < stdin > out/bench.text)
+audit:
+	scripts/audit $(CRATES)
+
+bench: build
 	@scripts/bench $(PROGRAM)

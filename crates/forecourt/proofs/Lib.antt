@@ -1,3 +1,4 @@
 pub mod Books
 pub mod Lines
+pub mod WholeTexts
 pub mod Running

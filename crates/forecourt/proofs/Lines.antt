@@ -13,7 +13,7 @@ use Rattle.forecourt.proofs.Running.{after-append, text_from-append}
 use Rattle.forecourt.specs.Laws.{between, IsLine, LineSays, LastLineSays, LongLineSays, NothingFollows}
 
 -- in a line whose first octets are these
-abbrev within : List ℕ → ℕ → Held → Book → State
+abbrev pub within : List ℕ → ℕ → Held → Book → State
 within line number stream book = record { line = line; number = number; stream = stream; book = book; stop = None }
 
 and_both : (a b : Bool) → (a && b) ≡ true → (a ≡ true) × (b ≡ true)
@@ -25,7 +25,7 @@ not_true true e = absurd cc
 not_true false e = refl
 
 -- an octet that goes on with the line
-goes_on : (line : List ℕ) (number : ℕ) (stream : Held) (book : Book) (b : ℕ) → eqb b 10 ≡ false → length line < LINE_OCTETS
+pub goes_on : (line : List ℕ) (number : ℕ) (stream : Held) (book : Book) (b : ℕ) → eqb b 10 ≡ false → length line < LINE_OCTETS
     → (next (within line number stream book) b ≡ within (line ++ b ∷ []) number stream book) × (said (within line number stream book) b ≡ [])
 goes_on line number stream book b other short = (rw (other, lt-leb _ _ short) refl, rw other refl)
 
@@ -76,7 +76,7 @@ nothing_follows st f (b ∷ bs) stop =
     )
 
 -- a line as long as a line may be, in which one more octet stands
-abbrev stopped : List ℕ → ℕ → Held → Book → State
+abbrev pub stopped : List ℕ → ℕ → Held → Book → State
 stopped line number stream book = record { line = line; number = number; stream = stream; book = book; stop = Some (TooLong number) }
 
 record EndsLong (st : State) (number : ℕ) (book : Book) (text : List ℕ) : Type 0 where

@@ -120,13 +120,13 @@ ends_whole st now new a b c x y z piece text fault r none p told q why state don
 
 -- ---- the end of the text
 
-stopped_says : (st : State) (f : TextFault) → st.stop ≡ Some f → last_text st ≡ []
+pub stopped_says : (st : State) (f : TextFault) → st.stop ≡ Some f → last_text st ≡ []
 stopped_says st f e = ap (λ (s : Option TextFault). last_says s st) e
 
-stopped_ended : (st : State) (f : TextFault) → st.stop ≡ Some f → ended st ≡ st
+pub stopped_ended : (st : State) (f : TextFault) → st.stop ≡ Some f → ended st ≡ st
 stopped_ended st f e = ap (λ (s : Option TextFault). ends s st) e
 
-stopped_fault : (st : State) (f : TextFault) → st.stop ≡ Some f → last_fault st ≡ Some f
+pub stopped_fault : (st : State) (f : TextFault) → st.stop ≡ Some f → last_fault st ≡ Some f
 stopped_fault st f e = ap (λ (s : State). fault_at_end s.stop s) (stopped_ended st f e) ∙ ap (λ (s : Option TextFault). fault_at_end s st) e
 
 -- the text has ended

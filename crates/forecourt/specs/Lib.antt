@@ -4,4 +4,5 @@ pub mod Answers
 pub mod Text
 pub mod Replay
 pub mod Ends
+pub mod WholeText
 pub mod Laws
