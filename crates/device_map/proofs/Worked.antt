@@ -12,7 +12,7 @@ use Rattle.app_message.specs.Spelling.{spelling}
 use Rattle.device_map.specs.declared.fault.MapFault.TheVariants.{NotForUs, BadOriginator, BadAddress, UnknownItem, ItemMissing, BadNumber}
 use Rattle.device_map.specs.Nodes.{for_us, till_at}
 use Rattle.device_map.specs.Addresses.{database_at}
-use Rattle.device_map.specs.Requests.{read_at, write_at, request_at}
+use Rattle.device_map.specs.Requests.{command_in, read_at, request_at}
 use Rattle.device_map.specs.Replies.{reply_message, number_message}
 
 abbrev sign_on : Telegram
@@ -41,11 +41,11 @@ abbrev release_3 : Telegram
 release_3 = telegram (1 ∷ 1 ∷ []) (2 ∷ 2 ∷ []) Write 6 (35 ∷ []) (entry 62 [] ∷ [])
 
 asks_sign_on : request_at sign_on ≡ Ok (Till 1, SignOn)
-unfolding request_at for_us till_at database_at write_at
+unfolding request_at for_us till_at database_at command_in
 asks_sign_on = refl
 
 asks_open : request_at open_3 ≡ Ok (Till 1, Open 3)
-unfolding request_at for_us till_at database_at write_at
+unfolding request_at for_us till_at database_at command_in
 asks_open = refl
 
 asks_read : request_at read_3 ≡ Ok (Till 1, ReadPoint 3)
@@ -53,15 +53,15 @@ unfolding request_at for_us till_at database_at read_at
 asks_read = refl
 
 asks_assign : request_at assign_2 ≡ Ok (Till 1, Assign 2)
-unfolding request_at for_us till_at database_at write_at
+unfolding request_at for_us till_at database_at command_in
 asks_assign = refl
 
 asks_unassign : request_at unassign_2 ≡ Ok (Till 1, Unassign 2)
-unfolding request_at for_us till_at database_at write_at
+unfolding request_at for_us till_at database_at command_in
 asks_unassign = refl
 
 asks_sign_off : request_at sign_off ≡ Ok (Till 1, SignOff)
-unfolding request_at for_us till_at database_at write_at
+unfolding request_at for_us till_at database_at command_in
 asks_sign_off = refl
 
 assign_is_spelled : spelling assign_2 ≡ 1 ∷ 1 ∷ 2 ∷ 1 ∷ 0 ∷ 68 ∷ 0 ∷ 4 ∷ 1 ∷ 34 ∷ 66 ∷ 0 ∷ []
@@ -81,28 +81,28 @@ unfolding request_at for_us till_at database_at
 another_address = refl
 
 no_command : request_at (telegram (1 ∷ 1 ∷ []) (2 ∷ 1 ∷ []) Write 1 (33 ∷ []) []) ≡ Err ItemMissing
-unfolding request_at for_us till_at database_at write_at
+unfolding request_at for_us till_at database_at command_in
 no_command = refl
 
 strange_command : request_at (telegram (1 ∷ 1 ∷ []) (2 ∷ 1 ∷ []) Write 1 (33 ∷ []) (entry 49 (0 ∷ []) ∷ [])) ≡ Err UnknownItem
-unfolding request_at for_us till_at database_at write_at
+unfolding request_at for_us till_at database_at command_in
 strange_command = refl
 
 filled_command : request_at (telegram (1 ∷ 1 ∷ []) (2 ∷ 1 ∷ []) Write 1 (33 ∷ []) (entry 60 (0 ∷ []) ∷ [])) ≡ Err BadNumber
-unfolding request_at for_us till_at database_at write_at
+unfolding request_at for_us till_at database_at command_in
 filled_command = refl
 
 -- a point's command to the site, the site's to a point, and a command behind another
 assign_of_the_site : request_at (telegram (1 ∷ 1 ∷ []) (2 ∷ 1 ∷ []) Write 1 (1 ∷ []) (entry 66 [] ∷ [])) ≡ Err UnknownItem
-unfolding request_at for_us till_at database_at write_at
+unfolding request_at for_us till_at database_at command_in
 assign_of_the_site = refl
 
 sign_off_of_a_point : request_at (telegram (1 ∷ 1 ∷ []) (2 ∷ 1 ∷ []) Write 1 (34 ∷ []) (entry 50 [] ∷ [])) ≡ Err UnknownItem
-unfolding request_at for_us till_at database_at write_at
+unfolding request_at for_us till_at database_at command_in
 sign_off_of_a_point = refl
 
 two_commands : request_at (telegram (1 ∷ 1 ∷ []) (2 ∷ 1 ∷ []) Write 1 (34 ∷ []) (entry 66 [] ∷ entry 67 [] ∷ [])) ≡ Err UnknownItem
-unfolding request_at for_us till_at database_at write_at
+unfolding request_at for_us till_at database_at command_in
 two_commands = refl
 
 done_is_told : spelling (reply_message sign_on (Ok Done)) ≡ 2 ∷ 1 ∷ 1 ∷ 1 ∷ 0 ∷ 225 ∷ 0 ∷ 8 ∷ 1 ∷ 1 ∷ 1 ∷ 1 ∷ 0 ∷ 3 ∷ 1 ∷ 0 ∷ []
