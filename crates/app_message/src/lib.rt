@@ -26,6 +26,3 @@ pub use message::Message;
 pub use messages::Messages;
 pub use token::Token;
 pub use writing::encode;
-
-#[cfg(test)]
-mod tests;
