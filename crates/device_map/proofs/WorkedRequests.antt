@@ -13,7 +13,8 @@ use Rattle.app_message.proofs.Hexadecimal.{octets}
 use Rattle.device_map.specs.declared.address.Database.{Database}
 use Rattle.device_map.specs.declared.address.Database.TheVariants.{Site, Point, Transaction, Product}
 use Rattle.device_map.specs.declared.fault.MapFault.{MapFault}
-use Rattle.device_map.specs.declared.fault.MapFault.TheVariants.{NotARequest, NotForUs, BadOriginator, BadAddress, UnknownItem, ItemMissing, BadDecimal, BadNumber}
+use Rattle.device_map.specs.declared.fault.MapFault.TheVariants.{
+  NotARequest, NotForUs, BadOriginator, BadAddress, UnknownItem, ItemMissing, BadDecimal, BadNumber}
 use Rattle.device_map.specs.Faults.{map_number}
 use Rattle.device_map.specs.Nodes.{for_us, till_at, dispenser_at}
 use Rattle.device_map.specs.Addresses.{database_at}
@@ -49,7 +50,8 @@ requests =
     ∷ []
 
 requests_ask : map (λ row. read_in row.text) requests ≡ map (λ row. row.pair ∷ []) requests
-unfolding request_at for_us till_at database_at command_in read_at walk front_at header_at item_at items_at address_at body_at
+unfolding request_at for_us till_at database_at command_in read_at
+  walk front_at header_at item_at items_at address_at body_at
 requests_ask = refl
 
 -- in each group the first fault is told: what stands behind it is wrong too
