@@ -1,19 +1,24 @@
--- Worked messages, by computing the definitions: octets written down from the layout, and what they mean.
+-- Worked messages, by computing the definitions: octets written down from the layout, and what they
+-- mean.
 use Prim.Native.String.{String}
-use Rattle.std.specs.Prelude.{◌≡◌, ℕ, List, [], ◌∷◌, ◌++◌, map, take, drop, replicate, Option, Some, None, Ok}
+use Rattle.std.specs.Prelude.{
+  ◌≡◌, ℕ, List, [], ◌∷◌, ◌++◌, map, take, drop, replicate, Option, Some, None, Ok}
 use Rattle.std.proofs.Common.{refl}
 use Rattle.app_message.specs.declared.fault.GrammarFault.{GrammarFault}
 use Rattle.app_message.specs.declared.fault.GrammarFault.TheVariants as grammar
 use Rattle.app_message.specs.declared.fault.MessageFault.{MessageFault}
-use Rattle.app_message.specs.declared.fault.MessageFault.TheVariants.{BadLength, BadItem, Truncated, NoMemory}
+use Rattle.app_message.specs.declared.fault.MessageFault.TheVariants.{
+  BadLength, BadItem, Truncated, NoMemory}
 use Rattle.app_message.specs.declared.fault.StreamFault.{StreamFault}
-use Rattle.app_message.specs.declared.kind.Kind.TheVariants.{Read, Answer, Write, Report, Notice, Ack}
+use Rattle.app_message.specs.declared.kind.Kind.TheVariants.{
+  Read, Answer, Write, Report, Notice, Ack}
 use Rattle.app_message.specs.Telegram.{Entry, Telegram, entry, telegram}
 use Rattle.app_message.specs.Spelling.{kind_code, spelling}
 use Rattle.app_message.specs.Parts.{parts_fault}
 use Rattle.app_message.specs.Numbers.{as_message_fault, grammar_number, message_number}
 use Rattle.app_message.specs.Grammar.{header_at, item_at, items_at, address_at, body_at, front_at}
-use Rattle.app_message.specs.Stream.{Stream, Held, stream, walked, walk, stream_of, held, held_after, fed_by}
+use Rattle.app_message.specs.Stream.{
+  Stream, Held, stream, walked, walk, stream_of, held, held_after, fed_by}
 use Rattle.app_message.proofs.Hexadecimal.{octets}
 
 -- ---- messages and their octets
@@ -22,7 +27,8 @@ use Rattle.app_message.proofs.Hexadecimal.{octets}
 abbrev sign_on : Telegram
 sign_on = telegram (octets "01 01") (octets "02 01") Write 1 (octets "01") (entry 0x31 [] ∷ [])
 
--- point 3 reports a lift: Report with token 0, address 23, items 62, 70 with nozzle 1 and 71 with a reading
+-- point 3 reports a lift: Report with token 0, address 23, items 62, 70 with nozzle 1 and 71 with a
+-- reading
 abbrev lift : Telegram
 lift = telegram (octets "01 01") (octets "03 03") Report 0 (octets "23")
     (entry 0x62 [] ∷ entry 0x70 (octets "01") ∷ entry 0x71 (octets "00 00 00 00 00 00 00 05") ∷ [])
@@ -40,7 +46,8 @@ lift_is_spelled : spelling lift ≡ lift_text
 lift_is_spelled = refl
 
 -- the three bits of each kind
-kinds_are : map kind_code (Read ∷ Answer ∷ Write ∷ Report ∷ Notice ∷ Ack ∷ []) ≡ 0 ∷ 1 ∷ 2 ∷ 3 ∷ 4 ∷ 7 ∷ []
+kinds_are : map kind_code (Read ∷ Answer ∷ Write ∷ Report ∷ Notice ∷ Ack ∷ [])
+    ≡ 0 ∷ 1 ∷ 2 ∷ 3 ∷ 4 ∷ 7 ∷ []
 kinds_are = refl
 
 -- ---- reading, whole and by the octet
@@ -57,7 +64,8 @@ both_are_read : stream_of (sign_on_text ++ lift_text) ≡ stream (sign_on ∷ li
 unfolding walk front_at header_at item_at items_at address_at body_at
 both_are_read = refl
 
-both_are_read_by_octets : by_octets (sign_on_text ++ lift_text) ≡ stream (sign_on ∷ lift ∷ []) [] None
+both_are_read_by_octets :
+    by_octets (sign_on_text ++ lift_text) ≡ stream (sign_on ∷ lift ∷ []) [] None
 unfolding walk front_at header_at item_at items_at address_at body_at
 both_are_read_by_octets = refl
 
@@ -83,36 +91,40 @@ is_told text fault number = record { text = text; fault = fault; number = number
 abbrev faults : List FaultRow
 faults =
     -- another code, and the kinds 5 and 6
-      is_told "01 41 00 04" grammar.BadCode 40
-    ∷ is_told "FF A1 00 01" grammar.BadCode 40
-    ∷ is_told "00 A1 00 04" grammar.BadKind 41
-    ∷ is_told "00 C1 00 04" grammar.BadKind 41
-    ∷ is_told "00 C1 00 01" grammar.BadKind 41
+    is_told "01 41 00 04" grammar.BadCode 40 ∷
+    is_told "FF A1 00 01" grammar.BadCode 40 ∷
+    is_told "00 A1 00 04" grammar.BadKind 41 ∷
+    is_told "00 C1 00 04" grammar.BadKind 41 ∷
+    is_told "00 C1 00 01" grammar.BadKind 41 ∷
     -- a body of 0, 1 and 1,025 octets
-    ∷ is_told "00 41 00 00" grammar.BadLength 42
-    ∷ is_told "00 41 00 01" grammar.BadLength 42
-    ∷ is_told "00 41 04 01" grammar.BadLength 42
+    is_told "00 41 00 00" grammar.BadLength 42 ∷
+    is_told "00 41 00 01" grammar.BadLength 42 ∷
+    is_told "00 41 04 01" grammar.BadLength 42 ∷
     -- an address of none, of nine, and of more octets than the body has
-    ∷ is_told "00 41 00 02 00 01" grammar.BadLength 42
-    ∷ is_told "00 41 00 0A 09 01 02 03 04 05 06 07 08 09" grammar.BadLength 42
-    ∷ is_told "00 41 00 02 02 01" grammar.BadLength 42
+    is_told "00 41 00 02 00 01" grammar.BadLength 42 ∷
+    is_told "00 41 00 0A 09 01 02 03 04 05 06 07 08 09" grammar.BadLength 42 ∷
+    is_told "00 41 00 02 02 01" grammar.BadLength 42 ∷
     -- the address is judged before the items
-    ∷ is_told "00 41 00 04 00 31 FF 00" grammar.BadLength 42
-    -- an identifier twice, a lower one, a length of 255, an item above the end, an item without length
-    ∷ is_told "00 41 00 06 01 01 31 00 31 00" grammar.BadItem 43
-    ∷ is_told "00 41 00 06 01 01 31 00 30 00" grammar.BadItem 43
-    ∷ is_told "00 41 00 04 01 01 31 FF" grammar.BadItem 43
-    ∷ is_told "00 41 00 04 01 01 31 01" grammar.BadItem 43
-    ∷ is_told "00 41 00 03 01 01 31" grammar.BadItem 43
-    ∷ []
+    is_told "00 41 00 04 00 31 FF 00" grammar.BadLength 42 ∷
+    -- an identifier twice, a lower one, a length of 255, an item above the end, one without length
+    is_told "00 41 00 06 01 01 31 00 31 00" grammar.BadItem 43 ∷
+    is_told "00 41 00 06 01 01 31 00 30 00" grammar.BadItem 43 ∷
+    is_told "00 41 00 04 01 01 31 FF" grammar.BadItem 43 ∷
+    is_told "00 41 00 04 01 01 31 01" grammar.BadItem 43 ∷
+    is_told "00 41 00 03 01 01 31" grammar.BadItem 43 ∷
+    []
 
 -- a whole message, and then a faulty one of node 02 07
 abbrev faulty : FaultRow → List ℕ
 faulty row = sign_on_text ++ octets "01 01 02 07" ++ octets row.text
 
--- the message, and then the fault with the originator and the token of its header
+-- a fault with the originator and the token of that header
+abbrev of_node_7 : GrammarFault → StreamFault
+of_node_7 fault = record { fault = fault; originator = octets "02 07"; token = 1 }
+
+-- the message, and then the fault
 abbrev ended : FaultRow → Stream
-ended row = stream (sign_on ∷ []) [] (Some (record { fault = row.fault; originator = octets "02 07"; token = 1 }))
+ended row = stream (sign_on ∷ []) [] (Some (of_node_7 row.fault))
 
 faults_are_found : map (λ row. stream_of (faulty row)) faults ≡ map ended faults
 unfolding walk front_at header_at item_at items_at address_at body_at
@@ -126,23 +138,24 @@ faults_are_found_by_octets = refl
 faults_are_numbered : map (λ row. grammar_number row.fault) faults ≡ map (λ row. row.number) faults
 faults_are_numbered = refl
 
-ends_are_numbered : map (λ row. message_number (as_message_fault row.fault)) faults ≡ map (λ row. row.number) faults
+ends_are_numbered :
+    map (λ row. message_number (as_message_fault row.fault)) faults ≡ map (λ row. row.number) faults
 ends_are_numbered = refl
 
 -- after a fault nothing more is read
-abbrev bad_code : StreamFault
-bad_code = record { fault = grammar.BadCode; originator = octets "02 07"; token = 1 }
-
-fault_stays : fed_by (held_after (octets "01 01 02 07 09 41 00 04")) sign_on_text ≡ stream [] [] (Some bad_code)
+fault_stays : fed_by (held_after (octets "01 01 02 07 09 41 00 04")) sign_on_text
+    ≡ stream [] [] (Some (of_node_7 grammar.BadCode))
 unfolding walk front_at header_at
 fault_stays = refl
 
 -- seven octets are kept, the next five end the message, and nothing is kept then
-kept_in_between : held_after (take 7 sign_on_text) ≡ record { rest = take 7 sign_on_text; fault = None }
+kept_in_between : held_after (take 7 sign_on_text) ≡ record { rest =
+    take 7 sign_on_text; fault = None }
 unfolding walk front_at header_at
 kept_in_between = refl
 
-ended_by_the_rest : fed_by (held_after (take 7 sign_on_text)) (drop 7 sign_on_text) ≡ stream (sign_on ∷ []) [] None
+ended_by_the_rest : fed_by (held_after (take 7 sign_on_text)) (drop 7 sign_on_text)
+    ≡ stream (sign_on ∷ []) [] None
 unfolding walk front_at header_at item_at items_at address_at body_at
 ended_by_the_rest = refl
 
@@ -162,29 +175,31 @@ zeros n = replicate n 0
 
 -- three items of 254 octets and one of this size: with the address 1,024 octets where it is 252
 abbrev long_items : ℕ → List Entry
-long_items n = entry 1 (zeros 254) ∷ entry 2 (zeros 254) ∷ entry 3 (zeros 254) ∷ entry 4 (zeros n) ∷ []
+long_items n =
+    entry 1 (zeros 254) ∷ entry 2 (zeros 254) ∷ entry 3 (zeros 254) ∷ entry 4 (zeros n) ∷ []
 
 abbrev rows_of_parts : List PartsRow
 rows_of_parts =
     -- addresses of 0, 1, 8 and 9 octets
-      parts (zeros 0) [] (Some BadLength)
-    ∷ parts (zeros 1) [] None
-    ∷ parts (zeros 8) [] None
-    ∷ parts (zeros 9) [] (Some BadLength)
+    parts (zeros 0) [] (Some BadLength) ∷
+    parts (zeros 1) [] None ∷
+    parts (zeros 8) [] None ∷
+    parts (zeros 9) [] (Some BadLength) ∷
     -- 1,024 octets in all, and one more
-    ∷ parts (octets "01") (long_items 252) None
-    ∷ parts (octets "01") (long_items 253) (Some BadLength)
+    parts (octets "01") (long_items 252) None ∷
+    parts (octets "01") (long_items 253) (Some BadLength) ∷
     -- an item above 254 octets, and more than 1,024 in all: the length comes first
-    ∷ parts (octets "01") (long_items 255) (Some BadLength)
-    ∷ parts (octets "01") (entry 1 (zeros 255) ∷ []) (Some BadItem)
-    ∷ parts (octets "01") (entry 1 (zeros 254) ∷ []) None
+    parts (octets "01") (long_items 255) (Some BadLength) ∷
+    parts (octets "01") (entry 1 (zeros 255) ∷ []) (Some BadItem) ∷
+    parts (octets "01") (entry 1 (zeros 254) ∷ []) None ∷
     -- identifiers that rise, stand twice, and fall
-    ∷ parts (octets "01") (entry 0x30 [] ∷ entry 0x31 [] ∷ []) None
-    ∷ parts (octets "01") (entry 0x31 [] ∷ entry 0x31 [] ∷ []) (Some BadItem)
-    ∷ parts (octets "01") (entry 0x31 [] ∷ entry 0x30 [] ∷ []) (Some BadItem)
-    ∷ []
+    parts (octets "01") (entry 0x30 [] ∷ entry 0x31 [] ∷ []) None ∷
+    parts (octets "01") (entry 0x31 [] ∷ entry 0x31 [] ∷ []) (Some BadItem) ∷
+    parts (octets "01") (entry 0x31 [] ∷ entry 0x30 [] ∷ []) (Some BadItem) ∷
+    []
 
-parts_are_judged : map (λ row. parts_fault row.address row.items) rows_of_parts ≡ map (λ row. row.fault) rows_of_parts
+parts_are_judged :
+    map (λ row. parts_fault row.address row.items) rows_of_parts ≡ map (λ row. row.fault) rows_of_parts
 unfolding parts_fault
 parts_are_judged = refl
 
@@ -196,10 +211,13 @@ longest = telegram (octets "01 01") (octets "02 01") Write 1 (octets "01") (long
 longest_length : take 2 (drop 6 (spelling longest)) ≡ octets "04 00"
 longest_length = refl
 
-longest_is_kept : stream_of (take 1031 (spelling longest)) ≡ stream [] (take 1031 (spelling longest)) None
+longest_is_kept : stream_of (take 1031 (spelling longest))
+    ≡ stream [] (take 1031 (spelling longest)) None
 unfolding walk front_at header_at
 longest_is_kept = refl
 
-longest_is_ended : fed_by (held_after (take 1031 (spelling longest))) (drop 1031 (spelling longest)) ≡ stream (longest ∷ []) [] None
+longest_is_ended :
+    fed_by (held_after (take 1031 (spelling longest))) (drop 1031 (spelling longest))
+    ≡ stream (longest ∷ []) [] None
 unfolding walk front_at header_at item_at items_at address_at body_at
 longest_is_ended = refl

@@ -1,7 +1,8 @@
 -- The numbers of the mapping's faults.
 use Rattle.std.specs.Prelude.{ℕ}
 use Rattle.device_map.specs.declared.fault.MapFault.{MapFault}
-use Rattle.device_map.specs.declared.fault.MapFault.TheVariants.{NotARequest, NotForUs, BadOriginator, BadAddress, UnknownItem, ItemMissing, BadDecimal, BadNumber}
+use Rattle.device_map.specs.declared.fault.MapFault.TheVariants.{
+  NotARequest, NotForUs, BadOriginator, BadAddress, UnknownItem, ItemMissing, BadDecimal, BadNumber}
 
 -- the number by which a fault of the mapping is told
 abbrev pub map_number : MapFault → ℕ

@@ -9,7 +9,8 @@ use Rattle.app_message.specs.Telegram.{Entry, Telegram}
 use Rattle.device_map.specs.declared.address.Database.{Database}
 use Rattle.device_map.specs.declared.address.Database.TheVariants.{Point}
 use Rattle.device_map.specs.declared.fault.MapFault.{MapFault}
-use Rattle.device_map.specs.declared.fault.MapFault.TheVariants.{BadAddress, UnknownItem, ItemMissing, BadNumber}
+use Rattle.device_map.specs.declared.fault.MapFault.TheVariants.{
+  BadAddress, UnknownItem, ItemMissing, BadNumber}
 use Rattle.device_map.specs.Stages.{◌>>=◌}
 use Rattle.device_map.specs.Nodes.{for_us, actor_at, is_request}
 use Rattle.device_map.specs.Addresses.{database_at}
@@ -38,14 +39,19 @@ items_end items = if length items == 0 then Ok tt else Err UnknownItem
 abbrev pub empty_content : Entry → Result (Unit {0}) MapFault
 empty_content e = if length e.content == 0 then Ok tt else Err BadNumber
 
--- the event of a command of this shape with these items behind it: which items stand there is judged
--- first, then their widths
+-- the event of a command of this shape with these items behind it: which items stand there is
+-- judged first, then their widths
 abbrev pub event_by : Shape → Entry → List Entry → Result Event MapFault
-event_by (bare event) command others = items_end others >>= λ _. empty_content command >>= λ _. Ok event
+event_by (bare event) command others = do
+  _ ← items_end others
+  _ ← empty_content command
+  Ok event
 
 -- the event of a command of these rows, and the items behind it
 abbrev pub event_among : List Command → Entry × List Entry → Result Event MapFault
-event_among rows items = shape_of items.0.id rows >>= λ shape. event_by shape items.0 items.1
+event_among rows items = do
+  shape ← shape_of items.0.id rows
+  event_by shape items.0 items.1
 
 -- a message with a command: of a database where some are known
 unfoldable pub command_in : List Command → List Entry → Result Event MapFault
@@ -71,8 +77,8 @@ abbrev pub event_at : Kind → Database → List Entry → Result Event MapFault
 event_at kinds.Read database items = read_at database items
 event_at kind database items = command_in (commands kind database) items
 
--- the pair that a message means: a request, for this site, from one who may ask it, of a database that
--- is there, with just the items that belong to it
+-- the pair that a message means: a request, for this site, from one who may ask it, of a database
+-- that is there, with just the items that belong to it
 unfoldable pub request_at : Telegram → Result (Actor × Event) MapFault
 request_at m = do
   _ ← is_request m.kind
