@@ -1,22 +1,22 @@
 -- What was spelled is read again.
-use Rattle.std.proofs.Common.{
-  ◌≡◌, ◌≢◌, ℕ, zero, suc, ◌+◌, ◌*◌, ◌/◌, ◌%◌, ◌≤◌, refl, sym, ap, subst, ◌∙◌, List, [], ◌∷◌, ◌++◌,
-  length, get_or, drop, Result, Ok, append_assoc, arith}
+use Rattle.std.proofs.Common.{◌≡◌, ◌≢◌, ℕ, zero, suc, ◌+◌, ◌*◌, ◌/◌, ◌%◌, ◌≤◌, refl, sym, ap}
+use Rattle.std.proofs.Common.{subst, ◌∙◌, List, [], ◌∷◌, ◌++◌, length, get_or, drop, Result, Ok}
+use Rattle.std.proofs.Common.{append_assoc, arith}
 use Rattle.std.specs.Int.{w16, to_be_bytes}
 use Rattle.std.specs.List.{flat_map}
 use Rattle.std.proofs.lemmas.Bool.{le-ltb, ne_eqb}
 use Rattle.std.proofs.lemmas.List.{length-append, take_at, drop_at}
 use Rattle.std.proofs.lemmas.Nat.{div-mul-add, mod-mul-add}
 use Rattle.app_message.specs.declared.kind.Kind.{Kind}
-use Rattle.app_message.specs.declared.kind.Kind.TheVariants.{
-  Read, Answer, Write, Report, Notice, Ack}
+use Rattle.app_message.specs.declared.kind.Kind.TheVariants.{Read, Answer, Write, Report, Notice}
+use Rattle.app_message.specs.declared.kind.Kind.TheVariants.{Ack}
 use Rattle.app_message.specs.Telegram.{Entry, Telegram, telegram, IsEntry, Rises}
 use Rattle.app_message.specs.Spelling.{kind_code, item_text, body, spelling, IsHead, IsMessage}
 use Rattle.app_message.specs.Stream.{walked, stream_on, stream_of}
 use Rattle.app_message.proofs.Stages.{ok_is}
 use Rattle.app_message.proofs.Cutting.{stream_step}
-use Rattle.app_message.specs.Grammar.{
-  Halt, Header, kind_at, header_at, item_at, items_at, address_at, body_at, front_at}
+use Rattle.app_message.specs.Grammar.{Halt, Header, kind_at, header_at, item_at, items_at}
+use Rattle.app_message.specs.Grammar.{address_at, body_at, front_at}
 
 -- ---- items
 
@@ -95,10 +95,10 @@ header_again : (to from : List ℕ) (k : Kind) (token n : ℕ) (s : List ℕ) �
     → header_at (to ++ from ++ (0 ∷ (kind_code k * 32 + token) ∷ to_be_bytes w16 n) ++ s) ≡ Ok (record { to = to; from = from; kind = k; token = token; len = n })
 header_again to from k token n s head least most =
     let P : List ℕ → List ℕ → Type 0 =
-      λ x y. header_at (x ++ y ++ (0 ∷ (kind_code k * 32 + token) ∷ to_be_bytes w16 n) ++ s) ≡ Ok (record { to = x; from = y; kind = k; token = token; len = n }) in
+    λ x y. header_at (x ++ y ++ (0 ∷ (kind_code k * 32 + token) ∷ to_be_bytes w16 n) ++ s) ≡ Ok (record { to = x; from = y; kind = k; token = token; len = n }) in
     let size : n / 256 % 256 * 256 + n % 256 ≡ n = omega arith in
     let octets =
-      header_at_octets (get_or to 0 0) (get_or to 1 0) (get_or from 0 0) (get_or from 1 0) (kind_code k * 32 + token) (n / 256 % 256) (n % 256) s k token n (div-mul-add (kind_code k) 32 token head.in_range) (mod-mul-add (kind_code k) 32 token head.in_range) size least most in
+    header_at_octets (get_or to 0 0) (get_or to 1 0) (get_or from 0 0) (get_or from 1 0) (kind_code k * 32 + token) (n / 256 % 256) (n % 256) s k token n (div-mul-add (kind_code k) 32 token head.in_range) (mod-mul-add (kind_code k) 32 token head.in_range) size least most in
     subst (λ (x : List ℕ). P x from) (sym (two to head.to_size)) (subst (λ (y : List ℕ). P (get_or to 0 0 ∷ get_or to 1 0 ∷ []) y) (sym (two from head.from_size)) octets)
 
 -- the octets of a header
@@ -118,13 +118,13 @@ pub front_again : (m : Telegram) (s : List ℕ) → IsMessage m → front_at (sp
 unfolding front_at
 front_again m s valid =
     let text : spelling m ++ s ≡ head_text m ++ (body m ++ s) =
-      append_assoc (head_text m) (body m) s in
+    append_assoc (head_text m) (body m) s in
     let h : Header =
-      record { to = m.to; from = m.from; kind = m.kind; token = m.token; len = length (body m) } in
+    record { to = m.to; from = m.from; kind = m.kind; token = m.token; len = length (body m) } in
     let header : header_at (head_text m ++ (body m ++ s)) ≡ Ok h =
-      header_again m.to m.from m.kind m.token (length (body m)) (body m ++ s) valid.head valid.least valid.most in
+    header_again m.to m.from m.kind m.token (length (body m)) (body m ++ s) valid.head valid.least valid.most in
     let behind : drop 8 (head_text m ++ (body m ++ s)) ≡ body m ++ s =
-      drop_at (head_text m) (body m ++ s) 8 (head_size m valid) in
+    drop_at (head_text m) (body m ++ s) 8 (head_size m valid) in
     let enough : length (body m) ≤ length (body m ++ s) = omega (arith, length-append (body m) s) in
     ap front_at text ∙ rw (header, behind, le-ltb (length (body m ++ s)) (length (body m)) enough, take_at (body m) s (length (body m)) refl, drop_at (body m) s (length (body m)) refl, body_again h m valid) refl
 
@@ -136,7 +136,7 @@ pub no_prefix : (m n : Telegram) (a b : List ℕ) → IsMessage m → IsMessage 
     → spelling m ++ a ≡ spelling n ++ b → (m ≡ n) × (a ≡ b)
 no_prefix m n a b vm vn same =
     let both : front_is (m, a) ≡ front_is (n, b) =
-      sym (front_again m a vm) ∙ ap front_at same ∙ front_again n b vn in
+    sym (front_again m a vm) ∙ ap front_at same ∙ front_again n b vn in
     let pair : (m, a) ≡ (n, b) = ok_is (m, a) (n, b) both in
     (ap (λ (x : Telegram × List ℕ). x.0) pair, ap (λ (x : Telegram × List ℕ). x.1) pair)
 

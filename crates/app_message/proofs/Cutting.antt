@@ -1,17 +1,17 @@
 -- However a stream is cut, its messages are the same.
-use Rattle.std.proofs.Common.{
-  ◌≡◌, ℕ, zero, suc, ◌<◌, ◌≤◌, cond, ltb, refl, sym, ap, subst, ◌∙◌, List, [], ◌∷◌, ◌++◌, length,
-  get_or, take, drop, Option, Some, None, Result, Ok, Err, append_assoc, arith, inl, inr}
+use Rattle.std.proofs.Common.{◌≡◌, ℕ, zero, suc, ◌<◌, ◌≤◌, cond, ltb, refl, sym, ap, subst, ◌∙◌}
+use Rattle.std.proofs.Common.{List, [], ◌∷◌, ◌++◌, length, get_or, take, drop, Option, Some, None}
+use Rattle.std.proofs.Common.{Result, Ok, Err, append_assoc, arith, inl, inr}
 use Rattle.std.proofs.lemmas.Bool.{lt-ltb, le-ltb, cases_lt}
-use Rattle.std.proofs.lemmas.List.{
-  append-nil, length-append, length-drop, get_or_append_left, take-append-le, drop-append-le}
+use Rattle.std.proofs.lemmas.List.{append-nil, length-append, length-drop, get_or_append_left}
+use Rattle.std.proofs.lemmas.List.{take-append-le, drop-append-le}
 use Rattle.app_message.specs.declared.fault.GrammarFault.{GrammarFault}
 use Rattle.app_message.specs.declared.fault.StreamFault.{StreamFault}
 use Rattle.app_message.specs.Telegram.{Telegram, AreOctets}
-use Rattle.app_message.specs.Grammar.{
-  Halt, short, fault, ◌>>=◌, Header, header_at, body_at, front_at}
-use Rattle.app_message.specs.Stream.{
-  Stream, stream, fault_of, walked, stream_on, walk, stream_of, IsHeld, held, held_after, fed_by}
+use Rattle.app_message.specs.Grammar.{Halt, short, fault, ◌>>=◌, Header, header_at, body_at}
+use Rattle.app_message.specs.Grammar.{front_at}
+use Rattle.app_message.specs.Stream.{Stream, stream, fault_of, walked, stream_on, walk, stream_of}
+use Rattle.app_message.specs.Stream.{IsHeld, held, held_after, fed_by}
 use Rattle.app_message.proofs.Stages.{AreOctets-drop, bind_ok, guard_ok, ok_is}
 use Rattle.app_message.proofs.Taking.{header_takes}
 use Rattle.app_message.proofs.Ending.{short_bound}
@@ -28,13 +28,13 @@ pub front_taken : (s : List ℕ) (x : Telegram × List ℕ) → front_at s ≡ O
 unfolding front_at
 front_taken s x e =
     let h =
-      bind_ok (header_at s) (λ h. cond (ltb (length (drop 8 s)) h.len) (Err short) (body_at h (take h.len (drop 8 s)) >>= λ m. Ok (m, drop h.len (drop 8 s)))) x e in
+    bind_ok (header_at s) (λ h. cond (ltb (length (drop 8 s)) h.len) (Err short) (body_at h (take h.len (drop 8 s)) >>= λ m. Ok (m, drop h.len (drop 8 s)))) x e in
     let long = (header_takes s h.0 h.1).long in
     let g = guard_ok (ltb (length (drop 8 s)) h.0.len) short _ x h.2 in
     let m =
-      bind_ok (body_at h.0 (take h.0.len (drop 8 s))) (λ m. Ok (m, drop h.0.len (drop 8 s))) x g.1 in
+    bind_ok (body_at h.0 (take h.0.len (drop 8 s))) (λ m. Ok (m, drop h.0.len (drop 8 s))) x g.1 in
     let left : drop h.0.len (drop 8 s) ≡ x.1 =
-      ap (λ (y : Telegram × List ℕ). y.1) (ok_is (m.0, drop h.0.len (drop 8 s)) x m.2) in
+    ap (λ (y : Telegram × List ℕ). y.1) (ok_is (m.0, drop h.0.len (drop 8 s)) x m.2) in
     record { len = h.0.len; rest = sym left; shorter = rw (← left) (omega (arith, long, length-drop 8 s, length-drop h.0.len (drop 8 s))) }
 
 -- a fault has its eight octets
@@ -73,7 +73,7 @@ stays_behind a b h long =
       | inr enough ↦
           let longer : drop 8 (a ++ b) ≡ drop 8 a ++ b = drop-append-le 8 a b long in
           let still : h.len ≤ length (drop 8 a ++ b) =
-            omega (arith, enough, length-append (drop 8 a) b) in
+          omega (arith, enough, length-append (drop 8 a) b) in
           rw (longer, le-ltb (length (drop 8 a)) h.len enough, le-ltb (length (drop 8 a ++ b)) h.len still, take-append-le h.len (drop 8 a) b enough, drop-append-le h.len (drop 8 a) b enough)
           (stays_made b (drop h.len (drop 8 a)) (body_at h (take h.len (drop 8 a))))
     ]
@@ -82,7 +82,7 @@ header_stays : (a b : List ℕ) → 8 ≤ length a → header_at (a ++ b) ≡ he
 unfolding header_at
 header_stays a b long =
     let at : (i : ℕ) → i < 8 → get_or (a ++ b) i 0 ≡ get_or a i 0 =
-      λ i lt. get_or_append_left a b 0 i (omega arith) in
+    λ i lt. get_or_append_left a b 0 i (omega arith) in
     let longer : 8 ≤ length (a ++ b) = omega (arith, length-append a b) in
     rw (le-ltb (length (a ++ b)) 8 longer, le-ltb (length a) 8 long, at 0 (omega arith), at 1 (omega arith), at 2 (omega arith), at 3 (omega arith), at 4 (omega arith), at 5 (omega arith), at 6 (omega arith), at 7 (omega arith)) refl
 
@@ -122,7 +122,7 @@ pub stream_step : (s : List ℕ) → stream_of s ≡ stream_on s stream_of (fron
 unfolding walk
 stream_step s =
     let more : walk (length s) s ≡ walk (suc (length s)) s =
-      walk_same (length s) (suc (length s)) s (omega arith) (omega arith) in
+    walk_same (length s) (suc (length s)) s (omega arith) (omega arith) in
     more ∙ on_same s (walk (length s)) stream_of (front_at s) (λ x e. let t = (front_taken s x e).shorter in walk_same (length s) (length x.1) x.1 (omega arith) (omega arith))
 
 -- ---- any cutting
@@ -136,29 +136,29 @@ cut_on : (a b : List ℕ) (r later : Result (Telegram × List ℕ) Halt) → fro
     → Cut a b
 cut_on a b (Ok x) later here there stay cut =
     let first : stream_of a ≡ walked (x.0 ∷ []) (stream_of x.1) =
-      stream_step a ∙ ap (stream_on a stream_of) here in
+    stream_step a ∙ ap (stream_on a stream_of) here in
     let whole : stream_of (a ++ b) ≡ walked (x.0 ∷ []) (stream_of (x.1 ++ b)) =
-      stream_step (a ++ b) ∙ ap (stream_on (a ++ b) stream_of) (there ∙ stay) in
+    stream_step (a ++ b) ∙ ap (stream_on (a ++ b) stream_of) (there ∙ stay) in
     let both : stream_of (a ++ b) ≡ walked (x.0 ∷ []) (walked (stream_of x.1).messages (fed_by (held_after x.1) b)) =
-      whole ∙ ap (walked (x.0 ∷ [])) (cut x refl) in
+    whole ∙ ap (walked (x.0 ∷ [])) (cut x refl) in
     both ∙ ap (λ (t : Stream). walked t.messages (fed_by (held t) b)) (sym first)
 cut_on a b (Err short) later here there stay cut =
     let first : stream_of a ≡ record { messages = []; rest = a; fault = None } =
-      stream_step a ∙ ap (stream_on a stream_of) here in
+    stream_step a ∙ ap (stream_on a stream_of) here in
     ap (λ (t : Stream). walked t.messages (fed_by (held t) b)) (sym first)
 cut_on a b (Err (fault f)) later here there stay cut =
     let first : stream_of a ≡ record { messages = []; rest = []; fault = Some (fault_of f a) } =
-      stream_step a ∙ ap (stream_on a stream_of) here in
+    stream_step a ∙ ap (stream_on a stream_of) here in
     let whole : stream_of (a ++ b) ≡ record { messages = []; rest = []; fault = Some (fault_of f (a ++ b)) } =
-      stream_step (a ++ b) ∙ ap (stream_on (a ++ b) stream_of) (there ∙ stay) in
+    stream_step (a ++ b) ∙ ap (stream_on (a ++ b) stream_of) (there ∙ stay) in
     let long = fault_long a f here in
     let at : (i : ℕ) → i < 8 → get_or (a ++ b) i 0 ≡ get_or a i 0 =
-      λ i lt. get_or_append_left a b 0 i (omega arith) in
+    λ i lt. get_or_append_left a b 0 i (omega arith) in
     let same : fault_of f (a ++ b) ≡ fault_of f a =
-      rw (at 2 (omega arith), at 3 (omega arith), at 5 (omega arith)) refl in
+    rw (at 2 (omega arith), at 3 (omega arith), at 5 (omega arith)) refl in
     let end : Stream = record { messages = []; rest = []; fault = Some (fault_of f a) } in
     let ended : stream_of (a ++ b) ≡ end =
-      whole ∙ ap (λ (g : StreamFault). record { messages = []; rest = []; fault = Some g }) same in
+    whole ∙ ap (λ (g : StreamFault). record { messages = []; rest = []; fault = Some g }) same in
     ended ∙ ap (λ (t : Stream). walked t.messages (fed_by (held t) b)) (sym first)
 
 cut_in : (n : ℕ) (a b : List ℕ) → length a ≤ n → Cut a b
@@ -184,7 +184,7 @@ held_in (suc n) s fits p =
     let t = front_taken s x e in
     let less = t.shorter in
     let inside : AreOctets x.1 =
-      rw t.rest (AreOctets-drop t.len (drop 8 s) (AreOctets-drop 8 s fits)) in
+    rw t.rest (AreOctets-drop t.len (drop 8 s) (AreOctets-drop 8 s fits)) in
     held_in n x.1 inside (omega arith)))
 
 -- what is kept of octets is a short rest, or a fault and nothing else
@@ -198,9 +198,9 @@ pub walk_on : (ms : List Telegram) (s : List ℕ) (m : Telegram) (t : List ℕ) 
     → walked (ms ++ m ∷ []) (stream_of t) ≡ total
 walk_on ms s m t total h so_far =
     let first : stream_of s ≡ walked (m ∷ []) (stream_of t) =
-      stream_step s ∙ ap (stream_on s stream_of) h in
+    stream_step s ∙ ap (stream_on s stream_of) h in
     let regroup : walked (ms ++ m ∷ []) (stream_of t) ≡ walked ms (walked (m ∷ []) (stream_of t)) =
-      ap (λ (all : List Telegram). record { messages = all; rest = (stream_of t).rest; fault = (stream_of t).fault }) (append_assoc ms (m ∷ []) (stream_of t).messages) in
+    ap (λ (all : List Telegram). record { messages = all; rest = (stream_of t).rest; fault = (stream_of t).fault }) (append_assoc ms (m ∷ []) (stream_of t).messages) in
     regroup ∙ ap (walked ms) (sym first) ∙ so_far
 
 pub walk_short : (ms : List Telegram) (s : List ℕ) (total : Stream) → front_at s ≡ Err short
@@ -208,7 +208,7 @@ pub walk_short : (ms : List Telegram) (s : List ℕ) (total : Stream) → front_
 walk_short ms s total h so_far =
     let first : stream_of s ≡ stream [] s None = stream_step s ∙ ap (stream_on s stream_of) h in
     let regroup : stream ms s None ≡ walked ms (stream [] s None) =
-      ap (λ (all : List Telegram). stream all s None) (sym (append-nil ms)) in
+    ap (λ (all : List Telegram). stream all s None) (sym (append-nil ms)) in
     regroup ∙ ap (walked ms) (sym first) ∙ so_far
 
 pub walk_fault : (ms : List Telegram) (s : List ℕ) (f : GrammarFault) (total : Stream)
@@ -216,9 +216,9 @@ pub walk_fault : (ms : List Telegram) (s : List ℕ) (f : GrammarFault) (total :
     → stream ms [] (Some (fault_of f s)) ≡ total
 walk_fault ms s f total h so_far =
     let first : stream_of s ≡ stream [] [] (Some (fault_of f s)) =
-      stream_step s ∙ ap (stream_on s stream_of) h in
+    stream_step s ∙ ap (stream_on s stream_of) h in
     let regroup : stream ms [] (Some (fault_of f s)) ≡ walked ms (stream [] [] (Some (fault_of f s))) =
-      ap (λ (all : List Telegram). stream all [] (Some (fault_of f s))) (sym (append-nil ms)) in
+    ap (λ (all : List Telegram). stream all [] (Some (fault_of f s))) (sym (append-nil ms)) in
     regroup ∙ ap (walked ms) (sym first) ∙ so_far
 
 pub kept_is : (s : List ℕ) (ms : List Telegram) (rest : List ℕ) (g : Option StreamFault)

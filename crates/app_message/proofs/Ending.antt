@@ -1,25 +1,24 @@
 -- Where reading halts, the octets are short or begin with that very fault.
-use Rattle.std.proofs.Common.{
-  ◌≡◌, ◌≢◌, ℕ, zero, suc, ◌+◌, ◌%◌, ◌<◌, ◌≤◌, ◌⊎◌, Bool, true, false, cond, eqb, ltb, refl, sym, ap,
-  subst, ◌∙◌, List, [], ◌∷◌, ◌++◌, length, get_or, take, drop, Result, Ok, Err, append_assoc, arith,
-  inl, inr}
+use Rattle.std.proofs.Common.{◌≡◌, ◌≢◌, ℕ, zero, suc, ◌+◌, ◌%◌, ◌<◌, ◌≤◌, ◌⊎◌, Bool, true, false}
+use Rattle.std.proofs.Common.{cond, eqb, ltb, refl, sym, ap, subst, ◌∙◌, List, [], ◌∷◌, ◌++◌}
+use Rattle.std.proofs.Common.{length, get_or, take, drop, Result, Ok, Err, append_assoc, arith}
+use Rattle.std.proofs.Common.{inl, inr}
 use Rattle.std.specs.List.{flat_map}
-use Rattle.std.proofs.lemmas.Bool.{
-  ltb-true, ltb-false, eqb-true, eqb-false, eq-eqb, ne_eqb, cases_eq}
+use Rattle.std.proofs.lemmas.Bool.{ltb-true, ltb-false, eqb-true, eqb-false, eq-eqb, ne_eqb}
+use Rattle.std.proofs.lemmas.Bool.{cases_eq}
 use Rattle.std.proofs.lemmas.List.{length-drop, length-take, get_or-drop, get_or-take}
-use Rattle.app_message.specs.declared.fault.GrammarFault.TheVariants.{
-  BadCode, BadKind, BadLength, BadItem}
+use Rattle.app_message.specs.declared.fault.GrammarFault.TheVariants.{BadCode, BadKind, BadLength}
+use Rattle.app_message.specs.declared.fault.GrammarFault.TheVariants.{BadItem}
 use Rattle.app_message.specs.declared.kind.Kind.{Kind}
-use Rattle.app_message.specs.declared.kind.Kind.TheVariants.{
-  Read, Answer, Write, Report, Notice, Ack}
+use Rattle.app_message.specs.declared.kind.Kind.TheVariants.{Read, Answer, Write, Report, Notice}
+use Rattle.app_message.specs.declared.kind.Kind.TheVariants.{Ack}
 use Rattle.app_message.specs.Telegram.{Entry, entry, telegram, AreOctets}
 use Rattle.app_message.specs.Spelling.{kind_code, item_text}
-use Rattle.app_message.specs.Grammar.{
-  Halt, short, fault, ◌>>=◌, Header, kind_at, length_at, header_at, item_at, items_at, address_at,
-  body_at, front_at}
-use Rattle.app_message.specs.Faults.{
-  code_in, bits_in, size_in, address_size_in, items_in, HasHeader, IsWhole, IsShort, IsBadAddress,
-  IsBadItem, HasBadItem, BeginsWith}
+use Rattle.app_message.specs.Grammar.{Halt, short, fault, ◌>>=◌, Header, kind_at, length_at}
+use Rattle.app_message.specs.Grammar.{header_at, item_at, items_at, address_at, body_at, front_at}
+use Rattle.app_message.specs.Faults.{code_in, bits_in, size_in, address_size_in, items_in}
+use Rattle.app_message.specs.Faults.{HasHeader, IsWhole, IsShort, IsBadAddress, IsBadItem}
+use Rattle.app_message.specs.Faults.{HasBadItem, BeginsWith}
 use Rattle.app_message.proofs.Stages.{AreOctets-drop, AreOctets-take}
 use Rattle.app_message.proofs.Taking.{item_takes, address_takes, kind_takes, header_takes}
 
@@ -73,7 +72,7 @@ items_fail (suc n) low s e fits h =
       | inl none ↦ never [] e (rw (eq-eqb (length s) 0 none) at h)
       | inr some ↦
           let on : Entry × List ℕ → Result (List Entry) Halt =
-            λ x. items_at n (x.0.id + 1) x.1 >>= λ es. Ok (x.0 ∷ es) in
+          λ x. items_at n (x.0.id + 1) x.1 >>= λ es. Ok (x.0 ∷ es) in
           elim (bind_err (item_at low s) on e (rw (ne_eqb (length s) 0 some) at h)) [
             | inl here ↦
                 let bad = item_fails low s e here in
@@ -84,7 +83,7 @@ items_fail (suc n) low s e fits h =
                   | inl later ↦
                       let bad = items_fail n (x.0.0.id + 1) x.0.1 e first.rest later in
                       let text : s ≡ flat_map item_text (x.0.0 ∷ bad.1.sound) ++ bad.1.left =
-                        first.parts ∙ ap (λ (t : List ℕ). item_text x.0.0 ++ t) bad.1.parts ∙ sym (append_assoc (item_text x.0.0) (flat_map item_text bad.1.sound) bad.1.left) in
+                      first.parts ∙ ap (λ (t : List ℕ). item_text x.0.0 ++ t) bad.1.parts ∙ sym (append_assoc (item_text x.0.0) (flat_map item_text bad.1.sound) bad.1.left) in
                       (bad.0, record { sound = x.0.0 ∷ bad.1.sound; left = bad.1.left; parts = text; rises = (first.order, first.valid, bad.1.rises); some = bad.1.some; faulty = bad.1.faulty })
                   | inr es ↦ never (x.0.0 ∷ es.0) e es.2
                 ]
@@ -172,7 +171,7 @@ header_fails s e fits h =
                 let code : code_in s ≡ 0 = eqb-true _ _ g1.0 in
                 let octet : get_or s 5 0 < 256 = fits 5 in
                 let made : Kind → ℕ → Header =
-                  λ k n. record { to = get_or s 0 0 ∷ get_or s 1 0 ∷ []; from = get_or s 2 0 ∷ get_or s 3 0 ∷ []; kind = k; token = get_or s 5 0 % 32; len = n } in
+                λ k n. record { to = get_or s 0 0 ∷ get_or s 1 0 ∷ []; from = get_or s 2 0 ∷ get_or s 3 0 ∷ []; kind = k; token = get_or s 5 0 % 32; len = n } in
                 elim (bind_err (kind_at (bits_in s)) (λ k. length_at (size_in s) >>= λ n. Ok (made k n)) e g1.1) [
                   | inl t ↦
                       let bad = kind_fails (bits_in s) e (omega (arith, octet)) t in
@@ -218,15 +217,15 @@ body_fails h s e fits whole b =
     let body : List ℕ = take (size_in s) (drop 8 s) in
     let inside : AreOctets body = AreOctets-take (size_in s) (drop 8 s) (AreOctets-drop 8 s fits) in
     let long : length body ≡ size_in s =
-      omega (arith, whole.all, length-drop 8 s, length-take (size_in s) (drop 8 s)) in
+    omega (arith, whole.all, length-drop 8 s, length-take (size_in s) (drop 8 s)) in
     let least = whole.header.least in
     let first : get_or body 0 0 ≡ address_size_in s =
-      get_or-take (size_in s) (drop 8 s) 0 0 (omega arith) ∙ get_or-drop 8 s 0 0 in
+    get_or-take (size_in s) (drop 8 s) 0 0 (omega arith) ∙ get_or-drop 8 s 0 0 in
     elim (bind_err (address_at body) (λ n. items_at (length (drop n (drop 1 body))) 0 (drop n (drop 1 body)) >>= λ items. Ok (telegram h.to h.from h.kind h.token (take n (drop 1 body)) items)) e b) [
       | inl t ↦
           let bad = address_fails body e t in
           let same : IsBadAddress (address_size_in s) (size_in s) =
-            subst (λ (n : ℕ). IsBadAddress (address_size_in s) n) long (subst (λ (n : ℕ). IsBadAddress n (length body)) first bad.1) in
+          subst (λ (n : ℕ). IsBadAddress (address_size_in s) n) long (subst (λ (n : ℕ). IsBadAddress n (length body)) first bad.1) in
           at_halt s (fault BadLength) e (sym bad.0) (inr (whole, same))
       | inr n ↦
           let address = address_takes body n.0 n.1 in
@@ -234,9 +233,9 @@ body_fails h s e fits whole b =
           elim (bind_err (items_at (length (drop n.0 (drop 1 body))) 0 (drop n.0 (drop 1 body))) (λ items. Ok (telegram h.to h.from h.kind h.token (take n.0 (drop 1 body)) items)) e n.2) [
             | inl t ↦
                 let bad =
-                  items_fail (length (drop n.0 (drop 1 body))) 0 (drop n.0 (drop 1 body)) e (AreOctets-drop n.0 (drop 1 body) (AreOctets-drop 1 body inside)) t in
+                items_fail (length (drop n.0 (drop 1 body))) 0 (drop n.0 (drop 1 body)) e (AreOctets-drop n.0 (drop 1 body) (AreOctets-drop 1 body inside)) t in
                 let items : HasBadItem 0 (items_in s) =
-                  subst (λ (k : ℕ). HasBadItem 0 (drop k (drop 1 body))) is bad.1 in
+                subst (λ (k : ℕ). HasBadItem 0 (drop k (drop 1 body))) is bad.1 in
                 at_halt s (fault BadItem) e (sym bad.0) (record { whole = whole; least = omega (arith, is, address.least); most = omega (arith, is, address.most); within = omega (arith, is, long, address.within); items = items })
             | inr items ↦ never (telegram h.to h.from h.kind h.token (take n.0 (drop 1 body)) items.0) e items.2
           ]
@@ -259,11 +258,11 @@ front_halts s e fits f =
                 let is = header.1 in
                 let long = header.0.long in
                 let whole : IsWhole s =
-                  record { header = header.0; all = omega (arith, enough, is, long, length-drop 8 s) } in
+                record { header = header.0; all = omega (arith, enough, is, long, length-drop 8 s) } in
                 elim (bind_err (body_at h.0 (take h.0.len (drop 8 s))) (λ m. Ok (m, drop h.0.len (drop 8 s))) e g.1) [
                   | inl t ↦
                       let at_size : body_at h.0 (take (size_in s) (drop 8 s)) ≡ Err e =
-                        ap (λ (n : ℕ). body_at h.0 (take n (drop 8 s))) (sym is) ∙ t in
+                      ap (λ (n : ℕ). body_at h.0 (take n (drop 8 s))) (sym is) ∙ t in
                       body_fails h.0 s e fits whole at_size
                   | inr m ↦ never (m.0, drop h.0.len (drop 8 s)) e m.2
                 ]

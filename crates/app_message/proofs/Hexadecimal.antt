@@ -1,7 +1,7 @@
 -- Octets as they are written in hexadecimal, for worked cases.
 use Prim.Native.String.{String}
-use Rattle.std.specs.Prelude.{
-  ℕ, ◌+◌, ◌-◌, ◌*◌, nat_lt, not, List, [], ◌∷◌, ◌==◌, filter, codes, if◌then◌else◌}
+use Rattle.std.specs.Prelude.{ℕ, ◌+◌, ◌-◌, ◌*◌, nat_lt, not, List, [], ◌∷◌, ◌==◌, filter, codes}
+use Rattle.std.specs.Prelude.{if◌then◌else◌}
 
 -- the number of a digit, 0 to 9 or A to F
 abbrev pub digit : ℕ → ℕ

@@ -1,7 +1,7 @@
 -- Items one after the other, as the loop reads them.
-use Rattle.std.proofs.Common.{
-  ◌≡◌, ℕ, zero, suc, ◌+◌, ◌<◌, ◌≤◌, cond, eqb, ltb, refl, sym, ap, ◌∙◌, List, [], ◌∷◌, ◌++◌, length,
-  get_or, take, drop, Result, Ok, Err, append_assoc, arith}
+use Rattle.std.proofs.Common.{◌≡◌, ℕ, zero, suc, ◌+◌, ◌<◌, ◌≤◌, cond, eqb, ltb, refl, sym, ap, ◌∙◌}
+use Rattle.std.proofs.Common.{List, [], ◌∷◌, ◌++◌, length, get_or, take, drop, Result, Ok, Err}
+use Rattle.std.proofs.Common.{append_assoc, arith}
 use Rattle.std.proofs.lemmas.Bool.{ltb-false, eq-eqb, ne_eqb}
 use Rattle.std.proofs.lemmas.List.{append-nil, length-drop}
 use Rattle.app_message.specs.declared.reading.Stop.{Stop}
@@ -23,7 +23,7 @@ item_shorter low s x e =
     let d = guard_ok (ltb (length (drop 2 s)) (get_or s 1 0)) (fault BadItem) _ x c.1 in
     let long : 2 ≤ length s = ltb-false _ _ a.0 in
     let left : length (drop (get_or s 1 0) (drop 2 s)) ≡ length x.1 =
-      ap (λ (y : Entry × List ℕ). length y.1) (ok_is (entry (get_or s 0 0) (take (get_or s 1 0) (drop 2 s)), drop (get_or s 1 0) (drop 2 s)) x d.1) in
+    ap (λ (y : Entry × List ℕ). length y.1) (ok_is (entry (get_or s 0 0) (take (get_or s 1 0) (drop 2 s)), drop (get_or s 1 0) (drop 2 s)) x d.1) in
     omega (arith, left, length-drop 2 s, length-drop (get_or s 1 0) (drop 2 s))
 
 -- more steps than octets change nothing
@@ -44,7 +44,7 @@ pub items_step : (low : ℕ) (s : List ℕ) → 0 < length s
 unfolding items_at
 items_step low s some =
     let more : items_at (length s) low s ≡ items_at (suc (length s)) low s =
-      items_same (length s) (suc (length s)) low s (omega arith) (omega arith) in
+    items_same (length s) (suc (length s)) low s (omega arith) (omega arith) in
     more ∙ rw (ne_eqb (length s) 0 (λ (e : length s ≡ 0). omega arith))
     (bind_same (item_at low s) (λ x. items_at (length s) (x.0.id + 1) x.1 >>= λ es. Ok (x.0 ∷ es)) (λ x. items_at (length x.1) (x.0.id + 1) x.1 >>= λ es. Ok (x.0 ∷ es))
     (λ x e. let less = item_shorter low s x e in ap (λ (r : Result (List Entry) Halt). r >>= λ es. Ok (x.0 ∷ es)) (items_same (length s) (length x.1) (x.0.id + 1) x.1 (omega arith) (omega arith))))
@@ -64,7 +64,7 @@ pub goes_on : (front : List Entry) (low : ℕ) (s : List ℕ) (e : Entry) (t : L
     → with_front (front ++ e ∷ []) (items_at (length t) (e.id + 1) t) ≡ total
 goes_on front low s e t total some h so_far =
     let one : with_front front (items_at (length s) low s) ≡ with_front (front ++ e ∷ []) (items_at (length t) (e.id + 1) t) =
-      rw (items_step low s some, h) (regroup front e (items_at (length t) (e.id + 1) t)) in
+    rw (items_step low s some, h) (regroup front e (items_at (length t) (e.id + 1) t)) in
     sym one ∙ so_far
 
 pub ends : (e : Stop) (front : List Entry) (low : ℕ) (s : List ℕ) (total : Result (List Entry) Halt)
@@ -73,11 +73,11 @@ pub ends : (e : Stop) (front : List Entry) (low : ℕ) (s : List ℕ) (total : R
 ends stops.NoMemory front low s total some h so_far = tt
 ends stops.Short front low s total some h so_far =
     let one : with_front front (items_at (length s) low s) ≡ Err short =
-      rw (items_step low s some, h) refl in
+    rw (items_step low s some, h) refl in
     sym so_far ∙ one
 ends (stops.Fault f) front low s total some h so_far =
     let one : with_front front (items_at (length s) low s) ≡ Err (fault f) =
-      rw (items_step low s some, h) refl in
+    rw (items_step low s some, h) refl in
     sym so_far ∙ one
 
 pub is_done : (front : List Entry) (low : ℕ) (s : List ℕ) (total : Result (List Entry) Halt)
@@ -85,5 +85,5 @@ pub is_done : (front : List Entry) (low : ℕ) (s : List ℕ) (total : Result (L
 unfolding items_at
 is_done front low s total none so_far =
     let one : with_front front (items_at (length s) low s) ≡ Ok front =
-      rw none (ap (λ (es : List Entry). Ok es) (append-nil front)) in
+    rw none (ap (λ (es : List Entry). Ok es) (append-nil front)) in
     sym so_far ∙ one

@@ -1,26 +1,26 @@
 -- The octets fix the stream: what the relation says of a stream is said of one stream alone.
-use Rattle.std.proofs.Common.{
-  ◌≡◌, ◌≢◌, ℕ, zero, suc, ◌+◌, ◌%◌, ◌<◌, ◌≤◌, Bool, true, false, cond, eqb, ltb, refl, sym, ap,
-  subst, ◌∙◌, List, [], ◌∷◌, ◌++◌, length, get_or, take, drop, Option, Some, None, Result, Ok, Err,
-  append_assoc, arith, inl, inr}
+use Rattle.std.proofs.Common.{◌≡◌, ◌≢◌, ℕ, zero, suc, ◌+◌, ◌%◌, ◌<◌, ◌≤◌, Bool, true, false, cond}
+use Rattle.std.proofs.Common.{eqb, ltb, refl, sym, ap, subst, ◌∙◌, List, [], ◌∷◌, ◌++◌, length}
+use Rattle.std.proofs.Common.{get_or, take, drop, Option, Some, None, Result, Ok, Err}
+use Rattle.std.proofs.Common.{append_assoc, arith, inl, inr}
 use Rattle.std.specs.List.{flat_map, AllByRecursion}
 use Rattle.std.proofs.lemmas.Bool.{lt-ltb, le-ltb, eq-eqb, ne_eqb, cases_lt}
-use Rattle.std.proofs.lemmas.List.{
-  length-append, length-drop, length-take, get_or-drop, get_or-take, get_or-append-add}
+use Rattle.std.proofs.lemmas.List.{length-append, length-drop, length-take, get_or-drop}
+use Rattle.std.proofs.lemmas.List.{get_or-take, get_or-append-add}
 use Rattle.app_message.specs.declared.fault.GrammarFault.{GrammarFault}
-use Rattle.app_message.specs.declared.fault.GrammarFault.TheVariants.{
-  BadCode, BadKind, BadLength, BadItem}
+use Rattle.app_message.specs.declared.fault.GrammarFault.TheVariants.{BadCode, BadKind, BadLength}
+use Rattle.app_message.specs.declared.fault.GrammarFault.TheVariants.{BadItem}
 use Rattle.app_message.specs.declared.fault.StreamFault.{StreamFault}
 use Rattle.app_message.specs.declared.kind.Kind.{Kind}
-use Rattle.app_message.specs.declared.kind.Kind.TheVariants.{
-  Read, Answer, Write, Report, Notice, Ack}
+use Rattle.app_message.specs.declared.kind.Kind.TheVariants.{Read, Answer, Write, Report, Notice}
+use Rattle.app_message.specs.declared.kind.Kind.TheVariants.{Ack}
 use Rattle.app_message.specs.Telegram.{Entry, Telegram, AreOctets, Rises}
 use Rattle.app_message.specs.Spelling.{item_text, spelling, IsMessage}
-use Rattle.app_message.specs.Grammar.{
-  Halt, short, fault, Header, kind_at, header_at, item_at, items_at, address_at, body_at, front_at}
-use Rattle.app_message.specs.Faults.{
-  code_in, bits_in, size_in, address_size_in, items_in, HasHeader, IsWhole, IsShort, IsBadAddress,
-  least_after, IsBadItem, HasBadItems, BeginsWith}
+use Rattle.app_message.specs.Grammar.{Halt, short, fault, Header, kind_at, header_at, item_at}
+use Rattle.app_message.specs.Grammar.{items_at, address_at, body_at, front_at}
+use Rattle.app_message.specs.Faults.{code_in, bits_in, size_in, address_size_in, items_in}
+use Rattle.app_message.specs.Faults.{HasHeader, IsWhole, IsShort, IsBadAddress, least_after}
+use Rattle.app_message.specs.Faults.{IsBadItem, HasBadItems, BeginsWith}
 use Rattle.app_message.specs.Stream.{Stream, stream, fault_of, walked, stream_on, stream_of}
 use Rattle.app_message.specs.Laws.{Ends, IsStream}
 use Rattle.app_message.proofs.Cutting.{stream_step}
@@ -59,9 +59,9 @@ items_bad (e ∷ es) zero low left rises some bad p = absurd (omega arith)
 items_bad (e ∷ es) (suc n) low left rises some bad p =
     let more : List ℕ = flat_map item_text es ++ left in
     let text : flat_map item_text (e ∷ es) ++ left ≡ item_text e ++ more =
-      append_assoc (item_text e) (flat_map item_text es) left in
+    append_assoc (item_text e) (flat_map item_text es) left in
     let long : length (flat_map item_text (e ∷ es) ++ left) ≡ length (item_text e ++ more) =
-      ap (λ (x : List ℕ). length x) text in
+    ap (λ (x : List ℕ). length x) text in
     let fewer : length more ≤ n = omega (arith, long, length-append (item_text e) more) in
     let some_more : length (item_text e ++ more) ≢ 0 = λ h. omega arith in
     ap (items_at (suc n) low) text ∙ rw (ne_eqb (length (item_text e ++ more)) 0 some_more, item_again low e more rises.0 rises.1, items_bad es n (e.id + 1) left rises.2 some bad fewer) refl
@@ -139,7 +139,7 @@ body_halts s f fits whole bad =
     let is = h.1 in
     let enough : h.0.len ≤ length (drop 8 s) = omega (arith, all, is, length-drop 8 s) in
     let body : body_at h.0 (take h.0.len (drop 8 s)) ≡ Err (fault f) =
-      ap (λ (n : ℕ). body_at h.0 (take n (drop 8 s))) is ∙ bad h.0 in
+    ap (λ (n : ℕ). body_at h.0 (take n (drop 8 s))) is ∙ bad h.0 in
     rw (h.2, le-ltb (length (drop 8 s)) h.0.len enough, body) refl
 
 body_size : (s : List ℕ) → IsWhole s → length (take (size_in s) (drop 8 s)) ≡ size_in s
@@ -155,7 +155,7 @@ unfolding body_at
 bad_address s h whole bad =
     let body : List ℕ = take (size_in s) (drop 8 s) in
     let here : IsBadAddress (get_or body 0 0) (length body) =
-      subst (λ (n : ℕ). IsBadAddress (get_or body 0 0) n) (sym (body_size s whole)) (subst (λ (n : ℕ). IsBadAddress n (size_in s)) (sym (body_first s whole)) bad) in
+    subst (λ (n : ℕ). IsBadAddress (get_or body 0 0) n) (sym (body_size s whole)) (subst (λ (n : ℕ). IsBadAddress n (size_in s)) (sym (body_first s whole)) bad) in
     rw (address_bad body here) refl
 
 bad_items : (s : List ℕ) (h : Header) → HasBadItems s
@@ -169,10 +169,10 @@ bad_items s h t =
     let most = t.most in
     let within = t.within in
     let address : address_at body ≡ Ok (get_or body 0 0) =
-      address_sound body (omega (arith, first, least)) (omega (arith, first, most)) (omega (arith, first, size, within)) in
+    address_sound body (omega (arith, first, least)) (omega (arith, first, most)) (omega (arith, first, size, within)) in
     let bad = t.items in
     let halts : items_at (length (items_in s)) 0 (items_in s) ≡ Err (fault BadItem) =
-      subst (λ (x : List ℕ). items_at (length x) 0 x ≡ Err (fault BadItem)) (sym bad.parts) (items_bad bad.sound (length (flat_map item_text bad.sound ++ bad.left)) 0 bad.left bad.rises bad.some bad.faulty (omega arith)) in
+    subst (λ (x : List ℕ). items_at (length x) 0 x ≡ Err (fault BadItem)) (sym bad.parts) (items_bad bad.sound (length (flat_map item_text bad.sound ++ bad.left)) 0 bad.left bad.rises bad.some bad.faulty (omega arith)) in
     rw (address, first, halts) refl
 
 fault_sound : (f : GrammarFault) (s : List ℕ) → AreOctets s → BeginsWith f s
@@ -202,14 +202,14 @@ ends_sound : (s rest : List ℕ) (f : Option StreamFault) → AreOctets s → En
     → stream [] rest f ≡ stream_of s
 ends_sound s rest None fits end =
     let walk : stream_of s ≡ stream [] s None =
-      stream_step s ∙ ap (stream_on s stream_of) (short_sound s fits end.1) in
+    stream_step s ∙ ap (stream_on s stream_of) (short_sound s fits end.1) in
     ap (λ (r : List ℕ). stream [] r None) end.0 ∙ sym walk
 ends_sound s rest (Some f) fits end =
     let walk : stream_of s ≡ stream [] [] (Some (fault_of f.fault s)) =
-      stream_step s ∙ ap (stream_on s stream_of) (fault_sound f.fault s fits end.1) in
+    stream_step s ∙ ap (stream_on s stream_of) (fault_sound f.fault s fits end.1) in
     let told : StreamFault → Stream = λ g. stream [] [] (Some g) in
     let origin : f ≡ fault_of f.fault s =
-      ap (λ (o : List ℕ). record { fault = f.fault; originator = o; token = f.token }) end.2 ∙ ap (λ (k : ℕ). record { fault = f.fault; originator = get_or s 2 0 ∷ get_or s 3 0 ∷ []; token = k }) end.3 in
+    ap (λ (o : List ℕ). record { fault = f.fault; originator = o; token = f.token }) end.2 ∙ ap (λ (k : ℕ). record { fault = f.fault; originator = get_or s 2 0 ∷ get_or s 3 0 ∷ []; token = k }) end.3 in
     ap (λ (r : List ℕ). stream [] r (Some f)) end.0 ∙ ap told origin ∙ sym walk
 
 one_in : (ms : List Telegram) (rest left : List ℕ) (f : Option StreamFault)
@@ -219,9 +219,9 @@ one_in [] rest left f fits valid end = ends_sound left rest f fits end
 one_in (m ∷ ms) rest left f fits valid end =
     let more : List ℕ = flat_map spelling ms ++ left in
     let text : flat_map spelling (m ∷ ms) ++ left ≡ spelling m ++ more =
-      append_assoc (spelling m) (flat_map spelling ms) left in
+    append_assoc (spelling m) (flat_map spelling ms) left in
     let inside : AreOctets more =
-      AreOctets-behind (spelling m) more (subst (λ (x : List ℕ). AreOctets x) text fits) in
+    AreOctets-behind (spelling m) more (subst (λ (x : List ℕ). AreOctets x) text fits) in
     ap (walked (m ∷ [])) (one_in ms rest left f inside valid.1 end) ∙ sym (read_again m more valid.0) ∙ ap stream_of (sym text)
 
 pub one_stream : (s : List ℕ) (t : Stream) → AreOctets s → IsStream s t → t ≡ stream_of s

@@ -1,7 +1,6 @@
 -- What the tests of a message's parts tell.
-use Rattle.std.proofs.Common.{
-  ◌≡◌, ℕ, zero, suc, ◌+◌, ◌<◌, ◌≤◌, Bool, true, false, cond, refl, List, [], ◌∷◌, length, get_or,
-  take, Option, Some, None, arith}
+use Rattle.std.proofs.Common.{◌≡◌, ℕ, zero, suc, ◌+◌, ◌<◌, ◌≤◌, Bool, true, false, cond, refl}
+use Rattle.std.proofs.Common.{List, [], ◌∷◌, length, get_or, take, Option, Some, None, arith}
 use Rattle.std.specs.Borrow.{Bor}
 use Rattle.std.specs.List.{All, AllByRecursion, flat_map}
 use Rattle.std.proofs.lemmas.Bool.{ltb-false, le-ltb}
@@ -80,7 +79,7 @@ pub content_fits : (items : List (ℕ × Bor (List ℕ))) (i : ℕ) (d : ℕ × 
     → do_rise 0 (entries items) ≡ true → i < length items → length (get_or items i d).1.now ≤ 254
 content_fits items i d h within =
     let among : i < length (entries items) =
-      omega (arith, length-map items (λ x. entry x.0 x.1.now)) in
+    omega (arith, length-map items (λ x. entry x.0 x.1.now)) in
     let fits = rise_fits 0 (entries items) i (entry 0 []) h among in
     rw (get_or-map (λ x. entry x.0 x.1.now) items i d (entry 0 []) within) at fits
 

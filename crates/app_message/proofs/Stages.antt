@@ -1,6 +1,6 @@
 -- Stages of the grammar that didn't halt, and octets of parts of a list.
-use Rattle.std.proofs.Common.{
-  ◌≡◌, ℕ, ◌+◌, Bool, true, false, cond, refl, List, take, drop, Result, Ok, Err, arith, inl, inr}
+use Rattle.std.proofs.Common.{◌≡◌, ℕ, ◌+◌, Bool, true, false, cond, refl, List, take, drop, Result}
+use Rattle.std.proofs.Common.{Ok, Err, arith, inl, inr}
 use Rattle.std.proofs.lemmas.Bool.{cases_lt}
 use Rattle.std.proofs.lemmas.List.{get_or-drop, get_or-take, get_or_past, length-take}
 use Rattle.app_message.specs.Telegram.{AreOctets}

@@ -1,24 +1,24 @@
 -- Worked messages, by computing the definitions: octets written down from the layout, and what they
 -- mean.
 use Prim.Native.String.{String}
-use Rattle.std.specs.Prelude.{
-  ◌≡◌, ℕ, List, [], ◌∷◌, ◌++◌, map, take, drop, replicate, Option, Some, None, Ok}
+use Rattle.std.specs.Prelude.{◌≡◌, ℕ, List, [], ◌∷◌, ◌++◌, map, take, drop, replicate, Option}
+use Rattle.std.specs.Prelude.{Some, None, Ok}
 use Rattle.std.proofs.Common.{refl}
 use Rattle.app_message.specs.declared.fault.GrammarFault.{GrammarFault}
 use Rattle.app_message.specs.declared.fault.GrammarFault.TheVariants as grammar
 use Rattle.app_message.specs.declared.fault.MessageFault.{MessageFault}
-use Rattle.app_message.specs.declared.fault.MessageFault.TheVariants.{
-  BadLength, BadItem, Truncated, NoMemory}
+use Rattle.app_message.specs.declared.fault.MessageFault.TheVariants.{BadLength, BadItem}
+use Rattle.app_message.specs.declared.fault.MessageFault.TheVariants.{Truncated, NoMemory}
 use Rattle.app_message.specs.declared.fault.StreamFault.{StreamFault}
-use Rattle.app_message.specs.declared.kind.Kind.TheVariants.{
-  Read, Answer, Write, Report, Notice, Ack}
+use Rattle.app_message.specs.declared.kind.Kind.TheVariants.{Read, Answer, Write, Report, Notice}
+use Rattle.app_message.specs.declared.kind.Kind.TheVariants.{Ack}
 use Rattle.app_message.specs.Telegram.{Entry, Telegram, entry, telegram}
 use Rattle.app_message.specs.Spelling.{kind_code, spelling}
 use Rattle.app_message.specs.Parts.{parts_fault}
 use Rattle.app_message.specs.Numbers.{as_message_fault, grammar_number, message_number}
 use Rattle.app_message.specs.Grammar.{header_at, item_at, items_at, address_at, body_at, front_at}
-use Rattle.app_message.specs.Stream.{
-  Stream, Held, stream, walked, walk, stream_of, held, held_after, fed_by}
+use Rattle.app_message.specs.Stream.{Stream, Held, stream, walked, walk, stream_of, held}
+use Rattle.app_message.specs.Stream.{held_after, fed_by}
 use Rattle.app_message.proofs.Hexadecimal.{octets}
 
 -- ---- messages and their octets
@@ -149,8 +149,11 @@ unfolding walk front_at header_at
 fault_stays = refl
 
 -- seven octets are kept, the next five end the message, and nothing is kept then
-kept_in_between : held_after (take 7 sign_on_text) ≡ record { rest =
-    take 7 sign_on_text; fault = None }
+kept_in_between : held_after (take 7 sign_on_text) ≡ record {
+  rest =
+      take 7 sign_on_text;
+  fault = None;
+}
 unfolding walk front_at header_at
 kept_in_between = refl
 

@@ -1,11 +1,11 @@
 -- When octets begin with a fault, and when they end before a message does: said of the octets
 -- themselves, and not by reading them.
-use Rattle.std.specs.Prelude.{
-  ◌≡◌, ◌≢◌, ℕ, ◌+◌, ◌*◌, ◌/◌, ◌<◌, ◌≤◌, ◌⊎◌, List, [], ◌∷◌, ◌++◌, length, take, drop, slice_index}
+use Rattle.std.specs.Prelude.{◌≡◌, ◌≢◌, ℕ, ◌+◌, ◌*◌, ◌/◌, ◌<◌, ◌≤◌, ◌⊎◌, List, [], ◌∷◌, ◌++◌}
+use Rattle.std.specs.Prelude.{length, take, drop, slice_index}
 use Rattle.std.specs.List.{flat_map}
 use Rattle.app_message.specs.declared.fault.GrammarFault.{GrammarFault}
-use Rattle.app_message.specs.declared.fault.GrammarFault.TheVariants.{
-  BadCode, BadKind, BadLength, BadItem}
+use Rattle.app_message.specs.declared.fault.GrammarFault.TheVariants.{BadCode, BadKind, BadLength}
+use Rattle.app_message.specs.declared.fault.GrammarFault.TheVariants.{BadItem}
 use Rattle.app_message.specs.Telegram.{Entry, Rises}
 use Rattle.app_message.specs.Spelling.{item_text}
 

@@ -1,6 +1,6 @@
 -- Whether a message can be made of its parts.
-use Rattle.std.specs.Prelude.{
-  ℕ, ◌+◌, Bool, true, false, nat_lt, List, [], ◌∷◌, length, Option, Some, None, if◌then◌else◌}
+use Rattle.std.specs.Prelude.{ℕ, ◌+◌, Bool, true, false, nat_lt, List, [], ◌∷◌, length, Option}
+use Rattle.std.specs.Prelude.{Some, None, if◌then◌else◌}
 use Rattle.app_message.specs.declared.fault.MessageFault.{MessageFault}
 use Rattle.app_message.specs.declared.fault.MessageFault.TheVariants.{BadLength, BadItem}
 use Rattle.app_message.specs.Telegram.{Entry}

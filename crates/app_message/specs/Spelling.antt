@@ -3,8 +3,8 @@ use Rattle.std.specs.Prelude.{◌≡◌, ℕ, ◌+◌, ◌*◌, ◌<◌, ◌≤�
 use Rattle.std.specs.List.{flat_map}
 use Rattle.std.specs.Int.{w16, to_be_bytes}
 use Rattle.app_message.specs.declared.kind.Kind.{Kind}
-use Rattle.app_message.specs.declared.kind.Kind.TheVariants.{
-  Read, Answer, Write, Report, Notice, Ack}
+use Rattle.app_message.specs.declared.kind.Kind.TheVariants.{Read, Answer, Write, Report, Notice}
+use Rattle.app_message.specs.declared.kind.Kind.TheVariants.{Ack}
 use Rattle.app_message.specs.Telegram.{Entry, Telegram, AreOctets, Rises}
 
 -- the three bits that stand for a kind

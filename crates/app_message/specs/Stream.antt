@@ -1,7 +1,6 @@
 -- A stream of octets: its messages, what is left of it, and the fault that ends it.
-use Rattle.std.specs.Prelude.{
-  ◌≡◌, ◌≤◌, IfSome, ℕ, zero, suc, ◌%◌, List, [], ◌∷◌, ◌++◌, length, slice_index, Option, Some, None,
-  Result, Ok, Err}
+use Rattle.std.specs.Prelude.{◌≡◌, ◌≤◌, IfSome, ℕ, zero, suc, ◌%◌, List, [], ◌∷◌, ◌++◌, length}
+use Rattle.std.specs.Prelude.{slice_index, Option, Some, None, Result, Ok, Err}
 use Rattle.app_message.specs.declared.fault.GrammarFault.{GrammarFault}
 use Rattle.app_message.specs.declared.fault.StreamFault.{StreamFault}
 use Rattle.app_message.specs.Telegram.{Telegram}

@@ -1,8 +1,8 @@
 -- Each event with an actor of its own kind has one request.
 use Rattle.std.specs.Prelude.{slice_index, ◌&&◌, ◌≤◌, map, Option, Some, None, nat_lt}
-use Rattle.std.proofs.Common.{
-  ◌≡◌, ℕ, zero, suc, ◌+◌, ◌-◌, ◌<◌, ◌==◌, Bool, true, false, cond, List, [], ◌∷◌, length, Result,
-  Ok, Err, refl, sym, ap, ◌∙◌, arith, lit≤}
+use Rattle.std.proofs.Common.{◌≡◌, ℕ, zero, suc, ◌+◌, ◌-◌, ◌<◌, ◌==◌, Bool, true, false, cond}
+use Rattle.std.proofs.Common.{List, [], ◌∷◌, length, Result, Ok, Err, refl, sym, ap, ◌∙◌, arith}
+use Rattle.std.proofs.Common.{lit≤}
 use Rattle.std.proofs.lemmas.Bool.{and_parts}
 use Rattle.std.proofs.lemmas.Bool.Decides.{nat_tests}
 use Rattle.site_base.specs.declared.limits.TheConstants.{TILLS, POINTS, PRODUCTS}
@@ -17,20 +17,20 @@ use Rattle.app_message.specs.declared.kind.Kind.TheVariants as kinds
 use Rattle.app_message.specs.Telegram.{Entry, Telegram, AreOctets, Rises, entry, telegram}
 use Rattle.app_message.specs.Spelling.{IsMessage, body_text}
 use Rattle.device_map.specs.declared.address.Database.{Database}
-use Rattle.device_map.specs.declared.address.Database.TheVariants.{
-  Site, Point, Transaction, Product}
+use Rattle.device_map.specs.declared.address.Database.TheVariants.{Site, Point, Transaction}
+use Rattle.device_map.specs.declared.address.Database.TheVariants.{Product}
 use Rattle.device_map.specs.declared.fault.MapFault.{MapFault}
-use Rattle.device_map.specs.declared.fault.MapFault.TheVariants.{
-  BadOriginator, BadAddress, UnknownItem, BadNumber}
+use Rattle.device_map.specs.declared.fault.MapFault.TheVariants.{BadOriginator, BadAddress}
+use Rattle.device_map.specs.declared.fault.MapFault.TheVariants.{UnknownItem, BadNumber}
 use Rattle.device_map.specs.declared.ids.TheConstants as ids
 use Rattle.device_map.specs.Stages.{◌>>=◌}
 use Rattle.device_map.specs.Nodes.{site_node, is_request, for_us, till_at, dispenser_at, actor_at}
-use Rattle.device_map.specs.Addresses.{
-  database_of_octet, transaction_at, is_point_octet, is_product_octet, database_at}
+use Rattle.device_map.specs.Addresses.{database_of_octet, transaction_at, is_point_octet}
+use Rattle.device_map.specs.Addresses.{is_product_octet, database_at}
 use Rattle.device_map.specs.Commands.{Shape, bare, Command, commands}
-use Rattle.device_map.specs.Requests.{
-  some_known, first_item, shape_of, items_end, empty_content, event_by, event_among, command_in,
-  read_of, read_at, event_at, request_at}
+use Rattle.device_map.specs.Requests.{some_known, first_item, shape_of, items_end, empty_content}
+use Rattle.device_map.specs.Requests.{event_by, event_among, command_in, read_of, read_at}
+use Rattle.device_map.specs.Requests.{event_at, request_at}
 use Rattle.device_map.specs.Laws.{is_point_if_named, is_own, Asks, HasOneRequest, IsOneRequest}
 
 -- ---- the way to each event, a line for each
@@ -290,8 +290,8 @@ no_dispenser : (from : List ℕ) (t : ℕ) → dispenser_at from ≡ Ok (Till t)
 unfolding dispenser_at
 no_dispenser from t is =
     let test =
-      passed (slice_index from 0 == ids.DISPENSER_SUBNET && is_between 1 POINTS (slice_index from 1))
-      BadOriginator (Ok (Dispenser (slice_index from 1))) (Till t) is in
+    passed (slice_index from 0 == ids.DISPENSER_SUBNET && is_between 1 POINTS (slice_index from 1))
+    BadOriginator (Ok (Dispenser (slice_index from 1))) (Till t) is in
     absurd (cc (test.1))
 
 of_the_actor : (kind : Kind) (from : List ℕ) (t : ℕ) → length from ≡ 2
@@ -309,7 +309,7 @@ octet_is a d is =
     (λ point named. ap (λ n. n ∷ []) (of_point point) ∙ ap address_of named)
     (λ no_point last.
     let product =
-      passed (is_product_octet a) BadAddress (Ok (Product (a - ids.PRODUCT_ADDRESS))) d last in
+    passed (is_product_octet a) BadAddress (Ok (Product (a - ids.PRODUCT_ADDRESS))) d last in
     ap (λ n. n ∷ []) (of_product product.0)
     ∙ ap address_of (ok_is (Product (a - ids.PRODUCT_ADDRESS)) d product.1)))
   where
@@ -323,8 +323,8 @@ transaction_is : (a b x y : ℕ) (d : Database) → transaction_at a b x y ≡ O
     → a ∷ b ∷ x ∷ y ∷ [] ≡ address_of d
 transaction_is a b x y d is =
     let test =
-      passed (is_point_octet a && b == ids.TRANSACTION_FORM) BadAddress
-      (Ok (Transaction (a - ids.POINT_ADDRESS) (x ∷ y ∷ []))) d is in
+    passed (is_point_octet a && b == ids.TRANSACTION_FORM) BadAddress
+    (Ok (Transaction (a - ids.POINT_ADDRESS) (x ∷ y ∷ []))) d is in
     let both = and_parts (is_point_octet a) (b == ids.TRANSACTION_FORM) test.0 in
     let within : is_point_octet a ≡ true = both.0 in
     let point : a ≡ ids.POINT_ADDRESS + (a - ids.POINT_ADDRESS) = grind (arith, nat_tests) in
@@ -342,10 +342,10 @@ names address d is = by_size (length address == 1) refl
         one_is address (equal _ _ one) ∙ octet_is (slice_index address 0) d octet
     by_size false other =
         let left : cond (length address == 4)
-          (transaction_at (slice_index address 0) (slice_index address 1)
-            (slice_index address 2) (slice_index address 3))
-          (Err BadAddress) ≡ Ok d =
-          rw other at is in
+        (transaction_at (slice_index address 0) (slice_index address 1)
+        (slice_index address 2) (slice_index address 3))
+        (Err BadAddress) ≡ Ok d =
+        rw other at is in
         let four = passed _ _ _ _ left in
         four_are address (equal _ _ four.0) ∙ transaction_is _ _ _ _ d four.1
 
@@ -392,14 +392,14 @@ shaped (bare made) first others event is =
     let ended = bind_ok (items_end others) _ event is in
     let empty = bind_ok (empty_content first) _ event ended.2 in
     let no_more : others ≡ [] =
-      none_of others (passed (length others == 0) UnknownItem (Ok tt) ended.0 ended.1).0 in
+    none_of others (passed (length others == 0) UnknownItem (Ok tt) ended.0 ended.1).0 in
     let no_content : first.content ≡ [] =
-      none_of first.content
-      (passed (length first.content == 0) BadNumber (Ok tt) empty.0 empty.1).0 in
+    none_of first.content
+    (passed (length first.content == 0) BadNumber (Ok tt) empty.0 empty.1).0 in
     record {
       way = ap way_to (ok_is made event empty.2);
       items = ap (λ (xs : List Entry). first ∷ xs) no_more
-        ∙ ap (λ (x : List ℕ). entry first.id x ∷ []) no_content;
+          ∙ ap (λ (x : List ℕ). entry first.id x ∷ []) no_content;
     }
 
 -- what was asked of the database is the way to the event
@@ -422,7 +422,7 @@ command_told kind d items event is =
     let shape = bind_ok (shape_of first.0.0.id (commands kind d)) _ event first.2 in
     let by = shaped shape.0 first.0.0 first.0.1 event shape.2 in
     let row =
-      found_leads kind d first.0.0.id shape.0 (commands kind d) (ways_back kind d) shape.1 in
+    found_leads kind d first.0.0.id shape.0 (commands kind d) (ways_back kind d) shape.1 in
     record {
       command = Some first.0.0.id;
       way = sym by.way ∙ row;
@@ -435,7 +435,7 @@ unfolding read_at
 read_told (Point p) items event is =
     let ended = bind_ok (items_end items) _ event is in
     let none : items ≡ [] =
-      none_of items (passed (length items == 0) UnknownItem (Ok tt) ended.0 ended.1).0 in
+    none_of items (passed (length items == 0) UnknownItem (Ok tt) ended.0 ended.1).0 in
     record {
       command = None;
       way = ap way_to (sym (ok_is (events.ReadPoint p) event ended.2));
@@ -464,7 +464,7 @@ alone token t event m is =
     let database = bind_ok (database_at m.address) _ (Till t, event) actor.2 in
     let last = bind_ok (event_at m.kind database.0 m.items) _ (Till t, event) database.2 in
     let pair : (actor.0, last.0) ≡ (Till t, event) =
-      ok_is (actor.0, last.0) (Till t, event) last.2 in
+    ok_is (actor.0, last.0) (Till t, event) last.2 in
     let same_actor : actor.0 ≡ Till t = ap (λ (x : Actor × Event). x.0) pair in
     let same_event : last.0 ≡ event = ap (λ (x : Actor × Event). x.1) pair in
     let told = asked m.kind database.0 m.items event (last.1 ∙ ap went same_event) in

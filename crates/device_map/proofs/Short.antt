@@ -1,6 +1,6 @@
 -- The items of a reply rise and are short, so that with any address they fit a message.
-use Rattle.std.proofs.Common.{
-  ◌≡◌, ◌≤◌, ℕ, length, arith, List, ◌++◌, Option, Some, None, Result, Ok, Err, refl, lit≤}
+use Rattle.std.proofs.Common.{◌≡◌, ◌≤◌, ℕ, length, arith, List, ◌++◌, Option, Some, None, Result}
+use Rattle.std.proofs.Common.{Ok, Err, refl, lit≤}
 use Rattle.std.specs.Prelude.{unwrap_or}
 use Rattle.site_base.specs.declared.answer.Answer.{Answer}
 use Rattle.site_base.specs.declared.answer.Answer.TheVariants as answers
@@ -18,8 +18,8 @@ use Rattle.app_message.specs.Spelling.{item_text, body_text}
 use Rattle.app_message.specs.Parts.{parts_fault}
 use Rattle.device_map.specs.declared.ids.TheConstants as ids
 use Rattle.device_map.specs.Items.{octet, four_octets, eight_octets}
-use Rattle.device_map.specs.Replies.{
-  AreShort, flag, preset_items, prepaid_items, detail_items, answer_items, reply_items}
+use Rattle.device_map.specs.Replies.{AreShort, flag, preset_items, prepaid_items, detail_items}
+use Rattle.device_map.specs.Replies.{answer_items, reply_items}
 
 point_short : (v : PointView) (preset : Preset) (prepaid : Option ℕ)
     → AreShort (octet ids.STATE (state_number v.state) ++ octet ids.NOZZLE_OUT (unwrap_or v.out 0) ++ octet ids.HOLDER (unwrap_or v.holder 0)
@@ -60,5 +60,5 @@ pub short_fits : (address : List ℕ) (items : List Entry) → 1 ≤ length addr
 unfolding parts_fault
 short_fits address items least most short =
     let size : length (body_text address items) ≤ 1024 =
-      omega (arith, short.size, length-append address (flat_map item_text items)) in
+    omega (arith, short.size, length-append address (flat_map item_text items)) in
     rw (le-ltb (length address) 1 least, le-ltb 8 (length address) most, le-ltb 1024 (length (body_text address items)) size, short.rise) refl

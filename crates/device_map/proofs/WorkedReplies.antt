@@ -1,8 +1,8 @@
 -- Worked replies, by computing the definitions: what was asked, what is replied, and the octets
 -- that tell it, cut in two behind the address.
 use Prim.Native.String.{String}
-use Rattle.std.specs.Prelude.{
-  ◌≡◌, ℕ, List, [], ◌∷◌, ◌++◌, map, Option, Some, None, true, false, Result, Ok, Err}
+use Rattle.std.specs.Prelude.{◌≡◌, ℕ, List, [], ◌∷◌, ◌++◌, map, Option, Some, None, true, false}
+use Rattle.std.specs.Prelude.{Result, Ok, Err}
 use Rattle.std.proofs.Common.{refl}
 use Rattle.site_base.specs.declared.answer.Answer.{Answer}
 use Rattle.site_base.specs.declared.answer.Answer.TheVariants as answers
@@ -50,27 +50,27 @@ answer_rows =
     to_write (Ok answers.Done) "02 01 01 01 00 E5 0008 01 23" "010100 030100" ∷
     to_write (Ok answers.Calling) "02 01 01 01 00 E5 0008 01 23" "010100 030101" ∷
     to_write (Ok (answers.Start Unset 1500))
-      "02 01 01 01 00 E5 000E 01 23" "010100 030102 7204000005DC" ∷
+    "02 01 01 01 00 E5 000E 01 23" "010100 030102 7204000005DC" ∷
     to_write (Ok (answers.Start (Volume 3000) 1500))
-      "02 01 01 01 00 E5 0014 01 23" "010100 030102 500400000BB8 7204000005DC" ∷
+    "02 01 01 01 00 E5 0014 01 23" "010100 030102 500400000BB8 7204000005DC" ∷
     to_write (Ok (answers.Start (Money 2000) 1500))
-      "02 01 01 01 00 E5 0014 01 23" "010100 030102 5104000007D0 7204000005DC" ∷
+    "02 01 01 01 00 E5 0014 01 23" "010100 030102 5104000007D0 7204000005DC" ∷
     to_write (Ok (answers.Flowed 12345))
-      "02 01 01 01 00 E5 0012 01 23" "010100 030103 73080000000000003039" ∷
+    "02 01 01 01 00 E5 0012 01 23" "010100 030103 73080000000000003039" ∷
     to_write (Ok answers.HungUp) "02 01 01 01 00 E5 0008 01 23" "010100 030104" ∷
     to_write (Ok answers.NoSale) "02 01 01 01 00 E5 0008 01 23" "010100 030105" ∷
     to_write (Ok (answers.Sold 1 0))
-      "02 01 01 01 00 E5 0016 01 23" "010100 030106 73080000000000000000 74020001" ∷
+    "02 01 01 01 00 E5 0016 01 23" "010100 030106 73080000000000000000 74020001" ∷
     to_write (Ok (answers.Sold 9999 1000000))
-      "02 01 01 01 00 E5 0016 01 23" "010100 030106 730800000000000F4240 74029999" ∷
+    "02 01 01 01 00 E5 0016 01 23" "010100 030106 730800000000000F4240 74029999" ∷
     to_write (Ok (answers.Sold 1234 5))
-      "02 01 01 01 00 E5 0016 01 23" "010100 030106 73080000000000000005 74021234" ∷
+    "02 01 01 01 00 E5 0016 01 23" "010100 030106 73080000000000000005 74021234" ∷
     to_write (Ok answers.Stopped) "02 01 01 01 00 E5 0008 01 23" "010100 030107" ∷
     to_write (Ok answers.Ending) "02 01 01 01 00 E5 0008 01 23" "010100 030108" ∷
     to_write (Ok answers.Locked) "02 01 01 01 00 E5 0008 01 23" "010100 030109" ∷
     to_write (Ok answers.Unlocked) "02 01 01 01 00 E5 0008 01 23" "010100 03010A" ∷
     to_write (Ok (answers.Cleared 1500))
-      "02 01 01 01 00 E5 0012 01 23" "010100 03010B 750800000000000005DC" ∷
+    "02 01 01 01 00 E5 0012 01 23" "010100 03010B 750800000000000005DC" ∷
     to_write (Ok (answers.ShiftClosed 1)) "02 01 01 01 00 E5 000C 01 23" "010100 03010C 76020001" ∷
     []
 
@@ -91,25 +91,25 @@ refusal_rows =
     to_write (Err refusals.BadPrice) "02 01 01 01 00 E5 0005 01 23" "010108" ∷
     to_write (Err refusals.BadPreset) "02 01 01 01 00 E5 0005 01 23" "010109" ∷
     to_write (Err (refusals.WrongState states.Authorised))
-      "02 01 01 01 00 E5 000F 01 23" "01010A 02080000000000000005" ∷
+    "02 01 01 01 00 E5 000F 01 23" "01010A 02080000000000000005" ∷
     to_write (Err (refusals.AssignedToOther 1))
-      "02 01 01 01 00 E5 000F 01 23" "01010B 02080000000000000001" ∷
+    "02 01 01 01 00 E5 000F 01 23" "01010B 02080000000000000001" ∷
     to_write (Err refusals.NotYours) "02 01 01 01 00 E5 0005 01 23" "01010C" ∷
     to_write (Err refusals.NotYourPoint) "02 01 01 01 00 E5 0005 01 23" "01010D" ∷
     to_write (Err (refusals.WrongNozzle 2))
-      "02 01 01 01 00 E5 000F 01 23" "01010E 02080000000000000002" ∷
+    "02 01 01 01 00 E5 000F 01 23" "01010E 02080000000000000002" ∷
     to_write (Err refusals.BufferFull) "02 01 01 01 00 E5 0005 01 23" "01010F" ∷
     to_write (Err refusals.SequenceSpent) "02 01 01 01 00 E5 0005 01 23" "010110" ∷
     to_write (Err (refusals.MeterGap 5000))
-      "02 01 01 01 00 E5 000F 01 23" "010111 02080000000000001388" ∷
+    "02 01 01 01 00 E5 000F 01 23" "010111 02080000000000001388" ∷
     to_write (Err (refusals.MeterBack 5000))
-      "02 01 01 01 00 E5 000F 01 23" "010112 02080000000000001388" ∷
+    "02 01 01 01 00 E5 000F 01 23" "010112 02080000000000001388" ∷
     to_write (Err refusals.MeterJump) "02 01 01 01 00 E5 0005 01 23" "010113" ∷
     to_write (Err (refusals.LockedByOther 2))
-      "02 01 01 01 00 E5 000F 01 23" "010114 02080000000000000002" ∷
+    "02 01 01 01 00 E5 000F 01 23" "010114 02080000000000000002" ∷
     to_write (Err refusals.NotLocked) "02 01 01 01 00 E5 0005 01 23" "010115" ∷
     to_write (Err (refusals.AlreadyCleared 1))
-      "02 01 01 01 00 E5 000F 01 23" "010116 02080000000000000001" ∷
+    "02 01 01 01 00 E5 000F 01 23" "010116 02080000000000000001" ∷
     to_write (Err refusals.Ending) "02 01 01 01 00 E5 0005 01 23" "010117" ∷
     to_write (Err refusals.ShiftsSpent) "02 01 01 01 00 E5 0005 01 23" "010118" ∷
     []
@@ -252,22 +252,22 @@ views_are_told = refl
 abbrev way_rows : List Row
 way_rows =
     told "01 01 02 01 00 41 00 04 01 01 31 00" (Ok answers.Done)
-      "02 01 01 01 00 E1 0008 01 01" "010100 030100" ∷
+    "02 01 01 01 00 E1 0008 01 01" "010100 030100" ∷
     told "01 01 02 01 00 47 00 04 01 01 32 00" (Ok answers.Done)
-      "02 01 01 01 00 E7 0008 01 01" "010100 030100" ∷
+    "02 01 01 01 00 E7 0008 01 01" "010100 030100" ∷
     told "01 01 02 01 00 42 00 04 01 23 3C 00" (Err (refusals.AssignedToOther 1))
-      "02 01 01 01 00 E2 000F 01 23" "01010B 02080000000000000001" ∷
+    "02 01 01 01 00 E2 000F 01 23" "01010B 02080000000000000001" ∷
     told "01 01 02 01 00 44 00 04 01 22 42 00" (Ok answers.Done)
-      "02 01 01 01 00 E4 0008 01 22" "010100 030100" ∷
+    "02 01 01 01 00 E4 0008 01 22" "010100 030100" ∷
     told "01 01 02 02 00 46 00 04 01 23 3E 00" (Err (refusals.AssignedToOther 1))
-      "02 02 01 01 00 E6 000F 01 23" "01010B 02080000000000000001" ∷
+    "02 02 01 01 00 E6 000F 01 23" "01010B 02080000000000000001" ∷
     told "01 01 02 01 00 48 00 04 01 22 43 00" (Err refusals.NotYours)
-      "02 01 01 01 00 E8 0005 01 22" "01010C" ∷
+    "02 01 01 01 00 E8 0005 01 22" "01010C" ∷
     -- a dispenser's report, and the address of a transaction
     told "01 01 03 10 00 7F 00 04 01 30 60 00" (Ok answers.Done)
-      "03 10 01 01 00 FF 0008 01 30" "010100 030100" ∷
+    "03 10 01 01 00 FF 0008 01 30" "010100 030100" ∷
     told "01 01 02 08 00 40 00 07 04 21 21 00 01 80 00" (Ok answers.Locked)
-      "02 08 01 01 00 E0 000B 04 21 21 00 01" "010100 030109" ∷
+    "02 08 01 01 00 E0 000B 04 21 21 00 01" "010100 030109" ∷
     []
 
 ways_back : map tells way_rows ≡ map (λ row. row.text ∷ []) way_rows

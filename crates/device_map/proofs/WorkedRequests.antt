@@ -11,19 +11,13 @@ use Rattle.app_message.specs.Grammar.{header_at, item_at, items_at, address_at, 
 use Rattle.app_message.specs.Stream.{walk, stream_of}
 use Rattle.app_message.proofs.Hexadecimal.{octets}
 use Rattle.device_map.specs.declared.address.Database.{Database}
-use Rattle.device_map.specs.declared.address.Database.TheVariants.{
-  Site, Point, Transaction, Product}
+use Rattle.device_map.specs.declared.address.Database.TheVariants.{Site, Point, Transaction}
+use Rattle.device_map.specs.declared.address.Database.TheVariants.{Product}
 use Rattle.device_map.specs.declared.fault.MapFault.{MapFault}
-use Rattle.device_map.specs.declared.fault.MapFault.TheVariants.{
-  NotARequest,
-  NotForUs,
-  BadOriginator,
-  BadAddress,
-  UnknownItem,
-  ItemMissing,
-  BadDecimal,
-  BadNumber,
-}
+use Rattle.device_map.specs.declared.fault.MapFault.TheVariants.{NotARequest, NotForUs}
+use Rattle.device_map.specs.declared.fault.MapFault.TheVariants.{BadOriginator, BadAddress}
+use Rattle.device_map.specs.declared.fault.MapFault.TheVariants.{UnknownItem, ItemMissing}
+use Rattle.device_map.specs.declared.fault.MapFault.TheVariants.{BadDecimal, BadNumber}
 use Rattle.device_map.specs.Faults.{map_number}
 use Rattle.device_map.specs.Nodes.{for_us, till_at, dispenser_at}
 use Rattle.device_map.specs.Addresses.{database_at}
@@ -122,7 +116,7 @@ no_requests =
 
 no_requests_ask : map (λ row. read_in row.text) no_requests ≡ map (λ row. row.pair ∷ []) no_requests
 unfolding request_at for_us till_at dispenser_at database_at command_in read_at walk front_at
-  header_at item_at items_at address_at body_at
+    header_at item_at items_at address_at body_at
 no_requests_ask = refl
 
 -- the octets of an address, and the database that it names

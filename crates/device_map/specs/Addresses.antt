@@ -1,15 +1,15 @@
 -- The database that an address names.
-use Rattle.std.specs.Prelude.{
-  ℕ, ◌+◌, ◌-◌, Bool, List, [], ◌∷◌, length, ◌&&◌, ◌==◌, slice_index, Result, Ok, Err, if◌then◌else◌}
+use Rattle.std.specs.Prelude.{ℕ, ◌+◌, ◌-◌, Bool, List, [], ◌∷◌, length, ◌&&◌, ◌==◌, slice_index}
+use Rattle.std.specs.Prelude.{Result, Ok, Err, if◌then◌else◌}
 use Rattle.site_base.specs.declared.limits.TheConstants.{POINTS, PRODUCTS}
 use Rattle.site_base.specs.Configured.{is_between}
 use Rattle.device_map.specs.declared.address.Database.{Database}
-use Rattle.device_map.specs.declared.address.Database.TheVariants.{
-  Site, Point, Transaction, Product}
+use Rattle.device_map.specs.declared.address.Database.TheVariants.{Site, Point, Transaction}
+use Rattle.device_map.specs.declared.address.Database.TheVariants.{Product}
 use Rattle.device_map.specs.declared.fault.MapFault.{MapFault}
 use Rattle.device_map.specs.declared.fault.MapFault.TheVariants.{BadAddress}
-use Rattle.device_map.specs.declared.ids.TheConstants.{
-  SITE_ADDRESS, POINT_ADDRESS, PRODUCT_ADDRESS, TRANSACTION_FORM}
+use Rattle.device_map.specs.declared.ids.TheConstants.{SITE_ADDRESS, POINT_ADDRESS}
+use Rattle.device_map.specs.declared.ids.TheConstants.{PRODUCT_ADDRESS, TRANSACTION_FORM}
 
 -- the octet in which the address of a fuelling point, or of its transactions, begins
 abbrev pub is_point_octet : ℕ → Bool

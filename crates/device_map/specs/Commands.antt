@@ -1,6 +1,6 @@
 -- The commands of the profile, line for line as its table of requests prints them: the kind of
--- message and the database where each stands, its identifier, the shape of its content, and the event
--- that it makes.
+-- message and the database where each stands, its identifier, the shape of its content, and the
+-- event that it makes.
 use Rattle.std.specs.Prelude.{ℕ, List, [], ◌∷◌}
 use Rattle.site_base.specs.declared.event.Event.{Event}
 use Rattle.site_base.specs.declared.event.Event.TheVariants as events

@@ -1,6 +1,6 @@
 -- Who speaks from a node.
-use Rattle.std.specs.Prelude.{
-  ℕ, Bool, List, [], ◌∷◌, ◌&&◌, ◌==◌, slice_index, Result, Ok, Err, if◌then◌else◌}
+use Rattle.std.specs.Prelude.{ℕ, Bool, List, [], ◌∷◌, ◌&&◌, ◌==◌, slice_index, Result, Ok, Err}
+use Rattle.std.specs.Prelude.{if◌then◌else◌}
 use Rattle.site_base.specs.declared.limits.TheConstants.{TILLS, POINTS}
 use Rattle.site_base.specs.declared.actor.Actor.{Actor}
 use Rattle.site_base.specs.declared.actor.Actor.TheVariants.{Till, Dispenser}
@@ -8,10 +8,10 @@ use Rattle.site_base.specs.Configured.{is_between}
 use Rattle.app_message.specs.declared.kind.Kind.{Kind}
 use Rattle.app_message.specs.declared.kind.Kind.TheVariants as kinds
 use Rattle.device_map.specs.declared.fault.MapFault.{MapFault}
-use Rattle.device_map.specs.declared.fault.MapFault.TheVariants.{
-  NotARequest, NotForUs, BadOriginator}
-use Rattle.device_map.specs.declared.ids.TheConstants.{
-  SITE_SUBNET, SITE_NODE, TILL_SUBNET, DISPENSER_SUBNET}
+use Rattle.device_map.specs.declared.fault.MapFault.TheVariants.{NotARequest, NotForUs}
+use Rattle.device_map.specs.declared.fault.MapFault.TheVariants.{BadOriginator}
+use Rattle.device_map.specs.declared.ids.TheConstants.{SITE_SUBNET, SITE_NODE, TILL_SUBNET}
+use Rattle.device_map.specs.declared.ids.TheConstants.{DISPENSER_SUBNET}
 
 -- subnet and node of the site
 abbrev pub site_node : List ℕ

@@ -1,7 +1,6 @@
 -- The message that tells a reply.
-use Rattle.std.specs.Prelude.{
-  ◌≡◌, ◌≤◌, ℕ, length, Bool, true, false, List, [], ◌∷◌, ◌++◌, ◌+◌, ◌*◌, ◌/◌, ◌%◌, Option, Some,
-  None, Result, Ok, Err, unwrap_or}
+use Rattle.std.specs.Prelude.{◌≡◌, ◌≤◌, ℕ, length, Bool, true, false, List, [], ◌∷◌, ◌++◌, ◌+◌}
+use Rattle.std.specs.Prelude.{◌*◌, ◌/◌, ◌%◌, Option, Some, None, Result, Ok, Err, unwrap_or}
 use Rattle.std.specs.List.{flat_map}
 use Rattle.site_base.specs.declared.answer.Answer.{Answer}
 use Rattle.site_base.specs.declared.answer.Answer.TheVariants as answers

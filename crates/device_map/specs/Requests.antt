@@ -9,8 +9,8 @@ use Rattle.app_message.specs.Telegram.{Entry, Telegram}
 use Rattle.device_map.specs.declared.address.Database.{Database}
 use Rattle.device_map.specs.declared.address.Database.TheVariants.{Point}
 use Rattle.device_map.specs.declared.fault.MapFault.{MapFault}
-use Rattle.device_map.specs.declared.fault.MapFault.TheVariants.{
-  BadAddress, UnknownItem, ItemMissing, BadNumber}
+use Rattle.device_map.specs.declared.fault.MapFault.TheVariants.{BadAddress, UnknownItem}
+use Rattle.device_map.specs.declared.fault.MapFault.TheVariants.{ItemMissing, BadNumber}
 use Rattle.device_map.specs.Stages.{◌>>=◌}
 use Rattle.device_map.specs.Nodes.{for_us, actor_at, is_request}
 use Rattle.device_map.specs.Addresses.{database_at}

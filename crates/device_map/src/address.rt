@@ -2,7 +2,8 @@
 
 ghost use Rattle.std.specs.Prelude.{◌≡◌, ◌+◌, true, slice_index, IfSome, IsSome, ◌↔◌};
 ghost use Rattle.device_map.specs.Stages.{Gives};
-ghost use Rattle.device_map.specs.Addresses.{database_of_octet, transaction_at, is_point_octet, is_product_octet, database_at};
+ghost use Rattle.device_map.specs.Addresses.{database_of_octet, transaction_at, is_point_octet};
+ghost use Rattle.device_map.specs.Addresses.{is_product_octet, database_at};
 
 use crate::fault::MapFault;
 use crate::ids::{POINT_ADDRESS, PRODUCT_ADDRESS, SITE_ADDRESS, TRANSACTION_FORM};

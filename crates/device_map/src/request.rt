@@ -3,7 +3,8 @@
 ghost use Rattle.std.specs.Prelude.{◌≡◌};
 ghost use Rattle.device_map.specs.Stages.{Gives};
 ghost use Rattle.device_map.specs.Commands.{bare, commands};
-ghost use Rattle.device_map.specs.Requests.{event_by, command_in, read_of, read_at, event_at, request_at};
+ghost use Rattle.device_map.specs.Requests.{event_by, command_in, read_of, read_at, event_at};
+ghost use Rattle.device_map.specs.Requests.{request_at};
 
 use crate::address::Database;
 use crate::fault::MapFault;
@@ -12,8 +13,8 @@ use app_message::{Item, Kind, Message};
 use site_base::{Actor, Event, FpNo};
 
 /// The actor and the event that the message means, or its first fault, in the order of `MapFault`'s
-/// variants: it is a request, for this site, from one who may ask it, of a database that has requests
-/// of this kind, with just the items that belong to it.
+/// variants: it is a request, for this site, from one who may ask it, of a database that has
+/// requests of this kind, with just the items that belong to it.
 #[tactic(auto, unfolding(crate::specs::Requests::request_at))]
 pub fn request_of(message: &Message) -> Result<(Actor, Event), MapFault>
     ensures { Gives result (request_at message.now) }
