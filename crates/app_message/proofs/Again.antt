@@ -29,7 +29,15 @@ item_again low e s order valid =
     let long : 2 ≤ length (item_text e ++ s) = omega (arith, length-append e.content s) in
     let enough : n ≤ length (e.content ++ s) = omega (arith, length-append e.content s) in
     let even : n ≢ 255 = λ h. omega arith in
-    rw (le-ltb (length (item_text e ++ s)) 2 long, le-ltb e.id low order, ne_eqb n 255 even, le-ltb (length (e.content ++ s)) n enough, take_at e.content s n refl, drop_at e.content s n refl) refl
+    rw (
+      le-ltb (length (item_text e ++ s)) 2 long,
+      le-ltb e.id low order,
+      ne_eqb n 255 even,
+      le-ltb (length (e.content ++ s)) n enough,
+      take_at e.content s n refl,
+      drop_at e.content s n
+          refl,
+    ) refl
 
 items_again : (n low : ℕ) (es : List Entry) → Rises low es → length (flat_map item_text es) ≤ n
     → items_at n low (flat_map item_text es) ≡ Ok es
@@ -41,7 +49,11 @@ items_again (suc n) low (e ∷ es) rises p =
     let more : List ℕ = flat_map item_text es in
     let some : length (item_text e ++ more) ≢ 0 = λ h. omega arith in
     let fewer : length more ≤ n = omega (arith, length-append e.content more) in
-    rw (ne_eqb (length (item_text e ++ more)) 0 some, item_again low e more rises.0 rises.1, items_again n (e.id + 1) es rises.2 fewer) refl
+    rw (
+      ne_eqb (length (item_text e ++ more)) 0 some,
+      item_again low e more rises.0 rises.1,
+      items_again n (e.id + 1) es rises.2 fewer,
+    ) refl
 
 -- ---- the body
 
@@ -84,22 +96,38 @@ two (a ∷ b ∷ c ∷ s) h = absurd (omega arith)
 
 header_at_octets : (a b c d st hi lo : ℕ) (s : List ℕ) (k : Kind) (token n : ℕ)
     → st / 32 ≡ kind_code k → st % 32 ≡ token → hi * 256 + lo ≡ n → 2 ≤ n → n ≤ 1024
-    → header_at (a ∷ b ∷ c ∷ d ∷ 0 ∷ st ∷ hi ∷ lo ∷ s) ≡ Ok (record { to = a ∷ b ∷ []; from = c ∷ d ∷ []; kind = k; token = token; len = n })
+    → header_at (a ∷ b ∷ c ∷ d ∷ 0 ∷ st ∷ hi ∷ lo ∷ s) ≡ Ok
+    (record { to = a ∷ b ∷ []; from = c ∷ d ∷ []; kind = k; token = token; len = n })
 unfolding header_at
 header_at_octets a b c d st hi lo s k token n bits low size least most =
     let long : 8 ≤ length (a ∷ b ∷ c ∷ d ∷ 0 ∷ st ∷ hi ∷ lo ∷ s) = omega arith in
-    rw (le-ltb (length (a ∷ b ∷ c ∷ d ∷ 0 ∷ st ∷ hi ∷ lo ∷ s)) 8 long, bits, kind_again k, low, size, le-ltb n 2 least, le-ltb 1024 n most) refl
+    rw (
+      le-ltb (length (a ∷ b ∷ c ∷ d ∷ 0 ∷ st ∷ hi ∷ lo ∷ s)) 8 long,
+      bits,
+      kind_again k,
+      low,
+      size,
+      le-ltb n 2 least,
+      le-ltb 1024 n most,
+    ) refl
 
 header_again : (to from : List ℕ) (k : Kind) (token n : ℕ) (s : List ℕ) → IsHead to from token
     → 2 ≤ n → n ≤ 1024
-    → header_at (to ++ from ++ (0 ∷ (kind_code k * 32 + token) ∷ to_be_bytes w16 n) ++ s) ≡ Ok (record { to = to; from = from; kind = k; token = token; len = n })
+    → header_at (to ++ from ++ (0 ∷ (kind_code k * 32 + token) ∷ to_be_bytes w16 n) ++ s) ≡ Ok
+    (record { to = to; from = from; kind = k; token = token; len = n })
 header_again to from k token n s head least most =
     let P : List ℕ → List ℕ → Type 0 =
-    λ x y. header_at (x ++ y ++ (0 ∷ (kind_code k * 32 + token) ∷ to_be_bytes w16 n) ++ s) ≡ Ok (record { to = x; from = y; kind = k; token = token; len = n }) in
+    λ x y. header_at (x ++ y ++ (0 ∷ (kind_code k * 32 + token) ∷ to_be_bytes w16 n) ++ s) ≡ Ok
+    (record { to = x; from = y; kind = k; token = token; len = n }) in
     let size : n / 256 % 256 * 256 + n % 256 ≡ n = omega arith in
     let octets =
-    header_at_octets (get_or to 0 0) (get_or to 1 0) (get_or from 0 0) (get_or from 1 0) (kind_code k * 32 + token) (n / 256 % 256) (n % 256) s k token n (div-mul-add (kind_code k) 32 token head.in_range) (mod-mul-add (kind_code k) 32 token head.in_range) size least most in
-    subst (λ (x : List ℕ). P x from) (sym (two to head.to_size)) (subst (λ (y : List ℕ). P (get_or to 0 0 ∷ get_or to 1 0 ∷ []) y) (sym (two from head.from_size)) octets)
+    header_at_octets (get_or to 0 0) (get_or to 1 0) (get_or from 0 0) (get_or from 1 0)
+    (kind_code k * 32 + token) (n / 256 % 256) (n % 256) s k token n
+    (div-mul-add (kind_code k) 32 token head.in_range)
+    (mod-mul-add (kind_code k) 32 token head.in_range) size least most in
+    subst (λ (x : List ℕ). P x from) (sym (two to head.to_size))
+    (subst (λ (y : List ℕ). P (get_or to 0 0 ∷ get_or to 1 0 ∷ []) y)
+    (sym (two from head.from_size)) octets)
 
 -- the octets of a header
 abbrev head_text : Telegram → List ℕ
@@ -122,11 +150,19 @@ front_again m s valid =
     let h : Header =
     record { to = m.to; from = m.from; kind = m.kind; token = m.token; len = length (body m) } in
     let header : header_at (head_text m ++ (body m ++ s)) ≡ Ok h =
-    header_again m.to m.from m.kind m.token (length (body m)) (body m ++ s) valid.head valid.least valid.most in
+    header_again m.to m.from m.kind m.token (length (body m)) (body m ++ s) valid.head valid.least
+    valid.most in
     let behind : drop 8 (head_text m ++ (body m ++ s)) ≡ body m ++ s =
     drop_at (head_text m) (body m ++ s) 8 (head_size m valid) in
     let enough : length (body m) ≤ length (body m ++ s) = omega (arith, length-append (body m) s) in
-    ap front_at text ∙ rw (header, behind, le-ltb (length (body m ++ s)) (length (body m)) enough, take_at (body m) s (length (body m)) refl, drop_at (body m) s (length (body m)) refl, body_again h m valid) refl
+    ap front_at text ∙ rw (
+      header,
+      behind,
+      le-ltb (length (body m ++ s)) (length (body m)) enough,
+      take_at (body m) s (length (body m)) refl,
+      drop_at (body m) s (length (body m)) refl,
+      body_again h m valid,
+    ) refl
 
 abbrev front_is : Telegram × List ℕ → Result (Telegram × List ℕ) Halt
 front_is x = Ok x
@@ -142,4 +178,5 @@ no_prefix m n a b vm vn same =
 
 pub read_again : (m : Telegram) (s : List ℕ) → IsMessage m
     → stream_of (spelling m ++ s) ≡ walked (m ∷ []) (stream_of s)
-read_again m s valid = stream_step (spelling m ++ s) ∙ ap (stream_on (spelling m ++ s) stream_of) (front_again m s valid)
+read_again m s valid = stream_step (spelling m ++ s) ∙ ap (stream_on (spelling m ++ s) stream_of)
+    (front_again m s valid)

@@ -28,14 +28,20 @@ pub front_taken : (s : List ℕ) (x : Telegram × List ℕ) → front_at s ≡ O
 unfolding front_at
 front_taken s x e =
     let h =
-    bind_ok (header_at s) (λ h. cond (ltb (length (drop 8 s)) h.len) (Err short) (body_at h (take h.len (drop 8 s)) >>= λ m. Ok (m, drop h.len (drop 8 s)))) x e in
+    bind_ok (header_at s) (λ h. cond (ltb (length (drop 8 s)) h.len) (Err short)
+    (body_at h (take h.len (drop 8 s)) >>= λ m. Ok (m, drop h.len (drop 8 s)))) x e in
     let long = (header_takes s h.0 h.1).long in
     let g = guard_ok (ltb (length (drop 8 s)) h.0.len) short _ x h.2 in
     let m =
     bind_ok (body_at h.0 (take h.0.len (drop 8 s))) (λ m. Ok (m, drop h.0.len (drop 8 s))) x g.1 in
     let left : drop h.0.len (drop 8 s) ≡ x.1 =
     ap (λ (y : Telegram × List ℕ). y.1) (ok_is (m.0, drop h.0.len (drop 8 s)) x m.2) in
-    record { len = h.0.len; rest = sym left; shorter = rw (← left) (omega (arith, long, length-drop 8 s, length-drop h.0.len (drop 8 s))) }
+    record {
+      len = h.0.len;
+      rest = sym left;
+      shorter = rw (← left)
+          (omega (arith, long, length-drop 8 s, length-drop h.0.len (drop 8 s)));
+    }
 
 -- a fault has its eight octets
 pub fault_long : (s : List ℕ) (f : GrammarFault) → front_at s ≡ Err (fault f) → 8 ≤ length s
@@ -64,7 +70,8 @@ stays_made b t (Err d) = stays_halted b d
 
 -- the header and what follows it
 abbrev behind : List ℕ → Header → Result (Telegram × List ℕ) Halt
-behind s h = cond (ltb (length (drop 8 s)) h.len) (Err short) (body_at h (take h.len (drop 8 s)) >>= λ m. Ok (m, drop h.len (drop 8 s)))
+behind s h = cond (ltb (length (drop 8 s)) h.len) (Err short)
+    (body_at h (take h.len (drop 8 s)) >>= λ m. Ok (m, drop h.len (drop 8 s)))
 
 stays_behind : (a b : List ℕ) (h : Header) → 8 ≤ length a → Stays b (behind a h) (behind (a ++ b) h)
 stays_behind a b h long =
@@ -74,7 +81,13 @@ stays_behind a b h long =
           let longer : drop 8 (a ++ b) ≡ drop 8 a ++ b = drop-append-le 8 a b long in
           let still : h.len ≤ length (drop 8 a ++ b) =
           omega (arith, enough, length-append (drop 8 a) b) in
-          rw (longer, le-ltb (length (drop 8 a)) h.len enough, le-ltb (length (drop 8 a ++ b)) h.len still, take-append-le h.len (drop 8 a) b enough, drop-append-le h.len (drop 8 a) b enough)
+          rw (
+            longer,
+            le-ltb (length (drop 8 a)) h.len enough,
+            le-ltb (length (drop 8 a ++ b)) h.len still,
+            take-append-le h.len (drop 8 a) b enough,
+            drop-append-le h.len (drop 8 a) b enough,
+          )
           (stays_made b (drop h.len (drop 8 a)) (body_at h (take h.len (drop 8 a))))
     ]
 
@@ -84,7 +97,19 @@ header_stays a b long =
     let at : (i : ℕ) → i < 8 → get_or (a ++ b) i 0 ≡ get_or a i 0 =
     λ i lt. get_or_append_left a b 0 i (omega arith) in
     let longer : 8 ≤ length (a ++ b) = omega (arith, length-append a b) in
-    rw (le-ltb (length (a ++ b)) 8 longer, le-ltb (length a) 8 long, at 0 (omega arith), at 1 (omega arith), at 2 (omega arith), at 3 (omega arith), at 4 (omega arith), at 5 (omega arith), at 6 (omega arith), at 7 (omega arith)) refl
+    rw (
+      le-ltb (length (a ++ b)) 8 longer,
+      le-ltb (length a) 8 long,
+      at 0 (omega arith),
+      at 1 (omega arith),
+      at 2 (omega arith),
+      at 3 (omega arith),
+      at 4 (omega arith),
+      at 5
+          (omega arith),
+      at 6 (omega arith),
+      at 7 (omega arith),
+    ) refl
 
 stays_on : (a b : List ℕ) (r : Result Header Halt) → 8 ≤ length a
     → Stays b (r >>= behind a) (r >>= behind (a ++ b))
@@ -96,7 +121,8 @@ unfolding front_at header_at
 front_stays a b =
     elim (cases_lt (length a) 8) [
       | inl few ↦ rw (lt-ltb (length a) 8 few) tt
-      | inr long ↦ subst (λ (r : Result Header Halt). Stays b (header_at a >>= behind a) (r >>= behind (a ++ b))) (sym (header_stays a b long)) (stays_on a b (header_at a) long)
+      | inr long ↦ subst (λ (r : Result Header Halt). Stays b (header_at a >>= behind a)
+          (r >>= behind (a ++ b))) (sym (header_stays a b long)) (stays_on a b (header_at a) long)
     ]
 
 -- ---- steps of the walk
@@ -115,7 +141,8 @@ walk_same zero (suc m) [] p q = refl
 walk_same zero (suc m) (a ∷ s) p q = absurd (omega arith)
 walk_same (suc n) zero [] p q = refl
 walk_same (suc n) zero (a ∷ s) p q = absurd (omega arith)
-walk_same (suc n) (suc m) s p q = on_same s (walk n) (walk m) (front_at s) (λ x e. let t = (front_taken s x e).shorter in walk_same n m x.1 (omega arith) (omega arith))
+walk_same (suc n) (suc m) s p q = on_same s (walk n) (walk m) (front_at s)
+    (λ x e. let t = (front_taken s x e).shorter in walk_same n m x.1 (omega arith) (omega arith))
 
 -- the message at the front, and then the stream behind it
 pub stream_step : (s : List ℕ) → stream_of s ≡ stream_on s stream_of (front_at s)
@@ -123,7 +150,9 @@ unfolding walk
 stream_step s =
     let more : walk (length s) s ≡ walk (suc (length s)) s =
     walk_same (length s) (suc (length s)) s (omega arith) (omega arith) in
-    more ∙ on_same s (walk (length s)) stream_of (front_at s) (λ x e. let t = (front_taken s x e).shorter in walk_same (length s) (length x.1) x.1 (omega arith) (omega arith))
+    more ∙ on_same s (walk (length s)) stream_of (front_at s)
+    (λ x e. let t = (front_taken s x e).shorter in walk_same (length s) (length x.1) x.1
+    (omega arith) (omega arith))
 
 -- ---- any cutting
 
@@ -139,7 +168,8 @@ cut_on a b (Ok x) later here there stay cut =
     stream_step a ∙ ap (stream_on a stream_of) here in
     let whole : stream_of (a ++ b) ≡ walked (x.0 ∷ []) (stream_of (x.1 ++ b)) =
     stream_step (a ++ b) ∙ ap (stream_on (a ++ b) stream_of) (there ∙ stay) in
-    let both : stream_of (a ++ b) ≡ walked (x.0 ∷ []) (walked (stream_of x.1).messages (fed_by (held_after x.1) b)) =
+    let both : stream_of (a ++ b) ≡ walked (x.0 ∷ [])
+    (walked (stream_of x.1).messages (fed_by (held_after x.1) b)) =
     whole ∙ ap (walked (x.0 ∷ [])) (cut x refl) in
     both ∙ ap (λ (t : Stream). walked t.messages (fed_by (held t) b)) (sym first)
 cut_on a b (Err short) later here there stay cut =
@@ -149,7 +179,11 @@ cut_on a b (Err short) later here there stay cut =
 cut_on a b (Err (fault f)) later here there stay cut =
     let first : stream_of a ≡ record { messages = []; rest = []; fault = Some (fault_of f a) } =
     stream_step a ∙ ap (stream_on a stream_of) here in
-    let whole : stream_of (a ++ b) ≡ record { messages = []; rest = []; fault = Some (fault_of f (a ++ b)) } =
+    let whole : stream_of (a ++ b) ≡ record {
+      messages = [];
+      rest = [];
+      fault = Some (fault_of f (a ++ b));
+    } =
     stream_step (a ++ b) ∙ ap (stream_on (a ++ b) stream_of) (there ∙ stay) in
     let long = fault_long a f here in
     let at : (i : ℕ) → i < 8 → get_or (a ++ b) i 0 ≡ get_or a i 0 =
@@ -162,8 +196,10 @@ cut_on a b (Err (fault f)) later here there stay cut =
     ended ∙ ap (λ (t : Stream). walked t.messages (fed_by (held t) b)) (sym first)
 
 cut_in : (n : ℕ) (a b : List ℕ) → length a ≤ n → Cut a b
-cut_in zero a b p = cut_on a b (front_at a) (front_at (a ++ b)) refl refl (front_stays a b) (λ x e. let t = (front_taken a x e).shorter in absurd (omega arith))
-cut_in (suc n) a b p = cut_on a b (front_at a) (front_at (a ++ b)) refl refl (front_stays a b) (λ x e. let t = (front_taken a x e).shorter in cut_in n x.1 b (omega arith))
+cut_in zero a b p = cut_on a b (front_at a) (front_at (a ++ b)) refl refl (front_stays a b)
+    (λ x e. let t = (front_taken a x e).shorter in absurd (omega arith))
+cut_in (suc n) a b p = cut_on a b (front_at a) (front_at (a ++ b)) refl refl (front_stays a b)
+    (λ x e. let t = (front_taken a x e).shorter in cut_in n x.1 b (omega arith))
 
 pub any_cut : (a b : List ℕ) → Cut a b
 any_cut a b = cut_in (length a) a b (omega arith)
@@ -178,7 +214,8 @@ held_on s (Err short) fits here kept = record { few = short_bound s fits here; q
 held_on s (Err (fault f)) fits here kept = record { few = omega arith; quiet = refl }
 
 held_in : (n : ℕ) (s : List ℕ) → AreOctets s → length s ≤ n → IsHeld (held_after s)
-held_in zero s fits p = rw (stream_step s) (held_on s (front_at s) fits refl (λ x e. let t = (front_taken s x e).shorter in absurd (omega arith)))
+held_in zero s fits p = rw (stream_step s) (held_on s (front_at s) fits refl
+    (λ x e. let t = (front_taken s x e).shorter in absurd (omega arith)))
 held_in (suc n) s fits p =
     rw (stream_step s) (held_on s (front_at s) fits refl (λ x e.
     let t = front_taken s x e in
@@ -200,7 +237,11 @@ walk_on ms s m t total h so_far =
     let first : stream_of s ≡ walked (m ∷ []) (stream_of t) =
     stream_step s ∙ ap (stream_on s stream_of) h in
     let regroup : walked (ms ++ m ∷ []) (stream_of t) ≡ walked ms (walked (m ∷ []) (stream_of t)) =
-    ap (λ (all : List Telegram). record { messages = all; rest = (stream_of t).rest; fault = (stream_of t).fault }) (append_assoc ms (m ∷ []) (stream_of t).messages) in
+    ap (λ (all : List Telegram). record {
+      messages = all;
+      rest = (stream_of t).rest;
+      fault = (stream_of t).fault;
+    }) (append_assoc ms (m ∷ []) (stream_of t).messages) in
     regroup ∙ ap (walked ms) (sym first) ∙ so_far
 
 pub walk_short : (ms : List Telegram) (s : List ℕ) (total : Stream) → front_at s ≡ Err short
@@ -217,7 +258,8 @@ pub walk_fault : (ms : List Telegram) (s : List ℕ) (f : GrammarFault) (total :
 walk_fault ms s f total h so_far =
     let first : stream_of s ≡ stream [] [] (Some (fault_of f s)) =
     stream_step s ∙ ap (stream_on s stream_of) h in
-    let regroup : stream ms [] (Some (fault_of f s)) ≡ walked ms (stream [] [] (Some (fault_of f s))) =
+    let regroup : stream ms [] (Some (fault_of f s)) ≡ walked ms
+    (stream [] [] (Some (fault_of f s))) =
     ap (λ (all : List Telegram). stream all [] (Some (fault_of f s))) (sym (append-nil ms)) in
     regroup ∙ ap (walked ms) (sym first) ∙ so_far
 

@@ -53,12 +53,16 @@ item_fails low s e h =
         | inl t ↦ (sym t.1, inr (inl (ltb-true _ _ t.0)))
         | inr g1 ↦ elim (guard_err (eqb (get_or s 1 0) 255) (fault BadItem) _ e g1.1) [
           | inl t ↦ (sym t.1, inr (inr (inl (eqb-true _ _ t.0))))
-          | inr g2 ↦ elim (guard_err (ltb (length (drop 2 s)) (get_or s 1 0)) (fault BadItem) _ e g2.1) [
-            | inl t ↦
-                let over : length (drop 2 s) < get_or s 1 0 = ltb-true _ _ t.0 in
-                (sym t.1, inr (inr (inr (omega (arith, over, length-drop 2 s)))))
-            | inr g3 ↦ never (entry (get_or s 0 0) (take (get_or s 1 0) (drop 2 s)), drop (get_or s 1 0) (drop 2 s)) e g3.1
-          ]
+          | inr g2 ↦ elim (guard_err (ltb (length (drop 2 s)) (get_or s 1 0)) (fault BadItem) _ e
+              g2.1) [
+                | inl t ↦
+                    let over : length (drop 2 s) < get_or s 1 0 = ltb-true _ _ t.0 in
+                    (sym t.1, inr (inr (inr (omega (arith, over, length-drop 2 s)))))
+                | inr g3 ↦ never (
+                  entry (get_or s 0 0) (take (get_or s 1 0) (drop 2 s)),
+                  drop (get_or s 1 0) (drop 2 s),
+                ) e g3.1
+              ]
         ]
       ]
     ]
@@ -75,16 +79,37 @@ items_fail (suc n) low s e fits h =
           λ x. items_at n (x.0.id + 1) x.1 >>= λ es. Ok (x.0 ∷ es) in
           elim (bind_err (item_at low s) on e (rw (ne_eqb (length s) 0 some) at h)) [
             | inl here ↦
-                let bad = item_fails low s e here in
-                (bad.0, record { sound = []; left = s; parts = refl; rises = tt; some = omega (arith, some); faulty = bad.1 })
+                let bad = item_fails low s e here in (
+                  bad.0,
+                  record {
+                    sound = [];
+                    left = s;
+                    parts = refl;
+                    rises = tt;
+                    some = omega (arith, some);
+                    faulty = bad.1;
+                  },
+                )
             | inr x ↦
                 let first = item_takes low s x.0 fits x.1 in
                 elim (bind_err (items_at n (x.0.0.id + 1) x.0.1) (λ es. Ok (x.0.0 ∷ es)) e x.2) [
                   | inl later ↦
                       let bad = items_fail n (x.0.0.id + 1) x.0.1 e first.rest later in
                       let text : s ≡ flat_map item_text (x.0.0 ∷ bad.1.sound) ++ bad.1.left =
-                      first.parts ∙ ap (λ (t : List ℕ). item_text x.0.0 ++ t) bad.1.parts ∙ sym (append_assoc (item_text x.0.0) (flat_map item_text bad.1.sound) bad.1.left) in
-                      (bad.0, record { sound = x.0.0 ∷ bad.1.sound; left = bad.1.left; parts = text; rises = (first.order, first.valid, bad.1.rises); some = bad.1.some; faulty = bad.1.faulty })
+                      first.parts ∙ ap (λ (t : List ℕ). item_text x.0.0 ++ t) bad.1.parts ∙ sym
+                      (append_assoc (item_text x.0.0) (flat_map item_text bad.1.sound) bad.1.left)
+                      in (
+                        bad.0,
+                        record {
+                          sound = x.0.0 ∷ bad.1.sound;
+                          left = bad.1.left;
+                          parts = text;
+                          rises = (first.order, first.valid, bad.1.rises);
+                          some = bad.1.some;
+                          faulty =
+                              bad.1.faulty;
+                        },
+                      )
                   | inr es ↦ never (x.0.0 ∷ es.0) e es.2
                 ]
           ]
@@ -126,7 +151,8 @@ kind_fails b e low h =
     let k3 = kind_else b 3 Report _ e k2.1 in
     let k4 = kind_else b 4 Notice _ e k3.1 in
     let k7 = kind_else b 7 Ack _ e k4.1 in
-    let same : fault BadKind ≡ e = elim (guard_err {A = Kind} true (fault BadKind) (Ok Read) e k7.1) [ inl t ↦ t.1 | inr t ↦ never Read e t.1 ] in (
+    let same : fault BadKind ≡ e = elim (guard_err {A = Kind} true (fault BadKind) (Ok Read) e k7.1)
+    [ inl t ↦ t.1 | inr t ↦ never Read e t.1 ] in (
       sym same,
       elim (cases_eq b 5) [
         | inl five ↦ inl five
@@ -171,8 +197,16 @@ header_fails s e fits h =
                 let code : code_in s ≡ 0 = eqb-true _ _ g1.0 in
                 let octet : get_or s 5 0 < 256 = fits 5 in
                 let made : Kind → ℕ → Header =
-                λ k n. record { to = get_or s 0 0 ∷ get_or s 1 0 ∷ []; from = get_or s 2 0 ∷ get_or s 3 0 ∷ []; kind = k; token = get_or s 5 0 % 32; len = n } in
-                elim (bind_err (kind_at (bits_in s)) (λ k. length_at (size_in s) >>= λ n. Ok (made k n)) e g1.1) [
+                λ k n. record {
+                  to = get_or s 0 0 ∷ get_or s 1 0 ∷ [];
+                  from = get_or s 2 0 ∷ get_or s 3 0 ∷ [];
+                  kind = k;
+                  token = get_or s 5 0 % 32;
+                  len
+                      = n;
+                } in
+                elim (bind_err (kind_at (bits_in s))
+                (λ k. length_at (size_in s) >>= λ n. Ok (made k n)) e g1.1) [
                   | inl t ↦
                       let bad = kind_fails (bits_in s) e (omega (arith, octet)) t in
                       at_halt s (fault BadKind) e (sym bad.0) (long, code, bad.1)
@@ -182,11 +216,26 @@ header_fails s e fits h =
                       let six : bits_in s ≢ 6 = λ b. not_six k.0 (bits ∙ b) in
                       elim (bind_err (length_at (size_in s)) (λ n. Ok (made k.0 n)) e k.2) [
                         | inl t ↦ elim (guard_err (ltb (size_in s) 2) (fault BadLength) _ e t) [
-                          | inl l ↦ at_halt s (fault BadLength) e l.1 (inl (record { long = long; code = code; not_five = five; not_six = six; size = inl (ltb-true _ _ l.0) }))
-                          | inr l0 ↦ elim (guard_err (ltb 1024 (size_in s)) (fault BadLength) _ e l0.1) [
-                            | inl l ↦ at_halt s (fault BadLength) e l.1 (inl (record { long = long; code = code; not_five = five; not_six = six; size = inr (ltb-true _ _ l.0) }))
-                            | inr l1 ↦ never (size_in s) e l1.1
-                          ]
+                          | inl l ↦ at_halt s (fault BadLength) e l.1
+                              (inl (record {
+                                long = long;
+                                code = code;
+                                not_five = five;
+                                not_six = six;
+                                size = inl (ltb-true _ _ l.0);
+                              }))
+                          | inr l0 ↦ elim (guard_err (ltb 1024 (size_in s)) (fault BadLength) _ e
+                              l0.1) [
+                                | inl l ↦ at_halt s (fault BadLength) e l.1
+                                    (inl (record {
+                                      long = long;
+                                      code = code;
+                                      not_five = five;
+                                      not_six = six;
+                                      size = inr (ltb-true _ _ l.0);
+                                    }))
+                                | inr l1 ↦ never (size_in s) e l1.1
+                              ]
                         ]
                         | inr n ↦ never (made k.0 n.0) e n.2
                       ]
@@ -221,30 +270,46 @@ body_fails h s e fits whole b =
     let least = whole.header.least in
     let first : get_or body 0 0 ≡ address_size_in s =
     get_or-take (size_in s) (drop 8 s) 0 0 (omega arith) ∙ get_or-drop 8 s 0 0 in
-    elim (bind_err (address_at body) (λ n. items_at (length (drop n (drop 1 body))) 0 (drop n (drop 1 body)) >>= λ items. Ok (telegram h.to h.from h.kind h.token (take n (drop 1 body)) items)) e b) [
+    elim (bind_err (address_at body) (λ n. items_at (length (drop n (drop 1 body))) 0
+    (drop n (drop 1 body)) >>= λ items. Ok (telegram h.to h.from h.kind h.token
+    (take n (drop 1 body)) items)) e b) [
       | inl t ↦
           let bad = address_fails body e t in
           let same : IsBadAddress (address_size_in s) (size_in s) =
-          subst (λ (n : ℕ). IsBadAddress (address_size_in s) n) long (subst (λ (n : ℕ). IsBadAddress n (length body)) first bad.1) in
+          subst (λ (n : ℕ). IsBadAddress (address_size_in s) n) long
+          (subst (λ (n : ℕ). IsBadAddress n (length body)) first bad.1) in
           at_halt s (fault BadLength) e (sym bad.0) (inr (whole, same))
       | inr n ↦
           let address = address_takes body n.0 n.1 in
           let is : n.0 ≡ address_size_in s = sym address.size ∙ first in
-          elim (bind_err (items_at (length (drop n.0 (drop 1 body))) 0 (drop n.0 (drop 1 body))) (λ items. Ok (telegram h.to h.from h.kind h.token (take n.0 (drop 1 body)) items)) e n.2) [
+          elim (bind_err (items_at (length (drop n.0 (drop 1 body))) 0 (drop n.0 (drop 1 body)))
+          (λ items. Ok (telegram h.to h.from h.kind h.token (take n.0 (drop 1 body)) items)) e
+          n.2) [
             | inl t ↦
                 let bad =
-                items_fail (length (drop n.0 (drop 1 body))) 0 (drop n.0 (drop 1 body)) e (AreOctets-drop n.0 (drop 1 body) (AreOctets-drop 1 body inside)) t in
+                items_fail (length (drop n.0 (drop 1 body))) 0 (drop n.0 (drop 1 body)) e
+                (AreOctets-drop n.0 (drop 1 body) (AreOctets-drop 1 body inside)) t in
                 let items : HasBadItem 0 (items_in s) =
                 subst (λ (k : ℕ). HasBadItem 0 (drop k (drop 1 body))) is bad.1 in
-                at_halt s (fault BadItem) e (sym bad.0) (record { whole = whole; least = omega (arith, is, address.least); most = omega (arith, is, address.most); within = omega (arith, is, long, address.within); items = items })
-            | inr items ↦ never (telegram h.to h.from h.kind h.token (take n.0 (drop 1 body)) items.0) e items.2
+                at_halt s (fault BadItem) e (sym bad.0)
+                (record {
+                  whole = whole;
+                  least = omega (arith, is, address.least);
+                  most = omega (arith, is, address.most);
+                  within = omega
+                      (arith, is, long, address.within);
+                  items = items;
+                })
+            | inr items ↦ never (telegram h.to h.from h.kind h.token (take n.0 (drop 1 body))
+                items.0) e items.2
           ]
     ]
 
 pub front_halts : (s : List ℕ) (e : Halt) → AreOctets s → front_at s ≡ Err e → Halted e s
 unfolding front_at
 front_halts s e fits f =
-    elim (bind_err (header_at s) (λ h. cond (ltb (length (drop 8 s)) h.len) (Err short) (body_at h (take h.len (drop 8 s)) >>= λ m. Ok (m, drop h.len (drop 8 s)))) e f) [
+    elim (bind_err (header_at s) (λ h. cond (ltb (length (drop 8 s)) h.len) (Err short)
+    (body_at h (take h.len (drop 8 s)) >>= λ m. Ok (m, drop h.len (drop 8 s)))) e f) [
       | inl t ↦ header_fails s e fits t
       | inr h ↦
           let header = has_header s h.0 h.1 in
@@ -258,8 +323,10 @@ front_halts s e fits f =
                 let is = header.1 in
                 let long = header.0.long in
                 let whole : IsWhole s =
-                record { header = header.0; all = omega (arith, enough, is, long, length-drop 8 s) } in
-                elim (bind_err (body_at h.0 (take h.0.len (drop 8 s))) (λ m. Ok (m, drop h.0.len (drop 8 s))) e g.1) [
+                record { header = header.0; all = omega (arith, enough, is, long, length-drop 8 s) }
+                in
+                elim (bind_err (body_at h.0 (take h.0.len (drop 8 s)))
+                (λ m. Ok (m, drop h.0.len (drop 8 s))) e g.1) [
                   | inl t ↦
                       let at_size : body_at h.0 (take (size_in s) (drop 8 s)) ≡ Err e =
                       ap (λ (n : ℕ). body_at h.0 (take n (drop 8 s))) (sym is) ∙ t in

@@ -23,7 +23,9 @@ item_shorter low s x e =
     let d = guard_ok (ltb (length (drop 2 s)) (get_or s 1 0)) (fault BadItem) _ x c.1 in
     let long : 2 ≤ length s = ltb-false _ _ a.0 in
     let left : length (drop (get_or s 1 0) (drop 2 s)) ≡ length x.1 =
-    ap (λ (y : Entry × List ℕ). length y.1) (ok_is (entry (get_or s 0 0) (take (get_or s 1 0) (drop 2 s)), drop (get_or s 1 0) (drop 2 s)) x d.1) in
+    ap (λ (y : Entry × List ℕ). length y.1) (ok_is
+    (entry (get_or s 0 0) (take (get_or s 1 0) (drop 2 s)), drop (get_or s 1 0) (drop 2 s)) x d.1)
+    in
     omega (arith, left, length-drop 2 s, length-drop (get_or s 1 0) (drop 2 s))
 
 -- more steps than octets change nothing
@@ -35,19 +37,26 @@ items_same zero (suc m) low s p q = rw (eq-eqb (length s) 0 (omega arith)) refl
 items_same (suc n) zero low s p q = rw (eq-eqb (length s) 0 (omega arith)) refl
 items_same (suc n) (suc m) low s p q =
     ap (λ (r : Result (List Entry) Halt). cond (eqb (length s) 0) (Ok []) r)
-    (bind_same (item_at low s) (λ x. items_at n (x.0.id + 1) x.1 >>= λ es. Ok (x.0 ∷ es)) (λ x. items_at m (x.0.id + 1) x.1 >>= λ es. Ok (x.0 ∷ es))
-    (λ x e. let less = item_shorter low s x e in ap (λ (r : Result (List Entry) Halt). r >>= λ es. Ok (x.0 ∷ es)) (items_same n m (x.0.id + 1) x.1 (omega arith) (omega arith))))
+    (bind_same (item_at low s) (λ x. items_at n (x.0.id + 1) x.1 >>= λ es. Ok (x.0 ∷ es))
+    (λ x. items_at m (x.0.id + 1) x.1 >>= λ es. Ok (x.0 ∷ es))
+    (λ x e. let less = item_shorter low s x e in ap
+    (λ (r : Result (List Entry) Halt). r >>= λ es. Ok (x.0 ∷ es))
+    (items_same n m (x.0.id + 1) x.1 (omega arith) (omega arith))))
 
 -- one item, and then the items after it
 pub items_step : (low : ℕ) (s : List ℕ) → 0 < length s
-    → items_at (length s) low s ≡ (item_at low s >>= λ x. items_at (length x.1) (x.0.id + 1) x.1 >>= λ es. Ok (x.0 ∷ es))
+    → items_at (length s) low s ≡ (item_at low s >>= λ x. items_at (length x.1) (x.0.id + 1) x.1 >>=
+    λ es. Ok (x.0 ∷ es))
 unfolding items_at
 items_step low s some =
     let more : items_at (length s) low s ≡ items_at (suc (length s)) low s =
     items_same (length s) (suc (length s)) low s (omega arith) (omega arith) in
     more ∙ rw (ne_eqb (length s) 0 (λ (e : length s ≡ 0). omega arith))
-    (bind_same (item_at low s) (λ x. items_at (length s) (x.0.id + 1) x.1 >>= λ es. Ok (x.0 ∷ es)) (λ x. items_at (length x.1) (x.0.id + 1) x.1 >>= λ es. Ok (x.0 ∷ es))
-    (λ x e. let less = item_shorter low s x e in ap (λ (r : Result (List Entry) Halt). r >>= λ es. Ok (x.0 ∷ es)) (items_same (length s) (length x.1) (x.0.id + 1) x.1 (omega arith) (omega arith))))
+    (bind_same (item_at low s) (λ x. items_at (length s) (x.0.id + 1) x.1 >>= λ es. Ok (x.0 ∷ es))
+    (λ x. items_at (length x.1) (x.0.id + 1) x.1 >>= λ es. Ok (x.0 ∷ es))
+    (λ x e. let less = item_shorter low s x e in ap
+    (λ (r : Result (List Entry) Halt). r >>= λ es. Ok (x.0 ∷ es))
+    (items_same (length s) (length x.1) (x.0.id + 1) x.1 (omega arith) (omega arith))))
 
 -- what was read before, and what is still read
 abbrev pub with_front : List Entry → Result (List Entry) Halt → Result (List Entry) Halt
@@ -58,12 +67,14 @@ regroup : (front : List Entry) (e : Entry) (read : Result (List Entry) Halt)
 regroup front e (Ok es) = ap (λ (all : List Entry). Ok all) (simp append_assoc)
 regroup front e (Err f) = refl
 
-pub goes_on : (front : List Entry) (low : ℕ) (s : List ℕ) (e : Entry) (t : List ℕ) (total : Result (List Entry) Halt)
+pub goes_on : (front : List Entry) (low : ℕ) (s : List ℕ) (e : Entry) (t : List ℕ)
+    (total : Result (List Entry) Halt)
     → 0 < length s → item_at low s ≡ Ok (e, t)
     → with_front front (items_at (length s) low s) ≡ total
     → with_front (front ++ e ∷ []) (items_at (length t) (e.id + 1) t) ≡ total
 goes_on front low s e t total some h so_far =
-    let one : with_front front (items_at (length s) low s) ≡ with_front (front ++ e ∷ []) (items_at (length t) (e.id + 1) t) =
+    let one : with_front front (items_at (length s) low s) ≡ with_front (front ++ e ∷ [])
+    (items_at (length t) (e.id + 1) t) =
     rw (items_step low s some, h) (regroup front e (items_at (length t) (e.id + 1) t)) in
     sym one ∙ so_far
 

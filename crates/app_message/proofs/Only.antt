@@ -39,13 +39,17 @@ unfolding item_at
 item_bad low t (inl few) = rw (lt-ltb (length t) 2 few) refl
 item_bad low t (inr (inl below)) =
     guard_any (ltb (length t) 2) (fault BadItem) _ (rw (lt-ltb (get_or t 0 0) low below) refl)
-item_bad low t (inr (inr (inl odd))) = guard_any (ltb (length t) 2) (fault BadItem) _ (guard_any (ltb (get_or t 0 0) low) (fault BadItem) _ (rw (eq-eqb (get_or t 1 0) 255 odd) refl))
+item_bad low t (inr (inr (inl odd))) = guard_any (ltb (length t) 2) (fault BadItem) _
+    (guard_any (ltb (get_or t 0 0) low) (fault BadItem) _ (rw (eq-eqb (get_or t 1 0) 255 odd) refl))
 item_bad low t (inr (inr (inr over))) =
     elim (cases_lt (length t) 2) [
       | inl few ↦ rw (lt-ltb (length t) 2 few) refl
       | inr two ↦
           let past : length (drop 2 t) < get_or t 1 0 = omega (arith, two, over, length-drop 2 t) in
-          guard_any (ltb (length t) 2) (fault BadItem) _ (guard_any (ltb (get_or t 0 0) low) (fault BadItem) _ (guard_any (eqb (get_or t 1 0) 255) (fault BadItem) _ (rw (lt-ltb (length (drop 2 t)) (get_or t 1 0) past) refl)))
+          guard_any (ltb (length t) 2) (fault BadItem) _
+          (guard_any (ltb (get_or t 0 0) low) (fault BadItem) _
+          (guard_any (eqb (get_or t 1 0) 255) (fault BadItem) _
+          (rw (lt-ltb (length (drop 2 t)) (get_or t 1 0) past) refl)))
     ]
 
 items_bad : (sound : List Entry) (n low : ℕ) (left : List ℕ) → Rises low sound → 0 < length left
@@ -64,7 +68,12 @@ items_bad (e ∷ es) (suc n) low left rises some bad p =
     ap (λ (x : List ℕ). length x) text in
     let fewer : length more ≤ n = omega (arith, long, length-append (item_text e) more) in
     let some_more : length (item_text e ++ more) ≢ 0 = λ h. omega arith in
-    ap (items_at (suc n) low) text ∙ rw (ne_eqb (length (item_text e ++ more)) 0 some_more, item_again low e more rises.0 rises.1, items_bad es n (e.id + 1) left rises.2 some bad fewer) refl
+    ap (items_at (suc n) low) text ∙ rw (
+      ne_eqb (length (item_text e ++ more)) 0 some_more,
+      item_again low e more rises.0 rises.1,
+      items_bad es n (e.id + 1) left rises.2 some bad fewer,
+    )
+    refl
 
 -- ---- the address
 
@@ -74,14 +83,20 @@ unfolding address_at
 address_bad s (inl none) = rw (eq-eqb (get_or s 0 0) 0 none) refl
 address_bad s (inr (inl many)) =
     guard_any (eqb (get_or s 0 0) 0) (fault BadLength) _ (rw (lt-ltb 8 (get_or s 0 0) many) refl)
-address_bad s (inr (inr over)) = guard_any (eqb (get_or s 0 0) 0) (fault BadLength) _ (guard_any (ltb 8 (get_or s 0 0)) (fault BadLength) _ (rw (lt-ltb (length s) (get_or s 0 0 + 1) over) refl))
+address_bad s (inr (inr over)) = guard_any (eqb (get_or s 0 0) 0) (fault BadLength) _
+    (guard_any (ltb 8 (get_or s 0 0)) (fault BadLength) _
+    (rw (lt-ltb (length s) (get_or s 0 0 + 1) over) refl))
 
 address_sound : (s : List ℕ) → 1 ≤ get_or s 0 0 → get_or s 0 0 ≤ 8 → get_or s 0 0 < length s
     → address_at s ≡ Ok (get_or s 0 0)
 unfolding address_at
 address_sound s least most within =
     let some : get_or s 0 0 ≢ 0 = λ h. omega arith in
-    rw (ne_eqb (get_or s 0 0) 0 some, le-ltb 8 (get_or s 0 0) most, le-ltb (length s) (get_or s 0 0 + 1) (omega arith)) refl
+    rw (
+      ne_eqb (get_or s 0 0) 0 some,
+      le-ltb 8 (get_or s 0 0) most,
+      le-ltb (length s) (get_or s 0 0 + 1) (omega arith),
+    ) refl
 
 -- ---- the header
 
@@ -112,8 +127,17 @@ header_sound : (s : List ℕ) → AreOctets s → HasHeader s
     → (h : Header) × (h.len ≡ size_in s) × (header_at s ≡ Ok h)
 unfolding header_at header_of
 header_sound s fits h =
-    let k = kind_sound (bits_in s) (below_eight s fits) h.not_five h.not_six in
-    (header_of s k.0, refl, rw (le-ltb (length s) 8 h.long, eq-eqb (code_in s) 0 h.code, k.1, le-ltb (size_in s) 2 h.least, le-ltb 1024 (size_in s) h.most) refl)
+    let k = kind_sound (bits_in s) (below_eight s fits) h.not_five h.not_six in (
+      header_of s k.0,
+      refl,
+      rw (
+        le-ltb (length s) 8 h.long,
+        eq-eqb (code_in s) 0 h.code,
+        k.1,
+        le-ltb (size_in s) 2 h.least,
+        le-ltb 1024 (size_in s) h.most,
+      ) refl,
+    )
 
 -- ---- the front
 
@@ -147,7 +171,8 @@ body_size s whole =
     let all = whole.all in omega (arith, all, length-drop 8 s, length-take (size_in s) (drop 8 s))
 
 body_first : (s : List ℕ) → IsWhole s → get_or (take (size_in s) (drop 8 s)) 0 0 ≡ address_size_in s
-body_first s whole = let least = whole.header.least in get_or-take (size_in s) (drop 8 s) 0 0 (omega arith) ∙ get_or-drop 8 s 0 0
+body_first s whole = let least = whole.header.least in get_or-take (size_in s) (drop 8 s) 0 0
+    (omega arith) ∙ get_or-drop 8 s 0 0
 
 bad_address : (s : List ℕ) (h : Header) → IsWhole s → IsBadAddress (address_size_in s) (size_in s)
     → body_at h (take (size_in s) (drop 8 s)) ≡ Err (fault BadLength)
@@ -155,7 +180,8 @@ unfolding body_at
 bad_address s h whole bad =
     let body : List ℕ = take (size_in s) (drop 8 s) in
     let here : IsBadAddress (get_or body 0 0) (length body) =
-    subst (λ (n : ℕ). IsBadAddress (get_or body 0 0) n) (sym (body_size s whole)) (subst (λ (n : ℕ). IsBadAddress n (size_in s)) (sym (body_first s whole)) bad) in
+    subst (λ (n : ℕ). IsBadAddress (get_or body 0 0) n) (sym (body_size s whole))
+    (subst (λ (n : ℕ). IsBadAddress n (size_in s)) (sym (body_first s whole)) bad) in
     rw (address_bad body here) refl
 
 bad_items : (s : List ℕ) (h : Header) → HasBadItems s
@@ -169,10 +195,13 @@ bad_items s h t =
     let most = t.most in
     let within = t.within in
     let address : address_at body ≡ Ok (get_or body 0 0) =
-    address_sound body (omega (arith, first, least)) (omega (arith, first, most)) (omega (arith, first, size, within)) in
+    address_sound body (omega (arith, first, least)) (omega (arith, first, most))
+    (omega (arith, first, size, within)) in
     let bad = t.items in
     let halts : items_at (length (items_in s)) 0 (items_in s) ≡ Err (fault BadItem) =
-    subst (λ (x : List ℕ). items_at (length x) 0 x ≡ Err (fault BadItem)) (sym bad.parts) (items_bad bad.sound (length (flat_map item_text bad.sound ++ bad.left)) 0 bad.left bad.rises bad.some bad.faulty (omega arith)) in
+    subst (λ (x : List ℕ). items_at (length x) 0 x ≡ Err (fault BadItem)) (sym bad.parts)
+    (items_bad bad.sound (length (flat_map item_text bad.sound ++ bad.left)) 0 bad.left bad.rises
+    bad.some bad.faulty (omega arith)) in
     rw (address, first, halts) refl
 
 fault_sound : (f : GrammarFault) (s : List ℕ) → AreOctets s → BeginsWith f s
@@ -186,8 +215,19 @@ fault_sound BadKind s fits t = elim t.2 [
 fault_sound BadLength s fits (inl t) =
     let k = kind_sound (bits_in s) (below_eight s fits) t.not_five t.not_six in
     elim t.size [
-      | inl few ↦ rw (le-ltb (length s) 8 t.long, eq-eqb (code_in s) 0 t.code, k.1, lt-ltb (size_in s) 2 few) refl
-      | inr many ↦ rw (le-ltb (length s) 8 t.long, eq-eqb (code_in s) 0 t.code, k.1, le-ltb (size_in s) 2 (omega arith), lt-ltb 1024 (size_in s) many) refl
+      | inl few ↦ rw (
+        le-ltb (length s) 8 t.long,
+        eq-eqb (code_in s) 0 t.code,
+        k.1,
+        lt-ltb (size_in s) 2 few,
+      ) refl
+      | inr many ↦ rw (
+        le-ltb (length s) 8 t.long,
+        eq-eqb (code_in s) 0 t.code,
+        k.1,
+        le-ltb (size_in s) 2 (omega arith),
+        lt-ltb 1024 (size_in s) many,
+      ) refl
     ]
 fault_sound BadLength s fits (inr t) =
     body_halts s BadLength fits t.0 (λ h. bad_address s h t.0 t.1)
@@ -209,7 +249,12 @@ ends_sound s rest (Some f) fits end =
     stream_step s ∙ ap (stream_on s stream_of) (fault_sound f.fault s fits end.1) in
     let told : StreamFault → Stream = λ g. stream [] [] (Some g) in
     let origin : f ≡ fault_of f.fault s =
-    ap (λ (o : List ℕ). record { fault = f.fault; originator = o; token = f.token }) end.2 ∙ ap (λ (k : ℕ). record { fault = f.fault; originator = get_or s 2 0 ∷ get_or s 3 0 ∷ []; token = k }) end.3 in
+    ap (λ (o : List ℕ). record { fault = f.fault; originator = o; token = f.token }) end.2 ∙ ap
+    (λ (k : ℕ). record {
+      fault = f.fault;
+      originator = get_or s 2 0 ∷ get_or s 3 0 ∷ [];
+      token = k;
+    }) end.3 in
     ap (λ (r : List ℕ). stream [] r (Some f)) end.0 ∙ ap told origin ∙ sym walk
 
 one_in : (ms : List Telegram) (rest left : List ℕ) (f : Option StreamFault)
@@ -222,7 +267,10 @@ one_in (m ∷ ms) rest left f fits valid end =
     append_assoc (spelling m) (flat_map spelling ms) left in
     let inside : AreOctets more =
     AreOctets-behind (spelling m) more (subst (λ (x : List ℕ). AreOctets x) text fits) in
-    ap (walked (m ∷ [])) (one_in ms rest left f inside valid.1 end) ∙ sym (read_again m more valid.0) ∙ ap stream_of (sym text)
+    ap (walked (m ∷ [])) (one_in ms rest left f inside valid.1 end) ∙ sym
+    (read_again m more valid.0) ∙ ap stream_of (sym text)
 
 pub one_stream : (s : List ℕ) (t : Stream) → AreOctets s → IsStream s t → t ≡ stream_of s
-one_stream s t fits is = one_in t.messages t.rest is.left t.fault (subst (λ (x : List ℕ). AreOctets x) is.parts fits) is.valid is.ends ∙ ap stream_of (sym is.parts)
+one_stream s t fits is = one_in t.messages t.rest is.left t.fault
+    (subst (λ (x : List ℕ). AreOctets x) is.parts fits) is.valid is.ends ∙ ap stream_of
+    (sym is.parts)

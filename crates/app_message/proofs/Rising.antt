@@ -41,11 +41,18 @@ rise_fits low (e ∷ es) (suc i) d h lt =
 pub rises : (low : ℕ) (es : List Entry) → AllByRecursion IsEntry es → do_rise low es ≡ true
     → Rises low es
 rises low [] fit h = tt
-rises low (e ∷ es) fit h = (ltb-false _ _ (if_true _ _ h).0, fit.0, rises (e.id + 1) es fit.1 (if_true _ _ (if_true _ _ h).1).1)
+rises low (e ∷ es) fit h = (
+  ltb-false _ _ (if_true _ _ h).0,
+  fit.0,
+  rises (e.id + 1) es fit.1 (if_true _ _ (if_true _ _ h).1).1,
+)
 
 pub do_rise-from : (low : ℕ) (es : List Entry) → Rises low es → do_rise low es ≡ true
 do_rise-from low [] h = refl
-do_rise-from low (e ∷ es) h = rw (le-ltb e.id low h.0, le-ltb 254 (length e.content) h.1.size) (do_rise-from (e.id + 1) es h.2)
+do_rise-from low (e ∷ es) h = rw (
+  le-ltb e.id low h.0,
+  le-ltb 254 (length e.content) h.1.size,
+) (do_rise-from (e.id + 1) es h.2)
 
 -- the parts without a fault
 pub record Fit (address : List ℕ) (items : List Entry) : Type 0 where
@@ -61,15 +68,26 @@ parts_fit address items e =
     let a = if_none _ _ _ e in
     let b = if_none _ _ _ a.1 in
     let c = if_none _ _ _ b.1 in
-    record { least = ltb-false _ _ a.0; most = ltb-false _ _ b.0; size = ltb-false _ _ c.0; rise = else_none _ _ c.1 }
+    record {
+      least = ltb-false _ _ a.0;
+      most = ltb-false _ _ b.0;
+      size = ltb-false _ _ c.0;
+      rise = else_none _ _ c.1;
+    }
 
 -- what can be spelled has no fault
 pub no_fault : (to from : List ℕ) (kind : Kind) (token : ℕ) (address : List ℕ) (items : List Entry)
     → IsMessage (telegram to from kind token address items) → parts_fault address items ≡ None
 unfolding parts_fault
-no_fault to from kind token address items m = rw (le-ltb (length address) 1 m.address_least, le-ltb 8 (length address) m.address_most, le-ltb 1024 (length (body_text address items)) m.most, do_rise-from 0 items m.items) refl
+no_fault to from kind token address items m = rw (
+  le-ltb (length address) 1 m.address_least,
+  le-ltb 8 (length address) m.address_most,
+  le-ltb 1024 (length (body_text address items)) m.most,
+  do_rise-from 0 items m.items,
+) refl
 
-pub refused : (to from : List ℕ) (kind : Kind) (token : ℕ) (address : List ℕ) (items : List Entry) (f : MessageFault)
+pub refused : (to from : List ℕ) (kind : Kind) (token : ℕ) (address : List ℕ) (items : List Entry)
+    (f : MessageFault)
     → parts_fault address items ≡ Some f → IsMessage (telegram to from kind token address items) → ⊥
 refused to from kind token address items f e m = cc (no_fault to from kind token address items m)
 
@@ -85,7 +103,8 @@ content_fits items i d h within =
 
 -- the items before i and the item there take no more than all
 pub too_long : (items : List (ℕ × Bor (List ℕ))) (i : ℕ) (d : ℕ × Bor (List ℕ)) → i < length items
-    → length (flat_map item_text (entries (take i items))) + length (get_or items i d).1.now + 2 ≤ length (flat_map item_text (entries items))
+    → length (flat_map item_text (entries (take i items))) + length (get_or items i d).1.now + 2 ≤
+    length (flat_map item_text (entries items))
 too_long items i d within =
     let f : ℕ × Bor (List ℕ) → Entry = λ x. entry x.0 x.1.now in
     let among : i < length (entries items) = omega (arith, length-map items f) in

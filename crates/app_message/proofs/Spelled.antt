@@ -21,7 +21,8 @@ use Rattle.app_message.proofs.Cutting.{front_taken, stream_step}
 -- ---- the header
 
 eight : (s : List ℕ) → 8 ≤ length s
-    → s ≡ get_or s 0 0 ∷ get_or s 1 0 ∷ get_or s 2 0 ∷ get_or s 3 0 ∷ get_or s 4 0 ∷ get_or s 5 0 ∷ get_or s 6 0 ∷ get_or s 7 0 ∷ drop 8 s
+    → s ≡ get_or s 0 0 ∷ get_or s 1 0 ∷ get_or s 2 0 ∷ get_or s 3 0 ∷ get_or s 4 0 ∷ get_or s 5 0 ∷
+    get_or s 6 0 ∷ get_or s 7 0 ∷ drop 8 s
 eight [] h = absurd (omega arith)
 eight (a ∷ []) h = absurd (omega arith)
 eight (a ∷ b ∷ []) h = absurd (omega arith)
@@ -50,16 +51,21 @@ head_spelled s h fits e =
     let t = header_takes s h e in
     let status : kind_code h.kind * 32 + h.token ≡ get_or s 5 0 = omega (arith, t.kind, t.token) in
     let size : to_be_bytes w16 h.len ≡ get_or s 6 0 ∷ get_or s 7 0 ∷ [] =
-    be_bytes_2 (get_or s 6 0 ∷ get_or s 7 0 ∷ []) h.len refl (pair_octets s 6 7 fits) (omega (arith, t.len)) in
+    be_bytes_2 (get_or s 6 0 ∷ get_or s 7 0 ∷ []) h.len refl (pair_octets s 6 7 fits)
+    (omega (arith, t.len)) in
     let octets : List ℕ → List ℕ → ℕ → ℕ → List ℕ → List ℕ =
     λ to from code st bytes. to ++ from ++ (code ∷ st ∷ bytes) ++ drop 8 s in
     record {
       parts = eight s t.long
-          ∙ ap (λ (x : List ℕ). octets x (get_or s 2 0 ∷ get_or s 3 0 ∷ []) (get_or s 4 0) (get_or s 5 0) (get_or s 6 0 ∷ get_or s 7 0 ∷ [])) (sym t.to)
-          ∙ ap (λ (x : List ℕ). octets h.to x (get_or s 4 0) (get_or s 5 0) (get_or s 6 0 ∷ get_or s 7 0 ∷ [])) (sym t.from)
-          ∙ ap (λ (x : ℕ). octets h.to h.from x (get_or s 5 0) (get_or s 6 0 ∷ get_or s 7 0 ∷ [])) t.code
+          ∙ ap (λ (x : List ℕ). octets x (get_or s 2 0 ∷ get_or s 3 0 ∷ []) (get_or s 4 0)
+          (get_or s 5 0) (get_or s 6 0 ∷ get_or s 7 0 ∷ [])) (sym t.to)
+          ∙ ap (λ (x : List ℕ). octets h.to x (get_or s 4 0) (get_or s 5 0)
+          (get_or s 6 0 ∷ get_or s 7 0 ∷ [])) (sym t.from)
+          ∙ ap (λ (x : ℕ). octets h.to h.from x (get_or s 5 0) (get_or s 6 0 ∷ get_or s 7 0 ∷ []))
+          t.code
           ∙ ap (λ (x : ℕ). octets h.to h.from 0 x (get_or s 6 0 ∷ get_or s 7 0 ∷ [])) (sym status)
-          ∙ ap (λ (x : List ℕ). octets h.to h.from 0 (kind_code h.kind * 32 + h.token) x) (sym size);
+          ∙ ap (λ (x : List ℕ). octets h.to h.from 0 (kind_code h.kind * 32 + h.token) x)
+          (sym size);
       head = record {
         to_size = ap (λ (x : List ℕ). length x) t.to;
         to_octets = rw t.to (pair_octets s 0 1 fits);
@@ -96,14 +102,16 @@ spelled_as : (s : List ℕ) (made m : Telegram) (left : List ℕ) (x : Telegram 
     → IsMessage made → s ≡ spelling made ++ left → made ≡ m → (m, left) ≡ x → FrontSpelled s x
 spelled_as s made m left x valid parts is pair =
     let here : (made, left) ≡ x = ap (λ (y : Telegram). (y, left)) is ∙ pair in
-    subst (λ (y : Telegram × List ℕ). FrontSpelled s y) here (record { valid = valid; parts = parts })
+    subst (λ (y : Telegram × List ℕ). FrontSpelled s y) here
+    (record { valid = valid; parts = parts })
 
 pub front_spelled : (s : List ℕ) (x : Telegram × List ℕ) → AreOctets s → front_at s ≡ Ok x
     → FrontSpelled s x
 unfolding front_at body_at
 front_spelled s x fits e =
     let h =
-    bind_ok (header_at s) (λ h. cond (ltb (length (drop 8 s)) h.len) (Err short) (body_at h (take h.len (drop 8 s)) >>= λ m. Ok (m, drop h.len (drop 8 s)))) x e in
+    bind_ok (header_at s) (λ h. cond (ltb (length (drop 8 s)) h.len) (Err short)
+    (body_at h (take h.len (drop 8 s)) >>= λ m. Ok (m, drop h.len (drop 8 s)))) x e in
     let t = header_takes s h.0 h.1 in
     let spelled = head_spelled s h.0 fits h.1 in
     let g = guard_ok (ltb (length (drop 8 s)) h.0.len) short _ x h.2 in
@@ -111,15 +119,20 @@ front_spelled s x fits e =
     let text : List ℕ = take h.0.len (drop 8 s) in
     let m = bind_ok (body_at h.0 text) (λ m. Ok (m, drop h.0.len (drop 8 s))) x g.1 in
     let n =
-    bind_ok (address_at text) (λ n. items_at (length (drop n (drop 1 text))) 0 (drop n (drop 1 text)) >>= λ items. Ok (telegram h.0.to h.0.from h.0.kind h.0.token (take n (drop 1 text)) items)) m.0 m.1 in
+    bind_ok (address_at text) (λ n. items_at (length (drop n (drop 1 text))) 0
+    (drop n (drop 1 text)) >>= λ items. Ok (telegram h.0.to h.0.from h.0.kind h.0.token
+    (take n (drop 1 text)) items)) m.0 m.1 in
     let items =
-    bind_ok (items_at (length (drop n.0 (drop 1 text))) 0 (drop n.0 (drop 1 text))) (λ items. Ok (telegram h.0.to h.0.from h.0.kind h.0.token (take n.0 (drop 1 text)) items)) m.0 n.2 in
+    bind_ok (items_at (length (drop n.0 (drop 1 text))) 0 (drop n.0 (drop 1 text)))
+    (λ items. Ok (telegram h.0.to h.0.from h.0.kind h.0.token (take n.0 (drop 1 text)) items)) m.0
+    n.2 in
     let size : length text ≡ h.0.len = omega (arith, enough, length-take h.0.len (drop 8 s)) in
     let least : 2 ≤ length text = omega (arith, size, t.least) in
     let most : length text ≤ 1024 = omega (arith, size, t.most) in
     let inside : AreOctets text = AreOctets-take h.0.len (drop 8 s) (AreOctets-drop 8 s fits) in
     let taken =
-    body_takes h.0.to h.0.from h.0.kind h.0.token text n.0 items.0 spelled.head inside least most n.1 items.1 in
+    body_takes h.0.to h.0.from h.0.kind h.0.token text n.0 items.0 spelled.head inside least most
+    n.1 items.1 in
     let made : Telegram =
     telegram h.0.to h.0.from h.0.kind h.0.token (take n.0 (drop 1 text)) items.0 in
     let left : List ℕ = drop h.0.len (drop 8 s) in
@@ -141,7 +154,8 @@ spelled_on s (Ok x) fits here behind =
     record {
       left = others.left;
       valid = (first.valid, others.valid);
-      parts = first.parts ∙ ap (λ (t : List ℕ). spelling x.0 ++ t) others.parts ∙ sym (append_assoc (spelling x.0) (flat_map spelling (stream_of x.1).messages) others.left);
+      parts = first.parts ∙ ap (λ (t : List ℕ). spelling x.0 ++ t) others.parts ∙ sym
+          (append_assoc (spelling x.0) (flat_map spelling (stream_of x.1).messages) others.left);
       ends = others.ends;
     }
 spelled_on s (Err short) fits here behind = record {
@@ -158,7 +172,8 @@ spelled_on s (Err (fault f)) fits here behind = record {
 }
 
 spelled_in : (n : ℕ) (s : List ℕ) → AreOctets s → length s ≤ n → IsStream s (stream_of s)
-spelled_in zero s fits p = rw (stream_step s) (spelled_on s (front_at s) fits refl (λ x e. let t = (front_taken s x e).shorter in absurd (omega arith)))
+spelled_in zero s fits p = rw (stream_step s) (spelled_on s (front_at s) fits refl
+    (λ x e. let t = (front_taken s x e).shorter in absurd (omega arith)))
 spelled_in (suc n) s fits p =
     rw (stream_step s) (spelled_on s (front_at s) fits refl (λ x e.
     let t = front_taken s x e in

@@ -202,7 +202,8 @@ rows_of_parts =
     []
 
 parts_are_judged :
-    map (λ row. parts_fault row.address row.items) rows_of_parts ≡ map (λ row. row.fault) rows_of_parts
+    map (λ row. parts_fault row.address row.items) rows_of_parts ≡ map (λ row. row.fault)
+    rows_of_parts
 unfolding parts_fault
 parts_are_judged = refl
 

@@ -22,7 +22,8 @@ use Rattle.device_map.specs.Replies.{AreShort, flag, preset_items, prepaid_items
 use Rattle.device_map.specs.Replies.{answer_items, reply_items}
 
 point_short : (v : PointView) (preset : Preset) (prepaid : Option ℕ)
-    → AreShort (octet ids.STATE (state_number v.state) ++ octet ids.NOZZLE_OUT (unwrap_or v.out 0) ++ octet ids.HOLDER (unwrap_or v.holder 0)
+    → AreShort (octet ids.STATE (state_number v.state) ++ octet ids.NOZZLE_OUT (unwrap_or v.out 0)
+    ++ octet ids.HOLDER (unwrap_or v.holder 0)
     ++ octet ids.ENDING (flag v.ending) ++ preset_items preset ++ four_octets ids.PRICE v.price
     ++ eight_octets ids.VOLUME v.volume ++ prepaid_items prepaid)
 point_short v Unset None = record { rise = refl; size = lit≤ tt }
@@ -61,4 +62,9 @@ unfolding parts_fault
 short_fits address items least most short =
     let size : length (body_text address items) ≤ 1024 =
     omega (arith, short.size, length-append address (flat_map item_text items)) in
-    rw (le-ltb (length address) 1 least, le-ltb 8 (length address) most, le-ltb 1024 (length (body_text address items)) size, short.rise) refl
+    rw (
+      le-ltb (length address) 1 least,
+      le-ltb 8 (length address) most,
+      le-ltb 1024 (length (body_text address items)) size,
+      short.rise,
+    ) refl
