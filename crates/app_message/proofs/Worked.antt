@@ -2,7 +2,7 @@
 -- mean.
 use Prim.Native.String.{String}
 use Rattle.std.specs.Prelude.{◌≡◌, ℕ, List, [], ◌∷◌, ◌++◌, map, take, drop, replicate, Option}
-use Rattle.std.specs.Prelude.{Some, None, Ok}
+use Rattle.std.specs.Prelude.{Some, None}
 use Rattle.std.proofs.Common.{refl}
 use Rattle.app_message.specs.declared.fault.GrammarFault.{GrammarFault}
 use Rattle.app_message.specs.declared.fault.GrammarFault.TheVariants as grammar
@@ -17,7 +17,7 @@ use Rattle.app_message.specs.Spelling.{kind_code, spelling}
 use Rattle.app_message.specs.Parts.{parts_fault}
 use Rattle.app_message.specs.Numbers.{as_message_fault, grammar_number, message_number}
 use Rattle.app_message.specs.Grammar.{header_at, item_at, items_at, address_at, body_at, front_at}
-use Rattle.app_message.specs.Stream.{Stream, Held, stream, walked, walk, stream_of, held}
+use Rattle.app_message.specs.Stream.{Stream, stream, walked, walk, stream_of, held}
 use Rattle.app_message.specs.Stream.{held_after, fed_by}
 use Rattle.app_message.proofs.Hexadecimal.{octets}
 

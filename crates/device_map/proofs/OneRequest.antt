@@ -5,13 +5,13 @@ use Rattle.std.proofs.Common.{List, [], ◌∷◌, length, Result, Ok, Err, refl
 use Rattle.std.proofs.Common.{lit≤}
 use Rattle.std.proofs.lemmas.Bool.{and_parts}
 use Rattle.std.proofs.lemmas.Bool.Decides.{nat_tests}
-use Rattle.site_base.specs.declared.limits.TheConstants.{TILLS, POINTS, PRODUCTS}
+use Rattle.site_base.specs.declared.limits.TheConstants.{TILLS, POINTS}
 use Rattle.site_base.specs.declared.actor.Actor.{Actor}
 use Rattle.site_base.specs.declared.actor.Actor.TheVariants.{Till, Dispenser}
 use Rattle.site_base.specs.declared.event.Event.{Event}
 use Rattle.site_base.specs.declared.event.Event.TheVariants as events
 use Rattle.site_base.specs.Configured.{is_between}
-use Rattle.site_base.specs.Events.{point_named, reported_by}
+use Rattle.site_base.specs.Events.{point_named}
 use Rattle.app_message.specs.declared.kind.Kind.{Kind}
 use Rattle.app_message.specs.declared.kind.Kind.TheVariants as kinds
 use Rattle.app_message.specs.Telegram.{Entry, Telegram, AreOctets, Rises, entry, telegram}
@@ -29,9 +29,9 @@ use Rattle.device_map.specs.Addresses.{database_of_octet, transaction_at, is_poi
 use Rattle.device_map.specs.Addresses.{is_product_octet, database_at}
 use Rattle.device_map.specs.Commands.{Shape, bare, Command, commands}
 use Rattle.device_map.specs.Requests.{some_known, first_item, shape_of, items_end, empty_content}
-use Rattle.device_map.specs.Requests.{event_by, event_among, command_in, read_of, read_at}
+use Rattle.device_map.specs.Requests.{event_by, command_in, read_at}
 use Rattle.device_map.specs.Requests.{event_at, request_at}
-use Rattle.device_map.specs.Laws.{is_point_if_named, is_own, Asks, HasOneRequest, IsOneRequest}
+use Rattle.device_map.specs.Laws.{is_point_if_named, Asks, IsOneRequest}
 
 -- ---- the way to each event, a line for each
 

@@ -1,7 +1,7 @@
 -- Worked replies, by computing the definitions: what was asked, what is replied, and the octets
 -- that tell it, cut in two behind the address.
 use Prim.Native.String.{String}
-use Rattle.std.specs.Prelude.{◌≡◌, ℕ, List, [], ◌∷◌, ◌++◌, map, Option, Some, None, true, false}
+use Rattle.std.specs.Prelude.{◌≡◌, ℕ, List, [], ◌∷◌, ◌++◌, map, Some, None, true, false}
 use Rattle.std.specs.Prelude.{Result, Ok, Err}
 use Rattle.std.proofs.Common.{refl}
 use Rattle.site_base.specs.declared.answer.Answer.{Answer}
@@ -14,7 +14,6 @@ use Rattle.site_base.specs.declared.state.Status.TheVariants as statuses
 use Rattle.site_base.specs.declared.view.PointView.{PointView}
 use Rattle.site_base.specs.declared.view.TransactionView.{TransactionView}
 use Rattle.site_base.specs.declared.view.ProductView.{ProductView}
-use Rattle.site_base.specs.declared.view.SiteView.{SiteView}
 use Rattle.app_message.specs.declared.fault.GrammarFault.{GrammarFault}
 use Rattle.app_message.specs.declared.fault.GrammarFault.TheVariants as grammar
 use Rattle.app_message.specs.declared.fault.StreamFault.{StreamFault}
