@@ -1,9 +1,11 @@
 -- When octets begin with a fault, and when they end before a message does: said of the octets
 -- themselves, and not by reading them.
-use Rattle.std.specs.Prelude.{◌≡◌, ◌≢◌, ℕ, ◌+◌, ◌*◌, ◌/◌, ◌<◌, ◌≤◌, ◌⊎◌, List, [], ◌∷◌, ◌++◌, length, take, drop, slice_index}
+use Rattle.std.specs.Prelude.{◌≡◌, ◌≢◌, ℕ, ◌+◌, ◌*◌, ◌/◌, ◌<◌, ◌≤◌, ◌⊎◌, List, [], ◌∷◌, ◌++◌}
+use Rattle.std.specs.Prelude.{length, take, drop, slice_index}
 use Rattle.std.specs.List.{flat_map}
 use Rattle.app_message.specs.declared.fault.GrammarFault.{GrammarFault}
-use Rattle.app_message.specs.declared.fault.GrammarFault.TheVariants.{BadCode, BadKind, BadLength, BadItem}
+use Rattle.app_message.specs.declared.fault.GrammarFault.TheVariants.{BadCode, BadKind, BadLength}
+use Rattle.app_message.specs.declared.fault.GrammarFault.TheVariants.{BadItem}
 use Rattle.app_message.specs.Telegram.{Entry, Rises}
 use Rattle.app_message.specs.Spelling.{item_text}
 
@@ -37,7 +39,8 @@ pub record IsWhole (s : List ℕ) : Type 0 where
   pub header : HasHeader s
   pub all : 8 + size_in s ≤ length s
 
--- no whole message: fewer than eight octets, or a header without a fault and too few octets behind it
+-- no whole message: fewer than eight octets, or a header without a fault and too few octets behind
+-- it
 abbrev pub IsShort : List ℕ → Type 0
 IsShort s = (length s < 8) ⊎ (HasHeader s × (length s < 8 + size_in s))
 
@@ -60,7 +63,8 @@ least_after low (e ∷ es) = least_after (e.id + 1) es
 
 -- an item that has no length octet, doesn't rise, has the length 255, or runs over the end
 abbrev pub IsBadItem : ℕ → List ℕ → Type 0
-IsBadItem low t = (length t < 2) ⊎ ((slice_index t 0 < low) ⊎ ((slice_index t 1 ≡ 255) ⊎ (length t < slice_index t 1 + 2)))
+IsBadItem low t = (length t < 2)
+    ⊎ ((slice_index t 0 < low) ⊎ ((slice_index t 1 ≡ 255) ⊎ (length t < slice_index t 1 + 2)))
 
 -- some items without a fault, and then one with a fault
 pub record HasBadItem (low : ℕ) (s : List ℕ) : Type 0 where

@@ -1,10 +1,13 @@
--- Reading one message from the front of octets, or the first fault. Each stage goes on where the one
--- before it found no fault.
-use Rattle.std.specs.Prelude.{ℕ, zero, suc, ◌+◌, ◌*◌, ◌/◌, ◌%◌, ◌==◌, nat_lt, List, [], ◌∷◌, length, take, drop, slice_index, Result, Ok, Err, if◌then◌else◌}
+-- Reading one message from the front of octets, or the first fault. Each stage goes on where the
+-- one before it found no fault.
+use Rattle.std.specs.Prelude.{ℕ, zero, suc, ◌+◌, ◌*◌, ◌/◌, ◌%◌, ◌==◌, nat_lt, List, [], ◌∷◌}
+use Rattle.std.specs.Prelude.{length, take, drop, slice_index, Result, Ok, Err, if◌then◌else◌}
 use Rattle.app_message.specs.declared.fault.GrammarFault.{GrammarFault}
-use Rattle.app_message.specs.declared.fault.GrammarFault.TheVariants.{BadCode, BadKind, BadLength, BadItem}
+use Rattle.app_message.specs.declared.fault.GrammarFault.TheVariants.{BadCode, BadKind, BadLength}
+use Rattle.app_message.specs.declared.fault.GrammarFault.TheVariants.{BadItem}
 use Rattle.app_message.specs.declared.kind.Kind.{Kind}
-use Rattle.app_message.specs.declared.kind.Kind.TheVariants.{Read, Answer, Write, Report, Notice, Ack}
+use Rattle.app_message.specs.declared.kind.Kind.TheVariants.{Read, Answer, Write, Report, Notice}
+use Rattle.app_message.specs.declared.kind.Kind.TheVariants.{Ack}
 use Rattle.app_message.specs.Telegram.{Entry, entry, Telegram, telegram}
 
 -- why no message is read: there are too few octets, or there is a fault
@@ -62,7 +65,10 @@ item_at low s = if nat_lt (length s) 2 then Err (fault BadItem)
     else if nat_lt (slice_index s 0) low then Err (fault BadItem)
     else if slice_index s 1 == 255 then Err (fault BadItem)
     else if nat_lt (length (drop 2 s)) (slice_index s 1) then Err (fault BadItem)
-    else Ok (entry (slice_index s 0) (take (slice_index s 1) (drop 2 s)), drop (slice_index s 1) (drop 2 s))
+    else Ok (
+      entry (slice_index s 0) (take (slice_index s 1) (drop 2 s)),
+      drop (slice_index s 1) (drop 2 s),
+    )
 
 -- items up to the end, in as many steps as there are octets
 unfoldable pub items_at : ℕ → ℕ → List ℕ → Result (List Entry) Halt

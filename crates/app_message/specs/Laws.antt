@@ -11,7 +11,9 @@ use Rattle.app_message.specs.Stream.{Stream, walked, stream_of, fed_by, held_aft
 -- message; with a fault it begins with that fault, which has the originator and the token there.
 abbrev pub Ends : Option StreamFault → List ℕ → List ℕ → Type 0
 Ends None rest left = (rest ≡ left) × IsShort left
-Ends (Some f) rest left = (rest ≡ []) × BeginsWith f.fault left × (f.originator ≡ slice_index left 2 ∷ slice_index left 3 ∷ []) × (f.token ≡ slice_index left 5 % 32)
+Ends (Some f) rest left = (rest ≡ []) × BeginsWith f.fault left
+    × (f.originator ≡ slice_index left 2 ∷ slice_index left 3 ∷ [])
+    × (f.token ≡ slice_index left 5 % 32)
 
 -- octets are the spellings of messages that can be spelled, and then what is left
 pub record IsStream (s : List ℕ) (t : Stream) : Type 0 where
@@ -30,12 +32,16 @@ OneStream = (s : List ℕ) (t : Stream) → AreOctets s → IsStream s t → t �
 
 -- no spelling begins another, and two messages have two spellings
 abbrev pub NoPrefix : Type 0
-NoPrefix = (m n : Telegram) (a b : List ℕ) → IsMessage m → IsMessage n → spelling m ++ a ≡ spelling n ++ b → (m ≡ n) × (a ≡ b)
+NoPrefix = (m n : Telegram) (a b : List ℕ) → IsMessage m → IsMessage n → spelling m
+    ++ a ≡ spelling n ++ b → (m ≡ n) × (a ≡ b)
 
 -- what was spelled is read again, whatever follows
 abbrev pub ReadAgain : Type 0
-ReadAgain = (m : Telegram) (s : List ℕ) → IsMessage m → stream_of (spelling m ++ s) ≡ walked (m ∷ []) (stream_of s)
+ReadAgain = (m : Telegram) (s : List ℕ) → IsMessage m
+    → stream_of (spelling m ++ s) ≡ walked (m ∷ []) (stream_of s)
 
--- however a stream is cut, its messages are those of the first piece, and then those that the second brings
+-- however a stream is cut, its messages are those of the first piece, and then those that the
+-- second brings
 abbrev pub AnyCutting : Type 0
-AnyCutting = (a b : List ℕ) → stream_of (a ++ b) ≡ walked (stream_of a).messages (fed_by (held_after a) b)
+AnyCutting = (a b : List ℕ)
+    → stream_of (a ++ b) ≡ walked (stream_of a).messages (fed_by (held_after a) b)

@@ -3,7 +3,8 @@ use Rattle.std.specs.Prelude.{◌≡◌, ℕ, ◌+◌, ◌*◌, ◌<◌, ◌≤�
 use Rattle.std.specs.List.{flat_map}
 use Rattle.std.specs.Int.{w16, to_be_bytes}
 use Rattle.app_message.specs.declared.kind.Kind.{Kind}
-use Rattle.app_message.specs.declared.kind.Kind.TheVariants.{Read, Answer, Write, Report, Notice, Ack}
+use Rattle.app_message.specs.declared.kind.Kind.TheVariants.{Read, Answer, Write, Report, Notice}
+use Rattle.app_message.specs.declared.kind.Kind.TheVariants.{Ack}
 use Rattle.app_message.specs.Telegram.{Entry, Telegram, AreOctets, Rises}
 
 -- the three bits that stand for a kind
@@ -28,7 +29,8 @@ body m = body_text m.address m.items
 
 -- a message: recipient, originator, code 00, kind and token, length of the body, body
 abbrev pub spelling : Telegram → List ℕ
-spelling m = m.to ++ m.from ++ (0 ∷ (kind_code m.kind * 32 + m.token) ∷ to_be_bytes w16 (length (body m))) ++ body m
+spelling m = m.to ++ m.from
+    ++ (0 ∷ (kind_code m.kind * 32 + m.token) ∷ to_be_bytes w16 (length (body m))) ++ body m
 
 -- recipient and originator have two octets each, and the token five bits
 pub record IsHead (to from : List ℕ) (token : ℕ) : Type 0 where

@@ -1,5 +1,6 @@
 -- A stream of octets: its messages, what is left of it, and the fault that ends it.
-use Rattle.std.specs.Prelude.{◌≡◌, ◌≤◌, IfSome, ℕ, zero, suc, ◌%◌, List, [], ◌∷◌, ◌++◌, length, slice_index, Option, Some, None, Result, Ok, Err}
+use Rattle.std.specs.Prelude.{◌≡◌, ◌≤◌, IfSome, ℕ, zero, suc, ◌%◌, List, [], ◌∷◌, ◌++◌, length}
+use Rattle.std.specs.Prelude.{slice_index, Option, Some, None, Result, Ok, Err}
 use Rattle.app_message.specs.declared.fault.GrammarFault.{GrammarFault}
 use Rattle.app_message.specs.declared.fault.StreamFault.{StreamFault}
 use Rattle.app_message.specs.Telegram.{Telegram}
@@ -16,7 +17,11 @@ stream ms rest f = record { messages = ms; rest = rest; fault = f }
 
 -- a fault, with the originator and the token of the header at the front of these octets
 abbrev pub fault_of : GrammarFault → List ℕ → StreamFault
-fault_of f s = record { fault = f; originator = slice_index s 2 ∷ slice_index s 3 ∷ []; token = slice_index s 5 % 32 }
+fault_of f s = record {
+  fault = f;
+  originator = slice_index s 2 ∷ slice_index s 3 ∷ [];
+  token = slice_index s 5 % 32;
+}
 
 -- these messages, and then a stream
 abbrev pub walked : List Telegram → Stream → Stream

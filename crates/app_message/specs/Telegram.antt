@@ -21,7 +21,14 @@ pub record Telegram : Type 0 where
   pub items : List Entry
 
 abbrev pub telegram : List ℕ → List ℕ → Kind → ℕ → List ℕ → List Entry → Telegram
-telegram to from kind token address items = record { to = to; from = from; kind = kind; token = token; address = address; items = items }
+telegram to from kind token address items = record {
+  to = to;
+  from = from;
+  kind = kind;
+  token = token;
+  address = address;
+  items = items;
+}
 
 -- the items that identifiers and contents make
 abbrev pub entries : List (ℕ × Bor (List ℕ)) → List Entry

@@ -1,8 +1,10 @@
 //! A stream of octets that comes in pieces.
 
-ghost use Rattle.std.specs.Prelude.{◌≡◌, ◌≢◌, ◌≤◌, [], length, IfOk, OnOk, OnErr, IfSome, IsSome, IsOk, IsOkAnd, Err, Some, None};
+ghost use Rattle.std.specs.Prelude.{◌≡◌, ◌≢◌, ◌≤◌, [], length, IfOk, OnOk, OnErr, IfSome, IsSome};
+ghost use Rattle.std.specs.Prelude.{IsOk, IsOkAnd, Err, Some, None};
 ghost use Rattle.app_message.specs.Numbers.{as_message_fault};
-ghost use Rattle.app_message.specs.Stream.{IsHeld, fault_of, stream, stream_of, fed_by, held, held_after};
+ghost use Rattle.app_message.specs.Stream.{IsHeld, fault_of, stream, stream_of, fed_by, held};
+ghost use Rattle.app_message.specs.Stream.{held_after};
 
 use crate::fault::{GrammarFault, MessageFault, StreamFault};
 use crate::message::Message;
@@ -102,7 +104,8 @@ impl Decoder {
         }
     }
 
-    /// The number of octets that are kept for a message to come: at most 1,031, and 0 after a fault.
+    /// The number of octets that are kept for a message to come: at most 1,031, and 0 after a
+    /// fault.
     pub fn held(&self) -> u16
         ensures value { result ≡ length self.now.rest }
         ensures most { result ≤ 1031 }

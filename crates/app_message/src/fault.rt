@@ -15,9 +15,11 @@ pub enum GrammarFault {
     BadCode,
     /// The three bits of the kind are 101 or 110.
     BadKind,
-    /// The body has not 2 to 1,024 octets, or its address is empty, above 8 octets or above the body.
+    /// The body has not 2 to 1,024 octets, or its address is empty, above 8 octets or above the
+    /// body.
     BadLength,
-    /// An identifier isn't above the one before it, or an item's length is 255 or runs over the end.
+    /// An identifier isn't above the one before it, or an item's length is 255 or runs over the
+    /// end.
     BadItem,
 }
 
@@ -55,11 +57,12 @@ pub enum MessageFault {
     /// The three bits of the kind are 101 or 110.
     #[error("there is no such kind")]
     BadKind,
-    /// The body has not 2 to 1,024 octets, or its address is empty, above 8 octets or above the body.
+    /// The body has not 2 to 1,024 octets, or its address is empty, above 8 octets or above the
+    /// body.
     #[error("the body or its address has a wrong length")]
     BadLength,
-    /// An identifier isn't above the one before it, or an item's content is above 254 octets or runs
-    /// over the end.
+    /// An identifier isn't above the one before it, or an item's content is above 254 octets or
+    /// runs over the end.
     #[error("an item is out of order or has a wrong length")]
     BadItem,
     /// The stream ends inside a message.

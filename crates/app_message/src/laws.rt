@@ -1,7 +1,8 @@
-//! The laws that join reading to spelling. They have no code: each is proved of the definitions that
-//! the contracts of this crate cite.
+//! The laws that join reading to spelling. They have no code: each is proved of the definitions
+//! that the contracts of this crate cite.
 
-ghost use Rattle.app_message.specs.Laws.{OctetsAreSpelled, OneStream, NoPrefix, ReadAgain, AnyCutting};
+ghost use Rattle.app_message.specs.Laws.{OctetsAreSpelled, OneStream, NoPrefix, ReadAgain};
+ghost use Rattle.app_message.specs.Laws.{AnyCutting};
 
 /// Every stream of octets is the spellings of the messages that are read, each of which can be
 /// spelled, and then what is left: without a fault it is the rest, and no whole message; with a
@@ -10,7 +11,8 @@ pub fn octets_are_spelled()
     ensures { OctetsAreSpelled }
 {}
 
-/// Octets are spelled so in one way only: the messages, the rest and the fault of a stream are fixed.
+/// Octets are spelled so in one way only: the messages, the rest and the fault of a stream are
+/// fixed.
 pub fn one_stream()
     ensures { OneStream }
 {}
@@ -26,8 +28,8 @@ pub fn read_again()
     ensures { ReadAgain }
 {}
 
-/// However a stream is cut, its messages are those of the first piece, and then those that the second
-/// brings.
+/// However a stream is cut, its messages are those of the first piece, and then those that the
+/// second brings.
 pub fn any_cutting()
     ensures { AnyCutting }
 {}

@@ -1,8 +1,8 @@
 //! Application messages: octets to messages, and messages to octets.
 //!
 //! A `Message` is valid by its type: it is exactly what can be spelled. `encode` writes its one
-//! spelling. A `Decoder` takes a stream in any pieces, and gives the messages in it, up to the first
-//! fault; what it gives doesn't depend on how the stream was cut.
+//! spelling. A `Decoder` takes a stream in any pieces, and gives the messages in it, up to the
+//! first fault; what it gives doesn't depend on how the stream was cut.
 #![tactic(auto)]
 
 mod decoder;
@@ -26,6 +26,3 @@ pub use message::Message;
 pub use messages::Messages;
 pub use token::Token;
 pub use writing::encode;
-
-#[cfg(test)]
-mod tests;

@@ -14,8 +14,8 @@ use std::alloc::{AllocError, Global};
 use std::marker::Model;
 
 /// A message: exactly what can be spelled. Its address has 1 to 8 octets, the identifiers of its
-/// items strictly rise, each content has at most 254 octets, and the address and the items take 2 to
-/// 1,024 octets in all.
+/// items strictly rise, each content has at most 254 octets, and the address and the items take 2
+/// to 1,024 octets in all.
 #[derive(Debug, Drop)]
 pub struct Message {
     to: [u8; 2],
@@ -44,8 +44,8 @@ impl Message {
     ///
     /// It is refused with `BadLength` if the address is empty or above 8 octets, or if the address
     /// and the items take more than 1,024 octets in all (each of them has one octet for its length,
-    /// and an item one for its identifier); else with `BadItem` if an identifier isn't above the one
-    /// before it, or a content has more than 254 octets. `NoMemory` comes where the allocator
+    /// and an item one for its identifier); else with `BadItem` if an identifier isn't above the
+    /// one before it, or a content has more than 254 octets. `NoMemory` comes where the allocator
     /// refuses a copy.
     pub fn try_new(
         alloc: Global,

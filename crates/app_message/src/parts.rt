@@ -1,6 +1,7 @@
 //! Whether a message can be made of its parts.
 
-ghost use Rattle.std.specs.Prelude.{◌≡◌, ◌≤◌, length, nat_le, true, Option, IfOk, IfErr, OnOk, Some, None};
+ghost use Rattle.std.specs.Prelude.{◌≡◌, ◌≤◌, length, nat_le, true, Option, IfOk, IfErr, OnOk};
+ghost use Rattle.std.specs.Prelude.{Some, None};
 ghost use Rattle.std.specs.List.{All};
 ghost use Rattle.app_message.specs.Telegram.{entries, IsEntry, AreOctets};
 ghost use Rattle.app_message.specs.Spelling.{body_text, IsHead};

@@ -2,7 +2,8 @@
 
 ghost use Rattle.std.specs.Prelude.{◌≡◌, ◌+◌, ◌*◌, ◌%◌, ◌≤◌, ◌<◌, length, IfOk};
 ghost use Rattle.app_message.specs.Spelling.{IsHead};
-ghost use Rattle.app_message.specs.Grammar.{kind_at, length_at, header_at, item_at, items_at, address_at, body_at, front_at};
+ghost use Rattle.app_message.specs.Grammar.{kind_at, length_at, header_at, item_at, items_at};
+ghost use Rattle.app_message.specs.Grammar.{address_at, body_at, front_at};
 ghost use Rattle.app_message.specs.Reading.{Gives, header};
 ghost use Rattle.app_message.specs.declared.reading.Stop.TheVariants.{NoMemory as no_memory};
 

@@ -1,3 +1,4 @@
 pub mod OneRequest
 pub mod Short
-pub mod Worked
+pub mod WorkedRequests
+pub mod WorkedReplies

@@ -1,5 +1,6 @@
 -- The items of a reply rise and are short, so that with any address they fit a message.
-use Rattle.std.proofs.Common.{◌≡◌, ◌≤◌, ℕ, length, arith, List, ◌++◌, Option, Some, None, Result, Ok, Err, refl, lit≤}
+use Rattle.std.proofs.Common.{◌≡◌, ◌≤◌, ℕ, length, arith, List, ◌++◌, Option, Some, None, Result}
+use Rattle.std.proofs.Common.{Ok, Err, refl, lit≤}
 use Rattle.std.specs.Prelude.{unwrap_or}
 use Rattle.site_base.specs.declared.answer.Answer.{Answer}
 use Rattle.site_base.specs.declared.answer.Answer.TheVariants as answers
@@ -17,10 +18,14 @@ use Rattle.app_message.specs.Spelling.{item_text, body_text}
 use Rattle.app_message.specs.Parts.{parts_fault}
 use Rattle.device_map.specs.declared.ids.TheConstants as ids
 use Rattle.device_map.specs.Items.{octet, four_octets, eight_octets}
-use Rattle.device_map.specs.Replies.{AreShort, flag, preset_items, prepaid_items, detail_items, answer_items, reply_items}
+use Rattle.device_map.specs.Replies.{AreShort, flag, preset_items, prepaid_items, detail_items}
+use Rattle.device_map.specs.Replies.{answer_items, reply_items}
 
-point_short : (v : PointView) (preset : Preset) (prepaid : Option ℕ) → AreShort (octet ids.STATE (state_number v.state) ++ octet ids.NOZZLE_OUT (unwrap_or v.out 0) ++ octet ids.HOLDER (unwrap_or v.holder 0)
-    ++ octet ids.ENDING (flag v.ending) ++ preset_items preset ++ four_octets ids.PRICE v.price ++ eight_octets ids.VOLUME v.volume ++ prepaid_items prepaid)
+point_short : (v : PointView) (preset : Preset) (prepaid : Option ℕ)
+    → AreShort (octet ids.STATE (state_number v.state) ++ octet ids.NOZZLE_OUT (unwrap_or v.out 0)
+    ++ octet ids.HOLDER (unwrap_or v.holder 0)
+    ++ octet ids.ENDING (flag v.ending) ++ preset_items preset ++ four_octets ids.PRICE v.price
+    ++ eight_octets ids.VOLUME v.volume ++ prepaid_items prepaid)
 point_short v Unset None = record { rise = refl; size = lit≤ tt }
 point_short v Unset (Some cents) = record { rise = refl; size = lit≤ tt }
 point_short v (Volume n) None = record { rise = refl; size = lit≤ tt }
@@ -38,7 +43,8 @@ answer_short (answers.PointIs view) = point_short view view.preset view.prepaid
 answer_short (answers.Start preset price) = start_short preset price
 answer_short answer = record { rise = refl; size = lit≤ tt }
 
-refusal_short : (number : ℕ) (detail : Option ℕ) → AreShort (octet ids.RESULT number ++ detail_items detail)
+refusal_short : (number : ℕ) (detail : Option ℕ)
+    → AreShort (octet ids.RESULT number ++ detail_items detail)
 refusal_short number None = record { rise = refl; size = lit≤ tt }
 refusal_short number (Some detail) = record { rise = refl; size = lit≤ tt }
 
@@ -50,8 +56,15 @@ pub number_short : (number : ℕ) → AreShort (octet ids.RESULT number)
 number_short number = refusal_short number None
 
 -- with an address they have no fault
-pub short_fits : (address : List ℕ) (items : List Entry) → 1 ≤ length address → length address ≤ 8 → AreShort items → parts_fault address items ≡ None
+pub short_fits : (address : List ℕ) (items : List Entry) → 1 ≤ length address → length address ≤ 8
+    → AreShort items → parts_fault address items ≡ None
 unfolding parts_fault
 short_fits address items least most short =
-    let size : length (body_text address items) ≤ 1024 = omega (arith, short.size, length-append address (flat_map item_text items)) in
-    rw (le-ltb (length address) 1 least, le-ltb 8 (length address) most, le-ltb 1024 (length (body_text address items)) size, short.rise) refl
+    let size : length (body_text address items) ≤ 1024 =
+    omega (arith, short.size, length-append address (flat_map item_text items)) in
+    rw (
+      le-ltb (length address) 1 least,
+      le-ltb 8 (length address) most,
+      le-ltb 1024 (length (body_text address items)) size,
+      short.rise,
+    ) refl

@@ -1,7 +1,10 @@
 -- The numbers of the mapping's faults.
 use Rattle.std.specs.Prelude.{ℕ}
 use Rattle.device_map.specs.declared.fault.MapFault.{MapFault}
-use Rattle.device_map.specs.declared.fault.MapFault.TheVariants.{NotARequest, NotForUs, BadOriginator, BadAddress, UnknownItem, ItemMissing, BadDecimal, BadNumber}
+use Rattle.device_map.specs.declared.fault.MapFault.TheVariants.{NotARequest, NotForUs}
+use Rattle.device_map.specs.declared.fault.MapFault.TheVariants.{BadOriginator, BadAddress}
+use Rattle.device_map.specs.declared.fault.MapFault.TheVariants.{UnknownItem, ItemMissing}
+use Rattle.device_map.specs.declared.fault.MapFault.TheVariants.{BadDecimal, BadNumber}
 
 -- the number by which a fault of the mapping is told
 abbrev pub map_number : MapFault → ℕ

@@ -2,6 +2,7 @@ pub mod Faults
 pub mod Stages
 pub mod Nodes
 pub mod Addresses
+pub mod Commands
 pub mod Requests
 pub mod Items
 pub mod Replies

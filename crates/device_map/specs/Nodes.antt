@@ -1,5 +1,6 @@
 -- Who speaks from a node.
-use Rattle.std.specs.Prelude.{ℕ, Bool, List, [], ◌∷◌, ◌&&◌, ◌==◌, slice_index, Result, Ok, Err, if◌then◌else◌}
+use Rattle.std.specs.Prelude.{ℕ, Bool, List, [], ◌∷◌, ◌&&◌, ◌==◌, slice_index, Result, Ok, Err}
+use Rattle.std.specs.Prelude.{if◌then◌else◌}
 use Rattle.site_base.specs.declared.limits.TheConstants.{TILLS, POINTS}
 use Rattle.site_base.specs.declared.actor.Actor.{Actor}
 use Rattle.site_base.specs.declared.actor.Actor.TheVariants.{Till, Dispenser}
@@ -7,8 +8,10 @@ use Rattle.site_base.specs.Configured.{is_between}
 use Rattle.app_message.specs.declared.kind.Kind.{Kind}
 use Rattle.app_message.specs.declared.kind.Kind.TheVariants as kinds
 use Rattle.device_map.specs.declared.fault.MapFault.{MapFault}
-use Rattle.device_map.specs.declared.fault.MapFault.TheVariants.{NotARequest, NotForUs, BadOriginator}
-use Rattle.device_map.specs.declared.ids.TheConstants.{SITE_SUBNET, SITE_NODE, TILL_SUBNET, DISPENSER_SUBNET}
+use Rattle.device_map.specs.declared.fault.MapFault.TheVariants.{NotARequest, NotForUs}
+use Rattle.device_map.specs.declared.fault.MapFault.TheVariants.{BadOriginator}
+use Rattle.device_map.specs.declared.ids.TheConstants.{SITE_SUBNET, SITE_NODE, TILL_SUBNET}
+use Rattle.device_map.specs.declared.ids.TheConstants.{DISPENSER_SUBNET}
 
 -- subnet and node of the site
 abbrev pub site_node : List ℕ
@@ -23,11 +26,17 @@ for_us to = if is_site_node to then Ok tt else Err NotForUs
 
 -- till t speaks from node t of the tills' subnet
 unfoldable pub till_at : List ℕ → Result Actor MapFault
-till_at node = if slice_index node 0 == TILL_SUBNET && is_between 1 TILLS (slice_index node 1) then Ok (Till (slice_index node 1)) else Err BadOriginator
+till_at node =
+    if slice_index node 0 == TILL_SUBNET && is_between 1 TILLS (slice_index node 1)
+    then Ok (Till (slice_index node 1))
+    else Err BadOriginator
 
 -- the dispenser of point p speaks from node p of the dispensers' subnet
 unfoldable pub dispenser_at : List ℕ → Result Actor MapFault
-dispenser_at node = if slice_index node 0 == DISPENSER_SUBNET && is_between 1 POINTS (slice_index node 1) then Ok (Dispenser (slice_index node 1)) else Err BadOriginator
+dispenser_at node =
+    if slice_index node 0 == DISPENSER_SUBNET && is_between 1 POINTS (slice_index node 1)
+    then Ok (Dispenser (slice_index node 1))
+    else Err BadOriginator
 
 -- tills read and write, dispensers report
 abbrev pub actor_at : Kind → List ℕ → Result Actor MapFault

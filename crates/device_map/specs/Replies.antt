@@ -1,5 +1,6 @@
 -- The message that tells a reply.
-use Rattle.std.specs.Prelude.{◌≡◌, ◌≤◌, ℕ, length, Bool, true, false, List, [], ◌∷◌, ◌++◌, ◌+◌, ◌*◌, ◌/◌, ◌%◌, Option, Some, None, Result, Ok, Err, unwrap_or}
+use Rattle.std.specs.Prelude.{◌≡◌, ◌≤◌, ℕ, length, Bool, true, false, List, [], ◌∷◌, ◌++◌, ◌+◌}
+use Rattle.std.specs.Prelude.{◌*◌, ◌/◌, ◌%◌, Option, Some, None, Result, Ok, Err, unwrap_or}
 use Rattle.std.specs.List.{flat_map}
 use Rattle.site_base.specs.declared.answer.Answer.{Answer}
 use Rattle.site_base.specs.declared.answer.Answer.TheVariants as answers
@@ -44,16 +45,22 @@ prepaid_items None = []
 prepaid_items (Some cents) = four_octets ids.PREPAID cents
 
 abbrev pub point_items : PointView → List Entry
-point_items v = octet ids.STATE (state_number v.state) ++ octet ids.NOZZLE_OUT (unwrap_or v.out 0) ++ octet ids.HOLDER (unwrap_or v.holder 0)
-    ++ octet ids.ENDING (flag v.ending) ++ preset_items v.preset ++ four_octets ids.PRICE v.price ++ eight_octets ids.VOLUME v.volume ++ prepaid_items v.prepaid
+point_items v = octet ids.STATE (state_number v.state) ++ octet ids.NOZZLE_OUT (unwrap_or v.out 0)
+    ++ octet ids.HOLDER (unwrap_or v.holder 0)
+    ++ octet ids.ENDING (flag v.ending) ++ preset_items v.preset ++ four_octets ids.PRICE v.price
+    ++ eight_octets ids.VOLUME v.volume ++ prepaid_items v.prepaid
 
 abbrev pub transaction_items : TransactionView → List Entry
-transaction_items v = four_octets ids.PRICE v.price ++ eight_octets ids.VOLUME v.volume ++ eight_octets ids.CENTS v.cents
-    ++ four_octets ids.PREPAID (unwrap_or v.prepaid 0) ++ octet ids.STATUS (status_number v.status) ++ octet ids.TILL (unwrap_or v.till 0) ++ octet ids.PRODUCT v.product
+transaction_items v = four_octets ids.PRICE v.price ++ eight_octets ids.VOLUME v.volume
+    ++ eight_octets ids.CENTS v.cents
+    ++ four_octets ids.PREPAID (unwrap_or v.prepaid 0) ++ octet ids.STATUS (status_number v.status)
+    ++ octet ids.TILL (unwrap_or v.till 0) ++ octet ids.PRODUCT v.product
 
 abbrev pub product_items : ProductView → List Entry
-product_items v = four_octets ids.PRICE v.price ++ eight_octets ids.METERED v.metered ++ eight_octets ids.RUNNING v.running
-    ++ eight_octets ids.PAYABLE v.payable ++ eight_octets ids.LOCKED v.locked ++ eight_octets ids.CLEARED v.cleared
+product_items v = four_octets ids.PRICE v.price ++ eight_octets ids.METERED v.metered
+    ++ eight_octets ids.RUNNING v.running
+    ++ eight_octets ids.PAYABLE v.payable ++ eight_octets ids.LOCKED v.locked
+    ++ eight_octets ids.CLEARED v.cleared
 
 abbrev pub site_items : SiteView → List Entry
 site_items v = eight_octets ids.CENTS v.cents ++ two_octets ids.SHIFT v.shift
@@ -66,11 +73,13 @@ outcome n = octet ids.RESULT 0 ++ octet ids.OUTCOME n
 abbrev pub answer_items : Answer → List Entry
 answer_items answers.Done = outcome 0
 answer_items answers.Calling = outcome 1
-answer_items (answers.Start preset price) = outcome 2 ++ preset_items preset ++ four_octets ids.PRICE price
+answer_items (answers.Start preset price) = outcome 2 ++ preset_items preset
+    ++ four_octets ids.PRICE price
 answer_items (answers.Flowed growth) = outcome 3 ++ eight_octets ids.VOLUME growth
 answer_items answers.HungUp = outcome 4
 answer_items answers.NoSale = outcome 5
-answer_items (answers.Sold seq growth) = outcome 6 ++ eight_octets ids.VOLUME growth ++ two_octets ids.SEQUENCE (packed seq)
+answer_items (answers.Sold seq growth) = outcome 6 ++ eight_octets ids.VOLUME growth
+    ++ two_octets ids.SEQUENCE (packed seq)
 answer_items answers.Stopped = outcome 7
 answer_items answers.Ending = outcome 8
 answer_items answers.Locked = outcome 9
@@ -96,7 +105,8 @@ detail_items (Some detail) = eight_octets ids.DETAIL detail
 
 -- the number of a refusal, and its detail if it has one
 abbrev pub refusal_items : Refusal → List Entry
-refusal_items refusal = octet ids.RESULT (refusal_number refusal) ++ detail_items (refusal_detail refusal)
+refusal_items refusal = octet ids.RESULT (refusal_number refusal)
+    ++ detail_items (refusal_detail refusal)
 
 abbrev pub reply_items : Result Answer Refusal → List Entry
 reply_items (Ok answer) = answer_items answer
@@ -106,14 +116,22 @@ abbrev pub reply_kind : Result Answer Refusal → Kind
 reply_kind (Ok answer) = answer_kind answer
 reply_kind (Err refusal) = kinds.Ack
 
--- items in rising order, of at most 254 octets each and 1,000 in all: with an address they fit a message
+-- items in rising order, of at most 254 octets each and 1,000 in all: with an address they fit a
+-- message
 pub record AreShort (items : List Entry) : Type 0 where
   pub rise : do_rise 0 items ≡ true
   pub size : length (flat_map item_text items) ≤ 1000
 
 -- a message from the site back to the originator of the request, with its token and address
 abbrev pub back : Telegram → Kind → List Entry → Telegram
-back request kind items = record { to = request.from; from = site_node; kind = kind; token = request.token; address = request.address; items = items }
+back request kind items = record {
+  to = request.from;
+  from = site_node;
+  kind = kind;
+  token = request.token;
+  address = request.address;
+  items = items;
+}
 
 -- the message that tells the reply to a request
 abbrev pub reply_message : Telegram → Result Answer Refusal → Telegram
@@ -125,4 +143,11 @@ number_message request number = back request kinds.Ack (octet ids.RESULT number)
 
 -- the message that tells why a stream ended
 abbrev pub fault_message : StreamFault → Telegram
-fault_message f = record { to = f.originator; from = site_node; kind = kinds.Ack; token = f.token; address = ids.SITE_ADDRESS ∷ []; items = octet ids.RESULT (grammar_number f.fault) }
+fault_message f = record {
+  to = f.originator;
+  from = site_node;
+  kind = kinds.Ack;
+  token = f.token;
+  address = ids.SITE_ADDRESS ∷ [];
+  items = octet ids.RESULT (grammar_number f.fault);
+}

@@ -1,20 +1,26 @@
 //! The database that an address names.
 
-ghost use Rattle.std.specs.Prelude.{◌≡◌};
+ghost use Rattle.std.specs.Prelude.{◌≡◌, ◌+◌, true, slice_index, IfSome, IsSome, ◌↔◌};
 ghost use Rattle.device_map.specs.Stages.{Gives};
-ghost use Rattle.device_map.specs.Addresses.{database_of_octet, database_at};
+ghost use Rattle.device_map.specs.Addresses.{database_of_octet, transaction_at, is_point_octet};
+ghost use Rattle.device_map.specs.Addresses.{is_product_octet, database_at};
 
 use crate::fault::MapFault;
-use crate::ids::{POINT_ADDRESS, SITE_ADDRESS};
-use site_base::FpNo;
+use crate::ids::{POINT_ADDRESS, PRODUCT_ADDRESS, SITE_ADDRESS, TRANSACTION_FORM};
+use site_base::{FpNo, ProductNo};
 
-/// A database of the site that has requests.
+/// A database of the site.
 #[derive(Clone, Copy)]
 pub enum Database {
     /// The site's own.
     Site,
     /// A fuelling point's.
     Point(FpNo),
+    /// That of a transaction of a fuelling point: the two octets of its number as they came, to be
+    /// read as digits only where nothing else is wrong.
+    Transaction(FpNo, [u8; 2]),
+    /// A product's.
+    Product(ProductNo),
 }
 
 impl Database {
@@ -23,10 +29,11 @@ impl Database {
     pub fn at(address: &[u8]) -> Result<Database, MapFault>
         ensures { Gives result (database_at address.now) }
     {
-        if address.len() != 1 {
-            return Err(MapFault::BadAddress);
+        match address {
+            [octet] => Database::of_octet(*octet),
+            [point, form, high, low] => Database::of_transaction(*point, *form, [*high, *low]),
+            _ => Err(MapFault::BadAddress),
         }
-        Database::of_octet(address[0])
     }
 
     fn of_octet(octet: u8) -> Result<Database, MapFault>
@@ -35,12 +42,46 @@ impl Database {
         if octet == SITE_ADDRESS {
             return Ok(Database::Site);
         }
-        if octet <= POINT_ADDRESS {
-            return Err(MapFault::BadAddress);
+        if let Some(point) = point_of(octet) {
+            return Ok(Database::Point(point));
         }
-        match FpNo::new(octet - POINT_ADDRESS) {
-            Some(point) => Ok(Database::Point(point)),
+        match product_of(octet) {
+            Some(product) => Ok(Database::Product(product)),
             None => Err(MapFault::BadAddress),
         }
     }
+
+    fn of_transaction(point: u8, form: u8, digits: [u8; 2]) -> Result<Database, MapFault>
+        ensures { Gives result (transaction_at point form (slice_index digits 0) (slice_index digits 1)) }
+    {
+        if form != TRANSACTION_FORM {
+            return Err(MapFault::BadAddress);
+        }
+        match point_of(point) {
+            Some(point) => Ok(Database::Transaction(point, digits)),
+            None => Err(MapFault::BadAddress),
+        }
+    }
+}
+
+/// The fuelling point whose address begins with this octet.
+fn point_of(octet: u8) -> Option<FpNo>
+    ensures there { IsSome result ↔ (is_point_octet octet ≡ true) }
+    ensures value { IfSome result (λ p. POINT_ADDRESS + p ≡ octet) }
+{
+    if octet <= POINT_ADDRESS {
+        return None;
+    }
+    FpNo::new(octet - POINT_ADDRESS)
+}
+
+/// The product whose address is this octet.
+fn product_of(octet: u8) -> Option<ProductNo>
+    ensures there { IsSome result ↔ (is_product_octet octet ≡ true) }
+    ensures value { IfSome result (λ q. PRODUCT_ADDRESS + q ≡ octet) }
+{
+    if octet <= PRODUCT_ADDRESS {
+        return None;
+    }
+    ProductNo::new(octet - PRODUCT_ADDRESS)
 }

@@ -17,6 +17,12 @@ pub const SITE_ADDRESS: u8 = 0x01;
 /// What is added to a fuelling point's number in its address.
 pub const POINT_ADDRESS: u8 = 0x20;
 
+/// What stands behind a fuelling point's address where one of its transactions is named.
+pub const TRANSACTION_FORM: u8 = 0x21;
+
+/// What is added to a product's number in its address.
+pub const PRODUCT_ADDRESS: u8 = 0x80;
+
 // Commands.
 pub const SIGN_ON: u8 = 0x31;
 

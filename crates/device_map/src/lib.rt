@@ -12,8 +12,6 @@ mod node;
 mod part;
 mod reply;
 mod request;
-#[cfg(test)]
-mod tests;
 
 pub use fault::MapFault;
 pub use laws::one_request;

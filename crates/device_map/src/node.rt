@@ -2,7 +2,8 @@
 
 ghost use Rattle.std.specs.Prelude.{◌≡◌};
 ghost use Rattle.device_map.specs.Stages.{Gives};
-ghost use Rattle.device_map.specs.Nodes.{is_site_node, site_node, for_us, till_at, dispenser_at, actor_at, is_request};
+ghost use Rattle.device_map.specs.Nodes.{is_site_node, site_node, for_us, till_at, dispenser_at};
+ghost use Rattle.device_map.specs.Nodes.{actor_at, is_request};
 
 use crate::fault::MapFault;
 use crate::ids::{DISPENSER_SUBNET, SITE_NODE, SITE_SUBNET, TILL_SUBNET};

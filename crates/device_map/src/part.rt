@@ -2,7 +2,8 @@
 
 ghost use Rattle.std.specs.Prelude.{◌≡◌, [], ◌∷◌, ◌++◌, OnOk, IfOk};
 ghost use Rattle.app_message.specs.Telegram.{entries};
-ghost use Rattle.device_map.specs.Items.{octet, two_octets, four_octets, eight_octets, octets_of, item_of};
+ghost use Rattle.device_map.specs.Items.{octet, two_octets, four_octets, eight_octets, octets_of};
+ghost use Rattle.device_map.specs.Items.{item_of};
 
 use site_base::NoMemory;
 use std::alloc::Global;

@@ -2,7 +2,11 @@
 
 ghost use Rattle.std.specs.Prelude.{◌≡◌, ◌≤◌, ◌++◌, length, unwrap_or, IfOk, OnOk};
 ghost use Rattle.app_message.specs.Telegram.{telegram};
-ghost use Rattle.device_map.specs.Replies.{preset_items, prepaid_items, point_items, transaction_items, product_items, site_items, outcome, answer_items, answer_kind, detail_items, refusal_items, reply_items, reply_kind, reply_message, number_message, fault_message, packed, AreShort, back};
+ghost use Rattle.device_map.specs.Replies.{preset_items, prepaid_items, point_items};
+ghost use Rattle.device_map.specs.Replies.{transaction_items, product_items, site_items, outcome};
+ghost use Rattle.device_map.specs.Replies.{answer_items, answer_kind, detail_items, refusal_items};
+ghost use Rattle.device_map.specs.Replies.{reply_items, reply_kind, reply_message, number_message};
+ghost use Rattle.device_map.specs.Replies.{fault_message, packed, AreShort, back};
 ghost use Rattle.device_map.specs.Nodes.{site_node};
 
 use crate::part::Parts;

@@ -2,18 +2,19 @@
 
 ghost use Rattle.std.specs.Prelude.{◌≡◌};
 ghost use Rattle.device_map.specs.Stages.{Gives};
-ghost use Rattle.device_map.specs.Requests.{site_command, point_command, command_at, write_at, read_of, read_at, event_at, request_at};
+ghost use Rattle.device_map.specs.Commands.{bare, commands};
+ghost use Rattle.device_map.specs.Requests.{event_by, command_in, read_of, read_at, event_at};
+ghost use Rattle.device_map.specs.Requests.{request_at};
 
 use crate::address::Database;
 use crate::fault::MapFault;
-use crate::ids::{ASSIGN, CLOSE, OPEN, SIGN_OFF, SIGN_ON, UNASSIGN};
-use crate::node;
+use crate::{ids, node};
 use app_message::{Item, Kind, Message};
 use site_base::{Actor, Event, FpNo};
 
 /// The actor and the event that the message means, or its first fault, in the order of `MapFault`'s
-/// variants: it is a request, for this site, from one who may ask it, of a database that has requests
-/// of this kind, with just the items that belong to it.
+/// variants: it is a request, for this site, from one who may ask it, of a database that has
+/// requests of this kind, with just the items that belong to it.
 #[tactic(auto, unfolding(crate::specs::Requests::request_at))]
 pub fn request_of(message: &Message) -> Result<(Actor, Event), MapFault>
     ensures { Gives result (request_at message.now) }
@@ -26,14 +27,14 @@ pub fn request_of(message: &Message) -> Result<(Actor, Event), MapFault>
     Ok((actor, event))
 }
 
+#[tactic(auto, unfolding(crate::specs::Requests::command_in))]
 fn event_of(kind: Kind, database: Database, items: &[Item]) -> Result<Event, MapFault>
     ensures { Gives result (event_at kind database items.now) }
 {
     match kind {
         Kind::Read => read_event(database, items),
         Kind::Write => write_event(database, items),
-        Kind::Report => Err(MapFault::BadAddress),
-        _ => Err(MapFault::NotARequest),
+        _ => Err(MapFault::BadAddress),
     }
 }
 
@@ -52,58 +53,63 @@ fn read_of(database: Database) -> Result<Event, MapFault>
     ensures { Gives result (read_of database) }
 {
     match database {
-        Database::Site => Err(MapFault::BadAddress),
         Database::Point(point) => Ok(Event::ReadPoint(point)),
+        _ => Err(MapFault::BadAddress),
     }
 }
 
-/// A command without content, and no item behind it.
-#[tactic(auto, unfolding(crate::specs::Requests::write_at))]
+#[tactic(auto, unfolding(crate::specs::Requests::command_in))]
 fn write_event(database: Database, items: &[Item]) -> Result<Event, MapFault>
-    ensures { Gives result (write_at database items.now) }
-{
-    match items {
-        [] => Err(MapFault::ItemMissing),
-        [command, others @ ..] => {
-            let event = command_of(database, command.id())?;
-            if !others.is_empty() {
-                return Err(MapFault::UnknownItem);
-            }
-            if !command.content().is_empty() {
-                return Err(MapFault::BadNumber);
-            }
-            Ok(event)
-        }
-    }
-}
-
-fn command_of(database: Database, id: u8) -> Result<Event, MapFault>
-    ensures { Gives result (command_at database id) }
+    ensures { Gives result (command_in (commands Kind.Write database) items.now) }
 {
     match database {
-        Database::Site => site_command_of(id),
-        Database::Point(point) => point_command_of(point, id),
+        Database::Site => site_command(items),
+        Database::Point(point) => point_command(point, items),
+        _ => Err(MapFault::BadAddress),
     }
 }
 
-fn site_command_of(id: u8) -> Result<Event, MapFault>
-    ensures { Gives result (site_command id) }
+/// The commands of the site.
+#[tactic(auto, unfolding(crate::specs::Requests::command_in))]
+fn site_command(items: &[Item]) -> Result<Event, MapFault>
+    ensures { Gives result (command_in (commands Kind.Write Database.Site) items.now) }
 {
-    match id {
-        SIGN_ON => Ok(Event::SignOn),
-        SIGN_OFF => Ok(Event::SignOff),
+    let [command, others @ ..] = items else {
+        return Err(MapFault::ItemMissing);
+    };
+    match command.id() {
+        ids::SIGN_ON => bare(Event::SignOn, command, others),
+        ids::SIGN_OFF => bare(Event::SignOff, command, others),
         _ => Err(MapFault::UnknownItem),
     }
 }
 
-fn point_command_of(point: FpNo, id: u8) -> Result<Event, MapFault>
-    ensures { Gives result (point_command point id) }
+/// The commands of a fuelling point.
+#[tactic(auto, unfolding(crate::specs::Requests::command_in))]
+fn point_command(point: FpNo, items: &[Item]) -> Result<Event, MapFault>
+    ensures { Gives result (command_in (commands Kind.Write (Database.Point point)) items.now) }
 {
-    match id {
-        OPEN => Ok(Event::Open(point)),
-        CLOSE => Ok(Event::Close(point)),
-        ASSIGN => Ok(Event::Assign(point)),
-        UNASSIGN => Ok(Event::Unassign(point)),
+    let [command, others @ ..] = items else {
+        return Err(MapFault::ItemMissing);
+    };
+    match command.id() {
+        ids::OPEN => bare(Event::Open(point), command, others),
+        ids::CLOSE => bare(Event::Close(point), command, others),
+        ids::ASSIGN => bare(Event::Assign(point), command, others),
+        ids::UNASSIGN => bare(Event::Unassign(point), command, others),
         _ => Err(MapFault::UnknownItem),
     }
+}
+
+/// The event of a command without content, and with no item behind it.
+fn bare(event: Event, command: &Item, others: &[Item]) -> Result<Event, MapFault>
+    ensures { Gives result (event_by (bare event) command.now others.now) }
+{
+    if !others.is_empty() {
+        return Err(MapFault::UnknownItem);
+    }
+    if !command.content().is_empty() {
+        return Err(MapFault::BadNumber);
+    }
+    Ok(event)
 }

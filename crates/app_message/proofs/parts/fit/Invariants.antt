@@ -5,4 +5,5 @@ use Rattle.app_message.specs.Spelling.{item_text}
 use Rattle.app_message.proofs.parts.fit.Given as goal
 
 abbrev pub invariant-loop-content : goal.invariant-loop-content
-invariant-loop-content l = l.left + length (flat_map item_text (entries (take l.content-index l.items))) + length l.address ≡ 1023
+invariant-loop-content l = l.left + length (flat_map item_text
+    (entries (take l.content-index l.items))) + length l.address ≡ 1023

@@ -10,7 +10,8 @@ returns-in_err-item c =
     let p = err_from_is_err_and c.from_residual.result c.from_residual.ensures.1 in
     let total = items_at (length c.args.octets.now) 0 c.args.octets.now in
     let some : length c.loop-rest.rest.now ≢ 0 = eqb-false _ _ (sym c.loop-rest-test.ensures) in
-    rw (p.1, p.2) (ends c.in_err-item.field-0.0 c.loop-rest.items.items c.loop-rest.low c.loop-rest.rest.now total (omega arith) c.in_err-item.ensures.exact c.loop-rest.invariant)
+    rw (p.1, p.2) (ends c.in_err-item.field-0.0 c.loop-rest.items.items c.loop-rest.low
+    c.loop-rest.rest.now total (omega arith) c.in_err-item.ensures.exact c.loop-rest.invariant)
 
 pub loop-rest-preserved : goal.loop-rest-preserved
 loop-rest-preserved c =
@@ -18,7 +19,11 @@ loop-rest-preserved c =
     let total = items_at (length c.args.octets.now) 0 c.args.octets.now in
     let some : length c.loop-rest.rest.now ≢ 0 = eqb-false _ _ (sym c.loop-rest-test.ensures) in
     let low : c.from-low.result ≡ item.id = cc (c.from-low.ensures, c.id.ensures) in
-    rw (c.in_ok-push.ensures.items, low) (goes_on c.loop-rest.items.items c.loop-rest.low c.loop-rest.rest.now item c.in_ok-item.after.now total (omega arith) c.in_ok-item.ensures.exact c.loop-rest.invariant)
+    rw (c.in_ok-push.ensures.items, low) (goes_on c.loop-rest.items.items c.loop-rest.low
+    c.loop-rest.rest.now item c.in_ok-item.after.now total (omega arith)
+    c.in_ok-item.ensures.exact c.loop-rest.invariant)
 
 pub returns : goal.returns
-returns c = is_done c.loop-rest.items.items c.loop-rest.low c.loop-rest.rest.now (items_at (length c.args.octets.now) 0 c.args.octets.now) (eqb-true _ _ (sym c.loop-rest-test.ensures)) c.loop-rest.invariant
+returns c = is_done c.loop-rest.items.items c.loop-rest.low c.loop-rest.rest.now
+    (items_at (length c.args.octets.now) 0 c.args.octets.now)
+    (eqb-true _ _ (sym c.loop-rest-test.ensures)) c.loop-rest.invariant

@@ -4,7 +4,8 @@ use Rattle.app_message.proofs.ItemSteps.{with_front}
 use Rattle.app_message.proofs.reading.items_of.Given as goal
 
 abbrev pub invariant-loop-rest : goal.invariant-loop-rest
-invariant-loop-rest l = with_front l.items.items (items_at (length l.rest) l.low l.rest) ≡ items_at (length l.octets) 0 l.octets
+invariant-loop-rest l = with_front l.items.items (items_at (length l.rest) l.low l.rest) ≡ items_at
+    (length l.octets) 0 l.octets
 
 abbrev pub decreases-loop-rest : goal.decreases-loop-rest
 decreases-loop-rest l = length l.rest

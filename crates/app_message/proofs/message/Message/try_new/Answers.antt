@@ -14,9 +14,12 @@ copied-requires c = (parts_fit _ _ c.in_ok-check.ensures.ok).rise
 pub returns-clause-accepted : goal.returns-clause-accepted
 returns-clause-accepted c =
     let valid = rw c.in_ok-items.ensures.value at c.in_ok-items.ensures.valid in
-    made _ _ _ _ _ _ c.typed.ensures (λ i. omega (arith, c.type_inv.address i)) valid c.in_ok-check.ensures.ok
+    made _ _ _ _ _ _ c.typed.ensures (λ i. omega (arith, c.type_inv.address i)) valid
+    c.in_ok-check.ensures.ok
 
 pub invariant_of-result : goal.invariant_of-result
 invariant_of-result c =
     let valid = rw c.in_ok-items.ensures.value at c.in_ok-items.ensures.valid in
-    rw (c.in_ok-items.ensures.value, c.in_ok-address.ensures.items) (made _ _ _ _ _ _ c.typed.ensures (λ i. omega (arith, c.type_inv.address i)) valid c.in_ok-check.ensures.ok)
+    rw (c.in_ok-items.ensures.value, c.in_ok-address.ensures.items)
+    (made _ _ _ _ _ _ c.typed.ensures (λ i. omega (arith, c.type_inv.address i)) valid
+    c.in_ok-check.ensures.ok)
