@@ -8,7 +8,7 @@ use Rattle.site_base.specs.Numbered.{numbered, with_numbered}
 use Rattle.site_base.proofs.Numbering.{numbered_with_same, numbered_with_other, numbered_push_here, numbered_push_other, numbered_map}
 use Rattle.transaction_buffer.specs.declared.request.Request.{Request}
 use Rattle.transaction_buffer.specs.Sales.{Key, key, Sale, Sales, sales_at, sale_of, same_key, made_at, with_sale, with_new, each_changed}
-use Rattle.transaction_buffer.specs.TransactionTable.{Line, line_for, sale_after, asked, after_line, after_at, after_request, let_go}
+use Rattle.transaction_buffer.specs.TransactionTable.{Line, line_for, sale_after, sale_after_request, after_line, after_at, after_request, let_go}
 use Rattle.transaction_buffer.specs.Laws.{IsReadAfter}
 use Rattle.transaction_buffer.proofs.Maps.{at_insert, get_each}
 
@@ -90,18 +90,18 @@ read_line j k x (Err refusal) s is = by_same (same_key k j) refl
     by_same false at = refl
 
 pub read_request : (t : ℕ) (request : Request) (j k : Key) (s : Sales)
-    → sale_of k (after_request request t j s) ≡ cond (same_key k j) (option_map (asked request t) (sale_of k s)) (sale_of k s)
+    → sale_of k (after_request request t j s) ≡ cond (same_key k j) (option_map (sale_after_request request t) (sale_of k s)) (sale_of k s)
 read_request t request j k s = by_sale (sale_of j s) refl
   where
-    by_same : (o : Option Sale) (b : Bool) → same_key k j ≡ b → sale_of j s ≡ o → cond b (option_map (asked request t) o) (sale_of k s) ≡ cond b (option_map (asked request t) (sale_of k s)) (sale_of k s)
-    by_same o true at is = ap (option_map (asked request t)) (sym is ∙ sym (one_sale k j s at))
+    by_same : (o : Option Sale) (b : Bool) → same_key k j ≡ b → sale_of j s ≡ o → cond b (option_map (sale_after_request request t) o) (sale_of k s) ≡ cond b (option_map (sale_after_request request t) (sale_of k s)) (sale_of k s)
+    by_same o true at is = ap (option_map (sale_after_request request t)) (sym is ∙ sym (one_sale k j s at))
     by_same o false at is = refl
 
     missing : (b : Bool) → same_key k j ≡ b → sale_of j s ≡ None → sale_of k s ≡ cond b None (sale_of k s)
     missing true at is = one_sale k j s at ∙ is
     missing false at is = refl
 
-    by_sale : (o : Option Sale) → sale_of j s ≡ o → sale_of k (after_at request t j o s) ≡ cond (same_key k j) (option_map (asked request t) (sale_of k s)) (sale_of k s)
+    by_sale : (o : Option Sale) → sale_of j s ≡ o → sale_of k (after_at request t j o s) ≡ cond (same_key k j) (option_map (sale_after_request request t) (sale_of k s)) (sale_of k s)
     by_sale None is = missing (same_key k j) refl is ∙ by_same None (same_key k j) refl is
     by_sale (Some x) is = read_line j k x (line_for request t x) s is ∙ by_same (Some x) (same_key k j) refl is
 

@@ -1,17 +1,20 @@
 -- The rules of locks and clears.
-use Rattle.std.proofs.Common.{◌≡◌, ℕ, zero, suc, ◌+◌, ◌-◌, ◌<◌, length, ◌==◌, ◌⊎◌, inl, inr, Bool, true, false, cond, List, [], Option, option_map, option_and_then, Some, None, unwrap_or, is_some, Ok, refl, sym, ap, ◌∙◌}
+use Rattle.std.proofs.Common.{◌≡◌, ℕ, zero, suc, ◌+◌, ◌-◌, ◌<◌, length, ◌==◌, ◌⊎◌, inl, inr, Bool, true, false, cond, List, [], Option, option_map, option_and_then, Some, None, unwrap_or, is_some, Result, Ok, refl, sym, ap, ◌∙◌}
 use Rattle.std.proofs.Common.{arith}
 use Rattle.std.proofs.lemmas.Bool.{eq-eqb}
 use Rattle.std.proofs.lemmas.Bool.Decides.{nat_tests}
 use Rattle.std.specs.FinMap as finite
 use Rattle.site_base.specs.Numbered.{numbered}
 use Rattle.site_base.proofs.Numbering.{numbered_next, numbered_there, with_numbered_same}
+use Rattle.site_base.specs.declared.answer.Answer.{Answer}
+use Rattle.site_base.specs.declared.refusal.Refusal.{Refusal}
+use Rattle.transaction_buffer.specs.Asked.{reply_or}
 use Rattle.transaction_buffer.specs.declared.request.Request.{Request}
 use Rattle.transaction_buffer.specs.declared.request.Request.TheVariants.{Lock, Unlock, Clear}
 use Rattle.transaction_buffer.specs.declared.standing.Standing.{Standing}
 use Rattle.transaction_buffer.specs.declared.standing.Standing.TheVariants.{Payable, LockedBy, ClearedBy}
 use Rattle.transaction_buffer.specs.Sales.{Key, key, Sale, Sales, sales_at, sale_of, same_key, made_at, is_unpaid, with_sale}
-use Rattle.transaction_buffer.specs.TransactionTable.{Line, Seen, payable, locked_by_it, locked_by_other, cleared_by, line, seen_by, line_for, line_of, refusal_in, answer_in, sale_after, asked, refusal_of, after_line, after_at, after_request, is_locked_by, let_go, locker, locker_of}
+use Rattle.transaction_buffer.specs.TransactionTable.{Line, Seen, payable, locked_by_it, locked_by_other, cleared_by, line, seen_by, line_for, line_of, refusal_in, answer_in, sale_after, sale_after_request, refusal_of, after_line, after_at, after_request, is_locked_by, let_go, locker, locker_of}
 use Rattle.transaction_buffer.specs.Laws.{asks, signs_off, sells, IsClearedForGood, IsClear, IsClearedByItsLocker, unless_signed_off, HasOneLocker}
 use Rattle.transaction_buffer.proofs.Maps.{insert_same}
 use Rattle.transaction_buffer.proofs.Reading.{one_sale, read_request, read_each, read_new}
@@ -61,7 +64,7 @@ refused_when_cleared Lock t u x = refl
 refused_when_cleared Unlock t u x = refl
 refused_when_cleared (Clear shift) t u x = refl
 
-asked_when_cleared : (request : Request) (t u shift : ℕ) (x : Sale) → x.standing ≡ ClearedBy u shift → asked request t x ≡ x
+asked_when_cleared : (request : Request) (t u shift : ℕ) (x : Sale) → x.standing ≡ ClearedBy u shift → sale_after_request request t x ≡ x
 asked_when_cleared request t u shift x is =
     ap (λ (standing : Standing). sale_after (line request t x.cents (seen_by t standing)) x) is ∙ refused_when_cleared request t u x
 
@@ -94,7 +97,7 @@ let_go_cleared t u shift x is = ap (λ (standing : Standing). cond (is_locked_by
 pub cleared_for_good : IsClearedForGood
 cleared_for_good (asks t request j) s k x u shift there is =
     read_request t request j k s
-    ∙ ap (λ (o : Option Sale). cond (same_key k j) (option_map (asked request t) o) o) there
+    ∙ ap (λ (o : Option Sale). cond (same_key k j) (option_map (sale_after_request request t) o) o) there
     ∙ ap (λ (y : Sale). cond (same_key k j) (Some y) (Some x)) (asked_when_cleared request t u shift x is)
     ∙ either (same_key k j)
   where
@@ -112,15 +115,19 @@ one_key : (k : Key) → same_key k k ≡ true
 one_key k = rw (eq-eqb k.point k.point refl, eq-eqb k.number k.number refl) refl
 
 -- the transaction after the request that names it
-after_its_request : (t : ℕ) (request : Request) (k : Key) (x : Sale) (s : Sales) → sale_of k s ≡ Some x → sale_of k (after_request request t k s) ≡ Some (asked request t x)
+after_its_request : (t : ℕ) (request : Request) (k : Key) (x : Sale) (s : Sales) → sale_of k s ≡ Some x → sale_of k (after_request request t k s) ≡ Some (sale_after_request request t x)
 after_its_request t request k x s there =
     read_request t request k k s
-    ∙ ap (λ (b : Bool). cond b (option_map (asked request t) (sale_of k s)) (sale_of k s)) (one_key k)
-    ∙ ap (option_map (asked request t)) there
+    ∙ ap (λ (b : Bool). cond b (option_map (sale_after_request request t) (sale_of k s)) (sale_of k s)) (one_key k)
+    ∙ ap (option_map (sale_after_request request t)) there
 
 -- the line for a transaction that the till has locked
 line_when_locked : (t : ℕ) (request : Request) (x : Sale) → x.standing ≡ LockedBy t → line_for request t x ≡ line request t x.cents locked_by_it
 line_when_locked t request x is = ap (λ (standing : Standing). line request t x.cents (seen_by t standing)) is ∙ ap (line request t x.cents) (seen_own t)
+
+-- what a line is told by
+abbrev reply_in : Result Line Refusal → Result Answer Refusal
+reply_in l = reply_or (refusal_in l) (answer_in l)
 
 pub cleared_by_its_locker : IsClearedByItsLocker
 cleared_by_its_locker t shift k s accepted = by_sale (sale_of k s) refl accepted
@@ -134,7 +141,8 @@ cleared_by_its_locker t shift k s accepted = by_sale (sale_of k s) refl accepted
           record {
             there = there;
             locked = locked;
-            answer = ap (λ (o : Option Sale). answer_in (line_of (Clear shift) t o)) there ∙ ap answer_in its;
+            reply =
+                ap (λ (o : Option Sale). reply_in (line_of (Clear shift) t o)) there ∙ ap reply_in its;
             cleared = after_its_request t (Clear shift) k x s there ∙ ap (λ l. Some (sale_after l x)) its;
           },
         )
@@ -164,15 +172,15 @@ left_by_clear t shift cents x (cleared_by u) accepted = cc
 
 -- The locker after an accepted request that leaves each transaction, accepted so, with this one.
 locker_after : (request : Request) (t : ℕ) (left : Option ℕ) (j k : Key) (s : Sales)
-    → ((x : Sale) → refusal_in (line_for request t x) ≡ None → locker (asked request t x).standing ≡ left)
+    → ((x : Sale) → refusal_in (line_for request t x) ≡ None → locker (sale_after_request request t x).standing ≡ left)
     → refusal_of request t j s ≡ None → locker_of k (after_request request t j s) ≡ cond (same_key k j) left (locker_of k s)
 locker_after request t left j k s leaves accepted = ap locker_in (read_request t request j k s) ∙ by_key (same_key k j) refl
   where
-    by_sale : (o : Option Sale) → refusal_in (line_of request t o) ≡ None → locker_in (option_map (asked request t) o) ≡ left
+    by_sale : (o : Option Sale) → refusal_in (line_of request t o) ≡ None → locker_in (option_map (sale_after_request request t) o) ≡ left
     by_sale None accepted = cc
     by_sale (Some x) accepted = leaves x accepted
 
-    by_key : (b : Bool) → same_key k j ≡ b → locker_in (cond b (option_map (asked request t) (sale_of k s)) (sale_of k s)) ≡ cond b left (locker_of k s)
+    by_key : (b : Bool) → same_key k j ≡ b → locker_in (cond b (option_map (sale_after_request request t) (sale_of k s)) (sale_of k s)) ≡ cond b left (locker_of k s)
     by_key true at = by_sale (sale_of k s) (ap (λ (o : Option Sale). refusal_in (line_of request t o)) (one_sale k j s at) ∙ accepted)
     by_key false at = refl
 

@@ -6,7 +6,7 @@ use Rattle.transaction_buffer.specs.declared.request.Request.{Request}
 use Rattle.transaction_buffer.specs.declared.standing.Standing.{Standing}
 use Rattle.transaction_buffer.specs.declared.standing.Standing.TheVariants.{Payable, LockedBy, ClearedBy}
 use Rattle.transaction_buffer.specs.Sales.{Key, Sale, Sales, sale_of}
-use Rattle.transaction_buffer.specs.TransactionTable.{Line, line_for, sale_after, asked, after_line, after_at, after_request, is_locked_by, let_go}
+use Rattle.transaction_buffer.specs.TransactionTable.{Line, line_for, sale_after, sale_after_request, after_line, after_at, after_request, is_locked_by, let_go}
 use Rattle.transaction_buffer.specs.Sums.{sum_of, has_status, volume_in, volume_with, volume_locked_by, volume_of, volume_by, locked_volume}
 use Rattle.transaction_buffer.specs.Laws.{DoAddUp, DoMove}
 use Rattle.transaction_buffer.proofs.Summing.{replaced_sum, sold_sum, changed_sum, alike_sum, added_sum}
@@ -37,7 +37,7 @@ line_sum figure k x (Ok l) s is = replaced_sum figure k x (record x { standing =
 line_sum figure k x (Err refusal) s is = refl
 
 request_sum : (figure : Sale → ℕ) (t : ℕ) (request : Request) (k : Key) (x : Sale) (s : Sales) → sale_of k s ≡ Some x
-    → sum_of figure (after_request request t k s) + figure x ≡ sum_of figure s + figure (asked request t x)
+    → sum_of figure (after_request request t k s) + figure x ≡ sum_of figure s + figure (sale_after_request request t x)
 request_sum figure t request k x s is =
     ap (λ (o : Option Sale). sum_of figure (after_at request t k o s) + figure x) is ∙ line_sum figure k x (line_for request t x) s is
 
@@ -52,7 +52,7 @@ whole_by_request q t request k s = by_sale (sale_of k s) refl
     by_sale : (o : Option Sale) → sale_of k s ≡ o → volume_of q (after_at request t k o s) ≡ volume_of q s
     by_sale None is = refl
     by_sale (Some x) is =
-        let moved : volume_of q (after_line k x (line_for request t x) s) + volume_in q x ≡ volume_of q s + volume_in q (asked request t x) = line_sum (volume_in q) k x (line_for request t x) s is in
+        let moved : volume_of q (after_line k x (line_for request t x) s) + volume_in q x ≡ volume_of q s + volume_in q (sale_after_request request t x) = line_sum (volume_in q) k x (line_for request t x) s is in
         omega (arith, moved, same_volume q (line_for request t x) x)
 
 -- ---- a sign-off

@@ -1,13 +1,16 @@
 -- What holds of the sales by their definitions, whatever a till asks, signs off or a point sells.
-use Rattle.std.specs.Prelude.{◌≡◌, ℕ, ◌+◌, ◌≤◌, ◌⊎◌, Option, option_map, Some, None, ◌==◌, if◌then◌else◌}
+use Rattle.std.specs.Prelude.{◌≡◌, ℕ, ◌+◌, ◌≤◌, ◌⊎◌, Option, option_map, Some, None, Ok, Err, ◌==◌, if◌then◌else◌}
+use Rattle.site_base.specs.declared.answer.Answer.{Answer}
 use Rattle.site_base.specs.declared.answer.Answer.TheVariants.{Cleared}
+use Rattle.site_base.specs.declared.refusal.Refusal.{Refusal}
 use Rattle.site_base.specs.declared.state.Status.{Status}
 use Rattle.site_base.specs.declared.state.Status.TheVariants as statuses
 use Rattle.transaction_buffer.specs.declared.request.Request.{Request}
 use Rattle.transaction_buffer.specs.declared.request.Request.TheVariants.{Lock, Unlock, Clear}
 use Rattle.transaction_buffer.specs.declared.standing.Standing.TheVariants.{LockedBy, ClearedBy}
+use Rattle.transaction_buffer.specs.Asked.{Asked, reply_of}
 use Rattle.transaction_buffer.specs.Sales.{Key, key, Sale, Sales, sale_of, same_key, made_at, is_unpaid, unpaid_at, with_sale, with_new, each_changed}
-use Rattle.transaction_buffer.specs.TransactionTable.{refusal_of, answer_of, after_request, asked, let_go, after_sign_off, locker, locker_of}
+use Rattle.transaction_buffer.specs.TransactionTable.{refusal_of, answer_of, after_request, sale_after_request, let_go, after_sign_off, locker, locker_of}
 use Rattle.transaction_buffer.specs.Sums.{sum_of, volume_in, volume_with, volume_of, volume_by, locked_volume}
 
 -- what changes the sales: what a till asks of a transaction, the sign-off of a till, a sale of a point
@@ -22,6 +25,16 @@ after (asks t request k) s = after_request request t k s
 after (signs_off t) s = after_sign_off t s
 after (sells p x) s = with_new p x s
 
+-- What a reply tells. An answer: nothing refused the request, and the table's line gives this answer. A
+-- refusal: it is the table's, and the sales stay.
+pub record DoTell : Type 0 where
+  pub accepted : (request : Request) (t : ℕ) (k : Key) (old new : Sales) (answer : Answer)
+      → Asked request t k old new (Ok answer)
+      → (refusal_of request t k old ≡ None) × (answer ≡ answer_of request t k old)
+  pub refused : (request : Request) (t : ℕ) (k : Key) (old new : Sales) (refusal : Refusal)
+      → Asked request t k old new (Err refusal)
+      → (refusal_of request t k old ≡ Some refusal) × (new ≡ old)
+
 -- a transaction that is cleared stays as it is
 abbrev pub IsClearedForGood : Type 0
 IsClearedForGood = (change : Change) (s : Sales) (k : Key) (x : Sale) (t shift : ℕ)
@@ -32,7 +45,7 @@ IsClearedForGood = (change : Change) (s : Sales) (k : Key) (x : Sale) (t shift :
 pub record IsClear (t shift : ℕ) (k : Key) (s : Sales) (x : Sale) : Type 0 where
   pub there : sale_of k s ≡ Some x
   pub locked : x.standing ≡ LockedBy t
-  pub answer : answer_of (Clear shift) t k s ≡ Cleared x.cents
+  pub reply : reply_of (Clear shift) t k s ≡ Ok (Cleared x.cents)
   pub cleared : sale_of k (after_request (Clear shift) t k s) ≡ Some (record x { standing = ClearedBy t shift })
 
 abbrev pub IsClearedByItsLocker : Type 0
@@ -43,9 +56,11 @@ abbrev pub unless_signed_off : ℕ → Option ℕ → Option ℕ
 unless_signed_off t None = None
 unless_signed_off t (Some u) = if u == t then None else Some u
 
--- A transaction has one locker at most. A lock is accepted where no other till has locked it, and an unlock only
--- by the till that has; a lock by the till that has locked it changes nothing. After each change the locker is the
--- till that locked it last, until that till unlocks or clears it or signs off.
+-- A transaction has one locker at most. A lock is accepted only where no other till has locked it, and an
+-- unlock only of the till that has; a lock by the till that has locked it changes nothing. After an accepted
+-- lock the locker is the till that asked for it, after an accepted unlock or clear there is none, after the
+-- sign-off of its locker there is none, and a new sale has the locker that it is sold with. Every other
+-- transaction keeps the locker that it had.
 pub record HasOneLocker : Type 0 where
   pub free : (t : ℕ) (k : Key) (s : Sales) → refusal_of Lock t k s ≡ None → (locker_of k s ≡ None) ⊎ (locker_of k s ≡ Some t)
   pub own : (t : ℕ) (k : Key) (s : Sales) → refusal_of Unlock t k s ≡ None → locker_of k s ≡ Some t
@@ -63,7 +78,7 @@ pub record HasOneLocker : Type 0 where
 -- what stands under a name after each change
 pub record IsReadAfter : Type 0 where
   pub asked_for : (t : ℕ) (request : Request) (j k : Key) (s : Sales)
-      → sale_of k (after_request request t j s) ≡ (if same_key k j then option_map (asked request t) (sale_of k s) else sale_of k s)
+      → sale_of k (after_request request t j s) ≡ (if same_key k j then option_map (sale_after_request request t) (sale_of k s) else sale_of k s)
   pub signed_off : (t : ℕ) (k : Key) (s : Sales) → sale_of k (after_sign_off t s) ≡ option_map (let_go t) (sale_of k s)
   pub sold : (p : ℕ) (x : Sale) (k : Key) (s : Sales)
       → sale_of k (with_new p x s) ≡ (if same_key k (key p (made_at p s + 1)) then Some x else sale_of k s)
@@ -94,7 +109,7 @@ DoAddUp = (q : ℕ) (s : Sales) → volume_by q statuses.Payable s + volume_by q
 -- in all sales.
 pub record DoMove : Type 0 where
   pub by_request : (q : ℕ) (status : Status) (t : ℕ) (request : Request) (k : Key) (x : Sale) (s : Sales) → sale_of k s ≡ Some x
-      → volume_by q status (after_request request t k s) + volume_with q status x ≡ volume_by q status s + volume_with q status (asked request t x)
+      → volume_by q status (after_request request t k s) + volume_with q status x ≡ volume_by q status s + volume_with q status (sale_after_request request t x)
   pub payable_at_sign_off : (q t : ℕ) (s : Sales) → volume_by q statuses.Payable (after_sign_off t s) ≡ volume_by q statuses.Payable s + locked_volume q t s
   pub locked_at_sign_off : (q t : ℕ) (s : Sales) → volume_by q statuses.Locked (after_sign_off t s) + locked_volume q t s ≡ volume_by q statuses.Locked s
   pub cleared_at_sign_off : (q t : ℕ) (s : Sales) → volume_by q statuses.Cleared (after_sign_off t s) ≡ volume_by q statuses.Cleared s

@@ -1,7 +1,13 @@
 //! Laws of the transactions. They have no code: each is proved of the definitions that the contracts of
 //! this crate cite.
 
-ghost use Rattle.transaction_buffer.specs.Laws.{DoAddUp, DoMove, HasOneLocker, IsClearedByItsLocker, IsClearedForGood, IsCountedAfter, IsReadAfter, IsSummedAfter};
+ghost use Rattle.transaction_buffer.specs.Laws.{DoAddUp, DoMove, DoTell, HasOneLocker, IsClearedByItsLocker, IsClearedForGood, IsCountedAfter, IsReadAfter, IsSummedAfter};
+
+/// What a reply tells. An answer: nothing refused the request, and it is the one of the table's line. A
+/// refusal: it is the one of the table's line, and no transaction changes.
+pub fn replies_tell()
+    ensures { DoTell }
+{}
 
 /// A transaction that is cleared stays as it is, whatever a till asks, whoever signs off and whatever is
 /// sold.
@@ -14,9 +20,11 @@ pub fn cleared_by_its_locker()
     ensures { IsClearedByItsLocker }
 {}
 
-/// A transaction has one locker: a lock is accepted only where no other till has locked it, an unlock only
-/// by the till that has. Its locker is the till that locked it last, until that till unlocks or clears it or
-/// signs off.
+/// A transaction has one locker at most. A lock is accepted only where no other till has locked it, and an
+/// unlock only of the till that has; a lock by the till that has locked it changes nothing. An accepted lock
+/// makes the till that asked for it the locker; an accepted unlock or clear, and the sign-off of the locker,
+/// leave none; a new sale has the locker that it is sold with. Every other transaction keeps the locker that
+/// it had.
 pub fn one_locker()
     ensures { HasOneLocker }
 {}

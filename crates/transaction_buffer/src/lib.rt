@@ -14,8 +14,8 @@ mod tests;
 
 pub use buffer::Buffer;
 pub use laws::{
-    cleared_by_its_locker, cleared_for_good, counted_after, one_locker, read_after, summed_after,
-    volumes_add_up, volumes_move,
+    cleared_by_its_locker, cleared_for_good, counted_after, one_locker, read_after, replies_tell,
+    summed_after, volumes_add_up, volumes_move,
 };
 pub use request::Request;
 pub use standing::Standing;
