@@ -1,8 +1,8 @@
 -- What is looked up of a nozzle once a reading was taken: the readings move, nozzles and products stay.
-use Rattle.std.proofs.Common.{◌≡◌, ℕ, true, false, Bool, List, [], ◌∷◌, Some, ◌&&◌, ◌==◌, arith, refl, sym, ◌∙◌}
+use Rattle.std.proofs.Common.{◌≡◌, ℕ, true, false, Bool, List, [], ◌∷◌, Option, Some, None, is_some, unwrap_or, ◌&&◌, ◌==◌, arith, refl, sym, ◌∙◌}
 use Rattle.std.proofs.lemmas.Bool.{false≢true}
 use Rattle.std.proofs.lemmas.Grind.{common_steps}
-use Rattle.meters.specs.Nozzles.{Nozzle, is_nozzle, product_of, last_of, has_nozzle, with_last}
+use Rattle.meters.specs.Nozzles.{Nozzle, is_nozzle, product_of, last_of, has_nozzle, reading_of, with_last}
 
 pub has_nozzle-with_last : (p n r q m : ℕ) (xs : List Nozzle) → has_nozzle q m (with_last p n r xs) ≡ has_nozzle q m xs
 has_nozzle-with_last p n r q m [] = refl
@@ -45,3 +45,11 @@ last_of-other p n r q m (x ∷ xs) other = by_tests (last_of-other p n r q m xs 
     by_tests rest true false is at = rw (is, at) refl
     by_tests rest false true is at = rw (is, at) refl
     by_tests rest false false is at = rw (is, at) rest
+
+-- a nozzle that is there has a last reading
+pub read_there : (p n : ℕ) (xs : List Nozzle) → has_nozzle p n xs ≡ true → last_of p n xs ≡ Some (reading_of p n xs)
+read_there p n xs there = by_reading (last_of p n xs) there
+  where
+    by_reading : (o : Option ℕ) → is_some o ≡ true → o ≡ Some (unwrap_or o 0)
+    by_reading None there = cc
+    by_reading (Some r) there = refl

@@ -2,9 +2,10 @@
 use Rattle.std.proofs.Common.{◌≡◌, ℕ, Bool, true, false, ◌+◌, ◌-◌, ◌≤◌, List, [], ◌∷◌, ◌++◌, Option, Some, refl, sym, ap, subst, ◌∙◌, arith, ◌==◌, cond, unwrap_or, if◌then◌else◌}
 use Rattle.site_base.specs.declared.config.NozzleEntry.{NozzleEntry}
 use Rattle.site_base.specs.Configured.{ConfiguredPoint}
-use Rattle.meters.specs.Nozzles.{Nozzle, is_nozzle, numbered, nozzles_of_point, nozzles_of_points, product_of, last_of, with_last, product_total}
+use Rattle.meters.specs.Nozzles.{Nozzle, is_nozzle, numbered, nozzles_of_point, nozzles_of_points, product_of, last_of, with_last, NoneBelowOpening}
+use Rattle.meters.specs.Metered.{product_total}
 use Rattle.meters.specs.Reports.{growth_of}
-use Rattle.meters.specs.Laws.{NoneBelowOpening, GrowthRaisesOneTotal, NeverBelowOpening}
+use Rattle.meters.specs.Laws.{GrowthRaisesOneTotal, NeverBelowOpening}
 
 raised : (b : Bool) (opening last reading rest : ℕ) → opening ≤ last → last ≤ reading
     → cond b (reading - opening) 0 + rest ≡ (cond b (last - opening) 0 + rest) + cond b (reading - last) 0
@@ -46,7 +47,7 @@ both : (xs ys : List Nozzle) → NoneBelowOpening xs → NoneBelowOpening ys →
 both [] ys low rest = rest
 both (x ∷ xs) ys low rest = (low.0, both xs ys low.1 rest)
 
-points_open : (cs : List ConfiguredPoint) → NoneBelowOpening (nozzles_of_points cs)
+pub points_open : (cs : List ConfiguredPoint) → NoneBelowOpening (nozzles_of_points cs)
 points_open [] = tt
 points_open (c ∷ cs) = both (nozzles_of_point c) (nozzles_of_points cs) (numbered_opens c.number 1 c.nozzles) (points_open cs)
 
@@ -65,7 +66,7 @@ kept_by false x xs p n reading last is low behind at high =
     let moved : x ∷ with_last p n reading xs ≡ with_last p n reading (x ∷ xs) = rw is refl in
     subst NoneBelowOpening moved (low.0, behind (sym past ∙ at))
 
-keeps : (xs : List Nozzle) (p n reading last : ℕ) → NoneBelowOpening xs → last_of p n xs ≡ Some last → last ≤ reading → NoneBelowOpening (with_last p n reading xs)
+pub keeps : (xs : List Nozzle) (p n reading last : ℕ) → NoneBelowOpening xs → last_of p n xs ≡ Some last → last ≤ reading → NoneBelowOpening (with_last p n reading xs)
 keeps [] p n reading last low at high = tt
 keeps (x ∷ xs) p n reading last low at high =
     kept_by (is_nozzle p n x) x xs p n reading last refl low (λ a. keeps xs p n reading last low.1 a high) at high

@@ -11,6 +11,8 @@ mod report;
 #[cfg(test)]
 mod tests;
 
-pub use laws::{growth_raises_one_total, never_below_opening};
+pub use laws::{
+    growth_raises_one_total, never_below_opening, reports_are_metered, totals_are_metered,
+};
 pub use meters::Meters;
 pub use report::Report;

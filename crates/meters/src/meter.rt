@@ -1,8 +1,8 @@
 //! The meter of one nozzle.
 
 ghost use Rattle.std.specs.Prelude.{◌≡◌, ◌≤◌, ◌==◌, None, Some, OnOk, IfOk, IfErr};
-ghost use Rattle.site_base.specs.declared.limits.TheConstants.{GREATEST_READING};
-ghost use Rattle.meters.specs.Nozzles.{opened, is_nozzle, metered};
+ghost use Rattle.meters.specs.Metered.{metered, most_of_a_nozzle};
+ghost use Rattle.meters.specs.Nozzles.{opened, is_nozzle};
 ghost use Rattle.meters.specs.Reports.{growth_of, report_refusal};
 
 use crate::report::Report;
@@ -75,7 +75,7 @@ impl Meter {
     /// What it has metered since the site opened.
     pub fn metered(&self) -> u64
         ensures value { result ≡ metered self.now }
-        ensures range { result ≤ GREATEST_READING }
+        ensures range { result ≤ most_of_a_nozzle }
     {
         self.last.get() - self.opening.get()
     }
