@@ -63,10 +63,12 @@ impl Point {
     }
 
     /// The point as a read shows it; its holder isn't known here. Price and volume are 0 unless a
-    /// fuelling is under way: started, fuelling, or either of them suspended.
+    /// fuelling is under way: started, fuelling, or either of them suspended. The volume is one that a
+    /// meter can show.
     pub fn view(&self) -> PointView
         ensures view { result ≡ point_view self.now None }
         ensures whole { IsWhole self.now }
+        ensures range { result.volume ≤ GREATEST_READING }
     {
         let (price, volume) = match self.delivery {
             Some(delivery) => (delivery.price.get(), delivery.volume),
@@ -273,9 +275,10 @@ impl Point {
         ensures step { (nozzle : ℕ) → result ≡ step_of (PointEvent.Flow nozzle growth) self.old }
         ensures facts { (nozzle : ℕ) → self.new ≡ after (PointEvent.Flow nozzle growth) self.old }
     {
-        if let Some(delivery) = self.delivery {
-            self.delivery = Some(delivery.after(growth));
-        }
+        let Some(delivery) = self.delivery else {
+            unreachable!();
+        };
+        self.delivery = Some(delivery.after(growth));
         if growth > 0 {
             self.state = flowing(self.state);
         }
