@@ -1,6 +1,8 @@
 -- Worked reports, by computing the definitions: on a site of the points 2 and 3, each with a nozzle of product
 -- 1 at 0 and one of product 2 at 1000, and on the greatest site.
-use Rattle.std.proofs.Common.{◌≡◌, ℕ, List, [], ◌∷◌, map, Option, Some, None, Result, Ok, Err, refl}
+use Rattle.std.proofs.Common.{◌≡◌, ℕ, ◌+◌, ◌*◌, List, [], ◌∷◌, map, Option, Some, None, Result, Ok, Err, refl}
+use Rattle.std.specs.List.{range_with_len}
+use Rattle.site_base.specs.declared.limits.TheConstants.{NOZZLES, POINTS}
 use Rattle.site_base.specs.declared.refusal.Refusal.{Refusal}
 use Rattle.site_base.specs.declared.refusal.Refusal.TheVariants.{MeterGap, MeterBack, MeterJump}
 use Rattle.site_base.specs.Configured.{ConfiguredPoint}
@@ -117,3 +119,31 @@ last_of_none = refl
 
 last_at_no_point : last_of 1 1 grown ≡ None
 last_at_no_point = refl
+
+-- ---- the greatest site
+
+-- the numbers from 1 to this one
+abbrev up_to : ℕ → List ℕ
+up_to count = range_with_len 1 count
+
+-- as many nozzles of product 1 as point p may have
+abbrev all_nozzles : ℕ → ConfiguredPoint
+all_nozzles p = record { number = p; nozzles = map (λ (n : ℕ). record { product = 1; reading = p * 100 + n }) (up_to NOZZLES) }
+
+abbrev greatest_site : List Nozzle
+greatest_site = nozzles_of_points (map all_nozzles (up_to POINTS))
+
+abbrev the_last_grown : List Nozzle
+the_last_grown = after (grows POINTS NOZZLES 1001608) greatest_site
+
+greatest_growth : told (grows POINTS NOZZLES 1001608 ∷ []) greatest_site ≡ Ok 1000000 ∷ []
+greatest_growth = refl
+
+greatest_last : last_of POINTS NOZZLES the_last_grown ≡ Some 1001608
+greatest_last = refl
+
+greatest_product : product_of POINTS NOZZLES the_last_grown ≡ Some 1
+greatest_product = refl
+
+greatest_total : product_total 1 the_last_grown ≡ 1000000
+greatest_total = refl

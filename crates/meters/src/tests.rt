@@ -5,10 +5,10 @@ ghost use Rattle.std.specs.Prelude.{◌≡◌, ◌+◌, ◌*◌};
 
 mod refused;
 
-use crate::{Meters, Report};
+use crate::Meters;
 use site_base::{
-    FpNo, GROWTH_LIMIT, Millilitres, Mills, NOZZLES, NoMemory, NozzleEntry, NozzleNo, POINTS,
-    PointEntry, ProductEntry, ProductNo, SiteConfig,
+    FpNo, Millilitres, Mills, NOZZLES, NoMemory, NozzleEntry, NozzleNo, POINTS, PointEntry,
+    ProductEntry, ProductNo, SiteConfig,
 };
 use std::alloc::Global;
 use std::process::Abort;
@@ -21,10 +21,6 @@ fn nozzle(rt: &impl Abort, number: u8) -> NozzleNo {
     NozzleNo::new(number).expect(rt, "a nozzle")
 }
 
-fn diesel(rt: &impl Abort) -> ProductNo {
-    ProductNo::new(1).expect(rt, "a product")
-}
-
 /// The opening reading of nozzle n of point p.
 fn opening(rt: &impl Abort, p: u8, n: u8) -> Millilitres {
     let volume = u64::from(p) * 100 + u64::from(n);
@@ -33,7 +29,7 @@ fn opening(rt: &impl Abort, p: u8, n: u8) -> Millilitres {
 
 /// As many nozzles of diesel as point p may have.
 fn all_nozzles(rt: &impl Abort, alloc: Global, p: u8) -> Result<Vec<NozzleEntry>, NoMemory> {
-    let product = diesel(rt);
+    let product = ProductNo::new(1).expect(rt, "a product");
     let mut nozzles = Vec::new(alloc);
     for n in 1..=NOZZLES {
         let reading = opening(rt, p, n);
@@ -44,10 +40,11 @@ fn all_nozzles(rt: &impl Abort, alloc: Global, p: u8) -> Result<Vec<NozzleEntry>
 
 /// A site of the points from 1 to the last, with as many nozzles as may be.
 fn site(rt: &impl Abort, alloc: Global, last: u8) -> Result<SiteConfig, NoMemory> {
+    let number = ProductNo::new(1).expect(rt, "a product");
     let price = Mills::new(1500).expect(rt, "a price");
     let mut products = Vec::new(alloc);
     products.push(ProductEntry {
-        number: diesel(rt),
+        number,
         name: String::from_str(alloc, "diesel")?,
         price,
     })?;
@@ -68,31 +65,8 @@ fn every_nozzle(rt: HostRuntime) -> Result<(), NoMemory> {
     for p in 1..=POINTS {
         for n in 1..=NOZZLES {
             let last = meters.last(point(&rt, p), nozzle(&rt, n));
-            assert_eq!(rt;
-                last,
-                Some(opening(&rt, p, n)),
-                "of nozzle {n} of point {p}"
-            );
+            assert_eq!(rt; last, Some(opening(&rt, p, n)));
         }
     }
-    Ok(())
-}
-
-#[test]
-fn the_last_nozzle_reports(rt: HostRuntime) -> Result<(), NoMemory> {
-    let alloc = rt.alloc();
-    let config = site(&rt, alloc, POINTS)?;
-    let meters = &mut Meters::try_new(alloc, &config)?;
-    let (p, n) = (point(&rt, POINTS), nozzle(&rt, NOZZLES));
-    let last = meters.last(p, n).expect(&rt, "a nozzle").get();
-    let grown = Millilitres::new(last + GROWTH_LIMIT).expect(&rt, "a reading");
-    let answer = meters.check(p, n, grown, Report::Growing);
-    assert_eq!(rt; answer, Ok(GROWTH_LIMIT));
-    if answer.is_ok() {
-        meters.advance(p, n, grown);
-    }
-    assert_eq!(rt; meters.last(p, n), Some(grown));
-    assert_eq!(rt; meters.product(p, n), Some(diesel(&rt)));
-    assert_eq!(rt; meters.product_total(diesel(&rt)), GROWTH_LIMIT);
     Ok(())
 }
