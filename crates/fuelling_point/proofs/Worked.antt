@@ -1,5 +1,5 @@
--- Worked events of one point, by computing the definitions: the price at a sale is that of the lift or the
--- release that started its fuelling.
+-- Worked events of one point, by computing the definitions: the price at a sale is that of the lift
+-- or the release that started its fuelling.
 use Rattle.std.proofs.Common.{◌≡◌, List, [], ◌∷◌, None, Result, Ok, Err, refl}
 use Rattle.site_base.specs.declared.refusal.Refusal.{Refusal}
 use Rattle.site_base.specs.declared.refusal.Refusal.TheVariants as refused

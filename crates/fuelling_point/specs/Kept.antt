@@ -10,8 +10,9 @@ use Rattle.fuelling_point.specs.declared.event.PointEvent.{PointEvent}
 use Rattle.fuelling_point.specs.declared.event.PointEvent.TheVariants.{Lift, Release, Terminate, Flow, HangUp}
 use Rattle.fuelling_point.specs.Table.{Move, stay, goes}
 
--- its state; the nozzle that is out; whether its fuelling is ending; the preset and the prepaid cents of
--- its release; and of its fuelling the price taken, the reading at its start and the millilitres since
+-- its state; the nozzle that is out; whether its fuelling is ending; the preset and the prepaid
+-- cents of its release; and of its fuelling the price taken, the reading at its start and the
+-- millilitres since
 pub record Facts : Type 0 where
   pub state : PointState
   pub out : Option ℕ

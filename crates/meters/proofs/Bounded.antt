@@ -25,13 +25,15 @@ among_all q (x ∷ xs) =
     let rest : product_total q xs ≤ metered_by every_product xs = among_all q xs in
     omega (arith, here, rest)
 
-by_count : (xs : List Nozzle) → NoneAboveGreatest xs → metered_by every_product xs ≤ length xs * most_of_a_nozzle
+by_count : (xs : List Nozzle) → NoneAboveGreatest xs
+    → metered_by every_product xs ≤ length xs * most_of_a_nozzle
 by_count [] within = omega arith
 by_count (x ∷ xs) within =
     let rest : metered_by every_product xs ≤ length xs * most_of_a_nozzle = by_count xs within.1 in
     omega (arith, within.0, rest)
 
-bound : (xs : List Nozzle) → AreNozzles xs → NoneAboveGreatest xs → metered_by every_product xs ≤ most_of_a_site
+bound : (xs : List Nozzle) → AreNozzles xs → NoneAboveGreatest xs
+    → metered_by every_product xs ≤ most_of_a_site
 bound xs are within = omega (arith, by_count xs within, are.few)
 
 pub totals_are_metered : TotalsAreMetered

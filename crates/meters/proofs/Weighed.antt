@@ -23,7 +23,8 @@ opened_nothing w p n (e ∷ es) =
     ap (λ (k : ℕ). w e.product * k) (let apart : e.reading - e.reading ≡ 0 = omega arith in apart) ∙ mul-zero (w e.product) in
     omega (arith, none, opened_nothing w p (n + 1) es)
 
-both : (w : ℕ → ℕ) (xs ys : List Nozzle) → metered_by w (xs ++ ys) ≡ metered_by w xs + metered_by w ys
+both : (w : ℕ → ℕ) (xs ys : List Nozzle)
+    → metered_by w (xs ++ ys) ≡ metered_by w xs + metered_by w ys
 both w [] ys = omega arith
 both w (x ∷ xs) ys = let rest : metered_by w (xs ++ ys) ≡ metered_by w xs + metered_by w ys = both w xs ys in omega (arith, rest)
 
@@ -36,7 +37,8 @@ open_nothing w (c ∷ cs) =
 -- ---- a reading that isn't below the last one
 
 raised : (weight opening last reading rest : ℕ) → opening ≤ last → last ≤ reading
-    → weight * (reading - opening) + rest ≡ (weight * (last - opening) + rest) + weight * (reading - last)
+    → weight * (reading - opening) + rest
+    ≡ (weight * (last - opening) + rest) + weight * (reading - last)
 raised weight opening last reading rest low high =
     let parts : reading - opening ≡ (last - opening) + (reading - last) = omega arith in
     let grown : weight * (reading - opening) ≡ weight * (last - opening) + weight * (reading - last) =
@@ -47,9 +49,11 @@ raised weight opening last reading rest low high =
 raised_by : (b : Bool) (w : ℕ → ℕ) (x : Nozzle) (xs : List Nozzle) (p n reading last product : ℕ)
     → is_nozzle p n x ≡ b → x.opening ≤ x.last
     → (last_of p n xs ≡ Some last → product_of p n xs ≡ Some product
-    → metered_by w (with_last p n reading xs) ≡ metered_by w xs + w product * growth_of last reading)
+    → metered_by w (with_last p n reading xs)
+    ≡ metered_by w xs + w product * growth_of last reading)
     → last_of p n (x ∷ xs) ≡ Some last → product_of p n (x ∷ xs) ≡ Some product → last ≤ reading
-    → metered_by w (with_last p n reading (x ∷ xs)) ≡ metered_by w (x ∷ xs) + w product * growth_of last reading
+    → metered_by w (with_last p n reading (x ∷ xs))
+    ≡ metered_by w (x ∷ xs) + w product * growth_of last reading
 raised_by true w x xs p n reading last product is low behind at of high =
     let here : last_of p n (x ∷ xs) ≡ Some x.last = rw is refl in
     let delivers : product_of p n (x ∷ xs) ≡ Some x.product = rw is refl in
@@ -69,7 +73,8 @@ raised_by false w x xs p n reading last product is low behind at of high =
     ap (metered_by w) moved ∙ omega (arith, others)
 
 raised_at : (w : ℕ → ℕ) (xs : List Nozzle) (p n reading last product : ℕ)
-    → NoneBelowOpening xs → last_of p n xs ≡ Some last → product_of p n xs ≡ Some product → last ≤ reading
+    → NoneBelowOpening xs → last_of p n xs ≡ Some last → product_of p n xs ≡ Some product
+    → last ≤ reading
     → metered_by w (with_last p n reading xs) ≡ metered_by w xs + w product * growth_of last reading
 raised_at w [] p n reading last product low at of high = cc
 raised_at w (x ∷ xs) p n reading last product low at of high =
@@ -79,16 +84,19 @@ raised_at w (x ∷ xs) p n reading last product low at of high =
 -- ---- a report
 
 -- what is accepted isn't below the last reading
-pub accepted_above : (report : Report) (last reading : ℕ) → report_refusal report last reading ≡ None → last ≤ reading
+pub accepted_above : (report : Report) (last reading : ℕ)
+    → report_refusal report last reading ≡ None → last ≤ reading
 accepted_above Still last reading accepted = still (reading == last) refl accepted
   where
-    still : (b : Bool) → (reading == last) ≡ b → cond (not b) (Some (MeterGap last)) None ≡ None → last ≤ reading
+    still : (b : Bool) → (reading == last) ≡ b → cond (not b) (Some (MeterGap last)) None ≡ None
+        → last ≤ reading
     still true is accepted = grind (arith, nat_tests)
     still false is accepted = cc
 accepted_above Growing last reading accepted = growing (nat_le last reading) refl accepted
   where
     growing : (b : Bool) → nat_le last reading ≡ b
-        → cond (not b) (Some (MeterBack last)) (cond (not (nat_le reading (last + GROWTH_LIMIT))) (Some MeterJump) None) ≡ None
+        → cond (not b) (Some (MeterBack last)) (cond (not (nat_le reading (last + GROWTH_LIMIT))) (Some MeterJump) None)
+        ≡ None
         → last ≤ reading
     growing true is accepted = grind (arith, nat_tests)
     growing false is accepted = cc
@@ -99,7 +107,8 @@ read_where : (p n product : ℕ) (xs : List Nozzle) → product_of p n xs ≡ So
 read_where p n product [] of = cc
 read_where p n product (x ∷ xs) of = by_test (is_nozzle p n x) refl (read_where p n product xs)
   where
-    by_test : (b : Bool) → is_nozzle p n x ≡ b → (product_of p n xs ≡ Some product → last_of p n xs ≡ Some (reading_of p n xs))
+    by_test : (b : Bool) → is_nozzle p n x ≡ b
+        → (product_of p n xs ≡ Some product → last_of p n xs ≡ Some (reading_of p n xs))
         → last_of p n (x ∷ xs) ≡ Some (reading_of p n (x ∷ xs))
     by_test true is behind = rw is refl
     by_test false is behind =

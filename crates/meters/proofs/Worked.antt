@@ -1,5 +1,5 @@
--- Worked reports, by computing the definitions: on a site of the points 2 and 3, each with a nozzle of product
--- 1 at 0 and one of product 2 at 1000, and on the greatest site.
+-- Worked reports, by computing the definitions: on a site of the points 2 and 3, each with a nozzle
+-- of product 1 at 0 and one of product 2 at 1000, and on the greatest site.
 use Rattle.std.proofs.Common.{◌≡◌, ℕ, ◌+◌, ◌*◌, List, [], ◌∷◌, map, Option, Some, None, Result, Ok, Err, refl}
 use Rattle.std.specs.List.{range_with_len}
 use Rattle.site_base.specs.declared.limits.TheConstants.{NOZZLES, POINTS}
@@ -71,7 +71,8 @@ growing_reports : told
     ∷ []
 growing_reports = refl
 
-refused_reports_move_nothing : last_of 3 1 (after_all (grows 3 1 5000 ∷ grows 3 1 4999 ∷ grows 3 1 1005001 ∷ []) two_points) ≡ Some 5000
+refused_reports_move_nothing : last_of 3 1 (after_all (grows 3 1 5000 ∷ grows 3 1 4999 ∷ grows 3 1 1005001 ∷ []) two_points)
+    ≡ Some 5000
 refused_reports_move_nothing = refl
 
 still_reports : told
@@ -90,7 +91,8 @@ still_reports = refl
 abbrev grown : List Nozzle
 grown = after_all (grows 2 1 700 ∷ grows 3 1 40 ∷ grows 3 2 1005 ∷ []) two_points
 
-each_growth : told (grows 2 1 700 ∷ grows 3 1 40 ∷ grows 3 2 1005 ∷ []) two_points ≡ Ok 700 ∷ Ok 40 ∷ Ok 5 ∷ []
+each_growth : told (grows 2 1 700 ∷ grows 3 1 40 ∷ grows 3 2 1005 ∷ []) two_points
+    ≡ Ok 700 ∷ Ok 40 ∷ Ok 5 ∷ []
 each_growth = refl
 
 totals : map (λ (q : ℕ). product_total q grown) (1 ∷ 2 ∷ 3 ∷ []) ≡ 740 ∷ 5 ∷ 0 ∷ []

@@ -4,8 +4,8 @@ use Rattle.site_base.specs.declared.config.NozzleEntry.{NozzleEntry}
 use Rattle.site_base.specs.declared.limits.TheConstants.{GREATEST_READING, NOZZLES, POINTS}
 use Rattle.site_base.specs.Configured.{Configured, ConfiguredPoint}
 
--- a nozzle: its fuelling point, its number there, its product, and its meter's readings when the site opened
--- and last
+-- a nozzle: its fuelling point, its number there, its product, and its meter's readings when the
+-- site opened and last
 pub record Nozzle : Type 0 where
   pub point : ℕ
   pub number : ℕ
@@ -73,8 +73,8 @@ abbrev pub NoneAboveGreatest : List Nozzle → Type 0
 NoneAboveGreatest [] = Unit {0}
 NoneAboveGreatest (x ∷ xs) = (x.last ≤ GREATEST_READING) × NoneAboveGreatest xs
 
--- what the nozzles of a site always are: no more than a site can have, and no last reading below its opening
--- one
+-- what the nozzles of a site always are: no more than a site can have, and no last reading below
+-- its opening one
 pub record AreNozzles (xs : List Nozzle) : Type 0 where
   pub few : length xs ≤ POINTS * NOZZLES
   pub risen : NoneBelowOpening xs

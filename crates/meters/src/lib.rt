@@ -1,6 +1,6 @@
-//! The meters of a site's nozzles: the last reading of each, what a report of a dispenser must read,
-//! and how much of each product was metered since the site opened. A report that is refused moves no
-//! meter.
+//! The meters of a site's nozzles: the last reading of each, what a report of a dispenser must
+//! read, and how much of each product was metered since the site opened. A report that is refused
+//! moves no meter.
 #![tactic(auto)]
 
 mod laws;

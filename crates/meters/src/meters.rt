@@ -34,7 +34,8 @@ impl Model for Meters {
 }
 
 impl Meters {
-    /// The meters of the site's nozzles when it opens: each with its opening reading as the last one.
+    /// The meters of the site's nozzles when it opens: each with its opening reading as the last
+    /// one.
     pub fn try_new(alloc: Global, config: &SiteConfig) -> Result<Self, NoMemory>
         ensures { IfOk result (λ meters. meters ≡ opening_nozzles config.now) }
     {
@@ -58,8 +59,8 @@ impl Meters {
         }
     }
 
-    /// The last reading of nozzle n of point p. None where there is no such nozzle. No last reading is
-    /// below its opening one.
+    /// The last reading of nozzle n of point p. None where there is no such nozzle. No last reading
+    /// is below its opening one.
     pub fn last(&self, p: FpNo, n: NozzleNo) -> Option<Millilitres>
         ensures value { result ≡ last_of p n self.now }
         ensures risen { NoneBelowOpening self.now }
@@ -73,11 +74,12 @@ impl Meters {
         }
     }
 
-    /// How much a report of nozzle n of point p, which is there, adds to the nozzle's last reading, in
-    /// millilitres. A `Still` report that doesn't read just the last reading is refused with `MeterGap`,
-    /// which names the reading that is expected. A `Growing` one is refused with `MeterBack`, which names
-    /// the last reading, where it reads less than that, and with `MeterJump` where it reads more than
-    /// `GROWTH_LIMIT` above it. No meter moves, and none stands below its opening reading.
+    /// How much a report of nozzle n of point p, which is there, adds to the nozzle's last reading,
+    /// in millilitres. A `Still` report that doesn't read just the last reading is refused with
+    /// `MeterGap`, which names the reading that is expected. A `Growing` one is refused with
+    /// `MeterBack`, which names the last reading, where it reads less than that, and with
+    /// `MeterJump` where it reads more than `GROWTH_LIMIT` above it. No meter moves, and none
+    /// stands below its opening reading.
     pub fn check(
         &self,
         p: FpNo,
@@ -98,8 +100,8 @@ impl Meters {
         meter.check(reading, &report)
     }
 
-    /// Takes a reading of nozzle n of point p, which is there, as its last one. A `Growing` report of it
-    /// would be accepted. No other meter moves.
+    /// Takes a reading of nozzle n of point p, which is there, as its last one. A `Growing` report
+    /// of it would be accepted. No other meter moves.
     pub fn advance(&mut self, p: FpNo, n: NozzleNo, reading: Millilitres)
         requires there { has_nozzle p n self.old ≡ true }
         requires accepted { report_refusal Growing (reading_of p n self.old) reading ≡ None }
@@ -112,9 +114,9 @@ impl Meters {
         meter.advance(reading);
     }
 
-    /// What the nozzles of product q have metered since the site opened, in millilitres: the sum of the
-    /// last reading less the opening one. 0 where no nozzle delivers q. What the nozzles of all products
-    /// have metered is at most what a site can meter.
+    /// What the nozzles of product q have metered since the site opened, in millilitres: the sum of
+    /// the last reading less the opening one. 0 where no nozzle delivers q. What the nozzles of all
+    /// products have metered is at most what a site can meter.
     pub fn product_total(&self, q: ProductNo) -> u64
         ensures total { result ≡ product_total q self.now }
         ensures range { result ≤ most_of_a_site }

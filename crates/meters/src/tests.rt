@@ -1,5 +1,5 @@
-//! What no clause says: that ample memory gives the meters of the greatest site, and what stands after want
-//! of memory.
+//! What no clause says: that ample memory gives the meters of the greatest site, and what stands
+//! after want of memory.
 
 ghost use Rattle.std.specs.Prelude.{◌≡◌, ◌+◌, ◌*◌};
 

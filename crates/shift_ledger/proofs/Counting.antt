@@ -12,10 +12,12 @@ use Rattle.shift_ledger.specs.Laws.{ShiftChange, clears, closes, after_change, I
 
 -- a member that is there and is written shows what was written, and every other stays
 written : {A : Type 0} (n m : ℕ) (xs : List A) (y d : A) → 1 ≤ n → n ≤ length xs
-    → unwrap_or (numbered m (with_numbered n y xs)) d ≡ cond (m == n) y (unwrap_or (numbered m xs) d)
+    → unwrap_or (numbered m (with_numbered n y xs)) d
+    ≡ cond (m == n) y (unwrap_or (numbered m xs) d)
 written n m xs y d low high = by_test (m == n) refl
   where
-    by_test : (b : Bool) → (m == n) ≡ b → unwrap_or (numbered m (with_numbered n y xs)) d ≡ cond b y (unwrap_or (numbered m xs) d)
+    by_test : (b : Bool) → (m == n) ≡ b
+        → unwrap_or (numbered m (with_numbered n y xs)) d ≡ cond b y (unwrap_or (numbered m xs) d)
     by_test true is =
         let same : m ≡ n = grind (arith, nat_tests) in
         let there : numbered n xs ≡ Some (get_or xs (n - 1) d) = numbered_within n xs (n - 1) d (omega arith) (omega arith) in

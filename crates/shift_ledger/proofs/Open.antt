@@ -12,7 +12,8 @@ open_shown : (n : ℕ) (s : Shifts) → n ≡ length s.closed + 1 → figures_of
 open_shown n s e = ap (λ (k : ℕ). figures_of k s) e ∙ numbered_push_here s.closed s.current
 
 -- a member's number is one more than its place
-member : {A : Type 0} (n i : ℕ) (xs : List A) (d : A) → i + 1 ≡ n → unwrap_or (numbered n xs) d ≡ get_or xs i d
+member : {A : Type 0} (n i : ℕ) (xs : List A) (d : A) → i + 1 ≡ n
+    → unwrap_or (numbered n xs) d ≡ get_or xs i d
 member n i xs d place =
     let apart : (n == 0) ≡ false = grind (arith, nat_tests) in
     let back : n - 1 ≡ i = omega arith in

@@ -30,18 +30,21 @@ next : (s : Shifts) → open_number (after_close s) ≡ open_number s + 1
 next s = let one_more : length (s.closed ++ s.current ∷ []) ≡ length s.closed + 1 = length-append s.closed (s.current ∷ []) in omega arith
 
 -- one clear or close
-closed_once : (change : ShiftChange) (n : ℕ) (s : Shifts) → n < open_number s → figures_of n (after_change change s) ≡ figures_of n s
+closed_once : (change : ShiftChange) (n : ℕ) (s : Shifts) → n < open_number s
+    → figures_of n (after_change change s) ≡ figures_of n s
 closed_once (clears t q ml cents) n s below =
     numbered_push_other n s.closed _ (omega arith) ∙ sym (numbered_push_other n s.closed s.current (omega arith))
 closed_once closes n s below =
     let count : open_number (after_close s) ≡ open_number s + 1 = next s in
     numbered_push_other n (s.closed ++ s.current ∷ []) no_clears (omega arith)
 
-open_after : (change : ShiftChange) (s : Shifts) → open_number s ≤ open_number (after_change change s)
+open_after : (change : ShiftChange) (s : Shifts)
+    → open_number s ≤ open_number (after_change change s)
 open_after (clears t q ml cents) s = omega arith
 open_after closes s = omega (arith, next s)
 
-closed : (changes : List ShiftChange) (n : ℕ) (s : Shifts) → n < open_number s → figures_of n (after_changes changes s) ≡ figures_of n s
+closed : (changes : List ShiftChange) (n : ℕ) (s : Shifts) → n < open_number s
+    → figures_of n (after_changes changes s) ≡ figures_of n s
 closed [] n s below = refl
 closed (change ∷ changes) n s below =
     let later : open_number s ≤ open_number (after_change change s) = open_after change s in

@@ -31,8 +31,9 @@ pub record HaveRows (s : Shifts) : Type 0 where
   pub closed : All IsRow s.closed
   pub current : IsRow s.current
 
--- What a clear does to the open shift's figures. Its till's count rises by one and that till's cents by its
--- own; its product's millilitres rise by its own. Every other till's and product's stay.
+-- What a clear does to the open shift's figures. Its till's count rises by one and that till's
+-- cents by its own; its product's millilitres rise by its own. Every other till's and product's
+-- stay.
 pub record IsCounted : Type 0 where
   pub by_till : (t q ml cents u : ℕ) (s : Shifts) → IsRow s.current → 1 ≤ t → t ≤ TILL_CELLS
       → till_figures u (after_clear t q ml cents s).current
@@ -40,10 +41,11 @@ pub record IsCounted : Type 0 where
   pub by_product : (t q ml cents r : ℕ) (s : Shifts) → IsRow s.current → 1 ≤ q → q ≤ PRODUCT_CELLS
       → product_figure r (after_clear t q ml cents s).current
       ≡ (if r == q then product_figure q s.current + ml else product_figure r s.current)
-  pub number : (t q ml cents : ℕ) (s : Shifts) → open_number (after_clear t q ml cents s) ≡ open_number s
+  pub number : (t q ml cents : ℕ) (s : Shifts)
+      → open_number (after_clear t q ml cents s) ≡ open_number s
 
--- The open shift's row is shown under its number, and a close leaves it there as it was; the next number is
--- open then. The row of a closed shift stays, whatever is cleared and closed later.
+-- The open shift's row is shown under its number, and a close leaves it there as it was; the next
+-- number is open then. The row of a closed shift stays, whatever is cleared and closed later.
 pub record DoStay : Type 0 where
   pub shown : (s : Shifts) → figures_of (open_number s) s ≡ Some s.current
   pub joins : (s : Shifts) → figures_of (open_number s) (after_close s) ≡ Some s.current

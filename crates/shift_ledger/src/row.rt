@@ -25,7 +25,8 @@ impl ShiftRow {
         }
     }
 
-    /// Adds one clear by a till: of this product, so many millilitres and cents. The sums stay in u64.
+    /// Adds one clear by a till: of this product, so many millilitres and cents. The sums stay in
+    /// u64.
     pub(crate) fn note_cleared(&mut self, t: TillNo, q: ProductNo, ml: u64, cents: u64)
         requires { FitsClear t q ml cents self.old }
         ensures { self.new ≡ with_clear t q ml cents self.old }

@@ -1,4 +1,5 @@
-//! What no clause says: figures shift by shift, the last shift, and what stands after want of memory.
+//! What no clause says: figures shift by shift, the last shift, and what stands after want of
+//! memory.
 
 mod refused;
 

@@ -69,16 +69,6 @@ asked_and_accepted request t k x given s is accepted = by_line (line_for request
         }
     by_line (Err other) line accepted = cc
 
--- a sale that the line changes is unpaid
-pub changed_unpaid : (request : Request) (t : ℕ) (x : Sale) (given : Sale × Answer)
-    → outcome (line_for request t x) x ≡ Ok given → is_unpaid x.standing ≡ true
-changed_unpaid request t x given accepted = by_line (line_for request t x) refl accepted
-  where
-    by_line : (l : Result Line Refusal) → line_for request t x ≡ l → outcome l x ≡ Ok given
-        → is_unpaid x.standing ≡ true
-    by_line (Ok l) line accepted = accepted_unpaid request t x l line
-    by_line (Err other) line accepted = cc
-
 -- what an answer and a refusal tell
 pub replies_tell : DoTell
 replies_tell = record {
@@ -90,12 +80,14 @@ replies_tell = record {
       (ap refusal_in is, asked.leads ∙ stays request t k old (sale_of k old) refusal is);
 }
   where
-    of_answer : (l : Result Line Refusal) (answer : Answer) → Ok answer ≡ reply_or (refusal_in l) (answer_in l)
+    of_answer : (l : Result Line Refusal) (answer : Answer)
+        → Ok answer ≡ reply_or (refusal_in l) (answer_in l)
         → (refusal_in l ≡ None) × (answer ≡ answer_in l)
     of_answer (Ok l) answer is = (refl, cc)
     of_answer (Err other) answer is = cc
 
-    of_refusal : (l : Result Line Refusal) (refusal : Refusal) → Err refusal ≡ reply_or (refusal_in l) (answer_in l)
+    of_refusal : (l : Result Line Refusal) (refusal : Refusal)
+        → Err refusal ≡ reply_or (refusal_in l) (answer_in l)
         → l ≡ Err refusal
     of_refusal (Ok l) refusal is = cc
     of_refusal (Err other) refusal is = let same : refusal ≡ other = cc in ap Err (sym same)

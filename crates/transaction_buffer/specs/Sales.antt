@@ -19,8 +19,8 @@ pub record Key : Type 0 where
 abbrev pub key : ℕ → ℕ → Key
 key p n = record { point = p; number = n }
 
--- a sale: the price taken, the volume, the amount due, the prepaid cents where it was prepaid, the product,
--- and how it stands
+-- a sale: the price taken, the volume, the amount due, the prepaid cents where it was prepaid, the
+-- product, and how it stands
 pub record Sale : Type 0 where
   pub price : ℕ
   pub volume : ℕ

@@ -19,9 +19,9 @@ use std::alloc::Global;
 use std::array;
 use std::marker::Model;
 
-/// The transactions of a site's fuelling points. A transaction is called by its point and its number
-/// there. Contracts see the finite map from the points that have sold to their sales in the order of
-/// their numbers, and for each point how many more sales there is room for.
+/// The transactions of a site's fuelling points. A transaction is called by its point and its
+/// number there. Contracts see the finite map from the points that have sold to their sales in the
+/// order of their numbers, and for each point how many more sales there is room for.
 #[derive(Drop)]
 pub struct Buffer {
     // The shelf of point p stands in cell p - 1.
@@ -68,8 +68,8 @@ impl Buffer {
         shelf.unpaid()
     }
 
-    /// The number of point p's next sale: one more than it has made, so that no number is used twice.
-    /// None after `GREATEST_SEQ` sales.
+    /// The number of point p's next sale: one more than it has made, so that no number is used
+    /// twice. None after `GREATEST_SEQ` sales.
     pub fn next_seq(&self, p: FpNo) -> Option<Seq>
         ensures { result ≡ next_number p self.now.sales }
     {
@@ -77,9 +77,9 @@ impl Buffer {
         shelf.next_seq()
     }
 
-    /// Adds a sale of point p and answers its number. The view is payable without a till, or locked with
-    /// one. Room for it is reserved, fewer than `UNPAID_LIMIT` transactions of the point are unpaid, and it
-    /// has a next number. No other transaction changes. It takes no memory.
+    /// Adds a sale of point p and answers its number. The view is payable without a till, or locked
+    /// with one. Room for it is reserved, fewer than `UNPAID_LIMIT` transactions of the point are
+    /// unpaid, and it has a next number. No other transaction changes. It takes no memory.
     pub fn add(&mut self, p: FpNo, view: TransactionView) -> Seq
         requires room { 0 < room_at p self.old.rooms }
         requires unpaid { unpaid_at p self.old.sales < UNPAID_LIMIT }
@@ -94,35 +94,37 @@ impl Buffer {
         seq
     }
 
-    /// The till locks a transaction, so that no other till can clear it: Locked. Where it has locked it
-    /// already, nothing changes. Refused, and nothing changes, with `NoSuchTransaction` where it isn't
-    /// there, `AlreadyCleared` where a till has cleared it, and `LockedByOther` where another till has
-    /// locked it.
+    /// The till locks a transaction, so that no other till can clear it: Locked. Where it has
+    /// locked it already, nothing changes. Refused, and nothing changes, with `NoSuchTransaction`
+    /// where it isn't there, `AlreadyCleared` where a till has cleared it, and `LockedByOther`
+    /// where another till has locked it.
     pub fn lock(&mut self, p: FpNo, s: Seq, t: TillNo) -> Result<Answer, Refusal>
         ensures { Asked Request.Lock t (key p s) self.old.sales self.new.sales result }
     {
         self.ask(p, s, t, &Request::Lock)
     }
 
-    /// The till makes a transaction that it has locked payable again: Unlocked. Refused, and nothing
-    /// changes, with `NoSuchTransaction` where it isn't there, `AlreadyCleared` where a till has cleared
-    /// it, `LockedByOther` where another till has locked it, and `NotLocked` where none has.
+    /// The till makes a transaction that it has locked payable again: Unlocked. Refused, and
+    /// nothing changes, with `NoSuchTransaction` where it isn't there, `AlreadyCleared` where a
+    /// till has cleared it, `LockedByOther` where another till has locked it, and `NotLocked` where
+    /// none has.
     pub fn unlock(&mut self, p: FpNo, s: Seq, t: TillNo) -> Result<Answer, Refusal>
         ensures { Asked Request.Unlock t (key p s) self.old.sales self.new.sales result }
     {
         self.ask(p, s, t, &Request::Unlock)
     }
 
-    /// The till clears a transaction that it has locked, in the shift with this number: Cleared, with the
-    /// transaction's cents. Nothing changes it any more. Refused, and nothing changes, as `unlock` is.
+    /// The till clears a transaction that it has locked, in the shift with this number: Cleared,
+    /// with the transaction's cents. Nothing changes it any more. Refused, and nothing changes, as
+    /// `unlock` is.
     pub fn clear(&mut self, p: FpNo, s: Seq, t: TillNo, shift: u16) -> Result<Answer, Refusal>
         ensures { Asked (Request.Clear shift) t (key p s) self.old.sales self.new.sales result }
     {
         self.ask(p, s, t, &Request::Clear(shift))
     }
 
-    /// Makes every transaction that the till has locked payable; every other stays. It is what a sign-off
-    /// does to the transactions.
+    /// Makes every transaction that the till has locked payable; every other stays. It is what a
+    /// sign-off does to the transactions.
     pub fn release_all(&mut self, t: TillNo)
         ensures { self.new.sales ≡ after_sign_off t self.old.sales }
     {
@@ -140,8 +142,8 @@ impl Buffer {
         }
     }
 
-    /// The millilitres of product q in the transactions of this status. Those of all transactions fit in
-    /// 64 bits.
+    /// The millilitres of product q in the transactions of this status. Those of all transactions
+    /// fit in 64 bits.
     pub fn sum(&self, q: ProductNo, status: Status) -> u64
         ensures value { result ≡ volume_by q status self.now.sales }
         ensures fits { volume_of q self.now.sales < 2 ^ 64 }

@@ -99,8 +99,8 @@ impl Sale {
         }
     }
 
-    /// What the transaction table says of the till's request: the sale afterwards and the answer, or the
-    /// refusal.
+    /// What the transaction table says of the till's request: the sale afterwards and the answer,
+    /// or the refusal.
     pub fn asked(&self, request: &Request, t: TillNo) -> Result<(Sale, Answer), Refusal>
         ensures { result ≡ outcome (line_for request.now t self.now) self.now }
     {

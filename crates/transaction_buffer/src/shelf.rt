@@ -12,8 +12,8 @@ use site_base::{GREATEST_SEQ, NoMemory, ProductNo, Seq, Status, TillNo};
 use std::alloc::Global;
 use std::marker::Model;
 
-/// The sales of a fuelling point in the order of their numbers, from 1 on. At most `UNPAID_LIMIT` of
-/// them are unpaid.
+/// The sales of a fuelling point in the order of their numbers, from 1 on. At most `UNPAID_LIMIT`
+/// of them are unpaid.
 #[derive(Drop)]
 pub struct Shelf {
     // Sale n stands at place n - 1.

@@ -1,5 +1,5 @@
-//! Made for runs in which one growth is refused: the configuration is as it was, and the same call then
-//! answers as ever.
+//! Made for runs in which one growth is refused: the configuration is as it was, and the same call
+//! then answers as ever.
 
 use super::*;
 
