@@ -104,25 +104,30 @@ StaysSuspended = (events : List PointEvent) (before since : List Moment) (m : Mo
 -- what has flowed since
 abbrev pub IsKeptFromStart : Type 0
 IsKeptFromStart = (events : List PointEvent) → is_under_way (point_after events).state ≡ true
-    → HasStarted (moments_of events) (point_after events).price (point_after events).start (point_after events).volume
+    → HasStarted (moments_of events) (point_after events).price (point_after events).start
+    (point_after events).volume
 
 -- a sale has the price that was handed in where its fuelling started, and the volume of the growths
 -- since, its own event's among them
 abbrev pub IsSoldAsStarted : Type 0
-IsSoldAsStarted = (events : List PointEvent) (event : PointEvent) (nozzle volume price : ℕ) (prepaid : Option ℕ)
+IsSoldAsStarted = (events : List PointEvent) (event : PointEvent)
+    (nozzle volume price : ℕ) (prepaid : Option ℕ)
     → reply_to event (point_after events) ≡ Ok (Sold nozzle volume price prepaid)
-    → (start : ℕ) × ((flowed : ℕ) × (HasStarted (moments_of events) price start flowed × (volume ≡ flowed + growth_of event)))
+    → (start : ℕ) × ((flowed : ℕ) × (HasStarted (moments_of events) price start flowed
+    × (volume ≡ flowed + growth_of event)))
 
 -- a nozzle that is out, and that of a sale, is the one that was lifted and hasn't been put back
 -- since
 pub record IsTheLifted : Type 0 where
   pub out : (events : List PointEvent) (nozzle : ℕ) → (point_after events).out ≡ Some nozzle
       → HasLifted (moments_of events) nozzle
-  pub sold : (events : List PointEvent) (event : PointEvent) (nozzle volume price : ℕ) (prepaid : Option ℕ)
+  pub sold : (events : List PointEvent) (event : PointEvent)
+      (nozzle volume price : ℕ) (prepaid : Option ℕ)
       → reply_to event (point_after events) ≡ Ok (Sold nozzle volume price prepaid)
       → HasLifted (moments_of events) nozzle
 
 -- a sale is never of nothing
 abbrev pub IsNeverNothing : Type 0
-IsNeverNothing = (events : List PointEvent) (event : PointEvent) (nozzle volume price : ℕ) (prepaid : Option ℕ)
+IsNeverNothing = (events : List PointEvent) (event : PointEvent)
+    (nozzle volume price : ℕ) (prepaid : Option ℕ)
     → reply_to event (point_after events) ≡ Ok (Sold nozzle volume price prepaid) → 1 ≤ volume

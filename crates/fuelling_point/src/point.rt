@@ -307,7 +307,8 @@ impl Point {
     fn sold(&self, growth: u64) -> PointStep
         requires under_way { is_under_way self.now.state ≡ true }
         requires fits { self.now.volume + growth ≤ GREATEST_READING }
-        ensures { result ≡ PointStep.Sold (unwrap_or self.now.out 0) (self.now.volume + growth) self.now.price self.now.prepaid }
+        ensures { result ≡ PointStep.Sold (unwrap_or self.now.out 0) (self.now.volume + growth)
+            self.now.price self.now.prepaid }
     {
         if let Some(nozzle) = self.out
             && let Some(delivery) = self.delivery
@@ -338,7 +339,8 @@ impl Point {
     }
 
     fn judge_ending(&self) -> Result<(), Refusal>
-        ensures { MatchResult result (λ _. self.now.ending ≡ false) (λ refusal. (self.now.ending ≡ true) × (refusal ≡ Refusal.Ending)) }
+        ensures { MatchResult result (λ _. self.now.ending ≡ false)
+            (λ refusal. (self.now.ending ≡ true) × (refusal ≡ Refusal.Ending)) }
     {
         if self.ending {
             Err(Refusal::Ending)
@@ -349,7 +351,8 @@ impl Point {
 
     /// Is this the nozzle that is out?
     fn judge_nozzle(&self, nozzle: NozzleNo) -> Result<(), Refusal>
-        ensures { MatchResult result (λ _. is_out nozzle self.now.out ≡ None) (λ refusal. is_out nozzle self.now.out ≡ Some refusal) }
+        ensures { MatchResult result (λ _. is_out nozzle self.now.out ≡ None)
+            (λ refusal. is_out nozzle self.now.out ≡ Some refusal) }
     {
         match self.out {
             Some(out) if out != nozzle => Err(Refusal::WrongNozzle(out)),

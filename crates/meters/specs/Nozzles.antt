@@ -19,7 +19,8 @@ is_nozzle p n x = x.point == p && x.number == n
 
 -- a configured nozzle when the site opens: its last reading is the opening one
 abbrev pub opened : ℕ → ℕ → NozzleEntry → Nozzle
-opened p n e = record { point = p; number = n; product = e.product; opening = e.reading; last = e.reading }
+opened p n e =
+    record { point = p; number = n; product = e.product; opening = e.reading; last = e.reading }
 
 -- the nozzles of point p when the site opens, in their order, numbered from n
 abbrev pub numbered : ℕ → ℕ → List NozzleEntry → List Nozzle

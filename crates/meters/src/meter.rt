@@ -25,7 +25,13 @@ impl Model for Meter {
 
     ghost Value = { Nozzle };
 
-    ghost view = { λ m. record { point = m.point; number = m.nozzle; product = m.product; opening = m.opening; last = m.last } };
+    ghost view = { λ m. record {
+      point = m.point;
+      number = m.nozzle;
+      product = m.product;
+      opening = m.opening;
+      last = m.last;
+    } };
 
     ghost invariant = { λ m. m.opening ≤ m.last };
 }
@@ -84,7 +90,8 @@ impl Meter {
     pub fn check(&self, reading: Millilitres, report: &Report) -> Result<u64, Refusal>
         ensures accepted { OnOk result (report_refusal report.now self.now.last reading ≡ None) }
         ensures growth { IfOk result (λ growth. growth ≡ growth_of self.now.last reading) }
-        ensures refused { IfErr result (λ refusal. report_refusal report.now self.now.last reading ≡ Some refusal) }
+        ensures refused { IfErr result (λ refusal.
+            report_refusal report.now self.now.last reading ≡ Some refusal) }
     {
         let last = self.last.get();
         let read = reading.get();

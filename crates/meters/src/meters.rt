@@ -88,9 +88,12 @@ impl Meters {
         report: Report,
     ) -> Result<u64, Refusal>
         requires there { has_nozzle p n self.now ≡ true }
-        ensures accepted { OnOk result (report_refusal report (reading_of p n self.now) reading ≡ None) }
-        ensures growth { IfOk result (λ growth. growth ≡ growth_of (reading_of p n self.now) reading) }
-        ensures refused { IfErr result (λ refusal. report_refusal report (reading_of p n self.now) reading ≡ Some refusal) }
+        ensures accepted { OnOk result (
+            report_refusal report (reading_of p n self.now) reading ≡ None) }
+        ensures growth { IfOk result (λ growth.
+            growth ≡ growth_of (reading_of p n self.now) reading) }
+        ensures refused { IfErr result (λ refusal.
+            report_refusal report (reading_of p n self.now) reading ≡ Some refusal) }
         ensures risen { NoneBelowOpening self.now }
     {
         let Some(place) = place_of(&self.meters, p, n) else {
@@ -136,7 +139,8 @@ impl Meters {
 /// Adds the meters of a point's nozzles: nozzle n is the nth.
 fn add_point(meters: &mut Vec<Meter>, entry: &PointEntry) -> Result<(), NoMemory>
     requires most { length entry.now.nozzles ≤ NOZZLES }
-    ensures added { OnOk result (meters.new.items ≡ meters.old.items ++ nozzles_of_point entry.now) }
+    ensures added { OnOk result (
+        meters.new.items ≡ meters.old.items ++ nozzles_of_point entry.now) }
     ensures few { OnOk result (length meters.new.items ≤ length meters.old.items + NOZZLES) }
 {
     for (place, nozzle) in entry.nozzles.iter().enumerate() {

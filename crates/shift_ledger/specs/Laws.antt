@@ -37,7 +37,8 @@ pub record HaveRows (s : Shifts) : Type 0 where
 pub record IsCounted : Type 0 where
   pub by_till : (t q ml cents u : ℕ) (s : Shifts) → IsRow s.current → 1 ≤ t → t ≤ TILL_CELLS
       → till_figures u (after_clear t q ml cents s).current
-      ≡ (if u == t then one_clear_more cents (till_figures t s.current) else till_figures u s.current)
+      ≡ (if u == t then one_clear_more cents (till_figures t s.current)
+      else till_figures u s.current)
   pub by_product : (t q ml cents r : ℕ) (s : Shifts) → IsRow s.current → 1 ≤ q → q ≤ PRODUCT_CELLS
       → product_figure r (after_clear t q ml cents s).current
       ≡ (if r == q then product_figure q s.current + ml else product_figure r s.current)

@@ -26,7 +26,10 @@ impl Model for ShiftBook {
 
     ghost Value = { Book };
 
-    ghost view = { λ b. record { shifts = record { closed = b.closed.items; current = b.current }; room = vec_capacity b.closed - vec_len b.closed } };
+    ghost view = { λ b. record {
+      shifts = record { closed = b.closed.items; current = b.current };
+      room = vec_capacity b.closed - vec_len b.closed;
+    } };
 
     ghost invariant = { λ b. length b.closed.items < GREATEST_SHIFT };
 }

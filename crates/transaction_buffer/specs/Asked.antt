@@ -17,7 +17,8 @@ reply_of request t k s = reply_or (refusal_of request t k s) (answer_of request 
 
 -- from old, the request of till t for the sale of this name is told the reply and leads to new; a
 -- refusal leaves the sales
-pub record Asked (request : Request) (t : ℕ) (k : Key) (old new : Sales) (reply : Result Answer Refusal) : Type 0 where
+pub record Asked (request : Request) (t : ℕ) (k : Key) (old new : Sales)
+    (reply : Result Answer Refusal) : Type 0 where
   pub replies : reply ≡ reply_of request t k old
   pub leads : new ≡ after_request request t k old
 

@@ -86,7 +86,8 @@ pub record HasOneLocker : Type 0 where
 pub record IsReadAfter : Type 0 where
   pub asked_for : (t : ℕ) (request : Request) (j k : Key) (s : Sales)
       → sale_of k (after_request request t j s)
-      ≡ (if same_key k j then option_map (sale_after_request request t) (sale_of k s) else sale_of k s)
+      ≡ (if same_key k j then option_map (sale_after_request request t) (sale_of k s)
+      else sale_of k s)
   pub signed_off : (t : ℕ) (k : Key) (s : Sales)
       → sale_of k (after_sign_off t s) ≡ option_map (let_go t) (sale_of k s)
   pub sold : (p : ℕ) (x : Sale) (k : Key) (s : Sales)
@@ -120,14 +121,16 @@ pub record IsSummedAfter : Type 0 where
 -- a product's volumes by status add up to its volume in all sales
 abbrev pub DoAddUp : Type 0
 DoAddUp = (q : ℕ) (s : Sales)
-    → volume_by q statuses.Payable s + volume_by q statuses.Locked s + volume_by q statuses.Cleared s
+    → volume_by q statuses.Payable s + volume_by q statuses.Locked s
+    + volume_by q statuses.Cleared s
     ≡ volume_of q s
 
 -- How a product's volumes move. A request moves that of its transaction to its new status, a
 -- sign-off that of the till's locked transactions from locked to payable, and a sale adds its own;
 -- only a sale changes the volume in all sales.
 pub record DoMove : Type 0 where
-  pub by_request : (q : ℕ) (status : Status) (t : ℕ) (request : Request) (k : Key) (x : Sale) (s : Sales)
+  pub by_request : (q : ℕ) (status : Status) (t : ℕ) (request : Request) (k : Key) (x : Sale)
+      (s : Sales)
       → sale_of k s ≡ Some x
       → volume_by q status (after_request request t k s) + volume_with q status x
       ≡ volume_by q status s + volume_with q status (sale_after_request request t x)

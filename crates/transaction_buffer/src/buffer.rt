@@ -167,7 +167,8 @@ impl Buffer {
 
 /// Makes the sales that this till has locked payable, on each shelf.
 fn let_go_of_each(shelves: &mut [Shelf], t: TillNo)
-    ensures { map (λ x. x.sales) shelves.new ≡ map (map (let_go t)) (map (λ x. x.sales) shelves.old) }
+    ensures { map (λ x. x.sales) shelves.new
+        ≡ map (map (let_go t)) (map (λ x. x.sales) shelves.old) }
 {
     for shelf in shelves.iter_mut() {
         shelf.let_go(t);

@@ -30,9 +30,23 @@ impl Model for Sale {
 
     ghost Value = { SaleFacts };
 
-    ghost view = { λ x. record { price = x.price; volume = x.volume; cents = x.cents; prepaid = x.prepaid; product = x.product; standing = x.standing } };
+    ghost view = { λ x. record {
+      price = x.price;
+      volume = x.volume;
+      cents = x.cents;
+      prepaid = x.prepaid;
+      product = x.product;
+      standing = x.standing;
+    } };
 
-    ghost inverse = { λ x. record { price = x.price; volume = x.volume; cents = x.cents; prepaid = x.prepaid; product = x.product; standing = x.standing } };
+    ghost inverse = { λ x. record {
+      price = x.price;
+      volume = x.volume;
+      cents = x.cents;
+      prepaid = x.prepaid;
+      product = x.product;
+      standing = x.standing;
+    } };
 }
 
 impl Sale {

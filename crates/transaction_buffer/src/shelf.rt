@@ -28,9 +28,13 @@ impl Model for Shelf {
 
     ghost Value = { ShelfFacts };
 
-    ghost view = { λ x. record { sales = x.sales.items; room = vec_capacity x.sales - vec_len x.sales } };
+    ghost view = { λ x. record {
+      sales = x.sales.items;
+      room = vec_capacity x.sales - vec_len x.sales;
+    } };
 
-    ghost invariant = { λ x. (length x.sales.items ≤ GREATEST_SEQ) × (unpaid_among x.sales.items ≤ UNPAID_LIMIT) };
+    ghost invariant = { λ x. (length x.sales.items ≤ GREATEST_SEQ)
+        × (unpaid_among x.sales.items ≤ UNPAID_LIMIT) };
 }
 
 impl Shelf {
