@@ -5,8 +5,10 @@ use Rattle.fuelling_point.specs.declared.event.PointEvent.TheVariants.{Flow, Han
 use Rattle.fuelling_point.specs.Kept.{Facts}
 use Rattle.fuelling_point.specs.Checks.{refusal_of}
 
-pub flow_judged : (nozzle growth other : ℕ) (f : Facts) → refusal_of (Flow nozzle growth) f ≡ refusal_of (Flow nozzle other) f
+pub flow_judged : (nozzle growth other : ℕ) (f : Facts)
+    → refusal_of (Flow nozzle growth) f ≡ refusal_of (Flow nozzle other) f
 flow_judged nozzle growth other f = grind (arith, common_steps)
 
-pub hang_up_judged : (nozzle growth other : ℕ) (f : Facts) → refusal_of (HangUp nozzle growth) f ≡ refusal_of (HangUp nozzle other) f
+pub hang_up_judged : (nozzle growth other : ℕ) (f : Facts)
+    → refusal_of (HangUp nozzle growth) f ≡ refusal_of (HangUp nozzle other) f
 hang_up_judged nozzle growth other f = grind (arith, common_steps)

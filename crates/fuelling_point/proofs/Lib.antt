@@ -5,3 +5,4 @@ pub mod Growths
 pub mod Starts
 pub mod Lifted
 pub mod Suspension
+pub mod Worked

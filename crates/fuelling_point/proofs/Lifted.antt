@@ -15,28 +15,34 @@ use Rattle.fuelling_point.specs.History.{Moment, history, facts_at_end, facts_af
 use Rattle.fuelling_point.specs.Laws.{ends, lifted_by, HasLifted, IsTheLifted}
 use Rattle.fuelling_point.proofs.Whole.{whole_after}
 
-not_put_back : (e : PointEvent) (f : Facts) → has_nozzle_out (facts_after e f).state ≡ true → has_nozzle_out f.state ≡ true → ends (record { before = f; event = e }) ≡ false
+not_put_back : (e : PointEvent) (f : Facts) → has_nozzle_out (facts_after e f).state ≡ true
+    → has_nozzle_out f.state ≡ true → ends (record { before = f; event = e }) ≡ false
 not_put_back e f after before = grind (arith, common_steps)
 
-pub out_kept : (e : PointEvent) (f : Facts) → has_nozzle_out (facts_after e f).state ≡ true → has_nozzle_out f.state ≡ true → (facts_after e f).out ≡ f.out
+pub out_kept : (e : PointEvent) (f : Facts) → has_nozzle_out (facts_after e f).state ≡ true
+    → has_nozzle_out f.state ≡ true → (facts_after e f).out ≡ f.out
 out_kept e f after before = grind (arith, common_steps)
 
-lifted : (e : PointEvent) (f : Facts) → has_nozzle_out (facts_after e f).state ≡ true → has_nozzle_out f.state ≡ false → lifted_by e f.state ≡ (facts_after e f).out
+lifted : (e : PointEvent) (f : Facts) → has_nozzle_out (facts_after e f).state ≡ true
+    → has_nozzle_out f.state ≡ false → lifted_by e f.state ≡ (facts_after e f).out
 lifted e f after before = grind (arith, common_steps)
 
-pub sold_nozzle : (e : PointEvent) (f : Facts) (nozzle volume price : ℕ) (prepaid : Option ℕ) → IsWhole f
+pub sold_nozzle : (e : PointEvent) (f : Facts) (nozzle volume price : ℕ) (prepaid : Option ℕ)
+    → IsWhole f
     → reply_to e f ≡ Ok (Sold nozzle volume price prepaid) → f.out ≡ Some nozzle
 sold_nozzle e f nozzle volume price prepaid w is =
     let whole = w.nozzle in
     grind (arith, common_steps)
 
 -- a report that is accepted is of the nozzle that is out
-pub flow_nozzle : (nozzle growth : ℕ) (f : Facts) → IsWhole f → refusal_of (Flow nozzle growth) f ≡ None → f.out ≡ Some nozzle
+pub flow_nozzle : (nozzle growth : ℕ) (f : Facts) → IsWhole f
+    → refusal_of (Flow nozzle growth) f ≡ None → f.out ≡ Some nozzle
 flow_nozzle nozzle growth f w taken =
     let whole = w.nozzle in
     grind (arith, common_steps)
 
-pub hang_up_nozzle : (nozzle growth : ℕ) (f : Facts) → IsWhole f → refusal_of (HangUp nozzle growth) f ≡ None → f.out ≡ Some nozzle
+pub hang_up_nozzle : (nozzle growth : ℕ) (f : Facts) → IsWhole f
+    → refusal_of (HangUp nozzle growth) f ≡ None → f.out ≡ Some nozzle
 hang_up_nozzle nozzle growth f w taken =
     let whole = w.nozzle in
     grind (arith, common_steps)
@@ -51,10 +57,12 @@ abbrev Stands : Facts → List Moment → ℕ → Type 0
 Stands f moments nozzle = StaysOut f moments nozzle ⊎ HasLifted moments nozzle
 
 -- a nozzle that is out after an event was out before it, or the event takes it out
-one_earlier : (e : PointEvent) (f : Facts) (ms : List Moment) (nozzle : ℕ) → StaysOut (facts_after e f) ms nozzle → Stands f (record { before = f; event = e } ∷ ms) nozzle
+one_earlier : (e : PointEvent) (f : Facts) (ms : List Moment) (nozzle : ℕ)
+    → StaysOut (facts_after e f) ms nozzle → Stands f (record { before = f; event = e } ∷ ms) nozzle
 one_earlier e f ms nozzle on = by_test (has_nozzle_out f.state) refl
   where
-    by_test : (b : Bool) → has_nozzle_out f.state ≡ b → Stands f (record { before = f; event = e } ∷ ms) nozzle
+    by_test : (b : Bool) → has_nozzle_out f.state ≡ b
+        → Stands f (record { before = f; event = e } ∷ ms) nozzle
     by_test true was = inl (record {
       calls = was;
       lasts = rw (not_put_back e f on.calls was) on.lasts;
@@ -69,7 +77,8 @@ one_earlier e f ms nozzle on = by_test (has_nozzle_out f.state) refl
       stays_out = on.lasts;
     })
 
-also_earlier : (m : Moment) (ms : List Moment) (nozzle : ℕ) → HasLifted ms nozzle → HasLifted (m ∷ ms) nozzle
+also_earlier : (m : Moment) (ms : List Moment) (nozzle : ℕ) → HasLifted ms nozzle
+    → HasLifted (m ∷ ms) nozzle
 also_earlier m ms nozzle s = record {
   before = m ∷ s.before;
   lift = s.lift;
@@ -79,7 +88,9 @@ also_earlier m ms nozzle s = record {
   stays_out = s.stays_out;
 }
 
-stands : (f : Facts) (events : List PointEvent) (nozzle : ℕ) → has_nozzle_out (facts_at_end f events).state ≡ true → (facts_at_end f events).out ≡ Some nozzle
+stands : (f : Facts) (events : List PointEvent) (nozzle : ℕ)
+    → has_nozzle_out (facts_at_end f events).state ≡ true
+    → (facts_at_end f events).out ≡ Some nozzle
     → Stands f (history f events) nozzle
 stands f [] nozzle calls is = inl (record { calls = calls; lasts = refl; is = is })
 stands f (e ∷ es) nozzle calls is = elim (stands (facts_after e f) es nozzle calls is) [
@@ -88,7 +99,8 @@ stands f (e ∷ es) nozzle calls is = elim (stands (facts_after e f) es nozzle c
 ]
 
 -- a closed point has no nozzle out, so one that is out later has been lifted since
-out : (events : List PointEvent) (nozzle : ℕ) → (point_after events).out ≡ Some nozzle → HasLifted (moments_of events) nozzle
+out : (events : List PointEvent) (nozzle : ℕ) → (point_after events).out ≡ Some nozzle
+    → HasLifted (moments_of events) nozzle
 out events nozzle is =
     let calls : has_nozzle_out (point_after events).state ≡ true = sym (whole_after events).nozzle ∙ ap is_some is in
     elim (stands (fresh Closed) events nozzle calls is) [ inl on ↦ absurd (false≢true on.calls) | inr s ↦ s ]

@@ -26,10 +26,12 @@ abbrev pub Stands : Facts → List Moment → Facts → Type 0
 Stands f moments last = GoesOn f moments last ⊎ HasStarted moments last.price last.start last.volume
 
 -- a fuelling that goes on after an event was under way before it, or the event starts it
-one_earlier : (e : PointEvent) (f last : Facts) (ms : List Moment) → GoesOn (facts_after e f) ms last → Stands f (record { before = f; event = e } ∷ ms) last
+one_earlier : (e : PointEvent) (f last : Facts) (ms : List Moment)
+    → GoesOn (facts_after e f) ms last → Stands f (record { before = f; event = e } ∷ ms) last
 one_earlier e f last ms on = by_test (is_under_way f.state) refl
   where
-    by_test : (b : Bool) → is_under_way f.state ≡ b → Stands f (record { before = f; event = e } ∷ ms) last
+    by_test : (b : Bool) → is_under_way f.state ≡ b
+        → Stands f (record { before = f; event = e } ∷ ms) last
     by_test true is = inl (record {
       under_way = is;
       lasts = rw (not_ended e f on.under_way is) on.lasts;
@@ -48,7 +50,9 @@ one_earlier e f last ms on = by_test (is_under_way f.state) refl
     })
 
 -- the fuelling that stands at the end of a later history stands at the end of the whole
-also_earlier : (m : Moment) (ms : List Moment) (last : Facts) → HasStarted ms last.price last.start last.volume → HasStarted (m ∷ ms) last.price last.start last.volume
+also_earlier : (m : Moment) (ms : List Moment) (last : Facts)
+    → HasStarted ms last.price last.start last.volume
+    → HasStarted (m ∷ ms) last.price last.start last.volume
 also_earlier m ms last s = record {
   before = m ∷ s.before;
   begin = s.begin;
@@ -59,7 +63,9 @@ also_earlier m ms last s = record {
   flowed = s.flowed;
 }
 
-pub stands : (f : Facts) (events : List PointEvent) → is_under_way (facts_at_end f events).state ≡ true → Stands f (history f events) (facts_at_end f events)
+pub stands : (f : Facts) (events : List PointEvent)
+    → is_under_way (facts_at_end f events).state ≡ true
+    → Stands f (history f events) (facts_at_end f events)
 stands f [] is = inl (record { under_way = is; lasts = refl; price = refl; start = refl; volume = omega arith })
 stands f (e ∷ es) is = elim (stands (facts_after e f) es is) [
   | inl on ↦ one_earlier e f (facts_at_end (facts_after e f) es) (history (facts_after e f) es) on

@@ -22,7 +22,8 @@ right_false : (a b : Bool) → (a || b) ≡ false → b ≡ false
 right_false false b is = is
 right_false true b is = absurd (cc)
 
-keeps : (f : Facts) (events : List PointEvent) → IsTerminated f → list_any ends (history f events) ≡ false → IsTerminated (facts_at_end f events)
+keeps : (f : Facts) (events : List PointEvent) → IsTerminated f
+    → list_any ends (history f events) ≡ false → IsTerminated (facts_at_end f events)
 keeps f [] t on = t
 keeps f (e ∷ es) t on =
     let now : ends (record { before = f; event = e }) ≡ false = left_false _ (list_any ends (history (facts_after e f) es)) on in
@@ -30,7 +31,8 @@ keeps f (e ∷ es) t on =
     keeps (facts_after e f) es (record { suspended = suspended_kept e f t.suspended t.ending now; ending = ending_kept e f t.suspended t.ending now }) later
 
 -- from the terminate on, as long as nothing ends the fuelling
-pub stays_terminated : (f : Facts) (events : List PointEvent) (before since : List Moment) (m : Moment) → history f events ≡ before ++ m ∷ since
+pub stays_terminated : (f : Facts) (events : List PointEvent) (before since : List Moment) (m : Moment)
+    → history f events ≡ before ++ m ∷ since
     → reply_at m ≡ Ok Ending → list_any ends since ≡ false → IsTerminated (facts_at_end f events)
 stays_terminated f [] [] since m parts told on = cc
 stays_terminated f [] (x ∷ xs) since m parts told on = cc

@@ -39,7 +39,8 @@ pub stays_whole : StaysWhole
 stays_whole = record { begins = begins; keeps = keeps }
 
 -- the same of an event that is accepted
-pub whole_accepted : (event : PointEvent) (f : Facts) → IsWhole f → refusal_of event f ≡ None → IsWhole (after event f)
+pub whole_accepted : (event : PointEvent) (f : Facts) → IsWhole f → refusal_of event f ≡ None
+    → IsWhole (after event f)
 whole_accepted event f w taken =
     let leads : facts_after event f ≡ after event f = rw taken refl in
     subst IsWhole leads (keeps event f w)
@@ -57,7 +58,8 @@ conserved event f w taken still =
     grind (arith, common_steps)
 
 -- what a whole point sells isn't nothing
-pub sold_something : (event : PointEvent) (f : Facts) (nozzle volume price : ℕ) (prepaid : Option ℕ) → IsWhole f
+pub sold_something : (event : PointEvent) (f : Facts) (nozzle volume price : ℕ) (prepaid : Option ℕ)
+    → IsWhole f
     → reply_to event f ≡ Ok (Sold nozzle volume price prepaid) → 1 ≤ volume
 sold_something event f nozzle volume price prepaid w told =
     let something = w.something in

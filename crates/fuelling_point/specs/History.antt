@@ -32,7 +32,8 @@ pub record Moment : Type 0 where
 -- the events one after another, at a point that keeps this before the first
 abbrev pub history : Facts → List PointEvent → List Moment
 history f [] = []
-history f (event ∷ events) = record { before = f; event = event } ∷ history (facts_after event f) events
+history f (event ∷ events) =
+    record { before = f; event = event } ∷ history (facts_after event f) events
 
 abbrev pub facts_at_end : Facts → List PointEvent → Facts
 facts_at_end f [] = f

@@ -10,8 +10,9 @@ use Rattle.fuelling_point.specs.declared.event.PointEvent.{PointEvent}
 use Rattle.fuelling_point.specs.declared.event.PointEvent.TheVariants.{Lift, Release, Terminate, Flow, HangUp}
 use Rattle.fuelling_point.specs.Table.{Move, stay, goes}
 
--- its state; the nozzle that is out; whether its fuelling is ending; the preset and the prepaid cents of
--- its release; and of its fuelling the price taken, the reading at its start and the millilitres since
+-- its state; the nozzle that is out; whether its fuelling is ending; the preset and the prepaid
+-- cents of its release; and of its fuelling the price taken, the reading at its start and the
+-- millilitres since
 pub record Facts : Type 0 where
   pub state : PointState
   pub out : Option ℕ
@@ -24,7 +25,16 @@ pub record Facts : Type 0 where
 
 -- a point in this state that keeps nothing
 abbrev pub fresh : PointState → Facts
-fresh s = record { state = s; out = None; ending = false; preset = Unset; prepaid = None; price = 0; start = 0; volume = 0 }
+fresh s = record {
+  state = s;
+  out = None;
+  ending = false;
+  preset = Unset;
+  prepaid = None;
+  price = 0;
+  start = 0;
+  volume = 0;
+}
 
 -- a fuelling is under way: it has started and isn't over
 abbrev pub is_under_way : PointState → Bool
@@ -49,7 +59,16 @@ volume_of f = if is_under_way f.state then f.volume else 0
 
 -- the point as a read shows it, with the till that holds it
 abbrev pub point_view : Facts → Option ℕ → PointView
-point_view f holder = record { state = f.state; out = f.out; holder = holder; ending = f.ending; preset = f.preset; prepaid = f.prepaid; price = price_of f; volume = volume_of f }
+point_view f holder = record {
+  state = f.state;
+  out = f.out;
+  holder = holder;
+  ending = f.ending;
+  preset = f.preset;
+  prepaid = f.prepaid;
+  price = price_of f;
+  volume = volume_of f;
+}
 
 -- the growth that an event hands in
 abbrev pub growth_of : PointEvent → ℕ
@@ -71,7 +90,8 @@ starting move last price f = f
 -- what the point keeps of an accepted event, before it forgets any
 abbrev pub noted : PointEvent → Move → Facts → Facts
 noted (Lift nozzle last price) move f = starting move last price (record f { out = Some nozzle })
-noted (Release preset prepaid last price) move f = starting move last price (record f { preset = preset; prepaid = prepaid })
+noted (Release preset prepaid last price) move f =
+    starting move last price (record f { preset = preset; prepaid = prepaid })
 noted Terminate move f = record f { ending = true }
 noted (Flow nozzle growth) move f = record f { volume = f.volume + growth }
 noted (HangUp nozzle growth) move f = record f { volume = f.volume + growth }

@@ -1,4 +1,5 @@
--- The laws of a fuelling point: what holds whatever events a new point has had, refused ones among them.
+-- The laws of a fuelling point: what holds whatever events a new point has had, refused ones among
+-- them.
 use Rattle.std.specs.Prelude.{◌≡◌, ℕ, ◌+◌, ◌≤◌, Bool, true, false, ◌&&◌, List, ◌∷◌, ◌++◌, sum_by, Option, Some, None, is_ok, Result, Ok}
 use Rattle.std.specs.List.{list_any}
 use Rattle.site_base.specs.declared.refusal.Refusal.{Refusal}
@@ -53,8 +54,8 @@ reply_at m = reply_to m.event m.before
 abbrev pub ends : Moment → Bool
 ends m = is_end m.event && is_ok (reply_at m)
 
--- A fuelling that stands at the end of these moments: in one of them it started and took this price and
--- reading, none since has ended it, and so much has flowed since.
+-- A fuelling that stands at the end of these moments: in one of them it started and took this price
+-- and reading, none since has ended it, and so much has flowed since.
 pub record HasStarted (moments : List Moment) (price start volume : ℕ) : Type 0 where
   pub before : List Moment
   pub begin : Moment
@@ -64,8 +65,8 @@ pub record HasStarted (moments : List Moment) (price start volume : ℕ) : Type 
   pub goes_on : list_any ends since ≡ false
   pub flowed : volume ≡ sum_by (λ m. flowed_in (reply_at m)) since
 
--- A nozzle that is out at the end of these moments: in one of them it was lifted, and in none since was it
--- put back or the point lost.
+-- A nozzle that is out at the end of these moments: in one of them it was lifted, and in none since
+-- was it put back or the point lost.
 pub record HasLifted (moments : List Moment) (nozzle : ℕ) : Type 0 where
   pub before : List Moment
   pub lift : Moment
@@ -79,43 +80,54 @@ pub record StaysWhole : Type 0 where
   pub begins : IsWhole (fresh states.Closed)
   pub keeps : (event : PointEvent) (f : Facts) → IsWhole f → IsWhole (facts_after event f)
 
--- what has flowed in the fuelling so far and what an accepted event hands in is in the fuelling afterwards or
--- in the sale that it tells; where the point only calls, no growth is handed in
+-- what has flowed in the fuelling so far and what an accepted event hands in is in the fuelling
+-- afterwards or in the sale that it tells; where the point only calls, no growth is handed in
 abbrev pub IsConserved : Type 0
-IsConserved = (event : PointEvent) (f : Facts) → IsWhole f → refusal_of event f ≡ None → (f.state ≡ states.Calling → growth_of event ≡ 0)
+IsConserved = (event : PointEvent) (f : Facts) → IsWhole f → refusal_of event f ≡ None
+    → (f.state ≡ states.Calling → growth_of event ≡ 0)
     → volume_of f + growth_of event ≡ volume_of (after event f) + sold_in (step_of event f)
 
 -- a sale is the answer to a hang up or an offline alone
 abbrev pub IsSoldAtEnd : Type 0
-IsSoldAtEnd = (events : List PointEvent) (event : PointEvent) → is_sold (reply_to event (point_after events)) ≡ true → is_end event ≡ true
+IsSoldAtEnd = (events : List PointEvent) (event : PointEvent)
+    → is_sold (reply_to event (point_after events)) ≡ true → is_end event ≡ true
 
--- from a terminate that is answered so until an accepted hang up or offline, the point is suspended and
--- its fuelling ending
+-- from a terminate that is answered so until an accepted hang up or offline, the point is suspended
+-- and its fuelling ending
 abbrev pub StaysSuspended : Type 0
-StaysSuspended = (events : List PointEvent) (before since : List Moment) (m : Moment) → moments_of events ≡ before ++ m ∷ since
+StaysSuspended = (events : List PointEvent) (before since : List Moment) (m : Moment)
+    → moments_of events ≡ before ++ m ∷ since
     → reply_at m ≡ Ok Ending → list_any ends since ≡ false
     → (is_suspended (point_after events).state ≡ true) × ((point_after events).ending ≡ true)
 
--- a fuelling under way keeps the price and the reading that were handed in where it started, and what
--- has flowed since
+-- a fuelling under way keeps the price and the reading that were handed in where it started, and
+-- what has flowed since
 abbrev pub IsKeptFromStart : Type 0
 IsKeptFromStart = (events : List PointEvent) → is_under_way (point_after events).state ≡ true
-    → HasStarted (moments_of events) (point_after events).price (point_after events).start (point_after events).volume
+    → HasStarted (moments_of events) (point_after events).price (point_after events).start
+    (point_after events).volume
 
--- a sale has the price that was handed in where its fuelling started, and the volume of the growths since,
--- its own event's among them
+-- a sale has the price that was handed in where its fuelling started, and the volume of the growths
+-- since, its own event's among them
 abbrev pub IsSoldAsStarted : Type 0
-IsSoldAsStarted = (events : List PointEvent) (event : PointEvent) (nozzle volume price : ℕ) (prepaid : Option ℕ)
+IsSoldAsStarted = (events : List PointEvent) (event : PointEvent)
+    (nozzle volume price : ℕ) (prepaid : Option ℕ)
     → reply_to event (point_after events) ≡ Ok (Sold nozzle volume price prepaid)
-    → (start : ℕ) × ((flowed : ℕ) × (HasStarted (moments_of events) price start flowed × (volume ≡ flowed + growth_of event)))
+    → (start : ℕ) × ((flowed : ℕ) × (HasStarted (moments_of events) price start flowed
+    × (volume ≡ flowed + growth_of event)))
 
--- a nozzle that is out, and that of a sale, is the one that was lifted and hasn't been put back since
+-- a nozzle that is out, and that of a sale, is the one that was lifted and hasn't been put back
+-- since
 pub record IsTheLifted : Type 0 where
-  pub out : (events : List PointEvent) (nozzle : ℕ) → (point_after events).out ≡ Some nozzle → HasLifted (moments_of events) nozzle
-  pub sold : (events : List PointEvent) (event : PointEvent) (nozzle volume price : ℕ) (prepaid : Option ℕ)
-      → reply_to event (point_after events) ≡ Ok (Sold nozzle volume price prepaid) → HasLifted (moments_of events) nozzle
+  pub out : (events : List PointEvent) (nozzle : ℕ) → (point_after events).out ≡ Some nozzle
+      → HasLifted (moments_of events) nozzle
+  pub sold : (events : List PointEvent) (event : PointEvent)
+      (nozzle volume price : ℕ) (prepaid : Option ℕ)
+      → reply_to event (point_after events) ≡ Ok (Sold nozzle volume price prepaid)
+      → HasLifted (moments_of events) nozzle
 
 -- a sale is never of nothing
 abbrev pub IsNeverNothing : Type 0
-IsNeverNothing = (events : List PointEvent) (event : PointEvent) (nozzle volume price : ℕ) (prepaid : Option ℕ)
+IsNeverNothing = (events : List PointEvent) (event : PointEvent)
+    (nozzle volume price : ℕ) (prepaid : Option ℕ)
     → reply_to event (point_after events) ≡ Ok (Sold nozzle volume price prepaid) → 1 ≤ volume

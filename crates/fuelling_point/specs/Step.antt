@@ -6,7 +6,8 @@ use Rattle.fuelling_point.specs.declared.step.PointStep.TheVariants.{Moved, Call
 use Rattle.fuelling_point.specs.Table.{Line, Told, done, calling, start, flowed, hung_up, no_sale, sold, stopped, ending, line_of}
 use Rattle.fuelling_point.specs.Kept.{Facts, growth_of, noted, moved}
 
--- the answer with its values: those that stand before the point forgets any, the event's own among them
+-- the answer with its values: those that stand before the point forgets any, the event's own among
+-- them
 abbrev pub step_told : Told → ℕ → Facts → PointStep
 step_told done growth f = Moved
 step_told calling growth f = Calling

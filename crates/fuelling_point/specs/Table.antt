@@ -1,5 +1,5 @@
--- The point table: what each event does in each state of a fuelling point. A line that isn't here isn't
--- accepted.
+-- The point table: what each event does in each state of a fuelling point. A line that isn't here
+-- isn't accepted.
 use Rattle.std.specs.Prelude.{ℕ, Bool, Option, Some, None, is_some, ◌==◌, if◌then◌else◌}
 use Rattle.site_base.specs.declared.state.PointState.{PointState}
 use Rattle.site_base.specs.declared.state.PointState.TheVariants.{Inoperative, Closed, Idle, Calling, Authorised, Started, SuspendedStarted, Fuelling, SuspendedFuelling}

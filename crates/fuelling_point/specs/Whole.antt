@@ -22,9 +22,9 @@ abbrev pub is_released : PointState → Bool
 is_released Authorised = true
 is_released state = is_under_way state
 
--- a nozzle is kept just where one is out; so much has flowed as the state says, nothing or something; only a
--- suspended fuelling is ending; price and start reading are kept of a fuelling under way alone, and preset
--- and prepaid cents from the release on
+-- a nozzle is kept just where one is out; so much has flowed as the state says, nothing or
+-- something; only a suspended fuelling is ending; price and start reading are kept of a fuelling
+-- under way alone, and preset and prepaid cents from the release on
 pub record IsWhole (f : Facts) : Type 0 where
   pub nozzle : is_some f.out ≡ has_nozzle_out f.state
   pub nothing : has_flowed f.state ≡ false → f.volume ≡ 0

@@ -1,17 +1,17 @@
-//! What holds whatever events a new point has had, refused ones among them. These laws have no code:
-//! each is proved of the definitions that `Point`'s contracts cite.
+//! What holds whatever events a new point has had, refused ones among them. These laws have no
+//! code: each is proved of the definitions that `Point`'s contracts cite.
 
 ghost use Rattle.fuelling_point.specs.Laws.{StaysWhole, IsConserved, IsSoldAtEnd, StaysSuspended, IsKeptFromStart, IsSoldAsStarted, IsTheLifted, IsNeverNothing};
 
-/// A new point is whole, and an event, accepted or refused, leaves a whole point whole: a nozzle is kept
-/// just where one is out, something has flowed just where the state says so, only a suspended fuelling is
-/// ending, and nothing is kept of a release or a fuelling where there is none.
+/// A new point is whole, and an event, accepted or refused, leaves a whole point whole: a nozzle is
+/// kept just where one is out, something has flowed just where the state says so, only a suspended
+/// fuelling is ending, and nothing is kept of a release or a fuelling where there is none.
 pub fn stays_whole()
     ensures { StaysWhole }
 {}
 
-/// At a whole point the volume of the fuelling with the growth that an accepted event hands in is the
-/// volume afterwards with that of the sale that it tells. A hang up in calling hands in none.
+/// At a whole point the volume of the fuelling with the growth that an accepted event hands in is
+/// the volume afterwards with that of the sale that it tells. A hang up in calling hands in none.
 pub fn volume_is_conserved()
     ensures { IsConserved }
 {}
@@ -38,7 +38,8 @@ pub fn sold_as_started()
     ensures { IsSoldAsStarted }
 {}
 
-/// The nozzle that is out, and that of a sale, is the one that was lifted; since then it wasn't put back.
+/// The nozzle that is out, and that of a sale, is the one that was lifted; since then it wasn't put
+/// back.
 pub fn sold_by_the_lifted_nozzle()
     ensures { IsTheLifted }
 {}

@@ -18,13 +18,13 @@ use site_base::{Millilitres, Mills, NozzleNo, PointState, PointView, Preset, Ref
 use std::marker::Model;
 
 /// One fuelling point: its state, and what it keeps from one event to the next. A lifted nozzle is
-/// kept until it is put back, a preset and a prepayment from the release on, the price and the start
-/// reading from the start of the fuelling on, its volume as it is reported. All of it is forgotten on
-/// the way to inoperative and to idle.
+/// kept until it is put back, a preset and a prepayment from the release on, the price and the
+/// start reading from the start of the fuelling on, its volume as it is reported. All of it is
+/// forgotten on the way to inoperative and to idle.
 ///
 /// So a nozzle is kept just where one is out, there is a volume just where fuel has flowed, only a
-/// suspended fuelling is ending, and nothing is kept of a release or a fuelling where there is none.
-/// That is true of every point; `view` and `judge` say so.
+/// suspended fuelling is ending, and nothing is kept of a release or a fuelling where there is
+/// none. That is true of every point; `view` and `judge` say so.
 #[derive(Drop)]
 pub struct Point {
     state: PointState,
@@ -63,10 +63,12 @@ impl Point {
     }
 
     /// The point as a read shows it; its holder isn't known here. Price and volume are 0 unless a
-    /// fuelling is under way: started, fuelling, or either of them suspended.
+    /// fuelling is under way: started, fuelling, or either of them suspended. The volume is one
+    /// that a meter can show.
     pub fn view(&self) -> PointView
         ensures view { result ≡ point_view self.now None }
         ensures whole { IsWhole self.now }
+        ensures range { result.volume ≤ GREATEST_READING }
     {
         let (price, volume) = match self.delivery {
             Some(delivery) => (delivery.price.get(), delivery.volume),
@@ -84,7 +86,8 @@ impl Point {
         }
     }
 
-    /// Why `on` would refuse the event, if it would; the first of these that holds. Nothing changes.
+    /// Why `on` would refuse the event, if it would; the first of these that holds. Nothing
+    /// changes.
     ///
     /// - `WrongState`: the point table doesn't list the event in the point's state.
     /// - `Ending`: the fuelling was terminated, so it is neither resumed nor terminated again.
@@ -107,9 +110,10 @@ impl Point {
     }
 
     /// Does what the point table says of the event, and answers what it did; a sale or a start with
-    /// the values that stood before the point forgot them. A fuelling that starts takes the price and
-    /// the reading handed in, and nothing touches these until it is over. A terminated fuelling takes
-    /// flow until hang up or offline. The refusal is that of `judge`, and leaves the point as it was.
+    /// the values that stood before the point forgot them. A fuelling that starts takes the price
+    /// and the reading handed in, and nothing touches these until it is over. A terminated fuelling
+    /// takes flow until hang up or offline. The refusal is that of `judge`, and leaves the point as
+    /// it was.
     ///
     /// The fuelling's volume with the growth handed in has to be one that a meter can show.
     pub fn on(&mut self, event: PointEvent) -> Result<PointStep, Refusal>
@@ -273,9 +277,10 @@ impl Point {
         ensures step { (nozzle : ℕ) → result ≡ step_of (PointEvent.Flow nozzle growth) self.old }
         ensures facts { (nozzle : ℕ) → self.new ≡ after (PointEvent.Flow nozzle growth) self.old }
     {
-        if let Some(delivery) = self.delivery {
-            self.delivery = Some(delivery.after(growth));
-        }
+        let Some(delivery) = self.delivery else {
+            unreachable!();
+        };
+        self.delivery = Some(delivery.after(growth));
         if growth > 0 {
             self.state = flowing(self.state);
         }
@@ -302,7 +307,8 @@ impl Point {
     fn sold(&self, growth: u64) -> PointStep
         requires under_way { is_under_way self.now.state ≡ true }
         requires fits { self.now.volume + growth ≤ GREATEST_READING }
-        ensures { result ≡ PointStep.Sold (unwrap_or self.now.out 0) (self.now.volume + growth) self.now.price self.now.prepaid }
+        ensures { result ≡ PointStep.Sold (unwrap_or self.now.out 0) (self.now.volume + growth)
+            self.now.price self.now.prepaid }
     {
         if let Some(nozzle) = self.out
             && let Some(delivery) = self.delivery
@@ -333,7 +339,8 @@ impl Point {
     }
 
     fn judge_ending(&self) -> Result<(), Refusal>
-        ensures { MatchResult result (λ _. self.now.ending ≡ false) (λ refusal. (self.now.ending ≡ true) × (refusal ≡ Refusal.Ending)) }
+        ensures { MatchResult result (λ _. self.now.ending ≡ false)
+            (λ refusal. (self.now.ending ≡ true) × (refusal ≡ Refusal.Ending)) }
     {
         if self.ending {
             Err(Refusal::Ending)
@@ -344,7 +351,8 @@ impl Point {
 
     /// Is this the nozzle that is out?
     fn judge_nozzle(&self, nozzle: NozzleNo) -> Result<(), Refusal>
-        ensures { MatchResult result (λ _. is_out nozzle self.now.out ≡ None) (λ refusal. is_out nozzle self.now.out ≡ Some refusal) }
+        ensures { MatchResult result (λ _. is_out nozzle self.now.out ≡ None)
+            (λ refusal. is_out nozzle self.now.out ≡ Some refusal) }
     {
         match self.out {
             Some(out) if out != nozzle => Err(Refusal::WrongNozzle(out)),

@@ -23,7 +23,8 @@ pub enum PointStep {
     HungUp,
     /// The nozzle is back in; no fuel has flowed.
     NoSale,
-    /// The fuelling is over: this volume by this nozzle at the price it took, and the prepaid cents.
+    /// The fuelling is over: this volume by this nozzle at the price it took, and the prepaid
+    /// cents.
     Sold {
         nozzle: NozzleNo,
         volume: Millilitres,

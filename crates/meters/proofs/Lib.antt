@@ -1,3 +1,6 @@
+pub mod Bounded
+pub mod Looked
 pub mod Places
 pub mod Raised
-pub mod Looked
+pub mod Weighed
+pub mod Worked

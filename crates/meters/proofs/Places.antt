@@ -6,18 +6,23 @@ use Rattle.std.proofs.Math.Seq.{drop-cons}
 use Rattle.meters.specs.Nozzles.{Nozzle, is_nozzle, product_of, last_of, has_nozzle, with_last}
 use Rattle.meters.specs.Places.{IsPlace}
 
-product_of-here : (p n : ℕ) (x : Nozzle) (xs : List Nozzle) → is_nozzle p n x ≡ true → product_of p n (x ∷ xs) ≡ Some x.product
+product_of-here : (p n : ℕ) (x : Nozzle) (xs : List Nozzle) → is_nozzle p n x ≡ true
+    → product_of p n (x ∷ xs) ≡ Some x.product
 product_of-here p n x xs is = rw is refl
 
-last_of-here : (p n : ℕ) (x : Nozzle) (xs : List Nozzle) → is_nozzle p n x ≡ true → last_of p n (x ∷ xs) ≡ Some x.last
+last_of-here : (p n : ℕ) (x : Nozzle) (xs : List Nozzle) → is_nozzle p n x ≡ true
+    → last_of p n (x ∷ xs) ≡ Some x.last
 last_of-here p n x xs is = rw is refl
 
-with_last-here : (p n r : ℕ) (x : Nozzle) (xs : List Nozzle) → is_nozzle p n x ≡ true → with_last p n r (x ∷ xs) ≡ record x { last = r } ∷ xs
+with_last-here : (p n r : ℕ) (x : Nozzle) (xs : List Nozzle) → is_nozzle p n x ≡ true
+    → with_last p n r (x ∷ xs) ≡ record x { last = r } ∷ xs
 with_last-here p n r x xs is = rw is refl
 
 -- the first such nozzle, where no nozzle before it is one
-pub place_found : (p n : ℕ) (xs : List Nozzle) (i : ℕ) (d : Nozzle) → i < length xs → is_nozzle p n (get_or xs i d) ≡ true
-    → product_of p n (drop i xs) ≡ product_of p n xs → last_of p n (drop i xs) ≡ last_of p n xs → ((r : ℕ) → take i xs ++ with_last p n r (drop i xs) ≡ with_last p n r xs) → IsPlace p n xs i
+pub place_found : (p n : ℕ) (xs : List Nozzle) (i : ℕ) (d : Nozzle) → i < length xs
+    → is_nozzle p n (get_or xs i d) ≡ true
+    → product_of p n (drop i xs) ≡ product_of p n xs → last_of p n (drop i xs) ≡ last_of p n xs
+    → ((r : ℕ) → take i xs ++ with_last p n r (drop i xs) ≡ with_last p n r xs) → IsPlace p n xs i
 place_found p n xs i d lt is product last write =
     let left : drop i xs ≡ get_or xs i d ∷ drop (suc i) xs = drop-cons xs i d lt in
     record {
@@ -32,6 +37,7 @@ pub no_product : (p n : ℕ) (xs : List Nozzle) → has_nozzle p n xs ≡ false 
 no_product p n [] none = refl
 no_product p n (x ∷ xs) none = by_test (no_product p n xs) (is_nozzle p n x) refl
   where
-    by_test : (has_nozzle p n xs ≡ false → product_of p n xs ≡ None) → (b : Bool) → is_nozzle p n x ≡ b → product_of p n (x ∷ xs) ≡ None
+    by_test : (has_nozzle p n xs ≡ false → product_of p n xs ≡ None) → (b : Bool)
+        → is_nozzle p n x ≡ b → product_of p n (x ∷ xs) ≡ None
     by_test behind true is = absurd (false≢true (sym none ∙ (let here : has_nozzle p n (x ∷ xs) ≡ true = rw is refl in here)))
     by_test behind false is = rw is (behind (let left : has_nozzle p n (x ∷ xs) ≡ has_nozzle p n xs = rw is refl in sym left ∙ none))

@@ -1,4 +1,5 @@
-pub mod Nozzles
-pub mod Reports
-pub mod Places
 pub mod Laws
+pub mod Metered
+pub mod Nozzles
+pub mod Places
+pub mod Reports

@@ -1,9 +1,11 @@
 -- The nozzles of a site, and what their meters read.
-use Rattle.std.specs.Prelude.{ℕ, ◌+◌, ◌-◌, Bool, List, [], ◌∷◌, ◌++◌, Option, Some, None, is_some, unwrap_or, ◌&&◌, ◌==◌, if◌then◌else◌}
+use Rattle.std.specs.Prelude.{ℕ, ◌+◌, ◌*◌, ◌≤◌, Bool, List, [], ◌∷◌, ◌++◌, length, Option, Some, None, is_some, unwrap_or, ◌&&◌, ◌==◌, if◌then◌else◌}
 use Rattle.site_base.specs.declared.config.NozzleEntry.{NozzleEntry}
+use Rattle.site_base.specs.declared.limits.TheConstants.{GREATEST_READING, NOZZLES, POINTS}
 use Rattle.site_base.specs.Configured.{Configured, ConfiguredPoint}
 
--- a nozzle: its fuelling point, its number there, its product, and its meter's readings when the site opened and last
+-- a nozzle: its fuelling point, its number there, its product, and its meter's readings when the
+-- site opened and last
 pub record Nozzle : Type 0 where
   pub point : ℕ
   pub number : ℕ
@@ -17,7 +19,8 @@ is_nozzle p n x = x.point == p && x.number == n
 
 -- a configured nozzle when the site opens: its last reading is the opening one
 abbrev pub opened : ℕ → ℕ → NozzleEntry → Nozzle
-opened p n e = record { point = p; number = n; product = e.product; opening = e.reading; last = e.reading }
+opened p n e =
+    record { point = p; number = n; product = e.product; opening = e.reading; last = e.reading }
 
 -- the nozzles of point p when the site opens, in their order, numbered from n
 abbrev pub numbered : ℕ → ℕ → List NozzleEntry → List Nozzle
@@ -58,13 +61,21 @@ reading_of p n xs = unwrap_or (last_of p n xs) 0
 -- the nozzles, with this last reading of nozzle n of point p
 abbrev pub with_last : ℕ → ℕ → ℕ → List Nozzle → List Nozzle
 with_last p n reading [] = []
-with_last p n reading (x ∷ xs) = if is_nozzle p n x then record x { last = reading } ∷ xs else x ∷ with_last p n reading xs
+with_last p n reading (x ∷ xs) =
+    if is_nozzle p n x then record x { last = reading } ∷ xs else x ∷ with_last p n reading xs
 
--- the millilitres that a nozzle has metered since the site opened
-abbrev pub metered : Nozzle → ℕ
-metered x = x.last - x.opening
+-- no last reading is below its opening one
+abbrev pub NoneBelowOpening : List Nozzle → Type 0
+NoneBelowOpening [] = Unit {0}
+NoneBelowOpening (x ∷ xs) = (x.opening ≤ x.last) × NoneBelowOpening xs
 
--- the millilitres that the nozzles of product q have metered since the site opened
-abbrev pub product_total : ℕ → List Nozzle → ℕ
-product_total q [] = 0
-product_total q (x ∷ xs) = (if x.product == q then metered x else 0) + product_total q xs
+-- no last reading is above the greatest
+abbrev pub NoneAboveGreatest : List Nozzle → Type 0
+NoneAboveGreatest [] = Unit {0}
+NoneAboveGreatest (x ∷ xs) = (x.last ≤ GREATEST_READING) × NoneAboveGreatest xs
+
+-- what the nozzles of a site always are: no more than a site can have, and no last reading below
+-- its opening one
+pub record AreNozzles (xs : List Nozzle) : Type 0 where
+  pub few : length xs ≤ POINTS * NOZZLES
+  pub risen : NoneBelowOpening xs

@@ -7,4 +7,6 @@ pub record IsPlace (p n : ℕ) (xs : List Nozzle) (i : ℕ) : Type 0 where
   pub within : i < length xs
   pub product : (d : Nozzle) → product_of p n xs ≡ Some (slice_index_or xs i d).product
   pub last : (d : Nozzle) → last_of p n xs ≡ Some (slice_index_or xs i d).last
-  pub write : (reading : ℕ) (d : Nozzle) → with_last p n reading xs ≡ slice_set xs i (record (slice_index_or xs i d) { last = reading })
+  pub write : (reading : ℕ) (d : Nozzle)
+      → with_last p n reading xs
+      ≡ slice_set xs i (record (slice_index_or xs i d) { last = reading })

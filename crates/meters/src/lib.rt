@@ -1,6 +1,6 @@
-//! The meters of a site's nozzles: the last reading of each, what a report of a dispenser must read,
-//! and how much of each product was metered since the site opened. A report that is refused moves no
-//! meter.
+//! The meters of a site's nozzles: the last reading of each, what a report of a dispenser must
+//! read, and how much of each product was metered since the site opened. A report that is refused
+//! moves no meter.
 #![tactic(auto)]
 
 mod laws;
@@ -11,6 +11,8 @@ mod report;
 #[cfg(test)]
 mod tests;
 
-pub use laws::{growth_raises_one_total, never_below_opening};
+pub use laws::{
+    growth_raises_one_total, never_below_opening, reports_are_metered, totals_are_metered,
+};
 pub use meters::Meters;
 pub use report::Report;

@@ -1,8 +1,8 @@
 //! The meter of one nozzle.
 
 ghost use Rattle.std.specs.Prelude.{◌≡◌, ◌≤◌, ◌==◌, None, Some, OnOk, IfOk, IfErr};
-ghost use Rattle.site_base.specs.declared.limits.TheConstants.{GREATEST_READING};
-ghost use Rattle.meters.specs.Nozzles.{opened, is_nozzle, metered};
+ghost use Rattle.meters.specs.Metered.{metered, most_of_a_nozzle};
+ghost use Rattle.meters.specs.Nozzles.{opened, is_nozzle};
 ghost use Rattle.meters.specs.Reports.{growth_of, report_refusal};
 
 use crate::report::Report;
@@ -25,7 +25,13 @@ impl Model for Meter {
 
     ghost Value = { Nozzle };
 
-    ghost view = { λ m. record { point = m.point; number = m.nozzle; product = m.product; opening = m.opening; last = m.last } };
+    ghost view = { λ m. record {
+      point = m.point;
+      number = m.nozzle;
+      product = m.product;
+      opening = m.opening;
+      last = m.last;
+    } };
 
     ghost invariant = { λ m. m.opening ≤ m.last };
 }
@@ -75,7 +81,7 @@ impl Meter {
     /// What it has metered since the site opened.
     pub fn metered(&self) -> u64
         ensures value { result ≡ metered self.now }
-        ensures range { result ≤ GREATEST_READING }
+        ensures range { result ≤ most_of_a_nozzle }
     {
         self.last.get() - self.opening.get()
     }
@@ -84,7 +90,8 @@ impl Meter {
     pub fn check(&self, reading: Millilitres, report: &Report) -> Result<u64, Refusal>
         ensures accepted { OnOk result (report_refusal report.now self.now.last reading ≡ None) }
         ensures growth { IfOk result (λ growth. growth ≡ growth_of self.now.last reading) }
-        ensures refused { IfErr result (λ refusal. report_refusal report.now self.now.last reading ≡ Some refusal) }
+        ensures refused { IfErr result (λ refusal.
+            report_refusal report.now self.now.last reading ≡ Some refusal) }
     {
         let last = self.last.get();
         let read = reading.get();

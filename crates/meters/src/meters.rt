@@ -1,9 +1,10 @@
 //! The meters of a site.
 
-ghost use Rattle.std.specs.Prelude.{◌≡◌, ◌≤◌, ◌+◌, ◌*◌, ◌++◌, true, None, Some, OnOk, IfOk, IfErr, length};
-ghost use Rattle.site_base.specs.declared.limits.TheConstants.{GREATEST_READING, NOZZLES, POINTS};
+ghost use Rattle.std.specs.Prelude.{◌≡◌, ◌≤◌, ◌+◌, ◌++◌, true, None, Some, OnOk, IfOk, IfErr, length};
+ghost use Rattle.site_base.specs.declared.limits.TheConstants.{NOZZLES};
 ghost use Rattle.meters.specs.declared.report.Report.TheVariants.{Growing};
-ghost use Rattle.meters.specs.Nozzles.{opening_nozzles, nozzles_of_point, product_of, last_of, has_nozzle, reading_of, with_last, product_total};
+ghost use Rattle.meters.specs.Nozzles.{opening_nozzles, nozzles_of_point, product_of, last_of, has_nozzle, reading_of, with_last, NoneBelowOpening};
+ghost use Rattle.meters.specs.Metered.{most_of_a_site, product_total, metered_by, every_product};
 ghost use Rattle.meters.specs.Reports.{growth_of, report_refusal};
 
 use crate::meter::Meter;
@@ -22,19 +23,19 @@ pub struct Meters {
 }
 
 impl Model for Meters {
-    ghost use Rattle.std.specs.Prelude.{◌≤◌, ◌*◌, List, length};
-    ghost use Rattle.site_base.specs.declared.limits.TheConstants.{NOZZLES, POINTS};
-    ghost use Rattle.meters.specs.Nozzles.{Nozzle};
+    ghost use Rattle.std.specs.Prelude.{List};
+    ghost use Rattle.meters.specs.Nozzles.{Nozzle, AreNozzles};
 
     ghost Value = { List Nozzle };
 
     ghost view = { λ m. m.meters.items };
 
-    ghost invariant = { λ m. length m.meters.items ≤ POINTS * NOZZLES };
+    ghost invariant = { λ m. AreNozzles m.meters.items };
 }
 
 impl Meters {
-    /// The meters of the site's nozzles when it opens: each with its opening reading as the last one.
+    /// The meters of the site's nozzles when it opens: each with its opening reading as the last
+    /// one.
     pub fn try_new(alloc: Global, config: &SiteConfig) -> Result<Self, NoMemory>
         ensures { IfOk result (λ meters. meters ≡ opening_nozzles config.now) }
     {
@@ -58,9 +59,11 @@ impl Meters {
         }
     }
 
-    /// The last reading of nozzle n of point p. None where there is no such nozzle.
+    /// The last reading of nozzle n of point p. None where there is no such nozzle. No last reading
+    /// is below its opening one.
     pub fn last(&self, p: FpNo, n: NozzleNo) -> Option<Millilitres>
-        ensures { result ≡ last_of p n self.now }
+        ensures value { result ≡ last_of p n self.now }
+        ensures risen { NoneBelowOpening self.now }
     {
         match place_of(&self.meters, p, n) {
             Some(place) => {
@@ -71,11 +74,12 @@ impl Meters {
         }
     }
 
-    /// How much a report of nozzle n of point p, which is there, adds to the nozzle's last reading, in
-    /// millilitres. A `Still` report that doesn't read just the last reading is refused with `MeterGap`,
-    /// which names the reading that is expected. A `Growing` one is refused with `MeterBack`, which names
-    /// the last reading, where it reads less than that, and with `MeterJump` where it reads more than
-    /// `GROWTH_LIMIT` above it. No meter moves.
+    /// How much a report of nozzle n of point p, which is there, adds to the nozzle's last reading,
+    /// in millilitres. A `Still` report that doesn't read just the last reading is refused with
+    /// `MeterGap`, which names the reading that is expected. A `Growing` one is refused with
+    /// `MeterBack`, which names the last reading, where it reads less than that, and with
+    /// `MeterJump` where it reads more than `GROWTH_LIMIT` above it. No meter moves, and none
+    /// stands below its opening reading.
     pub fn check(
         &self,
         p: FpNo,
@@ -84,42 +88,48 @@ impl Meters {
         report: Report,
     ) -> Result<u64, Refusal>
         requires there { has_nozzle p n self.now ≡ true }
-        ensures accepted { OnOk result (report_refusal report (reading_of p n self.now) reading ≡ None) }
-        ensures growth { IfOk result (λ growth. growth ≡ growth_of (reading_of p n self.now) reading) }
-        ensures refused { IfErr result (λ refusal. report_refusal report (reading_of p n self.now) reading ≡ Some refusal) }
+        ensures accepted { OnOk result (
+            report_refusal report (reading_of p n self.now) reading ≡ None) }
+        ensures growth { IfOk result (λ growth.
+            growth ≡ growth_of (reading_of p n self.now) reading) }
+        ensures refused { IfErr result (λ refusal.
+            report_refusal report (reading_of p n self.now) reading ≡ Some refusal) }
+        ensures risen { NoneBelowOpening self.now }
     {
-        match place_of(&self.meters, p, n) {
-            Some(place) => {
-                let meter = &self.meters[place];
-                meter.check(reading, &report)
-            }
-            None => Ok(0),
-        }
+        let Some(place) = place_of(&self.meters, p, n) else {
+            unreachable!();
+        };
+        let meter = &self.meters[place];
+        meter.check(reading, &report)
     }
 
-    /// Takes a reading of nozzle n of point p, which is there, as its last one. A `Growing` report of it
-    /// would be accepted. No other meter moves.
+    /// Takes a reading of nozzle n of point p, which is there, as its last one. A `Growing` report
+    /// of it would be accepted. No other meter moves.
     pub fn advance(&mut self, p: FpNo, n: NozzleNo, reading: Millilitres)
         requires there { has_nozzle p n self.old ≡ true }
         requires accepted { report_refusal Growing (reading_of p n self.old) reading ≡ None }
         ensures { self.new ≡ with_last p n reading self.old }
     {
-        if let Some(place) = place_of(&self.meters, p, n) {
-            let meter = &mut self.meters[place];
-            meter.advance(reading);
-        }
+        let Some(place) = place_of(&self.meters, p, n) else {
+            unreachable!();
+        };
+        let meter = &mut self.meters[place];
+        meter.advance(reading);
     }
 
-    /// What the nozzles of product q have metered since the site opened, in millilitres: the sum of the
-    /// last reading less the opening one. 0 where no nozzle delivers q.
+    /// What the nozzles of product q have metered since the site opened, in millilitres: the sum of
+    /// the last reading less the opening one. 0 where no nozzle delivers q. What the nozzles of all
+    /// products have metered is at most what a site can meter.
     pub fn product_total(&self, q: ProductNo) -> u64
         ensures total { result ≡ product_total q self.now }
-        ensures range { result ≤ POINTS * NOZZLES * GREATEST_READING }
+        ensures range { result ≤ most_of_a_site }
+        ensures bound { metered_by every_product self.now ≤ most_of_a_site }
     {
         let mut total = 0;
         for meter in &self.meters {
+            let metered = meter.metered();
             if meter.delivers(q) {
-                total += meter.metered();
+                total += metered;
             }
         }
         total
@@ -129,12 +139,13 @@ impl Meters {
 /// Adds the meters of a point's nozzles: nozzle n is the nth.
 fn add_point(meters: &mut Vec<Meter>, entry: &PointEntry) -> Result<(), NoMemory>
     requires most { length entry.now.nozzles ≤ NOZZLES }
-    ensures added { OnOk result (meters.new.items ≡ meters.old.items ++ nozzles_of_point entry.now) }
+    ensures added { OnOk result (
+        meters.new.items ≡ meters.old.items ++ nozzles_of_point entry.now) }
     ensures few { OnOk result (length meters.new.items ≤ length meters.old.items + NOZZLES) }
 {
     for (place, nozzle) in entry.nozzles.iter().enumerate() {
         let Some(number) = NozzleNo::new(place as u8 + 1) else {
-            return Ok(());
+            unreachable!();
         };
         meters.push(Meter::opened(entry.number, number, nozzle))?;
     }

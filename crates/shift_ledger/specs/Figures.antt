@@ -1,8 +1,7 @@
 -- The figures of one shift.
 use Rattle.std.specs.Prelude.{ℕ, ◌+◌, ◌^◌, ◌<◌, unwrap_or, replicate}
-use Rattle.site_base.specs.declared.limits.TheConstants.{TILL_CELLS}
+use Rattle.site_base.specs.declared.limits.TheConstants.{TILL_CELLS, PRODUCT_CELLS}
 use Rattle.site_base.specs.Numbered.{numbered, with_numbered}
-use Rattle.shift_ledger.specs.declared.row.TheConstants.{PRODUCT_CELLS}
 use Rattle.shift_ledger.specs.declared.row.ShiftRow.{ShiftRow}
 
 -- the clears of a till and their cents
@@ -17,10 +16,14 @@ product_figure q row = unwrap_or (numbered q row.products) 0
 abbrev pub no_clears : ShiftRow
 no_clears = record { tills = replicate TILL_CELLS (0, 0); products = replicate PRODUCT_CELLS 0 }
 
+-- a till's clears and their cents, with one more of these cents
+abbrev pub one_clear_more : ℕ → ℕ × ℕ → ℕ × ℕ
+one_clear_more cents figures = (figures.0 + 1, figures.1 + cents)
+
 -- the figures with one more clear by a till: of this product, millilitres and cents
 abbrev pub with_clear : ℕ → ℕ → ℕ → ℕ → ShiftRow → ShiftRow
 with_clear t q ml cents row = record {
-  tills = with_numbered t ((till_figures t row).0 + 1, (till_figures t row).1 + cents) row.tills;
+  tills = with_numbered t (one_clear_more cents (till_figures t row)) row.tills;
   products = with_numbered q (product_figure q row + ml) row.products;
 }
 

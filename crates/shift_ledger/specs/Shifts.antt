@@ -37,4 +37,5 @@ after_close s = record { closed = s.closed ++ s.current ∷ []; current = no_cle
 
 -- one more clear in the open shift
 abbrev pub after_clear : ℕ → ℕ → ℕ → ℕ → Shifts → Shifts
-after_clear t q ml cents s = record { closed = s.closed; current = with_clear t q ml cents s.current }
+after_clear t q ml cents s =
+    record { closed = s.closed; current = with_clear t q ml cents s.current }

@@ -11,7 +11,8 @@ use site_base::{GREATEST_SHIFT, NoMemory, ProductNo, Refusal, TillNo};
 use std::alloc::Global;
 use std::marker::Model;
 
-/// The figures of the closed shifts, which are numbered from 1, and of the open one, which is the next.
+/// The figures of the closed shifts, which are numbered from 1, and of the open one, which is the
+/// next.
 #[derive(Drop)]
 pub struct ShiftBook {
     closed: Vec<ShiftRow>,
@@ -25,7 +26,10 @@ impl Model for ShiftBook {
 
     ghost Value = { Book };
 
-    ghost view = { λ b. record { shifts = record { closed = b.closed.items; current = b.current }; room = vec_capacity b.closed - vec_len b.closed } };
+    ghost view = { λ b. record {
+      shifts = record { closed = b.closed.items; current = b.current };
+      room = vec_capacity b.closed - vec_len b.closed;
+    } };
 
     ghost invariant = { λ b. length b.closed.items < GREATEST_SHIFT };
 }
@@ -51,8 +55,8 @@ impl ShiftBook {
         Ok(())
     }
 
-    /// Adds a clear by a till to the open shift: of this product, so many millilitres and cents. The
-    /// open shift's sums with it stay in u64.
+    /// Adds a clear by a till to the open shift: of this product, so many millilitres and cents.
+    /// The open shift's sums with it stay in u64.
     pub fn note_cleared(&mut self, t: TillNo, q: ProductNo, ml: u64, cents: u64)
         requires { FitsClear t q ml cents self.old.shifts.current }
         ensures shifts { self.new.shifts ≡ after_clear t q ml cents self.old.shifts }
@@ -61,9 +65,9 @@ impl ShiftBook {
         self.current.note_cleared(t, q, ml, cents);
     }
 
-    /// Closes the open shift and opens the next, with nothing in it; the answer is the number of the
-    /// shift that was closed. While shift `GREATEST_SHIFT` is open it is refused with `ShiftsSpent`, and
-    /// nothing changes. The room for it is reserved; it takes no memory.
+    /// Closes the open shift and opens the next, with nothing in it; the answer is the number of
+    /// the shift that was closed. While shift `GREATEST_SHIFT` is open it is refused with
+    /// `ShiftsSpent`, and nothing changes. The room for it is reserved; it takes no memory.
     pub fn close(&mut self) -> Result<u16, Refusal>
         requires { 0 < self.old.room }
         ensures accepted { OnOk result (is_last self.old.shifts ≡ false) }

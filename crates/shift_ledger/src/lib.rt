@@ -3,9 +3,11 @@
 #![tactic(auto)]
 
 mod book;
+mod laws;
 mod row;
 #[cfg(test)]
 mod tests;
 
 pub use book::ShiftBook;
-pub use row::{PRODUCT_CELLS, ShiftRow};
+pub use laws::{closed_for_good, counted_by_a_clear, has_every_figure, opened_empty};
+pub use row::ShiftRow;

@@ -3,10 +3,7 @@
 ghost use Rattle.std.specs.Prelude.{◌≡◌};
 ghost use Rattle.shift_ledger.specs.Figures.{no_clears, with_clear, FitsClear};
 
-use site_base::{PRODUCTS, ProductNo, TILL_CELLS, TillNo};
-
-/// Cells of an array that has one for each product.
-pub const PRODUCT_CELLS: usize = PRODUCTS as usize;
+use site_base::{PRODUCT_CELLS, ProductNo, TILL_CELLS, TillNo};
 
 /// The figures of a shift.
 #[derive(Clone, Copy, Debug, PartialEq, Eq)]
@@ -19,7 +16,7 @@ pub struct ShiftRow {
 
 impl ShiftRow {
     /// A shift in which nothing was cleared.
-    pub(crate) fn empty() -> Self
+    pub fn empty() -> Self
         ensures { result ≡ no_clears }
     {
         ShiftRow {
@@ -28,15 +25,16 @@ impl ShiftRow {
         }
     }
 
-    /// Adds one clear by a till: of this product, so many millilitres and cents. The sums stay in u64.
+    /// Adds one clear by a till: of this product, so many millilitres and cents. The sums stay in
+    /// u64.
     pub(crate) fn note_cleared(&mut self, t: TillNo, q: ProductNo, ml: u64, cents: u64)
         requires { FitsClear t q ml cents self.old }
         ensures { self.new ≡ with_clear t q ml cents self.old }
     {
-        let till = t.get() as usize - 1;
+        let till = t.cell();
         let (clears, sum) = self.tills[till];
         self.tills[till] = (clears + 1, sum + cents);
-        let product = q.get() as usize - 1;
+        let product = q.cell();
         self.products[product] += ml;
     }
 }

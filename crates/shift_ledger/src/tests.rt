@@ -1,4 +1,5 @@
-//! What no clause says: figures shift by shift, the last shift, and what stands after want of memory.
+//! What no clause says: figures shift by shift, the last shift, and what stands after want of
+//! memory.
 
 mod refused;
 
@@ -18,8 +19,8 @@ fn product(number: u8) -> Result<ProductNo, Fail> {
 /// Notes a clear in the open shift, whose sums are small.
 fn noted(book: &mut ShiftBook, t: TillNo, q: ProductNo, ml: u32, cents: u32) -> Result<(), Fail> {
     let row = book.row(book.rows() + 1).ok_or("a shift")?;
-    let (clears, sum) = row.tills[t.get() as usize - 1];
-    let volume = row.products[q.get() as usize - 1];
+    let (clears, sum) = row.tills[t.cell()];
+    let volume = row.products[q.cell()];
     if clears < 1_000 && sum < 1_000_000 && volume < 1_000_000 {
         book.note_cleared(t, q, u64::from(ml), u64::from(cents));
         Ok(())
@@ -29,11 +30,11 @@ fn noted(book: &mut ShiftBook, t: TillNo, q: ProductNo, ml: u32, cents: u32) -> 
 }
 
 fn assert_till(rt: &impl Abort, row: &ShiftRow, t: TillNo, want: (u64, u64)) {
-    assert_eq!(rt; row.tills[t.get() as usize - 1], want);
+    assert_eq!(rt; row.tills[t.cell()], want);
 }
 
 fn assert_product(rt: &impl Abort, row: &ShiftRow, q: ProductNo, want: u64) {
-    assert_eq!(rt; row.products[q.get() as usize - 1], want);
+    assert_eq!(rt; row.products[q.cell()], want);
 }
 
 #[test]

@@ -1,6 +1,6 @@
 //! The holds of a site.
 
-ghost use Rattle.std.specs.Prelude.{◌≡◌, ◌+◌, ◌<◌, true, is_some, IfOk, IfSome};
+ghost use Rattle.std.specs.Prelude.{◌≡◌, true, IfOk};
 ghost use Rattle.std.specs.Ordering.{nat_cmp};
 ghost use Rattle.std.specs.FinMap as map;
 ghost use Rattle.till_claims.specs.Holds.{is_free_for, points_held};
@@ -45,7 +45,7 @@ impl Claims {
     pub fn holder(&self, p: FpNo) -> Option<TillNo>
         ensures { result ≡ map.get self.now p }
     {
-        self.holders[cell_of(p)]
+        self.holders[p.cell()]
     }
 
     /// The till takes the hold of a point that no other till holds. Where it holds the point
@@ -54,14 +54,14 @@ impl Claims {
         requires { is_free_for t (map.get self.old p) ≡ true }
         ensures { self.new ≡ map.insert self.old p t }
     {
-        self.holders[cell_of(p)] = Some(t);
+        self.holders[p.cell()] = Some(t);
     }
 
     /// Nobody holds the point any more. Every other hold stays.
     pub fn free(&mut self, p: FpNo)
         ensures { self.new ≡ map.remove self.old p }
     {
-        self.holders[cell_of(p)] = None;
+        self.holders[p.cell()] = None;
     }
 
     /// The points that the till holds, in rising order. The only error is want of memory.
@@ -71,29 +71,10 @@ impl Claims {
         let mut points = Vec::new(alloc);
         let holders: &[Option<TillNo>] = &self.holders;
         for (cell, holder) in holders.iter().enumerate() {
-            if *holder == Some(t)
-                && let Some(p) = point_of(cell)
-            {
-                points.push(p)?;
+            if *holder == Some(t) {
+                points.push(FpNo::of_cell(cell))?;
             }
         }
         Ok(points)
     }
-}
-
-/// The cell of a point.
-fn cell_of(p: FpNo) -> usize
-    ensures place { result + 1 ≡ p }
-    ensures within { result < POINT_CELLS }
-{
-    usize::from(p.get()) - 1
-}
-
-/// The point of a cell.
-fn point_of(cell: usize) -> Option<FpNo>
-    requires { cell < POINT_CELLS }
-    ensures there { is_some result ≡ true }
-    ensures number { IfSome result (λ p. p ≡ cell + 1) }
-{
-    FpNo::new(cell as u8 + 1)
 }

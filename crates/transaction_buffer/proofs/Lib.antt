@@ -3,6 +3,7 @@ pub mod Lists
 pub mod Maps
 pub mod OnShelves
 pub mod Reading
+pub mod Requests
 pub mod Rules
 pub mod Summing
 pub mod Unpaid

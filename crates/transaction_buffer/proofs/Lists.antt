@@ -5,7 +5,8 @@ use Rattle.std.proofs.Math.Seq.{drop-cons}
 use Rattle.std.proofs.lemmas.List.{take_more, map_push, set_at, get_or_at, length-take-le, length-map}
 
 -- the member at i is changed too
-pub change_more : {A : Type 0} (f : A → A) (xs ys : List A) (i : ℕ) (d : A) → i < length xs → ys ≡ map f (take i xs) ++ drop i xs
+pub change_more : {A : Type 0} (f : A → A) (xs ys : List A) (i : ℕ) (d : A) → i < length xs
+    → ys ≡ map f (take i xs) ++ drop i xs
     → set ys i (f (get_or ys i d)) ≡ map f (take (i + 1) xs) ++ drop (i + 1) xs
 change_more {A} f xs ys i d within so_far =
     let front : List A = map f (take i xs) in

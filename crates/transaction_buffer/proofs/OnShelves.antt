@@ -26,21 +26,24 @@ within_cells : (shelves : List Shelf) (i : ℕ) → i < length shelves → i < l
 within_cells shelves i within = let count : length (cells_of shelves) ≡ length shelves = length-map shelves (λ (x : Shelf). stock x.sales) in omega arith
 
 -- the sales of a point are those on its shelf
-pub sales_there : (shelves : List Shelf) (i p : ℕ) (d : Shelf) → i + 1 ≡ p → i < length shelves → sales_at p (sales_on shelves) ≡ (get_or shelves i d).sales
+pub sales_there : (shelves : List Shelf) (i p : ℕ) (d : Shelf) → i + 1 ≡ p → i < length shelves
+    → sales_at p (sales_on shelves) ≡ (get_or shelves i d).sales
 sales_there shelves i p d place within =
     ap (λ (o : Option (List Sale)). unwrap_or o []) (cell_read (cells_of shelves) i p place (within_cells shelves i within)
     ∙ get_or-map (λ (x : Shelf). stock x.sales) shelves i d None within)
     ∙ unstocked (get_or shelves i d).sales
 
 -- a shelf with other sales in the place of another
-pub shelf_filled : (shelves : List Shelf) (i p : ℕ) (new : Shelf) → i + 1 ≡ p → i < length shelves → stock new.sales ≡ Some new.sales
+pub shelf_filled : (shelves : List Shelf) (i p : ℕ) (new : Shelf) → i + 1 ≡ p → i < length shelves
+    → stock new.sales ≡ Some new.sales
     → sales_on (set shelves i new) ≡ finite.insert (sales_on shelves) p new.sales
 shelf_filled shelves i p new place within some =
     ap (λ (cells : List (Option (List Sale))). finite.from_entries (entries_from 1 cells)) (map-set (λ (x : Shelf). stock x.sales) shelves i new ∙ ap (set (cells_of shelves) i) some)
     ∙ cell_filled (cells_of shelves) i p new.sales place (within_cells shelves i within)
 
 -- a shelf with the same sales in the place of another
-pub shelf_same : (shelves : List Shelf) (i : ℕ) (new d : Shelf) → i < length shelves → new.sales ≡ (get_or shelves i d).sales → sales_on (set shelves i new) ≡ sales_on shelves
+pub shelf_same : (shelves : List Shelf) (i : ℕ) (new d : Shelf) → i < length shelves
+    → new.sales ≡ (get_or shelves i d).sales → sales_on (set shelves i new) ≡ sales_on shelves
 shelf_same shelves i new d within same =
     ap (λ (cells : List (Option (List Sale))). finite.from_entries (entries_from 1 cells))
     (map-set (λ (x : Shelf). stock x.sales) shelves i new
@@ -48,14 +51,16 @@ shelf_same shelves i new d within same =
     ∙ set-get_or (cells_of shelves) i None)
 
 -- the room of a point is that on its shelf
-pub room_there : (shelves : List Shelf) (i p : ℕ) (d : Shelf) → i + 1 ≡ p → i < length shelves → room_at p (rooms_on shelves) ≡ (get_or shelves i d).room
+pub room_there : (shelves : List Shelf) (i p : ℕ) (d : Shelf) → i + 1 ≡ p → i < length shelves
+    → room_at p (rooms_on shelves) ≡ (get_or shelves i d).room
 room_there shelves i p d place within =
     let count : length (rooms_on shelves) ≡ length shelves = length-map shelves (λ (x : Shelf). x.room) in
     ap (λ (o : Option ℕ). unwrap_or o 0) (numbered_within p (rooms_on shelves) i 0 place (omega arith))
     ∙ get_or-map (λ (x : Shelf). x.room) shelves i d 0 within
 
 -- after a reservation the point has the room of its new shelf
-pub room_written : (shelves : List Shelf) (i p : ℕ) (new : Shelf) → i + 1 ≡ p → i < length shelves → room_at p (rooms_on (set shelves i new)) ≡ new.room
+pub room_written : (shelves : List Shelf) (i p : ℕ) (new : Shelf) → i + 1 ≡ p → i < length shelves
+    → room_at p (rooms_on (set shelves i new)) ≡ new.room
 room_written shelves i p new place within =
     let count : length (set shelves i new) ≡ length shelves = length-set shelves i new in
     room_there (set shelves i new) i p new place (omega arith) ∙ ap (λ (x : Shelf). x.room) (get_or-set_same shelves i new new within)
@@ -65,11 +70,13 @@ pub stock_push : (xs : List Sale) (y : Sale) → stock (xs ++ y ∷ []) ≡ Some
 stock_push [] y = refl
 stock_push (x ∷ xs) y = refl
 
-stock_set : (x : Sale) (xs : List Sale) (i : ℕ) (y : Sale) → stock (set (x ∷ xs) i y) ≡ Some (set (x ∷ xs) i y)
+stock_set : (x : Sale) (xs : List Sale) (i : ℕ) (y : Sale)
+    → stock (set (x ∷ xs) i y) ≡ Some (set (x ∷ xs) i y)
 stock_set x xs zero y = refl
 stock_set x xs (suc i) y = refl
 
-pub stock_with : (n : ℕ) (xs : List Sale) (x y : Sale) → numbered n xs ≡ Some x → stock (with_numbered n y xs) ≡ Some (with_numbered n y xs)
+pub stock_with : (n : ℕ) (xs : List Sale) (x y : Sale) → numbered n xs ≡ Some x
+    → stock (with_numbered n y xs) ≡ Some (with_numbered n y xs)
 stock_with n [] x y is = by_test (n == 0) is
   where
     by_test : (b : Bool) → cond b None None ≡ Some x → stock (cond b [] []) ≡ Some (cond b [] [])
@@ -77,35 +84,44 @@ stock_with n [] x y is = by_test (n == 0) is
     by_test false is = cc
 stock_with n (z ∷ zs) x y is = by_test (n == 0)
   where
-    by_test : (b : Bool) → stock (cond b (z ∷ zs) (set (z ∷ zs) (n - 1) y)) ≡ Some (cond b (z ∷ zs) (set (z ∷ zs) (n - 1) y))
+    by_test : (b : Bool)
+        → stock (cond b (z ∷ zs) (set (z ∷ zs) (n - 1) y))
+        ≡ Some (cond b (z ∷ zs) (set (z ∷ zs) (n - 1) y))
     by_test true = refl
     by_test false = stock_set z zs (n - 1) y
 
 -- the sums over the shelves and over the sales are the same
-sums_from : (figure : Sale → ℕ) (n : ℕ) (shelves : List Shelf) → sum_over figure (entries_from n (cells_of shelves)) ≡ sum_on figure shelves
+sums_from : (figure : Sale → ℕ) (n : ℕ) (shelves : List Shelf)
+    → sum_over figure (entries_from n (cells_of shelves)) ≡ sum_on figure shelves
 sums_from figure n [] = refl
 sums_from figure n (x ∷ xs) = by_sales x.sales (sums_from figure (n + 1) xs)
   where
-    by_sales : (sales : List Sale) → sum_over figure (entries_from (n + 1) (cells_of xs)) ≡ sum_on figure xs
-        → sum_over figure (entries_from n (stock sales ∷ cells_of xs)) ≡ sum_among figure sales + sum_on figure xs
+    by_sales : (sales : List Sale)
+        → sum_over figure (entries_from (n + 1) (cells_of xs)) ≡ sum_on figure xs
+        → sum_over figure (entries_from n (stock sales ∷ cells_of xs))
+        ≡ sum_among figure sales + sum_on figure xs
     by_sales [] rest = omega (arith, rest)
     by_sales (s ∷ ss) rest = ap (λ (k : ℕ). sum_among figure (s ∷ ss) + k) rest
 
-pub sums_there : (figure : Sale → ℕ) (shelves : List Shelf) → sum_of figure (sales_on shelves) ≡ sum_on figure shelves
+pub sums_there : (figure : Sale → ℕ) (shelves : List Shelf)
+    → sum_of figure (sales_on shelves) ≡ sum_on figure shelves
 sums_there figure shelves = ap (sum_over figure) (entries_of_cells (cells_of shelves)) ∙ sums_from figure 1 shelves
 
-cells_of_sales : (shelves : List Shelf) → cells_of shelves ≡ map stock (map (λ (x : Shelf). x.sales) shelves)
+cells_of_sales : (shelves : List Shelf)
+    → cells_of shelves ≡ map stock (map (λ (x : Shelf). x.sales) shelves)
 cells_of_sales [] = refl
 cells_of_sales (x ∷ xs) = ap (λ (cells : List (Option (List Sale))). stock x.sales ∷ cells) (cells_of_sales xs)
 
 -- what each shelf lets go, each point lets go
 let_go_from : (t n : ℕ) (xss : List (List Sale))
-    → entries_from n (map stock (map (map (let_go t)) xss)) ≡ map (λ (e : ℕ × List Sale). (e.0, map (let_go t) e.1)) (entries_from n (map stock xss))
+    → entries_from n (map stock (map (map (let_go t)) xss))
+    ≡ map (λ (e : ℕ × List Sale). (e.0, map (let_go t) e.1)) (entries_from n (map stock xss))
 let_go_from t n [] = refl
 let_go_from t n ([] ∷ xss) = let_go_from t (n + 1) xss
 let_go_from t n ((x ∷ xs) ∷ xss) = ap (λ (es : List (ℕ × List Sale)). (n, map (let_go t) (x ∷ xs)) ∷ es) (let_go_from t (n + 1) xss)
 
-pub let_go_there : (t : ℕ) (old new : List Shelf) → map (λ (x : Shelf). x.sales) new ≡ map (map (let_go t)) (map (λ (x : Shelf). x.sales) old)
+pub let_go_there : (t : ℕ) (old new : List Shelf)
+    → map (λ (x : Shelf). x.sales) new ≡ map (map (let_go t)) (map (λ (x : Shelf). x.sales) old)
     → sales_on new ≡ after_sign_off t (sales_on old)
 let_go_there t old new each =
     ap finite.from_entries
@@ -115,15 +131,14 @@ let_go_there t old new each =
     ∙ ap (map (λ (e : ℕ × List Sale). (e.0, map (let_go t) e.1))) (sym (entries_of_cells (cells_of old))))
 
 -- where nothing stands on the shelves, no point has sold anything
-nothing_from : (n : ℕ) (shelves : List Shelf) → ((i : ℕ) (d : Shelf) → i < length shelves → (get_or shelves i d).sales ≡ []) → entries_from n (cells_of shelves) ≡ []
+nothing_from : (n : ℕ) (shelves : List Shelf)
+    → ((i : ℕ) (d : Shelf) → i < length shelves → (get_or shelves i d).sales ≡ [])
+    → entries_from n (cells_of shelves) ≡ []
 nothing_from n [] nothing = refl
 nothing_from n (x ∷ xs) nothing =
     ap (λ (sales : List Sale). entries_from n (stock sales ∷ cells_of xs)) (nothing zero x (omega arith)) ∙ nothing_from (n + 1) xs (λ i d within. nothing (suc i) d (omega arith))
 
-pub nothing_there : (shelves : List Shelf) → ((i : ℕ) (d : Shelf) → i < length shelves → (get_or shelves i d).sales ≡ []) → sales_on shelves ≡ no_sales
+pub nothing_there : (shelves : List Shelf)
+    → ((i : ℕ) (d : Shelf) → i < length shelves → (get_or shelves i d).sales ≡ [])
+    → sales_on shelves ≡ no_sales
 nothing_there shelves nothing = ap finite.from_entries (nothing_from 1 shelves nothing)
-
--- an accepted request of a sale puts the sale after the line in its place
-pub accepted_after : (k : Key) (x : Sale) (l : Result Line Refusal) (s : Sales) → refusal_in l ≡ None → after_line k x l s ≡ with_sale k (sale_after l x) s
-accepted_after k x (Ok l) s accepted = refl
-accepted_after k x (Err refusal) s accepted = cc

@@ -30,28 +30,35 @@ with_sum : (figure : Sale → ℕ) (n : ℕ) (xs : List Sale) (old new : Sale) �
     → sum_among figure (with_numbered n new xs) + figure old ≡ sum_among figure xs + figure new
 with_sum figure n xs old new is = by_test (n == 0) is
   where
-    by_test : (b : Bool) → cond b None (slice_get xs (n - 1)) ≡ Some old → sum_among figure (cond b xs (set xs (n - 1) new)) + figure old ≡ sum_among figure xs + figure new
+    by_test : (b : Bool) → cond b None (slice_get xs (n - 1)) ≡ Some old
+        → sum_among figure (cond b xs (set xs (n - 1) new)) + figure old
+        ≡ sum_among figure xs + figure new
     by_test true none = cc
     by_test false some = set_sum figure xs (n - 1) old new some
 
 -- one more sale of the same point
-push_sum : (figure : Sale → ℕ) (xs : List Sale) (x : Sale) → sum_among figure (xs ++ x ∷ []) ≡ sum_among figure xs + figure x
+push_sum : (figure : Sale → ℕ) (xs : List Sale) (x : Sale)
+    → sum_among figure (xs ++ x ∷ []) ≡ sum_among figure xs + figure x
 push_sum figure [] x = omega arith
 push_sum figure (y ∷ ys) x = omega (arith, push_sum figure ys x)
 
 -- the sales of a point, each changed
-map_sum : (figure : Sale → ℕ) (change : Sale → Sale) (xs : List Sale) → sum_among figure (map change xs) ≡ sum_among (λ x. figure (change x)) xs
+map_sum : (figure : Sale → ℕ) (change : Sale → Sale) (xs : List Sale)
+    → sum_among figure (map change xs) ≡ sum_among (λ x. figure (change x)) xs
 map_sum figure change [] = refl
 map_sum figure change (x ∷ xs) = ap (λ (n : ℕ). figure (change x) + n) (map_sum figure change xs)
 
 -- the sales of a point in the place of those that stand there
-put_sum : (figure : Sale → ℕ) (p : ℕ) (xs : List Sale) (es : List (ℕ × List Sale)) → T (is_sorted nat_cmp es)
-    → sum_over figure (put nat_cmp p xs es) + sum_among figure (unwrap_or (find nat_cmp p es) []) ≡ sum_over figure es + sum_among figure xs
+put_sum : (figure : Sale → ℕ) (p : ℕ) (xs : List Sale) (es : List (ℕ × List Sale))
+    → T (is_sorted nat_cmp es)
+    → sum_over figure (put nat_cmp p xs es) + sum_among figure (unwrap_or (find nat_cmp p es) [])
+    ≡ sum_over figure es + sum_among figure xs
 put_sum figure p xs [] rises = omega arith
 put_sum figure p xs (e ∷ es) rises = by_place (nat_cmp p e.0) refl (put_sum figure p xs es (second_half (below_all nat_cmp e.0 es) (is_sorted nat_cmp es) rises))
   where
     by_place : (o : Ordering) → o ≡ nat_cmp p e.0
-        → sum_over figure (put nat_cmp p xs es) + sum_among figure (unwrap_or (find nat_cmp p es) []) ≡ sum_over figure es + sum_among figure xs
+        → sum_over figure (put nat_cmp p xs es) + sum_among figure (unwrap_or (find nat_cmp p es) [])
+        ≡ sum_over figure es + sum_among figure xs
         → sum_over figure (by_order o ((p, xs) ∷ e ∷ es) ((e.0, xs) ∷ es) (e ∷ put nat_cmp p xs es)) + sum_among figure (unwrap_or (cond (is_eq o) (Some e.1) (find nat_cmp p es)) [])
         ≡ sum_over figure (e ∷ es) + sum_among figure xs
     by_place Less is rest =
@@ -61,44 +68,53 @@ put_sum figure p xs (e ∷ es) rises = by_place (nat_cmp p e.0) refl (put_sum fi
     by_place Equal is rest = omega arith
     by_place Greater is rest = omega (arith, rest)
 
-insert_sum : (figure : Sale → ℕ) (s : Sales) (p : ℕ) (xs : List Sale) → sum_of figure (finite.insert s p xs) + sum_among figure (sales_at p s) ≡ sum_of figure s + sum_among figure xs
+insert_sum : (figure : Sale → ℕ) (s : Sales) (p : ℕ) (xs : List Sale)
+    → sum_of figure (finite.insert s p xs) + sum_among figure (sales_at p s)
+    ≡ sum_of figure s + sum_among figure xs
 insert_sum figure s p xs =
     ap (λ (es : List (ℕ × List Sale)). sum_over figure es + sum_among figure (sales_at p s)) (entries-insert nat_cmp_total s p xs)
     ∙ ap (λ (o : Option (List Sale)). sum_over figure (put nat_cmp p xs (entries s)) + sum_among figure (unwrap_or o [])) (get-entries s p)
     ∙ put_sum figure p xs (entries s) (entries_sorted s)
 
-pub replaced_sum : (figure : Sale → ℕ) (k : Key) (old new : Sale) (s : Sales) → sale_of k s ≡ Some old → sum_of figure (with_sale k new s) + figure old ≡ sum_of figure s + figure new
+pub replaced_sum : (figure : Sale → ℕ) (k : Key) (old new : Sale) (s : Sales)
+    → sale_of k s ≡ Some old
+    → sum_of figure (with_sale k new s) + figure old ≡ sum_of figure s + figure new
 replaced_sum figure k old new s is =
     let xs : List Sale = sales_at k.point s in
     let all : sum_of figure (with_sale k new s) + sum_among figure xs ≡ sum_of figure s + sum_among figure (with_numbered k.number new xs) = insert_sum figure s k.point (with_numbered k.number new xs) in
     let here : sum_among figure (with_numbered k.number new xs) + figure old ≡ sum_among figure xs + figure new = with_sum figure k.number xs old new is in
     omega (arith, all, here)
 
-pub sold_sum : (figure : Sale → ℕ) (p : ℕ) (x : Sale) (s : Sales) → sum_of figure (with_new p x s) ≡ sum_of figure s + figure x
+pub sold_sum : (figure : Sale → ℕ) (p : ℕ) (x : Sale) (s : Sales)
+    → sum_of figure (with_new p x s) ≡ sum_of figure s + figure x
 sold_sum figure p x s =
     let xs : List Sale = sales_at p s in
     let all : sum_of figure (with_new p x s) + sum_among figure xs ≡ sum_of figure s + sum_among figure (xs ++ x ∷ []) = insert_sum figure s p (xs ++ x ∷ []) in
     let here : sum_among figure (xs ++ x ∷ []) ≡ sum_among figure xs + figure x = push_sum figure xs x in
     omega (arith, all, here)
 
-each_sum : (figure : Sale → ℕ) (change : Sale → Sale) (es : List (ℕ × List Sale)) → sum_over figure (each (map change) es) ≡ sum_over (λ x. figure (change x)) es
+each_sum : (figure : Sale → ℕ) (change : Sale → Sale) (es : List (ℕ × List Sale))
+    → sum_over figure (each (map change) es) ≡ sum_over (λ x. figure (change x)) es
 each_sum figure change [] = refl
 each_sum figure change (e ∷ es) =
     ap (λ (n : ℕ). n + sum_over figure (each (map change) es)) (map_sum figure change e.1)
     ∙ ap (λ (n : ℕ). sum_among (λ x. figure (change x)) e.1 + n) (each_sum figure change es)
 
-pub changed_sum : (figure : Sale → ℕ) (change : Sale → Sale) (s : Sales) → sum_of figure (each_changed change s) ≡ sum_of (λ x. figure (change x)) s
+pub changed_sum : (figure : Sale → ℕ) (change : Sale → Sale) (s : Sales)
+    → sum_of figure (each_changed change s) ≡ sum_of (λ x. figure (change x)) s
 changed_sum figure change s = ap (sum_over figure) (entries_each (map change) s) ∙ each_sum figure change (entries s)
 
 pub summed_after : IsSummedAfter
 summed_after = record { replaced = replaced_sum; sold = sold_sum; changed = changed_sum }
 
 -- figures that are alike at each sale have one sum
-alike_among : (f g : Sale → ℕ) → ((x : Sale) → f x ≡ g x) → (xs : List Sale) → sum_among f xs ≡ sum_among g xs
+alike_among : (f g : Sale → ℕ) → ((x : Sale) → f x ≡ g x) → (xs : List Sale)
+    → sum_among f xs ≡ sum_among g xs
 alike_among f g alike [] = refl
 alike_among f g alike (x ∷ xs) = omega (arith, alike x, alike_among f g alike xs)
 
-alike_over : (f g : Sale → ℕ) → ((x : Sale) → f x ≡ g x) → (es : List (ℕ × List Sale)) → sum_over f es ≡ sum_over g es
+alike_over : (f g : Sale → ℕ) → ((x : Sale) → f x ≡ g x) → (es : List (ℕ × List Sale))
+    → sum_over f es ≡ sum_over g es
 alike_over f g alike [] = refl
 alike_over f g alike (e ∷ es) = omega (arith, alike_among f g alike e.1, alike_over f g alike es)
 
@@ -106,11 +122,13 @@ pub alike_sum : (f g : Sale → ℕ) → ((x : Sale) → f x ≡ g x) → (s : S
 alike_sum f g alike s = alike_over f g alike (entries s)
 
 -- figures that add up at each sale have sums that add up
-added_among : (f g : Sale → ℕ) (xs : List Sale) → sum_among (λ x. f x + g x) xs ≡ sum_among f xs + sum_among g xs
+added_among : (f g : Sale → ℕ) (xs : List Sale)
+    → sum_among (λ x. f x + g x) xs ≡ sum_among f xs + sum_among g xs
 added_among f g [] = refl
 added_among f g (x ∷ xs) = omega (arith, added_among f g xs)
 
-added_over : (f g : Sale → ℕ) (es : List (ℕ × List Sale)) → sum_over (λ x. f x + g x) es ≡ sum_over f es + sum_over g es
+added_over : (f g : Sale → ℕ) (es : List (ℕ × List Sale))
+    → sum_over (λ x. f x + g x) es ≡ sum_over f es + sum_over g es
 added_over f g [] = refl
 added_over f g (e ∷ es) = omega (arith, added_among f g e.1, added_over f g es)
 

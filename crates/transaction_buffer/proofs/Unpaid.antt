@@ -17,7 +17,8 @@ one true is = omega arith
 one false is = cc
 
 -- one more sale
-pub unpaid_pushed : (xs : List Sale) (y : Sale) → unpaid_among (xs ++ y ∷ []) ≡ unpaid_among xs + cond (is_unpaid y.standing) 1 0
+pub unpaid_pushed : (xs : List Sale) (y : Sale)
+    → unpaid_among (xs ++ y ∷ []) ≡ unpaid_among xs + cond (is_unpaid y.standing) 1 0
 unpaid_pushed [] y = omega arith
 unpaid_pushed (x ∷ xs) y = omega (arith, unpaid_pushed xs y)
 
@@ -25,7 +26,8 @@ pub unpaid_push : (xs : List Sale) (y : Sale) → unpaid_among (xs ++ y ∷ []) 
 unpaid_push xs y = omega (arith, unpaid_pushed xs y, at_most_one (is_unpaid y.standing))
 
 -- any sale in the place of an unpaid one
-pub unpaid_set : (xs : List Sale) (i : ℕ) (y d : Sale) → i < length xs → is_unpaid (get_or xs i d).standing ≡ true
+pub unpaid_set : (xs : List Sale) (i : ℕ) (y d : Sale) → i < length xs
+    → is_unpaid (get_or xs i d).standing ≡ true
     → unpaid_among (set xs i y) ≤ unpaid_among xs
 unpaid_set [] i y d within is = absurd (omega arith)
 unpaid_set (x ∷ xs) zero y d within is =
@@ -34,13 +36,15 @@ unpaid_set (x ∷ xs) (suc i) y d within is =
     let rest : unpaid_among (set xs i y) ≤ unpaid_among xs = unpaid_set xs i y d (omega arith) is in
     omega arith
 
-locked_unpaid : (t : ℕ) (standing : Standing) → is_locked_by t standing ≡ true → is_unpaid standing ≡ true
+locked_unpaid : (t : ℕ) (standing : Standing) → is_locked_by t standing ≡ true
+    → is_unpaid standing ≡ true
 locked_unpaid t Payable is = refl
 locked_unpaid t (LockedBy u) is = refl
 locked_unpaid t (ClearedBy u n) is = cc
 
 -- a sale that the till has locked is unpaid, and so is a payable one
-same_unpaid : (t : ℕ) (x : Sale) (locked : Bool) → is_locked_by t x.standing ≡ locked → is_unpaid (cond locked (record x { standing = Payable }) x).standing ≡ is_unpaid x.standing
+same_unpaid : (t : ℕ) (x : Sale) (locked : Bool) → is_locked_by t x.standing ≡ locked
+    → is_unpaid (cond locked (record x { standing = Payable }) x).standing ≡ is_unpaid x.standing
 same_unpaid t x true is = sym (locked_unpaid t x.standing is)
 same_unpaid t x false is = refl
 
@@ -52,7 +56,8 @@ unpaid_let_go t (x ∷ xs) =
     ∙ ap (λ (n : ℕ). cond (is_unpaid x.standing) 1 0 + n) (unpaid_let_go t xs)
 
 -- any sale in the place of the unpaid one with its number
-pub unpaid_with : (n : ℕ) (xs : List Sale) (x y : Sale) → numbered n xs ≡ Some x → is_unpaid x.standing ≡ true → unpaid_among (with_numbered n y xs) ≤ unpaid_among xs
+pub unpaid_with : (n : ℕ) (xs : List Sale) (x y : Sale) → numbered n xs ≡ Some x
+    → is_unpaid x.standing ≡ true → unpaid_among (with_numbered n y xs) ≤ unpaid_among xs
 unpaid_with zero xs x y is unpaid = cc
 unpaid_with (suc n) xs x y is unpaid =
     let low : 1 ≤ suc n = omega arith in

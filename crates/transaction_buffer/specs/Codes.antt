@@ -28,18 +28,30 @@ standing_parts (LockedBy till) = refl
 standing_parts (ClearedBy till shift) = refl
 
 abbrev pub standing_code : Coded Standing
-standing_code = code_by (Option (ℕ × Option ℕ)) (coded_option (coded× coded_ℕ (coded_option coded_ℕ))) parts_of standing_from standing_parts
+standing_code =
+    code_by (Option (ℕ × Option ℕ)) (coded_option (coded× coded_ℕ (coded_option coded_ℕ)))
+    parts_of standing_from standing_parts
 
 abbrev pub sale_code : Coded Sale
 sale_code =
     code_by (ℕ × (ℕ × (ℕ × (Option ℕ × (ℕ × Standing)))))
-    (coded× coded_ℕ (coded× coded_ℕ (coded× coded_ℕ (coded× (coded_option coded_ℕ) (coded× coded_ℕ standing_code)))))
+    (coded× coded_ℕ (coded× coded_ℕ (coded× coded_ℕ
+    (coded× (coded_option coded_ℕ) (coded× coded_ℕ standing_code)))))
     (λ x. (x.price, (x.volume, (x.cents, (x.prepaid, (x.product, x.standing))))))
-    (λ p. record { price = p.0; volume = p.1.0; cents = p.1.1.0; prepaid = p.1.1.1.0; product = p.1.1.1.1.0; standing = p.1.1.1.1.1 })
+    (λ p. record {
+      price = p.0;
+      volume = p.1.0;
+      cents = p.1.1.0;
+      prepaid = p.1.1.1.0;
+      product = p.1.1.1.1.0;
+      standing = p.1.1.1.1.1;
+    })
     (λ _. refl)
 
 abbrev pub sales_code : Coded Sales
 sales_code = finite.code {R = nat_cmp} coded_ℕ (coded_list sale_code)
 
 abbrev pub buffered_code : Coded Buffered
-buffered_code = code_by (Sales × List ℕ) (coded× sales_code (coded_list coded_ℕ)) (λ b. (b.sales, b.rooms)) (λ p. record { sales = p.0; rooms = p.1 }) (λ _. refl)
+buffered_code =
+    code_by (Sales × List ℕ) (coded× sales_code (coded_list coded_ℕ)) (λ b. (b.sales, b.rooms))
+    (λ p. record { sales = p.0; rooms = p.1 }) (λ _. refl)

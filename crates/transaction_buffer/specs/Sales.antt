@@ -19,8 +19,8 @@ pub record Key : Type 0 where
 abbrev pub key : ℕ → ℕ → Key
 key p n = record { point = p; number = n }
 
--- a sale: the price taken, the volume, the amount due, the prepaid cents where it was prepaid, the product,
--- and how it stands
+-- a sale: the price taken, the volume, the amount due, the prepaid cents where it was prepaid, the
+-- product, and how it stands
 pub record Sale : Type 0 where
   pub price : ℕ
   pub volume : ℕ
@@ -105,7 +105,15 @@ till_of (ClearedBy till shift) = Some till
 
 -- a sale as a read shows it
 abbrev pub view_of : Sale → TransactionView
-view_of x = record { price = x.price; volume = x.volume; cents = x.cents; prepaid = x.prepaid; status = status_of x.standing; till = till_of x.standing; product = x.product }
+view_of x = record {
+  price = x.price;
+  volume = x.volume;
+  cents = x.cents;
+  prepaid = x.prepaid;
+  status = status_of x.standing;
+  till = till_of x.standing;
+  product = x.product;
+}
 
 -- the sale of this name as a read shows it
 abbrev pub shown : Key → Sales → Option TransactionView
@@ -128,4 +136,11 @@ new_standing (Some till) = LockedBy till
 
 -- the sale that such a view shows
 abbrev pub new_sale : TransactionView → Sale
-new_sale v = record { price = v.price; volume = v.volume; cents = v.cents; prepaid = v.prepaid; product = v.product; standing = new_standing v.till }
+new_sale v = record {
+  price = v.price;
+  volume = v.volume;
+  cents = v.cents;
+  prepaid = v.prepaid;
+  product = v.product;
+  standing = new_standing v.till;
+}

@@ -70,8 +70,8 @@ sale_after (Ok l) x = record x { standing = l.leaves }
 sale_after (Err refusal) x = x
 
 -- the sale after the request of till t; a refusal leaves it
-abbrev pub asked : Request → ℕ → Sale → Sale
-asked request t x = sale_after (line_for request t x) x
+abbrev pub sale_after_request : Request → ℕ → Sale → Sale
+sale_after_request request t x = sale_after (line_for request t x) x
 
 -- why the request of till t for this transaction is refused
 abbrev pub refusal_of : Request → ℕ → Key → Sales → Option Refusal

@@ -1,22 +1,31 @@
-//! Laws of the transactions. They have no code: each is proved of the definitions that the contracts of
-//! this crate cite.
+//! Laws of the transactions. They have no code: each is proved of the definitions that the
+//! contracts of this crate cite.
 
-ghost use Rattle.transaction_buffer.specs.Laws.{DoAddUp, DoMove, HasOneLocker, IsClearedByItsLocker, IsClearedForGood, IsCountedAfter, IsReadAfter, IsSummedAfter};
+ghost use Rattle.transaction_buffer.specs.Laws.{DoAddUp, DoMove, DoTell, HasOneLocker, IsClearedByItsLocker, IsClearedForGood, IsCountedAfter, IsReadAfter, IsSummedAfter};
 
-/// A transaction that is cleared stays as it is, whatever a till asks, whoever signs off and whatever is
-/// sold.
+/// What a reply tells. An answer: nothing refused the request, and it is the one of the table's
+/// line. A refusal: it is the one of the table's line, and no transaction changes.
+pub fn replies_tell()
+    ensures { DoTell }
+{}
+
+/// A transaction that is cleared stays as it is, whatever a till asks, whoever signs off and
+/// whatever is sold.
 pub fn cleared_for_good()
     ensures { IsClearedForGood }
 {}
 
-/// A clear is accepted only of a transaction that this till has locked, and is answered with its cents.
+/// A clear is accepted only of a transaction that this till has locked, and is answered with its
+/// cents.
 pub fn cleared_by_its_locker()
     ensures { IsClearedByItsLocker }
 {}
 
-/// A transaction has one locker: a lock is accepted only where no other till has locked it, an unlock only
-/// by the till that has. Its locker is the till that locked it last, until that till unlocks or clears it or
-/// signs off.
+/// A transaction has one locker at most. A lock is accepted only where no other till has locked it,
+/// and an unlock only of the till that has; a lock by the till that has locked it changes nothing.
+/// An accepted lock makes the till that asked for it the locker; an accepted unlock or clear, and
+/// the sign-off of the locker, leave none; a new sale has the locker that it is sold with. Every
+/// other transaction keeps the locker that it had.
 pub fn one_locker()
     ensures { HasOneLocker }
 {}
@@ -41,8 +50,8 @@ pub fn volumes_add_up()
     ensures { DoAddUp }
 {}
 
-/// How each change moves a product's volumes from one status to another; only a sale changes the volume in
-/// all sales.
+/// How each change moves a product's volumes from one status to another; only a sale changes the
+/// volume in all sales.
 pub fn volumes_move()
     ensures { DoMove }
 {}

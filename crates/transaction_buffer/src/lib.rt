@@ -1,6 +1,6 @@
-//! The transactions of a site's fuelling points, from the sale until it is cleared: which are payable,
-//! which a till has locked, and which a till has cleared in which shift. A transaction is cleared once
-//! only, and only by the till that has locked it.
+//! The transactions of a site's fuelling points, from the sale until it is cleared: which are
+//! payable, which a till has locked, and which a till has cleared in which shift. A transaction is
+//! cleared once only, and only by the till that has locked it.
 #![tactic(auto)]
 
 mod buffer;
@@ -14,8 +14,8 @@ mod tests;
 
 pub use buffer::Buffer;
 pub use laws::{
-    cleared_by_its_locker, cleared_for_good, counted_after, one_locker, read_after, summed_after,
-    volumes_add_up, volumes_move,
+    cleared_by_its_locker, cleared_for_good, counted_after, one_locker, read_after, replies_tell,
+    summed_after, volumes_add_up, volumes_move,
 };
 pub use request::Request;
 pub use standing::Standing;

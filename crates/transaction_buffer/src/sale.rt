@@ -1,9 +1,10 @@
 //! One sale.
 
-ghost use Rattle.std.specs.Prelude.{◌≡◌, ◌≤◌, ◌==◌, ◌&&◌, true, None, Some, OnOk, IfOk, IfErr};
+ghost use Rattle.std.specs.Prelude.{◌≡◌, ◌≤◌};
 ghost use Rattle.site_base.specs.declared.limits.TheConstants.{GREATEST_READING};
 ghost use Rattle.transaction_buffer.specs.Sales.{is_unpaid, is_new, new_sale, view_of};
-ghost use Rattle.transaction_buffer.specs.TransactionTable.{line_for, refusal_in, answer_in, sale_after, let_go};
+ghost use Rattle.transaction_buffer.specs.Asked.{outcome};
+ghost use Rattle.transaction_buffer.specs.TransactionTable.{line_for, let_go};
 ghost use Rattle.transaction_buffer.specs.Sums.{volume_in, volume_with, has_status};
 
 use crate::request::Request;
@@ -29,9 +30,23 @@ impl Model for Sale {
 
     ghost Value = { SaleFacts };
 
-    ghost view = { λ x. record { price = x.price; volume = x.volume; cents = x.cents; prepaid = x.prepaid; product = x.product; standing = x.standing } };
+    ghost view = { λ x. record {
+      price = x.price;
+      volume = x.volume;
+      cents = x.cents;
+      prepaid = x.prepaid;
+      product = x.product;
+      standing = x.standing;
+    } };
 
-    ghost inverse = { λ x. record { price = x.price; volume = x.volume; cents = x.cents; prepaid = x.prepaid; product = x.product; standing = x.standing } };
+    ghost inverse = { λ x. record {
+      price = x.price;
+      volume = x.volume;
+      cents = x.cents;
+      prepaid = x.prepaid;
+      product = x.product;
+      standing = x.standing;
+    } };
 }
 
 impl Sale {
@@ -98,13 +113,10 @@ impl Sale {
         }
     }
 
-    /// What the transaction table says of the till's request: the sale afterwards and the answer, or the
-    /// refusal.
+    /// What the transaction table says of the till's request: the sale afterwards and the answer,
+    /// or the refusal.
     pub fn asked(&self, request: &Request, t: TillNo) -> Result<(Sale, Answer), Refusal>
-        ensures accepted { OnOk result (refusal_in (line_for request.now t self.now) ≡ None) }
-        ensures sale { IfOk result (λ told. told.0 ≡ sale_after (line_for request.now t self.now) self.now) }
-        ensures answer { IfOk result (λ told. told.1 ≡ answer_in (line_for request.now t self.now)) }
-        ensures refused { IfErr result (λ refusal. refusal_in (line_for request.now t self.now) ≡ Some refusal) }
+        ensures { result ≡ outcome (line_for request.now t self.now) self.now }
     {
         match request {
             Request::Lock => self.locked(t),
@@ -146,10 +158,7 @@ impl Sale {
     }
 
     fn locked(&self, t: TillNo) -> Result<(Sale, Answer), Refusal>
-        ensures accepted { OnOk result (refusal_in (line_for Request.Lock t self.now) ≡ None) }
-        ensures sale { IfOk result (λ told. told.0 ≡ sale_after (line_for Request.Lock t self.now) self.now) }
-        ensures answer { IfOk result (λ told. told.1 ≡ answer_in (line_for Request.Lock t self.now)) }
-        ensures refused { IfErr result (λ refusal. refusal_in (line_for Request.Lock t self.now) ≡ Some refusal) }
+        ensures { result ≡ outcome (line_for Request.Lock t self.now) self.now }
     {
         match self.standing {
             Standing::Payable => Ok((self.standing_so(Standing::LockedBy(t)), Answer::Locked)),
@@ -164,10 +173,7 @@ impl Sale {
     }
 
     fn unlocked(&self, t: TillNo) -> Result<(Sale, Answer), Refusal>
-        ensures accepted { OnOk result (refusal_in (line_for Request.Unlock t self.now) ≡ None) }
-        ensures sale { IfOk result (λ told. told.0 ≡ sale_after (line_for Request.Unlock t self.now) self.now) }
-        ensures answer { IfOk result (λ told. told.1 ≡ answer_in (line_for Request.Unlock t self.now)) }
-        ensures refused { IfErr result (λ refusal. refusal_in (line_for Request.Unlock t self.now) ≡ Some refusal) }
+        ensures { result ≡ outcome (line_for Request.Unlock t self.now) self.now }
     {
         match self.standing {
             Standing::Payable => Err(Refusal::NotLocked),
@@ -182,10 +188,7 @@ impl Sale {
     }
 
     fn cleared(&self, t: TillNo, shift: u16) -> Result<(Sale, Answer), Refusal>
-        ensures accepted { OnOk result (refusal_in (line_for (Request.Clear shift) t self.now) ≡ None) }
-        ensures sale { IfOk result (λ told. told.0 ≡ sale_after (line_for (Request.Clear shift) t self.now) self.now) }
-        ensures answer { IfOk result (λ told. told.1 ≡ answer_in (line_for (Request.Clear shift) t self.now)) }
-        ensures refused { IfErr result (λ refusal. refusal_in (line_for (Request.Clear shift) t self.now) ≡ Some refusal) }
+        ensures { result ≡ outcome (line_for (Request.Clear shift) t self.now) self.now }
     {
         match self.standing {
             Standing::Payable => Err(Refusal::NotLocked),

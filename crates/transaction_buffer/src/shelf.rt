@@ -12,8 +12,8 @@ use site_base::{GREATEST_SEQ, NoMemory, ProductNo, Seq, Status, TillNo};
 use std::alloc::Global;
 use std::marker::Model;
 
-/// The sales of a fuelling point in the order of their numbers, from 1 on. At most `UNPAID_LIMIT` of
-/// them are unpaid.
+/// The sales of a fuelling point in the order of their numbers, from 1 on. At most `UNPAID_LIMIT`
+/// of them are unpaid.
 #[derive(Drop)]
 pub struct Shelf {
     // Sale n stands at place n - 1.
@@ -28,9 +28,13 @@ impl Model for Shelf {
 
     ghost Value = { ShelfFacts };
 
-    ghost view = { λ x. record { sales = x.sales.items; room = vec_capacity x.sales - vec_len x.sales } };
+    ghost view = { λ x. record {
+      sales = x.sales.items;
+      room = vec_capacity x.sales - vec_len x.sales;
+    } };
 
-    ghost invariant = { λ x. (length x.sales.items ≤ GREATEST_SEQ) × (unpaid_among x.sales.items ≤ UNPAID_LIMIT) };
+    ghost invariant = { λ x. (length x.sales.items ≤ GREATEST_SEQ)
+        × (unpaid_among x.sales.items ≤ UNPAID_LIMIT) };
 }
 
 impl Shelf {

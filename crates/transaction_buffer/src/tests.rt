@@ -1,5 +1,5 @@
-//! What no clause says: the refusals with their details, the worked rows, the ends of the numbers, and
-//! what stands after want of memory.
+//! What no clause says: the refusals with their details, the worked rows, the ends of the numbers,
+//! and what stands after want of memory.
 
 mod refused;
 mod rows;

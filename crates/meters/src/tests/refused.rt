@@ -1,5 +1,5 @@
-//! Made for runs in which one growth is refused: the configuration is as it was, and the same call then
-//! answers as ever.
+//! Made for runs in which one growth is refused: the configuration is as it was, and the same call
+//! then answers as ever.
 
 use super::*;
 
@@ -11,15 +11,15 @@ fn said(rt: &impl Eprint) {
 #[test]
 fn refused_meters_are_made_again(rt: HostRuntime) {
     let alloc = rt.alloc();
-    let config = match site_of_two(alloc) {
+    let config = match site(&rt, alloc, 2) {
         Err(NoMemory) => {
             said(&rt);
-            site_of_two(alloc)
+            site(&rt, alloc, 2)
         }
         config => config,
     };
-    let Ok(Some(config)) = config else {
-        panic!(&rt; "no site");
+    let Ok(config) = config else {
+        panic!(&rt; "want of memory twice");
     };
     let meters = match Meters::try_new(alloc, &config) {
         Err(NoMemory) => {
@@ -31,9 +31,6 @@ fn refused_meters_are_made_again(rt: HostRuntime) {
     let Ok(meters) = meters else {
         panic!(&rt; "want of memory twice");
     };
-    let (Some(p), Some(n)) = (FpNo::new(3), NozzleNo::new(2)) else {
-        panic!(&rt; "no nozzle");
-    };
-    let last = meters.last(p, n);
-    assert_eq!(rt; last, Millilitres::new(1000));
+    let last = meters.last(point(&rt, 2), nozzle(&rt, 2));
+    assert_eq!(rt; last, Some(opening(&rt, 2, 2)));
 }

@@ -1,5 +1,5 @@
-//! Made for runs in which one growth is refused: the shifts are as they were, and the same call then
-//! answers as ever.
+//! Made for runs in which one growth is refused: the shifts are as they were, and the same call
+//! then answers as ever.
 
 use crate::{ShiftBook, ShiftRow};
 use site_base::NoMemory;

@@ -1,5 +1,5 @@
-//! Made for runs in which one growth is refused: no transaction changes, and the same call then makes the
-//! room.
+//! Made for runs in which one growth is refused: no transaction changes, and the same call then
+//! makes the room.
 
 use super::*;
 use site_base::Answer;

@@ -1,5 +1,5 @@
-//! The transaction table, line for line: a till's request by how the transaction stands, the answer, and
-//! how it stands then.
+//! The transaction table, line for line: a till's request by how the transaction stands, the
+//! answer, and how it stands then.
 
 ghost use Rattle.std.specs.Prelude.{◌≡◌, true};
 ghost use Rattle.transaction_buffer.specs.Sales.{is_new};

@@ -5,6 +5,7 @@ use Rattle.meters.proofs.meters.Meters.try_new.Given as goal
 
 abbrev pub invariant-loop-entry : goal.invariant-loop-entry
 invariant-loop-entry l = record {
-  added : l.meters.items ++ nozzles_of_points (drop l.entry-index l.entry-items) ≡ nozzles_of_points l.entry-items;
+  added : l.meters.items ++ nozzles_of_points (drop l.entry-index l.entry-items)
+      ≡ nozzles_of_points l.entry-items;
   few : length l.meters.items ≤ l.entry-index * NOZZLES;
 }

@@ -1,52 +1,59 @@
-use Rattle.std.proofs.Common.{◌≡◌, List, get_or, Option, Some, None, Result, sym, ap, ◌∙◌, arith}
+use Rattle.std.proofs.Common.{◌≡◌, List, get_or, Some, None, Ok, Err, sym, ap, subst, ◌∙◌, arith}
+use Rattle.std.proofs.lemmas.List.{set-get_or}
 use Rattle.std.proofs.lemmas.Result.{err_from_is_err_and}
 use Rattle.std.specs.FinMap as finite
-use Rattle.site_base.specs.declared.refusal.Refusal.{Refusal}
 use Rattle.site_base.specs.Numbered.{numbered, with_numbered}
-use Rattle.transaction_buffer.specs.Sales.{Sale, key, sale_of, sales_at}
-use Rattle.transaction_buffer.specs.TransactionTable.{Line, line_for, line_of, refusal_in, answer_in, sale_after, after_at}
+use Rattle.transaction_buffer.specs.Asked.{Asked, outcome}
+use Rattle.transaction_buffer.specs.Sales.{Sale, Sales, key, sale_of, sales_at}
+use Rattle.transaction_buffer.specs.TransactionTable.{line_for}
 use Rattle.transaction_buffer.specs.Shelves.{stock, sales_on}
-use Rattle.transaction_buffer.proofs.OnShelves.{sales_there, shelf_filled, stock_with, accepted_after}
+use Rattle.transaction_buffer.proofs.OnShelves.{sales_there, shelf_filled, stock_with}
+use Rattle.transaction_buffer.proofs.Requests.{asked_of_none, asked_and_refused, asked_and_accepted}
 use Rattle.transaction_buffer.proofs.buffer.Buffer.ask.Goals as goal
 
-pub returns-in_default-clause-refused : goal.returns-in_default-clause-refused
-returns-in_default-clause-refused c =
-    let there = sales_there c.self.inside.shelves c.cell_of.result c.args.p c.index-self-cell_of.result c.cell_of.ensures.place (omega arith) in
-    let sale : sale_of (key c.args.p c.args.s) (sales_on c.self.inside.shelves) ≡ None = ap (numbered c.args.s) there ∙ sym c.get.ensures ∙ c.in_default.is in
-    rw (← c.self.view_is) (ap (λ (o : Option Sale). refusal_in (line_of c.args.request.now c.args.t o)) sale)
-
-pub returns-in_err-sale-clause-refused : goal.returns-in_err-sale-clause-refused
-returns-in_err-sale-clause-refused c =
-    let there = sales_there c.self.inside.shelves c.cell_of.result c.args.p c.index-self-cell_of.result c.cell_of.ensures.place (omega arith) in
-    let sale : sale_of (key c.args.p c.args.s) (sales_on c.self.inside.shelves) ≡ Some c.in-Some.sale = ap (numbered c.args.s) there ∙ sym c.get.ensures ∙ c.in-Some.is in
-    let p = err_from_is_err_and c.from_residual.result c.from_residual.ensures.1 in
-    rw (p.1, p.2, ← c.self.view_is) (ap (λ (o : Option Sale). refusal_in (line_of c.args.request.now c.args.t o)) sale ∙ c.in_err-sale.ensures.refused)
-
-pub returns-clause-accepted : goal.returns-clause-accepted
-returns-clause-accepted c =
-    let there = sales_there c.self.inside.shelves c.cell_of.result c.args.p c.index-self-cell_of.result c.cell_of.ensures.place (omega arith) in
-    let sale : sale_of (key c.args.p c.args.s) (sales_on c.self.inside.shelves) ≡ Some c.in-Some.sale = ap (numbered c.args.s) there ∙ sym c.get.ensures ∙ c.in-Some.is in
-    rw (← c.self.view_is) (ap (λ (o : Option Sale). refusal_in (line_of c.args.request.now c.args.t o)) sale ∙ c.in_ok-sale.ensures.accepted)
-
-pub returns-clause-answer : goal.returns-clause-answer
-returns-clause-answer c =
-    let there = sales_there c.self.inside.shelves c.cell_of.result c.args.p c.index-self-cell_of.result c.cell_of.ensures.place (omega arith) in
-    let sale : sale_of (key c.args.p c.args.s) (sales_on c.self.inside.shelves) ≡ Some c.in-Some.sale = ap (numbered c.args.s) there ∙ sym c.get.ensures ∙ c.in-Some.is in
-    rw (← c.self.view_is) (c.in_ok-sale.ensures.answer ∙ sym (ap (λ (o : Option Sale). answer_in (line_of c.args.request.now c.args.t o)) sale))
-
-pub returns-clause-sales : goal.returns-clause-sales
-returns-clause-sales c =
+pub returns-in_default : goal.returns-in_default
+returns-in_default c =
     let shelves = c.self.inside.shelves in
-    let old : List Sale = (get_or shelves c.cell_of.result c.index-self-cell_of.result).sales in
-    let there : sales_at c.args.p (sales_on shelves) ≡ old = sales_there shelves c.cell_of.result c.args.p c.index-self-cell_of.result c.cell_of.ensures.place (omega arith) in
+    let old : List Sale = (get_or shelves c.cell.result c.index-self-cell.result).sales in
+    let there : sales_at c.args.p (sales_on shelves) ≡ old =
+    sales_there shelves c.cell.result c.args.p c.index-self-cell.result c.cell.ensures.place (omega arith) in
+    let none : sale_of (key c.args.p c.args.s) (sales_on shelves) ≡ None =
+    ap (numbered c.args.s) there ∙ sym c.get.ensures ∙ c.in_default.is in
+    rw (set-get_or shelves c.cell.result c.index-self-cell.result, ← c.self.view_is)
+    (asked_of_none c.args.request.now c.args.t (key c.args.p c.args.s) (sales_on shelves) none)
+
+pub returns-in_err-sale : goal.returns-in_err-sale
+returns-in_err-sale c =
+    let shelves = c.self.inside.shelves in
+    let old : List Sale = (get_or shelves c.cell.result c.index-self-cell.result).sales in
+    let there : sales_at c.args.p (sales_on shelves) ≡ old =
+    sales_there shelves c.cell.result c.args.p c.index-self-cell.result c.cell.ensures.place (omega arith) in
+    let sale : sale_of (key c.args.p c.args.s) (sales_on shelves) ≡ Some c.in-Some.sale =
+    ap (numbered c.args.s) there ∙ sym c.get.ensures ∙ c.in-Some.is in
+    let p = err_from_is_err_and c.from_residual.result c.from_residual.ensures.1 in
+    let refused : outcome (line_for c.args.request.now c.args.t c.in-Some.sale) c.in-Some.sale ≡ Err c.in_err-sale.field-0.0 =
+    sym c.asked.ensures ∙ c.in_err-sale.was in
+    rw (p.1, p.2, set-get_or shelves c.cell.result c.index-self-cell.result, ← c.self.view_is)
+    (asked_and_refused c.args.request.now c.args.t (key c.args.p c.args.s) c.in-Some.sale c.in_err-sale.field-0.0 (sales_on shelves) sale refused)
+
+pub returns : goal.returns
+returns c =
+    let shelves = c.self.inside.shelves in
+    let old : List Sale = (get_or shelves c.cell.result c.index-self-cell.result).sales in
+    let there : sales_at c.args.p (sales_on shelves) ≡ old =
+    sales_there shelves c.cell.result c.args.p c.index-self-cell.result c.cell.ensures.place (omega arith) in
     let found : numbered c.args.s old ≡ Some c.in-Some.sale = sym c.get.ensures ∙ c.in-Some.is in
-    let line : Result Line Refusal = line_for c.args.request.now c.args.t c.in-Some.sale in
+    let sale : sale_of (key c.args.p c.args.s) (sales_on shelves) ≡ Some c.in-Some.sale = ap (numbered c.args.s) there ∙ found in
     let put : c.put.new.self.sales ≡ with_numbered c.args.s c.in_ok-sale.sale old = c.put.ensures in
-    let some : stock c.put.new.self.sales ≡ Some c.put.new.self.sales = ap stock put ∙ stock_with c.args.s old c.in-Some.sale c.in_ok-sale.sale found ∙ ap Some (sym put) in
-    let changed : c.put.new.self.sales ≡ with_numbered c.args.s (sale_after line c.in-Some.sale) (sales_at c.args.p (sales_on shelves)) =
-    put ∙ ap (λ (x : Sale). with_numbered c.args.s x old) c.in_ok-sale.ensures.sale ∙ ap (with_numbered c.args.s (sale_after line c.in-Some.sale)) (sym there) in
+    let some : stock c.put.new.self.sales ≡ Some c.put.new.self.sales =
+    ap stock put ∙ stock_with c.args.s old c.in-Some.sale c.in_ok-sale.sale found ∙ ap Some (sym put) in
+    let changed : c.put.new.self.sales ≡ with_numbered c.args.s c.in_ok-sale.sale (sales_at c.args.p (sales_on shelves)) =
+    put ∙ ap (with_numbered c.args.s c.in_ok-sale.sale) (sym there) in
+    let written = shelf_filled shelves c.cell.result c.args.p c.put.new.self c.cell.ensures.place (omega arith) some
+    ∙ ap (finite.insert (sales_on shelves) c.args.p) changed in
+    let accepted : outcome (line_for c.args.request.now c.args.t c.in-Some.sale) c.in-Some.sale ≡ Ok (c.in_ok-sale.sale, c.in_ok-sale.answer) =
+    sym c.asked.ensures ∙ c.in_ok-sale.was in
     rw (← c.self.view_is)
-    (shelf_filled shelves c.cell_of.result c.args.p c.put.new.self c.cell_of.ensures.place (omega arith) some
-    ∙ ap (finite.insert (sales_on shelves) c.args.p) changed
-    ∙ sym (accepted_after (key c.args.p c.args.s) c.in-Some.sale line (sales_on shelves) c.in_ok-sale.ensures.accepted)
-    ∙ sym (ap (λ (o : Option Sale). after_at c.args.request.now c.args.t (key c.args.p c.args.s) o (sales_on shelves)) (ap (numbered c.args.s) there ∙ found)))
+    (subst (λ (s : Sales). Asked c.args.request.now c.args.t (key c.args.p c.args.s) (sales_on shelves) s (Ok c.in_ok-sale.answer))
+    (sym written)
+    (asked_and_accepted c.args.request.now c.args.t (key c.args.p c.args.s) c.in-Some.sale (c.in_ok-sale.sale, c.in_ok-sale.answer) (sales_on shelves) sale accepted))
