@@ -2,3 +2,4 @@ pub mod Books
 pub mod Lines
 pub mod WholeTexts
 pub mod Running
+pub mod Worked

@@ -13,8 +13,6 @@ mod laws;
 mod line;
 mod replay;
 mod sites;
-#[cfg(test)]
-mod tests;
 
 use crate::fault::ReplayFault;
 use crate::replay::replay;

@@ -2,3 +2,5 @@ pub mod Cells
 pub mod Known
 pub mod Numbering
 pub mod Places
+pub mod Worked
+pub mod PriceRanges

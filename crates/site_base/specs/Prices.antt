@@ -1,7 +1,13 @@
 -- Today's prices.
-use Rattle.std.specs.Prelude.{ℕ, List, map}
-use Rattle.site_base.specs.Configured.{ConfiguredProduct}
+use Rattle.std.specs.Prelude.{ℕ, Bool, List, map}
+use Rattle.std.specs.List.{list_all}
+use Rattle.site_base.specs.declared.limits.TheConstants.{GREATEST_PRICE}
+use Rattle.site_base.specs.Configured.{ConfiguredProduct, is_between}
 
 -- the products' numbers with their configured prices, in configured order
 abbrev pub prices_of : List ConfiguredProduct → List (ℕ × ℕ)
 prices_of products = map (λ p. (p.number, p.price)) products
+
+-- each product's price is one that a product may have
+abbrev pub are_in_range : List (ℕ × ℕ) → Bool
+are_in_range prices = list_all (λ p. is_between 1 GREATEST_PRICE p.1) prices

@@ -15,6 +15,7 @@ mod prices;
 mod refusal;
 mod row;
 mod state;
+mod table;
 #[cfg(test)]
 mod tests;
 mod transfer;
@@ -33,11 +34,12 @@ pub use limits::{
     PRODUCTS, TILL_CELLS, TILLS, UNPAID_LIMIT,
 };
 pub use memory::NoMemory;
-pub use numbers::{FpNo, NozzleNo, ProductNo, Seq, TillNo};
+pub use numbers::{FpNo, NozzleNo, Number, ProductNo, Seq, TillNo};
 pub use prices::PriceBook;
 pub use refusal::{NoRow, Refusal};
 pub use row::{Placed, Reply, Row, Rows, cents_told, growth_told};
 pub use state::{PointState, Preset, Status};
+pub use table::place_of;
 pub use transfer::{ReadFault, WriteFault, read_piece, write_whole};
 pub use view::{PointView, ProductView, SiteView, TransactionView};
 pub use words::write_reply;

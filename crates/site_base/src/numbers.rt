@@ -1,11 +1,20 @@
 //! The numbers by which the parts of a site are called.
 
-ghost use Rattle.std.specs.Prelude.{◌≡◌, ◌+◌, ◌<◌, ◌≤◌, ◌↔◌, IsSome, IfSome};
+ghost use Rattle.std.specs.Prelude.{◌≡◌, ℕ, ◌+◌, ◌<◌, ◌≤◌, ◌↔◌, IsSome, IfSome};
 
 use crate::limits::{
     GREATEST_SEQ, NOZZLES, POINT_CELLS, POINTS, PRODUCT_CELLS, PRODUCTS, TILL_CELLS, TILLS,
 };
 use std::marker::Model;
+
+/// A number by which the rows of a table are found.
+pub trait Number: Copy {
+    ghost number: { Self → ℕ };
+
+    /// The number itself.
+    fn number(self) -> u8
+        ensures { result ≡ number self };
+}
 
 /// The number of a fuelling point, from 1 to `POINTS`.
 #[derive(Clone, Copy, Debug, PartialEq, Eq)]
@@ -24,6 +33,14 @@ impl Model for FpNo {
     ghost invariant = { λ n. (1 ≤ n.number) × (n.number ≤ POINTS) };
 
     ghost inverse = { λ n. record { number = n } };
+}
+
+impl Number for FpNo {
+    ghost number = { λ n. n };
+
+    fn number(self) -> u8 {
+        self.number
+    }
 }
 
 impl FpNo {
@@ -183,6 +200,14 @@ impl Model for ProductNo {
     ghost invariant = { λ n. (1 ≤ n.number) × (n.number ≤ PRODUCTS) };
 
     ghost inverse = { λ n. record { number = n } };
+}
+
+impl Number for ProductNo {
+    ghost number = { λ n. n };
+
+    fn number(self) -> u8 {
+        self.number
+    }
 }
 
 impl ProductNo {

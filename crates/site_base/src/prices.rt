@@ -1,13 +1,14 @@
 //! Today's prices.
 
-ghost use Rattle.std.specs.Prelude.{◌≡◌, false, is_some, IfOk, IfSome};
-ghost use Rattle.site_base.specs.Prices.{prices_of};
-ghost use Rattle.site_base.specs.Table.{row_of, with_row, IsPlace};
+ghost use Rattle.std.specs.Prelude.{◌≡◌, true, false, is_some, IfOk};
+ghost use Rattle.site_base.specs.Prices.{prices_of, are_in_range};
+ghost use Rattle.site_base.specs.Table.{row_of, with_row};
 
 use crate::amounts::Mills;
 use crate::config::SiteConfig;
 use crate::memory::NoMemory;
 use crate::numbers::ProductNo;
+use crate::table::place_of;
 use std::alloc::Global;
 use std::marker::Model;
 
@@ -24,6 +25,11 @@ impl Model for PriceBook {
     ghost Value = { List (ℕ × ℕ) };
 
     ghost view = { λ b. b.rows.items };
+
+    ghost use Rattle.std.specs.Prelude.{◌≡◌, true};
+    ghost use Rattle.site_base.specs.Prices.{are_in_range};
+
+    ghost invariant = { λ b. are_in_range b.rows.items ≡ true };
 }
 
 impl PriceBook {
@@ -33,14 +39,17 @@ impl PriceBook {
     {
         let mut rows = Vec::new(alloc);
         for product in config.products() {
+            // The price's range is known where the number is read.
+            let _mills = product.price.get();
             rows.push((product.number, product.price))?;
         }
         Ok(PriceBook { rows })
     }
 
-    /// The price of product q. None where it isn't there.
+    /// The price of product q. None where it isn't there. Every price is in the range of a price.
     pub fn get(&self, q: ProductNo) -> Option<Mills>
-        ensures { result ≡ row_of q self.now }
+        ensures price { result ≡ row_of q self.now }
+        ensures range { are_in_range self.now ≡ true }
     {
         match place_of(&self.rows, q) {
             Some(place) => Some(self.rows[place].1),
@@ -55,26 +64,13 @@ impl PriceBook {
         ensures prices { self.new ≡ with_row q price self.old }
         ensures absent { result ≡ false → self.new ≡ self.old }
     {
+        let _mills = price.get();
         match place_of(&self.rows, q) {
             Some(place) => {
-                self.rows[place] = (q, price);
+                self.rows[place].1 = price;
                 true
             }
             None => false,
         }
     }
-}
-
-/// The place of the row of q.
-fn place_of(rows: &[(ProductNo, Mills)], q: ProductNo) -> Option<usize>
-    ensures found { IfSome result (IsPlace q rows.now) }
-    ensures there { is_some result ≡ is_some (row_of q rows.now) }
-{
-    let number = q.get();
-    for (place, row) in rows.iter().enumerate() {
-        if row.0.get() == number {
-            return Some(place);
-        }
-    }
-    None
 }

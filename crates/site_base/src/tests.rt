@@ -1,6 +1,4 @@
 //! What no clause says.
 
-mod config;
 mod devices;
-mod prices;
 mod refused;

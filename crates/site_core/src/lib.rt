@@ -5,7 +5,6 @@
 
 mod commanding;
 mod holding;
-mod place;
 mod points;
 mod runs;
 mod signed_on;

@@ -7,9 +7,8 @@ ghost use Rattle.fuelling_point.specs.Step.{step_of, after};
 ghost use Rattle.site_base.specs.Table.{row_of, with_row};
 ghost use Rattle.written_site.specs.SiteState.{points_of, facts_in, rests, is_resting};
 
-use crate::place::place_of;
 use fuelling_point::{Point, PointEvent, PointStep};
-use site_base::{FpNo, NoMemory, PointEntry, PointState, PointView, Refusal};
+use site_base::{FpNo, NoMemory, PointEntry, PointState, PointView, Refusal, place_of};
 use std::alloc::Global;
 use std::marker::Model;
 
@@ -75,7 +74,7 @@ impl Points {
     {
         match place_of(&self.rows, p) {
             Some(place) => self.rows[place].1.judge(event),
-            None => Ok(()),
+            None => unreachable!(),
         }
     }
 

@@ -1,8 +1,34 @@
 //! Made for runs in which one growth is refused: what was there stays, and the same call then answers
 //! as ever.
 
-use super::prices::site_of_two;
-use crate::{Actor, Answer, Event, Mills, NoMemory, PriceBook, ProductNo, Row, Rows, TillNo};
+use crate::{
+    Actor, Answer, Event, FpNo, Millilitres, Mills, NoMemory, NozzleEntry, PointEntry, PriceBook,
+    ProductEntry, ProductNo, Row, Rows, SiteConfig, TillNo,
+};
+use std::alloc::Global;
+
+/// A site of petrol at 1799.
+fn site_of_petrol(alloc: Global) -> Result<Option<SiteConfig>, NoMemory> {
+    let (Some(number), Some(product), Some(price), Some(reading)) = (
+        FpNo::new(1),
+        ProductNo::new(2),
+        Mills::new(1799),
+        Millilitres::new(0),
+    ) else {
+        return Ok(None);
+    };
+    let mut products = Vec::new(alloc);
+    products.push(ProductEntry {
+        number: product,
+        name: String::from_str(alloc, "petrol")?,
+        price,
+    })?;
+    let mut nozzles = Vec::new(alloc);
+    nozzles.push(NozzleEntry { product, reading })?;
+    let mut points = Vec::new(alloc);
+    points.push(PointEntry { number, nozzles })?;
+    Ok(SiteConfig::try_new(10, Vec::new(alloc), products, points))
+}
 
 /// Says that a growth was refused in this run.
 fn said(rt: &impl Eprint) {
@@ -39,10 +65,10 @@ fn a_refused_room_leaves_the_rows(rt: HostRuntime) {
 #[test]
 fn refused_prices_are_made_again(rt: HostRuntime) {
     let alloc = rt.alloc();
-    let config = match site_of_two(alloc) {
+    let config = match site_of_petrol(alloc) {
         Err(NoMemory) => {
             said(&rt);
-            site_of_two(alloc)
+            site_of_petrol(alloc)
         }
         config => config,
     };
