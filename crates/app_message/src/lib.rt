@@ -3,6 +3,9 @@
 //! A `Message` is valid by its type: it is exactly what can be spelled. `encode` writes its one
 //! spelling. A `Decoder` takes a stream in any pieces, and gives the messages in it, up to the
 //! first fault; what it gives doesn't depend on how the stream was cut.
+//!
+//! Worked messages, faults and parts, by their octets, are theorems of the definitions that the
+//! contracts cite: `proofs/Worked.antt`.
 #![tactic(auto)]
 
 mod decoder;

@@ -16,8 +16,8 @@ pub enum Database {
     Site,
     /// A fuelling point's.
     Point(FpNo),
-    /// That of a transaction of a fuelling point: the two octets of its number as they came, to be
-    /// read as digits only where nothing else is wrong.
+    /// That of a transaction of a fuelling point: the two octets of its number as they came. Whether
+    /// they are digits is judged after the items of the request, and before the widths of these.
     Transaction(FpNo, [u8; 2]),
     /// A product's.
     Product(ProductNo),

@@ -2,6 +2,10 @@
 //!
 //! `request_of` answers the pair of actor and event that a request means, or its first fault.
 //! `reply_of`, `refusal_of` and `stream_refusal` make the message that goes back.
+//!
+//! The commands stand in one table, `specs/Commands.antt`, each with the shape of its content, and
+//! `request.rt` has an arm for each. Worked messages, by their octets, are theorems of the
+//! definitions that the contracts cite: `proofs/WorkedRequests.antt` and `WorkedReplies.antt`.
 #![tactic(auto)]
 
 mod address;
