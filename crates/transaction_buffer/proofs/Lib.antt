@@ -8,3 +8,4 @@ pub mod Rules
 pub mod Summing
 pub mod Unpaid
 pub mod Volumes
+pub mod Worked

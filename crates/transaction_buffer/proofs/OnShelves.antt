@@ -1,15 +1,14 @@
 -- What the shelves of the points say of the sales, and what a change of one shelf changes.
-use Rattle.std.proofs.Common.{◌≡◌, ℕ, zero, suc, ◌+◌, ◌-◌, ◌<◌, ◌==◌, Bool, true, false, cond, List, [], ◌∷◌, ◌++◌, length, get_or, map, Option, Some, None, unwrap_or, Result, Ok, Err, refl, sym, ap, ◌∙◌, arith, length-set, get_or-set_same}
+use Rattle.std.proofs.Common.{◌≡◌, ℕ, zero, suc, ◌+◌, ◌-◌, ◌<◌, ◌==◌, Bool, true, false, cond, List, [], ◌∷◌, ◌++◌, length, get_or, map, Option, Some, None, unwrap_or, refl, sym, ap, ◌∙◌, arith, length-set, get_or-set_same}
 use Rattle.std.proofs.Math.ListN.{set}
 use Rattle.std.proofs.lemmas.List.{map-set, get_or-map, set-get_or, length-map}
 use Rattle.std.specs.FinMap as finite
 use Rattle.site_base.specs.Cells.{entries_from}
-use Rattle.site_base.specs.declared.refusal.Refusal.{Refusal}
 use Rattle.site_base.specs.Numbered.{numbered, with_numbered}
 use Rattle.site_base.proofs.Cells.{cell_read, cell_filled, entries_of_cells}
 use Rattle.site_base.proofs.Numbering.{numbered_within}
-use Rattle.transaction_buffer.specs.Sales.{Key, Sale, Sales, no_sales, sales_at, with_sale}
-use Rattle.transaction_buffer.specs.TransactionTable.{Line, refusal_in, sale_after, after_line, let_go, after_sign_off}
+use Rattle.transaction_buffer.specs.Sales.{Sale, no_sales, sales_at}
+use Rattle.transaction_buffer.specs.TransactionTable.{let_go, after_sign_off}
 use Rattle.transaction_buffer.specs.Sums.{sum_among, sum_over, sum_of}
 use Rattle.transaction_buffer.specs.Rooms.{room_at}
 use Rattle.transaction_buffer.specs.Shelves.{Shelf, stock, sales_on, rooms_on, sum_on}

@@ -1,14 +1,13 @@
 -- What the table's line for a sale tells of a till's request.
-use Rattle.std.proofs.Common.{◌≡◌, ℕ, true, Option, Some, None, Result, Ok, Err, refl, sym, ap, ◌∙◌}
+use Rattle.std.proofs.Common.{◌≡◌, ℕ, Option, Some, None, Result, Ok, Err, refl, sym, ap, ◌∙◌}
 use Rattle.site_base.specs.declared.answer.Answer.{Answer}
 use Rattle.site_base.specs.declared.refusal.Refusal.{Refusal}
 use Rattle.site_base.specs.declared.refusal.Refusal.TheVariants.{NoSuchTransaction}
 use Rattle.transaction_buffer.specs.declared.request.Request.{Request}
 use Rattle.transaction_buffer.specs.Asked.{reply_or, Asked, outcome}
 use Rattle.transaction_buffer.specs.Laws.{DoTell}
-use Rattle.transaction_buffer.specs.Sales.{Key, Sale, Sales, sale_of, with_sale, is_unpaid}
+use Rattle.transaction_buffer.specs.Sales.{Key, Sale, Sales, sale_of, with_sale}
 use Rattle.transaction_buffer.specs.TransactionTable.{Line, line_for, line_of, refusal_in, answer_in, after_line, after_at}
-use Rattle.transaction_buffer.proofs.Rules.{accepted_unpaid}
 
 -- the reply and the sales, where this stands under the name
 told : (request : Request) (t : ℕ) (k : Key) (o : Option Sale) (s : Sales) → sale_of k s ≡ o

@@ -4,7 +4,6 @@
 mod refused;
 mod rows;
 mod spent;
-mod table;
 
 ghost use Rattle.std.specs.Prelude.{◌≡◌, true};
 ghost use Rattle.transaction_buffer.specs.Sales.{is_new};
@@ -60,15 +59,6 @@ fn locked(view: &TransactionView, t: TillNo) -> TransactionView
 {
     TransactionView {
         status: Status::Locked,
-        till: Some(t),
-        ..*view
-    }
-}
-
-/// The same, cleared by a till.
-fn cleared(view: &TransactionView, t: TillNo) -> TransactionView {
-    TransactionView {
-        status: Status::Cleared,
         till: Some(t),
         ..*view
     }
