@@ -95,18 +95,22 @@ stands : (f : Facts) (events : List PointEvent) (nozzle : ℕ)
 stands f [] nozzle calls is = inl (record { calls = calls; lasts = refl; is = is })
 stands f (e ∷ es) nozzle calls is = elim (stands (facts_after e f) es nozzle calls is) [
   | inl on ↦ one_earlier e f (history (facts_after e f) es) nozzle on
-  | inr s ↦ inr (also_earlier (record { before = f; event = e }) (history (facts_after e f) es) nozzle s)
+  | inr s ↦ inr (also_earlier (record { before = f; event = e }) (history (facts_after e f) es)
+      nozzle s)
 ]
 
 -- a closed point has no nozzle out, so one that is out later has been lifted since
 out : (events : List PointEvent) (nozzle : ℕ) → (point_after events).out ≡ Some nozzle
     → HasLifted (moments_of events) nozzle
 out events nozzle is =
-    let calls : has_nozzle_out (point_after events).state ≡ true = sym (whole_after events).nozzle ∙ ap is_some is in
-    elim (stands (fresh Closed) events nozzle calls is) [ inl on ↦ absurd (false≢true on.calls) | inr s ↦ s ]
+    let calls : has_nozzle_out (point_after events).state ≡ true =
+    sym (whole_after events).nozzle ∙ ap is_some is in
+    elim (stands (fresh Closed) events nozzle calls is)
+    [ inl on ↦ absurd (false≢true on.calls) | inr s ↦ s ]
 
 pub the_lifted : IsTheLifted
 the_lifted = record {
   out = out;
-  sold = λ events event nozzle volume price prepaid is. out events nozzle (sold_nozzle event (point_after events) nozzle volume price prepaid (whole_after events) is);
+  sold = λ events event nozzle volume price prepaid is. out events nozzle
+      (sold_nozzle event (point_after events) nozzle volume price prepaid (whole_after events) is);
 }

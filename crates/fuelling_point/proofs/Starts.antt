@@ -37,7 +37,10 @@ one_earlier e f last ms on = by_test (is_under_way f.state) refl
       lasts = rw (not_ended e f on.under_way is) on.lasts;
       price = on.price ∙ price_kept e f on.under_way is;
       start = on.start ∙ start_kept e f on.under_way is;
-      volume = on.volume ∙ ap (λ n. n + sum_by growth_at ms) (volume_kept e f on.under_way is) ∙ add_assoc f.volume (growth_at (record { before = f; event = e })) (sum_by growth_at ms) ∙ ap (λ n. f.volume + n) (sym (sum_by-cons growth_at (record { before = f; event = e }) ms));
+      volume = on.volume ∙ ap (λ n. n + sum_by growth_at ms) (volume_kept e f on.under_way is)
+          ∙ add_assoc f.volume (growth_at (record { before = f; event = e })) (sum_by growth_at ms)
+          ∙ ap (λ n. f.volume + n) (sym (sum_by-cons growth_at (record { before = f; event = e })
+          ms));
     })
     by_test false is = inr (record {
       before = [];
@@ -46,7 +49,8 @@ one_earlier e f last ms on = by_test (is_under_way f.state) refl
       parts = refl;
       taken = rw (on.price, on.start) (start_taken e f on.under_way is);
       goes_on = on.lasts;
-      flowed = on.volume ∙ ap (λ n. n + sum_by growth_at ms) (volume_none e f on.under_way is) ∙ zero-add (sum_by growth_at ms);
+      flowed = on.volume ∙ ap (λ n. n + sum_by growth_at ms) (volume_none e f on.under_way is)
+          ∙ zero-add (sum_by growth_at ms);
     })
 
 -- the fuelling that stands at the end of a later history stands at the end of the whole
@@ -66,22 +70,45 @@ also_earlier m ms last s = record {
 pub stands : (f : Facts) (events : List PointEvent)
     → is_under_way (facts_at_end f events).state ≡ true
     → Stands f (history f events) (facts_at_end f events)
-stands f [] is = inl (record { under_way = is; lasts = refl; price = refl; start = refl; volume = omega arith })
+stands f [] is = inl (record {
+  under_way = is;
+  lasts = refl;
+  price = refl;
+  start = refl;
+  volume =
+      omega arith;
+})
 stands f (e ∷ es) is = elim (stands (facts_after e f) es is) [
   | inl on ↦ one_earlier e f (facts_at_end (facts_after e f) es) (history (facts_after e f) es) on
-  | inr s ↦ inr (also_earlier (record { before = f; event = e }) (history (facts_after e f) es) (facts_at_end (facts_after e f) es) s)
+  | inr s ↦ inr (also_earlier (record { before = f; event = e }) (history (facts_after e f) es)
+      (facts_at_end (facts_after e f) es) s)
 ]
 
 -- a closed point has no fuelling under way, so one that stands later has started since
 pub started : (events : List PointEvent) → is_under_way (point_after events).state ≡ true
-    → HasStarted (moments_of events) (point_after events).price (point_after events).start (point_after events).volume
-started events is = elim (stands (fresh Closed) events is) [ inl on ↦ absurd (false≢true on.under_way) | inr s ↦ s ]
+    → HasStarted (moments_of events) (point_after events).price (point_after events).start
+    (point_after events).volume
+started events is = elim (stands (fresh Closed) events is)
+    [ inl on ↦ absurd (false≢true on.under_way) | inr s ↦ s ]
 
 -- what is sold is the fuelling that stood under way
-pub sold_started : (events : List PointEvent) (event : PointEvent) (nozzle volume price : ℕ) (prepaid : Option ℕ)
+pub sold_started : (events : List PointEvent) (event : PointEvent) (nozzle volume price : ℕ)
+    (prepaid : Option ℕ)
     → reply_to event (point_after events) ≡ Ok (Sold nozzle volume price prepaid)
-    → (start : ℕ) × ((flowed : ℕ) × (HasStarted (moments_of events) price start flowed × (volume ≡ flowed + growth_of event)))
+    → (start : ℕ) × ((flowed : ℕ) × (HasStarted (moments_of events) price start flowed
+    × (volume ≡ flowed + growth_of event)))
 sold_started events event nozzle volume price prepaid is =
     let f : Facts = point_after events in
-    let kept : HasStarted (moments_of events) f.price f.start f.volume = started events (sold_under_way event f nozzle volume price prepaid is) in
-    (f.start, (f.volume, (subst (λ p. HasStarted (moments_of events) p f.start f.volume) (sold_price event f nozzle volume price prepaid is) kept, sold_volume event f nozzle volume price prepaid is)))
+    let kept : HasStarted (moments_of events) f.price f.start f.volume =
+    started events (sold_under_way event f nozzle volume price prepaid is) in (
+      f.start,
+      (
+        f.volume,
+        (
+          subst (λ p. HasStarted (moments_of events) p f.start f.volume)
+              (sold_price event f nozzle volume price prepaid is) kept,
+          sold_volume event f nozzle volume
+              price prepaid is,
+        ),
+      ),
+    )

@@ -26,12 +26,20 @@ keeps : (f : Facts) (events : List PointEvent) → IsTerminated f
     → list_any ends (history f events) ≡ false → IsTerminated (facts_at_end f events)
 keeps f [] t on = t
 keeps f (e ∷ es) t on =
-    let now : ends (record { before = f; event = e }) ≡ false = left_false _ (list_any ends (history (facts_after e f) es)) on in
-    let later : list_any ends (history (facts_after e f) es) ≡ false = right_false (ends (record { before = f; event = e })) _ on in
-    keeps (facts_after e f) es (record { suspended = suspended_kept e f t.suspended t.ending now; ending = ending_kept e f t.suspended t.ending now }) later
+    let now : ends (record { before = f; event = e }) ≡ false =
+    left_false _ (list_any ends (history (facts_after e f) es)) on in
+    let later : list_any ends (history (facts_after e f) es) ≡ false =
+    right_false (ends (record { before = f; event = e })) _ on in
+    keeps (facts_after e f) es (record {
+      suspended =
+          suspended_kept e f t.suspended t.ending now;
+      ending =
+          ending_kept e f t.suspended t.ending now;
+    }) later
 
 -- from the terminate on, as long as nothing ends the fuelling
-pub stays_terminated : (f : Facts) (events : List PointEvent) (before since : List Moment) (m : Moment)
+pub stays_terminated : (f : Facts) (events : List PointEvent) (before since : List Moment)
+    (m : Moment)
     → history f events ≡ before ++ m ∷ since
     → reply_at m ≡ Ok Ending → list_any ends since ≡ false → IsTerminated (facts_at_end f events)
 stays_terminated f [] [] since m parts told on = cc
@@ -40,7 +48,11 @@ stays_terminated f (e ∷ es) [] since m parts told on =
     let here : m ≡ record { before = f; event = e } = cc in
     let rest : since ≡ history (facts_after e f) es = cc in
     let ended = subst (λ x. reply_at x ≡ Ok Ending) here told in
-    keeps (facts_after e f) es (record { suspended = suspended_when_terminated e f ended; ending = ending_when_terminated e f ended }) (subst (λ x. list_any ends x ≡ false) rest on)
+    keeps (facts_after e f) es (record {
+      suspended = suspended_when_terminated e f ended;
+      ending =
+          ending_when_terminated e f ended;
+    }) (subst (λ x. list_any ends x ≡ false) rest on)
 stays_terminated f (e ∷ es) (x ∷ xs) since m parts told on =
     let rest : history (facts_after e f) es ≡ xs ++ m ∷ since = cc in
     stays_terminated (facts_after e f) es xs since m rest told on

@@ -12,7 +12,18 @@ use Rattle.fuelling_point.specs.History.{reply_to, facts_after, facts_at_end, po
 use Rattle.fuelling_point.specs.Laws.{StaysWhole, IsConserved, IsNeverNothing}
 
 begins : IsWhole (fresh Closed)
-begins = record { nozzle = refl; nothing = λ state. refl; something = λ state. cc; ending = λ state. refl; price = λ state. refl; start = λ state. refl; preset = λ state. refl; prepaid = λ state. refl }
+begins = record {
+  nozzle = refl;
+  nothing = λ state. refl;
+  something = λ state. cc;
+  ending =
+      λ state. refl;
+  price = λ state. refl;
+  start = λ state. refl;
+  preset = λ state. refl;
+  prepaid =
+      λ state. refl;
+}
 
 keeps : (event : PointEvent) (f : Facts) → IsWhole f → IsWhole (facts_after event f)
 keeps event f w =
@@ -66,4 +77,5 @@ sold_something event f nozzle volume price prepaid w told =
     grind (arith, common_steps)
 
 pub never_nothing : IsNeverNothing
-never_nothing events event nozzle volume price prepaid told = sold_something event (point_after events) nozzle volume price prepaid (whole_after events) told
+never_nothing events event nozzle volume price prepaid told =
+    sold_something event (point_after events) nozzle volume price prepaid (whole_after events) told

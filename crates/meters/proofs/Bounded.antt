@@ -21,7 +21,8 @@ part false volume = omega arith
 among_all : (q : ℕ) (xs : List Nozzle) → product_total q xs ≤ metered_by every_product xs
 among_all q [] = omega arith
 among_all q (x ∷ xs) =
-    let here : cond (x.product == q) (metered x) 0 ≤ metered x = part (x.product == q) (metered x) in
+    let here : cond (x.product == q) (metered x) 0 ≤ metered x =
+    part (x.product == q) (metered x) in
     let rest : product_total q xs ≤ metered_by every_product xs = among_all q xs in
     omega (arith, here, rest)
 

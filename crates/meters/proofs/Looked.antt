@@ -8,7 +8,8 @@ use Rattle.meters.specs.Nozzles.{Nozzle, is_nozzle, product_of, last_of, has_noz
 pub has_nozzle-with_last : (p n r q m : ℕ) (xs : List Nozzle)
     → has_nozzle q m (with_last p n r xs) ≡ has_nozzle q m xs
 has_nozzle-with_last p n r q m [] = refl
-has_nozzle-with_last p n r q m (x ∷ xs) = by_tests (has_nozzle-with_last p n r q m xs) (is_nozzle p n x) (is_nozzle q m x) refl refl
+has_nozzle-with_last p n r q m (x ∷ xs) =
+    by_tests (has_nozzle-with_last p n r q m xs) (is_nozzle p n x) (is_nozzle q m x) refl refl
   where
     by_tests : has_nozzle q m (with_last p n r xs) ≡ has_nozzle q m xs → (a b : Bool)
         → is_nozzle p n x ≡ a → is_nozzle q m x ≡ b
@@ -21,7 +22,8 @@ has_nozzle-with_last p n r q m (x ∷ xs) = by_tests (has_nozzle-with_last p n r
 pub product_of-with_last : (p n r q m : ℕ) (xs : List Nozzle)
     → product_of q m (with_last p n r xs) ≡ product_of q m xs
 product_of-with_last p n r q m [] = refl
-product_of-with_last p n r q m (x ∷ xs) = by_tests (product_of-with_last p n r q m xs) (is_nozzle p n x) (is_nozzle q m x) refl refl
+product_of-with_last p n r q m (x ∷ xs) =
+    by_tests (product_of-with_last p n r q m xs) (is_nozzle p n x) (is_nozzle q m x) refl refl
   where
     by_tests : product_of q m (with_last p n r xs) ≡ product_of q m xs → (a b : Bool)
         → is_nozzle p n x ≡ a → is_nozzle q m x ≡ b
@@ -39,7 +41,9 @@ last_of-here p n r (x ∷ xs) there = by_test (last_of-here p n r xs) (is_nozzle
     by_test : (has_nozzle p n xs ≡ true → last_of p n (with_last p n r xs) ≡ Some r) → (b : Bool)
         → is_nozzle p n x ≡ b → last_of p n (with_last p n r (x ∷ xs)) ≡ Some r
     by_test rest true is = rw (is, is) refl
-    by_test rest false is = rw (is, is) (rest (let left : has_nozzle p n (x ∷ xs) ≡ has_nozzle p n xs = rw is refl in sym left ∙ there))
+    by_test rest false is =
+        let left : has_nozzle p n (x ∷ xs) ≡ has_nozzle p n xs = rw is refl in
+        rw (is, is) (rest (sym left ∙ there))
 
 -- a nozzle isn't two
 one_of : (p n q m : ℕ) (x : Nozzle) → (p == q && n == m) ≡ false → is_nozzle p n x ≡ true
@@ -49,7 +53,8 @@ one_of p n q m x other is = grind (arith, common_steps)
 pub last_of-other : (p n r q m : ℕ) (xs : List Nozzle) → (p == q && n == m) ≡ false
     → last_of q m (with_last p n r xs) ≡ last_of q m xs
 last_of-other p n r q m [] other = refl
-last_of-other p n r q m (x ∷ xs) other = by_tests (last_of-other p n r q m xs other) (is_nozzle p n x) (is_nozzle q m x) refl refl
+last_of-other p n r q m (x ∷ xs) other =
+    by_tests (last_of-other p n r q m xs other) (is_nozzle p n x) (is_nozzle q m x) refl refl
   where
     by_tests : last_of q m (with_last p n r xs) ≡ last_of q m xs → (a b : Bool)
         → is_nozzle p n x ≡ a → is_nozzle q m x ≡ b

@@ -27,9 +27,18 @@ place_found p n xs i d lt is product last write =
     let left : drop i xs ≡ get_or xs i d ∷ drop (suc i) xs = drop-cons xs i d lt in
     record {
       within = lt;
-      product = λ e. sym product ∙ ap (product_of p n) left ∙ product_of-here p n (get_or xs i d) (drop (suc i) xs) is ∙ ap (λ (x : Nozzle). Some x.product) (get_or_default xs i d e lt);
-      last = λ e. sym last ∙ ap (last_of p n) left ∙ last_of-here p n (get_or xs i d) (drop (suc i) xs) is ∙ ap (λ (x : Nozzle). Some x.last) (get_or_default xs i d e lt);
-      write = λ r e. sym (write r) ∙ ap (λ (x : List Nozzle). take i xs ++ with_last p n r x) left ∙ ap (λ (x : List Nozzle). take i xs ++ x) (with_last-here p n r (get_or xs i d) (drop (suc i) xs) is) ∙ ap (λ (y : Nozzle). take i xs ++ record y { last = r } ∷ drop (suc i) xs) (get_or_default xs i d e lt) ∙ sym (set_split xs i (record (get_or xs i e) { last = r }) lt);
+      product = λ e. sym product ∙ ap (product_of p n) left
+          ∙ product_of-here p n (get_or xs i d) (drop (suc i) xs) is
+          ∙ ap (λ (x : Nozzle). Some x.product) (get_or_default xs i d e lt);
+      last = λ e. sym last ∙ ap (last_of p n) left
+          ∙ last_of-here p n (get_or xs i d) (drop (suc i) xs) is
+          ∙ ap (λ (x : Nozzle). Some x.last) (get_or_default xs i d e lt);
+      write = λ r e. sym (write r) ∙ ap (λ (x : List Nozzle). take i xs ++ with_last p n r x) left
+          ∙ ap (λ (x : List Nozzle). take i xs ++ x)
+          (with_last-here p n r (get_or xs i d) (drop (suc i) xs) is)
+          ∙ ap (λ (y : Nozzle). take i xs ++ record y { last = r } ∷ drop (suc i) xs)
+          (get_or_default xs i d e lt)
+          ∙ sym (set_split xs i (record (get_or xs i e) { last = r }) lt);
     }
 
 -- where there is no such nozzle, there is no product of it
@@ -39,5 +48,8 @@ no_product p n (x ∷ xs) none = by_test (no_product p n xs) (is_nozzle p n x) r
   where
     by_test : (has_nozzle p n xs ≡ false → product_of p n xs ≡ None) → (b : Bool)
         → is_nozzle p n x ≡ b → product_of p n (x ∷ xs) ≡ None
-    by_test behind true is = absurd (false≢true (sym none ∙ (let here : has_nozzle p n (x ∷ xs) ≡ true = rw is refl in here)))
-    by_test behind false is = rw is (behind (let left : has_nozzle p n (x ∷ xs) ≡ has_nozzle p n xs = rw is refl in sym left ∙ none))
+    by_test behind true is = absurd
+        (false≢true (sym none ∙ (let here : has_nozzle p n (x ∷ xs) ≡ true = rw is refl in here)))
+    by_test behind false is =
+        let left : has_nozzle p n (x ∷ xs) ≡ has_nozzle p n xs = rw is refl in
+        rw is (behind (sym left ∙ none))

@@ -20,13 +20,16 @@ opened_nothing : (w : ℕ → ℕ) (p n : ℕ) (es : List NozzleEntry) → meter
 opened_nothing w p n [] = refl
 opened_nothing w p n (e ∷ es) =
     let none : w e.product * (e.reading - e.reading) ≡ 0 =
-    ap (λ (k : ℕ). w e.product * k) (let apart : e.reading - e.reading ≡ 0 = omega arith in apart) ∙ mul-zero (w e.product) in
+    ap (λ (k : ℕ). w e.product * k) (let apart : e.reading - e.reading ≡ 0 = omega arith in apart)
+    ∙ mul-zero (w e.product) in
     omega (arith, none, opened_nothing w p (n + 1) es)
 
 both : (w : ℕ → ℕ) (xs ys : List Nozzle)
     → metered_by w (xs ++ ys) ≡ metered_by w xs + metered_by w ys
 both w [] ys = omega arith
-both w (x ∷ xs) ys = let rest : metered_by w (xs ++ ys) ≡ metered_by w xs + metered_by w ys = both w xs ys in omega (arith, rest)
+both w (x ∷ xs) ys =
+    let rest : metered_by w (xs ++ ys) ≡ metered_by w xs + metered_by w ys = both w xs ys in
+    omega (arith, rest)
 
 open_nothing : (w : ℕ → ℕ) (cs : List ConfiguredPoint) → metered_by w (nozzles_of_points cs) ≡ 0
 open_nothing w [] = refl
@@ -41,7 +44,8 @@ raised : (weight opening last reading rest : ℕ) → opening ≤ last → last 
     ≡ (weight * (last - opening) + rest) + weight * (reading - last)
 raised weight opening last reading rest low high =
     let parts : reading - opening ≡ (last - opening) + (reading - last) = omega arith in
-    let grown : weight * (reading - opening) ≡ weight * (last - opening) + weight * (reading - last) =
+    let grown : weight * (reading - opening) ≡ weight * (last - opening)
+    + weight * (reading - last) =
     ap (λ (n : ℕ). weight * n) parts ∙ mul-add weight (last - opening) (reading - last) in
     omega (arith, grown)
 
@@ -59,7 +63,8 @@ raised_by true w x xs p n reading last product is low behind at of high =
     let delivers : product_of p n (x ∷ xs) ≡ Some x.product = rw is refl in
     let moved : with_last p n reading (x ∷ xs) ≡ record x { last = reading } ∷ xs = rw is refl in
     let same_last : x.last ≡ last = ap (λ (o : Option ℕ). unwrap_or o 0) (sym here ∙ at) in
-    let same_product : x.product ≡ product = ap (λ (o : Option ℕ). unwrap_or o 0) (sym delivers ∙ of) in
+    let same_product : x.product ≡ product =
+    ap (λ (o : Option ℕ). unwrap_or o 0) (sym delivers ∙ of) in
     ap (metered_by w) moved
     ∙ raised (w x.product) x.opening x.last reading (metered_by w xs) low (omega (arith, same_last))
     ∙ ap (λ (j : ℕ). metered_by w (x ∷ xs) + w x.product * (reading - j)) same_last
@@ -68,7 +73,8 @@ raised_by false w x xs p n reading last product is low behind at of high =
     let past : last_of p n (x ∷ xs) ≡ last_of p n xs = rw is refl in
     let delivers : product_of p n (x ∷ xs) ≡ product_of p n xs = rw is refl in
     let moved : with_last p n reading (x ∷ xs) ≡ x ∷ with_last p n reading xs = rw is refl in
-    let others : metered_by w (with_last p n reading xs) ≡ metered_by w xs + w product * growth_of last reading =
+    let others : metered_by w (with_last p n reading xs) ≡ metered_by w xs
+    + w product * growth_of last reading =
     behind (sym past ∙ at) (sym delivers ∙ of) in
     ap (metered_by w) moved ∙ omega (arith, others)
 
@@ -95,7 +101,8 @@ accepted_above Still last reading accepted = still (reading == last) refl accept
 accepted_above Growing last reading accepted = growing (nat_le last reading) refl accepted
   where
     growing : (b : Bool) → nat_le last reading ≡ b
-        → cond (not b) (Some (MeterBack last)) (cond (not (nat_le reading (last + GROWTH_LIMIT))) (Some MeterJump) None)
+        → cond (not b) (Some (MeterBack last))
+        (cond (not (nat_le reading (last + GROWTH_LIMIT))) (Some MeterJump) None)
         ≡ None
         → last ≤ reading
     growing true is accepted = grind (arith, nat_tests)

@@ -42,7 +42,8 @@ abbrev told : List Reported → List Nozzle → List (Result ℕ Refusal)
 told [] xs = []
 told (r ∷ rs) xs =
     let last = reading_of r.point r.nozzle xs in
-    growth_or (report_refusal r.kind last r.reading) (growth_of last r.reading) ∷ told rs (after r xs)
+    growth_or (report_refusal r.kind last r.reading) (growth_of last r.reading)
+    ∷ told rs (after r xs)
 
 -- ---- two points
 
@@ -71,7 +72,8 @@ growing_reports : told
     ∷ []
 growing_reports = refl
 
-refused_reports_move_nothing : last_of 3 1 (after_all (grows 3 1 5000 ∷ grows 3 1 4999 ∷ grows 3 1 1005001 ∷ []) two_points)
+refused_reports_move_nothing : last_of 3 1
+    (after_all (grows 3 1 5000 ∷ grows 3 1 4999 ∷ grows 3 1 1005001 ∷ []) two_points)
     ≡ Some 5000
 refused_reports_move_nothing = refl
 
@@ -130,7 +132,10 @@ up_to count = range_with_len 1 count
 
 -- as many nozzles of product 1 as point p may have
 abbrev all_nozzles : ℕ → ConfiguredPoint
-all_nozzles p = record { number = p; nozzles = map (λ (n : ℕ). record { product = 1; reading = p * 100 + n }) (up_to NOZZLES) }
+all_nozzles p = record {
+  number = p;
+  nozzles = map (λ (n : ℕ). record { product = 1; reading = p * 100 + n }) (up_to NOZZLES);
+}
 
 abbrev greatest_site : List Nozzle
 greatest_site = nozzles_of_points (map all_nozzles (up_to POINTS))

@@ -20,17 +20,21 @@ written n m xs y d low high = by_test (m == n) refl
         → unwrap_or (numbered m (with_numbered n y xs)) d ≡ cond b y (unwrap_or (numbered m xs) d)
     by_test true is =
         let same : m ≡ n = grind (arith, nat_tests) in
-        let there : numbered n xs ≡ Some (get_or xs (n - 1) d) = numbered_within n xs (n - 1) d (omega arith) (omega arith) in
+        let there : numbered n xs ≡ Some (get_or xs (n - 1) d) =
+        numbered_within n xs (n - 1) d (omega arith) (omega arith) in
         ap (λ (k : ℕ). unwrap_or (numbered k (with_numbered n y xs)) d) same
         ∙ ap (λ o. unwrap_or o d) (numbered_with_same n xs (get_or xs (n - 1) d) y there)
-    by_test false is = ap (λ o. unwrap_or o d) (numbered_with_other n m xs y (grind (arith, nat_tests)))
+    by_test false is = ap (λ o. unwrap_or o d)
+        (numbered_with_other n m xs y (grind (arith, nat_tests)))
 
 pub is_counted : IsCounted
 is_counted = record {
   by_till = λ t q ml cents u s row low high.
-      written t u s.current.tills (one_clear_more cents (till_figures t s.current)) (0, 0) low (omega (arith, row.tills));
+      written t u s.current.tills (one_clear_more cents (till_figures t s.current)) (0, 0) low
+      (omega (arith, row.tills));
   by_product = λ t q ml cents r s row low high.
-      written q r s.current.products (product_figure q s.current + ml) 0 low (omega (arith, row.products));
+      written q r s.current.products (product_figure q s.current + ml) 0 low
+      (omega (arith, row.products));
   number = λ t q ml cents s. refl;
 }
 
@@ -48,11 +52,16 @@ alone row is zero d within = is
 alone row is (suc k) d within = absurd (omega arith)
 
 pub has_every_figure : HasEveryFigure
-has_every_figure = record { first = record { closed = λ k d within. absurd (omega arith); current = empty_row }; after = after }
+has_every_figure = record {
+  first = record { closed = λ k d within. absurd (omega arith); current = empty_row };
+  after = after;
+}
   where
     after : (change : ShiftChange) (s : Shifts) → HaveRows s → HaveRows (after_change change s)
-    after (clears t q ml cents) s rows = record { closed = rows.closed; current = row_after t q ml cents s.current rows.current }
+    after (clears t q ml cents) s rows =
+        record { closed = rows.closed; current = row_after t q ml cents s.current rows.current }
     after closes s rows = record {
-      closed = All-append IsRow s.closed (s.current ∷ []) rows.closed (alone s.current rows.current);
+      closed = All-append IsRow s.closed (s.current ∷ []) rows.closed
+          (alone s.current rows.current);
       current = empty_row;
     }

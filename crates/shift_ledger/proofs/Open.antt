@@ -27,8 +27,10 @@ pub fits_shown : (n : ℕ) (s : Shifts) (row : ShiftRow) (t q i j ml cents : ℕ
 fits_shown n s row t q i j ml cents e shown t_place q_place clears sum volume =
     let same : Some row ≡ Some s.current = sym shown ∙ open_shown n s e in
     let is : row ≡ s.current = ap (λ x. unwrap_or x row) same in
-    let till : till_figures t row ≡ get_or row.tills i (0, 0) = member t i row.tills (0, 0) t_place in
-    let product : product_figure q row ≡ get_or row.products j 0 = member q j row.products 0 q_place in
+    let till : till_figures t row ≡ get_or row.tills i (0, 0) =
+    member t i row.tills (0, 0) t_place in
+    let product : product_figure q row ≡ get_or row.products j 0 =
+    member q j row.products 0 q_place in
     subst (λ (r : ShiftRow). FitsClear t q ml cents r) is (record {
       clears = subst (λ (x : ℕ × ℕ). x.0 + 1 < 2 ^ 64) (sym till) clears;
       cents_sum = subst (λ (x : ℕ × ℕ). x.1 + cents < 2 ^ 64) (sym till) sum;

@@ -16,7 +16,8 @@ all_same (suc k) (suc i) d = all_same k i d
 
 nothing : {A : Type 0} (k n : ℕ) (d : A) → unwrap_or (numbered n (replicate k d)) d ≡ d
 nothing k zero d = refl
-nothing k (suc n) d = ap (λ o. unwrap_or o d) (numbered_place (suc n) (replicate k d) (omega arith)) ∙ all_same k (suc n - 1) d
+nothing k (suc n) d = ap (λ o. unwrap_or o d) (numbered_place (suc n) (replicate k d) (omega arith))
+    ∙ all_same k (suc n - 1) d
 
 pub is_opened_empty : IsOpenedEmpty
 is_opened_empty = record {
@@ -27,13 +28,15 @@ is_opened_empty = record {
 }
 
 next : (s : Shifts) → open_number (after_close s) ≡ open_number s + 1
-next s = let one_more : length (s.closed ++ s.current ∷ []) ≡ length s.closed + 1 = length-append s.closed (s.current ∷ []) in omega arith
+next s = let one_more : length (s.closed ++ s.current ∷ []) ≡ length s.closed + 1 =
+    length-append s.closed (s.current ∷ []) in omega arith
 
 -- one clear or close
 closed_once : (change : ShiftChange) (n : ℕ) (s : Shifts) → n < open_number s
     → figures_of n (after_change change s) ≡ figures_of n s
 closed_once (clears t q ml cents) n s below =
-    numbered_push_other n s.closed _ (omega arith) ∙ sym (numbered_push_other n s.closed s.current (omega arith))
+    numbered_push_other n s.closed _ (omega arith)
+    ∙ sym (numbered_push_other n s.closed s.current (omega arith))
 closed_once closes n s below =
     let count : open_number (after_close s) ≡ open_number s + 1 = next s in
     numbered_push_other n (s.closed ++ s.current ∷ []) no_clears (omega arith)

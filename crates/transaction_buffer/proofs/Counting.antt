@@ -17,12 +17,14 @@ same : (n m : ℕ) → (n == m) ≡ true → n ≡ m
 same n m is = grind (arith, nat_tests)
 
 made_with : (k : Key) (x : Sale) (q : ℕ) (s : Sales) → made_at q (with_sale k x s) ≡ made_at q s
-made_with k x q s = ap length (sales_at_insert s k.point (with_numbered k.number x (sales_at k.point s)) q) ∙ by_test (q == k.point) refl
+made_with k x q s = ap length (sales_at_insert s k.point
+    (with_numbered k.number x (sales_at k.point s)) q) ∙ by_test (q == k.point) refl
   where
     by_test : (b : Bool) → (q == k.point) ≡ b
         → length (cond b (with_numbered k.number x (sales_at k.point s)) (sales_at q s))
         ≡ made_at q s
-    by_test true is = length-with_numbered k.number x (sales_at k.point s) ∙ ap (λ (p : ℕ). made_at p s) (sym (same q k.point is))
+    by_test true is = length-with_numbered k.number x (sales_at k.point s)
+        ∙ ap (λ (p : ℕ). made_at p s) (sym (same q k.point is))
     by_test false is = refl
 
 made_asked : (t : ℕ) (request : Request) (k : Key) (q : ℕ) (s : Sales)
@@ -39,16 +41,19 @@ made_asked t request k q s = by_sale (sale_of k s)
     by_sale (Some x) = by_line x (line_for request t x)
 
 made_signed_off : (t q : ℕ) (s : Sales) → made_at q (after_sign_off t s) ≡ made_at q s
-made_signed_off t q s = ap length (sales_at_each (let_go t) s q) ∙ length-map (sales_at q s) (let_go t)
+made_signed_off t q s = ap length (sales_at_each (let_go t) s q)
+    ∙ length-map (sales_at q s) (let_go t)
 
 made_sold : (p : ℕ) (x : Sale) (q : ℕ) (s : Sales)
     → made_at q (with_new p x s) ≡ cond (q == p) (made_at q s + 1) (made_at q s)
-made_sold p x q s = ap length (sales_at_insert s p (sales_at p s ++ x ∷ []) q) ∙ by_test (q == p) refl
+made_sold p x q s = ap length (sales_at_insert s p (sales_at p s ++ x ∷ []) q)
+    ∙ by_test (q == p) refl
   where
     by_test : (b : Bool) → (q == p) ≡ b
         → length (cond b (sales_at p s ++ x ∷ []) (sales_at q s))
         ≡ cond b (made_at q s + 1) (made_at q s)
-    by_test true is = length_push (sales_at p s) x ∙ ap (λ (p : ℕ). made_at p s + 1) (sym (same q p is))
+    by_test true is = length_push (sales_at p s) x
+        ∙ ap (λ (p : ℕ). made_at p s + 1) (sym (same q p is))
     by_test false is = refl
 
 unpaid_asked : (t : ℕ) (request : Request) (k : Key) (q : ℕ) (s : Sales)
@@ -57,17 +62,20 @@ unpaid_asked t request k q s = by_sale (sale_of k s) refl
   where
     by_test : (x y : Sale) (b : Bool) → (q == k.point) ≡ b → sale_of k s ≡ Some x
         → is_unpaid x.standing ≡ true
-        → unpaid_among (cond b (with_numbered k.number y (sales_at k.point s)) (sales_at q s)) ≤ unpaid_at q s
+        → unpaid_among (cond b (with_numbered k.number y (sales_at k.point s)) (sales_at q s))
+        ≤ unpaid_at q s
     by_test x y true at is unpaid =
         let point : k.point ≡ q = sym (same q k.point at) in
-        subst (λ (p : ℕ). unpaid_among (with_numbered k.number y (sales_at k.point s)) ≤ unpaid_at p s) point (unpaid_with k.number (sales_at k.point s) x y is unpaid)
+        subst (λ (p : ℕ). unpaid_among (with_numbered k.number y (sales_at k.point s))
+        ≤ unpaid_at p s) point (unpaid_with k.number (sales_at k.point s) x y is unpaid)
     by_test x y false at is unpaid = omega arith
 
     by_line : (x : Sale) (line : Result Line Refusal) → line_for request t x ≡ line
         → sale_of k s ≡ Some x → unpaid_at q (after_line k x line s) ≤ unpaid_at q s
     by_line x (Ok l) line is =
         let y : Sale = record x { standing = l.leaves } in
-        subst (λ (xs : List Sale). unpaid_among xs ≤ unpaid_at q s) (sym (sales_at_insert s k.point (with_numbered k.number y (sales_at k.point s)) q))
+        subst (λ (xs : List Sale). unpaid_among xs ≤ unpaid_at q s)
+        (sym (sales_at_insert s k.point (with_numbered k.number y (sales_at k.point s)) q))
         (by_test x y (q == k.point) refl is (accepted_unpaid request t x l line))
     by_line x (Err refusal) line is = omega arith
 
@@ -77,17 +85,20 @@ unpaid_asked t request k q s = by_sale (sale_of k s) refl
     by_sale (Some x) is = by_line x (line_for request t x) refl is
 
 unpaid_signed_off : (t q : ℕ) (s : Sales) → unpaid_at q (after_sign_off t s) ≡ unpaid_at q s
-unpaid_signed_off t q s = ap unpaid_among (sales_at_each (let_go t) s q) ∙ unpaid_let_go t (sales_at q s)
+unpaid_signed_off t q s = ap unpaid_among (sales_at_each (let_go t) s q)
+    ∙ unpaid_let_go t (sales_at q s)
 
 unpaid_sold : (p : ℕ) (x : Sale) (q : ℕ) (s : Sales)
     → unpaid_at q (with_new p x s)
     ≡ cond (q == p) (unpaid_at q s + cond (is_unpaid x.standing) 1 0) (unpaid_at q s)
-unpaid_sold p x q s = ap unpaid_among (sales_at_insert s p (sales_at p s ++ x ∷ []) q) ∙ by_test (q == p) refl
+unpaid_sold p x q s = ap unpaid_among (sales_at_insert s p (sales_at p s ++ x ∷ []) q)
+    ∙ by_test (q == p) refl
   where
     by_test : (b : Bool) → (q == p) ≡ b
         → unpaid_among (cond b (sales_at p s ++ x ∷ []) (sales_at q s))
         ≡ cond b (unpaid_at q s + cond (is_unpaid x.standing) 1 0) (unpaid_at q s)
-    by_test true is = unpaid_pushed (sales_at p s) x ∙ ap (λ (p : ℕ). unpaid_at p s + cond (is_unpaid x.standing) 1 0) (sym (same q p is))
+    by_test true is = unpaid_pushed (sales_at p s) x
+        ∙ ap (λ (p : ℕ). unpaid_at p s + cond (is_unpaid x.standing) 1 0) (sym (same q p is))
     by_test false is = refl
 
 pub counted_after : IsCountedAfter

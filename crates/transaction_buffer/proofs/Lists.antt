@@ -12,12 +12,16 @@ change_more {A} f xs ys i d within so_far =
     let front : List A = map f (take i xs) in
     let count : length front ≡ i = length-map (take i xs) f ∙ length-take-le i xs (omega arith) in
     let left : drop i xs ≡ get_or xs i d ∷ drop (suc i) xs = drop-cons xs i d within in
-    let parts : ys ≡ front ++ get_or xs i d ∷ drop (suc i) xs = so_far ∙ ap (λ (r : List A). front ++ r) left in
-    let here : get_or ys i d ≡ get_or xs i d = ap (λ (r : List A). get_or r i d) parts ∙ get_or_at front (get_or xs i d) (drop (suc i) xs) d i count in
+    let parts : ys ≡ front ++ get_or xs i d ∷ drop (suc i) xs =
+    so_far ∙ ap (λ (r : List A). front ++ r) left in
+    let here : get_or ys i d ≡ get_or xs i d =
+    ap (λ (r : List A). get_or r i d) parts
+    ∙ get_or_at front (get_or xs i d) (drop (suc i) xs) d i count in
     let next : i + 1 ≡ suc i = omega arith in
     ap (λ (r : List A). set r i (f (get_or ys i d))) parts
     ∙ set_at front (get_or xs i d) (drop (suc i) xs) (f (get_or ys i d)) i count
     ∙ ap (λ (y : A). front ++ f y ∷ drop (suc i) xs) here
     ∙ sym (append_assoc front (f (get_or xs i d) ∷ []) (drop (suc i) xs))
-    ∙ ap (λ (r : List A). r ++ drop (suc i) xs) (sym (ap (map f) (take_more xs i d within) ∙ map_push f (take i xs) (get_or xs i d)))
+    ∙ ap (λ (r : List A). r ++ drop (suc i) xs)
+    (sym (ap (map f) (take_more xs i d within) ∙ map_push f (take i xs) (get_or xs i d)))
     ∙ ap (λ (n : ℕ). map f (take (i + 1) xs) ++ drop n xs) (sym next)

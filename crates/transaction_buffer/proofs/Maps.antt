@@ -21,24 +21,30 @@ pub at_insert : {A : Type 0} (m : FinMap nat_cmp (List A)) (p : ℕ) (xs : List 
     → unwrap_or (finite.get (finite.insert m p xs) q) []
     ≡ cond (q == p) xs (unwrap_or (finite.get m q) [])
 at_insert {A} m p xs q =
-    ap (λ (o : Option (List A)). unwrap_or o []) (get-insert nat_cmp_total m p xs q ∙ ap (λ (b : Bool). cond b (Some xs) (finite.get m q)) (unsigned_tied q p))
+    ap (λ (o : Option (List A)). unwrap_or o [])
+    (get-insert nat_cmp_total m p xs q
+    ∙ ap (λ (b : Bool). cond b (Some xs) (finite.get m q)) (unsigned_tied q p))
     ∙ spread (q == p) xs (finite.get m q)
 
 -- a value put where it stands
 pub insert_same : {X : Type 0} (m : FinMap nat_cmp X) (p : ℕ) (x : X) → finite.get m p ≡ Some x
     → finite.insert m p x ≡ m
-insert_same {X} m p x is = same_map nat_cmp_total nat_cmp-IsAntisymmetric _ _ (λ q. get-insert nat_cmp_total m p x q ∙ by_test q (eq_by_cmp nat_cmp q p) refl)
+insert_same {X} m p x is = same_map nat_cmp_total nat_cmp-IsAntisymmetric _ _
+    (λ q. get-insert nat_cmp_total m p x q ∙ by_test q (eq_by_cmp nat_cmp q p) refl)
   where
     by_test : (q : ℕ) (b : Bool) → eq_by_cmp nat_cmp q p ≡ b
         → cond b (Some x) (finite.get m q) ≡ finite.get m q
-    by_test q true at = let same : q ≡ p = (let e : (q == p) ≡ true = sym (unsigned_tied q p) ∙ at in grind (arith, nat_tests)) in sym is ∙ ap (finite.get m) (sym same)
+    by_test q true at = let same : q ≡ p =
+        (let e : (q == p) ≡ true = sym (unsigned_tied q p) ∙ at in grind (arith, nat_tests)) in sym
+        is ∙ ap (finite.get m) (sym same)
     by_test q false at = refl
 
 -- the entries of a map that is made from a list in order
 pub entries_of_sorted : {X : Type 0} (es : List (ℕ × X)) → T (is_sorted nat_cmp es)
     → entries (finite.from_entries {R = nat_cmp} es) ≡ es
 entries_of_sorted es rises =
-    ap entries (same_map nat_cmp_total nat_cmp-IsAntisymmetric _ _ (λ q. get-from_entries nat_cmp_total es q ∙ sym (get-from_sorted nat_cmp es q rises)))
+    ap entries (same_map nat_cmp_total nat_cmp-IsAntisymmetric _ _
+    (λ q. get-from_entries nat_cmp_total es q ∙ sym (get-from_sorted nat_cmp es q rises)))
     ∙ entries-from_sorted nat_cmp es rises
 
 module _ {X Y : Type 0} (change : X → Y) where
@@ -52,11 +58,13 @@ module _ {X Y : Type 0} (change : X → Y) where
 
   sorted_each : (es : List (ℕ × X)) → is_sorted nat_cmp (each es) ≡ is_sorted nat_cmp es
   sorted_each [] = refl
-  sorted_each (e ∷ es) = ap (λ (b : Bool). b && is_sorted nat_cmp (each es)) (below_each e.0 es) ∙ ap (λ (b : Bool). below_all nat_cmp e.0 es && b) (sorted_each es)
+  sorted_each (e ∷ es) = ap (λ (b : Bool). b && is_sorted nat_cmp (each es)) (below_each e.0 es)
+      ∙ ap (λ (b : Bool). below_all nat_cmp e.0 es && b) (sorted_each es)
 
   pub entries_each : (m : FinMap nat_cmp X)
       → entries (finite.from_entries {R = nat_cmp} (each (entries m))) ≡ each (entries m)
-  entries_each m = entries_of_sorted (each (entries m)) (subst T (sym (sorted_each (entries m))) (entries_sorted m))
+  entries_each m = entries_of_sorted (each (entries m))
+      (subst T (sym (sorted_each (entries m))) (entries_sorted m))
 
   find_each : (q : ℕ) (es : List (ℕ × X))
       → find nat_cmp q (each es) ≡ option_map change (find nat_cmp q es)
@@ -72,7 +80,8 @@ module _ {X Y : Type 0} (change : X → Y) where
   pub get_each : (m : FinMap nat_cmp X) (q : ℕ)
       → finite.get (finite.from_entries {R = nat_cmp} (each (entries m))) q
       ≡ option_map change (finite.get m q)
-  get_each m q = get-from_entries nat_cmp_total (each (entries m)) q ∙ find_each q (entries m) ∙ ap (option_map change) (sym (get-entries m q))
+  get_each m q = get-from_entries nat_cmp_total (each (entries m)) q ∙ find_each q (entries m)
+      ∙ ap (option_map change) (sym (get-entries m q))
 
 pub first_half : (a b : Bool) → T (a && b) → T a
 first_half true b p = tt
@@ -95,6 +104,7 @@ pub find_before : {X : Type 0} (p x : ℕ) (es : List (ℕ × X)) → p < x → 
     → find nat_cmp p es ≡ None
 find_before p x [] lt above = refl
 find_before {X} p x (e ∷ es) lt above =
-    let next : x < e.0 = less x e.0 (nat_cmp x e.0) refl (first_half (is_lt (nat_cmp x e.0)) (below_all nat_cmp x es) above) in
+    let next : x < e.0 = less x e.0 (nat_cmp x e.0) refl
+    (first_half (is_lt (nat_cmp x e.0)) (below_all nat_cmp x es) above) in
     ap (λ (b : Bool). cond b (Some e.1) (find nat_cmp p es)) (apart p e.0 (omega arith))
     ∙ find_before p x es lt (second_half (is_lt (nat_cmp x e.0)) (below_all nat_cmp x es) above)

@@ -22,13 +22,15 @@ unstocked [] = refl
 unstocked (x ∷ xs) = refl
 
 within_cells : (shelves : List Shelf) (i : ℕ) → i < length shelves → i < length (cells_of shelves)
-within_cells shelves i within = let count : length (cells_of shelves) ≡ length shelves = length-map shelves (λ (x : Shelf). stock x.sales) in omega arith
+within_cells shelves i within = let count : length (cells_of shelves) ≡ length shelves =
+    length-map shelves (λ (x : Shelf). stock x.sales) in omega arith
 
 -- the sales of a point are those on its shelf
 pub sales_there : (shelves : List Shelf) (i p : ℕ) (d : Shelf) → i + 1 ≡ p → i < length shelves
     → sales_at p (sales_on shelves) ≡ (get_or shelves i d).sales
 sales_there shelves i p d place within =
-    ap (λ (o : Option (List Sale)). unwrap_or o []) (cell_read (cells_of shelves) i p place (within_cells shelves i within)
+    ap (λ (o : Option (List Sale)). unwrap_or o [])
+    (cell_read (cells_of shelves) i p place (within_cells shelves i within)
     ∙ get_or-map (λ (x : Shelf). stock x.sales) shelves i d None within)
     ∙ unstocked (get_or shelves i d).sales
 
@@ -37,7 +39,8 @@ pub shelf_filled : (shelves : List Shelf) (i p : ℕ) (new : Shelf) → i + 1 �
     → stock new.sales ≡ Some new.sales
     → sales_on (set shelves i new) ≡ finite.insert (sales_on shelves) p new.sales
 shelf_filled shelves i p new place within some =
-    ap (λ (cells : List (Option (List Sale))). finite.from_entries (entries_from 1 cells)) (map-set (λ (x : Shelf). stock x.sales) shelves i new ∙ ap (set (cells_of shelves) i) some)
+    ap (λ (cells : List (Option (List Sale))). finite.from_entries (entries_from 1 cells))
+    (map-set (λ (x : Shelf). stock x.sales) shelves i new ∙ ap (set (cells_of shelves) i) some)
     ∙ cell_filled (cells_of shelves) i p new.sales place (within_cells shelves i within)
 
 -- a shelf with the same sales in the place of another
@@ -46,15 +49,18 @@ pub shelf_same : (shelves : List Shelf) (i : ℕ) (new d : Shelf) → i < length
 shelf_same shelves i new d within same =
     ap (λ (cells : List (Option (List Sale))). finite.from_entries (entries_from 1 cells))
     (map-set (λ (x : Shelf). stock x.sales) shelves i new
-    ∙ ap (set (cells_of shelves) i) (ap stock same ∙ sym (get_or-map (λ (x : Shelf). stock x.sales) shelves i d None within))
+    ∙ ap (set (cells_of shelves) i)
+    (ap stock same ∙ sym (get_or-map (λ (x : Shelf). stock x.sales) shelves i d None within))
     ∙ set-get_or (cells_of shelves) i None)
 
 -- the room of a point is that on its shelf
 pub room_there : (shelves : List Shelf) (i p : ℕ) (d : Shelf) → i + 1 ≡ p → i < length shelves
     → room_at p (rooms_on shelves) ≡ (get_or shelves i d).room
 room_there shelves i p d place within =
-    let count : length (rooms_on shelves) ≡ length shelves = length-map shelves (λ (x : Shelf). x.room) in
-    ap (λ (o : Option ℕ). unwrap_or o 0) (numbered_within p (rooms_on shelves) i 0 place (omega arith))
+    let count : length (rooms_on shelves) ≡ length shelves =
+    length-map shelves (λ (x : Shelf). x.room) in
+    ap (λ (o : Option ℕ). unwrap_or o 0)
+    (numbered_within p (rooms_on shelves) i 0 place (omega arith))
     ∙ get_or-map (λ (x : Shelf). x.room) shelves i d 0 within
 
 -- after a reservation the point has the room of its new shelf
@@ -62,7 +68,8 @@ pub room_written : (shelves : List Shelf) (i p : ℕ) (new : Shelf) → i + 1 �
     → room_at p (rooms_on (set shelves i new)) ≡ new.room
 room_written shelves i p new place within =
     let count : length (set shelves i new) ≡ length shelves = length-set shelves i new in
-    room_there (set shelves i new) i p new place (omega arith) ∙ ap (λ (x : Shelf). x.room) (get_or-set_same shelves i new new within)
+    room_there (set shelves i new) i p new place (omega arith)
+    ∙ ap (λ (x : Shelf). x.room) (get_or-set_same shelves i new new within)
 
 -- a point that has sold has sales to show
 pub stock_push : (xs : List Sale) (y : Sale) → stock (xs ++ y ∷ []) ≡ Some (xs ++ y ∷ [])
@@ -104,12 +111,14 @@ sums_from figure n (x ∷ xs) = by_sales x.sales (sums_from figure (n + 1) xs)
 
 pub sums_there : (figure : Sale → ℕ) (shelves : List Shelf)
     → sum_of figure (sales_on shelves) ≡ sum_on figure shelves
-sums_there figure shelves = ap (sum_over figure) (entries_of_cells (cells_of shelves)) ∙ sums_from figure 1 shelves
+sums_there figure shelves = ap (sum_over figure) (entries_of_cells (cells_of shelves))
+    ∙ sums_from figure 1 shelves
 
 cells_of_sales : (shelves : List Shelf)
     → cells_of shelves ≡ map stock (map (λ (x : Shelf). x.sales) shelves)
 cells_of_sales [] = refl
-cells_of_sales (x ∷ xs) = ap (λ (cells : List (Option (List Sale))). stock x.sales ∷ cells) (cells_of_sales xs)
+cells_of_sales (x ∷ xs) = ap (λ (cells : List (Option (List Sale))). stock x.sales ∷ cells)
+    (cells_of_sales xs)
 
 -- what each shelf lets go, each point lets go
 let_go_from : (t n : ℕ) (xss : List (List Sale))
@@ -117,7 +126,9 @@ let_go_from : (t n : ℕ) (xss : List (List Sale))
     ≡ map (λ (e : ℕ × List Sale). (e.0, map (let_go t) e.1)) (entries_from n (map stock xss))
 let_go_from t n [] = refl
 let_go_from t n ([] ∷ xss) = let_go_from t (n + 1) xss
-let_go_from t n ((x ∷ xs) ∷ xss) = ap (λ (es : List (ℕ × List Sale)). (n, map (let_go t) (x ∷ xs)) ∷ es) (let_go_from t (n + 1) xss)
+let_go_from t n ((x ∷ xs) ∷ xss) =
+    ap (λ (es : List (ℕ × List Sale)). (n, map (let_go t) (x ∷ xs)) ∷ es)
+    (let_go_from t (n + 1) xss)
 
 pub let_go_there : (t : ℕ) (old new : List Shelf)
     → map (λ (x : Shelf). x.sales) new ≡ map (map (let_go t)) (map (λ (x : Shelf). x.sales) old)
@@ -126,8 +137,11 @@ let_go_there t old new each =
     ap finite.from_entries
     (ap (entries_from 1) (cells_of_sales new ∙ ap (map stock) each)
     ∙ let_go_from t 1 (map (λ (x : Shelf). x.sales) old)
-    ∙ ap (λ (cells : List (Option (List Sale))). map (λ (e : ℕ × List Sale). (e.0, map (let_go t) e.1)) (entries_from 1 cells)) (sym (cells_of_sales old))
-    ∙ ap (map (λ (e : ℕ × List Sale). (e.0, map (let_go t) e.1))) (sym (entries_of_cells (cells_of old))))
+    ∙ ap (λ (cells : List (Option (List Sale))). map
+    (λ (e : ℕ × List Sale). (e.0, map (let_go t) e.1)) (entries_from 1 cells))
+    (sym (cells_of_sales old))
+    ∙ ap (map (λ (e : ℕ × List Sale). (e.0, map (let_go t) e.1)))
+    (sym (entries_of_cells (cells_of old))))
 
 -- where nothing stands on the shelves, no point has sold anything
 nothing_from : (n : ℕ) (shelves : List Shelf)
@@ -135,7 +149,9 @@ nothing_from : (n : ℕ) (shelves : List Shelf)
     → entries_from n (cells_of shelves) ≡ []
 nothing_from n [] nothing = refl
 nothing_from n (x ∷ xs) nothing =
-    ap (λ (sales : List Sale). entries_from n (stock sales ∷ cells_of xs)) (nothing zero x (omega arith)) ∙ nothing_from (n + 1) xs (λ i d within. nothing (suc i) d (omega arith))
+    ap (λ (sales : List Sale). entries_from n (stock sales ∷ cells_of xs))
+    (nothing zero x (omega arith)) ∙ nothing_from (n + 1) xs
+    (λ i d within. nothing (suc i) d (omega arith))
 
 pub nothing_there : (shelves : List Shelf)
     → ((i : ℕ) (d : Shelf) → i < length shelves → (get_or shelves i d).sales ≡ [])

@@ -27,12 +27,14 @@ sales_at_insert s p xs q = at_insert s p xs q
 pub one_sale : (k j : Key) (s : Sales) → same_key k j ≡ true → sale_of k s ≡ sale_of j s
 one_sale k j s is =
     let parts = and_parts (k.point == j.point) (k.number == j.number) is in
-    ap (λ (p : ℕ). numbered k.number (sales_at p s)) (same k.point j.point parts.0) ∙ ap (λ (n : ℕ). numbered n (sales_at j.point s)) (same k.number j.number parts.1)
+    ap (λ (p : ℕ). numbered k.number (sales_at p s)) (same k.point j.point parts.0)
+    ∙ ap (λ (n : ℕ). numbered n (sales_at j.point s)) (same k.number j.number parts.1)
 
 -- the sale of a name, after the sales of a point were replaced
 read_insert : (k : Key) (p : ℕ) (xs : List Sale) (s : Sales)
     → sale_of k (finite.insert s p xs) ≡ cond (k.point == p) (numbered k.number xs) (sale_of k s)
-read_insert k p xs s = ap (numbered k.number) (sales_at_insert s p xs k.point) ∙ by_test (k.point == p)
+read_insert k p xs s = ap (numbered k.number) (sales_at_insert s p xs k.point)
+    ∙ by_test (k.point == p)
   where
     by_test : (b : Bool)
         → numbered k.number (cond b xs (sales_at k.point s))
@@ -43,16 +45,19 @@ read_insert k p xs s = ap (numbered k.number) (sales_at_insert s p xs k.point) �
 -- the sale of a name, after one was put in the place of another
 pub read_with : (j k : Key) (x y : Sale) (s : Sales) → sale_of j s ≡ Some x
     → sale_of k (with_sale j y s) ≡ cond (same_key k j) (Some y) (sale_of k s)
-read_with j k x y s is = read_insert k j.point (with_numbered j.number y (sales_at j.point s)) s ∙ by_point (k.point == j.point) refl
+read_with j k x y s is = read_insert k j.point (with_numbered j.number y (sales_at j.point s)) s
+    ∙ by_point (k.point == j.point) refl
   where
     by_number : (b : Bool) → k.point ≡ j.point → (k.number == j.number) ≡ b
         → numbered k.number (with_numbered j.number y (sales_at j.point s))
         ≡ cond b (Some y) (sale_of k s)
     by_number true here at =
         let number : k.number ≡ j.number = same k.number j.number at in
-        ap (λ (n : ℕ). numbered n (with_numbered j.number y (sales_at j.point s))) number ∙ numbered_with_same j.number (sales_at j.point s) x y is
+        ap (λ (n : ℕ). numbered n (with_numbered j.number y (sales_at j.point s))) number
+        ∙ numbered_with_same j.number (sales_at j.point s) x y is
     by_number false here at =
-        numbered_with_other j.number k.number (sales_at j.point s) y (other k.number j.number at) ∙ ap (λ (p : ℕ). numbered k.number (sales_at p s)) (sym here)
+        numbered_with_other j.number k.number (sales_at j.point s) y (other k.number j.number at)
+        ∙ ap (λ (p : ℕ). numbered k.number (sales_at p s)) (sym here)
 
     by_point : (b : Bool) → (k.point == j.point) ≡ b
         → cond b (numbered k.number (with_numbered j.number y (sales_at j.point s))) (sale_of k s)
@@ -70,9 +75,11 @@ read_new p x k s = read_insert k p (sales_at p s ++ x ∷ []) s ∙ by_point (k.
         → numbered k.number (sales_at p s ++ x ∷ []) ≡ cond b (Some x) (sale_of k s)
     by_number true here at =
         let number : k.number ≡ made_at p s + 1 = same k.number (made_at p s + 1) at in
-        ap (λ (n : ℕ). numbered n (sales_at p s ++ x ∷ [])) number ∙ numbered_push_here (sales_at p s) x
+        ap (λ (n : ℕ). numbered n (sales_at p s ++ x ∷ [])) number
+        ∙ numbered_push_here (sales_at p s) x
     by_number false here at =
-        numbered_push_other k.number (sales_at p s) x (other k.number (made_at p s + 1) at) ∙ ap (λ (q : ℕ). numbered k.number (sales_at q s)) (sym here)
+        numbered_push_other k.number (sales_at p s) x (other k.number (made_at p s + 1) at)
+        ∙ ap (λ (q : ℕ). numbered k.number (sales_at q s)) (sym here)
 
     by_point : (b : Bool) → (k.point == p) ≡ b
         → cond b (numbered k.number (sales_at p s ++ x ∷ [])) (sale_of k s)
@@ -83,7 +90,8 @@ read_new p x k s = read_insert k p (sales_at p s ++ x ∷ []) s ∙ by_point (k.
 -- the sales of a point, each changed
 pub sales_at_each : (change : Sale → Sale) (s : Sales) (q : ℕ)
     → sales_at q (each_changed change s) ≡ map change (sales_at q s)
-sales_at_each change s q = ap (λ (o : Option (List Sale)). unwrap_or o []) (get_each (map change) s q) ∙ by_list (finite.get s q)
+sales_at_each change s q = ap (λ (o : Option (List Sale)). unwrap_or o [])
+    (get_each (map change) s q) ∙ by_list (finite.get s q)
   where
     by_list : (o : Option (List Sale))
         → unwrap_or (option_map (map change) o) [] ≡ map change (unwrap_or o [])
@@ -92,7 +100,8 @@ sales_at_each change s q = ap (λ (o : Option (List Sale)). unwrap_or o []) (get
 
 pub read_each : (change : Sale → Sale) (k : Key) (s : Sales)
     → sale_of k (each_changed change s) ≡ option_map change (sale_of k s)
-read_each change k s = ap (numbered k.number) (sales_at_each change s k.point) ∙ numbered_map change k.number (sales_at k.point s)
+read_each change k s = ap (numbered k.number) (sales_at_each change s k.point)
+    ∙ numbered_map change k.number (sales_at k.point s)
 
 -- after a line for a sale that is there
 read_line : (j k : Key) (x : Sale) (line : Result Line Refusal) (s : Sales) → sale_of j s ≡ Some x
@@ -113,7 +122,8 @@ read_request t request j k s = by_sale (sale_of j s) refl
     by_same : (o : Option Sale) (b : Bool) → same_key k j ≡ b → sale_of j s ≡ o
         → cond b (option_map (sale_after_request request t) o) (sale_of k s)
         ≡ cond b (option_map (sale_after_request request t) (sale_of k s)) (sale_of k s)
-    by_same o true at is = ap (option_map (sale_after_request request t)) (sym is ∙ sym (one_sale k j s at))
+    by_same o true at is = ap (option_map (sale_after_request request t))
+        (sym is ∙ sym (one_sale k j s at))
     by_same o false at is = refl
 
     missing : (b : Bool) → same_key k j ≡ b → sale_of j s ≡ None
@@ -123,9 +133,11 @@ read_request t request j k s = by_sale (sale_of j s) refl
 
     by_sale : (o : Option Sale) → sale_of j s ≡ o
         → sale_of k (after_at request t j o s)
-        ≡ cond (same_key k j) (option_map (sale_after_request request t) (sale_of k s)) (sale_of k s)
+        ≡ cond (same_key k j) (option_map (sale_after_request request t) (sale_of k s))
+        (sale_of k s)
     by_sale None is = missing (same_key k j) refl is ∙ by_same None (same_key k j) refl is
-    by_sale (Some x) is = read_line j k x (line_for request t x) s is ∙ by_same (Some x) (same_key k j) refl is
+    by_sale (Some x) is = read_line j k x (line_for request t x) s is
+        ∙ by_same (Some x) (same_key k j) refl is
 
 pub read_after : IsReadAfter
 read_after = record {

@@ -15,7 +15,8 @@ told : (request : Request) (t : ℕ) (k : Key) (o : Option Sale) (s : Sales) →
     (reply_or (refusal_in (line_of request t o)) (answer_in (line_of request t o)))
 told request t k o s is = record {
   replies =
-      ap (λ (x : Option Sale). reply_or (refusal_in (line_of request t x)) (answer_in (line_of request t x)))
+      ap (λ (x : Option Sale). reply_or (refusal_in (line_of request t x))
+      (answer_in (line_of request t x)))
       (sym is);
   leads = ap (λ (x : Option Sale). after_at request t k x s) (sym is);
 }
@@ -26,7 +27,8 @@ pub asked_of_none : (request : Request) (t : ℕ) (k : Key) (s : Sales) → sale
 asked_of_none request t k s is = told request t k None s is
 
 -- the line for the sale refuses
-pub asked_and_refused : (request : Request) (t : ℕ) (k : Key) (x : Sale) (refusal : Refusal) (s : Sales)
+pub asked_and_refused : (request : Request) (t : ℕ) (k : Key) (x : Sale) (refusal : Refusal)
+    (s : Sales)
     → sale_of k s ≡ Some x → outcome (line_for request t x) x ≡ Err refusal
     → Asked request t k s s (Err refusal)
 asked_and_refused request t k x refusal s is refused = by_line (line_for request t x) refl refused
@@ -46,7 +48,8 @@ asked_and_refused request t k x refusal s is refused = by_line (line_for request
         }
 
 -- the line for the sale accepts, and gives this sale and answer
-pub asked_and_accepted : (request : Request) (t : ℕ) (k : Key) (x : Sale) (given : Sale × Answer) (s : Sales)
+pub asked_and_accepted : (request : Request) (t : ℕ) (k : Key) (x : Sale) (given : Sale × Answer)
+    (s : Sales)
     → sale_of k s ≡ Some x → outcome (line_for request t x) x ≡ Ok given
     → Asked request t k s (with_sale k given.0 s) (Ok given.1)
 asked_and_accepted request t k x given s is accepted = by_line (line_for request t x) refl accepted
@@ -94,4 +97,5 @@ replies_tell = record {
     stays : (request : Request) (t : ℕ) (k : Key) (s : Sales) (o : Option Sale) (refusal : Refusal)
         → line_of request t o ≡ Err refusal → after_at request t k o s ≡ s
     stays request t k s None refusal is = refl
-    stays request t k s (Some x) refusal is = ap (λ (l : Result Line Refusal). after_line k x l s) is
+    stays request t k s (Some x) refusal is =
+        ap (λ (l : Result Line Refusal). after_line k x l s) is

@@ -78,7 +78,8 @@ refused_when_cleared (Clear shift) t u x = refl
 asked_when_cleared : (request : Request) (t u shift : ℕ) (x : Sale) → x.standing ≡ ClearedBy u shift
     → sale_after_request request t x ≡ x
 asked_when_cleared request t u shift x is =
-    ap (λ (standing : Standing). sale_after (line request t x.cents (seen_by t standing)) x) is ∙ refused_when_cleared request t u x
+    ap (λ (standing : Standing). sale_after (line request t x.cents (seen_by t standing)) x) is
+    ∙ refused_when_cleared request t u x
 
 accepted_when : (request : Request) (t cents : ℕ) (standing : Standing) (l : Line)
     → line request t cents (seen_by t standing) ≡ Ok l → is_unpaid standing ≡ true
@@ -102,27 +103,34 @@ not_next p k x s is = by_test (same_key k (key p (made_at p s + 1))) refl
   where
     by_test : (b : Bool) → same_key k (key p (made_at p s + 1)) ≡ b → b ≡ false
     by_test true at =
-        let none : Some x ≡ None = sym is ∙ one_sale k (key p (made_at p s + 1)) s at ∙ numbered_next (sales_at p s) in
+        let none : Some x ≡ None = sym is ∙ one_sale k (key p (made_at p s + 1)) s at
+        ∙ numbered_next (sales_at p s) in
         cc
     by_test false at = refl
 
 let_go_cleared : (t u shift : ℕ) (x : Sale) → x.standing ≡ ClearedBy u shift → let_go t x ≡ x
-let_go_cleared t u shift x is = ap (λ (standing : Standing). cond (is_locked_by t standing) (record x { standing = Payable }) x) is
+let_go_cleared t u shift x is =
+    ap (λ (standing : Standing). cond (is_locked_by t standing) (record x { standing = Payable }) x)
+    is
 
 pub cleared_for_good : IsClearedForGood
 cleared_for_good (asks t request j) s k x u shift there is =
     read_request t request j k s
-    ∙ ap (λ (o : Option Sale). cond (same_key k j) (option_map (sale_after_request request t) o) o) there
-    ∙ ap (λ (y : Sale). cond (same_key k j) (Some y) (Some x)) (asked_when_cleared request t u shift x is)
+    ∙ ap (λ (o : Option Sale). cond (same_key k j) (option_map (sale_after_request request t) o) o)
+    there
+    ∙ ap (λ (y : Sale). cond (same_key k j) (Some y) (Some x))
+    (asked_when_cleared request t u shift x is)
     ∙ either (same_key k j)
   where
     either : (b : Bool) → cond b (Some x) (Some x) ≡ Some x
     either true = refl
     either false = refl
 cleared_for_good (signs_off t) s k x u shift there is =
-    read_each (let_go t) k s ∙ ap (option_map (let_go t)) there ∙ ap Some (let_go_cleared t u shift x is)
+    read_each (let_go t) k s ∙ ap (option_map (let_go t)) there
+    ∙ ap Some (let_go_cleared t u shift x is)
 cleared_for_good (sells p y) s k x u shift there is =
-    read_new p y k s ∙ ap (λ (b : Bool). cond b (Some y) (sale_of k s)) (not_next p k x s there) ∙ there
+    read_new p y k s ∙ ap (λ (b : Bool). cond b (Some y) (sale_of k s)) (not_next p k x s there)
+    ∙ there
 
 -- ---- a clear, and one locker
 
@@ -135,13 +143,16 @@ after_its_request : (t : ℕ) (request : Request) (k : Key) (x : Sale) (s : Sale
     → sale_of k (after_request request t k s) ≡ Some (sale_after_request request t x)
 after_its_request t request k x s there =
     read_request t request k k s
-    ∙ ap (λ (b : Bool). cond b (option_map (sale_after_request request t) (sale_of k s)) (sale_of k s)) (one_key k)
+    ∙ ap (λ (b : Bool). cond b (option_map (sale_after_request request t) (sale_of k s))
+    (sale_of k s)) (one_key k)
     ∙ ap (option_map (sale_after_request request t)) there
 
 -- the line for a transaction that the till has locked
 line_when_locked : (t : ℕ) (request : Request) (x : Sale) → x.standing ≡ LockedBy t
     → line_for request t x ≡ line request t x.cents locked_by_it
-line_when_locked t request x is = ap (λ (standing : Standing). line request t x.cents (seen_by t standing)) is ∙ ap (line request t x.cents) (seen_own t)
+line_when_locked t request x is =
+    ap (λ (standing : Standing). line request t x.cents (seen_by t standing)) is
+    ∙ ap (line request t x.cents) (seen_own t)
 
 -- what a line is told by
 abbrev reply_in : Result Line Refusal → Result Answer Refusal
@@ -155,14 +166,17 @@ cleared_by_its_locker t shift k s accepted = by_sale (sale_of k s) refl accepted
     by_sale None there accepted = cc
     by_sale (Some x) there accepted =
         let locked : x.standing ≡ LockedBy t = clear_of t shift x.cents x.standing accepted in
-        let its : line_for (Clear shift) t x ≡ line (Clear shift) t x.cents locked_by_it = line_when_locked t (Clear shift) x locked in (
+        let its : line_for (Clear shift) t x ≡ line (Clear shift) t x.cents locked_by_it =
+        line_when_locked t (Clear shift) x locked in (
           x,
           record {
             there = there;
             locked = locked;
             reply =
-                ap (λ (o : Option Sale). reply_in (line_of (Clear shift) t o)) there ∙ ap reply_in its;
-            cleared = after_its_request t (Clear shift) k x s there ∙ ap (λ l. Some (sale_after l x)) its;
+                ap (λ (o : Option Sale). reply_in (line_of (Clear shift) t o)) there
+                ∙ ap reply_in its;
+            cleared = after_its_request t (Clear shift) k x s there
+                ∙ ap (λ l. Some (sale_after l x)) its;
           },
         )
 
@@ -195,10 +209,12 @@ left_by_clear t shift cents x (cleared_by u) accepted = cc
 
 -- The locker after an accepted request that leaves each transaction, accepted so, with this one.
 locker_after : (request : Request) (t : ℕ) (left : Option ℕ) (j k : Key) (s : Sales)
-    → ((x : Sale) → refusal_in (line_for request t x) ≡ None → locker (sale_after_request request t x).standing ≡ left)
+    → ((x : Sale) → refusal_in (line_for request t x) ≡ None
+    → locker (sale_after_request request t x).standing ≡ left)
     → refusal_of request t j s ≡ None
     → locker_of k (after_request request t j s) ≡ cond (same_key k j) left (locker_of k s)
-locker_after request t left j k s leaves accepted = ap locker_in (read_request t request j k s) ∙ by_key (same_key k j) refl
+locker_after request t left j k s leaves accepted =
+    ap locker_in (read_request t request j k s) ∙ by_key (same_key k j) refl
   where
     by_sale : (o : Option Sale) → refusal_in (line_of request t o) ≡ None
         → locker_in (option_map (sale_after_request request t) o) ≡ left
@@ -208,20 +224,28 @@ locker_after request t left j k s leaves accepted = ap locker_in (read_request t
     by_key : (b : Bool) → same_key k j ≡ b
         → locker_in (cond b (option_map (sale_after_request request t) (sale_of k s)) (sale_of k s))
         ≡ cond b left (locker_of k s)
-    by_key true at = by_sale (sale_of k s) (ap (λ (o : Option Sale). refusal_in (line_of request t o)) (one_sale k j s at) ∙ accepted)
+    by_key true at = by_sale (sale_of k s)
+        (ap (λ (o : Option Sale). refusal_in (line_of request t o)) (one_sale k j s at) ∙ accepted)
     by_key false at = refl
 
 locker_let_go : (t : ℕ) (x : Sale) (standing : Standing) → x.standing ≡ standing
     → locker (let_go t x).standing ≡ unless_signed_off t (locker standing)
-locker_let_go t x Payable is = ap (λ (y : Standing). locker (cond (is_locked_by t y) (record x { standing = Payable }) (record x { standing = y })).standing) is
-locker_let_go t x (LockedBy u) is = ap (λ (y : Standing). locker (cond (is_locked_by t y) (record x { standing = Payable }) (record x { standing = y })).standing) is ∙ by_test (u == t)
+locker_let_go t x Payable is = ap
+    (λ (y : Standing). locker (cond (is_locked_by t y) (record x { standing = Payable })
+    (record x { standing = y })).standing) is
+locker_let_go t x (LockedBy u) is =
+    ap (λ (y : Standing). locker (cond (is_locked_by t y) (record x { standing = Payable })
+    (record x { standing = y })).standing) is ∙ by_test (u == t)
   where
     by_test : (b : Bool)
-        → locker (cond b (record x { standing = Payable }) (record x { standing = LockedBy u })).standing
+        → locker (cond b (record x { standing = Payable })
+        (record x { standing = LockedBy u })).standing
         ≡ cond b None (Some u)
     by_test true = refl
     by_test false = refl
-locker_let_go t x (ClearedBy u shift) is = ap (λ (y : Standing). locker (cond (is_locked_by t y) (record x { standing = Payable }) (record x { standing = y })).standing) is
+locker_let_go t x (ClearedBy u shift) is =
+    ap (λ (y : Standing). locker (cond (is_locked_by t y) (record x { standing = Payable })
+    (record x { standing = y })).standing) is
 
 -- a transaction whose locker is t is one that t has locked
 locked_when : (t : ℕ) (standing : Standing) → locker standing ≡ Some t → standing ≡ LockedBy t
@@ -234,7 +258,8 @@ nothing = []
 
 none_there : (n : ℕ) (x : Sale) → numbered n [] ≡ Some x → ⊥
 none_there zero x is = cc
-none_there (suc n) x is = let within : suc n - 1 < length nothing = numbered_there (suc n) nothing (omega arith) (ap is_some is) in omega arith
+none_there (suc n) x is = let within : suc n - 1 < length nothing =
+    numbered_there (suc n) nothing (omega arith) (ap is_some is) in omega arith
 
 -- the sales of a point, written in their own place
 written_back : (p n : ℕ) (x : Sale) (s : Sales) → sale_of (key p n) s ≡ Some x
@@ -254,7 +279,8 @@ locked_again t k s is = by_sale (sale_of k s) refl is
     by_sale (Some x) there is =
         let locked : x.standing ≡ LockedBy t = locked_when t x.standing is in
         ap (λ l. after_line k x l s) (line_when_locked t Lock x locked)
-        ∙ ap (λ (standing : Standing). with_sale k (record x { standing = standing }) s) (sym locked)
+        ∙ ap (λ (standing : Standing). with_sale k (record x { standing = standing }) s)
+        (sym locked)
         ∙ ap (finite.insert s k.point) (with_numbered_same k.number (sales_at k.point s) x there)
         ∙ written_back k.point k.number x s there
 
@@ -270,14 +296,20 @@ of_sale request t k s P holds accepted = by_sale (sale_of k s) accepted
 
 pub one_locker : HasOneLocker
 one_locker = record {
-  free = λ t k s. of_sale Lock t k s (λ o. (o ≡ None) ⊎ (o ≡ Some t)) (λ x. lock_of t x.cents x.standing);
-  own = λ t k s. of_sale Unlock t k s (λ o. o ≡ Some t) (λ x accepted. ap locker (unlock_of t x.cents x.standing accepted));
+  free = λ t k s. of_sale Lock t k s (λ o. (o ≡ None) ⊎ (o ≡ Some t))
+      (λ x. lock_of t x.cents x.standing);
+  own = λ t k s. of_sale Unlock t k s (λ o. o ≡ Some t)
+      (λ x accepted. ap locker (unlock_of t x.cents x.standing accepted));
   again = locked_again;
-  by_lock = λ t j k s. locker_after Lock t (Some t) j k s (λ x accepted. ap locker (left_by_lock t x.cents x (seen_by t x.standing) accepted));
-  by_unlock = λ t j k s. locker_after Unlock t None j k s (λ x accepted. ap locker (left_by_unlock t x.cents x (seen_by t x.standing) accepted));
-  by_clear = λ t shift j k s. locker_after (Clear shift) t None j k s (λ x accepted. ap locker (left_by_clear t shift x.cents x (seen_by t x.standing) accepted));
+  by_lock = λ t j k s. locker_after Lock t (Some t) j k s
+      (λ x accepted. ap locker (left_by_lock t x.cents x (seen_by t x.standing) accepted));
+  by_unlock = λ t j k s. locker_after Unlock t None j k s
+      (λ x accepted. ap locker (left_by_unlock t x.cents x (seen_by t x.standing) accepted));
+  by_clear = λ t shift j k s. locker_after (Clear shift) t None j k s
+      (λ x accepted. ap locker (left_by_clear t shift x.cents x (seen_by t x.standing) accepted));
   by_sign_off = λ t k s. ap locker_in (read_each (let_go t) k s) ∙ let_go_at t (sale_of k s);
-  by_sale = λ p x k s. ap locker_in (read_new p x k s) ∙ new_at (same_key k (key p (made_at p s + 1))) x (sale_of k s);
+  by_sale = λ p x k s. ap locker_in (read_new p x k s)
+      ∙ new_at (same_key k (key p (made_at p s + 1))) x (sale_of k s);
 }
   where
     let_go_at : (t : ℕ) (o : Option Sale)

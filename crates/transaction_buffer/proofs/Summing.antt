@@ -22,7 +22,8 @@ set_sum figure (x ∷ xs) zero old new is =
     let here : figure x ≡ figure old = ap (λ (o : Option Sale). figure (unwrap_or o x)) is in
     omega (arith, here)
 set_sum figure (x ∷ xs) (suc i) old new is =
-    let rest : sum_among figure (set xs i new) + figure old ≡ sum_among figure xs + figure new = set_sum figure xs i old new is in
+    let rest : sum_among figure (set xs i new) + figure old ≡ sum_among figure xs + figure new =
+    set_sum figure xs i old new is in
     omega (arith, rest)
 
 -- a sale in the place of another of the same point
@@ -54,16 +55,23 @@ put_sum : (figure : Sale → ℕ) (p : ℕ) (xs : List Sale) (es : List (ℕ × 
     → sum_over figure (put nat_cmp p xs es) + sum_among figure (unwrap_or (find nat_cmp p es) [])
     ≡ sum_over figure es + sum_among figure xs
 put_sum figure p xs [] rises = omega arith
-put_sum figure p xs (e ∷ es) rises = by_place (nat_cmp p e.0) refl (put_sum figure p xs es (second_half (below_all nat_cmp e.0 es) (is_sorted nat_cmp es) rises))
+put_sum figure p xs (e ∷ es) rises =
+    by_place (nat_cmp p e.0) refl (put_sum figure p xs es
+    (second_half (below_all nat_cmp e.0 es) (is_sorted nat_cmp es) rises))
   where
     by_place : (o : Ordering) → o ≡ nat_cmp p e.0
-        → sum_over figure (put nat_cmp p xs es) + sum_among figure (unwrap_or (find nat_cmp p es) [])
+        → sum_over figure (put nat_cmp p xs es)
+        + sum_among figure (unwrap_or (find nat_cmp p es) [])
         ≡ sum_over figure es + sum_among figure xs
-        → sum_over figure (by_order o ((p, xs) ∷ e ∷ es) ((e.0, xs) ∷ es) (e ∷ put nat_cmp p xs es)) + sum_among figure (unwrap_or (cond (is_eq o) (Some e.1) (find nat_cmp p es)) [])
+        → sum_over figure (by_order o ((p, xs) ∷ e ∷ es) ((e.0, xs) ∷ es) (e ∷ put nat_cmp p xs es))
+        + sum_among figure (unwrap_or (cond (is_eq o) (Some e.1) (find nat_cmp p es)) [])
         ≡ sum_over figure (e ∷ es) + sum_among figure xs
     by_place Less is rest =
-        let none : find nat_cmp p es ≡ None = find_before p e.0 es (ranked p e.0 Less is) (first_half (below_all nat_cmp e.0 es) (is_sorted nat_cmp es) rises) in
-        let nothing : sum_among figure (unwrap_or (find nat_cmp p es) []) ≡ 0 = ap (λ (o : Option (List Sale)). sum_among figure (unwrap_or o [])) none in
+        let none : find nat_cmp p es ≡ None =
+        find_before p e.0 es (ranked p e.0 Less is)
+        (first_half (below_all nat_cmp e.0 es) (is_sorted nat_cmp es) rises) in
+        let nothing : sum_among figure (unwrap_or (find nat_cmp p es) []) ≡ 0 =
+        ap (λ (o : Option (List Sale)). sum_among figure (unwrap_or o [])) none in
         omega (arith, nothing)
     by_place Equal is rest = omega arith
     by_place Greater is rest = omega (arith, rest)
@@ -72,8 +80,10 @@ insert_sum : (figure : Sale → ℕ) (s : Sales) (p : ℕ) (xs : List Sale)
     → sum_of figure (finite.insert s p xs) + sum_among figure (sales_at p s)
     ≡ sum_of figure s + sum_among figure xs
 insert_sum figure s p xs =
-    ap (λ (es : List (ℕ × List Sale)). sum_over figure es + sum_among figure (sales_at p s)) (entries-insert nat_cmp_total s p xs)
-    ∙ ap (λ (o : Option (List Sale)). sum_over figure (put nat_cmp p xs (entries s)) + sum_among figure (unwrap_or o [])) (get-entries s p)
+    ap (λ (es : List (ℕ × List Sale)). sum_over figure es + sum_among figure (sales_at p s))
+    (entries-insert nat_cmp_total s p xs)
+    ∙ ap (λ (o : Option (List Sale)). sum_over figure (put nat_cmp p xs (entries s))
+    + sum_among figure (unwrap_or o [])) (get-entries s p)
     ∙ put_sum figure p xs (entries s) (entries_sorted s)
 
 pub replaced_sum : (figure : Sale → ℕ) (k : Key) (old new : Sale) (s : Sales)
@@ -81,16 +91,21 @@ pub replaced_sum : (figure : Sale → ℕ) (k : Key) (old new : Sale) (s : Sales
     → sum_of figure (with_sale k new s) + figure old ≡ sum_of figure s + figure new
 replaced_sum figure k old new s is =
     let xs : List Sale = sales_at k.point s in
-    let all : sum_of figure (with_sale k new s) + sum_among figure xs ≡ sum_of figure s + sum_among figure (with_numbered k.number new xs) = insert_sum figure s k.point (with_numbered k.number new xs) in
-    let here : sum_among figure (with_numbered k.number new xs) + figure old ≡ sum_among figure xs + figure new = with_sum figure k.number xs old new is in
+    let all : sum_of figure (with_sale k new s) + sum_among figure xs ≡ sum_of figure s
+    + sum_among figure (with_numbered k.number new xs) =
+    insert_sum figure s k.point (with_numbered k.number new xs) in
+    let here : sum_among figure (with_numbered k.number new xs) + figure old ≡ sum_among figure xs
+    + figure new = with_sum figure k.number xs old new is in
     omega (arith, all, here)
 
 pub sold_sum : (figure : Sale → ℕ) (p : ℕ) (x : Sale) (s : Sales)
     → sum_of figure (with_new p x s) ≡ sum_of figure s + figure x
 sold_sum figure p x s =
     let xs : List Sale = sales_at p s in
-    let all : sum_of figure (with_new p x s) + sum_among figure xs ≡ sum_of figure s + sum_among figure (xs ++ x ∷ []) = insert_sum figure s p (xs ++ x ∷ []) in
-    let here : sum_among figure (xs ++ x ∷ []) ≡ sum_among figure xs + figure x = push_sum figure xs x in
+    let all : sum_of figure (with_new p x s) + sum_among figure xs ≡ sum_of figure s
+    + sum_among figure (xs ++ x ∷ []) = insert_sum figure s p (xs ++ x ∷ []) in
+    let here : sum_among figure (xs ++ x ∷ []) ≡ sum_among figure xs + figure x =
+    push_sum figure xs x in
     omega (arith, all, here)
 
 each_sum : (figure : Sale → ℕ) (change : Sale → Sale) (es : List (ℕ × List Sale))
@@ -102,7 +117,8 @@ each_sum figure change (e ∷ es) =
 
 pub changed_sum : (figure : Sale → ℕ) (change : Sale → Sale) (s : Sales)
     → sum_of figure (each_changed change s) ≡ sum_of (λ x. figure (change x)) s
-changed_sum figure change s = ap (sum_over figure) (entries_each (map change) s) ∙ each_sum figure change (entries s)
+changed_sum figure change s = ap (sum_over figure) (entries_each (map change) s)
+    ∙ each_sum figure change (entries s)
 
 pub summed_after : IsSummedAfter
 summed_after = record { replaced = replaced_sum; sold = sold_sum; changed = changed_sum }

@@ -52,7 +52,8 @@ same_unpaid t x false is = refl
 pub unpaid_let_go : (t : ℕ) (xs : List Sale) → unpaid_among (map (let_go t) xs) ≡ unpaid_among xs
 unpaid_let_go t [] = refl
 unpaid_let_go t (x ∷ xs) =
-    ap (λ (b : Bool). cond b 1 0 + unpaid_among (map (let_go t) xs)) (same_unpaid t x (is_locked_by t x.standing) refl)
+    ap (λ (b : Bool). cond b 1 0 + unpaid_among (map (let_go t) xs))
+    (same_unpaid t x (is_locked_by t x.standing) refl)
     ∙ ap (λ (n : ℕ). cond (is_unpaid x.standing) 1 0 + n) (unpaid_let_go t xs)
 
 -- any sale in the place of the unpaid one with its number
@@ -62,6 +63,9 @@ unpaid_with zero xs x y is unpaid = cc
 unpaid_with (suc n) xs x y is unpaid =
     let low : 1 ≤ suc n = omega arith in
     let place : suc n - 1 < length xs = numbered_there (suc n) xs low (ap is_some is) in
-    let at : get_or xs (suc n - 1) x ≡ x = ap (λ (o : Option Sale). unwrap_or o x) (sym (numbered_within (suc n) xs (suc n - 1) x (omega arith) place) ∙ is) in
-    subst (λ (ys : List Sale). unpaid_among ys ≤ unpaid_among xs) (sym (with_numbered_place (suc n) y xs low))
+    let at : get_or xs (suc n - 1) x ≡ x =
+    ap (λ (o : Option Sale). unwrap_or o x)
+    (sym (numbered_within (suc n) xs (suc n - 1) x (omega arith) place) ∙ is) in
+    subst (λ (ys : List Sale). unpaid_among ys ≤ unpaid_among xs)
+    (sym (with_numbered_place (suc n) y xs low))
     (unpaid_set xs (suc n - 1) y x place (ap (λ (z : Sale). is_unpaid z.standing) at ∙ unpaid))

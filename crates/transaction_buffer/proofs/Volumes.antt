@@ -15,7 +15,9 @@ use Rattle.transaction_buffer.proofs.Summing.{replaced_sum, sold_sum, changed_su
 
 -- a sale of the product counts in just one status
 by_standing : (b : Bool) (volume : ℕ) (standing : Standing)
-    → cond (b && has_status statuses.Payable standing) volume 0 + cond (b && has_status statuses.Locked standing) volume 0 + cond (b && has_status statuses.Cleared standing) volume 0
+    → cond (b && has_status statuses.Payable standing) volume 0
+    + cond (b && has_status statuses.Locked standing) volume 0
+    + cond (b && has_status statuses.Cleared standing) volume 0
     ≡ cond b volume 0
 by_standing true volume Payable = omega arith
 by_standing true volume (LockedBy t) = omega arith
@@ -24,10 +26,13 @@ by_standing false volume standing = refl
 
 pub add_up : DoAddUp
 add_up q s =
-    let unpaid : Sale → ℕ = λ x. volume_with q statuses.Payable x + volume_with q statuses.Locked x in
-    ap (λ (n : ℕ). n + volume_by q statuses.Cleared s) (sym (added_sum (volume_with q statuses.Payable) (volume_with q statuses.Locked) s))
+    let unpaid : Sale → ℕ = λ x. volume_with q statuses.Payable x
+    + volume_with q statuses.Locked x in
+    ap (λ (n : ℕ). n + volume_by q statuses.Cleared s)
+    (sym (added_sum (volume_with q statuses.Payable) (volume_with q statuses.Locked) s))
     ∙ sym (added_sum unpaid (volume_with q statuses.Cleared) s)
-    ∙ alike_sum (λ x. unpaid x + volume_with q statuses.Cleared x) (volume_in q) (λ x. by_standing (x.product == q) x.volume x.standing) s
+    ∙ alike_sum (λ x. unpaid x + volume_with q statuses.Cleared x) (volume_in q)
+    (λ x. by_standing (x.product == q) x.volume x.standing) s
 
 -- ---- a request
 
@@ -44,7 +49,8 @@ request_sum : (figure : Sale → ℕ) (t : ℕ) (request : Request) (k : Key) (x
     → sum_of figure (after_request request t k s) + figure x
     ≡ sum_of figure s + figure (sale_after_request request t x)
 request_sum figure t request k x s is =
-    ap (λ (o : Option Sale). sum_of figure (after_at request t k o s) + figure x) is ∙ line_sum figure k x (line_for request t x) s is
+    ap (λ (o : Option Sale). sum_of figure (after_at request t k o s) + figure x) is
+    ∙ line_sum figure k x (line_for request t x) s is
 
 -- a request changes neither the product nor the volume
 same_volume : (q : ℕ) (line : Result Line Refusal) (x : Sale)
@@ -60,7 +66,9 @@ whole_by_request q t request k s = by_sale (sale_of k s) refl
         → volume_of q (after_at request t k o s) ≡ volume_of q s
     by_sale None is = refl
     by_sale (Some x) is =
-        let moved : volume_of q (after_line k x (line_for request t x) s) + volume_in q x ≡ volume_of q s + volume_in q (sale_after_request request t x) = line_sum (volume_in q) k x (line_for request t x) s is in
+        let moved : volume_of q (after_line k x (line_for request t x) s) + volume_in q x
+        ≡ volume_of q s + volume_in q (sale_after_request request t x) =
+        line_sum (volume_in q) k x (line_for request t x) s is in
         omega (arith, moved, same_volume q (line_for request t x) x)
 
 -- ---- a sign-off
@@ -106,7 +114,8 @@ let_go_payable q t x = by_test (is_locked_by t x.standing) refl
     by_test : (b : Bool) → is_locked_by t x.standing ≡ b
         → volume_with q statuses.Payable (cond b (record x { standing = Payable }) x)
         ≡ volume_with q statuses.Payable x + cond b (volume_in q x) 0
-    by_test true is = gains (x.product == q) (has_status statuses.Payable x.standing) x.volume (wasn't_payable t x.standing is)
+    by_test true is = gains (x.product == q) (has_status statuses.Payable x.standing) x.volume
+        (wasn't_payable t x.standing is)
     by_test false is = omega arith
 
 let_go_locked : (q t : ℕ) (x : Sale)
@@ -115,9 +124,11 @@ let_go_locked : (q t : ℕ) (x : Sale)
 let_go_locked q t x = by_test (is_locked_by t x.standing) refl
   where
     by_test : (b : Bool) → is_locked_by t x.standing ≡ b
-        → volume_with q statuses.Locked (cond b (record x { standing = Payable }) x) + cond b (volume_in q x) 0
+        → volume_with q statuses.Locked (cond b (record x { standing = Payable }) x)
+        + cond b (volume_in q x) 0
         ≡ volume_with q statuses.Locked x
-    by_test true is = loses (x.product == q) (has_status statuses.Locked x.standing) x.volume (was_locked t x.standing is)
+    by_test true is = loses (x.product == q) (has_status statuses.Locked x.standing) x.volume
+        (was_locked t x.standing is)
     by_test false is = omega arith
 
 let_go_cleared : (q t : ℕ) (x : Sale)
@@ -127,7 +138,8 @@ let_go_cleared q t x = by_test (is_locked_by t x.standing) refl
     by_test : (b : Bool) → is_locked_by t x.standing ≡ b
         → volume_with q statuses.Cleared (cond b (record x { standing = Payable }) x)
         ≡ volume_with q statuses.Cleared x
-    by_test true is = keeps (x.product == q) (has_status statuses.Cleared x.standing) x.volume (wasn't_cleared t x.standing is)
+    by_test true is = keeps (x.product == q) (has_status statuses.Cleared x.standing) x.volume
+        (wasn't_cleared t x.standing is)
     by_test false is = refl
 
 let_go_whole : (q t : ℕ) (x : Sale) → volume_in q (let_go t x) ≡ volume_in q x
@@ -142,18 +154,23 @@ move = record {
   by_request = λ q status t request k x s is. request_sum (volume_with q status) t request k x s is;
   payable_at_sign_off = λ q t s.
       changed_sum (volume_with q statuses.Payable) (let_go t) s
-      ∙ alike_sum (λ x. volume_with q statuses.Payable (let_go t x)) (λ x. volume_with q statuses.Payable x + volume_locked_by q t x) (let_go_payable q t) s
+      ∙ alike_sum (λ x. volume_with q statuses.Payable (let_go t x))
+      (λ x. volume_with q statuses.Payable x + volume_locked_by q t x) (let_go_payable q t) s
       ∙ added_sum (volume_with q statuses.Payable) (volume_locked_by q t) s;
   locked_at_sign_off = λ q t s.
-      ap (λ (n : ℕ). n + locked_volume q t s) (changed_sum (volume_with q statuses.Locked) (let_go t) s)
+      ap (λ (n : ℕ). n + locked_volume q t s)
+      (changed_sum (volume_with q statuses.Locked) (let_go t) s)
       ∙ sym (added_sum (λ x. volume_with q statuses.Locked (let_go t x)) (volume_locked_by q t) s)
-      ∙ alike_sum (λ x. volume_with q statuses.Locked (let_go t x) + volume_locked_by q t x) (volume_with q statuses.Locked) (let_go_locked q t) s;
+      ∙ alike_sum (λ x. volume_with q statuses.Locked (let_go t x) + volume_locked_by q t x)
+      (volume_with q statuses.Locked) (let_go_locked q t) s;
   cleared_at_sign_off = λ q t s.
       changed_sum (volume_with q statuses.Cleared) (let_go t) s
-      ∙ alike_sum (λ x. volume_with q statuses.Cleared (let_go t x)) (volume_with q statuses.Cleared) (let_go_cleared q t) s;
+      ∙ alike_sum (λ x. volume_with q statuses.Cleared (let_go t x))
+      (volume_with q statuses.Cleared) (let_go_cleared q t) s;
   by_sale = λ q status p x s. sold_sum (volume_with q status) p x s;
   whole_by_request = whole_by_request;
   whole_at_sign_off = λ q t s.
-      changed_sum (volume_in q) (let_go t) s ∙ alike_sum (λ x. volume_in q (let_go t x)) (volume_in q) (let_go_whole q t) s;
+      changed_sum (volume_in q) (let_go t) s
+      ∙ alike_sum (λ x. volume_in q (let_go t x)) (volume_in q) (let_go_whole q t) s;
   whole_by_sale = λ q p x s. sold_sum (volume_in q) p x s;
 }

@@ -28,8 +28,10 @@ abbrev told : Result Line Refusal → Result Answer Refusal
 told line = reply_or (refusal_in line) (answer_in line)
 
 abbrev asked_of : Standing → Request → Result Answer Refusal × Standing
-asked_of standing request =
-    (told (line_of request 1 (Some (sold standing))), (sale_after_request request 1 (sold standing)).standing)
+asked_of standing request = (
+  told (line_of request 1 (Some (sold standing))),
+  (sale_after_request request 1 (sold standing)).standing,
+)
 
 -- a lock, an unlock, and a clear in shift 7
 abbrev requests : List Request

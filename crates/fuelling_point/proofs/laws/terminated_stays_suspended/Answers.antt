@@ -4,4 +4,5 @@ use Rattle.fuelling_point.proofs.Suspension.{stays_terminated}
 use Rattle.fuelling_point.proofs.laws.terminated_stays_suspended.Goals as goal
 
 pub returns : goal.returns
-returns c = λ events before since m parts told on. let t = stays_terminated (fresh Closed) events before since m parts told on in (t.suspended, t.ending)
+returns c = λ events before since m parts told on. let t =
+    stays_terminated (fresh Closed) events before since m parts told on in (t.suspended, t.ending)

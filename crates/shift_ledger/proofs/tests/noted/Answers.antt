@@ -5,8 +5,11 @@ use Rattle.shift_ledger.proofs.tests.noted.Goals as goal
 pub note_cleared-requires : goal.note_cleared-requires
 note_cleared-requires c =
     let ml : c.from.result ≡ c.args.ml = c.from.ensures in
-    let cents : c.from-then-volume-lt1000000.result ≡ c.args.cents = c.from-then-volume-lt1000000.ensures in
-    fits_shown (c.rows.result + 1) c.args.book.now.shifts c.in_ok-row.row c.args.t c.args.q c.cell.result c.cell-2.result
+    let cents : c.from-then-volume-lt1000000.result ≡ c.args.cents =
+    c.from-then-volume-lt1000000.ensures in
+    fits_shown (c.rows.result + 1) c.args.book.now.shifts c.in_ok-row.row c.args.t c.args.q
+    c.cell.result c.cell-2.result
     c.from.result c.from-then-volume-lt1000000.result
-    (ap (λ (n : ℕ). n + 1) c.rows.ensures.value) (sym c.row.ensures ∙ c.in_ok-row.ensures.ok_part) c.cell.ensures.place c.cell-2.ensures.place
+    (ap (λ (n : ℕ). n + 1) c.rows.ensures.value) (sym c.row.ensures ∙ c.in_ok-row.ensures.ok_part)
+    c.cell.ensures.place c.cell-2.ensures.place
     (omega arith) (omega (arith, c.ranges.cents.fits)) (omega (arith, c.ranges.ml.fits))

@@ -9,5 +9,6 @@ invariant-loop-shelf l = record {
   total : l.total + sum_on (volume_with l.fn.q l.fn.status) (drop l.shelf-index l.shelves)
       ≡ sum_on (volume_with l.fn.q l.fn.status) l.shelves;
   range : l.total ≤ l.shelf-index * (GREATEST_SEQ * GREATEST_READING);
-  whole : sum_on (volume_in l.fn.q) l.shelves ≤ l.shelf-index * (GREATEST_SEQ * GREATEST_READING) + sum_on (volume_in l.fn.q) (drop l.shelf-index l.shelves);
+  whole : sum_on (volume_in l.fn.q) l.shelves ≤ l.shelf-index * (GREATEST_SEQ * GREATEST_READING)
+      + sum_on (volume_in l.fn.q) (drop l.shelf-index l.shelves);
 }

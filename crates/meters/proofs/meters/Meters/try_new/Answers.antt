@@ -8,9 +8,11 @@ use Rattle.meters.proofs.meters.Meters.try_new.Goals as goal
 pub invariant_of-result : goal.invariant_of-result
 invariant_of-result c =
     let points : List ConfiguredPoint = c.points-entry-items.result.now in
-    let none_left : drop c.loop-entry.entry-index points ≡ [] = drop_all c.loop-entry.entry-index points c.loop-entry-test.false in
+    let none_left : drop c.loop-entry.entry-index points ≡ [] =
+    drop_all c.loop-entry.entry-index points c.loop-entry-test.false in
     let all : c.loop-entry.meters.items ≡ nozzles_of_points points =
     sym (append-nil c.loop-entry.meters.items)
-    ∙ ap (λ (ps : List ConfiguredPoint). c.loop-entry.meters.items ++ nozzles_of_points ps) (sym none_left)
+    ∙ ap (λ (ps : List ConfiguredPoint). c.loop-entry.meters.items ++ nozzles_of_points ps)
+    (sym none_left)
     ∙ c.loop-entry.invariant.added in
     record { few = search rules; risen = subst NoneBelowOpening (sym all) (points_open points) }

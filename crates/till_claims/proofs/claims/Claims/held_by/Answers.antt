@@ -9,4 +9,5 @@ returns c =
     let cells = c.self.inside.holders in
     let past : length cells ≤ c.loop-cell.cell = omega arith in
     let all = rw (drop_all _ cells past) at c.loop-cell.invariant in
-    rw (← c.self.view_is) (sym (append-nil c.loop-cell.points.items) ∙ all ∙ ap (points_of c.args.t) (sym (entries_of_cells cells)))
+    rw (← c.self.view_is) (sym (append-nil c.loop-cell.points.items) ∙ all
+    ∙ ap (points_of c.args.t) (sym (entries_of_cells cells)))

@@ -5,4 +5,6 @@ use Rattle.till_claims.proofs.claims.Claims.holder.Goals as goal
 
 pub returns : goal.returns
 returns c =
-    rw (← c.self.view_is) (get_or_default c.self.inside.holders c.cell.result _ _ (omega arith) ∙ sym (cell_read c.self.inside.holders c.cell.result c.args.p c.cell.ensures.place (omega arith)))
+    rw (← c.self.view_is) (get_or_default c.self.inside.holders c.cell.result _ _ (omega arith)
+    ∙ sym (cell_read c.self.inside.holders c.cell.result c.args.p c.cell.ensures.place
+    (omega arith)))

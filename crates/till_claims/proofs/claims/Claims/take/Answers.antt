@@ -4,4 +4,5 @@ use Rattle.till_claims.proofs.claims.Claims.take.Goals as goal
 
 pub returns : goal.returns
 returns c =
-    rw (← c.self.view_is) (cell_filled c.self.inside.holders c.cell.result c.args.p c.args.t c.cell.ensures.place (omega arith))
+    rw (← c.self.view_is) (cell_filled c.self.inside.holders c.cell.result c.args.p c.args.t
+    c.cell.ensures.place (omega arith))

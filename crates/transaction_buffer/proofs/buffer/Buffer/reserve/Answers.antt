@@ -4,9 +4,11 @@ use Rattle.transaction_buffer.proofs.buffer.Buffer.reserve.Goals as goal
 
 pub returns-clause-sales : goal.returns-clause-sales
 returns-clause-sales c =
-    rw (← c.self.view_is) (shelf_same c.self.inside.shelves c.cell.result c.reserve.new.self c.index-self-cell.result (omega arith) c.reserve.ensures.sales)
+    rw (← c.self.view_is) (shelf_same c.self.inside.shelves c.cell.result c.reserve.new.self
+    c.index-self-cell.result (omega arith) c.reserve.ensures.sales)
 
 pub returns-clause-room : goal.returns-clause-room
 returns-clause-room c =
-    let room = room_written c.self.inside.shelves c.cell.result c.args.p c.reserve.new.self c.cell.ensures.place (omega arith) in
+    let room = room_written c.self.inside.shelves c.cell.result c.args.p c.reserve.new.self
+    c.cell.ensures.place (omega arith) in
     rw room c.reserve.ensures.room

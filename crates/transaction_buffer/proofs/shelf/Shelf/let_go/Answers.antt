@@ -9,9 +9,15 @@ pub invariant_of-self : goal.invariant_of-self
 invariant_of-self c =
     let new = c.let_go_of.new.sales in
     let old = c.self.inside.sales.items in
-    let count : length new ≡ c.self.inside.sales.len = ap length c.let_go_of.ensures ∙ length-map c.deref_mut.result.now (let_go c.args.t) ∙ c.deref_mut.ensures.len in
-    let whole : take c.self.inside.sales.len (new ++ drop (length new) old) ≡ new = take_at new (drop (length new) old) c.self.inside.sales.len count in
-    let moved : new ≡ map (let_go c.args.t) old = c.let_go_of.ensures ∙ ap (map (let_go c.args.t)) c.deref_mut.ensures.value in
-    let as_many : length (map (let_go c.args.t) old) ≡ length old = length-map old (let_go c.args.t) in
-    let unpaid : unpaid_among (map (let_go c.args.t) old) ≡ unpaid_among old = unpaid_let_go c.args.t old in
+    let count : length new ≡ c.self.inside.sales.len =
+    ap length c.let_go_of.ensures ∙ length-map c.deref_mut.result.now (let_go c.args.t)
+    ∙ c.deref_mut.ensures.len in
+    let whole : take c.self.inside.sales.len (new ++ drop (length new) old) ≡ new =
+    take_at new (drop (length new) old) c.self.inside.sales.len count in
+    let moved : new ≡ map (let_go c.args.t) old =
+    c.let_go_of.ensures ∙ ap (map (let_go c.args.t)) c.deref_mut.ensures.value in
+    let as_many : length (map (let_go c.args.t) old) ≡ length old =
+    length-map old (let_go c.args.t) in
+    let unpaid : unpaid_among (map (let_go c.args.t) old) ≡ unpaid_among old =
+    unpaid_let_go c.args.t old in
     rw (whole, moved) (omega (arith, c.self.invariant.0), omega (arith, c.self.invariant.1))

@@ -11,7 +11,17 @@ pub invariant_of-self : goal.invariant_of-self
 invariant_of-self c =
     let sales = c.self.inside.sales.items in
     let requires = rw (← c.self.view_is) at c.requires in
-    let within : c.args.s - 1 < length sales = numbered_there c.args.s sales (omega arith) requires.there in
-    let at : numbered c.args.s sales ≡ Some (get_or sales (c.args.s - 1) c.args.sale) = numbered_within c.args.s sales (c.args.s - 1) c.args.sale (omega arith) within in
-    let unpaid : is_unpaid (get_or sales (c.args.s - 1) c.args.sale).standing ≡ true = subst (λ o. IfSome o (λ (x : Sale). is_unpaid x.standing ≡ true)) at requires.unpaid in
-    rw (c.get.ensures.value, length-set) (omega arith, omega (arith, unpaid_set sales (c.args.s - 1) c.args.sale c.args.sale within unpaid))
+    let within : c.args.s - 1 < length sales =
+    numbered_there c.args.s sales (omega arith) requires.there in
+    let at : numbered c.args.s sales ≡ Some (get_or sales (c.args.s - 1) c.args.sale) =
+    numbered_within c.args.s sales (c.args.s - 1) c.args.sale (omega arith) within in
+    let unpaid : is_unpaid (get_or sales (c.args.s - 1) c.args.sale).standing ≡ true =
+    subst (λ o. IfSome o (λ (x : Sale). is_unpaid x.standing ≡ true)) at requires.unpaid in
+    rw (c.get.ensures.value, length-set) (
+      omega arith,
+      omega (
+        arith,
+        unpaid_set sales (c.args.s - 1) c.args.sale c.args.sale within
+            unpaid,
+      ),
+    )

@@ -8,5 +8,6 @@ invariant-loop-sale l = record {
   total : l.total + sum_among (volume_with l.fn.q l.fn.status) (drop l.sale-index l.sale-items)
       ≡ sum_among (volume_with l.fn.q l.fn.status) l.sale-items;
   range : l.total ≤ l.sale-index * GREATEST_READING;
-  whole : sum_among (volume_in l.fn.q) l.sale-items ≤ l.sale-index * GREATEST_READING + sum_among (volume_in l.fn.q) (drop l.sale-index l.sale-items);
+  whole : sum_among (volume_in l.fn.q) l.sale-items ≤ l.sale-index * GREATEST_READING
+      + sum_among (volume_in l.fn.q) (drop l.sale-index l.sale-items);
 }
