@@ -3,8 +3,7 @@ use Rattle.std.specs.Prelude.{codes}
 use Rattle.std.proofs.Common.{◌≡◌, ℕ, zero, suc, true, false, List, [], ◌∷◌, Some, None, refl}
 use Rattle.site_base.specs.declared.config.NozzleEntry.{NozzleEntry}
 use Rattle.site_base.specs.Amounts.{amount}
-use Rattle.site_base.specs.Configured.{Configured, ConfiguredProduct, ConfiguredPoint, is_site, is_name}
-use Rattle.site_base.specs.Prices.{prices_of}
+use Rattle.site_base.specs.Configured.{Configured, ConfiguredProduct, ConfiguredPoint, is_site}
 use Rattle.site_base.specs.Table.{row_of, with_row}
 
 -- ---- amounts: millilitres at mills per litre are cents

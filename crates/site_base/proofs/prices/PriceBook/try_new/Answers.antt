@@ -1,4 +1,3 @@
-use Rattle.std.proofs.Common.{◌≡◌}
 use Rattle.site_base.proofs.prices.PriceBook.try_new.Goals as goal
 
 pub invariant_of-result : goal.invariant_of-result
