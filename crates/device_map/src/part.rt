@@ -41,11 +41,11 @@ pub struct Part {
 
 /// Items that are to be made, in their order.
 #[derive(Drop)]
-pub struct Parts {
+pub struct ReplyParts {
     list: Vec<Part>,
 }
 
-impl Model for Parts {
+impl Model for ReplyParts {
     ghost use Rattle.std.specs.Prelude.{List};
     ghost use Rattle.app_message.specs.Telegram.{Entry};
     ghost use Rattle.device_map.specs.Items.{items_of};
@@ -55,12 +55,12 @@ impl Model for Parts {
     ghost view = { λ p. items_of p.list.items };
 }
 
-impl Parts {
+impl ReplyParts {
     /// No items; it takes no memory.
     pub fn new(alloc: Global) -> Self
         ensures { result ≡ [] }
     {
-        Parts {
+        ReplyParts {
             list: Vec::new(alloc),
         }
     }

@@ -9,7 +9,7 @@ ghost use Rattle.device_map.specs.Replies.{reply_items, reply_kind, reply_messag
 ghost use Rattle.device_map.specs.Replies.{fault_message, packed, AreShort, back};
 ghost use Rattle.device_map.specs.Nodes.{site_node};
 
-use crate::part::Parts;
+use crate::part::ReplyParts;
 use crate::{ids, node};
 use app_message::{Kind, Message, MessageFault, StreamFault, Token};
 use site_base::{
@@ -35,7 +35,7 @@ pub fn reply_of(alloc: Global, request: &Message, reply: &Reply) -> Result<Messa
 pub fn refusal_of(alloc: Global, request: &Message, number: u8) -> Result<Message, NoMemory>
     ensures { IfOk result (λ message. message ≡ number_message request.now number) }
 {
-    let mut parts = Parts::new(alloc);
+    let mut parts = ReplyParts::new(alloc);
     parts.put_octet(ids::RESULT, number)?;
     back(alloc, request, Kind::Ack, &parts)
 }
@@ -46,7 +46,7 @@ pub fn refusal_of(alloc: Global, request: &Message, number: u8) -> Result<Messag
 pub fn stream_refusal(alloc: Global, fault: &StreamFault) -> Result<Message, NoMemory>
     ensures { IfOk result (λ message. message ≡ fault_message fault.now) }
 {
-    let mut parts = Parts::new(alloc);
+    let mut parts = ReplyParts::new(alloc);
     parts.put_octet(ids::RESULT, fault.fault.number())?;
     let address = [ids::SITE_ADDRESS];
     sent(
@@ -60,7 +60,12 @@ pub fn stream_refusal(alloc: Global, fault: &StreamFault) -> Result<Message, NoM
 }
 
 /// From the site to the originator of the request, with its token and address.
-fn back(alloc: Global, request: &Message, kind: Kind, parts: &Parts) -> Result<Message, NoMemory>
+fn back(
+    alloc: Global,
+    request: &Message,
+    kind: Kind,
+    parts: &ReplyParts,
+) -> Result<Message, NoMemory>
     requires { AreShort parts.now }
     ensures { IfOk result (λ message. message ≡ back request.now kind parts.now) }
 {
@@ -81,7 +86,7 @@ fn sent(
     kind: Kind,
     token: Token,
     address: &[u8],
-    parts: &Parts,
+    parts: &ReplyParts,
 ) -> Result<Message, NoMemory>
     requires short { AreShort parts.now }
     requires least { 1 ≤ length address.now }
@@ -110,7 +115,7 @@ fn kind_of(reply: &Reply) -> Kind
     }
 }
 
-fn reply_parts(alloc: Global, reply: &Reply) -> Result<Parts, NoMemory>
+fn reply_parts(alloc: Global, reply: &Reply) -> Result<ReplyParts, NoMemory>
     ensures { IfOk result (λ parts. parts ≡ reply_items reply.now) }
 {
     match reply {
@@ -119,10 +124,10 @@ fn reply_parts(alloc: Global, reply: &Reply) -> Result<Parts, NoMemory>
     }
 }
 
-fn refusal_parts(alloc: Global, refusal: &Refusal) -> Result<Parts, NoMemory>
+fn refusal_parts(alloc: Global, refusal: &Refusal) -> Result<ReplyParts, NoMemory>
     ensures { IfOk result (λ parts. parts ≡ refusal_items refusal.now) }
 {
-    let mut parts = Parts::new(alloc);
+    let mut parts = ReplyParts::new(alloc);
     parts.put_octet(ids::RESULT, refusal.number())?;
     if let Some(detail) = refusal.detail() {
         parts.put_eight(ids::DETAIL, detail)?;
@@ -130,7 +135,7 @@ fn refusal_parts(alloc: Global, refusal: &Refusal) -> Result<Parts, NoMemory>
     Ok(parts)
 }
 
-fn answer_parts(alloc: Global, answer: &Answer) -> Result<Parts, NoMemory>
+fn answer_parts(alloc: Global, answer: &Answer) -> Result<ReplyParts, NoMemory>
     ensures { IfOk result (λ parts. parts ≡ answer_items answer.now) }
 {
     match answer {
@@ -154,16 +159,16 @@ fn answer_parts(alloc: Global, answer: &Answer) -> Result<Parts, NoMemory>
     }
 }
 
-fn outcome_parts(alloc: Global, number: u8) -> Result<Parts, NoMemory>
+fn outcome_parts(alloc: Global, number: u8) -> Result<ReplyParts, NoMemory>
     ensures { IfOk result (λ parts. parts ≡ outcome number) }
 {
-    let mut parts = Parts::new(alloc);
+    let mut parts = ReplyParts::new(alloc);
     parts.put_octet(ids::RESULT, 0)?;
     parts.put_octet(ids::OUTCOME, number)?;
     Ok(parts)
 }
 
-fn start_parts(alloc: Global, preset: Preset, price: Mills) -> Result<Parts, NoMemory>
+fn start_parts(alloc: Global, preset: Preset, price: Mills) -> Result<ReplyParts, NoMemory>
     ensures { IfOk result (λ parts. parts ≡ answer_items (Answer.Start preset price)) }
 {
     let mut parts = outcome_parts(alloc, 2)?;
@@ -172,7 +177,7 @@ fn start_parts(alloc: Global, preset: Preset, price: Mills) -> Result<Parts, NoM
     Ok(parts)
 }
 
-fn flowed_parts(alloc: Global, growth: u64) -> Result<Parts, NoMemory>
+fn flowed_parts(alloc: Global, growth: u64) -> Result<ReplyParts, NoMemory>
     ensures { IfOk result (λ parts. parts ≡ answer_items (Answer.Flowed growth)) }
 {
     let mut parts = outcome_parts(alloc, 3)?;
@@ -180,7 +185,7 @@ fn flowed_parts(alloc: Global, growth: u64) -> Result<Parts, NoMemory>
     Ok(parts)
 }
 
-fn sold_parts(alloc: Global, seq: Seq, growth: u64) -> Result<Parts, NoMemory>
+fn sold_parts(alloc: Global, seq: Seq, growth: u64) -> Result<ReplyParts, NoMemory>
     ensures { IfOk result (λ parts. parts ≡ answer_items (Answer.Sold seq growth)) }
 {
     let mut parts = outcome_parts(alloc, 6)?;
@@ -189,7 +194,7 @@ fn sold_parts(alloc: Global, seq: Seq, growth: u64) -> Result<Parts, NoMemory>
     Ok(parts)
 }
 
-fn cleared_parts(alloc: Global, cents: Cents) -> Result<Parts, NoMemory>
+fn cleared_parts(alloc: Global, cents: Cents) -> Result<ReplyParts, NoMemory>
     ensures { IfOk result (λ parts. parts ≡ answer_items (Answer.Cleared cents)) }
 {
     let mut parts = outcome_parts(alloc, 11)?;
@@ -197,7 +202,7 @@ fn cleared_parts(alloc: Global, cents: Cents) -> Result<Parts, NoMemory>
     Ok(parts)
 }
 
-fn shift_parts(alloc: Global, shift: u16) -> Result<Parts, NoMemory>
+fn shift_parts(alloc: Global, shift: u16) -> Result<ReplyParts, NoMemory>
     ensures { IfOk result (λ parts. parts ≡ answer_items (Answer.ShiftClosed shift)) }
 {
     let mut parts = outcome_parts(alloc, 12)?;
@@ -205,10 +210,10 @@ fn shift_parts(alloc: Global, shift: u16) -> Result<Parts, NoMemory>
     Ok(parts)
 }
 
-fn point_parts(alloc: Global, view: &PointView) -> Result<Parts, NoMemory>
+fn point_parts(alloc: Global, view: &PointView) -> Result<ReplyParts, NoMemory>
     ensures { IfOk result (λ parts. parts ≡ point_items view.now) }
 {
-    let mut parts = Parts::new(alloc);
+    let mut parts = ReplyParts::new(alloc);
     parts.put_octet(ids::STATE, view.state.number())?;
     parts.put_octet(ids::NOZZLE_OUT, nozzle_number(view.out))?;
     parts.put_octet(ids::HOLDER, till_number(view.holder))?;
@@ -220,10 +225,10 @@ fn point_parts(alloc: Global, view: &PointView) -> Result<Parts, NoMemory>
     Ok(parts)
 }
 
-fn transaction_parts(alloc: Global, view: &TransactionView) -> Result<Parts, NoMemory>
+fn transaction_parts(alloc: Global, view: &TransactionView) -> Result<ReplyParts, NoMemory>
     ensures { IfOk result (λ parts. parts ≡ transaction_items view.now) }
 {
-    let mut parts = Parts::new(alloc);
+    let mut parts = ReplyParts::new(alloc);
     parts.put_four(ids::PRICE, view.price.get())?;
     parts.put_eight(ids::VOLUME, view.volume.get())?;
     parts.put_eight(ids::CENTS, view.cents.get())?;
@@ -234,10 +239,10 @@ fn transaction_parts(alloc: Global, view: &TransactionView) -> Result<Parts, NoM
     Ok(parts)
 }
 
-fn product_parts(alloc: Global, view: &ProductView) -> Result<Parts, NoMemory>
+fn product_parts(alloc: Global, view: &ProductView) -> Result<ReplyParts, NoMemory>
     ensures { IfOk result (λ parts. parts ≡ product_items view.now) }
 {
-    let mut parts = Parts::new(alloc);
+    let mut parts = ReplyParts::new(alloc);
     parts.put_four(ids::PRICE, view.price.get())?;
     parts.put_eight(ids::METERED, view.metered)?;
     parts.put_eight(ids::RUNNING, view.running)?;
@@ -247,16 +252,16 @@ fn product_parts(alloc: Global, view: &ProductView) -> Result<Parts, NoMemory>
     Ok(parts)
 }
 
-fn site_parts(alloc: Global, view: &SiteView) -> Result<Parts, NoMemory>
+fn site_parts(alloc: Global, view: &SiteView) -> Result<ReplyParts, NoMemory>
     ensures { IfOk result (λ parts. parts ≡ site_items view.now) }
 {
-    let mut parts = Parts::new(alloc);
+    let mut parts = ReplyParts::new(alloc);
     parts.put_eight(ids::CENTS, view.cents)?;
     parts.put_two(ids::SHIFT, view.shift)?;
     Ok(parts)
 }
 
-fn put_preset(parts: &mut Parts, preset: Preset) -> Result<(), NoMemory>
+fn put_preset(parts: &mut ReplyParts, preset: Preset) -> Result<(), NoMemory>
     ensures { OnOk result (parts.new ≡ parts.old ++ preset_items preset) }
 {
     match preset {
@@ -266,7 +271,7 @@ fn put_preset(parts: &mut Parts, preset: Preset) -> Result<(), NoMemory>
     }
 }
 
-fn put_prepaid(parts: &mut Parts, prepaid: Option<u32>) -> Result<(), NoMemory>
+fn put_prepaid(parts: &mut ReplyParts, prepaid: Option<u32>) -> Result<(), NoMemory>
     ensures { OnOk result (parts.new ≡ parts.old ++ prepaid_items prepaid) }
 {
     match prepaid {

@@ -3,7 +3,7 @@ use Rattle.std.proofs.Common.{◌≡◌, ℕ, arith}
 use Rattle.std.proofs.lemmas.Grind.{common_steps}
 use Rattle.fuelling_point.specs.declared.event.PointEvent.TheVariants.{Flow, HangUp}
 use Rattle.fuelling_point.specs.Kept.{Facts}
-use Rattle.fuelling_point.specs.Checks.{refusal_of}
+use Rattle.fuelling_point.specs.PointChecks.{refusal_of}
 
 pub flow_judged : (nozzle growth other : ℕ) (f : Facts)
     → refusal_of (Flow nozzle growth) f ≡ refusal_of (Flow nozzle other) f

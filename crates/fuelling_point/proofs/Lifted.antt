@@ -10,7 +10,7 @@ use Rattle.fuelling_point.specs.declared.event.PointEvent.TheVariants.{Flow, Han
 use Rattle.fuelling_point.specs.declared.step.PointStep.TheVariants.{Sold}
 use Rattle.fuelling_point.specs.Kept.{Facts, fresh, has_nozzle_out}
 use Rattle.fuelling_point.specs.Whole.{IsWhole}
-use Rattle.fuelling_point.specs.Checks.{refusal_of}
+use Rattle.fuelling_point.specs.PointChecks.{refusal_of}
 use Rattle.fuelling_point.specs.History.{Moment, history, facts_at_end, facts_after, reply_to, moments_of, point_after}
 use Rattle.fuelling_point.specs.Laws.{ends, lifted_by, HasLifted, IsTheLifted}
 use Rattle.fuelling_point.proofs.Whole.{whole_after}

@@ -6,7 +6,7 @@ use Rattle.fuelling_point.specs.declared.event.PointEvent.{PointEvent}
 use Rattle.fuelling_point.specs.declared.step.PointStep.TheVariants.{Sold}
 use Rattle.fuelling_point.specs.Kept.{Facts, fresh}
 use Rattle.fuelling_point.specs.Whole.{IsWhole}
-use Rattle.fuelling_point.specs.Checks.{refusal_of}
+use Rattle.fuelling_point.specs.PointChecks.{refusal_of}
 use Rattle.fuelling_point.specs.Step.{after}
 use Rattle.fuelling_point.specs.History.{reply_to, facts_after, facts_at_end, point_after}
 use Rattle.fuelling_point.specs.Laws.{StaysWhole, IsConserved, IsNeverNothing}

@@ -1,20 +1,13 @@
 -- The history of a fuelling point: the events that a new point has had, one after another.
-use Rattle.std.specs.Prelude.{List, [], ◌∷◌, Option, Some, None, Result, Ok, Err}
+use Rattle.std.specs.Prelude.{List, [], ◌∷◌, Result}
 use Rattle.site_base.specs.declared.refusal.Refusal.{Refusal}
+use Rattle.site_base.specs.Checks.{reply_or, value_or}
 use Rattle.site_base.specs.declared.state.PointState.TheVariants.{Closed}
 use Rattle.fuelling_point.specs.declared.event.PointEvent.{PointEvent}
 use Rattle.fuelling_point.specs.declared.step.PointStep.{PointStep}
 use Rattle.fuelling_point.specs.Kept.{Facts, fresh}
-use Rattle.fuelling_point.specs.Checks.{refusal_of}
+use Rattle.fuelling_point.specs.PointChecks.{refusal_of}
 use Rattle.fuelling_point.specs.Step.{step_of, after}
-
-abbrev pub reply_or : Option Refusal → PointStep → Result PointStep Refusal
-reply_or None step = Ok step
-reply_or (Some refusal) step = Err refusal
-
-abbrev pub facts_or : Option Refusal → Facts → Facts → Facts
-facts_or None new old = new
-facts_or (Some refusal) new old = old
 
 -- what the point answers to an event
 abbrev pub reply_to : PointEvent → Facts → Result PointStep Refusal
@@ -22,7 +15,7 @@ reply_to event f = reply_or (refusal_of event f) (step_of event f)
 
 -- the point after an event: a refusal leaves it
 abbrev pub facts_after : PointEvent → Facts → Facts
-facts_after event f = facts_or (refusal_of event f) (after event f) f
+facts_after event f = value_or (refusal_of event f) (after event f) f
 
 -- one event of a history, and what the point kept before it
 pub record Moment : Type 0 where

@@ -11,7 +11,7 @@ use Rattle.fuelling_point.specs.declared.step.PointStep.{PointStep}
 use Rattle.fuelling_point.specs.declared.step.PointStep.TheVariants.{Flowed, Sold, Ending}
 use Rattle.fuelling_point.specs.Kept.{Facts, fresh, is_under_way, volume_of, growth_of}
 use Rattle.fuelling_point.specs.Whole.{IsWhole, is_suspended}
-use Rattle.fuelling_point.specs.Checks.{refusal_of}
+use Rattle.fuelling_point.specs.PointChecks.{refusal_of}
 use Rattle.fuelling_point.specs.Step.{step_of, after}
 use Rattle.fuelling_point.specs.History.{Moment, reply_to, facts_after, moments_of, point_after}
 

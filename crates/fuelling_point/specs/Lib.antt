@@ -1,7 +1,7 @@
 pub mod Table
 pub mod Kept
 pub mod Whole
-pub mod Checks
+pub mod PointChecks
 pub mod Step
 pub mod Fields
 pub mod History

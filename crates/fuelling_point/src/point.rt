@@ -7,7 +7,7 @@ ghost use Rattle.fuelling_point.specs.Table.{is_listed};
 ghost use Rattle.fuelling_point.specs.Kept.{fresh, point_view, FitsGrowth, is_under_way, has_nozzle_out, volume_of};
 ghost use Rattle.fuelling_point.specs.Whole.{IsWhole};
 ghost use Rattle.fuelling_point.specs.Fields.{suspended, flowing};
-ghost use Rattle.fuelling_point.specs.Checks.{refusal_of, is_out};
+ghost use Rattle.fuelling_point.specs.PointChecks.{refusal_of, is_out};
 ghost use Rattle.fuelling_point.specs.Step.{step_of, after};
 
 use crate::delivery::Delivery;

@@ -7,7 +7,7 @@ use Rattle.site_base.specs.declared.refusal.Refusal.{Refusal}
 use Rattle.site_base.specs.declared.refusal.Refusal.TheVariants.{NotSignedOn, NoSuchPoint}
 use Rattle.site_base.specs.Checks.{◌or_else◌, unless, reply_or, value_or}
 use Rattle.fuelling_point.specs.declared.event.PointEvent.{PointEvent}
-use Rattle.fuelling_point.specs.Checks as machine
+use Rattle.fuelling_point.specs.PointChecks as machine
 use Rattle.written_site.specs.SiteState.{SiteState, facts_of, is_signed_on, has_point}
 use Rattle.written_site.specs.SiteChecks.{first_refusal, signing, numbers, is_there, not_held, at_point, point_refusal, may_ask}
 use Rattle.written_site.specs.SiteStep.{site_answer, accepted_site, Steps}

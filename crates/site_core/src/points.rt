@@ -1,7 +1,7 @@
 //! The fuelling points of a site, by their numbers.
 
 ghost use Rattle.std.specs.Prelude.{◌≡◌, true, is_some, option_and_then, Option, Some, None, IfOk, OnOk, IfErr, OnErr};
-ghost use Rattle.fuelling_point.specs.Checks.{refusal_of};
+ghost use Rattle.fuelling_point.specs.PointChecks.{refusal_of};
 ghost use Rattle.fuelling_point.specs.Kept.{point_view, FitsGrowth};
 ghost use Rattle.fuelling_point.specs.Step.{step_of, after};
 ghost use Rattle.site_base.specs.Table.{row_of, with_row};

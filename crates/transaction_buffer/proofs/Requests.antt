@@ -4,7 +4,8 @@ use Rattle.site_base.specs.declared.answer.Answer.{Answer}
 use Rattle.site_base.specs.declared.refusal.Refusal.{Refusal}
 use Rattle.site_base.specs.declared.refusal.Refusal.TheVariants.{NoSuchTransaction}
 use Rattle.transaction_buffer.specs.declared.request.Request.{Request}
-use Rattle.transaction_buffer.specs.Asked.{reply_or, Asked, outcome}
+use Rattle.site_base.specs.Checks.{reply_or}
+use Rattle.transaction_buffer.specs.Asked.{Asked, outcome}
 use Rattle.transaction_buffer.specs.Laws.{DoTell}
 use Rattle.transaction_buffer.specs.Sales.{Key, Sale, Sales, sale_of, with_sale}
 use Rattle.transaction_buffer.specs.TransactionTable.{Line, line_for, line_of, refusal_in, answer_in, after_line, after_at}

@@ -8,7 +8,7 @@ use Rattle.site_base.specs.Numbered.{numbered}
 use Rattle.site_base.proofs.Numbering.{numbered_next, numbered_there, with_numbered_same}
 use Rattle.site_base.specs.declared.answer.Answer.{Answer}
 use Rattle.site_base.specs.declared.refusal.Refusal.{Refusal}
-use Rattle.transaction_buffer.specs.Asked.{reply_or}
+use Rattle.site_base.specs.Checks.{reply_or}
 use Rattle.transaction_buffer.specs.declared.request.Request.{Request}
 use Rattle.transaction_buffer.specs.declared.request.Request.TheVariants.{Lock, Unlock, Clear}
 use Rattle.transaction_buffer.specs.declared.standing.Standing.{Standing}

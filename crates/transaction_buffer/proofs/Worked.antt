@@ -9,7 +9,7 @@ use Rattle.transaction_buffer.specs.declared.request.Request.{Request}
 use Rattle.transaction_buffer.specs.declared.request.Request.TheVariants.{Lock, Unlock, Clear}
 use Rattle.transaction_buffer.specs.declared.standing.Standing.{Standing}
 use Rattle.transaction_buffer.specs.declared.standing.Standing.TheVariants.{Payable, LockedBy, ClearedBy}
-use Rattle.transaction_buffer.specs.Asked.{reply_or}
+use Rattle.site_base.specs.Checks.{reply_or}
 use Rattle.transaction_buffer.specs.Sales.{Sale}
 use Rattle.transaction_buffer.specs.TransactionTable.{Line, line_of, refusal_in, answer_in, sale_after_request}
 

@@ -2,14 +2,10 @@
 use Rattle.std.specs.Prelude.{◌≡◌, ℕ, Option, Some, None, Result, Ok, Err}
 use Rattle.site_base.specs.declared.answer.Answer.{Answer}
 use Rattle.site_base.specs.declared.refusal.Refusal.{Refusal}
+use Rattle.site_base.specs.Checks.{reply_or}
 use Rattle.transaction_buffer.specs.declared.request.Request.{Request}
 use Rattle.transaction_buffer.specs.Sales.{Key, Sale, Sales}
 use Rattle.transaction_buffer.specs.TransactionTable.{Line, refusal_of, answer_of, after_request}
-
--- the answer where nothing refuses, else the refusal
-abbrev pub reply_or : Option Refusal → Answer → Result Answer Refusal
-reply_or None answer = Ok answer
-reply_or (Some refusal) answer = Err refusal
 
 -- what till t is told of its request for the sale of this name
 abbrev pub reply_of : Request → ℕ → Key → Sales → Result Answer Refusal

@@ -10,7 +10,7 @@ use Rattle.site_base.specs.Checks.{◌or_else◌, unless}
 use Rattle.site_base.specs.Events.{point_named, reported_by, needs_free_point}
 use Rattle.fuelling_point.specs.declared.event.PointEvent.{PointEvent}
 use Rattle.fuelling_point.specs.declared.event.PointEvent.TheVariants as points
-use Rattle.fuelling_point.specs.Checks as machine
+use Rattle.fuelling_point.specs.PointChecks as machine
 use Rattle.written_site.specs.SiteState.{SiteState, is_signed_on, has_point, facts_of, holder_of}
 
 -- what an event is to the point that it names; none where it is nothing to a point
