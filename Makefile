@@ -1,7 +1,7 @@
 # The forecourt site controller. `make` alone says what there is.
 
 PROGRAM := crates/forecourt/out/forecourt
-CRATES := $(notdir $(patsubst %/,%,$(dir $(wildcard crates/*/wrong-bodies))))
+CRATES := $(patsubst crates/%/wrong-bodies,%,$(wildcard crates/*/wrong-bodies))
 
 .PHONY: help run build check test audit bench
 

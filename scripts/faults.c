@@ -6,7 +6,7 @@
  *   SHORT_WRITE=M      a write to standard output takes at most M octets
  *   TAKE_ALL=M         standard output takes M octets in all, and then none
  *   INTERRUPT=1        every second read and write is interrupted
- *   MET=FILE           is made when the growth, the read or the write met its fault
+ *   MET=FILE           is made when a growth, a read or a write met its fault
  */
 #include <errno.h>
 #include <fcntl.h>
@@ -79,8 +79,10 @@ static int interrupted(int *before)
     if (!number("INTERRUPT"))
         return 0;
     *before = !*before;
-    if (*before)
+    if (*before) {
         errno = EINTR;
+        met();
+    }
     return *before;
 }
 
@@ -106,8 +108,10 @@ ssize_t write(int file, const void *text, size_t size)
             errno = EIO;
             return -1;
         }
-        if (number("SHORT_WRITE") && size > (size_t)number("SHORT_WRITE"))
+        if (number("SHORT_WRITE") && size > (size_t)number("SHORT_WRITE")) {
             size = number("SHORT_WRITE");
+            met();
+        }
         if (getenv("TAKE_ALL")) {
             size_t left = number("TAKE_ALL") - taken;
             if (size > left) {

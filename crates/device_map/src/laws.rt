@@ -3,8 +3,8 @@
 
 ghost use Rattle.device_map.specs.Laws.{IsOneRequest};
 
-/// For each token, each event with an actor of its own kind has one request: the message
-/// `request_for`, which can be spelled and asks for just that event, and no other message.
+/// For each token, each event with an actor of its own kind and numbers in range has one request: a
+/// message that can be spelled, has this token and asks for just that event, and no other message.
 pub fn one_request()
     ensures { IsOneRequest }
 {}

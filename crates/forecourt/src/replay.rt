@@ -25,12 +25,12 @@ pub struct ReplayEnd {
 }
 
 /// The octets of one read.
-const PIECE_OCTETS: usize = 4_096;
+pub const PIECE_OCTETS: usize = 4_096;
 
 /// Replays lines of messages on the opening site of this configuration: each message is answered by
 /// a line, in order. It ends at the end of the input, at the first fault of the text, where a growth
 /// is refused, a device fails, or `turns` are used up (each read call and each interrupted write call
-/// is a turn). Whatever it ends with, what was written is a front of the text of what was read. It ends
+/// is a turn), so that no more than a piece a turn is read. Whatever it ends with, what was written is a front of the text of what was read. It ends
 /// with a fault of the text only where the text stops at what was read, or the input is at its end.
 pub fn replay<R: Read, W: Write>(
     alloc: Global,
@@ -39,7 +39,7 @@ pub fn replay<R: Read, W: Write>(
     writer: &mut Counted<W>,
     turns: u64,
 ) -> ReplayEnd
-    ensures told { Replayed (start (record { config = config.now; rows = [] }))
+    ensures told { Replayed turns (start (record { config = config.now; rows = [] }))
         (R.remaining (device_of reader.old)) (R.remaining (device_of reader.new))
         (W.contents (device_of writer.old)) (W.contents (device_of writer.new)) result.fault result.book }
     ensures end { result.fault ≡ None → IsAtEnd (R.remaining (device_of reader.new)) }
@@ -76,7 +76,7 @@ fn run<R: Read, W: Write>(
     writer: &mut Counted<W>,
     mut turns: u64,
 ) -> Result<(), ReplayFault>
-    ensures told { Replayed engine.old
+    ensures told { Replayed turns engine.old
         (R.remaining (device_of reader.old)) (R.remaining (device_of reader.new))
         (W.contents (device_of writer.old)) (W.contents (device_of writer.new)) (result_err result) (Some engine.new.book) }
     ensures end { OnOk result (IsAtEnd (R.remaining (device_of reader.new))) }

@@ -1,5 +1,5 @@
-//! What no clause says: figures shift by shift, the last shift, and what stands after want of
-//! memory.
+//! Runs of the compiled calls, once each with ample memory: they answer as the printed rows of the
+//! figures by shift and of the last shift; and a run in which a growth is refused.
 
 mod refused;
 

@@ -1,4 +1,4 @@
-//! Parts of events, one after another.
+//! Lists of events, one after another.
 
 ghost use Rattle.std.specs.Prelude.{◌≡◌, ◌<◌, length, take, IfOk, OnOk, IfErr, vec_len, vec_capacity};
 ghost use Rattle.site_core.specs.Shown.{HasRoom};

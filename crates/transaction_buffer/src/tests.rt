@@ -1,5 +1,5 @@
-//! What no clause says: the refusals with their details, the worked rows, the ends of the numbers,
-//! and what stands after want of memory.
+//! Runs of the compiled calls, once each with ample memory: they answer as the printed rows of
+//! locks, clears, counts, sums and the last number; and a run in which a growth is refused.
 
 mod refused;
 mod rows;

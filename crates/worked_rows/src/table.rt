@@ -2,7 +2,7 @@
 
 use crate::draft::Draft;
 use crate::line::Line;
-use anyhow::Context;
+use anyhow::{Context, ensure};
 use site_base::{Actor, Event, NoMemory, Reply, Row, SiteConfig};
 use site_core::{RunStopped, Site, run};
 use std::alloc::Global;
@@ -37,6 +37,8 @@ impl Table {
             return Ok(());
         }
         self.end(rt)?;
+        let describes = matches!(line, Line::Manager(_) | Line::Product(_) | Line::Point(_));
+        ensure!(self.site.is_none() || !describes, "the site stands already");
         match line {
             Line::Text(text) => println!(rt; "{text}")?,
             Line::Rows(rows) => {

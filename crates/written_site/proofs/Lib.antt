@@ -4,3 +4,4 @@ pub mod Bridge
 pub mod Slots
 pub mod Holders
 pub mod Worked
+pub mod WorkedHolds

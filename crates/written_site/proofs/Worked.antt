@@ -14,23 +14,23 @@ use Rattle.fuelling_point.specs.Kept.{fresh, point_view}
 use Rattle.written_site.specs.SiteState.{SiteState, opening, holder_of}
 use Rattle.written_site.specs.SiteStep.{reply_to, site_after}
 
-abbrev two_points : Configured
+abbrev pub two_points : Configured
 two_points = record { rows = 10; managers = []; products = []; points = record { number = 2; nozzles = [] } ∷ record { number = 3; nozzles = [] } ∷ [] }
 
 -- the opening site, and the site after till 1 has signed on
-abbrev first : SiteState
+abbrev pub first : SiteState
 first = opening two_points
 
-abbrev second : SiteState
+abbrev pub second : SiteState
 second = record first { signed_on = set.insert set.empty 1 }
 
 nobody : set.contains {R = nat_cmp} set.empty 1 ≡ false
 nobody = set.contains-empty nat_cmp 1
 
-till_1 : set.contains {R = nat_cmp} (set.insert set.empty 1) 1 ≡ true
+pub till_1 : set.contains {R = nat_cmp} (set.insert set.empty 1) 1 ≡ true
 till_1 = set.contains-insert nat_cmp_total set.empty 1 1
 
-till_2 : set.contains {R = nat_cmp} (set.insert set.empty 1) 2 ≡ false
+pub till_2 : set.contains {R = nat_cmp} (set.insert set.empty 1) 2 ≡ false
 till_2 = set.contains-insert nat_cmp_total set.empty 1 2 ∙ set.contains-empty nat_cmp 2
 
 not_signed_on : reply_to first (Till 1) (Open 9) ≡ Err NotSignedOn
@@ -39,7 +39,7 @@ not_signed_on = rw nobody refl
 signs_on : reply_to first (Till 1) SignOn ≡ Ok Done
 signs_on = rw nobody refl
 
-leads_to_second : site_after first (Till 1) SignOn ≡ second
+pub leads_to_second : site_after first (Till 1) SignOn ≡ second
 leads_to_second = rw nobody refl
 
 signs_on_twice : reply_to second (Till 1) SignOn ≡ Err SignedOn
@@ -57,7 +57,7 @@ opens = rw (till_1, free_3) refl
 opens_it_alone : (site_after second (Till 1) (Open 3)).points ≡ (2, fresh Closed) ∷ (3, fresh Idle) ∷ []
 opens_it_alone = rw (till_1, free_3) refl
 
-free_2 : holder_of second 2 ≡ None
+pub free_2 : holder_of second 2 ≡ None
 free_2 = get-empty nat_cmp 2
 
 isn't_idle : reply_to second (Till 1) (Close 2) ≡ Err (WrongState Closed)
@@ -77,16 +77,16 @@ shows : reply_to second (Till 1) (ReadPoint 3) ≡ Ok (PointIs (point_view (fres
 shows = rw (till_1, get-empty nat_cmp 3) refl
 
 -- the tills 1 and 2 signed on, and point 2 held by till 1
-abbrev third : SiteState
+abbrev pub third : SiteState
 third = record first { holds = finite.insert finite.empty 2 1; signed_on = set.insert (set.insert set.empty 1) 2 }
 
-held : holder_of third 2 ≡ Some 1
+pub held : holder_of third 2 ≡ Some 1
 held = get-insert nat_cmp_total finite.empty 2 1 2
 
-one_of_two : set.contains {R = nat_cmp} (set.insert (set.insert set.empty 1) 2) 1 ≡ true
+pub one_of_two : set.contains {R = nat_cmp} (set.insert (set.insert set.empty 1) 2) 1 ≡ true
 one_of_two = set.contains-insert nat_cmp_total (set.insert set.empty 1) 2 1 ∙ till_1
 
-two_of_two : set.contains {R = nat_cmp} (set.insert (set.insert set.empty 1) 2) 2 ≡ true
+pub two_of_two : set.contains {R = nat_cmp} (set.insert (set.insert set.empty 1) 2) 2 ≡ true
 two_of_two = set.contains-insert nat_cmp_total (set.insert set.empty 1) 2 2
 
 takes_the_hold : reply_to second (Till 1) (Assign 2) ≡ Ok Done
