@@ -16,8 +16,6 @@ mod refusal;
 mod row;
 mod state;
 mod table;
-#[cfg(test)]
-mod tests;
 mod transfer;
 mod view;
 mod words;

@@ -1,7 +1,7 @@
 //! Made for runs in which one growth is refused: what was there stays, and the same call then answers
 //! as ever.
 
-use crate::{
+use site_base::{
     Actor, Answer, Event, FpNo, Millilitres, Mills, NoMemory, NozzleEntry, PointEntry, PriceBook,
     ProductEntry, ProductNo, Row, Rows, SiteConfig, TillNo,
 };
