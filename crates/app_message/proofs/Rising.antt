@@ -1,6 +1,7 @@
 -- What the tests of a message's parts tell.
 use Rattle.std.proofs.Common.{◌≡◌, ℕ, zero, suc, ◌+◌, ◌<◌, ◌≤◌, Bool, true, false, cond, refl}
 use Rattle.std.proofs.Common.{List, [], ◌∷◌, length, get_or, take, Option, Some, None, arith}
+use Rattle.std.proofs.Common.{◌⊎◌, inl, inr}
 use Rattle.std.specs.Borrow.{Bor}
 use Rattle.std.specs.List.{All, AllByRecursion, flat_map}
 use Rattle.std.proofs.lemmas.Bool.{ltb-false, le-ltb}
@@ -127,3 +128,9 @@ made to from kind token address items head octets fit none =
       least = omega (arith, parts.least, length-append address (flat_map item_text items));
       most = parts.size;
     }
+
+-- an address that fits isn't empty, and not above 8 octets
+pub no_bad_address : (address : List ℕ) → 1 ≤ length address → length address ≤ 8
+    → (length address ≡ 0) ⊎ (8 < length address) → ⊥
+no_bad_address address least most (inl none) = omega arith
+no_bad_address address least most (inr more) = omega arith

@@ -1,5 +1,6 @@
 pub mod Telegram
 pub mod Spelling
+pub mod Bodies
 pub mod Parts
 pub mod Numbers
 pub mod Grammar

@@ -75,13 +75,26 @@ impl Decoder {
                 fault: self.fault,
             });
         }
+        if self.rest.is_empty() {
+            return self.take(piece);
+        }
         let mut octets = Vec::with_capacity(
             self.alloc,
             self.rest.len().saturating_add(piece.len()),
         )?;
         octets.extend_from_slice(&self.rest)?;
         octets.extend_from_slice(piece)?;
-        let (fed, rest) = walk(self.alloc, &octets)?;
+        self.take(&octets)
+    }
+
+    /// Takes these octets in place of those that are held, where they lie: only the rest is copied.
+    fn take(&mut self, octets: &[u8]) -> Result<Fed, NoMemory>
+        ensures messages { IfOk result (λ fed. fed.messages ≡ (stream_of octets.now).messages) }
+        ensures fault { IfOk result (λ fed. fed.fault ≡ (stream_of octets.now).fault) }
+        ensures held { OnOk result (self.new ≡ held (stream_of octets.now)) }
+        ensures err { OnErr result (self.new ≡ self.old) }
+    {
+        let (fed, rest) = walk(self.alloc, octets)?;
         self.rest = Vec::from_slice(self.alloc, rest)?;
         self.fault = fed.fault;
         Ok(fed)

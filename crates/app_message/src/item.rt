@@ -1,37 +1,35 @@
 //! One item of a message.
 
-ghost use Rattle.std.specs.Prelude.{◌≡◌, ◌≤◌, IfOk, length};
+ghost use Rattle.std.specs.Prelude.{◌≡◌, ◌≤◌, length};
 ghost use Rattle.app_message.specs.Telegram.{entry, IsEntry};
 
-use std::alloc::{AllocError, Global};
 use std::marker::Model;
 
-/// An item: a data identifier and its content, at most 254 octets.
+/// An item: a data identifier and its content, at most 254 octets, where they lie in a message.
 #[derive(Debug, Drop)]
-pub struct Item {
+pub struct Item<'a> {
     id: u8,
-    content: Vec<u8>,
+    content: &'a [u8],
 }
 
-impl Model for Item {
+impl<'a> Model for Item<'a> {
     ghost use Rattle.app_message.specs.Telegram.{Entry, entry, IsEntry};
 
     ghost Value = { Entry };
 
-    ghost view = { λ i. entry i.id i.content.items };
+    ghost view = { λ i. entry i.id i.content.now };
 
-    ghost invariant = { λ i. IsEntry (entry i.id i.content.items) };
+    ghost invariant = { λ i. IsEntry (entry i.id i.content.now) };
 }
 
-impl Item {
-    /// An item with a copy of this content.
-    pub(crate) fn copied(alloc: Global, id: u8, content: &[u8]) -> Result<Item, AllocError>
+impl<'a> Item<'a> {
+    /// An item of this content.
+    pub(crate) fn new(id: u8, content: &'a [u8]) -> Item<'a>
         requires { length content.now ≤ 254 }
-        ensures value { IfOk result (λ i. i ≡ entry id content.now) }
-        ensures valid { IfOk result IsEntry }
+        ensures value { result ≡ entry id content.now }
+        ensures valid { IsEntry result }
     {
-        let content = Vec::from_slice(alloc, content)?;
-        Ok(Item { id, content })
+        Item { id, content }
     }
 
     /// The data identifier.
@@ -42,10 +40,10 @@ impl Item {
     }
 
     /// The content, at most 254 octets.
-    pub fn content(&self) -> &[u8]
+    pub fn content(&self) -> &'a [u8]
         ensures value { result.now ≡ self.now.content }
         ensures bound { length result.now ≤ 254 }
     {
-        self.content.as_slice()
+        self.content
     }
 }

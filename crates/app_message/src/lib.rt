@@ -9,8 +9,10 @@
 #![tactic(auto)]
 
 mod decoder;
+mod draft;
 mod fault;
 mod item;
+mod items;
 mod kind;
 mod laws;
 mod message;
@@ -21,11 +23,13 @@ mod token;
 mod writing;
 
 pub use decoder::{Decoder, Fed};
+pub use draft::Draft;
 pub use fault::{GrammarFault, MessageFault, StreamFault};
 pub use item::Item;
+pub use items::Items;
 pub use kind::Kind;
 pub use laws::{any_cutting, no_prefix, octets_are_spelled, one_stream, read_again};
 pub use message::Message;
 pub use messages::Messages;
 pub use token::Token;
-pub use writing::encode;
+pub use writing::{encode, encode_into};

@@ -2,40 +2,40 @@
 
 ghost use Rattle.std.specs.Prelude.{◌≡◌, ◌≢◌, ◌≤◌, true, IfOk, OnOk, IfErr, length, List, Some};
 ghost use Rattle.app_message.specs.Telegram.{telegram, entries};
-ghost use Rattle.app_message.specs.Spelling.{IsMessage};
+ghost use Rattle.app_message.specs.Spelling.{IsMessage, body};
+ghost use Rattle.app_message.specs.Bodies.{of_body, with_items, IsBody};
 ghost use Rattle.app_message.specs.Parts.{parts_fault, do_rise};
 
+use crate::draft::Draft;
 use crate::fault::MessageFault;
-use crate::item::Item;
+use crate::items::Items;
 use crate::kind::Kind;
 use crate::parts;
 use crate::token::Token;
-use std::alloc::{AllocError, Global};
+use std::alloc::Global;
 use std::marker::Model;
 
 /// A message: exactly what can be spelled. Its address has 1 to 8 octets, the identifiers of its
 /// items strictly rise, each content has at most 254 octets, and the address and the items take 2
-/// to 1,024 octets in all.
+/// to 1,024 octets in all. Address and items lie in one place, as they are spelled.
 #[derive(Debug, Drop)]
 pub struct Message {
     to: [u8; 2],
     from: [u8; 2],
     kind: Kind,
     token: Token,
-    address: Vec<u8>,
-    items: Vec<Item>,
+    body: Vec<u8>,
 }
 
 impl Model for Message {
-    ghost use Rattle.app_message.specs.Telegram.{Telegram, telegram};
+    ghost use Rattle.app_message.specs.Telegram.{Telegram};
+    ghost use Rattle.app_message.specs.Bodies.{of_body, IsBody};
 
     ghost Value = { Telegram };
 
-    ghost use Rattle.app_message.specs.Spelling.{IsMessage};
+    ghost view = { λ m. of_body m.to m.from m.kind m.token m.body.items };
 
-    ghost view = { λ m. telegram m.to m.from m.kind m.token m.address.items m.items.items };
-
-    ghost invariant = { λ m. IsMessage (telegram m.to m.from m.kind m.token m.address.items m.items.items) };
+    ghost invariant = { λ m. IsBody (of_body m.to m.from m.kind m.token m.body.items) m.body.items };
 }
 
 impl Message {
@@ -65,38 +65,28 @@ impl Message {
         ensures fault { IfErr result (λ e. e ≢ MessageFault.NoMemory → parts_fault address.now (entries items.now) ≡ Some e) }
     {
         parts::check(address, items)?;
-        parts::typed(&to, &from, token);
-        let address = Vec::from_slice(alloc, address)?;
-        let items = parts::copied(alloc, items)?;
-        Ok(Message {
-            to,
-            from,
-            kind,
-            token,
-            address,
-            items,
-        })
+        let mut draft = Draft::try_new(alloc, to, from, kind, token, address, room_of(items))?;
+        put_all(&mut draft, items)?;
+        draft.finish()
     }
 
-    /// The message of parts that can be spelled.
-    pub(crate) fn of_parts(
+    /// The message of these octets of a body.
+    pub(crate) fn of_body(
         to: [u8; 2],
         from: [u8; 2],
         kind: Kind,
         token: Token,
-        address: Vec<u8>,
-        items: Vec<Item>,
+        body: Vec<u8>,
     ) -> Message
-        requires { IsMessage (telegram to from kind token address.items items.items) }
-        ensures { result ≡ telegram to from kind token address.items items.items }
+        requires { IsBody (of_body to from kind token body.items) body.items }
+        ensures { result ≡ of_body to from kind token body.items }
     {
         Message {
             to,
             from,
             kind,
             token,
-            address,
-            items,
+            body,
         }
     }
 
@@ -134,14 +124,43 @@ impl Message {
         ensures least { 1 ≤ length result.now }
         ensures most { length result.now ≤ 8 }
     {
-        self.address.as_slice()
+        parts::split(&self.body).0
     }
 
     /// The items, in strictly rising order of their identifiers.
-    pub fn items(&self) -> &[Item]
-        ensures value { result.now ≡ self.now.items }
+    pub fn items(&self) -> Items<'_>
+        ensures value { result ≡ self.now.items }
         ensures valid { IsMessage self.now }
     {
-        self.items.as_slice()
+        Items::new(parts::split(&self.body).1)
     }
+
+    /// The address and the items as they are spelled, behind the length.
+    pub(crate) fn body(&self) -> &[u8]
+        ensures text { result.now ≡ body self.now }
+        ensures most { length result.now ≤ 1024 }
+    {
+        &self.body
+    }
+}
+
+/// The octets that these items take.
+fn room_of(items: &[(u8, &[u8])]) -> usize {
+    let mut room = 0usize;
+    for (_, content) in items {
+        room = room.saturating_add(content.len()).saturating_add(2);
+    }
+    room
+}
+
+/// Puts items whose contents fit behind each other.
+fn put_all(draft: &mut Draft, items: &[(u8, &[u8])]) -> Result<(), MessageFault>
+    requires { do_rise 0 (entries items.now) ≡ true }
+    ensures put { OnOk result (draft.new ≡ with_items draft.old (entries items.now)) }
+    ensures fault { IfErr result (λ e. e ≡ MessageFault.NoMemory) }
+{
+    for (id, content) in items {
+        draft.put(*id, content)?;
+    }
+    Ok(())
 }

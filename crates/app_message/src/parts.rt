@@ -1,16 +1,13 @@
 //! Whether a message can be made of its parts.
 
-ghost use Rattle.std.specs.Prelude.{◌≡◌, ◌≤◌, length, nat_le, true, Option, IfOk, IfErr, OnOk};
-ghost use Rattle.std.specs.Prelude.{Some, None};
-ghost use Rattle.std.specs.List.{All};
-ghost use Rattle.app_message.specs.Telegram.{entries, IsEntry, AreOctets};
+ghost use Rattle.std.specs.Prelude.{◌≡◌, ◌≤◌, ◌<◌, ◌⊎◌, List, length, take, drop, slice_index, nat_le};
+ghost use Rattle.std.specs.Prelude.{true, Option, Some, None, IfErr, OnOk};
+ghost use Rattle.app_message.specs.Telegram.{Entry, entries, AreOctets};
 ghost use Rattle.app_message.specs.Spelling.{body_text, IsHead};
 ghost use Rattle.app_message.specs.Parts.{parts_fault, do_rise};
 
 use crate::fault::MessageFault;
-use crate::item::Item;
 use crate::token::Token;
-use std::alloc::{AllocError, Global};
 
 /// Answers the first fault of these parts, if they have one.
 #[tactic(auto, unfolding(crate::specs::Parts::parts_fault))]
@@ -18,17 +15,29 @@ pub fn check(address: &[u8], items: &[(u8, &[u8])]) -> Result<(), MessageFault>
     ensures ok { OnOk result (parts_fault address.now (entries items.now) ≡ None) }
     ensures err { IfErr result (λ e. parts_fault address.now (entries items.now) ≡ Some e) }
 {
-    if address.is_empty() {
-        return Err(MessageFault::BadLength);
-    }
-    if address.len() > 8 {
-        return Err(MessageFault::BadLength);
-    }
+    check_address(address)?;
     if !fit(address, items) {
         return Err(MessageFault::BadLength);
     }
     if !rise(items) {
         return Err(MessageFault::BadItem);
+    }
+    Ok(())
+}
+
+/// Answers the fault of an address that is empty or above 8 octets.
+#[tactic(auto, unfolding(crate::specs::Parts::parts_fault))]
+pub fn check_address(address: &[u8]) -> Result<(), MessageFault>
+    ensures least { OnOk result (1 ≤ length address.now) }
+    ensures most { OnOk result (length address.now ≤ 8) }
+    ensures err { IfErr result (λ e. (items : List Entry) → parts_fault address.now items ≡ Some e) }
+    ensures fault { IfErr result (λ e. (e ≡ MessageFault.BadLength) × ((length address.now ≡ 0) ⊎ (8 < length address.now))) }
+{
+    if address.is_empty() {
+        return Err(MessageFault::BadLength);
+    }
+    if address.len() > 8 {
+        return Err(MessageFault::BadLength);
     }
     Ok(())
 }
@@ -66,17 +75,13 @@ fn rise(items: &[(u8, &[u8])]) -> bool
     true
 }
 
-/// Copies of items whose contents fit.
-pub fn copied(alloc: Global, items: &[(u8, &[u8])]) -> Result<Vec<Item>, AllocError>
-    requires { do_rise 0 (entries items.now) ≡ true }
-    ensures value { IfOk result (λ v. v.items ≡ entries items.now) }
-    ensures valid { IfOk result (λ v. All IsEntry v.items) }
+/// The address and the items in the octets of a body.
+pub fn split(body: &[u8]) -> (&[u8], &[u8])
+    requires { slice_index body.now 0 < length body.now }
+    ensures address { result.0.now ≡ take (slice_index body.now 0) (drop 1 body.now) }
+    ensures items { result.1.now ≡ drop (slice_index body.now 0) (drop 1 body.now) }
 {
-    let mut kept = Vec::new(alloc);
-    for (id, content) in items {
-        kept.push(Item::copied(alloc, *id, content)?)?;
-    }
-    Ok(kept)
+    body[1..].split_at(usize::from(body[0]))
 }
 
 /// What the types of these parts say of them: two octets each, and a token of five bits.

@@ -1,9 +1,11 @@
 //! One message from the front of octets, stage after stage.
 
-ghost use Rattle.std.specs.Prelude.{◌≡◌, ◌+◌, ◌*◌, ◌%◌, ◌≤◌, ◌<◌, length, IfOk};
+ghost use Rattle.std.specs.Prelude.{◌≡◌, ◌+◌, ◌*◌, ◌%◌, ◌≤◌, ◌<◌, length, slice_index};
+ghost use Rattle.std.specs.Prelude.{IfOk, OnOk};
 ghost use Rattle.app_message.specs.Spelling.{IsHead};
 ghost use Rattle.app_message.specs.Grammar.{kind_at, length_at, header_at, item_at, items_at};
 ghost use Rattle.app_message.specs.Grammar.{address_at, body_at, front_at};
+ghost use Rattle.app_message.specs.Bodies.{listed};
 ghost use Rattle.app_message.specs.Reading.{Gives, header};
 ghost use Rattle.app_message.specs.declared.reading.Stop.TheVariants.{NoMemory as no_memory};
 
@@ -11,6 +13,7 @@ use crate::fault::GrammarFault;
 use crate::item::Item;
 use crate::kind::Kind;
 use crate::message::Message;
+use crate::parts;
 use crate::token::Token;
 use std::alloc::{AllocError, AllocFailed, Global};
 
@@ -101,7 +104,7 @@ fn head_of(octets: &[u8]) -> Result<Head, Stop>
 }
 
 #[tactic(auto, unfolding(crate::specs::Grammar::item_at))]
-fn item_of(alloc: Global, low: u16, octets: &[u8]) -> Result<(Item, &[u8]), Stop>
+fn item_of(low: u16, octets: &[u8]) -> Result<(Item<'_>, &[u8]), Stop>
     ensures exact { Gives (λ x. (x.0, x.1.now)) result (item_at low octets.now) }
     ensures shorter { IfOk result (λ x. length x.1.now < length octets.now) }
 {
@@ -120,30 +123,29 @@ fn item_of(alloc: Global, low: u16, octets: &[u8]) -> Result<(Item, &[u8]), Stop
         return Err(Stop::Fault(GrammarFault::BadItem));
     }
     let (content, rest) = after.split_at(size);
-    let item = Item::copied(alloc, octets[0], content)?;
-    Ok((item, rest))
+    Ok((Item::new(octets[0], content), rest))
 }
 
-fn items_of(alloc: Global, octets: &[u8]) -> Result<Vec<Item>, Stop>
-    ensures { Gives (λ v. v.items) result (items_at (length octets.now) 0 octets.now) }
+/// Whether these octets list items without a fault.
+fn check_items(octets: &[u8]) -> Result<(), Stop>
+    ensures { Gives (λ _. listed octets.now) result (items_at (length octets.now) 0 octets.now) }
 {
-    let mut items = Vec::new(alloc);
     let mut rest = octets;
     let mut low = 0u16;
     while !rest.is_empty() {
-        let (item, after) = item_of(alloc, low, rest)?;
+        let (item, after) = item_of(low, rest)?;
         low = u16::from(item.id()) + 1;
-        items.push(item)?;
         rest = after;
     }
-    Ok(items)
+    Ok(())
 }
 
+/// Whether the address that these octets begin with stands within them.
 #[tactic(auto, unfolding(crate::specs::Grammar::address_at))]
-fn address_of(octets: &[u8]) -> Result<usize, Stop>
+fn check_address(octets: &[u8]) -> Result<(), Stop>
     requires { 0 < length octets.now }
-    ensures exact { Gives (λ n. n) result (address_at octets.now) }
-    ensures within { IfOk result (λ n. n < length octets.now) }
+    ensures exact { Gives (λ _. slice_index octets.now 0) result (address_at octets.now) }
+    ensures within { OnOk result (slice_index octets.now 0 < length octets.now) }
 {
     if octets[0] == 0 {
         return Err(Stop::Fault(GrammarFault::BadLength));
@@ -151,11 +153,10 @@ fn address_of(octets: &[u8]) -> Result<usize, Stop>
     if octets[0] > 8 {
         return Err(Stop::Fault(GrammarFault::BadLength));
     }
-    let size = usize::from(octets[0]);
-    if octets.len() < size + 1 {
+    if octets.len() < usize::from(octets[0]) + 1 {
         return Err(Stop::Fault(GrammarFault::BadLength));
     }
-    Ok(size)
+    Ok(())
 }
 
 #[tactic(auto, unfolding(crate::specs::Grammar::body_at))]
@@ -165,11 +166,11 @@ fn body_of(alloc: Global, head: Head, octets: &[u8]) -> Result<Message, Stop>
     requires most { length octets.now ≤ 1024 }
     ensures { Gives (λ m. m) result (body_at (header head) octets.now) }
 {
-    let size = address_of(octets)?;
-    let (address, rest) = octets[1..].split_at(size);
-    let items = items_of(alloc, rest)?;
-    let address = Vec::from_slice(alloc, address)?;
-    Ok(Message::of_parts(head.to, head.from, head.kind, head.token, address, items))
+    check_address(octets)?;
+    let (_address, items) = parts::split(octets);
+    check_items(items)?;
+    let body = Vec::from_slice(alloc, octets)?;
+    Ok(Message::of_body(head.to, head.from, head.kind, head.token, body))
 }
 
 /// The message at the front, and the octets after it.

@@ -1,50 +1,35 @@
 //! Messages to octets.
 
-ghost use Rattle.std.specs.Prelude.{◌≡◌, ◌≤◌, ◌++◌, length, IfOk, OnOk};
-ghost use Rattle.app_message.specs.Spelling.{spelling, body, item_text};
+ghost use Rattle.std.specs.Prelude.{◌≡◌, ◌≤◌, [], length, IfOk, OnOk, OnErr};
+ghost use Rattle.app_message.specs.Spelling.{spelling};
 
-use crate::item::Item;
 use crate::message::Message;
 use site_base::NoMemory;
-use std::alloc::{AllocError, Global};
+use std::alloc::Global;
 
 /// The one spelling of the message. The only failure is want of memory.
 pub fn encode(alloc: Global, message: &Message) -> Result<Vec<u8>, NoMemory>
     ensures { IfOk result (λ v. v.items ≡ spelling message.now) }
 {
-    let body = body_of(alloc, message)?;
-    let mut out = Vec::with_capacity(alloc, body.len() + 8)?;
+    let mut out = Vec::new(alloc);
+    encode_into(message, &mut out)?;
+    Ok(out)
+}
+
+/// Puts the one spelling of the message in place of what the buffer holds. After `NoMemory` the
+/// buffer is empty; it comes only where the buffer has no room for the spelling.
+pub fn encode_into(message: &Message, out: &mut Vec<u8>) -> Result<(), NoMemory>
+    ensures ok { OnOk result (out.new.items ≡ spelling message.now) }
+    ensures most { length out.new.items ≤ 1032 }
+    ensures err { OnErr result (out.new.items ≡ []) }
+{
+    let body = message.body();
+    out.clear();
+    out.reserve(body.len() + 8)?;
     out.extend_from_slice(&message.to())?;
     out.extend_from_slice(&message.from())?;
-    out.push(0)?;
-    out.push(message.kind().code() * 32 + message.token().get())?;
+    out.extend_from_slice(&[0, message.kind().code() * 32 + message.token().get()])?;
     out.extend_from_slice(&(body.len() as u16).to_be_bytes())?;
-    out.extend_from_slice(&body)?;
-    Ok(out)
-}
-
-/// The address with its length, and the items.
-fn body_of(alloc: Global, message: &Message) -> Result<Vec<u8>, AllocError>
-    ensures text { IfOk result (λ v. v.items ≡ body message.now) }
-    ensures most { IfOk result (λ v. length v.items ≤ 1024) }
-{
-    let address = message.address();
-    let mut out = Vec::new(alloc);
-    out.push(address.len() as u8)?;
-    out.extend_from_slice(address)?;
-    for item in message.items() {
-        put_item(&mut out, item)?;
-    }
-    Ok(out)
-}
-
-/// Appends the item's identifier, its length and its content.
-fn put_item(out: &mut Vec<u8>, item: &Item) -> Result<(), AllocError>
-    ensures { OnOk result (out.new.items ≡ out.old.items ++ item_text item.now) }
-{
-    let content = item.content();
-    out.push(item.id())?;
-    out.push(content.len() as u8)?;
-    out.extend_from_slice(content)?;
+    out.extend_from_slice(body)?;
     Ok(())
 }

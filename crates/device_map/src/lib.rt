@@ -13,7 +13,7 @@ mod fault;
 mod ids;
 mod laws;
 mod node;
-mod part;
+mod put;
 mod reply;
 mod request;
 

@@ -1,7 +1,8 @@
 //! Replies to messages.
 
-ghost use Rattle.std.specs.Prelude.{◌≡◌, ◌≤◌, ◌++◌, length, unwrap_or, IfOk, OnOk};
+ghost use Rattle.std.specs.Prelude.{◌≡◌, ◌≤◌, [], length, unwrap_or, IfOk, OnOk};
 ghost use Rattle.app_message.specs.Telegram.{telegram};
+ghost use Rattle.app_message.specs.Bodies.{with_items};
 ghost use Rattle.device_map.specs.Replies.{preset_items, prepaid_items, point_items};
 ghost use Rattle.device_map.specs.Replies.{transaction_items, product_items, site_items, outcome};
 ghost use Rattle.device_map.specs.Replies.{answer_items, answer_kind, detail_items, refusal_items};
@@ -9,14 +10,17 @@ ghost use Rattle.device_map.specs.Replies.{reply_items, reply_kind, reply_messag
 ghost use Rattle.device_map.specs.Replies.{fault_message, packed, AreShort, back};
 ghost use Rattle.device_map.specs.Nodes.{site_node};
 
-use crate::part::ReplyParts;
+use crate::put::{put_eight, put_four, put_octet, put_two};
 use crate::{ids, node};
-use app_message::{Kind, Message, MessageFault, StreamFault, Token};
+use app_message::{Draft, Kind, Message, MessageFault, StreamFault, Token};
 use site_base::{
     Answer, Cents, GREATEST_SEQ, Mills, NoMemory, NozzleNo, PointView, Preset, ProductView,
     Refusal, Reply, Seq, SiteView, TillNo, TransactionView,
 };
 use std::alloc::Global;
+
+/// The most octets that the items of a reply take, so that a reply takes one growth.
+const ROOM: usize = 80;
 
 /// The message that tells the reply to this request: it goes from the site to the request's
 /// originator, with its token and its address. A read that is accepted is told by an Answer, all
@@ -25,8 +29,9 @@ use std::alloc::Global;
 pub fn reply_of(alloc: Global, request: &Message, reply: &Reply) -> Result<Message, NoMemory>
     ensures { IfOk result (λ message. message ≡ reply_message request.now reply.now) }
 {
-    let parts = reply_parts(alloc, reply)?;
-    back(alloc, request, kind_of(reply), &parts)
+    let mut draft = back(alloc, request, kind_of(reply))?;
+    put_reply(&mut draft, reply)?;
+    Ok(finished(draft))
 }
 
 /// The message that tells a number in place of a reply: why no row was made, or why the request
@@ -35,9 +40,9 @@ pub fn reply_of(alloc: Global, request: &Message, reply: &Reply) -> Result<Messa
 pub fn refusal_of(alloc: Global, request: &Message, number: u8) -> Result<Message, NoMemory>
     ensures { IfOk result (λ message. message ≡ number_message request.now number) }
 {
-    let mut parts = ReplyParts::new(alloc);
-    parts.put_octet(ids::RESULT, number)?;
-    back(alloc, request, Kind::Ack, &parts)
+    let mut draft = back(alloc, request, Kind::Ack)?;
+    put_octet(&mut draft, ids::RESULT, number)?;
+    Ok(finished(draft))
 }
 
 /// The message that tells why a stream ended: an Ack with the site's address, to the originator and
@@ -46,60 +51,59 @@ pub fn refusal_of(alloc: Global, request: &Message, number: u8) -> Result<Messag
 pub fn stream_refusal(alloc: Global, fault: &StreamFault) -> Result<Message, NoMemory>
     ensures { IfOk result (λ message. message ≡ fault_message fault.now) }
 {
-    let mut parts = ReplyParts::new(alloc);
-    parts.put_octet(ids::RESULT, fault.fault.number())?;
     let address = [ids::SITE_ADDRESS];
-    sent(
-        alloc,
-        fault.originator,
-        Kind::Ack,
-        fault.token,
-        &address,
-        &parts,
-    )
+    let mut draft = begun(alloc, fault.originator, Kind::Ack, fault.token, &address)?;
+    put_octet(&mut draft, ids::RESULT, fault.fault.number())?;
+    Ok(finished(draft))
 }
 
-/// From the site to the originator of the request, with its token and address.
-fn back(
-    alloc: Global,
-    request: &Message,
-    kind: Kind,
-    parts: &ReplyParts,
-) -> Result<Message, NoMemory>
-    requires { AreShort parts.now }
-    ensures { IfOk result (λ message. message ≡ back request.now kind parts.now) }
+/// A message without items yet, from the site to the originator of the request, with its token and
+/// address.
+fn back(alloc: Global, request: &Message, kind: Kind) -> Result<Draft, NoMemory>
+    ensures value { IfOk result (λ draft. draft ≡ back request.now kind []) }
+    ensures least { OnOk result (1 ≤ length request.now.address) }
+    ensures most { OnOk result (length request.now.address ≤ 8) }
 {
-    sent(
+    begun(
         alloc,
         request.from(),
         kind,
         request.token(),
         request.address(),
-        parts,
     )
 }
 
-/// A message from the site.
-fn sent(
+/// A message from the site, without items yet.
+fn begun(
     alloc: Global,
     to: [u8; 2],
     kind: Kind,
     token: Token,
     address: &[u8],
-    parts: &ReplyParts,
-) -> Result<Message, NoMemory>
-    requires short { AreShort parts.now }
+) -> Result<Draft, NoMemory>
     requires least { 1 ≤ length address.now }
     requires most { length address.now ≤ 8 }
-    ensures { IfOk result (λ message. message ≡ telegram to site_node kind token address.now parts.now) }
+    ensures { IfOk result (λ draft. draft ≡ telegram to site_node kind token address.now []) }
 {
-    let pairs = parts.pairs(alloc)?;
-    match Message::try_new(alloc, to, node::site(), kind, token, address, &pairs) {
-        Ok(message) => Ok(message),
+    match Draft::try_new(alloc, to, node::site(), kind, token, address, ROOM) {
+        Ok(draft) => Ok(draft),
         Err(fault) => match fault {
             MessageFault::NoMemory => Err(NoMemory),
             _ => unreachable!(),
         },
+    }
+}
+
+/// The message of a draft whose items are short.
+fn finished(draft: Draft) -> Message
+    requires short { AreShort draft.items }
+    requires least { 1 ≤ length draft.address }
+    requires most { length draft.address ≤ 8 }
+    ensures { result ≡ draft }
+{
+    match draft.finish() {
+        Ok(message) => message,
+        Err(_) => unreachable!(),
     }
 }
 
@@ -115,168 +119,152 @@ fn kind_of(reply: &Reply) -> Kind
     }
 }
 
-fn reply_parts(alloc: Global, reply: &Reply) -> Result<ReplyParts, NoMemory>
-    ensures { IfOk result (λ parts. parts ≡ reply_items reply.now) }
+fn put_reply(draft: &mut Draft, reply: &Reply) -> Result<(), NoMemory>
+    ensures { OnOk result (draft.new ≡ with_items draft.old (reply_items reply.now)) }
 {
     match reply {
-        Ok(answer) => answer_parts(alloc, answer),
-        Err(refusal) => refusal_parts(alloc, refusal),
+        Ok(answer) => put_answer(draft, answer),
+        Err(refusal) => put_refusal(draft, refusal),
     }
 }
 
-fn refusal_parts(alloc: Global, refusal: &Refusal) -> Result<ReplyParts, NoMemory>
-    ensures { IfOk result (λ parts. parts ≡ refusal_items refusal.now) }
+fn put_refusal(draft: &mut Draft, refusal: &Refusal) -> Result<(), NoMemory>
+    ensures { OnOk result (draft.new ≡ with_items draft.old (refusal_items refusal.now)) }
 {
-    let mut parts = ReplyParts::new(alloc);
-    parts.put_octet(ids::RESULT, refusal.number())?;
+    put_octet(draft, ids::RESULT, refusal.number())?;
     if let Some(detail) = refusal.detail() {
-        parts.put_eight(ids::DETAIL, detail)?;
+        put_eight(draft, ids::DETAIL, detail)?;
     }
-    Ok(parts)
+    Ok(())
 }
 
-fn answer_parts(alloc: Global, answer: &Answer) -> Result<ReplyParts, NoMemory>
-    ensures { IfOk result (λ parts. parts ≡ answer_items answer.now) }
+fn put_answer(draft: &mut Draft, answer: &Answer) -> Result<(), NoMemory>
+    ensures { OnOk result (draft.new ≡ with_items draft.old (answer_items answer.now)) }
 {
     match answer {
-        Answer::Done => outcome_parts(alloc, 0),
-        Answer::Calling => outcome_parts(alloc, 1),
-        Answer::Start { preset, price } => start_parts(alloc, *preset, *price),
-        Answer::Flowed(growth) => flowed_parts(alloc, *growth),
-        Answer::HungUp => outcome_parts(alloc, 4),
-        Answer::NoSale => outcome_parts(alloc, 5),
-        Answer::Sold { seq, growth } => sold_parts(alloc, *seq, *growth),
-        Answer::Stopped => outcome_parts(alloc, 7),
-        Answer::Ending => outcome_parts(alloc, 8),
-        Answer::Locked => outcome_parts(alloc, 9),
-        Answer::Unlocked => outcome_parts(alloc, 10),
-        Answer::Cleared(cents) => cleared_parts(alloc, *cents),
-        Answer::ShiftClosed(shift) => shift_parts(alloc, *shift),
-        Answer::PointIs(view) => point_parts(alloc, view),
-        Answer::TransactionIs(view) => transaction_parts(alloc, view),
-        Answer::ProductIs(view) => product_parts(alloc, view),
-        Answer::SiteIs(view) => site_parts(alloc, view),
+        Answer::Done => put_outcome(draft, 0),
+        Answer::Calling => put_outcome(draft, 1),
+        Answer::Start { preset, price } => put_start(draft, *preset, *price),
+        Answer::Flowed(growth) => put_flowed(draft, *growth),
+        Answer::HungUp => put_outcome(draft, 4),
+        Answer::NoSale => put_outcome(draft, 5),
+        Answer::Sold { seq, growth } => put_sold(draft, *seq, *growth),
+        Answer::Stopped => put_outcome(draft, 7),
+        Answer::Ending => put_outcome(draft, 8),
+        Answer::Locked => put_outcome(draft, 9),
+        Answer::Unlocked => put_outcome(draft, 10),
+        Answer::Cleared(cents) => put_cleared(draft, *cents),
+        Answer::ShiftClosed(shift) => put_shift(draft, *shift),
+        Answer::PointIs(view) => put_point(draft, view),
+        Answer::TransactionIs(view) => put_transaction(draft, view),
+        Answer::ProductIs(view) => put_product(draft, view),
+        Answer::SiteIs(view) => put_site(draft, view),
     }
 }
 
-fn outcome_parts(alloc: Global, number: u8) -> Result<ReplyParts, NoMemory>
-    ensures { IfOk result (λ parts. parts ≡ outcome number) }
+fn put_outcome(draft: &mut Draft, number: u8) -> Result<(), NoMemory>
+    ensures { OnOk result (draft.new ≡ with_items draft.old (outcome number)) }
 {
-    let mut parts = ReplyParts::new(alloc);
-    parts.put_octet(ids::RESULT, 0)?;
-    parts.put_octet(ids::OUTCOME, number)?;
-    Ok(parts)
+    put_octet(draft, ids::RESULT, 0)?;
+    put_octet(draft, ids::OUTCOME, number)
 }
 
-fn start_parts(alloc: Global, preset: Preset, price: Mills) -> Result<ReplyParts, NoMemory>
-    ensures { IfOk result (λ parts. parts ≡ answer_items (Answer.Start preset price)) }
+fn put_start(draft: &mut Draft, preset: Preset, price: Mills) -> Result<(), NoMemory>
+    ensures { OnOk result (draft.new ≡ with_items draft.old (answer_items (Answer.Start preset price))) }
 {
-    let mut parts = outcome_parts(alloc, 2)?;
-    put_preset(&mut parts, preset)?;
-    parts.put_four(ids::PRICE, price.get())?;
-    Ok(parts)
+    put_outcome(draft, 2)?;
+    put_preset(draft, preset)?;
+    put_four(draft, ids::PRICE, price.get())
 }
 
-fn flowed_parts(alloc: Global, growth: u64) -> Result<ReplyParts, NoMemory>
-    ensures { IfOk result (λ parts. parts ≡ answer_items (Answer.Flowed growth)) }
+fn put_flowed(draft: &mut Draft, growth: u64) -> Result<(), NoMemory>
+    ensures { OnOk result (draft.new ≡ with_items draft.old (answer_items (Answer.Flowed growth))) }
 {
-    let mut parts = outcome_parts(alloc, 3)?;
-    parts.put_eight(ids::VOLUME, growth)?;
-    Ok(parts)
+    put_outcome(draft, 3)?;
+    put_eight(draft, ids::VOLUME, growth)
 }
 
-fn sold_parts(alloc: Global, seq: Seq, growth: u64) -> Result<ReplyParts, NoMemory>
-    ensures { IfOk result (λ parts. parts ≡ answer_items (Answer.Sold seq growth)) }
+fn put_sold(draft: &mut Draft, seq: Seq, growth: u64) -> Result<(), NoMemory>
+    ensures { OnOk result (draft.new ≡ with_items draft.old (answer_items (Answer.Sold seq growth))) }
 {
-    let mut parts = outcome_parts(alloc, 6)?;
-    parts.put_eight(ids::VOLUME, growth)?;
-    parts.put_two(ids::SEQUENCE, packed_digits(seq.get()))?;
-    Ok(parts)
+    put_outcome(draft, 6)?;
+    put_eight(draft, ids::VOLUME, growth)?;
+    put_two(draft, ids::SEQUENCE, packed_digits(seq.get()))
 }
 
-fn cleared_parts(alloc: Global, cents: Cents) -> Result<ReplyParts, NoMemory>
-    ensures { IfOk result (λ parts. parts ≡ answer_items (Answer.Cleared cents)) }
+fn put_cleared(draft: &mut Draft, cents: Cents) -> Result<(), NoMemory>
+    ensures { OnOk result (draft.new ≡ with_items draft.old (answer_items (Answer.Cleared cents))) }
 {
-    let mut parts = outcome_parts(alloc, 11)?;
-    parts.put_eight(ids::CENTS, cents.get())?;
-    Ok(parts)
+    put_outcome(draft, 11)?;
+    put_eight(draft, ids::CENTS, cents.get())
 }
 
-fn shift_parts(alloc: Global, shift: u16) -> Result<ReplyParts, NoMemory>
-    ensures { IfOk result (λ parts. parts ≡ answer_items (Answer.ShiftClosed shift)) }
+fn put_shift(draft: &mut Draft, shift: u16) -> Result<(), NoMemory>
+    ensures { OnOk result (draft.new ≡ with_items draft.old (answer_items (Answer.ShiftClosed shift))) }
 {
-    let mut parts = outcome_parts(alloc, 12)?;
-    parts.put_two(ids::SHIFT, shift)?;
-    Ok(parts)
+    put_outcome(draft, 12)?;
+    put_two(draft, ids::SHIFT, shift)
 }
 
-fn point_parts(alloc: Global, view: &PointView) -> Result<ReplyParts, NoMemory>
-    ensures { IfOk result (λ parts. parts ≡ point_items view.now) }
+fn put_point(draft: &mut Draft, view: &PointView) -> Result<(), NoMemory>
+    ensures { OnOk result (draft.new ≡ with_items draft.old (point_items view.now)) }
 {
-    let mut parts = ReplyParts::new(alloc);
-    parts.put_octet(ids::STATE, view.state.number())?;
-    parts.put_octet(ids::NOZZLE_OUT, nozzle_number(view.out))?;
-    parts.put_octet(ids::HOLDER, till_number(view.holder))?;
-    parts.put_octet(ids::ENDING, u8::from(view.ending))?;
-    put_preset(&mut parts, view.preset)?;
-    parts.put_four(ids::PRICE, view.price)?;
-    parts.put_eight(ids::VOLUME, view.volume)?;
-    put_prepaid(&mut parts, view.prepaid)?;
-    Ok(parts)
+    put_octet(draft, ids::STATE, view.state.number())?;
+    put_octet(draft, ids::NOZZLE_OUT, nozzle_number(view.out))?;
+    put_octet(draft, ids::HOLDER, till_number(view.holder))?;
+    put_octet(draft, ids::ENDING, u8::from(view.ending))?;
+    put_preset(draft, view.preset)?;
+    put_four(draft, ids::PRICE, view.price)?;
+    put_eight(draft, ids::VOLUME, view.volume)?;
+    put_prepaid(draft, view.prepaid)
 }
 
-fn transaction_parts(alloc: Global, view: &TransactionView) -> Result<ReplyParts, NoMemory>
-    ensures { IfOk result (λ parts. parts ≡ transaction_items view.now) }
+fn put_transaction(draft: &mut Draft, view: &TransactionView) -> Result<(), NoMemory>
+    ensures { OnOk result (draft.new ≡ with_items draft.old (transaction_items view.now)) }
 {
-    let mut parts = ReplyParts::new(alloc);
-    parts.put_four(ids::PRICE, view.price.get())?;
-    parts.put_eight(ids::VOLUME, view.volume.get())?;
-    parts.put_eight(ids::CENTS, view.cents.get())?;
-    parts.put_four(ids::PREPAID, view.prepaid.unwrap_or(0))?;
-    parts.put_octet(ids::STATUS, view.status.number())?;
-    parts.put_octet(ids::TILL, till_number(view.till))?;
-    parts.put_octet(ids::PRODUCT, view.product.get())?;
-    Ok(parts)
+    put_four(draft, ids::PRICE, view.price.get())?;
+    put_eight(draft, ids::VOLUME, view.volume.get())?;
+    put_eight(draft, ids::CENTS, view.cents.get())?;
+    put_four(draft, ids::PREPAID, view.prepaid.unwrap_or(0))?;
+    put_octet(draft, ids::STATUS, view.status.number())?;
+    put_octet(draft, ids::TILL, till_number(view.till))?;
+    put_octet(draft, ids::PRODUCT, view.product.get())
 }
 
-fn product_parts(alloc: Global, view: &ProductView) -> Result<ReplyParts, NoMemory>
-    ensures { IfOk result (λ parts. parts ≡ product_items view.now) }
+fn put_product(draft: &mut Draft, view: &ProductView) -> Result<(), NoMemory>
+    ensures { OnOk result (draft.new ≡ with_items draft.old (product_items view.now)) }
 {
-    let mut parts = ReplyParts::new(alloc);
-    parts.put_four(ids::PRICE, view.price.get())?;
-    parts.put_eight(ids::METERED, view.metered)?;
-    parts.put_eight(ids::RUNNING, view.running)?;
-    parts.put_eight(ids::PAYABLE, view.payable)?;
-    parts.put_eight(ids::LOCKED, view.locked)?;
-    parts.put_eight(ids::CLEARED, view.cleared)?;
-    Ok(parts)
+    put_four(draft, ids::PRICE, view.price.get())?;
+    put_eight(draft, ids::METERED, view.metered)?;
+    put_eight(draft, ids::RUNNING, view.running)?;
+    put_eight(draft, ids::PAYABLE, view.payable)?;
+    put_eight(draft, ids::LOCKED, view.locked)?;
+    put_eight(draft, ids::CLEARED, view.cleared)
 }
 
-fn site_parts(alloc: Global, view: &SiteView) -> Result<ReplyParts, NoMemory>
-    ensures { IfOk result (λ parts. parts ≡ site_items view.now) }
+fn put_site(draft: &mut Draft, view: &SiteView) -> Result<(), NoMemory>
+    ensures { OnOk result (draft.new ≡ with_items draft.old (site_items view.now)) }
 {
-    let mut parts = ReplyParts::new(alloc);
-    parts.put_eight(ids::CENTS, view.cents)?;
-    parts.put_two(ids::SHIFT, view.shift)?;
-    Ok(parts)
+    put_eight(draft, ids::CENTS, view.cents)?;
+    put_two(draft, ids::SHIFT, view.shift)
 }
 
-fn put_preset(parts: &mut ReplyParts, preset: Preset) -> Result<(), NoMemory>
-    ensures { OnOk result (parts.new ≡ parts.old ++ preset_items preset) }
+fn put_preset(draft: &mut Draft, preset: Preset) -> Result<(), NoMemory>
+    ensures { OnOk result (draft.new ≡ with_items draft.old (preset_items preset)) }
 {
     match preset {
         Preset::Unset => Ok(()),
-        Preset::Volume(millilitres) => parts.put_four(ids::PRESET_VOLUME, millilitres),
-        Preset::Money(cents) => parts.put_four(ids::PRESET_MONEY, cents),
+        Preset::Volume(millilitres) => put_four(draft, ids::PRESET_VOLUME, millilitres),
+        Preset::Money(cents) => put_four(draft, ids::PRESET_MONEY, cents),
     }
 }
 
-fn put_prepaid(parts: &mut ReplyParts, prepaid: Option<u32>) -> Result<(), NoMemory>
-    ensures { OnOk result (parts.new ≡ parts.old ++ prepaid_items prepaid) }
+fn put_prepaid(draft: &mut Draft, prepaid: Option<u32>) -> Result<(), NoMemory>
+    ensures { OnOk result (draft.new ≡ with_items draft.old (prepaid_items prepaid)) }
 {
     match prepaid {
         None => Ok(()),
-        Some(cents) => parts.put_four(ids::PREPAID, cents),
+        Some(cents) => put_four(draft, ids::PREPAID, cents),
     }
 }
 

@@ -9,7 +9,7 @@ ghost use Rattle.device_map.specs.Requests.{request_at};
 use crate::address::Database;
 use crate::fault::MapFault;
 use crate::{ids, node};
-use app_message::{Item, Kind, Message};
+use app_message::{Item, Items, Kind, Message};
 use site_base::{Actor, Event, FpNo};
 
 /// The actor and the event that the message means, or its first fault, in the order of `MapFault`'s
@@ -28,8 +28,8 @@ pub fn request_of(message: &Message) -> Result<(Actor, Event), MapFault>
 }
 
 #[tactic(auto, unfolding(crate::specs::Requests::command_in))]
-fn event_of(kind: Kind, database: Database, items: &[Item]) -> Result<Event, MapFault>
-    ensures { Gives result (event_at kind database items.now) }
+fn event_of(kind: Kind, database: Database, items: Items<'_>) -> Result<Event, MapFault>
+    ensures { Gives result (event_at kind database items) }
 {
     match kind {
         Kind::Read => read_event(database, items),
@@ -39,8 +39,8 @@ fn event_of(kind: Kind, database: Database, items: &[Item]) -> Result<Event, Map
 }
 
 #[tactic(auto, unfolding(crate::specs::Requests::read_at))]
-fn read_event(database: Database, items: &[Item]) -> Result<Event, MapFault>
-    ensures { Gives result (read_at database items.now) }
+fn read_event(database: Database, items: Items<'_>) -> Result<Event, MapFault>
+    ensures { Gives result (read_at database items) }
 {
     let event = read_of(database)?;
     if !items.is_empty() {
@@ -59,8 +59,8 @@ fn read_of(database: Database) -> Result<Event, MapFault>
 }
 
 #[tactic(auto, unfolding(crate::specs::Requests::command_in))]
-fn write_event(database: Database, items: &[Item]) -> Result<Event, MapFault>
-    ensures { Gives result (command_in (commands Kind.Write database) items.now) }
+fn write_event(database: Database, items: Items<'_>) -> Result<Event, MapFault>
+    ensures { Gives result (command_in (commands Kind.Write database) items) }
 {
     match database {
         Database::Site => site_command(items),
@@ -71,39 +71,39 @@ fn write_event(database: Database, items: &[Item]) -> Result<Event, MapFault>
 
 /// The commands of the site.
 #[tactic(auto, unfolding(crate::specs::Requests::command_in))]
-fn site_command(items: &[Item]) -> Result<Event, MapFault>
-    ensures { Gives result (command_in (commands Kind.Write Database.Site) items.now) }
+fn site_command(mut items: Items<'_>) -> Result<Event, MapFault>
+    ensures { Gives result (command_in (commands Kind.Write Database.Site) items) }
 {
-    let [command, others @ ..] = items else {
+    let Some(command) = items.next() else {
         return Err(MapFault::ItemMissing);
     };
     match command.id() {
-        ids::SIGN_ON => bare(Event::SignOn, command, others),
-        ids::SIGN_OFF => bare(Event::SignOff, command, others),
+        ids::SIGN_ON => bare(Event::SignOn, &command, items),
+        ids::SIGN_OFF => bare(Event::SignOff, &command, items),
         _ => Err(MapFault::UnknownItem),
     }
 }
 
 /// The commands of a fuelling point.
 #[tactic(auto, unfolding(crate::specs::Requests::command_in))]
-fn point_command(point: FpNo, items: &[Item]) -> Result<Event, MapFault>
-    ensures { Gives result (command_in (commands Kind.Write (Database.Point point)) items.now) }
+fn point_command(point: FpNo, mut items: Items<'_>) -> Result<Event, MapFault>
+    ensures { Gives result (command_in (commands Kind.Write (Database.Point point)) items) }
 {
-    let [command, others @ ..] = items else {
+    let Some(command) = items.next() else {
         return Err(MapFault::ItemMissing);
     };
     match command.id() {
-        ids::OPEN => bare(Event::Open(point), command, others),
-        ids::CLOSE => bare(Event::Close(point), command, others),
-        ids::ASSIGN => bare(Event::Assign(point), command, others),
-        ids::UNASSIGN => bare(Event::Unassign(point), command, others),
+        ids::OPEN => bare(Event::Open(point), &command, items),
+        ids::CLOSE => bare(Event::Close(point), &command, items),
+        ids::ASSIGN => bare(Event::Assign(point), &command, items),
+        ids::UNASSIGN => bare(Event::Unassign(point), &command, items),
         _ => Err(MapFault::UnknownItem),
     }
 }
 
 /// The event of a command without content, and with no item behind it.
-fn bare(event: Event, command: &Item, others: &[Item]) -> Result<Event, MapFault>
-    ensures { Gives result (event_by (bare event) command.now others.now) }
+fn bare(event: Event, command: &Item<'_>, others: Items<'_>) -> Result<Event, MapFault>
+    ensures { Gives result (event_by (bare event) command.now others) }
 {
     if !others.is_empty() {
         return Err(MapFault::UnknownItem);

@@ -3,3 +3,4 @@ pub mod Lines
 pub mod WholeTexts
 pub mod Running
 pub mod Worked
+pub mod Bytes

@@ -1,5 +1,5 @@
 -- The text of a replay, line by line.
-use Rattle.std.proofs.Common.{◌≡◌, ℕ, ◌+◌, ◌<◌, ◌≤◌, List, [], ◌∷◌, ◌++◌, length, Bool, true, false, not, eqb, Option, Some, None, inl, inr, refl, sym, ap, ◌∙◌, arith, append_assoc, append-nil, length-append}
+use Rattle.std.proofs.Common.{◌≡◌, ℕ, suc, ◌+◌, ◌-◌, ◌<◌, ◌≤◌, List, [], ◌∷◌, ◌++◌, length, take, Bool, true, false, not, eqb, Option, Some, None, inl, inr, refl, sym, ap, ◌∙◌, arith, append_assoc, append-nil, length-append}
 use Rattle.std.specs.Prelude.{◌&&◌}
 use Rattle.std.specs.List.{list_all}
 use Rattle.std.proofs.lemmas.Bool.{lt-leb, le-leb, cases_lt}
@@ -8,7 +8,7 @@ use Rattle.forecourt.specs.declared.fault.TextFault.{TextFault}
 use Rattle.forecourt.specs.declared.fault.TextFault.TheVariants.{TooLong}
 use Rattle.forecourt.specs.declared.line.TheConstants.{LINE_OCTETS}
 use Rattle.forecourt.specs.Book.{Book}
-use Rattle.forecourt.specs.Text.{State, kept_of, judged, next_line, next, said, stepped, says, after, text_from, ended, last_text}
+use Rattle.forecourt.specs.Text.{State, kept_of, judged, line_told, next_line, next, said, stepped, says, after, text_from, ended, last_text}
 use Rattle.forecourt.proofs.Running.{after-append, text_from-append}
 use Rattle.forecourt.specs.Laws.{between, IsLine, LineSays, LastLineSays, LongLineSays, NothingFollows}
 
@@ -79,13 +79,9 @@ nothing_follows st f (b ∷ bs) stop =
 abbrev pub stopped : List ℕ → ℕ → Held → Book → State
 stopped line number stream book = record { line = line; number = number; stream = stream; book = book; stop = Some (TooLong number) }
 
-record EndsLong (st : State) (number : ℕ) (book : Book) (text : List ℕ) : Type 0 where
-  pub stop : st.stop ≡ Some (TooLong number)
-  pub book_stays : st.book ≡ book
-  pub silent : text ≡ []
-
 too_long : (line more : List ℕ) (number : ℕ) (stream : Held) (book : Book) → IsLine more → length line ≤ LINE_OCTETS → LINE_OCTETS < length line + length more
-    → EndsLong (after (within line number stream book) more) number book (text_from (within line number stream book) more)
+    → (after (within line number stream book) more ≡ stopped (line ++ take (LINE_OCTETS - length line) more) number stream book)
+    × (text_from (within line number stream book) more ≡ [])
 too_long line [] number stream book plain within_limit long = absurd (omega arith)
 too_long line (b ∷ more) number stream book plain within_limit long =
     let parts = and_both (not (eqb b 10)) (list_all (λ (x : ℕ). not (eqb x 10)) more) plain in
@@ -95,24 +91,79 @@ too_long line (b ∷ more) number stream book plain within_limit long =
           let longer : length (line ++ b ∷ []) ≤ LINE_OCTETS = omega (arith, length-append line (b ∷ [])) in
           let still : LINE_OCTETS < length (line ++ b ∷ []) + length more = omega (arith, length-append line (b ∷ [])) in
           let rest = too_long (line ++ b ∷ []) more number stream book parts.1 longer still in
-          record {
-            stop = ap (λ (s : State). (after s more).stop) on.0 ∙ rest.stop;
-            book_stays = ap (λ (s : State). (after s more).book) on.0 ∙ rest.book_stays;
-            silent = ap (λ (t : List ℕ). t ++ text_from (next (within line number stream book) b) more) on.1 ∙ ap (λ (s : State). text_from s more) on.0 ∙ rest.silent;
-          })
+          let room : LINE_OCTETS - length line ≡ suc (LINE_OCTETS - length (line ++ b ∷ [])) = omega (arith, length-append line (b ∷ [])) in
+          let same : (line ++ b ∷ []) ++ take (LINE_OCTETS - length (line ++ b ∷ [])) more ≡ line ++ take (LINE_OCTETS - length line) (b ∷ more) =
+          append_assoc line (b ∷ []) (take (LINE_OCTETS - length (line ++ b ∷ [])) more) ∙ ap (λ (n : ℕ). line ++ take n (b ∷ more)) (sym room) in (
+            ap (λ (s : State). after s more) on.0 ∙ rest.0 ∙ ap (λ (l : List ℕ). stopped l number stream book) same,
+            ap (λ (t : List ℕ). t ++ text_from (next (within line number stream book) b) more) on.1 ∙ ap (λ (s : State). text_from s more) on.0 ∙ rest.1,
+          ))
       | inr full ↦ (
           let other : eqb b 10 ≡ false = not_true _ parts.0 in
           let stops : next (within line number stream book) b ≡ stopped line number stream book = rw (other, le-leb _ _ full) refl in
           let says_nothing : said (within line number stream book) b ≡ [] = rw other refl in
           let rest = nothing_follows (stopped line number stream book) (TooLong number) more refl in
-          record {
-            stop = ap (λ (s : State). (after s more).stop) stops ∙ ap (λ (s : State). s.stop) rest.0;
-            book_stays = ap (λ (s : State). (after s more).book) stops ∙ ap (λ (s : State). s.book) rest.0;
-            silent = ap (λ (t : List ℕ). t ++ text_from (next (within line number stream book) b) more) says_nothing ∙ ap (λ (s : State). text_from s more) stops ∙ rest.1;
-          })
+          let room : LINE_OCTETS - length line ≡ 0 = omega arith in
+          let same : line ≡ line ++ take (LINE_OCTETS - length line) (b ∷ more) =
+          sym (append-nil line) ∙ ap (λ (n : ℕ). line ++ take n (b ∷ more)) (sym room) in (
+            ap (λ (s : State). after s more) stops ∙ rest.0 ∙ ap (λ (l : List ℕ). stopped l number stream book) same,
+            ap (λ (t : List ℕ). t ++ text_from (next (within line number stream book) b) more) says_nothing ∙ ap (λ (s : State). text_from s more) stops ∙ rest.1,
+          ))
     ]
 
 pub long_line_says : LongLineSays
 long_line_says number stream book line plain long =
     let ends = too_long [] line number stream book plain (omega arith) (omega arith) in
-    (ends.stop, ends.book_stays, ends.silent)
+    (ap (λ (s : State). s.stop) ends.0, ap (λ (s : State). s.book) ends.0, ends.1)
+
+-- ---- the same of any state
+
+-- a state in which the text goes on
+is_within : (st : State) → st.stop ≡ None → within st.line st.number st.stream st.book ≡ st
+is_within st none = ap (λ (f : Option TextFault). record st { stop = f }) (sym none)
+
+pub held_on : (st : State) (more : List ℕ) → st.stop ≡ None → IsLine more → length st.line + length more ≤ LINE_OCTETS
+    → (after st more ≡ record st { line = st.line ++ more }) × (text_from st more ≡ [])
+held_on st more none plain short =
+    let on = line_goes_on st.line more st.number st.stream st.book plain short in
+    let is = is_within st none in (
+      ap (λ (s : State). after s more) (sym is) ∙ on.0 ∙ ap (λ (s : State). record s { line = st.line ++ more }) is,
+      ap (λ (s : State). text_from s more) (sym is) ∙ on.1,
+    )
+
+pub held_long : (st : State) (more : List ℕ) → st.stop ≡ None → IsLine more → length st.line ≤ LINE_OCTETS → LINE_OCTETS < length st.line + length more
+    → (after st more ≡ record st { line = st.line ++ take (LINE_OCTETS - length st.line) more; stop = Some (TooLong st.number) }) × (text_from st more ≡ [])
+held_long st more none plain fits long =
+    let on = too_long st.line more st.number st.stream st.book plain fits long in
+    let is = is_within st none in (
+      ap (λ (s : State). after s more) (sym is) ∙ on.0,
+      ap (λ (s : State). text_from s more) (sym is) ∙ on.1,
+    )
+
+-- a whole line, where none is held
+pub whole_line : (st : State) (line : List ℕ) → st.stop ≡ None → st.line ≡ [] → IsLine line → length line ≤ LINE_OCTETS
+    → (after st (line ++ 10 ∷ []) ≡ next_line st (judged st.number st.stream st.book (kept_of line)))
+    × (text_from st (line ++ 10 ∷ []) ≡ (judged st.number st.stream st.book (kept_of line)).text)
+whole_line st line none empty plain short =
+    let says = line_says st.number st.stream st.book line plain short in
+    let is : st ≡ between st.number st.stream st.book = sym (is_within st none) ∙ ap (λ (l : List ℕ). within l st.number st.stream st.book) empty in (
+      ap (λ (s : State). after s (line ++ 10 ∷ [])) is ∙ says.0,
+      ap (λ (s : State). text_from s (line ++ 10 ∷ [])) is ∙ says.1,
+    )
+
+-- a line feed ends the line that is held
+pub line_feed : (st : State) → st.stop ≡ None
+    → (after st (10 ∷ []) ≡ next_line st (line_told st)) × (text_from st (10 ∷ []) ≡ (line_told st).text)
+line_feed st none =
+    let is = is_within st none in
+    let ends = line_ends st.line st.number st.stream st.book in (
+      ap (λ (s : State). after s (10 ∷ [])) (sym is) ∙ ends.0,
+      ap (λ (s : State). text_from s (10 ∷ [])) (sym is) ∙ ends.1,
+    )
+
+-- octets that say nothing, and then more
+pub then_more : (st : State) (line more : List ℕ) → text_from st line ≡ []
+    → (after st (line ++ more) ≡ after (after st line) more) × (text_from st (line ++ more) ≡ text_from (after st line) more)
+then_more st line more silent = (
+  after-append st line more,
+  text_from-append st line more ∙ ap (λ (t : List ℕ). t ++ text_from (after st line) more) silent,
+)

@@ -78,6 +78,10 @@ next_number n = min (n + 1) (2 ^ 64 - 1)
 abbrev pub next_line : State → Told → State
 next_line st t = record { line = []; number = next_number st.number; stream = t.stream; book = t.book; stop = t.stop }
 
+-- what a line leads to, while it stands
+abbrev pub talked : State → Told → State
+talked st t = record st { stream = t.stream; book = t.book }
+
 -- a line feed ends the line; another octet goes on with it, if it may be longer
 abbrev pub stepped : Option TextFault → State → ℕ → State
 stepped (Some f) st b = st

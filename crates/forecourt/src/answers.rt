@@ -1,10 +1,11 @@
 //! Messages answered over a book.
 
-ghost use Rattle.std.specs.Prelude.{◌≡◌, ◌++◌, IfOk, OnOk};
+ghost use Rattle.std.specs.Prelude.{◌≡◌, ◌≤◌, ◌++◌, length, IfOk, OnOk};
+ghost use Rattle.hex.specs.Hex.{encode_lower};
 ghost use Rattle.forecourt.specs.Answers.{answer_to, book_after, line_of, answers_to, book_after_all};
 
 use crate::book::SiteBook;
-use app_message::{Message, encode};
+use app_message::{Message, encode_into};
 use device_map::{refusal_of, reply_of, request_of};
 use site_base::{NoMemory, NoRow};
 use std::alloc::Global;
@@ -24,22 +25,40 @@ pub fn answer(alloc: Global, book: &mut SiteBook, message: &Message) -> Result<M
     }
 }
 
-/// Appends a message as a line of hexadecimal.
-pub fn put_line(alloc: Global, out: &mut Vec<u8>, message: &Message) -> Result<(), NoMemory>
+/// Appends a message as a line of hexadecimal. The octets of its spelling take the place of what
+/// the buffer holds.
+pub fn put_line(
+    octets: &mut Vec<u8>,
+    out: &mut Vec<u8>,
+    message: &Message,
+) -> Result<(), NoMemory>
     ensures { OnOk result (out.new.items ≡ out.old.items ++ line_of message.now) }
 {
-    let octets = encode(alloc, message)?;
-    let text = hex::encode(alloc, octets.as_slice())?;
-    out.extend_from_slice(text.as_bytes())?;
+    encode_into(message, octets)?;
+    put_hexadecimal(octets, out)?;
     out.push(b'\n')?;
     Ok(())
 }
 
-/// Appends the answers to messages, in order.
+/// Appends octets as hexadecimal.
+fn put_hexadecimal(octets: &[u8], out: &mut Vec<u8>) -> Result<(), NoMemory>
+    requires { length octets.now ≤ 1032 }
+    ensures { OnOk result (out.new.items ≡ out.old.items ++ encode_lower octets.now) }
+{
+    let size = out.len();
+    out.resize(size + 2 * octets.len(), 0)?;
+    match hex::encode_to_slice(octets, &mut out[size..]) {
+        Ok(()) => Ok(()),
+        Err(_) => unreachable!(),
+    }
+}
+
+/// Appends the answers to messages, in order, each by way of the buffer for its octets.
 pub fn answer_all(
     alloc: Global,
     book: &mut SiteBook,
     messages: &[Message],
+    reply: &mut Vec<u8>,
     out: &mut Vec<u8>,
 ) -> Result<(), NoMemory>
     ensures text { OnOk result (out.new.items ≡ out.old.items ++ answers_to book.old messages.now) }
@@ -47,7 +66,7 @@ pub fn answer_all(
 {
     for message in messages {
         let answer = answer(alloc, book, message)?;
-        put_line(alloc, out, &answer)?;
+        put_line(reply, out, &answer)?;
     }
     Ok(())
 }

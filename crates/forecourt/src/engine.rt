@@ -1,17 +1,27 @@
 //! The engine of a replay: octets in, text out.
 
-ghost use Rattle.std.specs.Prelude.{◌≡◌, ◌++◌, IfOk, OnOk};
-ghost use Rattle.forecourt.specs.Text.{start, next, said, after, text_from, ended, last_text, last_fault, next_line, line_told};
+ghost use Rattle.std.specs.Prelude.{◌≡◌, [], ◌∷◌, ◌++◌, None, IfOk, OnOk};
+ghost use Rattle.forecourt.specs.Text.{start, after, text_from, ended, last_text, last_fault};
+ghost use Rattle.forecourt.specs.Text.{kept_of, judged, line_told, next_line, talked};
+ghost use Rattle.forecourt.specs.Answers.{line_of};
+ghost use Rattle.device_map.specs.Replies.{fault_message};
+ghost use Rattle.forecourt.specs.Laws.{IsLine};
 
+use crate::answers::{answer_all, put_line};
 use crate::book::SiteBook;
 use crate::fault::TextFault;
-use crate::line::{LINE_OCTETS, tell};
-use app_message::Decoder;
+use crate::line::{LINE_OCTETS, decode, has_space, put_without_spaces, skips, text_of};
+use app_message::{Decoder, Fed, StreamFault};
+use device_map::stream_refusal;
+use memchr::memchr;
 use site_base::NoMemory;
 use std::alloc::Global;
 use std::marker::Model;
+use std::mem;
 
-/// A replay between two octets of its input.
+/// A replay between two octets of its input. Beside what its text depends on it has buffers that
+/// stay, so that a line takes no growth of its own: for a line without its spaces, for its octets,
+/// and for the octets of a reply.
 #[derive(Drop)]
 pub struct Engine {
     alloc: Global,
@@ -20,14 +30,21 @@ pub struct Engine {
     decoder: Decoder,
     book: SiteBook,
     stop: Option<TextFault>,
+    kept: Vec<u8>,
+    octets: Vec<u8>,
+    reply: Vec<u8>,
 }
 
 impl Model for Engine {
+    ghost use Rattle.std.specs.Prelude.{◌≤◌, length};
+    ghost use Rattle.forecourt.specs.declared.line.TheConstants.{LINE_OCTETS};
     ghost use Rattle.forecourt.specs.Text.{State};
 
     ghost Value = { State };
 
     ghost view = { λ e. record { line = e.line.items; number = e.number; stream = e.decoder; book = e.book; stop = e.stop } };
+
+    ghost invariant = { λ e. length e.line.items ≤ LINE_OCTETS };
 }
 
 impl Engine {
@@ -42,6 +59,9 @@ impl Engine {
             decoder: Decoder::new(alloc),
             book,
             stop: None,
+            kept: Vec::new(alloc),
+            octets: Vec::new(alloc),
+            reply: Vec::new(alloc),
         }
     }
 
@@ -64,10 +84,13 @@ impl Engine {
         ensures state { OnOk result (self.new ≡ after self.old piece.now) }
         ensures text { OnOk result (out.new.items ≡ out.old.items ++ text_from self.old piece.now) }
     {
-        for octet in piece {
-            self.step(*octet, out)?;
+        let mut rest = piece;
+        while let Some(end) = memchr(b'\n', rest) {
+            let (line, others) = rest.split_at(end);
+            self.end_line(line, out)?;
+            rest = &others[1..];
         }
-        Ok(())
+        self.begin_line(rest)
     }
 
     /// The end of the input: it ends the last line. Appends its text, and answers why the text ends.
@@ -77,7 +100,7 @@ impl Engine {
         ensures text { OnOk result (out.new.items ≡ out.old.items ++ last_text self.old) }
     {
         if self.stop.is_none() {
-            self.end_line(out)?;
+            self.tell_held(out)?;
         }
         if self.stop.is_none() && self.decoder.held() > 0 {
             return Ok(Some(TextFault::Truncated));
@@ -85,38 +108,104 @@ impl Engine {
         Ok(self.stop)
     }
 
-    fn step(&mut self, octet: u8, out: &mut Vec<u8>) -> Result<(), NoMemory>
-        ensures state { OnOk result (self.new ≡ next self.old octet) }
-        ensures text { OnOk result (out.new.items ≡ out.old.items ++ said self.old octet) }
+    /// Octets that go on with a line, and its line feed.
+    fn end_line(&mut self, line: &[u8], out: &mut Vec<u8>) -> Result<(), NoMemory>
+        requires { IsLine line.now }
+        ensures state { OnOk result (self.new ≡ after self.old (line.now ++ 10 ∷ [])) }
+        ensures text { OnOk result (out.new.items ≡ out.old.items ++ text_from self.old (line.now ++ 10 ∷ [])) }
+    {
+        if self.stop.is_none() && self.line.is_empty() && line.len() <= LINE_OCTETS {
+            return self.tell(line, out);
+        }
+        self.begin_line(line)?;
+        if self.stop.is_none() {
+            self.tell_held(out)?;
+        }
+        Ok(())
+    }
+
+    /// Octets that go on with a line: they are held, as many as a line may have.
+    fn begin_line(&mut self, more: &[u8]) -> Result<(), NoMemory>
+        requires { IsLine more.now }
+        ensures state { OnOk result (self.new ≡ after self.old more.now) }
+        ensures silent { text_from self.old more.now ≡ [] }
     {
         if self.stop.is_some() {
             return Ok(());
         }
-        if octet == b'\n' {
-            return self.end_line(out);
-        }
-        if self.line.len() >= LINE_OCTETS {
+        let room = LINE_OCTETS - self.line.len();
+        if more.len() > room {
+            self.line.extend_from_slice(&more[..room])?;
             self.stop = Some(TextFault::TooLong(self.number));
-            return Ok(());
+        } else {
+            self.line.extend_from_slice(more)?;
         }
-        self.line.push(octet)?;
         Ok(())
     }
 
-    fn end_line(&mut self, out: &mut Vec<u8>) -> Result<(), NoMemory>
+    /// Tells the line that is held.
+    fn tell_held(&mut self, out: &mut Vec<u8>) -> Result<(), NoMemory>
         ensures state { OnOk result (self.new ≡ next_line self.old (line_told self.old)) }
         ensures text { OnOk result (out.new.items ≡ out.old.items ++ (line_told self.old).text) }
     {
-        self.stop = tell(
-            self.alloc,
-            self.number,
-            &self.line,
-            &mut self.decoder,
-            &mut self.book,
-            out,
-        )?;
+        let mut line = mem::replace(&mut self.line, Vec::new(self.alloc));
+        self.tell(&line, out)?;
+        line.clear();
+        self.line = line;
+        Ok(())
+    }
+
+    /// What a line says: the next one begins, and its text is appended.
+    fn tell(&mut self, line: &[u8], out: &mut Vec<u8>) -> Result<(), NoMemory>
+        ensures state { OnOk result (self.new ≡ next_line self.old (judged self.old.number self.old.stream self.old.book (kept_of line.now))) }
+        ensures text { OnOk result (out.new.items ≡ out.old.items ++ (judged self.old.number self.old.stream self.old.book (kept_of line.now)).text) }
+    {
+        let text = text_of(line);
+        self.stop = if has_space(text) {
+            let mut kept = mem::replace(&mut self.kept, Vec::new(self.alloc));
+            put_without_spaces(text, &mut kept)?;
+            let stop = self.judge(&kept, out)?;
+            self.kept = kept;
+            stop
+        } else {
+            self.judge(text, out)?
+        };
         self.line.clear();
         self.number = self.number.saturating_add(1);
         Ok(())
+    }
+
+    /// What the text of a line says: its octets go to the decoder, each message that they end is
+    /// answered over the book, and the text is appended. The answer is why the text ends with this
+    /// line, if it does.
+    fn judge(&mut self, kept: &[u8], out: &mut Vec<u8>) -> Result<Option<TextFault>, NoMemory>
+        ensures stop { IfOk result (λ stop. stop ≡ (judged self.old.number self.old.stream self.old.book kept.now).stop) }
+        ensures state { OnOk result (self.new ≡ talked self.old (judged self.old.number self.old.stream self.old.book kept.now)) }
+        ensures text { OnOk result (out.new.items ≡ out.old.items ++ (judged self.old.number self.old.stream self.old.book kept.now).text) }
+    {
+        if skips(kept) {
+            return Ok(None);
+        }
+        if !decode(kept, &mut self.octets)? {
+            return Ok(Some(TextFault::NotHexadecimal(self.number)));
+        }
+        let Fed { messages, fault } = self.decoder.feed(&self.octets)?;
+        answer_all(self.alloc, &mut self.book, messages.as_slice(), &mut self.reply, out)?;
+        match fault {
+            None => Ok(None),
+            Some(fault) => {
+                self.refuse(&fault, out)?;
+                Ok(Some(TextFault::Stream(fault.fault)))
+            }
+        }
+    }
+
+    /// Appends the refusal of a stream's fault as a line.
+    fn refuse(&mut self, fault: &StreamFault, out: &mut Vec<u8>) -> Result<(), NoMemory>
+        ensures state { OnOk result (self.new ≡ self.old) }
+        ensures text { OnOk result (out.new.items ≡ out.old.items ++ line_of (fault_message fault.now)) }
+    {
+        let refusal = stream_refusal(self.alloc, fault)?;
+        put_line(&mut self.reply, out, &refusal)
     }
 }

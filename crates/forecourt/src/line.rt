@@ -1,41 +1,44 @@
-//! One line of a replay.
+//! The text of one line.
 
-ghost use Rattle.std.specs.Prelude.{◌≡◌, ◌==◌, ◌++◌, not, filter, IfOk, OnOk};
-ghost use Rattle.app_message.specs.Stream.{fed_by};
-ghost use Rattle.forecourt.specs.Text.{kept_of, is_skipped, answered, decoded, judged};
+ghost use Rattle.std.specs.Prelude.{◌≡◌, ◌==◌, not, filter, true, false, IfOk, OnOk, MatchResult};
+ghost use Rattle.std.specs.Io.BufRead.{strip_last};
+ghost use Rattle.hex.specs.Hex.{decode_of};
+ghost use Rattle.forecourt.specs.Text.{is_skipped};
 
-use crate::answers::{answer_all, put_line};
-use crate::book::SiteBook;
-use crate::fault::TextFault;
-use app_message::{Decoder, Fed};
-use device_map::stream_refusal;
-use hex::FromHexError;
+use memchr::memchr;
 use site_base::NoMemory;
-use std::alloc::Global;
 
 /// The most octets that a line may have before its line feed.
 pub const LINE_OCTETS: usize = 65_536;
 
-/// The line without its spaces, and without a carriage return that ends it.
-fn kept(alloc: Global, line: &[u8]) -> Result<Vec<u8>, NoMemory>
-    ensures { IfOk result (λ v. v.items ≡ kept_of line.now) }
+/// The line without a carriage return that ends it.
+pub fn text_of(line: &[u8]) -> &[u8]
+    ensures { result.now ≡ strip_last 13 line.now }
 {
-    let text = match line {
+    match line {
         [front @ .., 13] => front,
         _ => line,
-    };
-    without_spaces(alloc, text)
+    }
 }
 
-fn without_spaces(alloc: Global, text: &[u8]) -> Result<Vec<u8>, NoMemory>
-    ensures { IfOk result (λ v. v.items ≡ filter (λ b. not (b == 32)) text.now) }
+/// Whether there is a space to drop.
+pub fn has_space(text: &[u8]) -> bool
+    ensures { result ≡ false → filter (λ b. not (b == 32)) text.now ≡ text.now }
 {
-    let kept = text.iter().copied().filter(|b| *b != b' ').collect(alloc)?;
-    Ok(kept)
+    memchr(b' ', text).is_some()
+}
+
+/// Puts the text without its spaces in place of what the buffer holds.
+pub fn put_without_spaces(text: &[u8], kept: &mut Vec<u8>) -> Result<(), NoMemory>
+    ensures { OnOk result (kept.new.items ≡ filter (λ b. not (b == 32)) text.now) }
+{
+    kept.clear();
+    kept.extend(text.iter().copied().filter(|b| *b != b' '))?;
+    Ok(())
 }
 
 /// An empty line or a comment.
-fn skips(kept: &[u8]) -> bool
+pub fn skips(kept: &[u8]) -> bool
     ensures { result ≡ is_skipped kept.now }
 {
     match kept {
@@ -44,53 +47,11 @@ fn skips(kept: &[u8]) -> bool
     }
 }
 
-/// What a line says: its octets go to the decoder, each message that they end is answered over the
-/// book, and the text is appended. The answer is why the text ends with this line, if it does.
-pub fn tell(
-    alloc: Global,
-    number: u64,
-    line: &[u8],
-    decoder: &mut Decoder,
-    book: &mut SiteBook,
-    out: &mut Vec<u8>,
-) -> Result<Option<TextFault>, NoMemory>
-    ensures stop { IfOk result (λ stop. stop ≡ (judged number decoder.old book.old (kept_of line.now)).stop) }
-    ensures stream { OnOk result (decoder.new ≡ (judged number decoder.old book.old (kept_of line.now)).stream) }
-    ensures book { OnOk result (book.new ≡ (judged number decoder.old book.old (kept_of line.now)).book) }
-    ensures text { OnOk result (out.new.items ≡ out.old.items ++ (judged number decoder.old book.old (kept_of line.now)).text) }
+/// Whether the text is hexadecimal; if so, its octets take the place of what the buffer holds.
+pub fn decode(text: &[u8], octets: &mut Vec<u8>) -> Result<bool, NoMemory>
+    ensures { IfOk result (λ is. MatchResult (decode_of text.now) (λ bytes. (is ≡ true) × (octets.new.items ≡ bytes)) (λ _. is ≡ false)) }
 {
-    let kept = kept(alloc, line)?;
-    if skips(&kept) {
-        return Ok(None);
-    }
-    match hex::decode(alloc, kept.as_slice()) {
-        Ok(octets) => answer_octets(alloc, &octets, decoder, book, out),
-        Err(FromHexError::OutOfMemory) => Err(NoMemory),
-        Err(_) => Ok(Some(TextFault::NotHexadecimal(number))),
-    }
-}
-
-/// The messages that these octets end, each answered by a line, and the refusal of a stream's fault.
-fn answer_octets(
-    alloc: Global,
-    octets: &[u8],
-    decoder: &mut Decoder,
-    book: &mut SiteBook,
-    out: &mut Vec<u8>,
-) -> Result<Option<TextFault>, NoMemory>
-    ensures stop { IfOk result (λ stop. stop ≡ (answered book.old (fed_by decoder.old octets.now)).stop) }
-    ensures stream { OnOk result (decoder.new ≡ (answered book.old (fed_by decoder.old octets.now)).stream) }
-    ensures book { OnOk result (book.new ≡ (answered book.old (fed_by decoder.old octets.now)).book) }
-    ensures text { OnOk result (out.new.items ≡ out.old.items ++ (answered book.old (fed_by decoder.old octets.now)).text) }
-{
-    let Fed { messages, fault } = decoder.feed(octets)?;
-    answer_all(alloc, book, messages.as_slice(), out)?;
-    match fault {
-        None => Ok(None),
-        Some(fault) => {
-            let refusal = stream_refusal(alloc, &fault)?;
-            put_line(alloc, out, &refusal)?;
-            Ok(Some(TextFault::Stream(fault.fault)))
-        }
-    }
+    octets.clear();
+    octets.resize(text.len() / 2, 0)?;
+    Ok(hex::decode_to_slice(text, octets.as_mut_slice()).is_ok())
 }

@@ -1,13 +1,17 @@
 use Rattle.std.proofs.Common.{arith}
-use Rattle.std.proofs.lemmas.List.{take_rest}
-use Rattle.app_message.proofs.Taking.{body_takes}
+use Rattle.app_message.specs.Reading.{header}
+use Rattle.app_message.proofs.Bodies.{body_from, is_body}
 use Rattle.app_message.proofs.reading.body_of.Goals as goal
 
-pub of_parts-requires : goal.of_parts-requires
-of_parts-requires c =
-    let s = c.args.octets.now in
-    let items = rw (c.split_at.ensures.back, take_rest s 1) at c.in_ok-items.ensures in
-    let taken = body_takes _ _ c.args.head.kind _ c.args.octets.now c.in_ok-size.size
-    c.in_ok-items.items.items c.requires.head (λ i. omega (arith, c.type_inv.octets i))
-    c.requires.least c.requires.most c.in_ok-size.ensures.exact items in
-    rw (c.in_ok-address.ensures.items, c.split_at.ensures.front, take_rest s 1) taken.valid
+pub of_body-requires : goal.of_body-requires
+of_body-requires c =
+    let items = rw c.split.ensures.items at c.in_ok-check_items.ensures in
+    rw c.in_ok-body.ensures.items (is_body c.args.head.to c.args.head.from c.args.head.kind
+    c.args.head.token c.args.octets.now c.requires.head (λ i. omega (arith, c.type_inv.octets i))
+    c.requires.least c.requires.most c.in_ok-check_address.ensures.exact items)
+
+pub returns : goal.returns
+returns c =
+    let items = rw c.split.ensures.items at c.in_ok-check_items.ensures in
+    rw (c.of_body.ensures, c.in_ok-body.ensures.items) (body_from (header c.args.head)
+    c.args.octets.now c.in_ok-check_address.ensures.exact items)

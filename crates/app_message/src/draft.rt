@@ -1,0 +1,145 @@
+//! A message in the making.
+
+ghost use Rattle.std.specs.Prelude.{◌≡◌, ◌≢◌, ◌≤◌, ◌<◌, ◌⊎◌, [], ◌++◌, Some, length, IfOk, IfErr, OnOk};
+ghost use Rattle.std.specs.Prelude.{OnErr};
+ghost use Rattle.std.specs.Result.{IsErrOf};
+ghost use Rattle.app_message.specs.Telegram.{telegram, entry};
+ghost use Rattle.app_message.specs.Spelling.{item_text, IsMessage};
+ghost use Rattle.app_message.specs.Parts.{parts_fault, do_rise};
+ghost use Rattle.app_message.specs.Bodies.{listed, of_body, with_item, AreItems};
+
+use crate::fault::MessageFault;
+use crate::items::Items;
+use crate::kind::Kind;
+use crate::message::Message;
+use crate::parts;
+use crate::token::Token;
+use std::alloc::{AllocError, Global};
+use std::marker::Model;
+
+/// A message in the making: its items are written behind each other, where the message keeps them,
+/// and judged when it is finished.
+#[derive(Drop)]
+pub struct Draft {
+    to: [u8; 2],
+    from: [u8; 2],
+    kind: Kind,
+    token: Token,
+    body: Vec<u8>,
+}
+
+impl Model for Draft {
+    ghost use Rattle.app_message.specs.Telegram.{Telegram};
+    ghost use Rattle.app_message.specs.Bodies.{of_body, IsDraft};
+
+    ghost Value = { Telegram };
+
+    ghost view = { λ d. of_body d.to d.from d.kind d.token d.body.items };
+
+    ghost invariant = { λ d. IsDraft (of_body d.to d.from d.kind d.token d.body.items) d.body.items };
+}
+
+impl Draft {
+    /// A message without items: the recipient and the originator as subnet and node, and the
+    /// database address, which is copied, with room for so many octets of items (an item takes two
+    /// and its content), so that putting these takes no memory. It is refused with `BadLength` if the
+    /// address is empty or above 8 octets; `NoMemory` comes where the allocator refuses the room.
+    pub fn try_new(
+        alloc: Global,
+        to: [u8; 2],
+        from: [u8; 2],
+        kind: Kind,
+        token: Token,
+        address: &[u8],
+        room: usize,
+    ) -> Result<Draft, MessageFault>
+        ensures made { IfOk result (λ d. d ≡ telegram to from kind token address.now []) }
+        ensures least { OnOk result (1 ≤ length address.now) }
+        ensures most { OnOk result (length address.now ≤ 8) }
+        ensures fault { IfErr result (λ e. e ≢ MessageFault.NoMemory
+            → (e ≡ MessageFault.BadLength) × ((length address.now ≡ 0) ⊎ (8 < length address.now))) }
+    {
+        parts::check_address(address)?;
+        parts::typed(&to, &from, token);
+        let mut body = Vec::with_capacity(alloc, room.saturating_add(address.len() + 1))?;
+        body.push(address.len() as u8)?;
+        body.extend_from_slice(address)?;
+        Ok(Draft {
+            to,
+            from,
+            kind,
+            token,
+            body,
+        })
+    }
+
+    /// Puts an item behind the others. It is refused with `BadItem` if its content has more than 254
+    /// octets; `NoMemory` comes where there was no room and the allocator refuses it. A refused item
+    /// changes nothing.
+    pub fn put(&mut self, id: u8, content: &[u8]) -> Result<(), MessageFault>
+        ensures added { OnOk result (self.new ≡ with_item self.old (entry id content.now)) }
+        ensures err { OnErr result (self.new ≡ self.old) }
+        ensures long { 254 < length content.now → IsErrOf result MessageFault.BadItem }
+        ensures fault { IfErr result (λ e. length content.now ≤ 254 → e ≡ MessageFault.NoMemory) }
+    {
+        if content.len() > 254 {
+            return Err(MessageFault::BadItem);
+        }
+        put_item(&mut self.body, id, content)?;
+        Ok(())
+    }
+
+    /// The message, if it can be spelled. It is refused with `BadLength` if the address and the items
+    /// take more than 1,024 octets in all (each has one octet for its length, and an item one for its
+    /// identifier), else with `BadItem` if an identifier isn't above the one before it. It takes no
+    /// memory.
+    pub fn finish(self) -> Result<Message, MessageFault>
+        ensures made { IfOk result (λ m. m ≡ self) }
+        ensures accepted { OnOk result (IsMessage self) }
+        ensures fault { IfErr result (λ e. parts_fault self.address self.items ≡ Some e) }
+    {
+        if self.body.len() > 1024 {
+            return Err(MessageFault::BadLength);
+        }
+        if !rise(self.items()) {
+            return Err(MessageFault::BadItem);
+        }
+        Ok(Message::of_body(
+            self.to, self.from, self.kind, self.token, self.body,
+        ))
+    }
+
+    /// The items so far.
+    fn items(&self) -> Items<'_>
+        ensures { result ≡ self.now.items }
+    {
+        Items::new(parts::split(&self.body).1)
+    }
+}
+
+/// Whether the identifiers strictly rise.
+fn rise(items: Items<'_>) -> bool
+    ensures { result ≡ do_rise 0 items.entry }
+{
+    let mut low = 0u16;
+    for item in items {
+        // Each content has at most 254 octets, by its type.
+        let _content = item.content();
+        if u16::from(item.id()) < low {
+            return false;
+        }
+        low = u16::from(item.id()) + 1;
+    }
+    true
+}
+
+/// Appends an item: its identifier, its length and its content.
+fn put_item(out: &mut Vec<u8>, id: u8, content: &[u8]) -> Result<(), AllocError>
+    requires { length content.now ≤ 254 }
+    ensures ok { OnOk result (out.new.items ≡ out.old.items ++ item_text (entry id content.now)) }
+    ensures err { OnErr result (out.new.items ≡ out.old.items) }
+{
+    out.reserve(content.len() + 2)?;
+    out.extend_from_slice(&[id, content.len() as u8])?;
+    out.extend_from_slice(content)
+}
