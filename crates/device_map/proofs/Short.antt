@@ -17,7 +17,7 @@ use Rattle.app_message.specs.Telegram.{Entry}
 use Rattle.app_message.specs.Spelling.{item_text, body_text}
 use Rattle.app_message.specs.Parts.{parts_fault}
 use Rattle.device_map.specs.declared.ids.TheConstants as ids
-use Rattle.device_map.specs.Items.{octet, four_octets, eight_octets}
+use Rattle.device_map.specs.Items.{octet, two_octets, four_octets, eight_octets}
 use Rattle.device_map.specs.Replies.{AreShort, flag, preset_items, prepaid_items, detail_items}
 use Rattle.device_map.specs.Replies.{answer_items, reply_items}
 
@@ -26,6 +26,7 @@ point_short : (v : PointView) (preset : Preset) (prepaid : Option ℕ)
     ++ octet ids.HOLDER (unwrap_or v.holder 0)
     ++ octet ids.ENDING (flag v.ending) ++ preset_items preset ++ four_octets ids.PRICE v.price
     ++ eight_octets ids.VOLUME v.volume ++ prepaid_items prepaid)
+unfolding octet two_octets four_octets eight_octets
 point_short v Unset None = record { rise = refl; size = lit≤ tt }
 point_short v Unset (Some cents) = record { rise = refl; size = lit≤ tt }
 point_short v (Volume n) None = record { rise = refl; size = lit≤ tt }
@@ -34,17 +35,20 @@ point_short v (Money n) None = record { rise = refl; size = lit≤ tt }
 point_short v (Money n) (Some cents) = record { rise = refl; size = lit≤ tt }
 
 start_short : (preset : Preset) (price : ℕ) → AreShort (answer_items (answers.Start preset price))
+unfolding octet two_octets four_octets eight_octets
 start_short Unset price = record { rise = refl; size = lit≤ tt }
 start_short (Volume n) price = record { rise = refl; size = lit≤ tt }
 start_short (Money n) price = record { rise = refl; size = lit≤ tt }
 
 answer_short : (answer : Answer) → AreShort (answer_items answer)
+unfolding octet two_octets four_octets eight_octets
 answer_short (answers.PointIs view) = point_short view view.preset view.prepaid
 answer_short (answers.Start preset price) = start_short preset price
 answer_short answer = record { rise = refl; size = lit≤ tt }
 
 refusal_short : (number : ℕ) (detail : Option ℕ)
     → AreShort (octet ids.RESULT number ++ detail_items detail)
+unfolding octet two_octets four_octets eight_octets
 refusal_short number None = record { rise = refl; size = lit≤ tt }
 refusal_short number (Some detail) = record { rise = refl; size = lit≤ tt }
 
@@ -53,6 +57,7 @@ reply_short (Ok answer) = answer_short answer
 reply_short (Err refusal) = refusal_short (refusal_number refusal) (refusal_detail refusal)
 
 pub number_short : (number : ℕ) → AreShort (octet ids.RESULT number)
+unfolding octet two_octets four_octets eight_octets
 number_short number = refusal_short number None
 
 -- with an address they have no fault

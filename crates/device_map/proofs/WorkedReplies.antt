@@ -21,6 +21,7 @@ use Rattle.app_message.specs.Grammar.{header_at, item_at, items_at, address_at, 
 use Rattle.app_message.specs.Spelling.{spelling}
 use Rattle.app_message.specs.Stream.{walk, stream_of}
 use Rattle.app_message.proofs.Hexadecimal.{octets}
+use Rattle.device_map.specs.Items.{octet, two_octets, four_octets, eight_octets}
 use Rattle.device_map.specs.Replies.{reply_message, number_message, fault_message}
 
 -- a request by its octets, a reply, and the octets that tell it
@@ -74,7 +75,7 @@ answer_rows =
     []
 
 answers_are_told : map tells answer_rows ≡ map (λ row. row.text ∷ []) answer_rows
-unfolding walk front_at header_at item_at items_at address_at body_at
+unfolding walk front_at header_at item_at items_at address_at body_at octet two_octets four_octets eight_octets
 answers_are_told = refl
 
 -- each refusal, with its detail where it has one
@@ -114,7 +115,7 @@ refusal_rows =
     []
 
 refusals_are_told : map tells refusal_rows ≡ map (λ row. row.text ∷ []) refusal_rows
-unfolding walk front_at header_at item_at items_at address_at body_at
+unfolding walk front_at header_at item_at items_at address_at body_at octet two_octets four_octets eight_octets
 refusals_are_told = refl
 
 -- ---- views
@@ -243,7 +244,7 @@ view_rows =
     []
 
 views_are_told : map tells view_rows ≡ map (λ row. row.text ∷ []) view_rows
-unfolding walk front_at header_at item_at items_at address_at body_at
+unfolding walk front_at header_at item_at items_at address_at body_at octet two_octets four_octets eight_octets
 views_are_told = refl
 
 -- ---- the way back: originator, token and address are those of the request
@@ -270,7 +271,7 @@ way_rows =
     []
 
 ways_back : map tells way_rows ≡ map (λ row. row.text ∷ []) way_rows
-unfolding walk front_at header_at item_at items_at address_at body_at
+unfolding walk front_at header_at item_at items_at address_at body_at octet two_octets four_octets eight_octets
 ways_back = refl
 
 -- ---- numbers in place of replies, and faults of a stream
@@ -286,7 +287,7 @@ numbers_are_told : map numbered (30 ∷ 31 ∷ 50 ∷ 58 ∷ [])
     (octets "02 01 01 01 00 E2 0005 01 23 01011F" ∷ []) ∷
     (octets "02 01 01 01 00 E2 0005 01 23 010132" ∷ []) ∷
     (octets "02 01 01 01 00 E2 0005 01 23 01013A" ∷ []) ∷ []
-unfolding walk front_at header_at item_at items_at address_at body_at
+unfolding walk front_at header_at item_at items_at address_at body_at octet two_octets four_octets eight_octets
 numbers_are_told = refl
 
 -- a stream of the node 03 09, with token 31
@@ -299,4 +300,5 @@ faults_are_told : map (λ fault. spelling (fault_message (from_dispenser_9 fault
     octets "03 09 01 01 00 FF 0005 01 01 010129" ∷
     octets "03 09 01 01 00 FF 0005 01 01 01012A" ∷
     octets "03 09 01 01 00 FF 0005 01 01 01012B" ∷ []
+unfolding octet two_octets four_octets eight_octets
 faults_are_told = refl

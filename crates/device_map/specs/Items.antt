@@ -4,17 +4,17 @@ use Rattle.std.specs.Int.{w16, w32, w64, to_be_bytes}
 use Rattle.app_message.specs.Telegram.{Entry, entry}
 
 -- one item, of an octet
-abbrev pub octet : ℕ → ℕ → List Entry
+unfoldable pub octet : ℕ → ℕ → List Entry
 octet id n = entry id (n ∷ []) ∷ []
 
 -- one item, of two octets
-abbrev pub two_octets : ℕ → ℕ → List Entry
+unfoldable pub two_octets : ℕ → ℕ → List Entry
 two_octets id n = entry id (to_be_bytes w16 n) ∷ []
 
 -- one item, of four octets
-abbrev pub four_octets : ℕ → ℕ → List Entry
+unfoldable pub four_octets : ℕ → ℕ → List Entry
 four_octets id n = entry id (to_be_bytes w32 n) ∷ []
 
 -- one item, of eight octets
-abbrev pub eight_octets : ℕ → ℕ → List Entry
+unfoldable pub eight_octets : ℕ → ℕ → List Entry
 eight_octets id n = entry id (to_be_bytes w64 n) ∷ []

@@ -9,6 +9,7 @@ use app_message::{Draft, MessageFault};
 use site_base::NoMemory;
 
 /// Puts an item of one octet.
+#[tactic(auto, unfolding(crate::specs::Items::octet))]
 pub fn put_octet(draft: &mut Draft, id: u8, number: u8) -> Result<(), NoMemory>
     ensures { OnOk result (draft.new ≡ with_items draft.old (octet id number)) }
 {
@@ -16,6 +17,7 @@ pub fn put_octet(draft: &mut Draft, id: u8, number: u8) -> Result<(), NoMemory>
 }
 
 /// Puts an item of two octets.
+#[tactic(auto, unfolding(crate::specs::Items::two_octets))]
 pub fn put_two(draft: &mut Draft, id: u8, number: u16) -> Result<(), NoMemory>
     ensures { OnOk result (draft.new ≡ with_items draft.old (two_octets id number)) }
 {
@@ -23,6 +25,7 @@ pub fn put_two(draft: &mut Draft, id: u8, number: u16) -> Result<(), NoMemory>
 }
 
 /// Puts an item of four octets.
+#[tactic(auto, unfolding(crate::specs::Items::four_octets))]
 pub fn put_four(draft: &mut Draft, id: u8, number: u32) -> Result<(), NoMemory>
     ensures { OnOk result (draft.new ≡ with_items draft.old (four_octets id number)) }
 {
@@ -30,6 +33,7 @@ pub fn put_four(draft: &mut Draft, id: u8, number: u32) -> Result<(), NoMemory>
 }
 
 /// Puts an item of eight octets.
+#[tactic(auto, unfolding(crate::specs::Items::eight_octets))]
 pub fn put_eight(draft: &mut Draft, id: u8, number: u64) -> Result<(), NoMemory>
     ensures { OnOk result (draft.new ≡ with_items draft.old (eight_octets id number)) }
 {

@@ -25,7 +25,6 @@ const ROOM: usize = 80;
 /// The message that tells the reply to this request: it goes from the site to the request's
 /// originator, with its token and its address. A read that is accepted is told by an Answer, all
 /// else by an Ack.
-#[tactic(auto, using(crate::proofs::Short::reply_short))]
 pub fn reply_of(alloc: Global, request: &Message, reply: &Reply) -> Result<Message, NoMemory>
     ensures { IfOk result (λ message. message ≡ reply_message request.now reply.now) }
 {
@@ -36,7 +35,6 @@ pub fn reply_of(alloc: Global, request: &Message, reply: &Reply) -> Result<Messa
 
 /// The message that tells a number in place of a reply: why no row was made, or why the request
 /// means no event.
-#[tactic(auto, using(crate::proofs::Short::number_short))]
 pub fn refusal_of(alloc: Global, request: &Message, number: u8) -> Result<Message, NoMemory>
     ensures { IfOk result (λ message. message ≡ number_message request.now number) }
 {
@@ -47,7 +45,6 @@ pub fn refusal_of(alloc: Global, request: &Message, number: u8) -> Result<Messag
 
 /// The message that tells why a stream ended: an Ack with the site's address, to the originator and
 /// with the token of the faulty header.
-#[tactic(auto, using(crate::proofs::Short::number_short))]
 pub fn stream_refusal(alloc: Global, fault: &StreamFault) -> Result<Message, NoMemory>
     ensures { IfOk result (λ message. message ≡ fault_message fault.now) }
 {

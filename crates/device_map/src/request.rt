@@ -29,7 +29,7 @@ pub fn request_of(message: &Message) -> Result<(Actor, Event), MapFault>
 
 #[tactic(auto, unfolding(crate::specs::Requests::command_in))]
 fn event_of(kind: Kind, database: Database, items: Items<'_>) -> Result<Event, MapFault>
-    ensures { Gives result (event_at kind database items) }
+    ensures { Gives result (event_at kind database items.entry) }
 {
     match kind {
         Kind::Read => read_event(database, items),
@@ -40,7 +40,7 @@ fn event_of(kind: Kind, database: Database, items: Items<'_>) -> Result<Event, M
 
 #[tactic(auto, unfolding(crate::specs::Requests::read_at))]
 fn read_event(database: Database, items: Items<'_>) -> Result<Event, MapFault>
-    ensures { Gives result (read_at database items) }
+    ensures { Gives result (read_at database items.entry) }
 {
     let event = read_of(database)?;
     if !items.is_empty() {
@@ -60,7 +60,7 @@ fn read_of(database: Database) -> Result<Event, MapFault>
 
 #[tactic(auto, unfolding(crate::specs::Requests::command_in))]
 fn write_event(database: Database, items: Items<'_>) -> Result<Event, MapFault>
-    ensures { Gives result (command_in (commands Kind.Write database) items) }
+    ensures { Gives result (command_in (commands Kind.Write database) items.entry) }
 {
     match database {
         Database::Site => site_command(items),
@@ -72,7 +72,7 @@ fn write_event(database: Database, items: Items<'_>) -> Result<Event, MapFault>
 /// The commands of the site.
 #[tactic(auto, unfolding(crate::specs::Requests::command_in))]
 fn site_command(mut items: Items<'_>) -> Result<Event, MapFault>
-    ensures { Gives result (command_in (commands Kind.Write Database.Site) items) }
+    ensures { Gives result (command_in (commands Kind.Write Database.Site) items.entry) }
 {
     let Some(command) = items.next() else {
         return Err(MapFault::ItemMissing);
@@ -87,7 +87,7 @@ fn site_command(mut items: Items<'_>) -> Result<Event, MapFault>
 /// The commands of a fuelling point.
 #[tactic(auto, unfolding(crate::specs::Requests::command_in))]
 fn point_command(point: FpNo, mut items: Items<'_>) -> Result<Event, MapFault>
-    ensures { Gives result (command_in (commands Kind.Write (Database.Point point)) items) }
+    ensures { Gives result (command_in (commands Kind.Write (Database.Point point)) items.entry) }
 {
     let Some(command) = items.next() else {
         return Err(MapFault::ItemMissing);
@@ -103,7 +103,7 @@ fn point_command(point: FpNo, mut items: Items<'_>) -> Result<Event, MapFault>
 
 /// The event of a command without content, and with no item behind it.
 fn bare(event: Event, command: &Item<'_>, others: Items<'_>) -> Result<Event, MapFault>
-    ensures { Gives result (event_by (bare event) command.now others) }
+    ensures { Gives result (event_by (bare event) command.now others.entry) }
 {
     if !others.is_empty() {
         return Err(MapFault::UnknownItem);
