@@ -1,6 +1,6 @@
+pub mod Bytes
 pub mod Books
 pub mod Lines
 pub mod WholeTexts
 pub mod Running
 pub mod Worked
-pub mod Bytes

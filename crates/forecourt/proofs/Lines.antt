@@ -1,6 +1,6 @@
 -- The text of a replay, line by line.
 use Rattle.std.proofs.Common.{◌≡◌, ℕ, suc, ◌+◌, ◌-◌, ◌<◌, ◌≤◌, List, [], ◌∷◌, ◌++◌, length, take, Bool, true, false, not, eqb, Option, Some, None, inl, inr, refl, sym, ap, ◌∙◌, arith, append_assoc, append-nil, length-append}
-use Rattle.std.specs.Prelude.{◌&&◌}
+use Rattle.std.specs.Prelude.{◌&&◌, is_some}
 use Rattle.std.specs.List.{list_all}
 use Rattle.std.proofs.lemmas.Bool.{lt-leb, le-leb, cases_lt}
 use Rattle.app_message.specs.Stream.{Held}
@@ -167,3 +167,55 @@ then_more st line more silent = (
   after-append st line more,
   text_from-append st line more ∙ ap (λ (t : List ℕ). t ++ text_from (after st line) more) silent,
 )
+
+ended_by : (stop : Option TextFault) → is_some stop ≡ true → (f : TextFault) × (stop ≡ Some f)
+ended_by None e = absurd cc
+ended_by (Some f) e = (f, refl)
+
+pub goes_on_still : (stop : Option TextFault) → is_some stop ≡ false → stop ≡ None
+goes_on_still None e = refl
+goes_on_still (Some f) e = absurd cc
+
+-- a text that has ended stays so
+pub stays_ended : (st : State) (more : List ℕ) → is_some st.stop ≡ true
+    → (after st more ≡ st) × (text_from st more ≡ [])
+stays_ended st more e =
+    let stop = ended_by st.stop e in
+    nothing_follows st stop.0 more stop.1
+
+-- a line feed behind a line that is held
+pub feed_behind : (st : State) (line : List ℕ) → text_from st line ≡ []
+    → (after st line).stop ≡ None
+    → (after st (line ++ 10 ∷ []) ≡ next_line (after st line) (line_told (after st line)))
+    × (text_from st (line ++ 10 ∷ []) ≡ (line_told (after st line)).text)
+feed_behind st line silent none =
+    let more = then_more st line (10 ∷ []) silent in
+    let feed = line_feed (after st line) none in
+    (more.0 ∙ feed.0, more.1 ∙ feed.1)
+
+-- .. and behind one that ended the text
+pub feed_behind_end : (st : State) (line : List ℕ) → text_from st line ≡ []
+    → is_some (after st line).stop ≡ true
+    → (after st (line ++ 10 ∷ []) ≡ after st line) × (text_from st (line ++ 10 ∷ []) ≡ [])
+feed_behind_end st line silent some =
+    let more = then_more st line (10 ∷ []) silent in
+    let stays = stays_ended (after st line) (10 ∷ []) some in
+    (more.0 ∙ stays.0, more.1 ∙ stays.1)
+
+-- a line and its line feed, and then the rest
+pub line_by_line : (st next_st : State) (rest line others out next_out : List ℕ)
+    → next_st ≡ after st (line ++ 10 ∷ []) → next_out ≡ out ++ text_from st (line ++ 10 ∷ [])
+    → rest ≡ (line ++ 10 ∷ []) ++ others
+    → (after next_st others ≡ after st rest)
+    × (next_out ++ text_from next_st others ≡ out ++ text_from st rest)
+line_by_line st next_st rest line others out next_out state text parts =
+    let whole : List ℕ = line ++ 10 ∷ [] in (
+      ap (λ (s : State). after s others) state ∙ sym (after-append st whole others)
+          ∙ ap (λ (t : List ℕ). after st t) (sym parts),
+      ap (λ (t : List ℕ). t ++ text_from next_st others) text
+          ∙ append_assoc out (text_from st whole) (text_from next_st others)
+          ∙ ap (λ (t : List ℕ). out ++ t)
+          (ap (λ (s : State). text_from st whole ++ text_from s others) state
+              ∙ sym (text_from-append st whole others)
+              ∙ ap (λ (t : List ℕ). text_from st t) (sym parts)),
+    )

@@ -128,7 +128,7 @@ impl Engine {
     fn begin_line(&mut self, more: &[u8]) -> Result<(), NoMemory>
         requires { IsLine more.now }
         ensures state { OnOk result (self.new ≡ after self.old more.now) }
-        ensures silent { text_from self.old more.now ≡ [] }
+        ensures silent { OnOk result (text_from self.old more.now ≡ []) }
     {
         if self.stop.is_some() {
             return Ok(());

@@ -33,7 +33,11 @@ pub fn put_without_spaces(text: &[u8], kept: &mut Vec<u8>) -> Result<(), NoMemor
     ensures { OnOk result (kept.new.items ≡ filter (λ b. not (b == 32)) text.now) }
 {
     kept.clear();
-    kept.extend(text.iter().copied().filter(|b| *b != b' '))?;
+    for octet in text {
+        if *octet != b' ' {
+            kept.push(*octet)?;
+        }
+    }
     Ok(())
 }
 
