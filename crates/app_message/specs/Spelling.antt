@@ -27,10 +27,13 @@ body_text address items = length address ∷ address ++ flat_map item_text items
 abbrev pub body : Telegram → List ℕ
 body m = body_text m.address m.items
 
--- a message: recipient, originator, code 00, kind and token, length of the body, body
+-- recipient, originator, code 00, kind and token, length of the body
+abbrev pub head_text : Telegram → ℕ → List ℕ
+head_text m n = m.to ++ m.from ++ (0 ∷ (kind_code m.kind * 32 + m.token) ∷ to_be_bytes w16 n)
+
+-- a message: these eight octets, and then the body
 abbrev pub spelling : Telegram → List ℕ
-spelling m = m.to ++ m.from
-    ++ (0 ∷ (kind_code m.kind * 32 + m.token) ∷ to_be_bytes w16 (length (body m))) ++ body m
+spelling m = head_text m (length (body m)) ++ body m
 
 -- recipient and originator have two octets each, and the token five bits
 pub record IsHead (to from : List ℕ) (token : ℕ) : Type 0 where

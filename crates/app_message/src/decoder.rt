@@ -69,14 +69,28 @@ impl Decoder {
         // After a fault no memory is taken, and the answer is that fault for good.
         ensures after_fault { IfSome self.old.fault (λ f. IsOkAnd result (λ fed. (fed.messages ≡ []) × (fed.fault ≡ Some f))) }
     {
+        self.feed_into(piece, Messages::new(self.alloc))
+    }
+
+    /// Takes a piece of the stream as `feed` does. The messages that end in it take the place of those
+    /// in the list that is handed in, so that its room serves again.
+    pub fn feed_into(&mut self, piece: &[u8], list: Messages) -> Result<Fed, NoMemory>
+        ensures messages { IfOk result (λ fed. fed.messages ≡ (fed_by self.old piece.now).messages) }
+        ensures fault { IfOk result (λ fed. fed.fault ≡ (fed_by self.old piece.now).fault) }
+        ensures held { OnOk result (self.new ≡ held (fed_by self.old piece.now)) }
+        ensures err { OnErr result (self.new ≡ self.old) }
+        ensures after_fault { IfSome self.old.fault (λ f. IsOkAnd result (λ fed. (fed.messages ≡ []) × (fed.fault ≡ Some f))) }
+    {
+        let mut messages = list;
+        messages.clear();
         if self.fault.is_some() {
             return Ok(Fed {
-                messages: Messages::new(self.alloc),
+                messages,
                 fault: self.fault,
             });
         }
         if self.rest.is_empty() {
-            return self.take(piece);
+            return self.take(piece, messages);
         }
         let mut octets = Vec::with_capacity(
             self.alloc,
@@ -84,17 +98,18 @@ impl Decoder {
         )?;
         octets.extend_from_slice(&self.rest)?;
         octets.extend_from_slice(piece)?;
-        self.take(&octets)
+        self.take(&octets, messages)
     }
 
     /// Takes these octets in place of those that are held, where they lie: only the rest is copied.
-    fn take(&mut self, octets: &[u8]) -> Result<Fed, NoMemory>
+    fn take(&mut self, octets: &[u8], messages: Messages) -> Result<Fed, NoMemory>
+        requires { messages ≡ [] }
         ensures messages { IfOk result (λ fed. fed.messages ≡ (stream_of octets.now).messages) }
         ensures fault { IfOk result (λ fed. fed.fault ≡ (stream_of octets.now).fault) }
         ensures held { OnOk result (self.new ≡ held (stream_of octets.now)) }
         ensures err { OnErr result (self.new ≡ self.old) }
     {
-        let (fed, rest) = walk(self.alloc, octets)?;
+        let (fed, rest) = walk(self.alloc, octets, messages)?;
         self.rest = Vec::from_slice(self.alloc, rest)?;
         self.fault = fed.fault;
         Ok(fed)
@@ -128,12 +143,18 @@ impl Decoder {
     }
 }
 
-/// The messages of a stream with its fault, and what is left of it.
-fn walk(alloc: Global, octets: &[u8]) -> Result<(Fed, &[u8]), NoMemory>
+/// Puts the messages of a stream into an empty list: the list with the stream's fault, and what is
+/// left of the stream.
+fn walk(
+    alloc: Global,
+    octets: &[u8],
+    list: Messages,
+) -> Result<(Fed, &[u8]), NoMemory>
+    requires { list ≡ [] }
     ensures exact { IfOk result (λ x. stream x.0.messages x.1.now x.0.fault ≡ stream_of octets.now) }
     ensures kept { IfOk result (λ x. IsHeld (record { rest = x.1.now; fault = x.0.fault })) }
 {
-    let mut messages = Vec::new(alloc);
+    let mut messages = list;
     let mut rest = octets;
     loop {
         match reading::front(alloc, rest) {
@@ -141,23 +162,17 @@ fn walk(alloc: Global, octets: &[u8]) -> Result<(Fed, &[u8]), NoMemory>
                 messages.push(message)?;
                 rest = after;
             }
-            Err(stop) => {
-                let messages = Messages::from_vec(messages);
-                return match stop {
-                    Stop::NoMemory => Err(NoMemory),
-                    Stop::Short => Ok((
-                        Fed {
-                            messages,
-                            fault: None,
-                        },
-                        rest,
-                    )),
-                    Stop::Fault(fault) => {
-                        let fault = Some(fault_in(fault, rest));
-                        Ok((Fed { messages, fault }, &rest[..0]))
-                    }
-                };
-            }
+            Err(stop) => match stop {
+                Stop::NoMemory => return Err(NoMemory),
+                Stop::Short => {
+                    let fault = None;
+                    return Ok((Fed { messages, fault }, rest));
+                }
+                Stop::Fault(fault) => {
+                    let fault = Some(fault_in(fault, rest));
+                    return Ok((Fed { messages, fault }, &rest[..0]));
+                }
+            },
         }
     }
 }

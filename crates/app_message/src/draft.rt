@@ -140,6 +140,7 @@ fn put_item(out: &mut Vec<u8>, id: u8, content: &[u8]) -> Result<(), AllocError>
     ensures err { OnErr result (out.new.items ≡ out.old.items) }
 {
     out.reserve(content.len() + 2)?;
-    out.extend_from_slice(&[id, content.len() as u8])?;
+    out.push(id)?;
+    out.push(content.len() as u8)?;
     out.extend_from_slice(content)
 }

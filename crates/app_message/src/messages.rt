@@ -1,8 +1,9 @@
 //! A list of messages.
 
-ghost use Rattle.std.specs.Prelude.{◌≡◌, ◌==◌, [], length};
+ghost use Rattle.std.specs.Prelude.{◌≡◌, ◌==◌, [], ◌∷◌, ◌++◌, length, OnOk};
 
 use crate::message::Message;
+use site_base::NoMemory;
 use std::alloc::Global;
 use std::marker::Model;
 
@@ -43,6 +44,21 @@ impl Messages {
         ensures { result.items ≡ self }
     {
         self.items
+    }
+
+    /// Drops the messages; their room stays.
+    pub fn clear(&mut self)
+        ensures { self.new ≡ [] }
+    {
+        self.items.clear();
+    }
+
+    /// Adds a message behind the others.
+    pub(crate) fn push(&mut self, message: Message) -> Result<(), NoMemory>
+        ensures { OnOk result (self.new ≡ self.old ++ message ∷ []) }
+    {
+        self.items.push(message)?;
+        Ok(())
     }
 
     /// The messages as a slice.

@@ -27,9 +27,12 @@ start b = record { line = []; number = 1; stream = held_after []; book = b; stop
 
 -- ---- what a line says
 
+abbrev pub without_spaces : List ℕ → List ℕ
+without_spaces text = filter (λ b. not (b == 32)) text
+
 -- a line without its spaces, and without a carriage return that ends it
 abbrev pub kept_of : List ℕ → List ℕ
-kept_of line = filter (λ b. not (b == 32)) (strip_last 13 line)
+kept_of line = without_spaces (strip_last 13 line)
 
 -- an empty line or a comment
 abbrev pub is_skipped : List ℕ → Bool
@@ -77,6 +80,10 @@ next_number n = min (n + 1) (2 ^ 64 - 1)
 -- a line has ended
 abbrev pub next_line : State → Told → State
 next_line st t = record { line = []; number = next_number st.number; stream = t.stream; book = t.book; stop = t.stop }
+
+-- what the text of a line says, in this state
+abbrev pub told_by : State → List ℕ → Told
+told_by st text = judged st.number st.stream st.book (without_spaces text)
 
 -- what a line leads to, while it stands
 abbrev pub talked : State → Told → State

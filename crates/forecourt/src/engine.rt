@@ -2,16 +2,17 @@
 
 ghost use Rattle.std.specs.Prelude.{◌≡◌, [], ◌∷◌, ◌++◌, None, IfOk, OnOk};
 ghost use Rattle.forecourt.specs.Text.{start, after, text_from, ended, last_text, last_fault};
-ghost use Rattle.forecourt.specs.Text.{kept_of, judged, line_told, next_line, talked};
+ghost use Rattle.forecourt.specs.Text.{kept_of, judged, answered, told_by, line_told, next_line, talked};
 ghost use Rattle.forecourt.specs.Answers.{line_of};
 ghost use Rattle.device_map.specs.Replies.{fault_message};
+ghost use Rattle.app_message.specs.Stream.{fed_by};
 ghost use Rattle.forecourt.specs.Laws.{IsLine};
 
 use crate::answers::{answer_all, put_line};
 use crate::book::SiteBook;
 use crate::fault::TextFault;
-use crate::line::{LINE_OCTETS, decode, has_space, put_without_spaces, skips, text_of};
-use app_message::{Decoder, Fed, StreamFault};
+use crate::line::{LINE_OCTETS, decode, put_without_spaces, skips, text_of};
+use app_message::{Decoder, Fed, Messages, StreamFault};
 use device_map::stream_refusal;
 use memchr::memchr;
 use site_base::NoMemory;
@@ -21,7 +22,7 @@ use std::mem;
 
 /// A replay between two octets of its input. Beside what its text depends on it has buffers that
 /// stay, so that a line takes no growth of its own: for a line without its spaces, for its octets,
-/// and for the octets of a reply.
+/// for its messages, and for the octets of a reply.
 #[derive(Drop)]
 pub struct Engine {
     alloc: Global,
@@ -33,6 +34,7 @@ pub struct Engine {
     kept: Vec<u8>,
     octets: Vec<u8>,
     reply: Vec<u8>,
+    messages: Messages,
 }
 
 impl Model for Engine {
@@ -62,6 +64,7 @@ impl Engine {
             kept: Vec::new(alloc),
             octets: Vec::new(alloc),
             reply: Vec::new(alloc),
+            messages: Messages::new(alloc),
         }
     }
 
@@ -161,15 +164,9 @@ impl Engine {
         ensures text { OnOk result (out.new.items ≡ out.old.items ++ (judged self.old.number self.old.stream self.old.book (kept_of line.now)).text) }
     {
         let text = text_of(line);
-        self.stop = if has_space(text) {
-            let mut kept = mem::replace(&mut self.kept, Vec::new(self.alloc));
-            put_without_spaces(text, &mut kept)?;
-            let stop = self.judge(&kept, out)?;
-            self.kept = kept;
-            stop
-        } else {
-            self.judge(text, out)?
-        };
+        let mut octets = mem::replace(&mut self.octets, Vec::new(self.alloc));
+        self.stop = self.judge(text, &mut octets, out)?;
+        self.octets = octets;
         self.line.clear();
         self.number = self.number.saturating_add(1);
         Ok(())
@@ -178,19 +175,59 @@ impl Engine {
     /// What the text of a line says: its octets go to the decoder, each message that they end is
     /// answered over the book, and the text is appended. The answer is why the text ends with this
     /// line, if it does.
-    fn judge(&mut self, kept: &[u8], out: &mut Vec<u8>) -> Result<Option<TextFault>, NoMemory>
-        ensures stop { IfOk result (λ stop. stop ≡ (judged self.old.number self.old.stream self.old.book kept.now).stop) }
-        ensures state { OnOk result (self.new ≡ talked self.old (judged self.old.number self.old.stream self.old.book kept.now)) }
-        ensures text { OnOk result (out.new.items ≡ out.old.items ++ (judged self.old.number self.old.stream self.old.book kept.now).text) }
+    fn judge(
+        &mut self,
+        text: &[u8],
+        octets: &mut Vec<u8>,
+        out: &mut Vec<u8>,
+    ) -> Result<Option<TextFault>, NoMemory>
+        ensures stop { IfOk result (λ stop. stop ≡ (told_by self.old text.now).stop) }
+        ensures state { OnOk result (self.new ≡ talked self.old (told_by self.old text.now)) }
+        ensures text { OnOk result (out.new.items ≡ out.old.items ++ (told_by self.old text.now).text) }
     {
-        if skips(kept) {
+        // Most lines are hexadecimal as they stand.
+        if !text.is_empty() && decode(text, octets)? {
+            return self.answer(octets, out);
+        }
+        self.judge_kept(text, octets, out)
+    }
+
+    /// The same, where there may be spaces, or no hexadecimal.
+    fn judge_kept(
+        &mut self,
+        text: &[u8],
+        octets: &mut Vec<u8>,
+        out: &mut Vec<u8>,
+    ) -> Result<Option<TextFault>, NoMemory>
+        ensures stop { IfOk result (λ stop. stop ≡ (told_by self.old text.now).stop) }
+        ensures state { OnOk result (self.new ≡ talked self.old (told_by self.old text.now)) }
+        ensures text { OnOk result (out.new.items ≡ out.old.items ++ (told_by self.old text.now).text) }
+    {
+        put_without_spaces(text, &mut self.kept)?;
+        if skips(&self.kept) {
             return Ok(None);
         }
-        if !decode(kept, &mut self.octets)? {
+        if !decode(&self.kept, octets)? {
             return Ok(Some(TextFault::NotHexadecimal(self.number)));
         }
-        let Fed { messages, fault } = self.decoder.feed(&self.octets)?;
+        self.answer(octets, out)
+    }
+
+    /// The messages that these octets end, each answered over the book by a line, and the refusal of a
+    /// stream's fault. The answer is why the text ends with them, if it does.
+    fn answer(
+        &mut self,
+        octets: &[u8],
+        out: &mut Vec<u8>,
+    ) -> Result<Option<TextFault>, NoMemory>
+        ensures stop { IfOk result (λ stop. stop ≡ (answered self.old.book (fed_by self.old.stream octets.now)).stop) }
+        ensures state { OnOk result (self.new ≡ talked self.old (answered self.old.book (fed_by self.old.stream octets.now))) }
+        ensures text { OnOk result (out.new.items ≡ out.old.items ++ (answered self.old.book (fed_by self.old.stream octets.now)).text) }
+    {
+        let room = mem::replace(&mut self.messages, Messages::new(self.alloc));
+        let Fed { messages, fault } = self.decoder.feed_into(octets, room)?;
         answer_all(self.alloc, &mut self.book, messages.as_slice(), &mut self.reply, out)?;
+        self.messages = messages;
         match fault {
             None => Ok(None),
             Some(fault) => {

@@ -1,11 +1,10 @@
 //! The text of one line.
 
-ghost use Rattle.std.specs.Prelude.{◌≡◌, ◌==◌, not, filter, true, false, IfOk, OnOk, MatchResult};
+ghost use Rattle.std.specs.Prelude.{◌≡◌, true, false, IfOk, OnOk, MatchResult};
 ghost use Rattle.std.specs.Io.BufRead.{strip_last};
 ghost use Rattle.hex.specs.Hex.{decode_of};
-ghost use Rattle.forecourt.specs.Text.{is_skipped};
+ghost use Rattle.forecourt.specs.Text.{is_skipped, without_spaces};
 
-use memchr::memchr;
 use site_base::NoMemory;
 
 /// The most octets that a line may have before its line feed.
@@ -21,16 +20,9 @@ pub fn text_of(line: &[u8]) -> &[u8]
     }
 }
 
-/// Whether there is a space to drop.
-pub fn has_space(text: &[u8]) -> bool
-    ensures { result ≡ false → filter (λ b. not (b == 32)) text.now ≡ text.now }
-{
-    memchr(b' ', text).is_some()
-}
-
 /// Puts the text without its spaces in place of what the buffer holds.
 pub fn put_without_spaces(text: &[u8], kept: &mut Vec<u8>) -> Result<(), NoMemory>
-    ensures { OnOk result (kept.new.items ≡ filter (λ b. not (b == 32)) text.now) }
+    ensures { OnOk result (kept.new.items ≡ without_spaces text.now) }
 {
     kept.clear();
     for octet in text {
