@@ -1,6 +1,6 @@
 -- What octets of a body list, and that bodies list what was written.
 use Rattle.std.proofs.Common.{◌≡◌, ℕ, zero, suc, ◌+◌, ◌-◌, ◌<◌, ◌≤◌, true, false, eqb, refl, sym, ap}
-use Rattle.std.proofs.Common.{subst, ◌∙◌, Some, List, [], ◌∷◌, ◌++◌, length, get_or, take, drop, Result, Ok}
+use Rattle.std.proofs.Common.{subst, ◌∙◌, Some, List, [], ◌∷◌, ◌++◌, length, get_or, take, drop, Ok}
 use Rattle.std.proofs.Common.{append_assoc, arith}
 use Rattle.std.specs.List.{flat_map, AllByRecursion}
 use Rattle.std.proofs.lemmas.Bool.{ne_eqb, le-ltb, lt-ltb}
@@ -10,7 +10,7 @@ use Rattle.std.proofs.lemmas.List.Concat.{flat_map-append}
 use Rattle.app_message.specs.declared.fault.MessageFault.TheVariants.{BadLength, BadItem}
 use Rattle.app_message.specs.declared.kind.Kind.{Kind}
 use Rattle.app_message.specs.Telegram.{Entry, entry, Telegram, telegram, AreOctets, IsEntry, Rises}
-use Rattle.app_message.specs.Spelling.{item_text, body_text, body, IsHead, IsMessage}
+use Rattle.app_message.specs.Spelling.{item_text, body_text, body, IsHead}
 use Rattle.app_message.specs.Grammar.{Header, items_at, address_at, body_at}
 use Rattle.app_message.specs.Bodies.{listed_in, listed, of_body, AreItems, IsBody, IsDraft, with_item}
 use Rattle.app_message.specs.Parts.{parts_fault, do_rise}

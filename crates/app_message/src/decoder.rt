@@ -145,11 +145,7 @@ impl Decoder {
 
 /// Puts the messages of a stream into an empty list: the list with the stream's fault, and what is
 /// left of the stream.
-fn walk(
-    alloc: Global,
-    octets: &[u8],
-    list: Messages,
-) -> Result<(Fed, &[u8]), NoMemory>
+fn walk(alloc: Global, octets: &[u8], list: Messages) -> Result<(Fed, &[u8]), NoMemory>
     requires { list ≡ [] }
     ensures exact { IfOk result (λ x. stream x.0.messages x.1.now x.0.fault ≡ stream_of octets.now) }
     ensures kept { IfOk result (λ x. IsHeld (record { rest = x.1.now; fault = x.0.fault })) }

@@ -76,6 +76,7 @@ impl Draft {
     /// Puts an item behind the others. It is refused with `BadItem` if its content has more than 254
     /// octets; `NoMemory` comes where there was no room and the allocator refuses it. A refused item
     /// changes nothing.
+    #[inline(always)]
     pub fn put(&mut self, id: u8, content: &[u8]) -> Result<(), MessageFault>
         ensures added { OnOk result (self.new ≡ with_item self.old (entry id content.now)) }
         ensures err { OnErr result (self.new ≡ self.old) }
@@ -104,9 +105,7 @@ impl Draft {
         if !rise(self.items()) {
             return Err(MessageFault::BadItem);
         }
-        Ok(Message::of_body(
-            self.to, self.from, self.kind, self.token, self.body,
-        ))
+        Ok(Message::of_body(self.to, self.from, self.kind, self.token, self.body))
     }
 
     /// The items so far.
@@ -134,6 +133,7 @@ fn rise(items: Items<'_>) -> bool
 }
 
 /// Appends an item: its identifier, its length and its content.
+#[inline(always)]
 fn put_item(out: &mut Vec<u8>, id: u8, content: &[u8]) -> Result<(), AllocError>
     requires { length content.now ≤ 254 }
     ensures ok { OnOk result (out.new.items ≡ out.old.items ++ item_text (entry id content.now)) }

@@ -40,6 +40,7 @@ pub fn put_eight(draft: &mut Draft, id: u8, number: u64) -> Result<(), NoMemory>
     put(draft, id, &number.to_be_bytes())
 }
 
+#[inline(always)]
 fn put(draft: &mut Draft, id: u8, content: &[u8]) -> Result<(), NoMemory>
     requires { length content.now ≤ 8 }
     ensures { OnOk result (draft.new ≡ with_item draft.old (entry id content.now)) }

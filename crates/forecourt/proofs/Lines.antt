@@ -216,6 +216,6 @@ line_by_line st next_st rest line others out next_out state text parts =
           ∙ append_assoc out (text_from st whole) (text_from next_st others)
           ∙ ap (λ (t : List ℕ). out ++ t)
           (ap (λ (s : State). text_from st whole ++ text_from s others) state
-              ∙ sym (text_from-append st whole others)
-              ∙ ap (λ (t : List ℕ). text_from st t) (sym parts)),
+          ∙ sym (text_from-append st whole others)
+          ∙ ap (λ (t : List ℕ). text_from st t) (sym parts)),
     )

@@ -27,11 +27,7 @@ pub fn answer(alloc: Global, book: &mut SiteBook, message: &Message) -> Result<M
 
 /// Appends a message as a line of hexadecimal. The octets of its spelling take the place of what
 /// the buffer holds.
-pub fn put_line(
-    octets: &mut Vec<u8>,
-    out: &mut Vec<u8>,
-    message: &Message,
-) -> Result<(), NoMemory>
+pub fn put_line(octets: &mut Vec<u8>, out: &mut Vec<u8>, message: &Message) -> Result<(), NoMemory>
     ensures { OnOk result (out.new.items ≡ out.old.items ++ line_of message.now) }
 {
     encode_into(message, octets)?;

@@ -215,18 +215,20 @@ impl Engine {
 
     /// The messages that these octets end, each answered over the book by a line, and the refusal of a
     /// stream's fault. The answer is why the text ends with them, if it does.
-    fn answer(
-        &mut self,
-        octets: &[u8],
-        out: &mut Vec<u8>,
-    ) -> Result<Option<TextFault>, NoMemory>
+    fn answer(&mut self, octets: &[u8], out: &mut Vec<u8>) -> Result<Option<TextFault>, NoMemory>
         ensures stop { IfOk result (λ stop. stop ≡ (answered self.old.book (fed_by self.old.stream octets.now)).stop) }
         ensures state { OnOk result (self.new ≡ talked self.old (answered self.old.book (fed_by self.old.stream octets.now))) }
         ensures text { OnOk result (out.new.items ≡ out.old.items ++ (answered self.old.book (fed_by self.old.stream octets.now)).text) }
     {
         let room = mem::replace(&mut self.messages, Messages::new(self.alloc));
         let Fed { messages, fault } = self.decoder.feed_into(octets, room)?;
-        answer_all(self.alloc, &mut self.book, messages.as_slice(), &mut self.reply, out)?;
+        answer_all(
+            self.alloc,
+            &mut self.book,
+            messages.as_slice(),
+            &mut self.reply,
+            out,
+        )?;
         self.messages = messages;
         match fault {
             None => Ok(None),

@@ -22,8 +22,8 @@ loop-rest-preserved c =
     let low : c.from-low.result ≡ item.id = cc (c.from-low.ensures, c.id.ensures) in (
       c.loop-rest.invariant.0 ++ item ∷ [],
       rw low (goes_on c.loop-rest.invariant.0 c.loop-rest.low c.loop-rest.rest.now item
-      c.in_ok-item.after.now total (omega arith) c.in_ok-item.ensures.exact
-      c.loop-rest.invariant.1),
+          c.in_ok-item.after.now total (omega arith) c.in_ok-item.ensures.exact
+          c.loop-rest.invariant.1),
     )
 
 pub returns : goal.returns

@@ -14,7 +14,7 @@ returns-then-not-rise-clause-fault c =
     let falls =
     ap (λ (m : Telegram). do_rise 0 m.items) c.self.view_is ∙ ap
     (λ (es : List Entry). do_rise 0 es) (sym c.items.ensures) ∙ sym c.rise.ensures
-        ∙ c.if-not-rise.true in
+    ∙ c.if-not-rise.true in
     rw (← c.self.view_is) (draft_falls _ c.self.inside.body.items c.self.invariant
     (omega (arith, c.if-len-gt1024.false, c.len.ensures)) falls)
 
@@ -23,6 +23,6 @@ of_body-requires c =
     let rise =
     ap (λ (m : Telegram). do_rise 0 m.items) c.self.view_is ∙ ap
     (λ (es : List Entry). do_rise 0 es) (sym c.items.ensures) ∙ sym c.rise.ensures
-        ∙ c.if-not-rise.false in
+    ∙ c.if-not-rise.false in
     draft_fits _ c.self.inside.body.items c.self.invariant
     (omega (arith, c.if-len-gt1024.false, c.len.ensures)) rise

@@ -1,4 +1,4 @@
-use Rattle.std.proofs.Common.{◌≡◌, ◌∷◌, List, ℕ, length, arith, refl}
+use Rattle.std.proofs.Common.{◌≡◌, ◌∷◌, length, arith, refl}
 use Rattle.app_message.proofs.Bodies.{begun}
 use Rattle.app_message.proofs.draft.Draft.try_new.Goals as goal
 

@@ -1,4 +1,4 @@
-use Rattle.std.proofs.Common.{◌≡◌, ◌∙◌, ◌++◌, ◌∷◌, [], List, ℕ, suc, drop, take, ap, sym}
+use Rattle.std.proofs.Common.{◌∙◌, suc, drop, take}
 use Rattle.forecourt.proofs.Bytes.{found, absent, behind_byte}
 use Rattle.forecourt.proofs.Lines.{line_by_line}
 use Rattle.forecourt.proofs.engine.Engine.feed.Goals as goal
