@@ -64,6 +64,7 @@ point_view f holder = record {
   out = f.out;
   holder = holder;
   ending = f.ending;
+  test = false;
   preset = f.preset;
   prepaid = f.prepaid;
   price = price_of f;

@@ -79,6 +79,7 @@ impl Point {
             out: self.out,
             holder: None,
             ending: self.ending,
+            test: false,
             preset: self.preset,
             prepaid: self.prepaid,
             price,

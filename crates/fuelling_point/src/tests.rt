@@ -150,6 +150,7 @@ fn assert_accepted(rt: &impl Abort, point: &mut Point, event: PointEvent, to: u8
             out: None,
             holder: None,
             ending: false,
+            test: false,
             preset: Preset::Unset,
             prepaid: None,
             price: 0,
