@@ -116,7 +116,8 @@ sold_started events event nozzle volume price prepaid is =
 -- what is drawn too
 drawn_started : (events : List PointEvent) (event : PointEvent) (nozzle volume : ℕ)
     → reply_to event (point_after events) ≡ Ok (Drawn nozzle volume)
-    → (price : ℕ) × ((start : ℕ) × ((flowed : ℕ) × (HasStarted (moments_of events) price start flowed
+    → (price : ℕ) × ((start : ℕ) × ((flowed : ℕ)
+    × (HasStarted (moments_of events) price start flowed
     × (volume ≡ flowed + growth_of event))))
 drawn_started events event nozzle volume is =
     let f : Facts = point_after events in

@@ -1,5 +1,5 @@
 -- A point is a test from its test release until its fuelling ends or the release is taken back.
-use Rattle.std.proofs.Common.{◌≡◌, ℕ, Bool, true, false, List, [], ◌∷◌, ◌⊎◌, inl, inr, Option, Ok, refl, ap, arith}
+use Rattle.std.proofs.Common.{◌≡◌, ℕ, Bool, true, false, List, [], ◌∷◌, ◌++◌, ◌⊎◌, inl, inr, Option, Ok, refl, ap, subst, arith}
 use Rattle.std.specs.List.{list_any}
 use Rattle.std.proofs.lemmas.Bool.{false≢true}
 use Rattle.std.proofs.lemmas.Grind.{common_steps}
@@ -7,9 +7,11 @@ use Rattle.site_base.specs.declared.state.PointState.TheVariants.{Closed}
 use Rattle.fuelling_point.specs.declared.event.PointEvent.{PointEvent}
 use Rattle.fuelling_point.specs.declared.step.PointStep.TheVariants.{Sold, Drawn}
 use Rattle.fuelling_point.specs.Kept.{Facts, fresh}
+use Rattle.fuelling_point.specs.Whole.{IsWhole}
 use Rattle.fuelling_point.specs.History.{Moment, history, facts_at_end, facts_after, reply_to, moments_of, point_after}
 use Rattle.fuelling_point.specs.Laws.{ends_release, is_test_released, HasTestRelease, AreTestsDrawn}
-use Rattle.fuelling_point.proofs.Whole.{whole_after}
+use Rattle.fuelling_point.proofs.Whole.{stays_whole, whole_after}
+use Rattle.fuelling_point.proofs.Suspension.{left_false, right_false}
 
 mark_kept : (e : PointEvent) (f : Facts) → (facts_after e f).test ≡ true → f.test ≡ true
     → ends_release (record { before = f; event = e }) ≡ false
@@ -70,14 +72,56 @@ stands f (e ∷ es) is = elim (stands (facts_after e f) es is) [
 ]
 
 -- a new point is no test, so one that is a test has had its test release
-released : (events : List PointEvent) → (point_after events).test ≡ true
+has_release : (events : List PointEvent) → (point_after events).test ≡ true
     → HasTestRelease (moments_of events)
-released events is = elim (stands (fresh Closed) events is)
+has_release events is = elim (stands (fresh Closed) events is)
     [ inl on ↦ absurd (false≢true on.is) | inr s ↦ s ]
+
+marked_by : (e : PointEvent) (f : Facts)
+    → is_test_released (record { before = f; event = e }) ≡ true → (facts_after e f).test ≡ true
+marked_by e f is = grind (arith, common_steps)
+
+mark_stays : (e : PointEvent) (f : Facts) → IsWhole f → f.test ≡ true
+    → ends_release (record { before = f; event = e }) ≡ false → (facts_after e f).test ≡ true
+mark_stays e f w is on =
+    let test = w.test in
+    grind (arith, common_steps)
+
+-- a test stays one until its release ends
+goes_on : (f : Facts) (events : List PointEvent) → IsWhole f → f.test ≡ true
+    → list_any ends_release (history f events) ≡ false → (facts_at_end f events).test ≡ true
+goes_on f [] w is on = is
+goes_on f (e ∷ es) w is on =
+    let now : ends_release (record { before = f; event = e }) ≡ false =
+    left_false _ (list_any ends_release (history (facts_after e f) es)) on in
+    let later : list_any ends_release (history (facts_after e f) es) ≡ false =
+    right_false (ends_release (record { before = f; event = e })) _ on in
+    goes_on (facts_after e f) es (stays_whole.keeps e f w) (mark_stays e f w is now) later
+
+-- so a point with a test release that nothing has ended is a test
+is_test : (f : Facts) (events : List PointEvent) (before since : List Moment) (m : Moment)
+    → IsWhole f → history f events ≡ before ++ m ∷ since
+    → is_test_released m ≡ true → list_any ends_release since ≡ false
+    → (facts_at_end f events).test ≡ true
+is_test f [] [] since m w parts taken on = cc
+is_test f [] (x ∷ xs) since m w parts taken on = cc
+is_test f (e ∷ es) [] since m w parts taken on =
+    let here : m ≡ record { before = f; event = e } = cc in
+    let rest : since ≡ history (facts_after e f) es = cc in
+    let marked = marked_by e f (subst (λ x. is_test_released x ≡ true) here taken) in
+    goes_on (facts_after e f) es (stays_whole.keeps e f w) marked
+    (subst (λ x. list_any ends_release x ≡ false) rest on)
+is_test f (e ∷ es) (x ∷ xs) since m w parts taken on =
+    let rest : history (facts_after e f) es ≡ xs ++ m ∷ since = cc in
+    is_test (facts_after e f) es xs since m (stays_whole.keeps e f w) rest taken on
 
 pub tests_are_drawn : AreTestsDrawn
 tests_are_drawn = record {
-  released = released;
+  released = λ events. (
+    has_release events,
+    λ r. is_test (fresh Closed) events r.before r.since r.release stays_whole.begins r.parts r.taken
+        r.goes_on,
+  );
   unlimited = λ events is.
       let whole = whole_after events in
       (whole.unlimited is, whole.unpaid is);

@@ -21,7 +21,8 @@ volume_in None = 0
 volume_in (Some delivery) = delivery.volume
 
 -- what the fields of a point stand for
-abbrev pub facts_of : PointState → Option ℕ → Bool → Bool → Preset → Option ℕ → Option Delivery → Facts
+abbrev pub facts_of : PointState → Option ℕ → Bool → Bool → Preset → Option ℕ → Option Delivery
+    → Facts
 facts_of state out ending test preset prepaid delivery = record {
   state = state;
   out = out;

@@ -1,6 +1,6 @@
 -- The laws of a fuelling point: what holds whatever events a new point has had, refused ones among
 -- them.
-use Rattle.std.specs.Prelude.{◌≡◌, ℕ, ◌+◌, ◌≤◌, Bool, true, false, ◌&&◌, ◌||◌, List, ◌∷◌, ◌++◌, sum_by, Option, Some, None, is_some, is_ok, Result, Ok, Err}
+use Rattle.std.specs.Prelude.{◌≡◌, ◌↔◌, ℕ, ◌+◌, ◌≤◌, Bool, true, false, ◌&&◌, ◌||◌, List, ◌∷◌, ◌++◌, sum_by, Option, Some, None, is_some, is_ok, Result, Ok, Err}
 use Rattle.std.specs.List.{list_any}
 use Rattle.site_base.specs.declared.refusal.Refusal.{Refusal}
 use Rattle.site_base.specs.declared.state.PointState.{PointState}
@@ -150,11 +150,12 @@ pub record IsSoldAsStarted : Type 0 where
       × (volume ≡ flowed + growth_of event)))
   pub drawn : (events : List PointEvent) (event : PointEvent) (nozzle volume : ℕ)
       → reply_to event (point_after events) ≡ Ok (Drawn nozzle volume)
-      → (price : ℕ) × ((start : ℕ) × ((flowed : ℕ) × (HasStarted (moments_of events) price start flowed
+      → (price : ℕ) × ((start : ℕ) × ((flowed : ℕ)
+      × (HasStarted (moments_of events) price start flowed
       × (volume ≡ flowed + growth_of event))))
 
--- a nozzle that is out, and that of a sale or a draw, is the one that was lifted and hasn't been put
--- back since
+-- a nozzle that is out, and that of a sale or a draw, is the one that was lifted and hasn't been
+-- put back since
 pub record IsTheLifted : Type 0 where
   pub out : (events : List PointEvent) (nozzle : ℕ) → (point_after events).out ≡ Some nozzle
       → HasLifted (moments_of events) nozzle
@@ -177,12 +178,12 @@ pub record HasTestRelease (moments : List Moment) : Type 0 where
   pub taken : is_test_released release ≡ true
   pub goes_on : list_any ends_release since ≡ false
 
--- A point is a test from an accepted test release until the fuelling ends or the release is taken
--- back. It has neither preset nor prepaid cents; it is never sold, and what isn't a test is never
+-- A point is a test just from an accepted test release until the fuelling ends or the release is
+-- taken back. It has neither preset nor prepaid cents; it is never sold, and what isn't a test is never
 -- drawn.
 pub record AreTestsDrawn : Type 0 where
-  pub released : (events : List PointEvent) → (point_after events).test ≡ true
-      → HasTestRelease (moments_of events)
+  pub released : (events : List PointEvent)
+      → ((point_after events).test ≡ true) ↔ HasTestRelease (moments_of events)
   pub unlimited : (events : List PointEvent) → (point_after events).test ≡ true
       → ((point_after events).preset ≡ Unset) × ((point_after events).prepaid ≡ None)
   pub sold : (events : List PointEvent) (event : PointEvent)

@@ -18,9 +18,9 @@ use site_base::{Millilitres, Mills, NozzleNo, PointState, PointView, Preset, Ref
 use std::marker::Model;
 
 /// One fuelling point: its state, and what it keeps from one event to the next. A lifted nozzle is
-/// kept until it is put back, a preset and a prepayment, or the mark of a test, from the release on,
-/// the price and the start reading from the start of the fuelling on, its volume as it is reported.
-/// All of it is forgotten on the way to inoperative and to idle.
+/// kept until it is put back, a preset and a prepayment, or the mark of a test, from the release
+/// on, the price and the start reading from the start of the fuelling on, its volume as it is
+/// reported. All of it is forgotten on the way to inoperative and to idle.
 ///
 /// So a nozzle is kept just where one is out, there is a volume just where fuel has flowed, only a
 /// suspended fuelling is ending, a test has neither preset nor prepayment, and nothing is kept of a
@@ -116,8 +116,8 @@ impl Point {
     /// Does what the point table says of the event, and answers what it did; a sale or a start with
     /// the values that stood before the point forgot them. A fuelling that starts takes the price
     /// and the reading handed in, and nothing touches these until it is over. A terminated fuelling
-    /// takes flow until hang up or offline. Where a fuelling is sold, a test is drawn. The refusal is
-    /// that of `judge`, and leaves the point as it was.
+    /// takes flow until hang up or offline. Where a fuelling is sold, a test is drawn. The refusal
+    /// is that of `judge`, and leaves the point as it was.
     ///
     /// The fuelling's volume with the growth handed in has to be one that a meter can show.
     pub fn on(&mut self, event: PointEvent) -> Result<PointStep, Refusal>
@@ -323,7 +323,8 @@ impl Point {
     fn sold(&self, growth: u64) -> PointStep
         requires under_way { is_under_way self.now.state ≡ true }
         requires fits { self.now.volume + growth ≤ GREATEST_READING }
-        ensures { result ≡ told_over (unwrap_or self.now.out 0) (self.now.volume + growth) self.now }
+        ensures { result ≡ told_over (unwrap_or self.now.out 0) (self.now.volume + growth)
+            self.now }
     {
         if let Some(nozzle) = self.out
             && let Some(delivery) = self.delivery

@@ -44,6 +44,7 @@ pub draw_fits_shown : (n : ℕ) (s : Shifts) (row : ShiftRow) (q j ml : ℕ)
 draw_fits_shown n s row q j ml e shown place fits =
     let same : Some row ≡ Some s.current = sym shown ∙ open_shown n s e in
     let is : row ≡ s.current = ap (λ x. unwrap_or x row) same in
-    let product : adjusted_figure q row ≡ get_or row.adjusted j 0 = member q j row.adjusted 0 place in
+    let product : adjusted_figure q row ≡ get_or row.adjusted j 0 =
+    member q j row.adjusted 0 place in
     subst (λ (r : ShiftRow). FitsDraw q ml r) is
     (subst (λ (x : ℕ). x + ml < 2 ^ 64) (sym product) fits)

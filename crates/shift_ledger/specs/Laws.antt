@@ -6,8 +6,8 @@ use Rattle.shift_ledger.specs.declared.row.ShiftRow.{ShiftRow}
 use Rattle.shift_ledger.specs.Figures.{till_figures, product_figure, adjusted_figure, one_clear_more}
 use Rattle.shift_ledger.specs.Shifts.{Shifts, first_shift, open_number, figures_of, after_close, after_clear, after_draw}
 
--- what changes the shifts: a clear by a till, of a product, so many millilitres and cents; a draw of
--- a product, so many millilitres; a close
+-- what changes the shifts: a clear by a till, of a product, so many millilitres and cents; a draw
+-- of a product, so many millilitres; a close
 pub data ShiftChange : Type 0 where
   clears : ℕ → ℕ → ℕ → ℕ → ShiftChange
   draws : ℕ → ℕ → ShiftChange

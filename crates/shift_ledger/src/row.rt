@@ -6,7 +6,8 @@ ghost use Rattle.shift_ledger.specs.Figures.{with_draw, FitsDraw};
 
 use site_base::{PRODUCT_CELLS, ProductNo, TILL_CELLS, TillNo};
 
-/// The figures of a shift. They begin empty, and each clear and each draw of the shift adds to them.
+/// The figures of a shift. They begin empty, and each clear and each draw of the shift adds to
+/// them.
 #[derive(Clone, Copy, Debug, PartialEq, Eq)]
 pub struct ShiftRow {
     /// Of each till, from 1 on: how many transactions it cleared, and their cents.

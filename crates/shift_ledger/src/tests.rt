@@ -1,5 +1,6 @@
 //! Runs of the compiled calls, once each with ample memory: they answer as the printed rows of the
-//! figures by shift, draws among them, and of the last shift; and a run in which a growth is refused.
+//! figures by shift, draws among them, and of the last shift; and a run in which a growth is
+//! refused.
 
 mod refused;
 
