@@ -3,7 +3,7 @@
 ghost use Rattle.std.specs.Prelude.{◌≡◌, ◌≤◌, [], length, unwrap_or, IfOk, OnOk};
 ghost use Rattle.app_message.specs.Telegram.{telegram};
 ghost use Rattle.app_message.specs.Bodies.{with_items};
-ghost use Rattle.device_map.specs.Replies.{preset_items, prepaid_items, point_items};
+ghost use Rattle.device_map.specs.Replies.{preset_items, prepaid_items, point_items, test_items};
 ghost use Rattle.device_map.specs.Replies.{transaction_items, product_items, site_items, outcome};
 ghost use Rattle.device_map.specs.Replies.{answer_items, answer_kind, detail_items, refusal_items};
 ghost use Rattle.device_map.specs.Replies.{reply_items, reply_kind, reply_message, number_message};
@@ -15,12 +15,12 @@ use crate::{ids, node};
 use app_message::{Draft, Kind, Message, MessageFault, StreamFault, Token};
 use site_base::{
     Answer, Cents, GREATEST_SEQ, Mills, NoMemory, NozzleNo, PointView, Preset, ProductView,
-    Refusal, Reply, Seq, SiteView, TillNo, TransactionView,
+    Refusal, Reply, Seq, ShiftNo, SiteView, TillNo, TransactionView,
 };
 use std::alloc::Global;
 
 /// The most octets that the items of a reply take, so that a reply takes one growth.
-const ROOM: usize = 80;
+const ROOM: usize = 96;
 
 /// The message that tells the reply to this request: it goes from the site to the request's
 /// originator, with its token and its address. A read that is accepted is told by an Answer, all
@@ -152,6 +152,7 @@ fn put_answer(draft: &mut Draft, answer: &Answer) -> Result<(), NoMemory>
         Answer::Unlocked => put_outcome(draft, 10),
         Answer::Cleared(cents) => put_cleared(draft, *cents),
         Answer::ShiftClosed(shift) => put_shift(draft, *shift),
+        Answer::Drawn { growth } => put_drawn(draft, *growth),
         Answer::PointIs(view) => put_point(draft, view),
         Answer::TransactionIs(view) => put_transaction(draft, view),
         Answer::ProductIs(view) => put_product(draft, view),
@@ -196,11 +197,18 @@ fn put_cleared(draft: &mut Draft, cents: Cents) -> Result<(), NoMemory>
     put_eight(draft, ids::CENTS, cents.get())
 }
 
-fn put_shift(draft: &mut Draft, shift: u16) -> Result<(), NoMemory>
+fn put_shift(draft: &mut Draft, shift: ShiftNo) -> Result<(), NoMemory>
     ensures { OnOk result (draft.new ≡ with_items draft.old (answer_items (Answer.ShiftClosed shift))) }
 {
     put_outcome(draft, 12)?;
-    put_two(draft, ids::SHIFT, shift)
+    put_two(draft, ids::SHIFT, shift.get())
+}
+
+fn put_drawn(draft: &mut Draft, growth: u64) -> Result<(), NoMemory>
+    ensures { OnOk result (draft.new ≡ with_items draft.old (answer_items (Answer.Drawn growth))) }
+{
+    put_outcome(draft, 13)?;
+    put_eight(draft, ids::VOLUME, growth)
 }
 
 fn put_point(draft: &mut Draft, view: &PointView) -> Result<(), NoMemory>
@@ -210,6 +218,7 @@ fn put_point(draft: &mut Draft, view: &PointView) -> Result<(), NoMemory>
     put_octet(draft, ids::NOZZLE_OUT, nozzle_number(view.out))?;
     put_octet(draft, ids::HOLDER, till_number(view.holder))?;
     put_octet(draft, ids::ENDING, u8::from(view.ending))?;
+    put_test(draft, view.test)?;
     put_preset(draft, view.preset)?;
     put_four(draft, ids::PRICE, view.price)?;
     put_eight(draft, ids::VOLUME, view.volume)?;
@@ -236,14 +245,25 @@ fn put_product(draft: &mut Draft, view: &ProductView) -> Result<(), NoMemory>
     put_eight(draft, ids::RUNNING, view.running)?;
     put_eight(draft, ids::PAYABLE, view.payable)?;
     put_eight(draft, ids::LOCKED, view.locked)?;
-    put_eight(draft, ids::CLEARED, view.cleared)
+    put_eight(draft, ids::CLEARED, view.cleared)?;
+    put_eight(draft, ids::ADJUSTED, view.adjusted)
 }
 
 fn put_site(draft: &mut Draft, view: &SiteView) -> Result<(), NoMemory>
     ensures { OnOk result (draft.new ≡ with_items draft.old (site_items view.now)) }
 {
     put_eight(draft, ids::CENTS, view.cents)?;
-    put_two(draft, ids::SHIFT, view.shift)
+    put_two(draft, ids::SHIFT, view.shift.get())
+}
+
+fn put_test(draft: &mut Draft, test: bool) -> Result<(), NoMemory>
+    ensures { OnOk result (draft.new ≡ with_items draft.old (test_items test)) }
+{
+    if test {
+        put_octet(draft, ids::TEST, 1)
+    } else {
+        Ok(())
+    }
 }
 
 fn put_preset(draft: &mut Draft, preset: Preset) -> Result<(), NoMemory>

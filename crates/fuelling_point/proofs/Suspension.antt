@@ -14,11 +14,11 @@ pub record IsTerminated (f : Facts) : Type 0 where
   pub suspended : is_suspended f.state ≡ true
   pub ending : f.ending ≡ true
 
-left_false : (a b : Bool) → (a || b) ≡ false → a ≡ false
+pub left_false : (a b : Bool) → (a || b) ≡ false → a ≡ false
 left_false false b is = refl
 left_false true b is = is
 
-right_false : (a b : Bool) → (a || b) ≡ false → b ≡ false
+pub right_false : (a b : Bool) → (a || b) ≡ false → b ≡ false
 right_false false b is = is
 right_false true b is = absurd (cc)
 

@@ -1,4 +1,4 @@
--- What a clear does to the figures of the open shift.
+-- What a clear and a draw do to the figures of the open shift.
 use Rattle.std.proofs.Common.{◌≡◌, ℕ, zero, suc, Bool, true, false, cond, ◌+◌, ◌-◌, ◌≤◌, List, [], ◌∷◌, length, get_or, Some, unwrap_or, ◌==◌, refl, ap, ◌∙◌, arith}
 use Rattle.std.proofs.lemmas.Bool.Decides.{nat_tests}
 use Rattle.std.specs.List.{All}
@@ -6,9 +6,9 @@ use Rattle.std.proofs.lemmas.List.Elements.{All-append}
 use Rattle.site_base.specs.Numbered.{numbered, with_numbered}
 use Rattle.site_base.proofs.Numbering.{numbered_within, numbered_with_same, numbered_with_other, length-with_numbered}
 use Rattle.shift_ledger.specs.declared.row.ShiftRow.{ShiftRow}
-use Rattle.shift_ledger.specs.Figures.{till_figures, product_figure, one_clear_more, no_clears, with_clear}
+use Rattle.shift_ledger.specs.Figures.{till_figures, product_figure, adjusted_figure, one_clear_more, empty_figures, with_clear, with_draw}
 use Rattle.shift_ledger.specs.Shifts.{Shifts}
-use Rattle.shift_ledger.specs.Laws.{ShiftChange, clears, closes, after_change, IsRow, HaveRows, IsCounted, HasEveryFigure}
+use Rattle.shift_ledger.specs.Laws.{ShiftChange, clears, draws, closes, after_change, IsRow, HaveRows, IsCounted, IsDrawn, HasEveryFigure}
 
 -- a member that is there and is written shows what was written, and every other stays
 written : {A : Type 0} (n m : ℕ) (xs : List A) (y d : A) → 1 ≤ n → n ≤ length xs
@@ -35,17 +35,36 @@ is_counted = record {
   by_product = λ t q ml cents r s row low high.
       written q r s.current.products (product_figure q s.current + ml) 0 low
       (omega (arith, row.products));
+  drawn = λ t q ml cents r s. refl;
   number = λ t q ml cents s. refl;
+}
+
+pub is_drawn : IsDrawn
+is_drawn = record {
+  by_product = λ q ml r s row low high.
+      written q r s.current.adjusted (adjusted_figure q s.current + ml) 0 low
+      (omega (arith, row.adjusted));
+  tills = λ q ml u s. refl;
+  cleared = λ q ml r s. refl;
+  number = λ q ml s. refl;
 }
 
 row_after : (t q ml cents : ℕ) (row : ShiftRow) → IsRow row → IsRow (with_clear t q ml cents row)
 row_after t q ml cents row is = record {
   tills = length-with_numbered t _ row.tills ∙ is.tills;
   products = length-with_numbered q _ row.products ∙ is.products;
+  adjusted = is.adjusted;
 }
 
-empty_row : IsRow no_clears
-empty_row = record { tills = refl; products = refl }
+row_drawn : (q ml : ℕ) (row : ShiftRow) → IsRow row → IsRow (with_draw q ml row)
+row_drawn q ml row is = record {
+  tills = is.tills;
+  products = is.products;
+  adjusted = length-with_numbered q _ row.adjusted ∙ is.adjusted;
+}
+
+empty_row : IsRow empty_figures
+empty_row = record { tills = refl; products = refl; adjusted = refl }
 
 alone : (row : ShiftRow) → IsRow row → All IsRow (row ∷ [])
 alone row is zero d within = is
@@ -60,6 +79,8 @@ has_every_figure = record {
     after : (change : ShiftChange) (s : Shifts) → HaveRows s → HaveRows (after_change change s)
     after (clears t q ml cents) s rows =
         record { closed = rows.closed; current = row_after t q ml cents s.current rows.current }
+    after (draws q ml) s rows =
+        record { closed = rows.closed; current = row_drawn q ml s.current rows.current }
     after closes s rows = record {
       closed = All-append IsRow s.closed (s.current ∷ []) rows.closed
           (alone s.current rows.current);

@@ -1,3 +1,4 @@
 pub mod Counting
 pub mod Open
 pub mod Standing
+pub mod Worked

@@ -5,7 +5,7 @@ use Rattle.std.proofs.lemmas.Option.{unwrap_or-slice_get}
 use Rattle.shift_ledger.specs.declared.row.ShiftRow.{ShiftRow}
 use Rattle.site_base.specs.Numbered.{numbered}
 use Rattle.site_base.proofs.Numbering.{numbered_push_here}
-use Rattle.shift_ledger.specs.Figures.{till_figures, product_figure, FitsClear}
+use Rattle.shift_ledger.specs.Figures.{till_figures, product_figure, adjusted_figure, FitsClear, FitsDraw}
 use Rattle.shift_ledger.specs.Shifts.{Shifts, figures_of}
 
 open_shown : (n : ℕ) (s : Shifts) → n ≡ length s.closed + 1 → figures_of n s ≡ Some s.current
@@ -36,3 +36,15 @@ fits_shown n s row t q i j ml cents e shown t_place q_place clears sum volume =
       cents_sum = subst (λ (x : ℕ × ℕ). x.1 + cents < 2 ^ 64) (sym till) sum;
       millilitres = subst (λ (x : ℕ). x + ml < 2 ^ 64) (sym product) volume;
     })
+
+-- and so does one more draw
+pub draw_fits_shown : (n : ℕ) (s : Shifts) (row : ShiftRow) (q j ml : ℕ)
+    → n ≡ length s.closed + 1 → figures_of n s ≡ Some row → j + 1 ≡ q
+    → get_or row.adjusted j 0 + ml < 2 ^ 64 → FitsDraw q ml s.current
+draw_fits_shown n s row q j ml e shown place fits =
+    let same : Some row ≡ Some s.current = sym shown ∙ open_shown n s e in
+    let is : row ≡ s.current = ap (λ x. unwrap_or x row) same in
+    let product : adjusted_figure q row ≡ get_or row.adjusted j 0 =
+    member q j row.adjusted 0 place in
+    subst (λ (r : ShiftRow). FitsDraw q ml r) is
+    (subst (λ (x : ℕ). x + ml < 2 ^ 64) (sym product) fits)

@@ -12,9 +12,17 @@ till_figures t row = unwrap_or (numbered t row.tills) (0, 0)
 abbrev pub product_figure : ℕ → ShiftRow → ℕ
 product_figure q row = unwrap_or (numbered q row.products) 0
 
--- a shift without clears
-abbrev pub no_clears : ShiftRow
-no_clears = record { tills = replicate TILL_CELLS (0, 0); products = replicate PRODUCT_CELLS 0 }
+-- the millilitres that tests drew of a product
+abbrev pub adjusted_figure : ℕ → ShiftRow → ℕ
+adjusted_figure q row = unwrap_or (numbered q row.adjusted) 0
+
+-- a shift without clears and draws
+abbrev pub empty_figures : ShiftRow
+empty_figures = record {
+  tills = replicate TILL_CELLS (0, 0);
+  products = replicate PRODUCT_CELLS 0;
+  adjusted = replicate PRODUCT_CELLS 0;
+}
 
 -- a till's clears and their cents, with one more of these cents
 abbrev pub one_clear_more : ℕ → ℕ × ℕ → ℕ × ℕ
@@ -25,10 +33,20 @@ abbrev pub with_clear : ℕ → ℕ → ℕ → ℕ → ShiftRow → ShiftRow
 with_clear t q ml cents row = record {
   tills = with_numbered t (one_clear_more cents (till_figures t row)) row.tills;
   products = with_numbered q (product_figure q row + ml) row.products;
+  adjusted = row.adjusted;
 }
+
+-- the figures with one more draw: of this product, millilitres
+abbrev pub with_draw : ℕ → ℕ → ShiftRow → ShiftRow
+with_draw q ml row =
+    record row { adjusted = with_numbered q (adjusted_figure q row + ml) row.adjusted }
 
 -- the sums that one more clear raises stay in 64 bits
 pub record FitsClear (t q ml cents : ℕ) (row : ShiftRow) : Type 0 where
   pub clears : (till_figures t row).0 + 1 < 2 ^ 64
   pub cents_sum : (till_figures t row).1 + cents < 2 ^ 64
   pub millilitres : product_figure q row + ml < 2 ^ 64
+
+-- the sum that one more draw raises stays in 64 bits
+abbrev pub FitsDraw : ℕ → ℕ → ShiftRow → Type 0
+FitsDraw q ml row = adjusted_figure q row + ml < 2 ^ 64

@@ -3,7 +3,7 @@ use Rattle.std.specs.Prelude.{ℕ, ◌+◌, List, [], ◌∷◌, ◌++◌, lengt
 use Rattle.site_base.specs.declared.limits.TheConstants.{GREATEST_SHIFT}
 use Rattle.shift_ledger.specs.declared.row.ShiftRow.{ShiftRow}
 use Rattle.site_base.specs.Numbered.{numbered}
-use Rattle.shift_ledger.specs.Figures.{no_clears, with_clear}
+use Rattle.shift_ledger.specs.Figures.{empty_figures, with_clear, with_draw}
 
 -- the figures of the closed shifts in their order, and those of the open one
 pub record Shifts : Type 0 where
@@ -17,7 +17,7 @@ pub record Book : Type 0 where
 
 -- shift 1 is open, with nothing in it
 abbrev pub first_shift : Shifts
-first_shift = record { closed = []; current = no_clears }
+first_shift = record { closed = []; current = empty_figures }
 
 -- the number of the open shift
 abbrev pub open_number : Shifts → ℕ
@@ -33,9 +33,13 @@ figures_of n s = numbered n (s.closed ++ s.current ∷ [])
 
 -- the open shift is closed, and the next one is open with nothing in it
 abbrev pub after_close : Shifts → Shifts
-after_close s = record { closed = s.closed ++ s.current ∷ []; current = no_clears }
+after_close s = record { closed = s.closed ++ s.current ∷ []; current = empty_figures }
 
 -- one more clear in the open shift
 abbrev pub after_clear : ℕ → ℕ → ℕ → ℕ → Shifts → Shifts
 after_clear t q ml cents s =
     record { closed = s.closed; current = with_clear t q ml cents s.current }
+
+-- one more draw in the open shift
+abbrev pub after_draw : ℕ → ℕ → Shifts → Shifts
+after_draw q ml s = record { closed = s.closed; current = with_draw q ml s.current }

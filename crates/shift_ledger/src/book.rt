@@ -3,11 +3,12 @@
 ghost use Rattle.std.specs.Prelude.{◌≡◌, ◌<◌, ◌≤◌, true, false, length, OnOk, OnErr, IfOk, IfErr};
 ghost use Rattle.site_base.specs.declared.refusal.Refusal.TheVariants.{ShiftsSpent};
 ghost use Rattle.site_base.specs.declared.limits.TheConstants.{GREATEST_SHIFT};
-ghost use Rattle.shift_ledger.specs.Figures.{FitsClear};
-ghost use Rattle.shift_ledger.specs.Shifts.{first_shift, open_number, is_last, figures_of, after_close, after_clear};
+ghost use Rattle.shift_ledger.specs.Figures.{FitsClear, FitsDraw};
+ghost use Rattle.shift_ledger.specs.Shifts.{first_shift, open_number, is_last, figures_of};
+ghost use Rattle.shift_ledger.specs.Shifts.{after_close, after_clear, after_draw};
 
 use crate::row::ShiftRow;
-use site_base::{GREATEST_SHIFT, NoMemory, ProductNo, Refusal, TillNo};
+use site_base::{GREATEST_SHIFT, NoMemory, ProductNo, Refusal, ShiftNo, TillNo};
 use std::alloc::Global;
 use std::marker::Model;
 
@@ -65,10 +66,20 @@ impl ShiftBook {
         self.current.note_cleared(t, q, ml, cents);
     }
 
+    /// Adds a draw of a test to the open shift: of this product, so many millilitres. The open
+    /// shift's sum with it stays in u64.
+    pub fn note_drawn(&mut self, q: ProductNo, ml: u64)
+        requires { FitsDraw q ml self.old.shifts.current }
+        ensures shifts { self.new.shifts ≡ after_draw q ml self.old.shifts }
+        ensures room { self.new.room ≡ self.old.room }
+    {
+        self.current.note_drawn(q, ml);
+    }
+
     /// Closes the open shift and opens the next, with nothing in it; the answer is the number of
     /// the shift that was closed. While shift `GREATEST_SHIFT` is open it is refused with
     /// `ShiftsSpent`, and nothing changes. The room for it is reserved; it takes no memory.
-    pub fn close(&mut self) -> Result<u16, Refusal>
+    pub fn close(&mut self) -> Result<ShiftNo, Refusal>
         requires { 0 < self.old.room }
         ensures accepted { OnOk result (is_last self.old.shifts ≡ false) }
         ensures number { IfOk result (λ n. n ≡ open_number self.old.shifts) }
@@ -77,8 +88,8 @@ impl ShiftBook {
         ensures refused { IfErr result (λ refusal. refusal ≡ ShiftsSpent) }
         ensures err { OnErr result (self.new ≡ self.old) }
     {
-        let number = self.rows() + 1;
-        if number == GREATEST_SHIFT {
+        let number = self.open();
+        if number.get() == GREATEST_SHIFT {
             return Err(Refusal::ShiftsSpent);
         }
         self.closed.push_reserved(self.current);
@@ -94,14 +105,24 @@ impl ShiftBook {
         self.closed.len() as u16
     }
 
-    /// The figures of shift n, the open one's too. None for 0 and for shifts to come.
-    pub fn row(&self, n: u16) -> Option<ShiftRow>
+    /// The number of the open shift.
+    pub fn open(&self) -> ShiftNo
+        ensures { result ≡ open_number self.now.shifts }
+    {
+        match ShiftNo::new(self.rows() + 1) {
+            Some(number) => number,
+            None => unreachable!(),
+        }
+    }
+
+    /// The figures of shift n, the open one's too. None for shifts to come.
+    pub fn row(&self, n: ShiftNo) -> Option<ShiftRow>
         ensures { result ≡ figures_of n self.now.shifts }
     {
-        let closed = self.rows();
-        if 1 <= n && n <= closed {
-            Some(self.closed[n as usize - 1])
-        } else if n == closed + 1 {
+        let (number, closed) = (n.get(), self.rows());
+        if number <= closed {
+            Some(self.closed[usize::from(number) - 1])
+        } else if number == closed + 1 {
             Some(self.current)
         } else {
             None

@@ -1,29 +1,35 @@
 //! Laws of the shifts' figures. They have no code: each is proved of the definitions that the
 //! contracts of this crate cite.
 
-ghost use Rattle.shift_ledger.specs.Laws.{DoStay, HasEveryFigure, IsCounted, IsOpenedEmpty};
+ghost use Rattle.shift_ledger.specs.Laws.{DoStay, HasEveryFigure, IsCounted, IsDrawn, IsOpenedEmpty};
 
 /// A clear raises in the open shift its till's count by one and that till's cents by its own, and
 /// its product's millilitres by its own. Every other till's figures stay, and every other
-/// product's.
+/// product's, and so does what tests drew.
 pub fn counted_by_a_clear()
     ensures { IsCounted }
 {}
 
+/// A draw raises in the open shift the millilitres drawn of its product by its own. Every other
+/// product's stay, and so does all that was cleared.
+pub fn adjusted_by_a_draw()
+    ensures { IsDrawn }
+{}
+
 /// A close adds the open shift's row, unchanged, behind the closed ones. A closed shift's row
-/// stays, whatever is noted and closed later.
+/// stays, whatever is cleared, drawn and closed later.
 pub fn closed_for_good()
     ensures { DoStay }
 {}
 
 /// Shift 1, and each shift that a close opens, is empty: no till has a clear or cents there, and no
-/// product millilitres.
+/// product millilitres, cleared or drawn.
 pub fn opened_empty()
     ensures { IsOpenedEmpty }
 {}
 
 /// Each shift's row has a figure for every till and every product: the first shift's, and after
-/// each clear and each close the closed ones' and the open one's.
+/// each clear, draw and close the closed ones' and the open one's.
 pub fn has_every_figure()
     ensures { HasEveryFigure }
 {}

@@ -1,5 +1,5 @@
 //! The figures of a site's shifts: per till the clears and their cents, per product the millilitres
-//! cleared, of each closed shift and of the open one.
+//! cleared and those drawn by tests, of each closed shift and of the open one.
 #![tactic(auto)]
 
 mod book;
@@ -9,5 +9,7 @@ mod row;
 mod tests;
 
 pub use book::ShiftBook;
-pub use laws::{closed_for_good, counted_by_a_clear, has_every_figure, opened_empty};
+pub use laws::{
+    adjusted_by_a_draw, closed_for_good, counted_by_a_clear, has_every_figure, opened_empty,
+};
 pub use row::ShiftRow;

@@ -1,33 +1,38 @@
 //! The figures of one shift.
 
 ghost use Rattle.std.specs.Prelude.{◌≡◌};
-ghost use Rattle.shift_ledger.specs.Figures.{no_clears, with_clear, FitsClear};
+ghost use Rattle.shift_ledger.specs.Figures.{empty_figures, with_clear, FitsClear};
+ghost use Rattle.shift_ledger.specs.Figures.{with_draw, FitsDraw};
 
 use site_base::{PRODUCT_CELLS, ProductNo, TILL_CELLS, TillNo};
 
-/// The figures of a shift.
+/// The figures of a shift. They begin empty, and each clear and each draw of the shift adds to
+/// them.
 #[derive(Clone, Copy, Debug, PartialEq, Eq)]
 pub struct ShiftRow {
     /// Of each till, from 1 on: how many transactions it cleared, and their cents.
     pub tills: [(u64, u64); TILL_CELLS],
     /// Of each product, from 1 on: the millilitres that were cleared.
     pub products: [u64; PRODUCT_CELLS],
+    /// Of each product, from 1 on: the millilitres that tests drew.
+    pub adjusted: [u64; PRODUCT_CELLS],
 }
 
 impl ShiftRow {
-    /// A shift in which nothing was cleared.
+    /// A shift in which nothing was cleared or drawn.
     pub fn empty() -> Self
-        ensures { result ≡ no_clears }
+        ensures { result ≡ empty_figures }
     {
         ShiftRow {
             tills: [(0, 0); TILL_CELLS],
             products: [0; PRODUCT_CELLS],
+            adjusted: [0; PRODUCT_CELLS],
         }
     }
 
     /// Adds one clear by a till: of this product, so many millilitres and cents. The sums stay in
     /// u64.
-    pub(crate) fn note_cleared(&mut self, t: TillNo, q: ProductNo, ml: u64, cents: u64)
+    pub fn note_cleared(&mut self, t: TillNo, q: ProductNo, ml: u64, cents: u64)
         requires { FitsClear t q ml cents self.old }
         ensures { self.new ≡ with_clear t q ml cents self.old }
     {
@@ -36,5 +41,13 @@ impl ShiftRow {
         self.tills[till] = (clears + 1, sum + cents);
         let product = q.cell();
         self.products[product] += ml;
+    }
+
+    /// Adds one draw of a test: of this product, so many millilitres. The sum stays in u64.
+    pub fn note_drawn(&mut self, q: ProductNo, ml: u64)
+        requires { FitsDraw q ml self.old }
+        ensures { self.new ≡ with_draw q ml self.old }
+    {
+        self.adjusted[q.cell()] += ml;
     }
 }
