@@ -11,6 +11,7 @@ mod event;
 mod limits;
 mod memory;
 mod numbers;
+mod point_set;
 mod prices;
 mod refusal;
 mod row;
@@ -33,6 +34,7 @@ pub use limits::{
 };
 pub use memory::NoMemory;
 pub use numbers::{FpNo, NozzleNo, Number, ProductNo, Seq, TillNo};
+pub use point_set::PointSet;
 pub use prices::PriceBook;
 pub use refusal::{NoRow, Refusal};
 pub use row::{Placed, Reply, Row, Rows, cents_told, growth_told};
