@@ -1,6 +1,6 @@
 -- What holds of the nozzles' meters by their definitions.
 use Rattle.std.specs.Prelude.{◌≡◌, ℕ, ◌+◌, ◌*◌, ◌<◌, ◌≤◌, List, Some, None, ◌==◌, if◌then◌else◌}
-use Rattle.site_base.specs.declared.limits.TheConstants.{GREATEST_READING, METERS}
+use Rattle.site_base.specs.declared.limits.TheConstants.{GREATEST_READING, REPLACEMENT_LIMIT}
 use Rattle.site_base.specs.declared.refusal.Refusal.{Refusal}
 use Rattle.site_base.specs.Configured.{Configured}
 use Rattle.meters.specs.declared.report.Report.{Report}
@@ -24,7 +24,7 @@ pub record StaysWithinBounds : Type 0 where
       → EachMetered xs → last_of p n xs ≡ Some last → last ≤ reading → reading ≤ GREATEST_READING
       → EachMetered (with_last p n reading xs)
   pub replaces : (xs : List Nozzle) (p n reading : ℕ)
-      → EachMetered xs → times_replaced p n xs + 1 < METERS → reading ≤ GREATEST_READING
+      → EachMetered xs → times_replaced p n xs < REPLACEMENT_LIMIT → reading ≤ GREATEST_READING
       → EachMetered (with_meter p n reading xs)
 
 -- A site that opens has metered nothing. An accepted report of a nozzle raises what is metered by

@@ -1,6 +1,6 @@
 -- The millilitres that a site has metered.
 use Rattle.std.specs.Prelude.{ℕ, ◌+◌, ◌-◌, ◌*◌, List, [], ◌∷◌, ◌==◌, if◌then◌else◌}
-use Rattle.site_base.specs.declared.limits.TheConstants.{GREATEST_READING, METERS, NOZZLES, POINTS}
+use Rattle.site_base.specs.declared.limits.TheConstants.{GREATEST_READING, NOZZLES, POINTS, REPLACEMENT_LIMIT}
 use Rattle.meters.specs.Nozzles.{Nozzle}
 
 -- the millilitres that a nozzle has metered since the site opened: those of its meter, and those of
@@ -10,7 +10,7 @@ metered x = (x.last - x.began) + x.earlier
 
 -- the most that a nozzle can meter
 abbrev pub most_of_a_nozzle : ℕ
-most_of_a_nozzle = METERS * GREATEST_READING
+most_of_a_nozzle = (REPLACEMENT_LIMIT + 1) * GREATEST_READING
 
 -- the most that a site can meter
 abbrev pub most_of_a_site : ℕ
