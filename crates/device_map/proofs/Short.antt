@@ -1,6 +1,6 @@
 -- The items of a reply rise and are short, so that with any address they fit a message.
 use Rattle.std.proofs.Common.{◌≡◌, ◌≤◌, ℕ, length, arith, List, ◌++◌, Option, Some, None, Result}
-use Rattle.std.proofs.Common.{Ok, Err, refl, lit≤}
+use Rattle.std.proofs.Common.{Bool, true, false, Ok, Err, refl, lit≤}
 use Rattle.std.specs.Prelude.{unwrap_or}
 use Rattle.site_base.specs.declared.answer.Answer.{Answer}
 use Rattle.site_base.specs.declared.answer.Answer.TheVariants as answers
@@ -18,20 +18,27 @@ use Rattle.app_message.specs.Spelling.{item_text, body_text}
 use Rattle.app_message.specs.Parts.{parts_fault}
 use Rattle.device_map.specs.declared.ids.TheConstants as ids
 use Rattle.device_map.specs.Items.{octet, four_octets, eight_octets}
-use Rattle.device_map.specs.Replies.{AreShort, flag, preset_items, prepaid_items, detail_items}
+use Rattle.device_map.specs.Replies.{AreShort, flag, test_items, preset_items, prepaid_items, detail_items}
 use Rattle.device_map.specs.Replies.{answer_items, reply_items}
 
-point_short : (v : PointView) (preset : Preset) (prepaid : Option ℕ)
+point_short : (v : PointView) (test : Bool) (preset : Preset) (prepaid : Option ℕ)
     → AreShort (octet ids.STATE (state_number v.state) ++ octet ids.NOZZLE_OUT (unwrap_or v.out 0)
     ++ octet ids.HOLDER (unwrap_or v.holder 0)
-    ++ octet ids.ENDING (flag v.ending) ++ preset_items preset ++ four_octets ids.PRICE v.price
+    ++ octet ids.ENDING (flag v.ending) ++ test_items test
+    ++ preset_items preset ++ four_octets ids.PRICE v.price
     ++ eight_octets ids.VOLUME v.volume ++ prepaid_items prepaid)
-point_short v Unset None = record { rise = refl; size = lit≤ tt }
-point_short v Unset (Some cents) = record { rise = refl; size = lit≤ tt }
-point_short v (Volume n) None = record { rise = refl; size = lit≤ tt }
-point_short v (Volume n) (Some cents) = record { rise = refl; size = lit≤ tt }
-point_short v (Money n) None = record { rise = refl; size = lit≤ tt }
-point_short v (Money n) (Some cents) = record { rise = refl; size = lit≤ tt }
+point_short v true Unset None = record { rise = refl; size = lit≤ tt }
+point_short v true Unset (Some cents) = record { rise = refl; size = lit≤ tt }
+point_short v true (Volume n) None = record { rise = refl; size = lit≤ tt }
+point_short v true (Volume n) (Some cents) = record { rise = refl; size = lit≤ tt }
+point_short v true (Money n) None = record { rise = refl; size = lit≤ tt }
+point_short v true (Money n) (Some cents) = record { rise = refl; size = lit≤ tt }
+point_short v false Unset None = record { rise = refl; size = lit≤ tt }
+point_short v false Unset (Some cents) = record { rise = refl; size = lit≤ tt }
+point_short v false (Volume n) None = record { rise = refl; size = lit≤ tt }
+point_short v false (Volume n) (Some cents) = record { rise = refl; size = lit≤ tt }
+point_short v false (Money n) None = record { rise = refl; size = lit≤ tt }
+point_short v false (Money n) (Some cents) = record { rise = refl; size = lit≤ tt }
 
 start_short : (preset : Preset) (price : ℕ) → AreShort (answer_items (answers.Start preset price))
 start_short Unset price = record { rise = refl; size = lit≤ tt }
@@ -39,7 +46,7 @@ start_short (Volume n) price = record { rise = refl; size = lit≤ tt }
 start_short (Money n) price = record { rise = refl; size = lit≤ tt }
 
 answer_short : (answer : Answer) → AreShort (answer_items answer)
-answer_short (answers.PointIs view) = point_short view view.preset view.prepaid
+answer_short (answers.PointIs view) = point_short view view.test view.preset view.prepaid
 answer_short (answers.Start preset price) = start_short preset price
 answer_short answer = record { rise = refl; size = lit≤ tt }
 

@@ -71,6 +71,12 @@ answer_rows =
     to_write (Ok (answers.Cleared 1500))
     "02 01 01 01 00 E5 0012 01 23" "010100 03010B 750800000000000005DC" ∷
     to_write (Ok (answers.ShiftClosed 1)) "02 01 01 01 00 E5 000C 01 23" "010100 03010C 76020001" ∷
+    to_write (Ok (answers.ShiftClosed 999))
+    "02 01 01 01 00 E5 000C 01 23" "010100 03010C 760203E7" ∷
+    to_write (Ok (answers.Drawn 20000))
+    "02 01 01 01 00 E5 0012 01 23" "010100 03010D 73080000000000004E20" ∷
+    to_write (Ok (answers.Drawn 0))
+    "02 01 01 01 00 E5 0012 01 23" "010100 03010D 73080000000000000000" ∷
     []
 
 answers_are_told : map tells answer_rows ≡ map (λ row. row.text ∷ []) answer_rows
@@ -111,6 +117,7 @@ refusal_rows =
     "02 01 01 01 00 E5 000F 01 23" "010116 02080000000000000001" ∷
     to_write (Err refusals.Ending) "02 01 01 01 00 E5 0005 01 23" "010117" ∷
     to_write (Err refusals.ShiftsSpent) "02 01 01 01 00 E5 0005 01 23" "010118" ∷
+    to_write (Err refusals.MeterSpent) "02 01 01 01 00 E5 0005 01 23" "010119" ∷
     []
 
 refusals_are_told : map tells refusal_rows ≡ map (λ row. row.text ∷ []) refusal_rows
@@ -126,6 +133,7 @@ started = record {
   out = Some 1;
   holder = Some 2;
   ending = true;
+  test = false;
   preset = Money 2000;
   prepaid = Some 2000;
   price = 1500;
@@ -138,6 +146,7 @@ held = record {
   out = None;
   holder = Some 1;
   ending = false;
+  test = false;
   preset = Unset;
   prepaid = None;
   price = 0;
@@ -150,10 +159,38 @@ idle = record {
   out = None;
   holder = None;
   ending = false;
+  test = false;
   preset = Unset;
   prepaid = None;
   price = 0;
   volume = 0;
+}
+
+-- a test that waits for its nozzle, and a test under way
+abbrev tested : PointView
+tested = record {
+  state = states.Authorised;
+  out = None;
+  holder = Some 1;
+  ending = false;
+  test = true;
+  preset = Unset;
+  prepaid = None;
+  price = 0;
+  volume = 0;
+}
+
+abbrev drawing : PointView
+drawing = record {
+  state = states.Fuelling;
+  out = Some 1;
+  holder = Some 32;
+  ending = false;
+  test = true;
+  preset = Unset;
+  prepaid = None;
+  price = 1500;
+  volume = 5000;
 }
 
 -- a fuelling under way within a preset volume
@@ -163,6 +200,7 @@ fuelling = record {
   out = Some 2;
   holder = Some 8;
   ending = false;
+  test = false;
   preset = Volume 3000;
   prepaid = None;
   price = 1799;
@@ -211,6 +249,7 @@ metered = record {
   payable = 12344;
   locked = 2;
   cleared = 3;
+  adjusted = 20000;
 }
 
 -- what a read of point 3 with token 5 is answered with: an Answer
@@ -222,6 +261,12 @@ view_rows =
     to_write (Ok (answers.PointIs fuelling))
     "02 01 01 01 00 25 0024 01 23"
     "100108 110102 120108 130100 500400000BB8 720400000707 73080000000000003039" ∷
+    to_write (Ok (answers.PointIs tested))
+    "02 01 01 01 00 25 0021 01 23"
+    "100105 110100 120101 130100 140101 720400000000 73080000000000000000" ∷
+    to_write (Ok (answers.PointIs drawing))
+    "02 01 01 01 00 25 0021 01 23"
+    "100108 110101 120120 130100 140101 7204000005DC 73080000000000001388" ∷
     to_write (Ok (answers.TransactionIs payable))
     "02 01 01 01 00 25 002B 01 23"
     "720400000707 73080000000000003039 750800000000000008AD 770400000000 780102 790100 7A0102" ∷
@@ -232,8 +277,8 @@ view_rows =
     "02 01 01 01 00 25 002B 01 23"
     "7204000005DC 73080000000000002710 750800000000000005DC 770400000000 780101 790101 7A0101" ∷
     to_write (Ok (answers.ProductIs metered))
-    "02 01 01 01 00 25 003A 01 23 720400000707 7B080000000000003039"
-    "7C080000000000000001 7D080000000000003038 7E080000000000000002 7F080000000000000003" ∷
+    "02 01 01 01 00 25 0044 01 23 720400000707 7B080000000000003039 7C080000000000000001"
+    "7D080000000000003038 7E080000000000000002 7F080000000000000003 85080000000000004E20" ∷
     to_write (Ok (answers.SiteIs (record { cents = 1500; shift = 1 })))
     "02 01 01 01 00 25 0010 01 23" "750800000000000005DC 76020001" ∷
     told "01 01 02 01 00 05 00 02 01 22" (Ok (answers.PointIs held))
@@ -263,10 +308,10 @@ way_rows =
     told "01 01 02 01 00 48 00 04 01 22 43 00" (Err refusals.NotYours)
     "02 01 01 01 00 E8 0005 01 22" "01010C" ∷
     -- a dispenser's report, and the address of a transaction
-    told "01 01 03 10 00 7F 00 04 01 30 60 00" (Ok answers.Done)
-    "03 10 01 01 00 FF 0008 01 30" "010100 030100" ∷
-    told "01 01 02 08 00 40 00 07 04 21 21 00 01 80 00" (Ok answers.Locked)
-    "02 08 01 01 00 E0 000B 04 21 21 00 01" "010100 030109" ∷
+    told "01 01 03 40 00 7F 00 04 01 60 60 00" (Ok answers.Done)
+    "03 40 01 01 00 FF 0008 01 60" "010100 030100" ∷
+    told "01 01 02 20 00 40 00 07 04 21 21 00 01 80 00" (Ok answers.Locked)
+    "02 20 01 01 00 E0 000B 04 21 21 00 01" "010100 030109" ∷
     []
 
 ways_back : map tells way_rows ≡ map (λ row. row.text ∷ []) way_rows

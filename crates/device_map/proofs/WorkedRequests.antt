@@ -48,8 +48,10 @@ requests =
     asks "01 01 02 01 00 48 00 04 01 22 43 00" (Till 1) (events.Unassign 2) ∷
     asks "01 01 02 01 00 03 00 02 01 23" (Till 1) (events.ReadPoint 3) ∷
     -- the last till, and the last point
-    asks "01 01 02 08 00 40 00 04 01 30 42 00" (Till 8) (events.Assign 16) ∷
-    asks "01 01 02 08 00 1F 00 02 01 30" (Till 8) (events.ReadPoint 16) ∷
+    asks "01 01 02 20 00 40 00 04 01 60 42 00" (Till 32) (events.Assign 64) ∷
+    asks "01 01 02 20 00 1F 00 02 01 60" (Till 32) (events.ReadPoint 64) ∷
+    -- a point that only a larger site has: the site tells whether it is there
+    asks "01 01 02 01 00 03 00 02 01 26" (Till 1) (events.ReadPoint 6) ∷
     []
 
 requests_ask : map (λ row. read_in row.text) requests ≡ map (λ row. row.pair ∷ []) requests
@@ -67,18 +69,18 @@ no_requests =
     -- another node, another subnet
     fails "01 02 09 09 00 41 00 02 01 99" NotForUs ∷
     fails "02 01 09 09 00 41 00 02 01 99" NotForUs ∷
-    -- tills 0 and 9, a dispenser that writes and one that reads
+    -- tills 0 and 33, a dispenser that writes and one that reads
     fails "01 01 02 00 00 41 00 02 01 99" BadOriginator ∷
-    fails "01 01 02 09 00 41 00 02 01 99" BadOriginator ∷
+    fails "01 01 02 21 00 41 00 02 01 99" BadOriginator ∷
     fails "01 01 03 02 00 41 00 04 01 22 42 00" BadOriginator ∷
     fails "01 01 03 02 00 01 00 02 01 22" BadOriginator ∷
-    -- a till that reports, dispensers 0 and 17
+    -- a till that reports, dispensers 0 and 65
     fails "01 01 02 01 00 61 00 02 01 99" BadOriginator ∷
     fails "01 01 03 00 00 61 00 02 01 99" BadOriginator ∷
-    fails "01 01 03 11 00 61 00 02 01 99" BadOriginator ∷
-    -- points 0 and 17, no product 0 and 9, two octets, the site with an octet more
+    fails "01 01 03 41 00 61 00 02 01 99" BadOriginator ∷
+    -- points 0 and 65, no product 0 and 9, two octets, the site with an octet more
     fails "01 01 02 01 00 41 00 02 01 20" BadAddress ∷
-    fails "01 01 02 08 00 41 00 02 01 31" BadAddress ∷
+    fails "01 01 02 20 00 41 00 02 01 61" BadAddress ∷
     fails "01 01 02 01 00 41 00 02 01 80" BadAddress ∷
     fails "01 01 02 01 00 41 00 02 01 89" BadAddress ∷
     fails "01 01 02 01 00 41 00 03 02 21 21" BadAddress ∷
@@ -132,15 +134,15 @@ abbrev addresses : List AddressRow
 addresses =
     names "01" (Ok Site) ∷
     names "21" (Ok (Point 1)) ∷
-    names "30" (Ok (Point 16)) ∷
+    names "60" (Ok (Point 64)) ∷
     names "21 21 99 99" (Ok (Transaction 1 (octets "99 99"))) ∷
-    names "30 21 AB 00" (Ok (Transaction 16 (octets "AB 00"))) ∷
+    names "60 21 AB 00" (Ok (Transaction 64 (octets "AB 00"))) ∷
     names "81" (Ok (Product 1)) ∷
     names "88" (Ok (Product 8)) ∷
     -- another form, a point out of range, and three octets
     names "21 22 00 01" (Err BadAddress) ∷
     names "20 21 00 01" (Err BadAddress) ∷
-    names "31 21 00 01" (Err BadAddress) ∷
+    names "61 21 00 01" (Err BadAddress) ∷
     names "21 21 00" (Err BadAddress) ∷
     names "02" (Err BadAddress) ∷
     []

@@ -33,6 +33,11 @@ flag false = 0
 abbrev pub packed : ℕ → ℕ
 packed n = n / 1000 % 10 * 4096 + n / 100 % 10 * 256 + n / 10 % 10 * 16 + n % 10
 
+-- the test mark, if the fuelling is a test
+abbrev pub test_items : Bool → List Entry
+test_items true = octet ids.TEST 1
+test_items false = []
+
 -- the preset, if one is set
 abbrev pub preset_items : Preset → List Entry
 preset_items Unset = []
@@ -47,7 +52,8 @@ prepaid_items (Some cents) = four_octets ids.PREPAID cents
 abbrev pub point_items : PointView → List Entry
 point_items v = octet ids.STATE (state_number v.state) ++ octet ids.NOZZLE_OUT (unwrap_or v.out 0)
     ++ octet ids.HOLDER (unwrap_or v.holder 0)
-    ++ octet ids.ENDING (flag v.ending) ++ preset_items v.preset ++ four_octets ids.PRICE v.price
+    ++ octet ids.ENDING (flag v.ending) ++ test_items v.test
+    ++ preset_items v.preset ++ four_octets ids.PRICE v.price
     ++ eight_octets ids.VOLUME v.volume ++ prepaid_items v.prepaid
 
 abbrev pub transaction_items : TransactionView → List Entry
@@ -60,7 +66,7 @@ abbrev pub product_items : ProductView → List Entry
 product_items v = four_octets ids.PRICE v.price ++ eight_octets ids.METERED v.metered
     ++ eight_octets ids.RUNNING v.running
     ++ eight_octets ids.PAYABLE v.payable ++ eight_octets ids.LOCKED v.locked
-    ++ eight_octets ids.CLEARED v.cleared
+    ++ eight_octets ids.CLEARED v.cleared ++ eight_octets ids.ADJUSTED v.adjusted
 
 abbrev pub site_items : SiteView → List Entry
 site_items v = eight_octets ids.CENTS v.cents ++ two_octets ids.SHIFT v.shift
@@ -86,6 +92,7 @@ answer_items answers.Locked = outcome 9
 answer_items answers.Unlocked = outcome 10
 answer_items (answers.Cleared cents) = outcome 11 ++ eight_octets ids.CENTS cents
 answer_items (answers.ShiftClosed shift) = outcome 12 ++ two_octets ids.SHIFT shift
+answer_items (answers.Drawn growth) = outcome 13 ++ eight_octets ids.VOLUME growth
 answer_items (answers.PointIs view) = point_items view
 answer_items (answers.TransactionIs view) = transaction_items view
 answer_items (answers.ProductIs view) = product_items view

@@ -51,6 +51,8 @@ pub const HOLDER: u8 = 0x12;
 
 pub const ENDING: u8 = 0x13;
 
+pub const TEST: u8 = 0x14;
+
 pub const PRESET_VOLUME: u8 = 0x50;
 
 pub const PRESET_MONEY: u8 = 0x51;
@@ -82,3 +84,5 @@ pub const PAYABLE: u8 = 0x7D;
 pub const LOCKED: u8 = 0x7E;
 
 pub const CLEARED: u8 = 0x7F;
+
+pub const ADJUSTED: u8 = 0x85;

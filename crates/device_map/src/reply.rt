@@ -2,7 +2,7 @@
 
 ghost use Rattle.std.specs.Prelude.{◌≡◌, ◌≤◌, ◌++◌, length, unwrap_or, IfOk, OnOk};
 ghost use Rattle.app_message.specs.Telegram.{telegram};
-ghost use Rattle.device_map.specs.Replies.{preset_items, prepaid_items, point_items};
+ghost use Rattle.device_map.specs.Replies.{preset_items, prepaid_items, point_items, test_items};
 ghost use Rattle.device_map.specs.Replies.{transaction_items, product_items, site_items, outcome};
 ghost use Rattle.device_map.specs.Replies.{answer_items, answer_kind, detail_items, refusal_items};
 ghost use Rattle.device_map.specs.Replies.{reply_items, reply_kind, reply_message, number_message};
@@ -14,7 +14,7 @@ use crate::{ids, node};
 use app_message::{Kind, Message, MessageFault, StreamFault, Token};
 use site_base::{
     Answer, Cents, GREATEST_SEQ, Mills, NoMemory, NozzleNo, PointView, Preset, ProductView,
-    Refusal, Reply, Seq, SiteView, TillNo, TransactionView,
+    Refusal, Reply, Seq, ShiftNo, SiteView, TillNo, TransactionView,
 };
 use std::alloc::Global;
 
@@ -152,6 +152,7 @@ fn answer_parts(alloc: Global, answer: &Answer) -> Result<ReplyParts, NoMemory>
         Answer::Unlocked => outcome_parts(alloc, 10),
         Answer::Cleared(cents) => cleared_parts(alloc, *cents),
         Answer::ShiftClosed(shift) => shift_parts(alloc, *shift),
+        Answer::Drawn { growth } => drawn_parts(alloc, *growth),
         Answer::PointIs(view) => point_parts(alloc, view),
         Answer::TransactionIs(view) => transaction_parts(alloc, view),
         Answer::ProductIs(view) => product_parts(alloc, view),
@@ -202,11 +203,19 @@ fn cleared_parts(alloc: Global, cents: Cents) -> Result<ReplyParts, NoMemory>
     Ok(parts)
 }
 
-fn shift_parts(alloc: Global, shift: u16) -> Result<ReplyParts, NoMemory>
+fn shift_parts(alloc: Global, shift: ShiftNo) -> Result<ReplyParts, NoMemory>
     ensures { IfOk result (λ parts. parts ≡ answer_items (Answer.ShiftClosed shift)) }
 {
     let mut parts = outcome_parts(alloc, 12)?;
-    parts.put_two(ids::SHIFT, shift)?;
+    parts.put_two(ids::SHIFT, shift.get())?;
+    Ok(parts)
+}
+
+fn drawn_parts(alloc: Global, growth: u64) -> Result<ReplyParts, NoMemory>
+    ensures { IfOk result (λ parts. parts ≡ answer_items (Answer.Drawn growth)) }
+{
+    let mut parts = outcome_parts(alloc, 13)?;
+    parts.put_eight(ids::VOLUME, growth)?;
     Ok(parts)
 }
 
@@ -218,6 +227,7 @@ fn point_parts(alloc: Global, view: &PointView) -> Result<ReplyParts, NoMemory>
     parts.put_octet(ids::NOZZLE_OUT, nozzle_number(view.out))?;
     parts.put_octet(ids::HOLDER, till_number(view.holder))?;
     parts.put_octet(ids::ENDING, u8::from(view.ending))?;
+    put_test(&mut parts, view.test)?;
     put_preset(&mut parts, view.preset)?;
     parts.put_four(ids::PRICE, view.price)?;
     parts.put_eight(ids::VOLUME, view.volume)?;
@@ -249,6 +259,7 @@ fn product_parts(alloc: Global, view: &ProductView) -> Result<ReplyParts, NoMemo
     parts.put_eight(ids::PAYABLE, view.payable)?;
     parts.put_eight(ids::LOCKED, view.locked)?;
     parts.put_eight(ids::CLEARED, view.cleared)?;
+    parts.put_eight(ids::ADJUSTED, view.adjusted)?;
     Ok(parts)
 }
 
@@ -257,8 +268,18 @@ fn site_parts(alloc: Global, view: &SiteView) -> Result<ReplyParts, NoMemory>
 {
     let mut parts = ReplyParts::new(alloc);
     parts.put_eight(ids::CENTS, view.cents)?;
-    parts.put_two(ids::SHIFT, view.shift)?;
+    parts.put_two(ids::SHIFT, view.shift.get())?;
     Ok(parts)
+}
+
+fn put_test(parts: &mut ReplyParts, test: bool) -> Result<(), NoMemory>
+    ensures { OnOk result (parts.new ≡ parts.old ++ test_items test) }
+{
+    if test {
+        parts.put_octet(ids::TEST, 1)
+    } else {
+        Ok(())
+    }
 }
 
 fn put_preset(parts: &mut ReplyParts, preset: Preset) -> Result<(), NoMemory>

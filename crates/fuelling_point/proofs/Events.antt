@@ -2,7 +2,7 @@
 use Rattle.std.proofs.Common.{◌≡◌, ℕ, ◌+◌, true, false, Option, Some, Ok, arith}
 use Rattle.std.proofs.lemmas.Grind.{common_steps}
 use Rattle.fuelling_point.specs.declared.event.PointEvent.{PointEvent}
-use Rattle.fuelling_point.specs.declared.step.PointStep.TheVariants.{Sold, Ending}
+use Rattle.fuelling_point.specs.declared.step.PointStep.TheVariants.{Sold, Drawn, Ending}
 use Rattle.fuelling_point.specs.Kept.{Facts, is_under_way, growth_of}
 use Rattle.fuelling_point.specs.History.{reply_to, facts_after}
 use Rattle.fuelling_point.specs.Whole.{is_suspended}
@@ -44,6 +44,14 @@ sold_price e f nozzle volume price prepaid is = grind (arith, common_steps)
 pub sold_volume : (e : PointEvent) (f : Facts) (nozzle volume price : ℕ) (prepaid : Option ℕ)
     → reply_to e f ≡ Ok (Sold nozzle volume price prepaid) → volume ≡ f.volume + growth_of e
 sold_volume e f nozzle volume price prepaid is = grind (arith, common_steps)
+
+pub drawn_under_way : (e : PointEvent) (f : Facts) (nozzle volume : ℕ)
+    → reply_to e f ≡ Ok (Drawn nozzle volume) → is_under_way f.state ≡ true
+drawn_under_way e f nozzle volume is = grind (arith, common_steps)
+
+pub drawn_volume : (e : PointEvent) (f : Facts) (nozzle volume : ℕ)
+    → reply_to e f ≡ Ok (Drawn nozzle volume) → volume ≡ f.volume + growth_of e
+drawn_volume e f nozzle volume is = grind (arith, common_steps)
 
 pub suspended_when_terminated : (e : PointEvent) (f : Facts) → reply_to e f ≡ Ok Ending
     → is_suspended (facts_after e f).state ≡ true

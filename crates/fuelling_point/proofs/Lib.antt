@@ -5,4 +5,5 @@ pub mod Growths
 pub mod Starts
 pub mod Lifted
 pub mod Suspension
+pub mod TestDraws
 pub mod Worked

@@ -1,5 +1,5 @@
 -- The nozzle that is out.
-use Rattle.std.proofs.Common.{◌≡◌, ℕ, Bool, true, false, List, [], ◌∷◌, ◌⊎◌, inl, inr, Option, Some, None, Ok, refl, sym, ap, ◌∙◌, arith}
+use Rattle.std.proofs.Common.{◌≡◌, ℕ, Bool, true, false, List, [], ◌∷◌, ◌⊎◌, inl, inr, Some, None, refl, sym, ap, ◌∙◌, arith}
 use Rattle.std.specs.Prelude.{is_some}
 use Rattle.std.specs.List.{list_any}
 use Rattle.std.proofs.lemmas.Bool.{false≢true}
@@ -7,12 +7,11 @@ use Rattle.std.proofs.lemmas.Grind.{common_steps}
 use Rattle.site_base.specs.declared.state.PointState.TheVariants.{Closed}
 use Rattle.fuelling_point.specs.declared.event.PointEvent.{PointEvent}
 use Rattle.fuelling_point.specs.declared.event.PointEvent.TheVariants.{Flow, HangUp}
-use Rattle.fuelling_point.specs.declared.step.PointStep.TheVariants.{Sold}
 use Rattle.fuelling_point.specs.Kept.{Facts, fresh, has_nozzle_out}
 use Rattle.fuelling_point.specs.Whole.{IsWhole}
 use Rattle.fuelling_point.specs.PointChecks.{refusal_of}
 use Rattle.fuelling_point.specs.History.{Moment, history, facts_at_end, facts_after, reply_to, moments_of, point_after}
-use Rattle.fuelling_point.specs.Laws.{ends, lifted_by, HasLifted, IsTheLifted}
+use Rattle.fuelling_point.specs.Laws.{delivered_by, ends, lifted_by, HasLifted, IsTheLifted}
 use Rattle.fuelling_point.proofs.Whole.{whole_after}
 
 not_put_back : (e : PointEvent) (f : Facts) → has_nozzle_out (facts_after e f).state ≡ true
@@ -27,10 +26,9 @@ lifted : (e : PointEvent) (f : Facts) → has_nozzle_out (facts_after e f).state
     → has_nozzle_out f.state ≡ false → lifted_by e f.state ≡ (facts_after e f).out
 lifted e f after before = grind (arith, common_steps)
 
-pub sold_nozzle : (e : PointEvent) (f : Facts) (nozzle volume price : ℕ) (prepaid : Option ℕ)
-    → IsWhole f
-    → reply_to e f ≡ Ok (Sold nozzle volume price prepaid) → f.out ≡ Some nozzle
-sold_nozzle e f nozzle volume price prepaid w is =
+pub sold_nozzle : (e : PointEvent) (f : Facts) (nozzle volume : ℕ) → IsWhole f
+    → delivered_by (reply_to e f) ≡ Some (nozzle, volume) → f.out ≡ Some nozzle
+sold_nozzle e f nozzle volume w is =
     let whole = w.nozzle in
     grind (arith, common_steps)
 
@@ -111,6 +109,6 @@ out events nozzle is =
 pub the_lifted : IsTheLifted
 the_lifted = record {
   out = out;
-  sold = λ events event nozzle volume price prepaid is. out events nozzle
-      (sold_nozzle event (point_after events) nozzle volume price prepaid (whole_after events) is);
+  sold = λ events event nozzle volume is. out events nozzle
+      (sold_nozzle event (point_after events) nozzle volume (whole_after events) is);
 }

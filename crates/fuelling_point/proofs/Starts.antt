@@ -5,11 +5,11 @@ use Rattle.std.proofs.lemmas.List.Sums.{sum_by-cons}
 use Rattle.fuelling_point.specs.declared.event.PointEvent.{PointEvent}
 use Rattle.site_base.specs.declared.state.PointState.TheVariants.{Closed}
 use Rattle.std.proofs.lemmas.Bool.{false≢true}
-use Rattle.fuelling_point.specs.declared.step.PointStep.TheVariants.{Sold}
+use Rattle.fuelling_point.specs.declared.step.PointStep.TheVariants.{Sold, Drawn}
 use Rattle.fuelling_point.specs.Kept.{Facts, fresh, is_under_way, growth_of}
 use Rattle.fuelling_point.specs.History.{Moment, history, facts_at_end, facts_after, reply_to, moments_of, point_after}
-use Rattle.fuelling_point.specs.Laws.{ends, flowed_in, reply_at, HasStarted}
-use Rattle.fuelling_point.proofs.Events.{not_ended, price_kept, start_kept, volume_kept, start_taken, volume_none, sold_under_way, sold_price, sold_volume}
+use Rattle.fuelling_point.specs.Laws.{ends, flowed_in, reply_at, HasStarted, IsSoldAsStarted}
+use Rattle.fuelling_point.proofs.Events.{not_ended, price_kept, start_kept, volume_kept, start_taken, volume_none, sold_under_way, sold_price, sold_volume, drawn_under_way, drawn_volume}
 
 abbrev pub growth_at : Moment → ℕ
 growth_at m = flowed_in (reply_at m)
@@ -92,7 +92,7 @@ started events is = elim (stands (fresh Closed) events is)
     [ inl on ↦ absurd (false≢true on.under_way) | inr s ↦ s ]
 
 -- what is sold is the fuelling that stood under way
-pub sold_started : (events : List PointEvent) (event : PointEvent) (nozzle volume price : ℕ)
+sold_started : (events : List PointEvent) (event : PointEvent) (nozzle volume price : ℕ)
     (prepaid : Option ℕ)
     → reply_to event (point_after events) ≡ Ok (Sold nozzle volume price prepaid)
     → (start : ℕ) × ((flowed : ℕ) × (HasStarted (moments_of events) price start flowed
@@ -112,3 +112,17 @@ sold_started events event nozzle volume price prepaid is =
         ),
       ),
     )
+
+-- what is drawn too
+drawn_started : (events : List PointEvent) (event : PointEvent) (nozzle volume : ℕ)
+    → reply_to event (point_after events) ≡ Ok (Drawn nozzle volume)
+    → (price : ℕ) × ((start : ℕ) × ((flowed : ℕ) × (HasStarted (moments_of events) price start flowed
+    × (volume ≡ flowed + growth_of event))))
+drawn_started events event nozzle volume is =
+    let f : Facts = point_after events in
+    let kept : HasStarted (moments_of events) f.price f.start f.volume =
+    started events (drawn_under_way event f nozzle volume is) in
+    (f.price, (f.start, (f.volume, (kept, drawn_volume event f nozzle volume is))))
+
+pub sold_as_started : IsSoldAsStarted
+sold_as_started = record { sold = sold_started; drawn = drawn_started }

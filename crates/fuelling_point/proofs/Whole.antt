@@ -1,15 +1,14 @@
 -- A point stays whole, and what flows isn't lost.
-use Rattle.std.proofs.Common.{◌≡◌, ℕ, ◌≤◌, List, [], ◌∷◌, Option, None, Ok, refl, subst, arith}
+use Rattle.std.proofs.Common.{◌≡◌, ℕ, ◌≤◌, List, [], ◌∷◌, Some, None, refl, subst, arith}
 use Rattle.std.proofs.lemmas.Grind.{common_steps}
 use Rattle.site_base.specs.declared.state.PointState.TheVariants.{Closed}
 use Rattle.fuelling_point.specs.declared.event.PointEvent.{PointEvent}
-use Rattle.fuelling_point.specs.declared.step.PointStep.TheVariants.{Sold}
 use Rattle.fuelling_point.specs.Kept.{Facts, fresh}
 use Rattle.fuelling_point.specs.Whole.{IsWhole}
 use Rattle.fuelling_point.specs.PointChecks.{refusal_of}
 use Rattle.fuelling_point.specs.Step.{after}
 use Rattle.fuelling_point.specs.History.{reply_to, facts_after, facts_at_end, point_after}
-use Rattle.fuelling_point.specs.Laws.{StaysWhole, IsConserved, IsNeverNothing}
+use Rattle.fuelling_point.specs.Laws.{delivered_by, StaysWhole, IsConserved, IsNeverNothing}
 
 begins : IsWhole (fresh Closed)
 begins = record {
@@ -23,6 +22,9 @@ begins = record {
   preset = λ state. refl;
   prepaid =
       λ state. refl;
+  test = λ state. refl;
+  unlimited = λ test. refl;
+  unpaid = λ test. refl;
 }
 
 keeps : (event : PointEvent) (f : Facts) → IsWhole f → IsWhole (facts_after event f)
@@ -35,6 +37,9 @@ keeps event f w =
     let start = w.start in
     let preset = w.preset in
     let prepaid = w.prepaid in
+    let test = w.test in
+    let unlimited = w.unlimited in
+    let unpaid = w.unpaid in
     record {
       nozzle = grind (arith, common_steps);
       nothing = λ state. grind (arith, common_steps);
@@ -44,6 +49,9 @@ keeps event f w =
       start = λ state. grind (arith, common_steps);
       preset = λ state. grind (arith, common_steps);
       prepaid = λ state. grind (arith, common_steps);
+      test = λ state. grind (arith, common_steps);
+      unlimited = λ test. grind (arith, common_steps);
+      unpaid = λ test. grind (arith, common_steps);
     }
 
 pub stays_whole : StaysWhole
@@ -68,14 +76,13 @@ conserved event f w taken still =
     let nothing = w.nothing in
     grind (arith, common_steps)
 
--- what a whole point sells isn't nothing
-pub sold_something : (event : PointEvent) (f : Facts) (nozzle volume price : ℕ) (prepaid : Option ℕ)
-    → IsWhole f
-    → reply_to event f ≡ Ok (Sold nozzle volume price prepaid) → 1 ≤ volume
-sold_something event f nozzle volume price prepaid w told =
+-- what a whole point sells or draws isn't nothing
+pub sold_something : (event : PointEvent) (f : Facts) (nozzle volume : ℕ) → IsWhole f
+    → delivered_by (reply_to event f) ≡ Some (nozzle, volume) → 1 ≤ volume
+sold_something event f nozzle volume w told =
     let something = w.something in
     grind (arith, common_steps)
 
 pub never_nothing : IsNeverNothing
-never_nothing events event nozzle volume price prepaid told =
-    sold_something event (point_after events) nozzle volume price prepaid (whole_after events) told
+never_nothing events event nozzle volume told =
+    sold_something event (point_after events) nozzle volume (whole_after events) told

@@ -21,11 +21,12 @@ volume_in None = 0
 volume_in (Some delivery) = delivery.volume
 
 -- what the fields of a point stand for
-abbrev pub facts_of : PointState → Option ℕ → Bool → Preset → Option ℕ → Option Delivery → Facts
-facts_of state out ending preset prepaid delivery = record {
+abbrev pub facts_of : PointState → Option ℕ → Bool → Bool → Preset → Option ℕ → Option Delivery → Facts
+facts_of state out ending test preset prepaid delivery = record {
   state = state;
   out = out;
   ending = ending;
+  test = test;
   preset = preset;
   prepaid = prepaid;
   price = price_in delivery;
@@ -34,9 +35,9 @@ facts_of state out ending preset prepaid delivery = record {
 }
 
 -- the point is whole; a delivery is kept where a fuelling is under way, and its volume is in range
-pub record AreWhole (state : PointState) (out : Option ℕ) (ending : Bool) (preset : Preset)
+pub record AreWhole (state : PointState) (out : Option ℕ) (ending test : Bool) (preset : Preset)
     (prepaid : Option ℕ) (delivery : Option Delivery) : Type 0 where
-  pub whole : IsWhole (facts_of state out ending preset prepaid delivery)
+  pub whole : IsWhole (facts_of state out ending test preset prepaid delivery)
   pub under_way : is_some delivery ≡ is_under_way state
   pub in_range : volume_in delivery ≤ GREATEST_READING
 

@@ -7,16 +7,17 @@ use Rattle.site_base.specs.declared.state.Preset.{Preset}
 use Rattle.site_base.specs.declared.state.Preset.TheVariants.{Unset}
 use Rattle.site_base.specs.declared.view.PointView.{PointView}
 use Rattle.fuelling_point.specs.declared.event.PointEvent.{PointEvent}
-use Rattle.fuelling_point.specs.declared.event.PointEvent.TheVariants.{Lift, Release, Terminate, Flow, HangUp}
+use Rattle.fuelling_point.specs.declared.event.PointEvent.TheVariants.{Lift, Release, TestRelease, Terminate, Flow, HangUp}
 use Rattle.fuelling_point.specs.Table.{Move, stay, goes}
 
--- its state; the nozzle that is out; whether its fuelling is ending; the preset and the prepaid
--- cents of its release; and of its fuelling the price taken, the reading at its start and the
--- millilitres since
+-- its state; the nozzle that is out; whether its fuelling is ending, and whether it is a test; the
+-- preset and the prepaid cents of its release; and of its fuelling the price taken, the reading at
+-- its start and the millilitres since
 pub record Facts : Type 0 where
   pub state : PointState
   pub out : Option ℕ
   pub ending : Bool
+  pub test : Bool
   pub preset : Preset
   pub prepaid : Option ℕ
   pub price : ℕ
@@ -29,6 +30,7 @@ fresh s = record {
   state = s;
   out = None;
   ending = false;
+  test = false;
   preset = Unset;
   prepaid = None;
   price = 0;
@@ -64,6 +66,7 @@ point_view f holder = record {
   out = f.out;
   holder = holder;
   ending = f.ending;
+  test = f.test;
   preset = f.preset;
   prepaid = f.prepaid;
   price = price_of f;
@@ -92,6 +95,8 @@ abbrev pub noted : PointEvent → Move → Facts → Facts
 noted (Lift nozzle last price) move f = starting move last price (record f { out = Some nozzle })
 noted (Release preset prepaid last price) move f =
     starting move last price (record f { preset = preset; prepaid = prepaid })
+noted (TestRelease last price) move f =
+    starting move last price (record f { preset = Unset; prepaid = None; test = true })
 noted Terminate move f = record f { ending = true }
 noted (Flow nozzle growth) move f = record f { volume = f.volume + growth }
 noted (HangUp nozzle growth) move f = record f { volume = f.volume + growth }

@@ -1,14 +1,15 @@
 -- The laws of a fuelling point: what holds whatever events a new point has had, refused ones among
 -- them.
-use Rattle.std.specs.Prelude.{◌≡◌, ℕ, ◌+◌, ◌≤◌, Bool, true, false, ◌&&◌, List, ◌∷◌, ◌++◌, sum_by, Option, Some, None, is_ok, Result, Ok}
+use Rattle.std.specs.Prelude.{◌≡◌, ℕ, ◌+◌, ◌≤◌, Bool, true, false, ◌&&◌, ◌||◌, List, ◌∷◌, ◌++◌, sum_by, Option, Some, None, is_some, is_ok, Result, Ok, Err}
 use Rattle.std.specs.List.{list_any}
 use Rattle.site_base.specs.declared.refusal.Refusal.{Refusal}
 use Rattle.site_base.specs.declared.state.PointState.{PointState}
 use Rattle.site_base.specs.declared.state.PointState.TheVariants as states
+use Rattle.site_base.specs.declared.state.Preset.TheVariants.{Unset}
 use Rattle.fuelling_point.specs.declared.event.PointEvent.{PointEvent}
-use Rattle.fuelling_point.specs.declared.event.PointEvent.TheVariants.{Offline, Lift, Release, HangUp}
+use Rattle.fuelling_point.specs.declared.event.PointEvent.TheVariants.{Offline, Lift, Release, TestRelease, HangUp}
 use Rattle.fuelling_point.specs.declared.step.PointStep.{PointStep}
-use Rattle.fuelling_point.specs.declared.step.PointStep.TheVariants.{Flowed, Sold, Ending}
+use Rattle.fuelling_point.specs.declared.step.PointStep.TheVariants.{Flowed, Sold, Drawn, Stopped, Ending}
 use Rattle.fuelling_point.specs.Kept.{Facts, fresh, is_under_way, volume_of, growth_of}
 use Rattle.fuelling_point.specs.Whole.{IsWhole, is_suspended}
 use Rattle.fuelling_point.specs.PointChecks.{refusal_of}
@@ -21,19 +22,41 @@ is_end Offline = true
 is_end (HangUp nozzle growth) = true
 is_end event = false
 
-abbrev pub is_sold : Result PointStep Refusal → Bool
-is_sold (Ok (Sold nozzle volume price prepaid)) = true
-is_sold reply = false
+abbrev pub is_test_release : PointEvent → Bool
+is_test_release (TestRelease last price) = true
+is_test_release event = false
+
+-- the release is taken back
+abbrev pub is_stopped : Result PointStep Refusal → Bool
+is_stopped (Ok Stopped) = true
+is_stopped reply = false
+
+-- what a sale or a draw tells: its nozzle and its volume
+abbrev pub delivered_in : PointStep → Option (ℕ × ℕ)
+delivered_in (Sold nozzle volume price prepaid) = Some (nozzle, volume)
+delivered_in (Drawn nozzle volume) = Some (nozzle, volume)
+delivered_in step = None
+
+-- the same of a reply
+abbrev pub delivered_by : Result PointStep Refusal → Option (ℕ × ℕ)
+delivered_by (Ok step) = delivered_in step
+delivered_by (Err refusal) = None
 
 -- the millilitres that a sale tells; of another step, none
 abbrev pub sold_in : PointStep → ℕ
 sold_in (Sold nozzle volume price prepaid) = volume
 sold_in step = 0
 
+-- the millilitres that a draw tells; of another step, none
+abbrev pub drawn_in : PointStep → ℕ
+drawn_in (Drawn nozzle volume) = volume
+drawn_in step = 0
+
 -- the price and the reading handed in where the event starts a fuelling
 abbrev pub handed_in : PointEvent → PointState → Option (ℕ × ℕ)
 handed_in (Lift nozzle last price) states.Authorised = Some (price, last)
 handed_in (Release preset prepaid last price) states.Calling = Some (price, last)
+handed_in (TestRelease last price) states.Calling = Some (price, last)
 handed_in event state = None
 
 -- the nozzle that the event takes out
@@ -53,6 +76,14 @@ reply_at m = reply_to m.event m.before
 -- an accepted hang up or offline
 abbrev pub ends : Moment → Bool
 ends m = is_end m.event && is_ok (reply_at m)
+
+-- an accepted test release
+abbrev pub is_test_released : Moment → Bool
+is_test_released m = is_test_release m.event && is_ok (reply_at m)
+
+-- an accepted hang up or offline, or a release that is taken back
+abbrev pub ends_release : Moment → Bool
+ends_release m = ends m || is_stopped (reply_at m)
 
 -- A fuelling that stands at the end of these moments: in one of them it started and took this price
 -- and reading, none since has ended it, and so much has flowed since.
@@ -81,16 +112,18 @@ pub record StaysWhole : Type 0 where
   pub keeps : (event : PointEvent) (f : Facts) → IsWhole f → IsWhole (facts_after event f)
 
 -- what has flowed in the fuelling so far and what an accepted event hands in is in the fuelling
--- afterwards or in the sale that it tells; where the point only calls, no growth is handed in
+-- afterwards, in the sale or in the draw that it tells; where the point only calls, no growth is
+-- handed in
 abbrev pub IsConserved : Type 0
 IsConserved = (event : PointEvent) (f : Facts) → IsWhole f → refusal_of event f ≡ None
     → (f.state ≡ states.Calling → growth_of event ≡ 0)
-    → volume_of f + growth_of event ≡ volume_of (after event f) + sold_in (step_of event f)
+    → volume_of f + growth_of event
+    ≡ volume_of (after event f) + sold_in (step_of event f) + drawn_in (step_of event f)
 
--- a sale is the answer to a hang up or an offline alone
+-- a sale and a draw are the answers to a hang up or an offline alone
 abbrev pub IsSoldAtEnd : Type 0
 IsSoldAtEnd = (events : List PointEvent) (event : PointEvent)
-    → is_sold (reply_to event (point_after events)) ≡ true → is_end event ≡ true
+    → is_some (delivered_by (reply_to event (point_after events))) ≡ true → is_end event ≡ true
 
 -- from a terminate that is answered so until an accepted hang up or offline, the point is suspended
 -- and its fuelling ending
@@ -108,26 +141,54 @@ IsKeptFromStart = (events : List PointEvent) → is_under_way (point_after event
     (point_after events).volume
 
 -- a sale has the price that was handed in where its fuelling started, and the volume of the growths
--- since, its own event's among them
-abbrev pub IsSoldAsStarted : Type 0
-IsSoldAsStarted = (events : List PointEvent) (event : PointEvent)
-    (nozzle volume price : ℕ) (prepaid : Option ℕ)
-    → reply_to event (point_after events) ≡ Ok (Sold nozzle volume price prepaid)
-    → (start : ℕ) × ((flowed : ℕ) × (HasStarted (moments_of events) price start flowed
-    × (volume ≡ flowed + growth_of event)))
-
--- a nozzle that is out, and that of a sale, is the one that was lifted and hasn't been put back
--- since
-pub record IsTheLifted : Type 0 where
-  pub out : (events : List PointEvent) (nozzle : ℕ) → (point_after events).out ≡ Some nozzle
-      → HasLifted (moments_of events) nozzle
+-- since, its own event's among them; so has a draw, which tells no price
+pub record IsSoldAsStarted : Type 0 where
   pub sold : (events : List PointEvent) (event : PointEvent)
       (nozzle volume price : ℕ) (prepaid : Option ℕ)
       → reply_to event (point_after events) ≡ Ok (Sold nozzle volume price prepaid)
+      → (start : ℕ) × ((flowed : ℕ) × (HasStarted (moments_of events) price start flowed
+      × (volume ≡ flowed + growth_of event)))
+  pub drawn : (events : List PointEvent) (event : PointEvent) (nozzle volume : ℕ)
+      → reply_to event (point_after events) ≡ Ok (Drawn nozzle volume)
+      → (price : ℕ) × ((start : ℕ) × ((flowed : ℕ) × (HasStarted (moments_of events) price start flowed
+      × (volume ≡ flowed + growth_of event))))
+
+-- a nozzle that is out, and that of a sale or a draw, is the one that was lifted and hasn't been put
+-- back since
+pub record IsTheLifted : Type 0 where
+  pub out : (events : List PointEvent) (nozzle : ℕ) → (point_after events).out ≡ Some nozzle
+      → HasLifted (moments_of events) nozzle
+  pub sold : (events : List PointEvent) (event : PointEvent) (nozzle volume : ℕ)
+      → delivered_by (reply_to event (point_after events)) ≡ Some (nozzle, volume)
       → HasLifted (moments_of events) nozzle
 
--- a sale is never of nothing
+-- a sale is never of nothing, and neither is a draw
 abbrev pub IsNeverNothing : Type 0
-IsNeverNothing = (events : List PointEvent) (event : PointEvent)
-    (nozzle volume price : ℕ) (prepaid : Option ℕ)
-    → reply_to event (point_after events) ≡ Ok (Sold nozzle volume price prepaid) → 1 ≤ volume
+IsNeverNothing = (events : List PointEvent) (event : PointEvent) (nozzle volume : ℕ)
+    → delivered_by (reply_to event (point_after events)) ≡ Some (nozzle, volume) → 1 ≤ volume
+
+-- a release that is a test, at the end of these moments: one of them is its test release, and none
+-- since has ended it
+pub record HasTestRelease (moments : List Moment) : Type 0 where
+  pub before : List Moment
+  pub release : Moment
+  pub since : List Moment
+  pub parts : moments ≡ before ++ release ∷ since
+  pub taken : is_test_released release ≡ true
+  pub goes_on : list_any ends_release since ≡ false
+
+-- A point is a test from an accepted test release until the fuelling ends or the release is taken
+-- back. It has neither preset nor prepaid cents; it is never sold, and what isn't a test is never
+-- drawn.
+pub record AreTestsDrawn : Type 0 where
+  pub released : (events : List PointEvent) → (point_after events).test ≡ true
+      → HasTestRelease (moments_of events)
+  pub unlimited : (events : List PointEvent) → (point_after events).test ≡ true
+      → ((point_after events).preset ≡ Unset) × ((point_after events).prepaid ≡ None)
+  pub sold : (events : List PointEvent) (event : PointEvent)
+      (nozzle volume price : ℕ) (prepaid : Option ℕ)
+      → reply_to event (point_after events) ≡ Ok (Sold nozzle volume price prepaid)
+      → (point_after events).test ≡ false
+  pub drawn : (events : List PointEvent) (event : PointEvent) (nozzle volume : ℕ)
+      → reply_to event (point_after events) ≡ Ok (Drawn nozzle volume)
+      → (point_after events).test ≡ true

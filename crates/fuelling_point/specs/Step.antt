@@ -1,10 +1,16 @@
 -- What an accepted event does: the table's line, with what the point keeps of the event.
-use Rattle.std.specs.Prelude.{ℕ, Option, Some, None, unwrap_or}
+use Rattle.std.specs.Prelude.{ℕ, Option, Some, None, unwrap_or, if◌then◌else◌}
 use Rattle.fuelling_point.specs.declared.event.PointEvent.{PointEvent}
 use Rattle.fuelling_point.specs.declared.step.PointStep.{PointStep}
-use Rattle.fuelling_point.specs.declared.step.PointStep.TheVariants.{Moved, Calling, Start, Flowed, HungUp, NoSale, Sold, Stopped, Ending}
+use Rattle.fuelling_point.specs.declared.step.PointStep.TheVariants.{Moved, Calling, Start, Flowed, HungUp, NoSale, Sold, Drawn, Stopped, Ending}
 use Rattle.fuelling_point.specs.Table.{Line, Told, done, calling, start, flowed, hung_up, no_sale, sold, stopped, ending, line_of}
 use Rattle.fuelling_point.specs.Kept.{Facts, growth_of, noted, moved}
+
+-- what is told of a fuelling that is over, of this nozzle and volume: a test is drawn, any other is
+-- sold at the price it took
+abbrev pub told_over : ℕ → ℕ → Facts → PointStep
+told_over nozzle volume f =
+    if f.test then Drawn nozzle volume else Sold nozzle volume f.price f.prepaid
 
 -- the answer with its values: those that stand before the point forgets any, the event's own among
 -- them
@@ -15,7 +21,7 @@ step_told start growth f = Start f.preset f.price
 step_told flowed growth f = Flowed growth
 step_told hung_up growth f = HungUp
 step_told no_sale growth f = NoSale
-step_told sold growth f = Sold (unwrap_or f.out 0) f.volume f.price f.prepaid
+step_told sold growth f = told_over (unwrap_or f.out 0) f.volume f
 step_told stopped growth f = Stopped
 step_told ending growth f = Ending
 

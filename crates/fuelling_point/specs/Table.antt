@@ -21,6 +21,8 @@ pub data Heading : Type 0 where
   Unassign : Heading
   Lift : Heading
   Release : Heading
+  TestRelease : Heading
+  ReplaceMeter : Heading
   Suspend : Heading
   Resume : Heading
   Terminate : Heading
@@ -78,6 +80,10 @@ line Lift Idle = to Calling calling
 line Lift Authorised = to Started start
 line Release Idle = to Authorised done
 line Release Calling = to Started done
+line TestRelease Idle = to Authorised done
+line TestRelease Calling = to Started done
+line ReplaceMeter Inoperative = stays done
+line ReplaceMeter Closed = stays done
 line (Flow zero) Started = stays flowed
 line (Flow zero) SuspendedStarted = stays flowed
 line (Flow zero) Fuelling = stays flowed
@@ -117,6 +123,8 @@ heading_of events.Assign = Assign
 heading_of events.Unassign = Unassign
 heading_of (events.Lift nozzle last price) = Lift
 heading_of (events.Release preset prepaid last price) = Release
+heading_of (events.TestRelease last price) = TestRelease
+heading_of events.ReplaceMeter = ReplaceMeter
 heading_of events.Suspend = Suspend
 heading_of events.Resume = Resume
 heading_of events.Terminate = Terminate

@@ -24,7 +24,8 @@ is_released state = is_under_way state
 
 -- a nozzle is kept just where one is out; so much has flowed as the state says, nothing or
 -- something; only a suspended fuelling is ending; price and start reading are kept of a fuelling
--- under way alone, and preset and prepaid cents from the release on
+-- under way alone, and preset, prepaid cents and the mark of a test from the release on; a test has
+-- neither preset nor prepaid cents
 pub record IsWhole (f : Facts) : Type 0 where
   pub nozzle : is_some f.out ≡ has_nozzle_out f.state
   pub nothing : has_flowed f.state ≡ false → f.volume ≡ 0
@@ -34,3 +35,6 @@ pub record IsWhole (f : Facts) : Type 0 where
   pub start : is_under_way f.state ≡ false → f.start ≡ 0
   pub preset : is_released f.state ≡ false → f.preset ≡ Unset
   pub prepaid : is_released f.state ≡ false → f.prepaid ≡ None
+  pub test : is_released f.state ≡ false → f.test ≡ false
+  pub unlimited : f.test ≡ true → f.preset ≡ Unset
+  pub unpaid : f.test ≡ true → f.prepaid ≡ None

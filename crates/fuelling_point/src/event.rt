@@ -34,6 +34,15 @@ pub enum PointEvent {
         last: Millilitres,
         price: Mills,
     },
+    /// A till releases the point for a test: a fuelling without preset and prepayment whose fuel
+    /// goes back to the tank. Where this starts the test, it takes the price and the last reading
+    /// of the nozzle that is out; they are used in calling alone.
+    TestRelease {
+        last: Millilitres,
+        price: Mills,
+    },
+    /// The meter of one of the nozzles is replaced. The point stays as it is.
+    ReplaceMeter,
     /// A till suspends the fuelling.
     Suspend,
     /// A till lets the suspended fuelling go on.

@@ -1,7 +1,7 @@
 //! What holds whatever events a new point has had, refused ones among them. These laws have no
 //! code: each is proved of the definitions that `Point`'s contracts cite.
 
-ghost use Rattle.fuelling_point.specs.Laws.{StaysWhole, IsConserved, IsSoldAtEnd, StaysSuspended, IsKeptFromStart, IsSoldAsStarted, IsTheLifted, IsNeverNothing};
+ghost use Rattle.fuelling_point.specs.Laws.{StaysWhole, IsConserved, IsSoldAtEnd, StaysSuspended, IsKeptFromStart, IsSoldAsStarted, IsTheLifted, IsNeverNothing, AreTestsDrawn};
 
 /// A new point is whole, and an event, accepted or refused, leaves a whole point whole: a nozzle is
 /// kept just where one is out, something has flowed just where the state says so, only a suspended
@@ -11,12 +11,13 @@ pub fn stays_whole()
 {}
 
 /// At a whole point the volume of the fuelling with the growth that an accepted event hands in is
-/// the volume afterwards with that of the sale that it tells. A hang up in calling hands in none.
+/// the volume afterwards with that of the sale or of the draw that it tells. A hang up in calling
+/// hands in none.
 pub fn volume_is_conserved()
     ensures { IsConserved }
 {}
 
-/// A sale is the answer to a hang up or an offline alone.
+/// A sale and a draw are the answers to a hang up or an offline alone.
 pub fn sold_at_the_end()
     ensures { IsSoldAtEnd }
 {}
@@ -33,18 +34,24 @@ pub fn kept_from_the_start()
 {}
 
 /// A sale has the price that was handed in where its fuelling started, and its volume is the sum of
-/// the growths since then, that of its own event among them.
+/// the growths since then, that of its own event among them. So is the volume of a draw.
 pub fn sold_as_started()
     ensures { IsSoldAsStarted }
 {}
 
-/// The nozzle that is out, and that of a sale, is the one that was lifted; since then it wasn't put
-/// back.
+/// The nozzle that is out, and that of a sale or a draw, is the one that was lifted; since then it
+/// wasn't put back.
 pub fn sold_by_the_lifted_nozzle()
     ensures { IsTheLifted }
 {}
 
-/// A sale is never of nothing: its volume is a millilitre at least.
+/// A sale is never of nothing: its volume is a millilitre at least. Neither is a draw.
 pub fn nothing_is_never_sold()
     ensures { IsNeverNothing }
+{}
+
+/// A point is a test from its test release until the fuelling ends or the release is taken back. It
+/// has neither preset nor prepayment; a test is never sold, and what isn't a test is never drawn.
+pub fn tests_are_drawn()
+    ensures { AreTestsDrawn }
 {}

@@ -15,7 +15,8 @@ mod tests;
 pub use event::PointEvent;
 pub use laws::{
     kept_from_the_start, nothing_is_never_sold, sold_as_started, sold_at_the_end,
-    sold_by_the_lifted_nozzle, stays_whole, terminated_stays_suspended, volume_is_conserved,
+    sold_by_the_lifted_nozzle, stays_whole, terminated_stays_suspended, tests_are_drawn,
+    volume_is_conserved,
 };
 pub use point::Point;
 pub use step::PointStep;

@@ -8,7 +8,7 @@ ghost use Rattle.fuelling_point.specs.Kept.{fresh, point_view, FitsGrowth, is_un
 ghost use Rattle.fuelling_point.specs.Whole.{IsWhole};
 ghost use Rattle.fuelling_point.specs.Fields.{suspended, flowing};
 ghost use Rattle.fuelling_point.specs.PointChecks.{refusal_of, is_out};
-ghost use Rattle.fuelling_point.specs.Step.{step_of, after};
+ghost use Rattle.fuelling_point.specs.Step.{step_of, after, told_over};
 
 use crate::delivery::Delivery;
 use crate::event::PointEvent;
@@ -18,18 +18,20 @@ use site_base::{Millilitres, Mills, NozzleNo, PointState, PointView, Preset, Ref
 use std::marker::Model;
 
 /// One fuelling point: its state, and what it keeps from one event to the next. A lifted nozzle is
-/// kept until it is put back, a preset and a prepayment from the release on, the price and the
-/// start reading from the start of the fuelling on, its volume as it is reported. All of it is
-/// forgotten on the way to inoperative and to idle.
+/// kept until it is put back, a preset and a prepayment, or the mark of a test, from the release on,
+/// the price and the start reading from the start of the fuelling on, its volume as it is reported.
+/// All of it is forgotten on the way to inoperative and to idle.
 ///
 /// So a nozzle is kept just where one is out, there is a volume just where fuel has flowed, only a
-/// suspended fuelling is ending, and nothing is kept of a release or a fuelling where there is
-/// none. That is true of every point; `view` and `judge` say so.
+/// suspended fuelling is ending, a test has neither preset nor prepayment, and nothing is kept of a
+/// release or a fuelling where there is none. That is true of every point; `view` and `judge` say
+/// so.
 #[derive(Drop)]
 pub struct Point {
     state: PointState,
     out: Option<NozzleNo>,
     ending: bool,
+    test: bool,
     preset: Preset,
     prepaid: Option<u32>,
     delivery: Option<Delivery>,
@@ -41,9 +43,9 @@ impl Model for Point {
 
     ghost Value = { Facts };
 
-    ghost view = { λ p. facts_of p.state p.out p.ending p.preset p.prepaid p.delivery };
+    ghost view = { λ p. facts_of p.state p.out p.ending p.test p.preset p.prepaid p.delivery };
 
-    ghost invariant = { λ p. AreWhole p.state p.out p.ending p.preset p.prepaid p.delivery };
+    ghost invariant = { λ p. AreWhole p.state p.out p.ending p.test p.preset p.prepaid p.delivery };
 }
 
 impl Point {
@@ -56,6 +58,7 @@ impl Point {
             state: PointState::Closed,
             out: None,
             ending: false,
+            test: false,
             preset: Preset::Unset,
             prepaid: None,
             delivery: None,
@@ -79,6 +82,7 @@ impl Point {
             out: self.out,
             holder: None,
             ending: self.ending,
+            test: self.test,
             preset: self.preset,
             prepaid: self.prepaid,
             price,
@@ -112,8 +116,8 @@ impl Point {
     /// Does what the point table says of the event, and answers what it did; a sale or a start with
     /// the values that stood before the point forgot them. A fuelling that starts takes the price
     /// and the reading handed in, and nothing touches these until it is over. A terminated fuelling
-    /// takes flow until hang up or offline. The refusal is that of `judge`, and leaves the point as
-    /// it was.
+    /// takes flow until hang up or offline. Where a fuelling is sold, a test is drawn. The refusal is
+    /// that of `judge`, and leaves the point as it was.
     ///
     /// The fuelling's volume with the growth handed in has to be one that a meter can show.
     pub fn on(&mut self, event: PointEvent) -> Result<PointStep, Refusal>
@@ -143,6 +147,8 @@ impl Point {
                 last,
                 price,
             } => Ok(self.release(preset, prepaid, last, price)),
+            PointEvent::TestRelease { last, price } => Ok(self.test_release(last, price)),
+            PointEvent::ReplaceMeter => Ok(PointStep::Moved),
             PointEvent::Suspend => Ok(self.suspend()),
             PointEvent::Resume => Ok(self.resume()),
             PointEvent::Terminate => Ok(self.terminate()),
@@ -236,6 +242,16 @@ impl Point {
         PointStep::Moved
     }
 
+    fn test_release(&mut self, last: Millilitres, price: Mills) -> PointStep
+        requires { is_listed (PointEvent.TestRelease last price) self.old.state ≡ true }
+        ensures step { result ≡ step_of (PointEvent.TestRelease last price) self.old }
+        ensures facts { self.new ≡ after (PointEvent.TestRelease last price) self.old }
+    {
+        let step = self.release(Preset::Unset, None, last, price);
+        self.test = true;
+        step
+    }
+
     fn suspend(&mut self) -> PointStep
         requires { is_listed PointEvent.Suspend self.old.state ≡ true }
         ensures step { result ≡ step_of PointEvent.Suspend self.old }
@@ -303,17 +319,19 @@ impl Point {
         step
     }
 
-    /// The sale of the fuelling, with what has flowed last.
+    /// What is told of the fuelling with what has flowed last: its sale, or of a test what it drew.
     fn sold(&self, growth: u64) -> PointStep
         requires under_way { is_under_way self.now.state ≡ true }
         requires fits { self.now.volume + growth ≤ GREATEST_READING }
-        ensures { result ≡ PointStep.Sold (unwrap_or self.now.out 0) (self.now.volume + growth)
-            self.now.price self.now.prepaid }
+        ensures { result ≡ told_over (unwrap_or self.now.out 0) (self.now.volume + growth) self.now }
     {
         if let Some(nozzle) = self.out
             && let Some(delivery) = self.delivery
             && let Some(volume) = Millilitres::new(delivery.volume + growth)
         {
+            if self.test {
+                return PointStep::Drawn { nozzle, volume };
+            }
             PointStep::Sold {
                 nozzle,
                 volume,
@@ -333,6 +351,7 @@ impl Point {
         self.state = state;
         self.out = None;
         self.ending = false;
+        self.test = false;
         self.preset = Preset::Unset;
         self.prepaid = None;
         self.delivery = None;

@@ -31,6 +31,11 @@ pub enum PointStep {
         price: Mills,
         prepaid: Option<u32>,
     },
+    /// The test is over: it has drawn this volume by this nozzle.
+    Drawn {
+        nozzle: NozzleNo,
+        volume: Millilitres,
+    },
     /// The release is taken back.
     Stopped,
     /// The fuelling is suspended for good: it ends at hang up or offline.

@@ -20,6 +20,8 @@ pub fn is_listed(event: &PointEvent, state: PointState) -> bool
         PointEvent::Unassign => may_change_hands(state),
         PointEvent::Lift { .. } => matches!(state, PointState::Idle | PointState::Authorised),
         PointEvent::Release { .. } => matches!(state, PointState::Idle | PointState::Calling),
+        PointEvent::TestRelease { .. } => matches!(state, PointState::Idle | PointState::Calling),
+        PointEvent::ReplaceMeter => matches!(state, PointState::Inoperative | PointState::Closed),
         PointEvent::Suspend => matches!(state, PointState::Started | PointState::Fuelling),
         PointEvent::Resume => {
             matches!(

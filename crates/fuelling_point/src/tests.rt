@@ -73,6 +73,13 @@ fn release(rt: &impl Abort) -> PointEvent {
     }
 }
 
+fn test_release(rt: &impl Abort) -> PointEvent {
+    PointEvent::TestRelease {
+        last: reading(rt),
+        price: price(rt),
+    }
+}
+
 fn flow(rt: &impl Abort, number: u8, growth: u64) -> PointEvent {
     PointEvent::Flow {
         nozzle: nozzle(rt, number),
@@ -150,6 +157,7 @@ fn assert_accepted(rt: &impl Abort, point: &mut Point, event: PointEvent, to: u8
             out: None,
             holder: None,
             ending: false,
+            test: false,
             preset: Preset::Unset,
             prepaid: None,
             price: 0,
@@ -169,7 +177,7 @@ fn assert_refused(rt: &impl Abort, point: &mut Point, event: PointEvent, refusal
 }
 
 /// The table, line by line.
-fn printed_table(rt: &impl Abort) -> [Line<'static>; 22] {
+fn printed_table(rt: &impl Abort) -> [Line<'static>; 24] {
     let start = PointStep::Start {
         preset: Preset::Money(PREPAID),
         price: price(rt),
@@ -197,6 +205,12 @@ fn printed_table(rt: &impl Abort) -> [Line<'static>; 22] {
         (lift(rt), &[(3, 4)], PointStep::Calling),
         (lift(rt), &[(5, 6)], start),
         (release(rt), &[(3, 5), (4, 6)], PointStep::Moved),
+        (test_release(rt), &[(3, 5), (4, 6)], PointStep::Moved),
+        (
+            PointEvent::ReplaceMeter,
+            &[(1, 1), (2, 2)],
+            PointStep::Moved,
+        ),
         (
             flow(rt, OUT, 0),
             &[(6, 6), (7, 7), (8, 8), (9, 9)],

@@ -1,9 +1,14 @@
 -- Worked amounts, prices and configurations, by computing the definitions.
 use Rattle.std.specs.Prelude.{codes}
-use Rattle.std.proofs.Common.{◌≡◌, ℕ, zero, suc, true, false, List, [], ◌∷◌, Some, None, refl}
+use Rattle.std.proofs.Common.{◌≡◌, ℕ, zero, suc, true, false, List, [], ◌∷◌, Some, None, Ok, Err, refl}
 use Rattle.site_base.specs.declared.config.NozzleEntry.{NozzleEntry}
 use Rattle.site_base.specs.Amounts.{amount}
-use Rattle.site_base.specs.Configured.{Configured, ConfiguredProduct, ConfiguredPoint, is_site}
+use Rattle.site_base.specs.Configured.{Configured, ConfiguredProduct, ConfiguredPoint, is_between, is_site}
+use Rattle.site_base.specs.declared.limits.TheConstants.{POINTS, TILLS, GREATEST_SHIFT}
+use Rattle.site_base.specs.declared.answer.Answer.TheVariants.{Flowed, Sold, Drawn}
+use Rattle.site_base.specs.declared.refusal.Refusal.TheVariants.{MeterSpent}
+use Rattle.site_base.specs.Events.{growth_told, cents_told}
+use Rattle.site_base.specs.Refusals.{refusal_number, refusal_detail}
 use Rattle.site_base.specs.Table.{row_of, with_row}
 
 -- ---- amounts: millilitres at mills per litre are cents
@@ -76,13 +81,13 @@ nozzles (suc n) q = record { product = q; reading = 0 } ∷ nozzles n q
 abbrev point : ℕ → List NozzleEntry → ConfiguredPoint
 point number of = record { number = number; nozzles = of }
 
--- diesel and petrol-95 at the points 1 and 16, each with eight nozzles of petrol
+-- diesel and petrol-95 at the points 1 and 64, each with eight nozzles of petrol
 abbrev fit_site : Configured
 fit_site = record {
   rows = 1;
   managers = 1 ∷ 2 ∷ [];
   products = product 1 (codes "diesel") ∷ product 2 (codes "petrol-95") ∷ [];
-  points = point 1 (nozzles 8 2) ∷ point 16 (nozzles 8 2) ∷ [];
+  points = point 1 (nozzles 8 2) ∷ point 64 (nozzles 8 2) ∷ [];
 }
 
 abbrev named : List ℕ → List ℕ → List ConfiguredProduct
@@ -127,13 +132,13 @@ name_of_21 = refl
 point_twice : is_site (record fit_site { points = point 4 (nozzles 8 2) ∷ point 4 (nozzles 8 2) ∷ [] }) ≡ false
 point_twice = refl
 
-product_that_is_not_there : is_site (record fit_site { points = point 1 (nozzles 8 3) ∷ point 16 (nozzles 8 3) ∷ [] }) ≡ false
+product_that_is_not_there : is_site (record fit_site { points = point 1 (nozzles 8 3) ∷ point 64 (nozzles 8 3) ∷ [] }) ≡ false
 product_that_is_not_there = refl
 
-no_nozzles : is_site (record fit_site { points = point 1 [] ∷ point 16 [] ∷ [] }) ≡ false
+no_nozzles : is_site (record fit_site { points = point 1 [] ∷ point 64 [] ∷ [] }) ≡ false
 no_nozzles = refl
 
-nine_nozzles : is_site (record fit_site { points = point 1 (nozzles 9 2) ∷ point 16 (nozzles 9 2) ∷ [] }) ≡ false
+nine_nozzles : is_site (record fit_site { points = point 1 (nozzles 9 2) ∷ point 64 (nozzles 9 2) ∷ [] }) ≡ false
 nine_nozzles = refl
 
 no_products : is_site (record fit_site { products = [] }) ≡ false
@@ -141,6 +146,66 @@ no_products = refl
 
 no_points : is_site (record fit_site { points = [] }) ≡ false
 no_points = refl
+
+-- so many points, each with one nozzle
+abbrev points : ℕ → List ConfiguredPoint
+points zero = []
+points (suc n) = point (suc n) (nozzles 1 2) ∷ points n
+
+most_points : is_site (record fit_site { points = points 64 }) ≡ true
+most_points = refl
+
+too_many_points : is_site (record fit_site { points = points 65 }) ≡ false
+too_many_points = refl
+
+-- ---- the last number of each range, and the one behind it
+
+last_point : is_between 1 POINTS 64 ≡ true
+last_point = refl
+
+no_point_65 : is_between 1 POINTS 65 ≡ false
+no_point_65 = refl
+
+last_till : is_between 1 TILLS 32 ≡ true
+last_till = refl
+
+no_till_33 : is_between 1 TILLS 33 ≡ false
+no_till_33 = refl
+
+no_shift_0 : is_between 1 GREATEST_SHIFT 0 ≡ false
+no_shift_0 = refl
+
+first_shift : is_between 1 GREATEST_SHIFT 1 ≡ true
+first_shift = refl
+
+last_shift : is_between 1 GREATEST_SHIFT 999 ≡ true
+last_shift = refl
+
+no_shift_1000 : is_between 1 GREATEST_SHIFT 1000 ≡ false
+no_shift_1000 = refl
+
+-- ---- what replies tell of fuel and money
+
+growth_of_a_flow : growth_told (Ok (Flowed 12345)) ≡ 12345
+growth_of_a_flow = refl
+
+growth_of_a_sale : growth_told (Ok (Sold 1 10000)) ≡ 10000
+growth_of_a_sale = refl
+
+growth_of_a_draw : growth_told (Ok (Drawn 20000)) ≡ 20000
+growth_of_a_draw = refl
+
+growth_of_a_refused_replacement : growth_told (Err MeterSpent) ≡ 0
+growth_of_a_refused_replacement = refl
+
+a_draw_clears_nothing : cents_told (Ok (Drawn 20000)) ≡ 0
+a_draw_clears_nothing = refl
+
+refusal_of_a_hundredth_replacement : refusal_number MeterSpent ≡ 25
+refusal_of_a_hundredth_replacement = refl
+
+without_detail : refusal_detail MeterSpent ≡ None
+without_detail = refl
 
 -- ---- prices: diesel at 1500, petrol at 1799
 

@@ -2,7 +2,7 @@
 -- stands here once; sites, mappings, books and shares read it.
 use Rattle.std.specs.Prelude.{ℕ, Bool, true, false, Option, Some, None, Result, Ok}
 use Rattle.site_base.specs.declared.answer.Answer.{Answer}
-use Rattle.site_base.specs.declared.answer.Answer.TheVariants.{Flowed, Sold, Cleared}
+use Rattle.site_base.specs.declared.answer.Answer.TheVariants.{Flowed, Sold, Drawn, Cleared}
 use Rattle.site_base.specs.declared.event.Event.{Event}
 use Rattle.site_base.specs.declared.event.Event.TheVariants.{SignOn, SignOff, Open, Close, Assign, Unassign, ReadPoint}
 use Rattle.site_base.specs.declared.refusal.Refusal.{Refusal}
@@ -33,6 +33,7 @@ needs_free_point event = false
 abbrev pub growth_told : Result Answer Refusal → ℕ
 growth_told (Ok (Flowed growth)) = growth
 growth_told (Ok (Sold seq growth)) = growth
+growth_told (Ok (Drawn growth)) = growth
 growth_told reply = 0
 
 -- the cents that a reply clears

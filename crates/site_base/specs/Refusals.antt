@@ -1,7 +1,7 @@
 -- The numbers of refusals, and what goes with them.
 use Rattle.std.specs.Prelude.{ℕ, Option, Some, None}
 use Rattle.site_base.specs.declared.refusal.Refusal.{Refusal}
-use Rattle.site_base.specs.declared.refusal.Refusal.TheVariants.{NotSignedOn, SignedOn, NoSuchPoint, NoSuchNozzle, NoSuchProduct, NoSuchTransaction, NotManager, BadPrice, BadPreset, WrongState, AssignedToOther, NotYours, NotYourPoint, WrongNozzle, BufferFull, SequenceSpent, MeterGap, MeterBack, MeterJump, LockedByOther, NotLocked, AlreadyCleared, Ending, ShiftsSpent}
+use Rattle.site_base.specs.declared.refusal.Refusal.TheVariants.{NotSignedOn, SignedOn, NoSuchPoint, NoSuchNozzle, NoSuchProduct, NoSuchTransaction, NotManager, BadPrice, BadPreset, WrongState, AssignedToOther, NotYours, NotYourPoint, WrongNozzle, BufferFull, SequenceSpent, MeterGap, MeterBack, MeterJump, LockedByOther, NotLocked, AlreadyCleared, Ending, ShiftsSpent, MeterSpent}
 use Rattle.site_base.specs.declared.refusal.NoRow.{NoRow}
 use Rattle.site_base.specs.declared.refusal.NoRow.TheVariants as rows
 use Rattle.site_base.specs.States.{state_number}
@@ -32,6 +32,7 @@ refusal_number NotLocked = 21
 refusal_number (AlreadyCleared till) = 22
 refusal_number Ending = 23
 refusal_number ShiftsSpent = 24
+refusal_number MeterSpent = 25
 
 -- the state, till, nozzle or reading that a refusal names
 abbrev pub refusal_detail : Refusal → Option ℕ

@@ -1,7 +1,7 @@
 //! What the site answers to an event that it accepts.
 
 use crate::amounts::{Cents, Mills};
-use crate::numbers::Seq;
+use crate::numbers::{Seq, ShiftNo};
 use crate::state::Preset;
 use crate::view::{PointView, ProductView, SiteView, TransactionView};
 
@@ -34,7 +34,10 @@ pub enum Answer {
     /// The transaction is cleared; these are its cents.
     Cleared(Cents),
     /// The shift with this number is closed, and the next one is open.
-    ShiftClosed(u16),
+    ShiftClosed(ShiftNo),
+    /// The test is over, and its fuel goes back to the tank; `growth` is that of this very report,
+    /// in millilitres, 0 where the point went offline.
+    Drawn { growth: u64 },
     /// A fuelling point, as it was read.
     PointIs(PointView),
     /// A transaction, as it was read.

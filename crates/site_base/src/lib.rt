@@ -15,6 +15,7 @@ mod point_set;
 mod prices;
 mod refusal;
 mod row;
+mod sale;
 mod state;
 mod table;
 mod transfer;
@@ -33,11 +34,12 @@ pub use limits::{
     PRODUCT_CELLS, PRODUCTS, REPLACEMENT_LIMIT, TILL_CELLS, TILLS, UNPAID_LIMIT,
 };
 pub use memory::NoMemory;
-pub use numbers::{FpNo, NozzleNo, Number, ProductNo, Seq, TillNo};
+pub use numbers::{FpNo, NozzleNo, Number, ProductNo, Seq, ShiftNo, TillNo};
 pub use point_set::PointSet;
 pub use prices::PriceBook;
 pub use refusal::{NoRow, Refusal};
 pub use row::{Placed, Reply, Row, Rows, cents_told, growth_told};
+pub use sale::SaleId;
 pub use state::{PointState, Preset, Status};
 pub use table::place_of;
 pub use transfer::{ReadFault, WriteFault, read_piece, write_whole};

@@ -2,7 +2,7 @@
 //! them from here, for they will change.
 
 /// Fuelling points of a site, numbered from 1.
-pub const POINTS: u8 = 16;
+pub const POINTS: u8 = 64;
 
 /// Cells of an array that has one for each fuelling point.
 pub const POINT_CELLS: usize = POINTS as usize;
@@ -20,7 +20,7 @@ pub const PRODUCTS: u8 = 8;
 pub const PRODUCT_CELLS: usize = PRODUCTS as usize;
 
 /// Tills of a site, numbered from 1.
-pub const TILLS: u8 = 8;
+pub const TILLS: u8 = 32;
 
 /// Cells of an array that has one for each till.
 pub const TILL_CELLS: usize = TILLS as usize;
@@ -28,7 +28,7 @@ pub const TILL_CELLS: usize = TILLS as usize;
 /// Unpaid transactions (payable or locked) that a fuelling point may have.
 pub const UNPAID_LIMIT: u8 = 2;
 
-/// The greatest sequence number of a transaction at a fuelling point.
+/// The greatest sequence number of a transaction at a fuelling point in one shift.
 pub const GREATEST_SEQ: u16 = 9_999;
 
 /// The greatest meter reading, in millilitres.

@@ -3,7 +3,8 @@
 ghost use Rattle.std.specs.Prelude.{◌≡◌, ℕ, ◌+◌, ◌<◌, ◌≤◌, ◌↔◌, IsSome, IfSome};
 
 use crate::limits::{
-    GREATEST_SEQ, NOZZLES, POINT_CELLS, POINTS, PRODUCT_CELLS, PRODUCTS, TILL_CELLS, TILLS,
+    GREATEST_SEQ, GREATEST_SHIFT, NOZZLES, POINT_CELLS, POINTS, PRODUCT_CELLS, PRODUCTS,
+    TILL_CELLS, TILLS,
 };
 use std::marker::Model;
 
@@ -250,7 +251,8 @@ impl ProductNo {
     }
 }
 
-/// The sequence number of a transaction at its fuelling point, from 1 to `GREATEST_SEQ`.
+/// The sequence number of a transaction at its fuelling point in its shift, from 1 to
+/// `GREATEST_SEQ`.
 #[derive(Clone, Copy, Debug, PartialEq, Eq)]
 pub struct Seq {
     number: u16,
@@ -286,6 +288,50 @@ impl Seq {
     pub fn get(self) -> u16
         ensures value { result ≡ self }
         ensures range { (1 ≤ result) × (result ≤ GREATEST_SEQ) }
+    {
+        self.number
+    }
+}
+
+/// The number of a shift, from 1 to `GREATEST_SHIFT`.
+#[derive(Clone, Copy, Debug, PartialEq, Eq)]
+pub struct ShiftNo {
+    number: u16,
+}
+
+impl Model for ShiftNo {
+    ghost use Rattle.std.specs.Prelude.{ℕ, ◌≤◌};
+    ghost use Rattle.site_base.specs.declared.limits.TheConstants.{GREATEST_SHIFT};
+
+    ghost Value = { ℕ };
+
+    ghost view = { λ n. n.number };
+
+    ghost invariant = { λ n. (1 ≤ n.number) × (n.number ≤ GREATEST_SHIFT) };
+
+    ghost inverse = { λ n. record { number = n } };
+}
+
+impl ShiftNo {
+    /// The shift that is open when a site opens.
+    pub const FIRST: Self = ShiftNo { number: 1 };
+
+    /// The shift with this number, if there can be one.
+    pub fn new(number: u16) -> Option<Self>
+        ensures valid { IsSome result ↔ ((1 ≤ number) × (number ≤ GREATEST_SHIFT)) }
+        ensures value { IfSome result (λ n. n ≡ number) }
+    {
+        if 1 <= number && number <= GREATEST_SHIFT {
+            Some(ShiftNo { number })
+        } else {
+            None
+        }
+    }
+
+    /// Its number.
+    pub fn get(self) -> u16
+        ensures value { result ≡ self }
+        ensures range { (1 ≤ result) × (result ≤ GREATEST_SHIFT) }
     {
         self.number
     }

@@ -10,7 +10,7 @@ use crate::numbers::{NozzleNo, TillNo};
 use crate::state::PointState;
 
 /// Why the site refuses an event. The refused event makes a row and changes nothing else. The
-/// variants stand in the order of their numbers, 1 to 24.
+/// variants stand in the order of their numbers, 1 to 25.
 #[derive(Clone, Copy, Debug, PartialEq, Eq)]
 pub enum Refusal {
     /// The till isn't signed on.
@@ -61,10 +61,12 @@ pub enum Refusal {
     Ending,
     /// The last shift is open.
     ShiftsSpent,
+    /// The nozzle's meter was replaced as often as it may be.
+    MeterSpent,
 }
 
 impl Refusal {
-    /// Its number, 1 to 24.
+    /// Its number, 1 to 25.
     pub fn number(&self) -> u8
         ensures { result ≡ refusal_number self.now }
     {
@@ -93,6 +95,7 @@ impl Refusal {
             Refusal::AlreadyCleared(_) => 22,
             Refusal::Ending => 23,
             Refusal::ShiftsSpent => 24,
+            Refusal::MeterSpent => 25,
         }
     }
 

@@ -21,6 +21,7 @@ pub fn growth_told(reply: &Reply) -> u64
     match reply {
         Ok(Answer::Flowed(growth)) => *growth,
         Ok(Answer::Sold { seq: _, growth }) => *growth,
+        Ok(Answer::Drawn { growth }) => *growth,
         _ => 0,
     }
 }

@@ -1,7 +1,7 @@
 //! What a read shows.
 
 use crate::amounts::{Cents, Millilitres, Mills};
-use crate::numbers::{NozzleNo, ProductNo, TillNo};
+use crate::numbers::{NozzleNo, ProductNo, ShiftNo, TillNo};
 use crate::state::{PointState, Preset, Status};
 
 /// A fuelling point as ReadPoint shows it.
@@ -15,6 +15,8 @@ pub struct PointView {
     pub holder: Option<TillNo>,
     /// A till has terminated the fuelling, which ends at hang up or offline.
     pub ending: bool,
+    /// The fuelling to come or under way is a test: its fuel goes back to the tank.
+    pub test: bool,
     /// The preset of the fuelling to come or under way.
     pub preset: Preset,
     /// The prepaid cents, where the fuelling is prepaid.
@@ -59,6 +61,8 @@ pub struct ProductView {
     pub locked: u64,
     /// In cleared transactions.
     pub cleared: u64,
+    /// Drawn by tests, and put back to the tank.
+    pub adjusted: u64,
 }
 
 /// The site as ReadSite shows it.
@@ -67,5 +71,5 @@ pub struct SiteView {
     /// The cents cleared in the open shift, over all tills.
     pub cents: u64,
     /// The number of the open shift.
-    pub shift: u16,
+    pub shift: ShiftNo,
 }

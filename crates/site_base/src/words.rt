@@ -6,6 +6,7 @@ use crate::answer::Answer;
 use crate::event::Event;
 use crate::refusal::Refusal;
 use crate::row::{Reply, Row};
+use crate::sale::SaleId;
 use crate::state::{PointState, Preset, Status};
 use crate::view::{PointView, ProductView, SiteView, TransactionView};
 use std::fmt;
@@ -32,6 +33,17 @@ impl fmt::Display for Event {
             Event::Unassign(p) => write!(f, "Unassign {}", p.get()),
             Event::ReadPoint(p) => write!(f, "ReadPoint {}", p.get()),
         }
+    }
+}
+
+/// A sale's number, behind that of its shift where one is named: `1`, `2/1`. The number of its
+/// fuelling point stands before them: `3/1`, `3/2/1`.
+impl fmt::Display for SaleId {
+    fn fmt<W: fmt::Write>(&self, f: &mut fmt::Formatter<W>) -> fmt::Result {
+        if let Some(shift) = self.shift {
+            write!(f, "{}/", shift.get())?;
+        }
+        write!(f, "{}", self.seq.get())
     }
 }
 
@@ -83,12 +95,12 @@ impl fmt::Display for PointView {
         write!(f, "{}, out {}, holder {}, ", self.state, out, holder)?;
         write!(
             f,
-            "ending {}, preset {}, ",
+            "ending {}, test {}, ",
             u8::from(self.ending),
-            self.preset
+            u8::from(self.test)
         )?;
-        write!(f, "price {}, volume {}, ", self.price, self.volume)?;
-        write!(f, "prepaid {}", prepaid)
+        write!(f, "preset {}, price {}, ", self.preset, self.price)?;
+        write!(f, "volume {}, prepaid {}", self.volume, prepaid)
     }
 }
 
@@ -114,14 +126,15 @@ impl fmt::Display for ProductView {
     fn fmt<W: fmt::Write>(&self, f: &mut fmt::Formatter<W>) -> fmt::Result {
         write!(f, "price {}, metered {}, ", self.price.get(), self.metered)?;
         write!(f, "running {}, payable {}, ", self.running, self.payable)?;
-        write!(f, "locked {}, cleared {}", self.locked, self.cleared)
+        write!(f, "locked {}, cleared {}, ", self.locked, self.cleared)?;
+        write!(f, "adjusted {}", self.adjusted)
     }
 }
 
 /// The site's items in the order of their identifiers.
 impl fmt::Display for SiteView {
     fn fmt<W: fmt::Write>(&self, f: &mut fmt::Formatter<W>) -> fmt::Result {
-        write!(f, "cents {}, shift {}", self.cents, self.shift)
+        write!(f, "cents {}, shift {}", self.cents, self.shift.get())
     }
 }
 
@@ -141,7 +154,8 @@ impl fmt::Display for Answer {
             Answer::Locked => f.write_str("Locked"),
             Answer::Unlocked => f.write_str("Unlocked"),
             Answer::Cleared(cents) => write!(f, "Cleared({})", cents.get()),
-            Answer::ShiftClosed(shift) => write!(f, "ShiftClosed({shift})"),
+            Answer::ShiftClosed(shift) => write!(f, "ShiftClosed({})", shift.get()),
+            Answer::Drawn { growth } => write!(f, "Drawn{{{growth}}}"),
             Answer::PointIs(view) => write!(f, "PointIs{{{view}}}"),
             Answer::TransactionIs(view) => write!(f, "TransactionIs{{{view}}}"),
             Answer::ProductIs(view) => write!(f, "ProductIs{{{view}}}"),
@@ -179,6 +193,7 @@ impl fmt::Display for Refusal {
             Refusal::AlreadyCleared(till) => write!(f, "AlreadyCleared({})", till.get()),
             Refusal::Ending => f.write_str("Ending"),
             Refusal::ShiftsSpent => f.write_str("ShiftsSpent"),
+            Refusal::MeterSpent => f.write_str("MeterSpent"),
         }
     }
 }

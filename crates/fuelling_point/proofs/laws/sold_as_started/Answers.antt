@@ -1,5 +1,5 @@
-use Rattle.fuelling_point.proofs.Starts.{sold_started}
+use Rattle.fuelling_point.proofs.Starts.{sold_as_started as law}
 use Rattle.fuelling_point.proofs.laws.sold_as_started.Goals as goal
 
 pub returns : goal.returns
-returns c = sold_started
+returns c = law
