@@ -2,7 +2,7 @@
 -- of product 1 at 0 and one of product 2 at 1000, and on the greatest site.
 use Rattle.std.proofs.Common.{◌≡◌, ℕ, zero, suc, ◌+◌, ◌*◌, List, [], ◌∷◌, map, Option, Some, None, Result, Ok, Err, refl}
 use Rattle.std.specs.List.{range_with_len}
-use Rattle.site_base.specs.declared.limits.TheConstants.{NOZZLES, POINTS}
+use Rattle.site_base.specs.declared.limits.TheConstants.{GROWTH_LIMIT, NOZZLES, POINTS}
 use Rattle.site_base.specs.declared.refusal.Refusal.{Refusal}
 use Rattle.site_base.specs.declared.refusal.Refusal.TheVariants.{MeterGap, MeterBack, MeterJump}
 use Rattle.site_base.specs.Configured.{ConfiguredPoint}
@@ -189,13 +189,17 @@ all_nozzles p = record {
 abbrev greatest_site : List Nozzle
 greatest_site = nozzles_of_points (map all_nozzles (up_to POINTS))
 
-abbrev the_last_grown : List Nozzle
-the_last_grown = after (grows POINTS NOZZLES 1001608) greatest_site
+-- the reading of the last nozzle that is as much above its opening one as a report may be
+abbrev highest : ℕ
+highest = POINTS * 100 + NOZZLES + GROWTH_LIMIT
 
-greatest_growth : told (grows POINTS NOZZLES 1001608 ∷ []) greatest_site ≡ Ok 1000000 ∷ []
+abbrev the_last_grown : List Nozzle
+the_last_grown = after (grows POINTS NOZZLES highest) greatest_site
+
+greatest_growth : told (grows POINTS NOZZLES highest ∷ []) greatest_site ≡ Ok 1000000 ∷ []
 greatest_growth = refl
 
-greatest_last : last_of POINTS NOZZLES the_last_grown ≡ Some 1001608
+greatest_last : last_of POINTS NOZZLES the_last_grown ≡ Some highest
 greatest_last = refl
 
 greatest_product : product_of POINTS NOZZLES the_last_grown ≡ Some 1
