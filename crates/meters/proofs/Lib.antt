@@ -1,6 +1,6 @@
 pub mod Bounded
+pub mod Cells
+pub mod KeptTotals
 pub mod Looked
-pub mod Places
-pub mod Raised
 pub mod Weighed
 pub mod Worked

@@ -1,5 +1,6 @@
--- What a report adds to what is metered, however the products are weighed.
-use Rattle.std.proofs.Common.{◌≡◌, ℕ, Bool, true, false, not, cond, ◌==◌, nat_le, ◌+◌, ◌-◌, ◌*◌, ◌≤◌, List, [], ◌∷◌, ◌++◌, Option, Some, None, unwrap_or, refl, sym, ap, ◌∙◌, arith}
+-- What a report adds to what is metered, however the products are weighed, and that a replacement
+-- adds nothing.
+use Rattle.std.proofs.Common.{◌≡◌, ℕ, Bool, true, false, not, cond, ◌==◌, nat_le, ◌+◌, ◌-◌, ◌*◌, ◌≤◌, List, [], ◌∷◌, ◌++◌, Option, Some, None, refl, sym, ap, ◌∙◌, arith}
 use Rattle.std.proofs.Math.Nat.{mul-add, mul-zero}
 use Rattle.std.proofs.lemmas.Bool.Decides.{nat_tests}
 use Rattle.site_base.specs.declared.config.NozzleEntry.{NozzleEntry}
@@ -9,18 +10,20 @@ use Rattle.site_base.specs.declared.refusal.Refusal.TheVariants.{MeterGap, Meter
 use Rattle.site_base.specs.Configured.{ConfiguredPoint}
 use Rattle.meters.specs.declared.report.Report.{Report}
 use Rattle.meters.specs.declared.report.Report.TheVariants.{Still, Growing}
-use Rattle.meters.specs.Nozzles.{Nozzle, is_nozzle, numbered, nozzles_of_point, nozzles_of_points, product_of, last_of, reading_of, with_last, NoneBelowOpening}
-use Rattle.meters.specs.Metered.{metered_by}
+use Rattle.meters.specs.Nozzles.{Nozzle, is_nozzle, nozzle_of, numbered, nozzles_of_point, nozzles_of_points, product_of, reading_of, with_nozzle, with_last, with_meter, read_at, replaced_at, EachMetered}
+use Rattle.meters.specs.Metered.{metered, metered_by, product_total, product_alone}
 use Rattle.meters.specs.Reports.{report_refusal, growth_of, unless_refused}
-use Rattle.meters.specs.Laws.{ReportsAreMetered}
+use Rattle.meters.specs.Laws.{GrowthRaisesOneTotal, ReportsAreMetered}
+use Rattle.meters.proofs.Looked.{told, reading_is}
+use Rattle.meters.proofs.Bounded.{each_found}
 
 -- ---- a site that opens
 
 opened_nothing : (w : ℕ → ℕ) (p n : ℕ) (es : List NozzleEntry) → metered_by w (numbered p n es) ≡ 0
 opened_nothing w p n [] = refl
 opened_nothing w p n (e ∷ es) =
-    let none : w e.product * (e.reading - e.reading) ≡ 0 =
-    ap (λ (k : ℕ). w e.product * k) (let apart : e.reading - e.reading ≡ 0 = omega arith in apart)
+    let none : w e.product * ((e.reading - e.reading) + 0) ≡ 0 =
+    ap (λ (k : ℕ). w e.product * k) (let apart : (e.reading - e.reading) + 0 ≡ 0 = omega arith in apart)
     ∙ mul-zero (w e.product) in
     omega (arith, none, opened_nothing w p (n + 1) es)
 
@@ -31,63 +34,104 @@ both w (x ∷ xs) ys =
     let rest : metered_by w (xs ++ ys) ≡ metered_by w xs + metered_by w ys = both w xs ys in
     omega (arith, rest)
 
-open_nothing : (w : ℕ → ℕ) (cs : List ConfiguredPoint) → metered_by w (nozzles_of_points cs) ≡ 0
+pub open_nothing : (w : ℕ → ℕ) (cs : List ConfiguredPoint) → metered_by w (nozzles_of_points cs) ≡ 0
 open_nothing w [] = refl
 open_nothing w (c ∷ cs) =
     both w (nozzles_of_point c) (nozzles_of_points cs)
     ∙ omega (arith, opened_nothing w c.number 1 c.nozzles, open_nothing w cs)
 
--- ---- a reading that isn't below the last one
+-- ---- a change of one nozzle
 
-raised : (weight opening last reading rest : ℕ) → opening ≤ last → last ≤ reading
-    → weight * (reading - opening) + rest
-    ≡ (weight * (last - opening) + rest) + weight * (reading - last)
-raised weight opening last reading rest low high =
-    let parts : reading - opening ≡ (last - opening) + (reading - last) = omega arith in
-    let grown : weight * (reading - opening) ≡ weight * (last - opening)
-    + weight * (reading - last) =
-    ap (λ (n : ℕ). weight * n) parts ∙ mul-add weight (last - opening) (reading - last) in
-    omega (arith, grown)
+grown_product : (v m v' m' weight volume growth rest : ℕ) → v ≡ weight → m ≡ volume + growth
+    → v' ≡ weight → m' ≡ volume → v * m + rest ≡ (v' * m' + rest) + weight * growth
+grown_product v m v' m' weight volume growth rest a b a' b' =
+    let after : v * m ≡ weight * (volume + growth) = cc in
+    let before : v' * m' ≡ weight * volume = cc in
+    omega (arith, after, before, mul-add weight volume growth)
 
--- the growth of the first nozzle, or of one behind it
-raised_by : (b : Bool) (w : ℕ → ℕ) (x : Nozzle) (xs : List Nozzle) (p n reading last product : ℕ)
-    → is_nozzle p n x ≡ b → x.opening ≤ x.last
-    → (last_of p n xs ≡ Some last → product_of p n xs ≡ Some product
-    → metered_by w (with_last p n reading xs)
-    ≡ metered_by w xs + w product * growth_of last reading)
-    → last_of p n (x ∷ xs) ≡ Some last → product_of p n (x ∷ xs) ≡ Some product → last ≤ reading
-    → metered_by w (with_last p n reading (x ∷ xs))
-    ≡ metered_by w (x ∷ xs) + w product * growth_of last reading
-raised_by true w x xs p n reading last product is low behind at of high =
-    let here : last_of p n (x ∷ xs) ≡ Some x.last = rw is refl in
-    let delivers : product_of p n (x ∷ xs) ≡ Some x.product = rw is refl in
-    let moved : with_last p n reading (x ∷ xs) ≡ record x { last = reading } ∷ xs = rw is refl in
-    let same_last : x.last ≡ last = ap (λ (o : Option ℕ). unwrap_or o 0) (sym here ∙ at) in
-    let same_product : x.product ≡ product =
-    ap (λ (o : Option ℕ). unwrap_or o 0) (sym delivers ∙ of) in
-    ap (metered_by w) moved
-    ∙ raised (w x.product) x.opening x.last reading (metered_by w xs) low (omega (arith, same_last))
-    ∙ ap (λ (j : ℕ). metered_by w (x ∷ xs) + w x.product * (reading - j)) same_last
-    ∙ ap (λ (j : ℕ). metered_by w (x ∷ xs) + w j * (reading - last)) same_product
-raised_by false w x xs p n reading last product is low behind at of high =
-    let past : last_of p n (x ∷ xs) ≡ last_of p n xs = rw is refl in
-    let delivers : product_of p n (x ∷ xs) ≡ product_of p n xs = rw is refl in
-    let moved : with_last p n reading (x ∷ xs) ≡ x ∷ with_last p n reading xs = rw is refl in
-    let others : metered_by w (with_last p n reading xs) ≡ metered_by w xs
-    + w product * growth_of last reading =
-    behind (sym past ∙ at) (sym delivers ∙ of) in
-    ap (metered_by w) moved ∙ omega (arith, others)
+-- a change that adds so much to what the nozzle has metered
+pub raised : (w : ℕ → ℕ) (p n growth : ℕ) (change : Nozzle → Nozzle) (x : Nozzle) (xs : List Nozzle)
+    → nozzle_of p n xs ≡ Some x → (change x).product ≡ x.product
+    → metered (change x) ≡ metered x + growth
+    → metered_by w (with_nozzle p n change xs) ≡ metered_by w xs + w x.product * growth
+raised w p n growth change x [] there same grown = cc
+raised w p n growth change x (y ∷ ys) there same grown =
+    by_test (is_nozzle p n y) refl (λ is. raised w p n growth change x ys is same grown)
+  where
+    by_test : (b : Bool) → is_nozzle p n y ≡ b
+        → (nozzle_of p n ys ≡ Some x
+        → metered_by w (with_nozzle p n change ys) ≡ metered_by w ys + w x.product * growth)
+        → metered_by w (with_nozzle p n change (y ∷ ys))
+        ≡ metered_by w (y ∷ ys) + w x.product * growth
+    by_test true is behind =
+        let first : nozzle_of p n (y ∷ ys) ≡ Some y = rw is refl in
+        let at : y ≡ x = (let found : Some y ≡ Some x = sym first ∙ there in cc) in
+        let moved : with_nozzle p n change (y ∷ ys) ≡ change y ∷ ys = rw is refl in
+        ap (metered_by w) moved
+        ∙ grown_product (w (change y).product) (metered (change y)) (w y.product) (metered y)
+        (w x.product) (metered x) growth (metered_by w ys)
+        (ap (λ (z : Nozzle). w (change z).product) at ∙ ap w same)
+        (ap (λ (z : Nozzle). metered (change z)) at ∙ grown)
+        (ap (λ (z : Nozzle). w z.product) at) (ap metered at)
+    by_test false is behind =
+        let later : nozzle_of p n (y ∷ ys) ≡ nozzle_of p n ys = rw is refl in
+        let moved : with_nozzle p n change (y ∷ ys) ≡ y ∷ with_nozzle p n change ys = rw is refl in
+        ap (metered_by w) moved ∙ omega (arith, behind (sym later ∙ there))
 
-raised_at : (w : ℕ → ℕ) (xs : List Nozzle) (p n reading last product : ℕ)
-    → NoneBelowOpening xs → last_of p n xs ≡ Some last → product_of p n xs ≡ Some product
-    → last ≤ reading
-    → metered_by w (with_last p n reading xs) ≡ metered_by w xs + w product * growth_of last reading
-raised_at w [] p n reading last product low at of high = cc
-raised_at w (x ∷ xs) p n reading last product low at of high =
-    raised_by (is_nozzle p n x) w x xs p n reading last product refl low.0
-    (λ a o. raised_at w xs p n reading last product low.1 a o high) at of high
+-- a change that adds nothing to what any nozzle has metered
+pub unmoved : (w : ℕ → ℕ) (p n : ℕ) (change : Nozzle → Nozzle) (xs : List Nozzle)
+    → ((x : Nozzle) → (change x).product ≡ x.product)
+    → ((x : Nozzle) → metered (change x) ≡ metered x)
+    → metered_by w (with_nozzle p n change xs) ≡ metered_by w xs
+unmoved w p n change [] same kept = refl
+unmoved w p n change (y ∷ ys) same kept =
+    by_test (is_nozzle p n y) refl (unmoved w p n change ys same kept)
+  where
+    by_test : (b : Bool) → is_nozzle p n y ≡ b
+        → metered_by w (with_nozzle p n change ys) ≡ metered_by w ys
+        → metered_by w (with_nozzle p n change (y ∷ ys)) ≡ metered_by w (y ∷ ys)
+    by_test true is rest =
+        let moved : with_nozzle p n change (y ∷ ys) ≡ change y ∷ ys = rw is refl in
+        ap (metered_by w) moved
+        ∙ ap (λ (k : ℕ). w k * metered (change y) + metered_by w ys) (same y)
+        ∙ ap (λ (k : ℕ). w y.product * k + metered_by w ys) (kept y)
+    by_test false is rest =
+        let moved : with_nozzle p n change (y ∷ ys) ≡ y ∷ with_nozzle p n change ys = rw is refl in
+        ap (metered_by w) moved ∙ omega (arith, rest)
+
+-- a reading that isn't below the last one
+pub read_raises : (w : ℕ → ℕ) (p n reading : ℕ) (x : Nozzle) (xs : List Nozzle) → EachMetered xs
+    → nozzle_of p n xs ≡ Some x → x.last ≤ reading
+    → metered_by w (with_last p n reading xs) ≡ metered_by w xs + w x.product * growth_of x.last reading
+read_raises w p n reading x xs each is above =
+    raised w p n (reading - x.last) (read_at reading) x xs is refl
+    (omega (arith, (each_found p n xs x each is).risen))
+
+-- a replacement
+pub meter_keeps : (w : ℕ → ℕ) (p n reading : ℕ) (xs : List Nozzle)
+    → metered_by w (with_meter p n reading xs) ≡ metered_by w xs
+meter_keeps w p n reading xs =
+    unmoved w p n (replaced_at reading) xs (λ x. refl) (λ x. omega arith)
 
 -- ---- a report
+
+alone : (b : Bool) (volume : ℕ) → cond b 1 0 * volume ≡ cond b volume 0
+alone true volume = omega arith
+alone false volume = omega arith
+
+pub growth_raises_one_total : GrowthRaisesOneTotal
+growth_raises_one_total xs p n reading last product q each at of above =
+    let found = told (nozzle_of p n xs) (λ x. x.last) last at in
+    let sells = told (nozzle_of p n xs) (λ x. x.product) product of in
+    let same : sells.nozzle ≡ found.nozzle =
+    (let both : Some sells.nozzle ≡ Some found.nozzle = sym sells.is ∙ found.is in cc) in
+    let product_is : found.nozzle.product ≡ product =
+    ap (λ (y : Nozzle). y.product) (sym same) ∙ sells.told in
+    read_raises (product_alone q) p n reading found.nozzle xs each found.is
+    (omega (arith, found.told))
+    ∙ ap (λ (k : ℕ). product_total q xs + product_alone q k * growth_of found.nozzle.last reading) product_is
+    ∙ ap (λ (k : ℕ). product_total q xs + product_alone q product * growth_of k reading) found.told
+    ∙ ap (λ (k : ℕ). product_total q xs + k) (alone (product == q) (growth_of last reading))
 
 -- what is accepted isn't below the last reading
 pub accepted_above : (report : Report) (last reading : ℕ)
@@ -108,27 +152,27 @@ accepted_above Growing last reading accepted = growing (nat_le last reading) ref
     growing true is accepted = grind (arith, nat_tests)
     growing false is accepted = cc
 
--- a nozzle that delivers a product has a last reading
-read_where : (p n product : ℕ) (xs : List Nozzle) → product_of p n xs ≡ Some product
-    → last_of p n xs ≡ Some (reading_of p n xs)
-read_where p n product [] of = cc
-read_where p n product (x ∷ xs) of = by_test (is_nozzle p n x) refl (read_where p n product xs)
-  where
-    by_test : (b : Bool) → is_nozzle p n x ≡ b
-        → (product_of p n xs ≡ Some product → last_of p n xs ≡ Some (reading_of p n xs))
-        → last_of p n (x ∷ xs) ≡ Some (reading_of p n (x ∷ xs))
-    by_test true is behind = rw is refl
-    by_test false is behind =
-        let past : product_of p n (x ∷ xs) ≡ product_of p n xs = rw is refl in
-        rw is (behind (sym past ∙ of))
+accepted_raises : (w : ℕ → ℕ) (report : Report) (p n reading product : ℕ) (xs : List Nozzle)
+    → EachMetered xs → product_of p n xs ≡ Some product
+    → report_refusal report (reading_of p n xs) reading ≡ None
+    → metered_by w (with_last p n reading xs)
+    ≡ metered_by w xs + w product * growth_of (reading_of p n xs) reading
+accepted_raises w report p n reading product xs each of accepted =
+    let sells = told (nozzle_of p n xs) (λ x. x.product) product of in
+    let read : reading_of p n xs ≡ sells.nozzle.last = reading_is p n xs sells.nozzle sells.is in
+    let above : reading_of p n xs ≤ reading =
+    accepted_above report (reading_of p n xs) reading accepted in
+    read_raises w p n reading sells.nozzle xs each sells.is (omega arith)
+    ∙ ap (λ (k : ℕ). metered_by w xs + w k * growth_of sells.nozzle.last reading) sells.told
+    ∙ ap (λ (k : ℕ). metered_by w xs + w product * growth_of k reading) (sym read)
 
 pub reports_are_metered : ReportsAreMetered
 reports_are_metered = record {
   opens = λ w c. open_nothing w c.points;
-  accepted = λ w report p n reading product xs low of accepted.
+  accepted = λ w report p n reading product xs each of accepted.
       ap (λ (o : Option Refusal). metered_by w (unless_refused o p n reading xs)) accepted
-      ∙ raised_at w xs p n reading (reading_of p n xs) product low (read_where p n product xs of) of
-      (accepted_above report (reading_of p n xs) reading accepted);
+      ∙ accepted_raises w report p n reading product xs each of accepted;
   refused = λ report p n reading refusal xs refused.
       ap (λ (o : Option Refusal). unless_refused o p n reading xs) refused;
+  replaced = meter_keeps;
 }

@@ -1,14 +1,14 @@
 -- Worked reports, by computing the definitions: on a site of the points 2 and 3, each with a nozzle
 -- of product 1 at 0 and one of product 2 at 1000, and on the greatest site.
-use Rattle.std.proofs.Common.{◌≡◌, ℕ, ◌+◌, ◌*◌, List, [], ◌∷◌, map, Option, Some, None, Result, Ok, Err, refl}
+use Rattle.std.proofs.Common.{◌≡◌, ℕ, zero, suc, ◌+◌, ◌*◌, List, [], ◌∷◌, map, Option, Some, None, Result, Ok, Err, refl}
 use Rattle.std.specs.List.{range_with_len}
-use Rattle.site_base.specs.declared.limits.TheConstants.{NOZZLES, POINTS}
+use Rattle.site_base.specs.declared.limits.TheConstants.{GROWTH_LIMIT, NOZZLES, POINTS}
 use Rattle.site_base.specs.declared.refusal.Refusal.{Refusal}
 use Rattle.site_base.specs.declared.refusal.Refusal.TheVariants.{MeterGap, MeterBack, MeterJump}
 use Rattle.site_base.specs.Configured.{ConfiguredPoint}
 use Rattle.meters.specs.declared.report.Report.{Report}
 use Rattle.meters.specs.declared.report.Report.TheVariants.{Still, Growing}
-use Rattle.meters.specs.Nozzles.{Nozzle, nozzles_of_points, product_of, last_of, reading_of}
+use Rattle.meters.specs.Nozzles.{Nozzle, nozzles_of_points, product_of, last_of, reading_of, replacements_of, with_meter}
 use Rattle.meters.specs.Metered.{product_total, metered_by, every_product}
 use Rattle.meters.specs.Reports.{report_refusal, growth_of, after_report}
 
@@ -124,6 +124,55 @@ last_of_none = refl
 last_at_no_point : last_of 1 1 grown ≡ None
 last_at_no_point = refl
 
+-- ---- a replaced meter
+
+-- the meter that reads 40 is replaced by one that begins with 7
+abbrev replaced_at_7 : List Nozzle
+replaced_at_7 = with_meter 3 1 7 grown
+
+begins_with_7 : last_of 3 1 replaced_at_7 ≡ Some 7
+begins_with_7 = refl
+
+replaced_once : map (λ (n : ℕ). replacements_of 3 n replaced_at_7) (1 ∷ 2 ∷ 3 ∷ [])
+    ≡ Some 1 ∷ Some 0 ∷ None ∷ []
+replaced_once = refl
+
+metered_as_before : map (λ (q : ℕ). product_total q replaced_at_7) (1 ∷ 2 ∷ 3 ∷ [])
+    ≡ 740 ∷ 5 ∷ 0 ∷ []
+metered_as_before = refl
+
+new_reading_alone : told
+    (stays 3 1 40
+    ∷ stays 3 1 7
+    ∷ grows 3 1 6
+    ∷ grows 3 1 1000008
+    ∷ grows 3 1 107
+    ∷ [])
+    replaced_at_7
+    ≡ Err (MeterGap 7)
+    ∷ Ok 0
+    ∷ Err (MeterBack 7)
+    ∷ Err MeterJump
+    ∷ Ok 100
+    ∷ []
+new_reading_alone = refl
+
+metered_by_both : product_total 1 (after (grows 3 1 107) replaced_at_7) ≡ 840
+metered_by_both = refl
+
+-- the meter of nozzle 1 of point 3 is replaced so many times
+replaced_times : ℕ → List Nozzle → List Nozzle
+replaced_times zero xs = xs
+replaced_times (suc times) xs = replaced_times times (with_meter 3 1 times xs)
+
+ninety_nine : replacements_of 3 1 (replaced_times 99 grown) ≡ Some 99
+unfolding replaced_times
+ninety_nine = refl
+
+all_metered : product_total 1 (replaced_times 99 grown) ≡ 740
+unfolding replaced_times
+all_metered = refl
+
 -- ---- the greatest site
 
 -- the numbers from 1 to this one
@@ -140,13 +189,17 @@ all_nozzles p = record {
 abbrev greatest_site : List Nozzle
 greatest_site = nozzles_of_points (map all_nozzles (up_to POINTS))
 
-abbrev the_last_grown : List Nozzle
-the_last_grown = after (grows POINTS NOZZLES 1001608) greatest_site
+-- the reading of the last nozzle that is as much above its opening one as a report may be
+abbrev highest : ℕ
+highest = POINTS * 100 + NOZZLES + GROWTH_LIMIT
 
-greatest_growth : told (grows POINTS NOZZLES 1001608 ∷ []) greatest_site ≡ Ok 1000000 ∷ []
+abbrev the_last_grown : List Nozzle
+the_last_grown = after (grows POINTS NOZZLES highest) greatest_site
+
+greatest_growth : told (grows POINTS NOZZLES highest ∷ []) greatest_site ≡ Ok 1000000 ∷ []
 greatest_growth = refl
 
-greatest_last : last_of POINTS NOZZLES the_last_grown ≡ Some 1001608
+greatest_last : last_of POINTS NOZZLES the_last_grown ≡ Some highest
 greatest_last = refl
 
 greatest_product : product_of POINTS NOZZLES the_last_grown ≡ Some 1

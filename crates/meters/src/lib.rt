@@ -12,7 +12,7 @@ mod report;
 mod tests;
 
 pub use laws::{
-    growth_raises_one_total, never_below_opening, reports_are_metered, totals_are_metered,
+    growth_raises_one_total, reports_are_metered, stays_within_bounds, totals_are_metered,
 };
 pub use meters::Meters;
 pub use report::Report;

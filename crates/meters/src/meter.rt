@@ -1,27 +1,31 @@
 //! The meter of one nozzle.
 
-ghost use Rattle.std.specs.Prelude.{◌≡◌, ◌≤◌, ◌==◌, None, Some, OnOk, IfOk, IfErr};
-ghost use Rattle.meters.specs.Metered.{metered, most_of_a_nozzle};
-ghost use Rattle.meters.specs.Nozzles.{opened, is_nozzle};
+ghost use Rattle.std.specs.Prelude.{◌≡◌, ◌<◌, ◌≤◌, None, Some, OnOk, IfOk, IfErr};
+ghost use Rattle.site_base.specs.declared.limits.TheConstants.{GREATEST_READING, NOZZLE_CELLS, NOZZLES, POINTS, REPLACEMENT_LIMIT};
+ghost use Rattle.meters.specs.Nozzles.{opened, read_at, replaced_at, IsMetered};
+ghost use Rattle.meters.specs.Places.{nozzle_cell};
 ghost use Rattle.meters.specs.Reports.{growth_of, report_refusal};
 
+use crate::place::cell_of;
 use crate::report::Report;
 use site_base::{FpNo, GROWTH_LIMIT, Millilitres, NozzleEntry, NozzleNo, ProductNo, Refusal};
 use std::marker::Model;
 
-/// The meter of a nozzle. Its last reading is never below the opening one.
+/// The meter of a nozzle, and what the nozzle's earlier meters have metered. Its last reading is
+/// never below the one that it began with.
 #[derive(Drop)]
 pub struct Meter {
     point: FpNo,
     nozzle: NozzleNo,
     product: ProductNo,
-    opening: Millilitres,
+    began: Millilitres,
     last: Millilitres,
+    replaced: u8,
+    earlier: u64,
 }
 
 impl Model for Meter {
-    ghost use Rattle.std.specs.Prelude.{◌≤◌};
-    ghost use Rattle.meters.specs.Nozzles.{Nozzle};
+    ghost use Rattle.meters.specs.Nozzles.{Nozzle, IsMetered};
 
     ghost Value = { Nozzle };
 
@@ -29,32 +33,49 @@ impl Model for Meter {
       point = m.point;
       number = m.nozzle;
       product = m.product;
-      opening = m.opening;
+      began = m.began;
       last = m.last;
+      replaced = m.replaced;
+      earlier = m.earlier;
     } };
 
-    ghost invariant = { λ m. m.opening ≤ m.last };
+    ghost invariant = { λ m. IsMetered (record {
+      point = m.point;
+      number = m.nozzle;
+      product = m.product;
+      began = m.began;
+      last = m.last;
+      replaced = m.replaced;
+      earlier = m.earlier;
+    }) };
 }
 
 impl Meter {
     /// The meter of a nozzle when the site opens.
     pub fn opened(point: FpNo, nozzle: NozzleNo, entry: &NozzleEntry) -> Self
-        ensures { result ≡ opened point nozzle entry.now }
+        ensures value { result ≡ opened point nozzle entry.now }
+        ensures bounds { IsMetered result }
     {
+        let _ = entry.reading.get();
         Meter {
             point,
             nozzle,
             product: entry.product,
-            opening: entry.reading,
+            began: entry.reading,
             last: entry.reading,
+            replaced: 0,
+            earlier: 0,
         }
     }
 
-    /// Is it that of nozzle n of point p?
-    pub fn is_of(&self, p: FpNo, n: NozzleNo) -> bool
-        ensures { result ≡ is_nozzle p n self.now }
+    /// The cell of its nozzle among those of all nozzles that a site can have.
+    pub fn cell(&self) -> usize
+        ensures place { result ≡ nozzle_cell self.now.point self.now.number }
+        ensures within { result < NOZZLE_CELLS }
+        ensures point { (1 ≤ self.now.point) × (self.now.point ≤ POINTS) }
+        ensures nozzle { (1 ≤ self.now.number) × (self.now.number ≤ NOZZLES) }
     {
-        self.point.get() == p.get() && self.nozzle.get() == n.get()
+        cell_of(self.point, self.nozzle)
     }
 
     /// The product that the nozzle delivers.
@@ -64,13 +85,6 @@ impl Meter {
         self.product
     }
 
-    /// Does the nozzle deliver this product?
-    pub fn delivers(&self, q: ProductNo) -> bool
-        ensures { result ≡ (self.now.product == q) }
-    {
-        self.product.get() == q.get()
-    }
-
     /// Its last reading.
     pub fn last(&self) -> Millilitres
         ensures { result ≡ self.now.last }
@@ -78,12 +92,11 @@ impl Meter {
         self.last
     }
 
-    /// What it has metered since the site opened.
-    pub fn metered(&self) -> u64
-        ensures value { result ≡ metered self.now }
-        ensures range { result ≤ most_of_a_nozzle }
+    /// How often it was replaced.
+    pub fn replaced(&self) -> u8
+        ensures { result ≡ self.now.replaced }
     {
-        self.last.get() - self.opening.get()
+        self.replaced
     }
 
     /// How much a report adds to the last reading, or why the report is refused.
@@ -113,11 +126,28 @@ impl Meter {
         Ok(read - last)
     }
 
-    /// Takes a reading that isn't below the last one.
-    pub fn advance(&mut self, reading: Millilitres)
+    /// Takes a reading that isn't below the last one, and tells by how much it is above it.
+    pub fn advance(&mut self, reading: Millilitres) -> u64
         requires { self.old.last ≤ reading }
-        ensures { self.new ≡ record self.old { last = reading } }
+        ensures meter { self.new ≡ read_at reading self.old }
+        ensures growth { result ≡ growth_of self.old.last reading }
+        ensures range { reading ≤ GREATEST_READING }
     {
+        let growth = reading.get() - self.last.get();
         self.last = reading;
+        growth
+    }
+
+    /// Puts a meter in its place that begins with this reading.
+    pub fn replace(&mut self, reading: Millilitres)
+        requires { self.old.replaced < REPLACEMENT_LIMIT }
+        ensures meter { self.new ≡ replaced_at reading self.old }
+        ensures range { reading ≤ GREATEST_READING }
+    {
+        let _ = reading.get();
+        self.earlier += self.last.get() - self.began.get();
+        self.replaced += 1;
+        self.began = reading;
+        self.last = self.began;
     }
 }

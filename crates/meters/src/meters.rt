@@ -1,41 +1,49 @@
 //! The meters of a site.
 
-ghost use Rattle.std.specs.Prelude.{◌≡◌, ◌≤◌, ◌+◌, ◌++◌, true, None, Some, OnOk, IfOk, IfErr, length};
-ghost use Rattle.site_base.specs.declared.limits.TheConstants.{NOZZLES};
+ghost use Rattle.std.specs.Prelude.{◌≡◌, ◌<◌, ◌≤◌, ◌+◌, ◌++◌, true, None, Some, OnOk, IfOk, IfErr, IfSome, is_some, length};
+ghost use Rattle.site_base.specs.declared.limits.TheConstants.{NOZZLES, REPLACEMENT_LIMIT};
 ghost use Rattle.meters.specs.declared.report.Report.TheVariants.{Growing};
-ghost use Rattle.meters.specs.Nozzles.{opening_nozzles, nozzles_of_point, product_of, last_of, has_nozzle, reading_of, with_last, NoneBelowOpening};
+ghost use Rattle.meters.specs.Nozzles.{opening_nozzles, nozzles_of_point, product_of, last_of, replacements_of, has_nozzle, reading_of, times_replaced, with_last, with_meter, AreNozzles, EachMetered};
 ghost use Rattle.meters.specs.Metered.{most_of_a_site, product_total, metered_by, every_product};
+ghost use Rattle.meters.specs.Places.{IsPlace};
 ghost use Rattle.meters.specs.Reports.{growth_of, report_refusal};
 
 use crate::meter::Meter;
-use crate::place::place_of;
+use crate::place::{cell_of, places_of};
 use crate::report::Report;
 use site_base::{
-    FpNo, Millilitres, NoMemory, NozzleNo, PointEntry, ProductNo, Refusal, SiteConfig,
+    FpNo, Millilitres, NOZZLE_CELLS, NoMemory, NozzleNo, PRODUCT_CELLS, PointEntry, ProductNo,
+    Refusal, SiteConfig,
 };
 use std::alloc::Global;
 use std::marker::Model;
 
-/// The meters of a site's nozzles, in configured order.
+/// The meters of a site's nozzles, in configured order. What is asked of a nozzle or of a product
+/// costs the same for one point and for all.
 #[derive(Drop)]
 pub struct Meters {
     meters: Vec<Meter>,
+    // The place of each nozzle's meter stands in the nozzle's cell.
+    places: [Option<usize>; NOZZLE_CELLS],
+    // What the nozzles of product q have metered stands in cell q - 1.
+    totals: [u64; PRODUCT_CELLS],
 }
 
 impl Model for Meters {
     ghost use Rattle.std.specs.Prelude.{List};
-    ghost use Rattle.meters.specs.Nozzles.{Nozzle, AreNozzles};
+    ghost use Rattle.meters.specs.Nozzles.{Nozzle};
+    ghost use Rattle.meters.specs.Places.{AreKept};
 
     ghost Value = { List Nozzle };
 
     ghost view = { λ m. m.meters.items };
 
-    ghost invariant = { λ m. AreNozzles m.meters.items };
+    ghost invariant = { λ m. AreKept m.meters.items m.places m.totals };
 }
 
 impl Meters {
-    /// The meters of the site's nozzles when it opens: each with its opening reading as the last
-    /// one.
+    /// The meters of the site's nozzles when it opens: each begins with its opening reading, and
+    /// none was replaced.
     pub fn try_new(alloc: Global, config: &SiteConfig) -> Result<Self, NoMemory>
         ensures { IfOk result (λ meters. meters ≡ opening_nozzles config.now) }
     {
@@ -43,14 +51,19 @@ impl Meters {
         for entry in config.points() {
             add_point(&mut meters, entry)?;
         }
-        Ok(Meters { meters })
+        let places = places_of(&meters);
+        Ok(Meters {
+            meters,
+            places,
+            totals: [0; PRODUCT_CELLS],
+        })
     }
 
     /// The product of nozzle n of point p. None where there is no such nozzle.
     pub fn product(&self, p: FpNo, n: NozzleNo) -> Option<ProductNo>
         ensures { result ≡ product_of p n self.now }
     {
-        match place_of(&self.meters, p, n) {
+        match self.place(p, n) {
             Some(place) => {
                 let meter = &self.meters[place];
                 Some(meter.product())
@@ -60,15 +73,28 @@ impl Meters {
     }
 
     /// The last reading of nozzle n of point p. None where there is no such nozzle. No last reading
-    /// is below its opening one.
+    /// is below the one that its meter began with.
     pub fn last(&self, p: FpNo, n: NozzleNo) -> Option<Millilitres>
         ensures value { result ≡ last_of p n self.now }
-        ensures risen { NoneBelowOpening self.now }
+        ensures bounds { AreNozzles self.now }
     {
-        match place_of(&self.meters, p, n) {
+        match self.place(p, n) {
             Some(place) => {
                 let meter = &self.meters[place];
                 Some(meter.last())
+            }
+            None => None,
+        }
+    }
+
+    /// How often the meter of nozzle n of point p was replaced. None where there is no such nozzle.
+    pub fn replacements(&self, p: FpNo, n: NozzleNo) -> Option<u8>
+        ensures { result ≡ replacements_of p n self.now }
+    {
+        match self.place(p, n) {
+            Some(place) => {
+                let meter = &self.meters[place];
+                Some(meter.replaced())
             }
             None => None,
         }
@@ -78,8 +104,7 @@ impl Meters {
     /// in millilitres. A `Still` report that doesn't read just the last reading is refused with
     /// `MeterGap`, which names the reading that is expected. A `Growing` one is refused with
     /// `MeterBack`, which names the last reading, where it reads less than that, and with
-    /// `MeterJump` where it reads more than `GROWTH_LIMIT` above it. No meter moves, and none
-    /// stands below its opening reading.
+    /// `MeterJump` where it reads more than `GROWTH_LIMIT` above it. No meter moves.
     pub fn check(
         &self,
         p: FpNo,
@@ -94,9 +119,9 @@ impl Meters {
             growth ≡ growth_of (reading_of p n self.now) reading) }
         ensures refused { IfErr result (λ refusal.
             report_refusal report (reading_of p n self.now) reading ≡ Some refusal) }
-        ensures risen { NoneBelowOpening self.now }
+        ensures bounds { AreNozzles self.now }
     {
-        let Some(place) = place_of(&self.meters, p, n) else {
+        let Some(place) = self.place(p, n) else {
             unreachable!();
         };
         let meter = &self.meters[place];
@@ -110,38 +135,58 @@ impl Meters {
         requires accepted { report_refusal Growing (reading_of p n self.old) reading ≡ None }
         ensures { self.new ≡ with_last p n reading self.old }
     {
-        let Some(place) = place_of(&self.meters, p, n) else {
+        let Some(place) = self.place(p, n) else {
             unreachable!();
         };
         let meter = &mut self.meters[place];
-        meter.advance(reading);
+        let product = meter.product();
+        let growth = meter.advance(reading);
+        self.totals[product.cell()] += growth;
+    }
+
+    /// Nozzle n of point p, which is there, gets another meter, which begins with this reading. Its
+    /// meter was replaced fewer than `REPLACEMENT_LIMIT` times. What the nozzle has metered stays as
+    /// it is, and no other meter moves.
+    pub fn replace(&mut self, p: FpNo, n: NozzleNo, reading: Millilitres)
+        requires there { has_nozzle p n self.old ≡ true }
+        requires fewer { times_replaced p n self.old < REPLACEMENT_LIMIT }
+        ensures { self.new ≡ with_meter p n reading self.old }
+    {
+        let Some(place) = self.place(p, n) else {
+            unreachable!();
+        };
+        let meter = &mut self.meters[place];
+        meter.replace(reading);
     }
 
     /// What the nozzles of product q have metered since the site opened, in millilitres: the sum of
-    /// the last reading less the opening one. 0 where no nozzle delivers q. What the nozzles of all
-    /// products have metered is at most what a site can meter.
+    /// what their meters and their earlier meters have. 0 where no nozzle delivers q. What the
+    /// nozzles of all products have metered is at most what a site can meter.
     pub fn product_total(&self, q: ProductNo) -> u64
         ensures total { result ≡ product_total q self.now }
         ensures range { result ≤ most_of_a_site }
         ensures bound { metered_by every_product self.now ≤ most_of_a_site }
     {
-        let mut total = 0;
-        for meter in &self.meters {
-            let metered = meter.metered();
-            if meter.delivers(q) {
-                total += metered;
-            }
-        }
-        total
+        self.totals[q.cell()]
+    }
+
+    /// The place of the meter of nozzle n of point p, from its cell.
+    fn place(&self, p: FpNo, n: NozzleNo) -> Option<usize>
+        ensures found { IfSome result (IsPlace p n self.now) }
+        ensures there { is_some result ≡ has_nozzle p n self.now }
+    {
+        self.places[cell_of(p, n)]
     }
 }
 
 /// Adds the meters of a point's nozzles: nozzle n is the nth.
 fn add_point(meters: &mut Vec<Meter>, entry: &PointEntry) -> Result<(), NoMemory>
     requires most { length entry.now.nozzles ≤ NOZZLES }
+    requires bounds { EachMetered meters.old.items }
     ensures added { OnOk result (
         meters.new.items ≡ meters.old.items ++ nozzles_of_point entry.now) }
     ensures few { OnOk result (length meters.new.items ≤ length meters.old.items + NOZZLES) }
+    ensures bounds { OnOk result (EachMetered meters.new.items) }
 {
     for (place, nozzle) in entry.nozzles.iter().enumerate() {
         let Some(number) = NozzleNo::new(place as u8 + 1) else {

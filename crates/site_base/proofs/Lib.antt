@@ -2,5 +2,6 @@ pub mod Cells
 pub mod Known
 pub mod Numbering
 pub mod Places
+pub mod PointSets
 pub mod Worked
 pub mod PriceRanges

@@ -7,6 +7,7 @@ pub mod Devices
 pub mod Events
 pub mod History
 pub mod Numbered
+pub mod PointSets
 pub mod Prices
 pub mod Refusals
 pub mod States

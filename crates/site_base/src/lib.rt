@@ -11,6 +11,7 @@ mod event;
 mod limits;
 mod memory;
 mod numbers;
+mod point_set;
 mod prices;
 mod refusal;
 mod row;
@@ -29,11 +30,12 @@ pub use counted::Counted;
 pub use event::Event;
 pub use limits::{
     GREATEST_CENTS, GREATEST_PRESET, GREATEST_PRICE, GREATEST_READING, GREATEST_ROWS, GREATEST_SEQ,
-    GREATEST_SHIFT, GROWTH_LIMIT, NAME_OCTETS, NOZZLES, POINT_CELLS, POINTS, PRODUCT_CELLS,
-    PRODUCTS, TILL_CELLS, TILLS, UNPAID_LIMIT,
+    GREATEST_SHIFT, GROWTH_LIMIT, NAME_OCTETS, NOZZLE_CELLS, NOZZLES, POINT_CELLS, POINTS,
+    PRODUCT_CELLS, PRODUCTS, REPLACEMENT_LIMIT, TILL_CELLS, TILLS, UNPAID_LIMIT,
 };
 pub use memory::NoMemory;
 pub use numbers::{FpNo, NozzleNo, Number, ProductNo, Seq, ShiftNo, TillNo};
+pub use point_set::PointSet;
 pub use prices::PriceBook;
 pub use refusal::{NoRow, Refusal};
 pub use row::{Placed, Reply, Row, Rows, cents_told, growth_told};

@@ -10,6 +10,9 @@ pub const POINT_CELLS: usize = POINTS as usize;
 /// Nozzles of a fuelling point, numbered from 1.
 pub const NOZZLES: u8 = 8;
 
+/// Cells of an array that has one for each nozzle that a site can have.
+pub const NOZZLE_CELLS: usize = POINT_CELLS * NOZZLES as usize;
+
 /// Products of a site, numbered from 1.
 pub const PRODUCTS: u8 = 8;
 
@@ -33,6 +36,9 @@ pub const GREATEST_READING: u64 = 999_999_999_999;
 
 /// The greatest growth of a meter in one report, in millilitres.
 pub const GROWTH_LIMIT: u64 = 1_000_000;
+
+/// How often a nozzle's meter may be replaced.
+pub const REPLACEMENT_LIMIT: u8 = 99;
 
 /// The greatest price, in mills per litre.
 pub const GREATEST_PRICE: u32 = 99_999;

@@ -5,7 +5,7 @@ ghost use Rattle.std.specs.Ordering.{nat_cmp};
 ghost use Rattle.std.specs.FinMap as map;
 ghost use Rattle.till_claims.specs.Holds.{is_free_for, points_held};
 
-use site_base::{FpNo, NoMemory, POINT_CELLS, TillNo};
+use site_base::{FpNo, NoMemory, POINT_CELLS, PointSet, TILL_CELLS, TillNo};
 use std::alloc::Global;
 use std::marker::Model;
 
@@ -15,6 +15,8 @@ use std::marker::Model;
 pub struct Claims {
     // The holder of point p stands in cell p - 1.
     holders: [Option<TillNo>; POINT_CELLS],
+    // The points that till t holds stand in cell t - 1.
+    held: [PointSet; TILL_CELLS],
 }
 
 impl Model for Claims {
@@ -29,6 +31,10 @@ impl Model for Claims {
     ghost coded = { map.code coded_ℕ coded_ℕ };
 
     ghost view = { λ c. map.from_entries (entries_from 1 c.holders) };
+
+    ghost use Rattle.till_claims.specs.Holds.{AreIndexed};
+
+    ghost invariant = { λ c. AreIndexed c.holders c.held };
 }
 
 impl Claims {
@@ -38,6 +44,7 @@ impl Claims {
     {
         Claims {
             holders: [None; POINT_CELLS],
+            held: [PointSet::new(); TILL_CELLS],
         }
     }
 
@@ -55,13 +62,25 @@ impl Claims {
         ensures { self.new ≡ map.insert self.old p t }
     {
         self.holders[p.cell()] = Some(t);
+        let place = t.cell();
+        let mut held = self.held[place];
+        held.insert(p);
+        self.held[place] = held;
     }
 
     /// Nobody holds the point any more. Every other hold stays.
     pub fn free(&mut self, p: FpNo)
         ensures { self.new ≡ map.remove self.old p }
     {
-        self.holders[p.cell()] = None;
+        let cell = p.cell();
+        let Some(t) = self.holders[cell] else {
+            return;
+        };
+        self.holders[cell] = None;
+        let place = t.cell();
+        let mut held = self.held[place];
+        held.remove(p);
+        self.held[place] = held;
     }
 
     /// The points that the till holds, in rising order. The only error is want of memory.
@@ -69,11 +88,10 @@ impl Claims {
         ensures { IfOk result (λ points. points.items ≡ points_held t self.now) }
     {
         let mut points = Vec::new(alloc);
-        let holders: &[Option<TillNo>] = &self.holders;
-        for (cell, holder) in holders.iter().enumerate() {
-            if *holder == Some(t) {
-                points.push(FpNo::of_cell(cell))?;
-            }
+        let mut left = self.held[t.cell()];
+        while let Some(p) = left.first() {
+            points.push(p)?;
+            left.remove(p);
         }
         Ok(points)
     }

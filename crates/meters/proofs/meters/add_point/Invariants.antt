@@ -1,5 +1,5 @@
 use Rattle.std.proofs.Common.{◌≡◌, ◌≤◌, ◌+◌, ◌++◌, drop, length}
-use Rattle.meters.specs.Nozzles.{numbered}
+use Rattle.meters.specs.Nozzles.{numbered, EachMetered}
 use Rattle.meters.proofs.meters.add_point.Given as goal
 
 abbrev pub invariant-loop-place : goal.invariant-loop-place
@@ -7,4 +7,5 @@ invariant-loop-place l = record {
   added : l.meters.items ++ numbered l.entry.number (l.place + 1) (drop l.place l.entry.nozzles)
       ≡ l.fn.meters.items ++ numbered l.entry.number 1 l.entry.nozzles;
   few : length l.meters.items ≤ length l.fn.meters.items + l.place;
+  bounds : EachMetered l.meters.items;
 }

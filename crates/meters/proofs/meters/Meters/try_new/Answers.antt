@@ -1,8 +1,9 @@
 use Rattle.std.proofs.Common.{◌≡◌, ◌++◌, List, [], drop, sym, ap, subst, ◌∙◌, rules}
 use Rattle.std.proofs.lemmas.List.{drop_all, append-nil}
 use Rattle.site_base.specs.Configured.{ConfiguredPoint}
-use Rattle.meters.specs.Nozzles.{nozzles_of_points, NoneBelowOpening}
-use Rattle.meters.proofs.Raised.{points_open}
+use Rattle.meters.specs.Nozzles.{nozzles_of_points}
+use Rattle.meters.specs.Places.{ArePlaces}
+use Rattle.meters.proofs.KeptTotals.{kept_opened}
 use Rattle.meters.proofs.meters.Meters.try_new.Goals as goal
 
 pub invariant_of-result : goal.invariant_of-result
@@ -15,4 +16,7 @@ invariant_of-result c =
     ∙ ap (λ (ps : List ConfiguredPoint). c.loop-entry.meters.items ++ nozzles_of_points ps)
     (sym none_left)
     ∙ c.loop-entry.invariant.added in
-    record { few = search rules; risen = subst NoneBelowOpening (sym all) (points_open points) }
+    let places : ArePlaces c.loop-entry.meters.items c.places_of-places.result =
+    subst (λ xs. ArePlaces xs c.places_of-places.result) c.deref.ensures.value c.places_of-places.ensures in
+    kept_opened points c.loop-entry.meters.items c.places_of-places.result all
+    (record { few = search rules; each = c.loop-entry.invariant.bounds }) places

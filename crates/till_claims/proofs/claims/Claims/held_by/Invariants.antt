@@ -1,9 +1,9 @@
-use Rattle.std.proofs.Common.{◌≡◌, ◌+◌, ◌++◌, drop}
-use Rattle.site_base.specs.Cells.{entries_from}
-use Rattle.till_claims.specs.Holds.{points_of}
+use Rattle.std.proofs.Common.{◌≡◌, ◌++◌}
+use Rattle.till_claims.proofs.Members.{members}
 use Rattle.till_claims.proofs.claims.Claims.held_by.Given as goal
 
-abbrev pub invariant-loop-cell : goal.invariant-loop-cell
-invariant-loop-cell l =
-    l.points.items ++ points_of l.t (entries_from (l.cell + 1) (drop l.cell l.holders))
-    ≡ points_of l.t (entries_from 1 l.holders)
+abbrev pub invariant-loop-p : goal.invariant-loop-p
+invariant-loop-p l = l.points.items ++ members l.left ≡ members l.initial.left
+
+abbrev pub decreases-loop-p : goal.decreases-loop-p
+decreases-loop-p l = l.left

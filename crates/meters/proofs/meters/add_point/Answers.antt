@@ -1,0 +1,34 @@
+use Rattle.std.proofs.Common.{◌≡◌, ◌+◌, ◌++◌, ◌∷◌, [], List, drop, get_or, length, sym, ap, subst, ◌∙◌, append_assoc, add-one, arith}
+use Rattle.std.proofs.Math.Seq.{drop-cons}
+use Rattle.site_base.specs.declared.config.NozzleEntry.{NozzleEntry}
+use Rattle.meters.specs.Nozzles.{Nozzle, opened, numbered, EachMetered}
+use Rattle.meters.proofs.Bounded.{each_joined}
+use Rattle.meters.proofs.meters.add_point.Goals as goal
+
+pub loop-place-preserved : goal.loop-place-preserved
+loop-place-preserved c =
+    let p = c.entry.inside.number in
+    let i = c.loop-place.place in
+    let es : List NozzleEntry = c.entry.inside.nozzles.items in
+    let e : NozzleEntry = c.nozzle-item.result in
+    let items : List Nozzle = c.loop-place.meters.items in
+    let same = c.deref-nozzle-items.ensures.value in
+    let kept = rw (← c.entry.view_is) at c.loop-place.invariant in
+    let left : drop i es ≡ get_or es i e ∷ drop (i + 1) es =
+    rw add-one (drop-cons es i e (omega (arith, ap length same))) in
+    let first : c.opened.result ≡ opened p (i + 1) (get_or es i e) =
+    c.opened.ensures.value ∙ ap (λ n. opened p n e) c.in-Some.ensures.value
+    ∙ ap (opened p (i + 1)) (c.nozzle-item.is ∙ ap (λ xs. get_or xs i e) same) in
+    let step : c.opened.result ∷ numbered p (i + 1 + 1) (drop (i + 1) es)
+    ≡ numbered p (i + 1) (drop i es) =
+    ap (λ x. x ∷ numbered p (i + 1 + 1) (drop (i + 1) es)) first
+    ∙ sym (ap (numbered p (i + 1)) left) in
+    rw (← c.entry.view_is) (record {
+      added = ap (λ xs. xs ++ numbered p (i + 1 + 1) (drop (i + 1) es)) c.in_ok-push.ensures.items
+          ∙ append_assoc items (c.opened.result ∷ []) (numbered p (i + 1 + 1) (drop (i + 1) es))
+          ∙ ap (λ xs. items ++ xs) step ∙ kept.added;
+      few = omega (arith, c.in_ok-push.ensures.len, c.loop-place.invariant.few);
+      bounds = subst EachMetered (sym c.in_ok-push.ensures.items)
+          (each_joined items (c.opened.result ∷ []) c.loop-place.invariant.bounds
+          (c.opened.ensures.bounds, tt));
+    })
