@@ -18,17 +18,14 @@ use Rattle.app_message.specs.Spelling.{item_text, body_text}
 use Rattle.app_message.specs.Parts.{parts_fault}
 use Rattle.device_map.specs.declared.ids.TheConstants as ids
 use Rattle.device_map.specs.Items.{octet, two_octets, four_octets, eight_octets}
-use Rattle.device_map.specs.Replies.{AreShort, flag, test_items, preset_items, prepaid_items}
-use Rattle.device_map.specs.Replies.{detail_items}
+use Rattle.device_map.specs.Replies.{AreShort, test_items, preset_items, prepaid_items}
+use Rattle.device_map.specs.Replies.{standing_items, detail_items}
 use Rattle.device_map.specs.Replies.{answer_items, reply_items}
 
 point_short : (v : PointView) (test : Bool) (preset : Preset) (prepaid : Option ℕ)
-    → AreShort (octet ids.STATE (state_number v.state) ++ octet ids.NOZZLE_OUT (unwrap_or v.out 0)
-    ++ octet ids.HOLDER (unwrap_or v.holder 0)
-    ++ octet ids.ENDING (flag v.ending) ++ test_items test ++ preset_items preset
-    ++ four_octets ids.PRICE v.price
-    ++ eight_octets ids.VOLUME v.volume ++ prepaid_items prepaid)
-unfolding octet two_octets four_octets eight_octets
+    → AreShort (standing_items v ++ test_items test ++ preset_items preset
+    ++ four_octets ids.PRICE v.price ++ eight_octets ids.VOLUME v.volume ++ prepaid_items prepaid)
+unfolding standing_items octet two_octets four_octets eight_octets
 point_short v true Unset None = record { rise = refl; size = lit≤ tt }
 point_short v true Unset (Some cents) = record { rise = refl; size = lit≤ tt }
 point_short v true (Volume n) None = record { rise = refl; size = lit≤ tt }

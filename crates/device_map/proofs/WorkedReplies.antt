@@ -22,7 +22,7 @@ use Rattle.app_message.specs.Spelling.{spelling}
 use Rattle.app_message.specs.Stream.{walk, stream_of}
 use Rattle.app_message.proofs.Hexadecimal.{octets}
 use Rattle.device_map.specs.Items.{octet, two_octets, four_octets, eight_octets}
-use Rattle.device_map.specs.Replies.{reply_message, number_message, fault_message}
+use Rattle.device_map.specs.Replies.{standing_items, reply_message, number_message, fault_message}
 
 -- a request by its octets, a reply, and the octets that tell it
 record Row : Type 0 where
@@ -289,7 +289,7 @@ view_rows =
     []
 
 views_are_told : map tells view_rows ≡ map (λ row. row.text ∷ []) view_rows
-unfolding walk front_at header_at item_at items_at address_at body_at octet two_octets four_octets eight_octets
+unfolding walk front_at header_at item_at items_at address_at body_at standing_items octet two_octets four_octets eight_octets
 views_are_told = refl
 
 -- ---- the way back: originator, token and address are those of the request
@@ -316,7 +316,7 @@ way_rows =
     []
 
 ways_back : map tells way_rows ≡ map (λ row. row.text ∷ []) way_rows
-unfolding walk front_at header_at item_at items_at address_at body_at octet two_octets four_octets eight_octets
+unfolding walk front_at header_at item_at items_at address_at body_at standing_items octet two_octets four_octets eight_octets
 ways_back = refl
 
 -- ---- numbers in place of replies, and faults of a stream

@@ -49,12 +49,16 @@ abbrev pub prepaid_items : Option ℕ → List Entry
 prepaid_items None = []
 prepaid_items (Some cents) = four_octets ids.PREPAID cents
 
+-- what state a point is in, the nozzle that is out, who holds it, whether it is ending
+unfoldable pub standing_items : PointView → List Entry
+standing_items v = octet ids.STATE (state_number v.state)
+    ++ octet ids.NOZZLE_OUT (unwrap_or v.out 0) ++ octet ids.HOLDER (unwrap_or v.holder 0)
+    ++ octet ids.ENDING (flag v.ending)
+
 abbrev pub point_items : PointView → List Entry
-point_items v = octet ids.STATE (state_number v.state) ++ octet ids.NOZZLE_OUT (unwrap_or v.out 0)
-    ++ octet ids.HOLDER (unwrap_or v.holder 0)
-    ++ octet ids.ENDING (flag v.ending) ++ test_items v.test
-    ++ preset_items v.preset ++ four_octets ids.PRICE v.price
-    ++ eight_octets ids.VOLUME v.volume ++ prepaid_items v.prepaid
+point_items v = standing_items v ++ test_items v.test ++ preset_items v.preset
+    ++ four_octets ids.PRICE v.price ++ eight_octets ids.VOLUME v.volume
+    ++ prepaid_items v.prepaid
 
 abbrev pub transaction_items : TransactionView → List Entry
 transaction_items v = four_octets ids.PRICE v.price ++ eight_octets ids.VOLUME v.volume

@@ -4,6 +4,7 @@ ghost use Rattle.std.specs.Prelude.{◌≡◌, ◌≤◌, [], length, unwrap_or,
 ghost use Rattle.app_message.specs.Telegram.{telegram};
 ghost use Rattle.app_message.specs.Bodies.{with_items};
 ghost use Rattle.device_map.specs.Replies.{preset_items, prepaid_items, point_items, test_items};
+ghost use Rattle.device_map.specs.Replies.{standing_items};
 ghost use Rattle.device_map.specs.Replies.{transaction_items, product_items, site_items, outcome};
 ghost use Rattle.device_map.specs.Replies.{answer_items, answer_kind, detail_items, refusal_items};
 ghost use Rattle.device_map.specs.Replies.{reply_items, reply_kind, reply_message, number_message};
@@ -214,15 +215,22 @@ fn put_drawn(draft: &mut Draft, growth: u64) -> Result<(), NoMemory>
 fn put_point(draft: &mut Draft, view: &PointView) -> Result<(), NoMemory>
     ensures { OnOk result (draft.new ≡ with_items draft.old (point_items view.now)) }
 {
-    put_octet(draft, ids::STATE, view.state.number())?;
-    put_octet(draft, ids::NOZZLE_OUT, nozzle_number(view.out))?;
-    put_octet(draft, ids::HOLDER, till_number(view.holder))?;
-    put_octet(draft, ids::ENDING, u8::from(view.ending))?;
+    put_standing(draft, view)?;
     put_test(draft, view.test)?;
     put_preset(draft, view.preset)?;
     put_four(draft, ids::PRICE, view.price)?;
     put_eight(draft, ids::VOLUME, view.volume)?;
     put_prepaid(draft, view.prepaid)
+}
+
+#[tactic(auto, unfolding(crate::specs::Replies::standing_items))]
+fn put_standing(draft: &mut Draft, view: &PointView) -> Result<(), NoMemory>
+    ensures { OnOk result (draft.new ≡ with_items draft.old (standing_items view.now)) }
+{
+    put_octet(draft, ids::STATE, view.state.number())?;
+    put_octet(draft, ids::NOZZLE_OUT, nozzle_number(view.out))?;
+    put_octet(draft, ids::HOLDER, till_number(view.holder))?;
+    put_octet(draft, ids::ENDING, u8::from(view.ending))
 }
 
 fn put_transaction(draft: &mut Draft, view: &TransactionView) -> Result<(), NoMemory>
