@@ -43,7 +43,7 @@ pub enum Refusal {
     WrongNozzle(NozzleNo),
     /// The fuelling point has as many unpaid transactions as it may.
     BufferFull,
-    /// The fuelling point has no sequence number left.
+    /// The fuelling point has no sequence number left in the open shift.
     SequenceSpent,
     /// The reading isn't the meter's last one, which is expected here.
     MeterGap(Millilitres),
