@@ -8,7 +8,9 @@ mod laws;
 mod request;
 mod sale;
 mod shelf;
+mod span;
 mod standing;
+mod sums;
 #[cfg(test)]
 mod tests;
 
