@@ -1,5 +1,5 @@
 -- What an accepted request leaves of a sale.
-use Rattle.std.proofs.Common.{◌≡◌, ℕ, Bool, true, Result, Ok, Err, refl, ap}
+use Rattle.std.proofs.Common.{◌≡◌, ℕ, true, Result, Ok, Err, refl, ap}
 use Rattle.site_base.specs.declared.answer.Answer.{Answer}
 use Rattle.site_base.specs.declared.refusal.Refusal.{Refusal}
 use Rattle.transaction_buffer.specs.declared.request.Request.{Request}

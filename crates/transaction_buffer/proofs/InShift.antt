@@ -1,7 +1,7 @@
 -- A point's sales of one shift: what is found, replaced, added and counted among them.
-use Rattle.std.proofs.Common.{◌≡◌, ◌≢◌, ℕ, zero, suc, ◌+◌, ◌-◌, ◌<◌, ◌≤◌, ◌==◌, ◌&&◌, Bool, true, false, cond, if◌then◌else◌, List, [], ◌∷◌, ◌++◌, map, Option, option_map, Some, None, refl, sym, ap, ◌∙◌, arith}
+use Rattle.std.proofs.Common.{◌≡◌, ◌≢◌, ℕ, ◌+◌, ◌-◌, ◌<◌, ◌==◌, ◌&&◌, Bool, true, false, cond, if◌then◌else◌, List, [], ◌∷◌, ◌++◌, map, Option, option_map, Some, None, refl, sym, ap, ◌∙◌, arith}
 use Rattle.std.proofs.lemmas.Bool.Decides.{nat_tests}
-use Rattle.transaction_buffer.specs.Sales.{Sale, sale_in, made_in, with_in, is_unpaid, unpaid_among}
+use Rattle.transaction_buffer.specs.Sales.{Sale, sale_in, made_in, with_in}
 use Rattle.transaction_buffer.specs.Sums.{sum_among}
 
 same : (n m : ℕ) → (n == m) ≡ true → n ≡ m

@@ -1,5 +1,5 @@
 -- The kept sums after each change.
-use Rattle.std.proofs.Common.{◌≡◌, ℕ, ◌+◌, ◌-◌, ◌^◌, ◌<◌, ◌≤◌, ◌≢◌, ◌==◌, ◌&&◌, Bool, true, false, cond, nat_lt, if◌then◌else◌, Some, inl, inr, refl, sym, ap, ◌∙◌, arith}
+use Rattle.std.proofs.Common.{◌≡◌, ℕ, ◌+◌, ◌^◌, ◌<◌, ◌≤◌, ◌≢◌, ◌==◌, ◌&&◌, Bool, true, false, cond, nat_lt, if◌then◌else◌, Some, inl, inr, refl, sym, ap, ◌∙◌, arith}
 use Rattle.std.proofs.lemmas.Bool.{eq-eqb, cases_eq}
 use Rattle.std.proofs.lemmas.Bool.Decides.{nat_tests}
 use Rattle.site_base.specs.declared.limits.TheConstants.{PRODUCTS}
@@ -11,7 +11,7 @@ use Rattle.transaction_buffer.specs.declared.sums.Sums.{Sums}
 use Rattle.transaction_buffer.specs.Sales.{Key, Sale, Sales, sale_of, status_of, with_sale, with_new}
 use Rattle.transaction_buffer.specs.TransactionTable.{after_sign_off}
 use Rattle.transaction_buffer.specs.KeptSums.{kept_sum, AreMoved, AreSums, AreWith, AreWithout}
-use Rattle.transaction_buffer.specs.Sums.{sum_of, has_status, volume_in, volume_with, volume_of, volume_by, locked_volume}
+use Rattle.transaction_buffer.specs.Sums.{has_status, volume_in, volume_with, volume_of, volume_by, locked_volume}
 use Rattle.transaction_buffer.proofs.Summing.{replaced_sum, sold_sum}
 use Rattle.transaction_buffer.proofs.Volumes.{add_up, move}
 

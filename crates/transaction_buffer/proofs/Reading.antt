@@ -6,7 +6,7 @@ use Rattle.std.specs.FinMap as finite
 use Rattle.site_base.specs.declared.refusal.Refusal.{Refusal}
 use Rattle.transaction_buffer.specs.declared.request.Request.{Request}
 use Rattle.transaction_buffer.specs.declared.standing.Standing.TheVariants.{Payable}
-use Rattle.transaction_buffer.specs.Sales.{Key, next_key, Sale, sale_in, made_in, with_in, is_unpaid, Sales, sales_at, sale_of, same_key, made_at, with_sale, with_new, each_changed}
+use Rattle.transaction_buffer.specs.Sales.{Key, next_key, Sale, sale_in, made_in, with_in, Sales, sales_at, sale_of, same_key, with_sale, with_new, each_changed}
 use Rattle.transaction_buffer.specs.TransactionTable.{Line, line_for, sale_after, sale_after_request, after_line, after_at, after_request, is_locked_by, let_go}
 use Rattle.transaction_buffer.specs.Laws.{IsReadAfter}
 use Rattle.transaction_buffer.proofs.InShift.{of_shift, with_same, with_other, pushed, mapped}

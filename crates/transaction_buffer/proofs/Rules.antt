@@ -1,5 +1,5 @@
 -- The rules of locks and clears.
-use Rattle.std.proofs.Common.{◌≡◌, ℕ, zero, suc, ◌+◌, ◌-◌, ◌<◌, length, ◌==◌, ◌⊎◌, inl, inr, Bool, true, false, cond, List, [], Option, option_map, option_and_then, Some, None, unwrap_or, is_some, Result, Ok, refl, sym, ap, ◌∙◌}
+use Rattle.std.proofs.Common.{◌≡◌, ℕ, ◌==◌, ◌⊎◌, inl, inr, Bool, true, false, cond, List, [], Option, option_map, option_and_then, Some, None, unwrap_or, Result, Ok, refl, sym, ap, ◌∙◌}
 use Rattle.std.proofs.Common.{arith}
 use Rattle.std.proofs.lemmas.Bool.{eq-eqb}
 use Rattle.std.proofs.lemmas.Bool.Decides.{nat_tests}
@@ -12,7 +12,7 @@ use Rattle.transaction_buffer.specs.declared.request.Request.{Request}
 use Rattle.transaction_buffer.specs.declared.request.Request.TheVariants.{Lock, Unlock, Clear}
 use Rattle.transaction_buffer.specs.declared.standing.Standing.{Standing}
 use Rattle.transaction_buffer.specs.declared.standing.Standing.TheVariants.{Payable, LockedBy, ClearedBy}
-use Rattle.transaction_buffer.specs.Sales.{Key, key, next_key, Sale, Sales, sale_in, with_in, sales_at, sale_of, same_key, made_at, is_unpaid, with_sale}
+use Rattle.transaction_buffer.specs.Sales.{Key, next_key, Sale, Sales, sale_in, sales_at, sale_of, same_key, is_unpaid, with_sale}
 use Rattle.transaction_buffer.specs.TransactionTable.{Line, Seen, payable, locked_by_it, locked_by_other, cleared_by, line, seen_by, line_for, line_of, refusal_in, answer_in, sale_after, sale_after_request, refusal_of, after_line, after_at, after_request, is_locked_by, let_go, locker, locker_of}
 use Rattle.transaction_buffer.specs.Laws.{asks, signs_off, sells, IsClearedForGood, IsClear, IsClearedByItsLocker, unless_signed_off, HasOneLocker}
 use Rattle.transaction_buffer.proofs.Maps.{insert_same}

@@ -1,10 +1,10 @@
 -- Where the sales of a shift stand: places by the shifts alone, and the spans that tell them.
-use Rattle.std.proofs.Common.{◌≡◌, ◌≢◌, ℕ, zero, suc, ◌+◌, ◌-◌, ◌<◌, ◌≤◌, ◌==◌, ◌&&◌, Bool, true, false, cond, if◌then◌else◌, List, [], ◌∷◌, ◌++◌, length, get_or, map, Option, option_map, Some, None, inl, inr, refl, sym, ap, subst, ◌∙◌, arith}
+use Rattle.std.proofs.Common.{◌≡◌, ◌≢◌, ℕ, zero, suc, ◌+◌, ◌-◌, ◌<◌, ◌≤◌, ◌==◌, Bool, true, false, cond, if◌then◌else◌, List, [], ◌∷◌, ◌++◌, length, get_or, map, Option, option_map, Some, None, inl, inr, refl, sym, ap, subst, ◌∙◌, arith}
 use Rattle.std.proofs.Math.ListN.{set}
-use Rattle.std.proofs.lemmas.Bool.{cases_eq, cases_lt, cases_Bool}
+use Rattle.std.proofs.lemmas.Bool.{cases_eq, cases_lt}
 use Rattle.std.proofs.lemmas.Bool.Decides.{nat_tests}
 use Rattle.std.proofs.lemmas.Grind.{get_or-set_at}
-use Rattle.std.proofs.lemmas.List.{get_or-set_other, map_push, length_push, get_or_default}
+use Rattle.std.proofs.lemmas.List.{get_or-set_other, length_push}
 use Rattle.site_base.specs.declared.limits.TheConstants.{GREATEST_SEQ, GREATEST_SHIFT}
 use Rattle.transaction_buffer.specs.declared.span.Span.{Span}
 use Rattle.transaction_buffer.specs.Sales.{Sale, sale_in, made_in, with_in}
@@ -210,7 +210,7 @@ new_place h (k ∷ ks) = by_test (k == h) refl (new_place h ks)
 
 -- ---- spans
 
-module _ (gs : List ℕ) (g : ℕ) (none_after : NoneAfter g gs) where
+module _ (gs : List ℕ) (g : ℕ) (none_after : NoneAfter g gs) (top : g ≤ GREATEST_SHIFT) where
   count_own : count_in g (gs ++ g ∷ []) ≡ count_in g gs + 1
   count_own =
       let own : (g == g) ≡ true = is_same g g refl in
@@ -251,8 +251,8 @@ module _ (gs : List ℕ) (g : ℕ) (none_after : NoneAfter g gs) where
         omega (arith, last_place span is, count);
   }
 
-  pub span_kept : (h : ℕ) (span : Span) → h ≢ g → IsSpan h gs span → IsSpan h (gs ++ g ∷ []) span
-  span_kept h span other is =
+  pub span_kept : (h : ℕ) (span : Span) → h ≢ g → h ≤ GREATEST_SHIFT → IsSpan h gs span → IsSpan h (gs ++ g ∷ []) span
+  span_kept h span other high is =
       let isnt : (g == h) ≡ false = is_apart g h (λ e. other (sym e)) in
       let counts : count_in h (gs ++ g ∷ []) ≡ count_in h gs =
       count_pushed h gs g ∙ ap (λ (b : Bool). count_in h gs + cond b 1 0) isnt ∙ omega arith in
@@ -261,8 +261,8 @@ module _ (gs : List ℕ) (g : ℕ) (none_after : NoneAfter g gs) where
         few = is.few;
         places = λ n below. kept_place h (n + 1) gs g (span.first + n) (is.places n below);
         ends = λ none some. elim (cases_lt h g) [
-          | inl before ↦ absurd (let zero_own : count_in g (gs ++ g ∷ []) ≡ 0 = none g before in omega (arith, count_own))
-          | inr after ↦ absurd (let zero_old : count_in h gs ≡ 0 = none_after h (omega arith) in omega (arith, is.counts))
+          | inl before ↦ absurd (let zero_own : count_in g (gs ++ g ∷ []) ≡ 0 = none g before top in omega (arith, count_own))
+          | inr after ↦ absurd (let zero_old : count_in h gs ≡ 0 = none_after h (omega arith) high in omega (arith, is.counts))
         ];
       }
 
@@ -285,7 +285,7 @@ module _ (gs : List ℕ) (g : ℕ) (none_after : NoneAfter g gs) where
         | inr other ↦
             subst (λ (s : Span). IsSpan h (gs ++ g ∷ []) s)
             (sym (get_or-set_other cells i (h - 1) (grown (get_or cells i no_span) (length gs)) no_span (omega arith)))
-            (span_kept h (get_or cells (h - 1) no_span) other (are h low high))
+            (span_kept h (get_or cells (h - 1) no_span) other high (are h low high))
       ]
 
 -- what has no place isn't there

@@ -1,9 +1,9 @@
 -- The sales of a site, and the words that read and change them.
-use Rattle.std.specs.Prelude.{◌≡◌, ℕ, ◌+◌, ◌-◌, ◌<◌, List, [], ◌∷◌, ◌++◌, length, map, Bool, true, false, Option, option_map, Some, None, is_some, unwrap_or, ◌&&◌, ◌==◌, nat_lt, if◌then◌else◌}
+use Rattle.std.specs.Prelude.{◌≡◌, ℕ, ◌+◌, ◌-◌, ◌<◌, ◌≤◌, List, [], ◌∷◌, ◌++◌, map, Bool, true, false, Option, option_map, Some, None, is_some, unwrap_or, ◌&&◌, ◌==◌, nat_lt, if◌then◌else◌}
 use Rattle.std.specs.Ordering.{nat_cmp}
 use Rattle.std.specs.FinMap as finite
 use Rattle.std.specs.FinMap.{FinMap}
-use Rattle.site_base.specs.declared.limits.TheConstants.{GREATEST_SEQ}
+use Rattle.site_base.specs.declared.limits.TheConstants.{GREATEST_SEQ, GREATEST_SHIFT}
 use Rattle.site_base.specs.declared.state.Status.{Status}
 use Rattle.site_base.specs.declared.state.Status.TheVariants as statuses
 use Rattle.site_base.specs.declared.view.TransactionView.{TransactionView}
@@ -78,7 +78,7 @@ made_at p h s = made_in h (sales_at p s)
 
 -- no sale of point p is of a shift after h
 abbrev pub HasNoneLater : ℕ → ℕ → Sales → Type 0
-HasNoneLater p h s = (g : ℕ) → h < g → made_at p g s ≡ 0
+HasNoneLater p h s = (g : ℕ) → h < g → g ≤ GREATEST_SHIFT → made_at p g s ≡ 0
 
 -- the number of the next sale after so many: 1 more, and none after the greatest
 abbrev pub next_after : ℕ → Option ℕ

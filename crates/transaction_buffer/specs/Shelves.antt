@@ -45,9 +45,9 @@ place_in h n (g ∷ gs) =
     if g == h then (if n == 1 then Some 0 else option_map (λ i. i + 1) (place_in h (n - 1) gs))
     else option_map (λ i. i + 1) (place_in h n gs)
 
--- none of these shifts is after h
+-- none of these shifts is after h, up to the greatest
 abbrev pub NoneAfter : ℕ → List ℕ → Type 0
-NoneAfter h gs = (g : ℕ) → h < g → count_in g gs ≡ 0
+NoneAfter h gs = (g : ℕ) → h < g → g ≤ GREATEST_SHIFT → count_in g gs ≡ 0
 
 -- the span of shift h tells how many of these shifts are h, and where each of them stands; where
 -- none is after h, it ends with the last one

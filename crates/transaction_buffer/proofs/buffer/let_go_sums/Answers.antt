@@ -1,7 +1,5 @@
-use Rattle.std.proofs.Common.{◌≡◌, ◌+◌, ◌^◌, ◌<◌, sym, ap, subst, ◌∙◌, arith}
-use Rattle.site_base.specs.declared.limits.TheConstants.{PRODUCTS}
-use Rattle.transaction_buffer.specs.KeptSums.{AreMoved}
-use Rattle.transaction_buffer.specs.Shelves.{sales_on, sum_on}
+use Rattle.std.proofs.Common.{◌≡◌, ◌+◌, ◌^◌, ◌<◌, sym, subst, ◌∙◌, arith}
+use Rattle.transaction_buffer.specs.Shelves.{sales_on}
 use Rattle.transaction_buffer.specs.Sums.{volume_in, volume_locked_by, locked_volume, volume_of}
 use Rattle.transaction_buffer.proofs.OnShelves.{sums_there}
 use Rattle.transaction_buffer.proofs.Kept.{LetGoBefore, let_go_none, let_go_all, let_go_among, let_go_fits, let_go_next}

@@ -71,9 +71,9 @@ push-requires-clause-order c =
     let required = rw (← c.self.view_is) at c.requires.order in
     let shift : c.new-sale.result.shift ≡ c.args.shift =
     ap (λ (x : Sale). x.shift) c.new-sale.ensures.value in
-    λ g later. sym (made_counts g (get_or c.self.inside.shelves c.cell.result
+    λ g later high. sym (made_counts g (get_or c.self.inside.shelves c.cell.result
     c.index-self-cell.result).sales) ∙ ap (made_in g) (sym there)
-    ∙ required g (omega (arith, shift, later))
+    ∙ required g (omega (arith, shift, later)) high
 
 pub returns-clause-sales : goal.returns-clause-sales
 returns-clause-sales c =

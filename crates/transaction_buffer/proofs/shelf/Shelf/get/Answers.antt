@@ -1,4 +1,4 @@
-use Rattle.std.proofs.Common.{◌≡◌, Some, get_or, sym, ap, ◌∙◌, arith}
+use Rattle.std.proofs.Common.{Some, sym, ap, ◌∙◌, arith}
 use Rattle.transaction_buffer.proofs.Spans.{stands, nowhere}
 use Rattle.transaction_buffer.proofs.shelf.Shelf.get.Goals as goal
 

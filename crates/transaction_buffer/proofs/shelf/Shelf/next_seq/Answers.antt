@@ -1,7 +1,7 @@
-use Rattle.std.proofs.Common.{◌≡◌, ◌+◌, ◌-◌, get_or, sym, ap, ◌∙◌, arith}
+use Rattle.std.proofs.Common.{◌≡◌, ◌+◌, ◌-◌, get_or, sym, ap, ◌∙◌}
 use Rattle.transaction_buffer.specs.declared.span.Span.{Span}
-use Rattle.transaction_buffer.specs.Sales.{made_in, next_after}
-use Rattle.transaction_buffer.specs.Shelves.{no_span, shifts_of, count_in}
+use Rattle.transaction_buffer.specs.Sales.{made_in}
+use Rattle.transaction_buffer.specs.Shelves.{no_span}
 use Rattle.transaction_buffer.proofs.Spans.{made_counts}
 use Rattle.transaction_buffer.proofs.Numbers.{next_is}
 use Rattle.transaction_buffer.proofs.shelf.Shelf.next_seq.Goals as goal

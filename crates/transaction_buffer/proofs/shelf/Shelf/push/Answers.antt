@@ -1,10 +1,10 @@
-use Rattle.std.proofs.Common.{◌≡◌, ◌≤◌, ◌<◌, ◌+◌, ◌-◌, ◌∷◌, [], List, ◌++◌, length, get_or, vec_len, vec_capacity, sym, ap, subst, ◌∙◌, arith}
+use Rattle.std.proofs.Common.{◌≡◌, ◌≤◌, ◌+◌, ◌-◌, ◌∷◌, [], List, ◌++◌, length, get_or, vec_len, vec_capacity, sym, ap, subst, ◌∙◌, arith}
 use Rattle.std.proofs.Math.ListN.{set}
-use Rattle.std.proofs.lemmas.List.{length_push, length-map, length-set, get_or_default}
+use Rattle.std.proofs.lemmas.List.{length-map, length-set, get_or_default}
 use Rattle.site_base.specs.declared.limits.TheConstants.{GREATEST_SHIFT}
 use Rattle.transaction_buffer.specs.declared.span.Span.{Span}
 use Rattle.transaction_buffer.specs.Sales.{Sale, unpaid_among}
-use Rattle.transaction_buffer.specs.Shelves.{AreSpans, IsSpan, IsShelf, shifts_of, no_span}
+use Rattle.transaction_buffer.specs.Shelves.{AreSpans, shifts_of, no_span}
 use Rattle.transaction_buffer.specs.Spans.{grown}
 use Rattle.transaction_buffer.proofs.Spans.{made_counts, shifts_pushed, spans_grown, room_full}
 use Rattle.transaction_buffer.proofs.Unpaid.{unpaid_push}
@@ -51,7 +51,7 @@ invariant_of-self c =
     let span : c.grown.result ≡ grown (get_or cells i no_span) (length (shifts_of xs)) =
     c.grown.ensures ∙ ap (λ s. grown s c.len.result) (its_span d)
     ∙ ap (λ n. grown (get_or cells i no_span) n) (omega (arith, count)) in
-    let spans = spans_grown (shifts_of xs) x.shift requires.order cells i (omega arith)
+    let spans = spans_grown (shifts_of xs) x.shift requires.order (omega arith) cells i (omega arith)
     (omega (arith, whole)) (omega (arith, made_counts x.shift xs, requires.number))
     c.self.invariant.spans in
     let as_many : length (set cells i c.grown.result) ≡ length cells = length-set cells i c.grown.result in

@@ -1,4 +1,3 @@
-use Rattle.std.proofs.Common.{arith, refl}
 use Rattle.transaction_buffer.proofs.Spans.{shelf_filled}
 use Rattle.transaction_buffer.proofs.shelf.Shelf.reserve.Goals as goal
 
