@@ -12,5 +12,6 @@ pub mod Rules
 pub mod Spans
 pub mod Summing
 pub mod Unpaid
+pub mod PlacesUnpaid
 pub mod Volumes
 pub mod Worked

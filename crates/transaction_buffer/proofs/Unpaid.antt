@@ -55,6 +55,10 @@ same_unpaid : (t : ℕ) (x : Sale) (locked : Bool) → is_locked_by t x.standing
 same_unpaid t x true is = sym (locked_unpaid t x.standing is)
 same_unpaid t x false is = refl
 
+-- a sign-off leaves a sale unpaid or paid
+pub let_go_unpaid : (t : ℕ) (x : Sale) → is_unpaid (let_go t x).standing ≡ is_unpaid x.standing
+let_go_unpaid t x = same_unpaid t x (is_locked_by t x.standing) refl
+
 -- what a sign-off lets go stays unpaid
 pub unpaid_let_go : (t : ℕ) (xs : List Sale) → unpaid_among (map (let_go t) xs) ≡ unpaid_among xs
 unpaid_let_go t [] = refl
@@ -62,6 +66,17 @@ unpaid_let_go t (x ∷ xs) =
     ap (λ (b : Bool). cond b 1 0 + unpaid_among (map (let_go t) xs))
     (same_unpaid t x (is_locked_by t x.standing) refl)
     ∙ ap (λ (n : ℕ). cond (is_unpaid x.standing) 1 0 + n) (unpaid_let_go t xs)
+
+-- how many are unpaid, once a sale is in the place of an unpaid one
+pub unpaid_moved : (h n : ℕ) (xs : List Sale) (x y : Sale) → sale_in h n xs ≡ Some x
+    → is_unpaid x.standing ≡ true
+    → unpaid_among (with_in h n y xs) + 1 ≡ unpaid_among xs + cond (is_unpaid y.standing) 1 0
+unpaid_moved h n xs x y is unpaid =
+    let all = unpaid_sum xs in
+    let new = unpaid_sum (with_in h n y xs) in
+    let moved = with_sum one_if_unpaid h n xs x y is in
+    let was : one_if_unpaid x ≡ 1 = ap (λ (b : Bool). cond b 1 0) unpaid in
+    omega (arith, all, new, moved, was)
 
 -- any sale in the place of the unpaid one of its shift and number
 pub unpaid_with : (h n : ℕ) (xs : List Sale) (x y : Sale) → sale_in h n xs ≡ Some x

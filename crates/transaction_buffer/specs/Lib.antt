@@ -8,3 +8,4 @@ pub mod Shelves
 pub mod Spans
 pub mod Sums
 pub mod TransactionTable
+pub mod UnpaidPlaces

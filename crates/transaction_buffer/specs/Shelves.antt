@@ -6,6 +6,7 @@ use Rattle.site_base.specs.Cells.{entries_from}
 use Rattle.transaction_buffer.specs.declared.span.Span.{Span}
 use Rattle.transaction_buffer.specs.Sales.{Sale, Sales, unpaid_among}
 use Rattle.transaction_buffer.specs.Sums.{sum_among}
+use Rattle.transaction_buffer.specs.UnpaidPlaces.{AreUnpaid}
 
 -- the sales of a point, and how many more there is room for
 pub record Shelf : Type 0 where
@@ -67,7 +68,8 @@ AreSpans gs spans = (h : ℕ) → 1 ≤ h → h ≤ GREATEST_SHIFT
     → IsSpan h gs (slice_index_or spans (h - 1) no_span)
 
 -- what a shelf always is
-pub record IsShelf (xs : List Sale) (cells : List Span) : Type 0 where
+pub record IsShelf (xs : List Sale) (cells : List Span) (one other : Option ℕ) : Type 0 where
   pub unpaid : unpaid_among xs ≤ UNPAID_LIMIT
+  pub places : AreUnpaid xs one other
   pub few : length cells ≤ GREATEST_SHIFT
   pub spans : AreSpans (shifts_of xs) cells

@@ -13,6 +13,7 @@ mod standing;
 mod sums;
 #[cfg(test)]
 mod tests;
+mod unpaid_places;
 
 pub use buffer::Buffer;
 pub use laws::{

@@ -9,6 +9,7 @@ ghost use Rattle.transaction_buffer.specs.Sums.{sum_among, volume_in, volume_loc
 
 use crate::sale::Sale;
 use crate::span::Span;
+use crate::unpaid_places::UnpaidPlaces;
 use site_base::{GREATEST_SHIFT, NoMemory, ProductNo, Seq, ShiftNo, TillNo};
 use std::alloc::Global;
 use std::marker::Model;
@@ -20,6 +21,8 @@ pub struct Shelf {
     sales: Vec<Sale>,
     // Where the sales of shift h stand is told in cell h - 1.
     spans: Vec<Span>,
+    // The places of the unpaid sales.
+    unpaid: UnpaidPlaces,
 }
 
 impl Model for Shelf {
@@ -35,7 +38,7 @@ impl Model for Shelf {
           else 0;
     } };
 
-    ghost invariant = { λ x. IsShelf x.sales.items x.spans.items };
+    ghost invariant = { λ x. IsShelf x.sales.items x.spans.items x.unpaid.one x.unpaid.other };
 }
 
 impl Shelf {
@@ -46,6 +49,7 @@ impl Shelf {
         Shelf {
             sales: Vec::new(alloc),
             spans: Vec::new(alloc),
+            unpaid: UnpaidPlaces::NONE,
         }
     }
 
@@ -72,13 +76,7 @@ impl Shelf {
         ensures value { result ≡ unpaid_among self.now.sales }
         ensures range { result ≤ UNPAID_LIMIT }
     {
-        let mut count = 0;
-        for sale in &self.sales {
-            if sale.is_unpaid() {
-                count += 1;
-            }
-        }
-        count
+        self.unpaid.count()
     }
 
     /// The sale of this shift with this number, if there is one.
@@ -102,7 +100,9 @@ impl Shelf {
     {
         let cell = usize::from(sale.shift().get()) - 1;
         let span = self.spans[cell];
-        self.spans[cell] = span.grown(self.sales.len());
+        let place = self.sales.len();
+        self.spans[cell] = span.grown(place);
+        self.unpaid = self.unpaid.after_sale(place, sale.is_unpaid());
         self.sales.push_reserved(sale);
     }
 
@@ -117,6 +117,7 @@ impl Shelf {
         let Some(place) = self.place(sale.shift(), s) else {
             unreachable!();
         };
+        self.unpaid = self.unpaid.after_change(place, sale.is_unpaid());
         self.sales[place] = sale;
     }
 

@@ -6,6 +6,7 @@ use Rattle.transaction_buffer.specs.Shelves.{AreSpans}
 use Rattle.transaction_buffer.proofs.Reading.{let_go_shift}
 use Rattle.transaction_buffer.proofs.Spans.{shifts_mapped}
 use Rattle.transaction_buffer.proofs.Unpaid.{unpaid_let_go}
+use Rattle.transaction_buffer.proofs.PlacesUnpaid.{places_let_go}
 use Rattle.transaction_buffer.proofs.shelf.Shelf.let_go.Goals as goal
 
 pub invariant_of-self : goal.invariant_of-self
@@ -26,6 +27,7 @@ invariant_of-self c =
     let shifts = shifts_mapped (let_go c.args.t) old (let_go_shift c.args.t) in
     rw (whole, moved) (record {
       unpaid = omega (arith, c.self.invariant.unpaid);
+      places = places_let_go c.args.t old c.self.inside.unpaid.one c.self.inside.unpaid.other c.self.invariant.places;
       few = c.self.invariant.few;
       spans = subst (λ gs. AreSpans gs c.self.inside.spans.items) (sym shifts) c.self.invariant.spans;
     })
