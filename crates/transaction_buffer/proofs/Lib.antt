@@ -1,11 +1,17 @@
+pub mod Accepted
 pub mod Counting
+pub mod InShift
+pub mod Kept
 pub mod Lists
 pub mod Maps
+pub mod Numbers
 pub mod OnShelves
 pub mod Reading
 pub mod Requests
 pub mod Rules
+pub mod Spans
 pub mod Summing
 pub mod Unpaid
+pub mod PlacesUnpaid
 pub mod Volumes
 pub mod Worked

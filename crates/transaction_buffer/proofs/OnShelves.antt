@@ -1,13 +1,12 @@
 -- What the shelves of the points say of the sales, and what a change of one shelf changes.
-use Rattle.std.proofs.Common.{◌≡◌, ℕ, zero, suc, ◌+◌, ◌-◌, ◌<◌, ◌==◌, Bool, true, false, cond, List, [], ◌∷◌, ◌++◌, length, get_or, map, Option, Some, None, unwrap_or, refl, sym, ap, ◌∙◌, arith, length-set, get_or-set_same}
+use Rattle.std.proofs.Common.{◌≡◌, ℕ, zero, suc, ◌+◌, ◌-◌, ◌<◌, ◌==◌, Bool, true, false, if◌then◌else◌, List, [], ◌∷◌, ◌++◌, length, get_or, map, Option, Some, None, unwrap_or, refl, sym, ap, ◌∙◌, arith, length-set, get_or-set_same}
 use Rattle.std.proofs.Math.ListN.{set}
 use Rattle.std.proofs.lemmas.List.{map-set, get_or-map, set-get_or, length-map}
 use Rattle.std.specs.FinMap as finite
 use Rattle.site_base.specs.Cells.{entries_from}
-use Rattle.site_base.specs.Numbered.{numbered, with_numbered}
 use Rattle.site_base.proofs.Cells.{cell_read, cell_filled, entries_of_cells}
 use Rattle.site_base.proofs.Numbering.{numbered_within}
-use Rattle.transaction_buffer.specs.Sales.{Sale, no_sales, sales_at}
+use Rattle.transaction_buffer.specs.Sales.{Sale, no_sales, sales_at, sale_in, with_in}
 use Rattle.transaction_buffer.specs.TransactionTable.{let_go, after_sign_off}
 use Rattle.transaction_buffer.specs.Sums.{sum_among, sum_over, sum_of}
 use Rattle.transaction_buffer.specs.Rooms.{room_at}
@@ -76,25 +75,19 @@ pub stock_push : (xs : List Sale) (y : Sale) → stock (xs ++ y ∷ []) ≡ Some
 stock_push [] y = refl
 stock_push (x ∷ xs) y = refl
 
-stock_set : (x : Sale) (xs : List Sale) (i : ℕ) (y : Sale)
-    → stock (set (x ∷ xs) i y) ≡ Some (set (x ∷ xs) i y)
-stock_set x xs zero y = refl
-stock_set x xs (suc i) y = refl
-
-pub stock_with : (n : ℕ) (xs : List Sale) (x y : Sale) → numbered n xs ≡ Some x
-    → stock (with_numbered n y xs) ≡ Some (with_numbered n y xs)
-stock_with n [] x y is = by_test (n == 0) is
+pub stock_with : (h n : ℕ) (xs : List Sale) (x y : Sale) → sale_in h n xs ≡ Some x
+    → stock (with_in h n y xs) ≡ Some (with_in h n y xs)
+stock_with h n [] x y is = cc
+stock_with h n (z ∷ zs) x y is = by_tests (z.shift == h) (n == 1)
   where
-    by_test : (b : Bool) → cond b None None ≡ Some x → stock (cond b [] []) ≡ Some (cond b [] [])
-    by_test true is = cc
-    by_test false is = cc
-stock_with n (z ∷ zs) x y is = by_test (n == 0)
-  where
-    by_test : (b : Bool)
-        → stock (cond b (z ∷ zs) (set (z ∷ zs) (n - 1) y))
-        ≡ Some (cond b (z ∷ zs) (set (z ∷ zs) (n - 1) y))
-    by_test true = refl
-    by_test false = stock_set z zs (n - 1) y
+    by_tests : (a b : Bool)
+        → stock (if a then (if b then y ∷ zs else z ∷ with_in h (n - 1) y zs)
+        else z ∷ with_in h n y zs)
+        ≡ Some (if a then (if b then y ∷ zs else z ∷ with_in h (n - 1) y zs)
+        else z ∷ with_in h n y zs)
+    by_tests true true = refl
+    by_tests true false = refl
+    by_tests false b = refl
 
 -- the sums over the shelves and over the sales are the same
 sums_from : (figure : Sale → ℕ) (n : ℕ) (shelves : List Shelf)
@@ -157,3 +150,9 @@ pub nothing_there : (shelves : List Shelf)
     → ((i : ℕ) (d : Shelf) → i < length shelves → (get_or shelves i d).sales ≡ [])
     → sales_on shelves ≡ no_sales
 nothing_there shelves nothing = ap finite.from_entries (nothing_from 1 shelves nothing)
+
+-- where nothing is sold, there is no sum
+pub nothing_sold : (figure : Sale → ℕ) → sum_of figure no_sales ≡ 0
+nothing_sold figure =
+    ap (sum_of figure) (sym (nothing_there [] (λ i d within. absurd (omega arith))))
+    ∙ sums_there figure []

@@ -1,11 +1,10 @@
 -- The rules of locks and clears.
-use Rattle.std.proofs.Common.{◌≡◌, ℕ, zero, suc, ◌+◌, ◌-◌, ◌<◌, length, ◌==◌, ◌⊎◌, inl, inr, Bool, true, false, cond, List, [], Option, option_map, option_and_then, Some, None, unwrap_or, is_some, Result, Ok, refl, sym, ap, ◌∙◌}
+use Rattle.std.proofs.Common.{◌≡◌, ℕ, ◌==◌, ◌⊎◌, inl, inr, Bool, true, false, cond, List, [], Option, option_map, option_and_then, Some, None, unwrap_or, Result, Ok, refl, sym, ap, ◌∙◌}
 use Rattle.std.proofs.Common.{arith}
 use Rattle.std.proofs.lemmas.Bool.{eq-eqb}
 use Rattle.std.proofs.lemmas.Bool.Decides.{nat_tests}
 use Rattle.std.specs.FinMap as finite
-use Rattle.site_base.specs.Numbered.{numbered}
-use Rattle.site_base.proofs.Numbering.{numbered_next, numbered_there, with_numbered_same}
+use Rattle.transaction_buffer.proofs.InShift.{none_next, with_self}
 use Rattle.site_base.specs.declared.answer.Answer.{Answer}
 use Rattle.site_base.specs.declared.refusal.Refusal.{Refusal}
 use Rattle.site_base.specs.Checks.{reply_or}
@@ -13,11 +12,11 @@ use Rattle.transaction_buffer.specs.declared.request.Request.{Request}
 use Rattle.transaction_buffer.specs.declared.request.Request.TheVariants.{Lock, Unlock, Clear}
 use Rattle.transaction_buffer.specs.declared.standing.Standing.{Standing}
 use Rattle.transaction_buffer.specs.declared.standing.Standing.TheVariants.{Payable, LockedBy, ClearedBy}
-use Rattle.transaction_buffer.specs.Sales.{Key, key, Sale, Sales, sales_at, sale_of, same_key, made_at, is_unpaid, with_sale}
+use Rattle.transaction_buffer.specs.Sales.{Key, next_key, Sale, Sales, sale_in, sales_at, sale_of, same_key, is_unpaid, with_sale}
 use Rattle.transaction_buffer.specs.TransactionTable.{Line, Seen, payable, locked_by_it, locked_by_other, cleared_by, line, seen_by, line_for, line_of, refusal_in, answer_in, sale_after, sale_after_request, refusal_of, after_line, after_at, after_request, is_locked_by, let_go, locker, locker_of}
 use Rattle.transaction_buffer.specs.Laws.{asks, signs_off, sells, IsClearedForGood, IsClear, IsClearedByItsLocker, unless_signed_off, HasOneLocker}
 use Rattle.transaction_buffer.proofs.Maps.{insert_same}
-use Rattle.transaction_buffer.proofs.Reading.{one_sale, read_request, read_each, read_new}
+use Rattle.transaction_buffer.proofs.Reading.{one_sale, read_request, read_each, read_new, let_go_shift}
 
 same : (n m : ℕ) → (n == m) ≡ true → n ≡ m
 same n m is = grind (arith, nat_tests)
@@ -97,14 +96,14 @@ accepted_unpaid request t x l is = accepted_when request t x.cents x.standing l 
 -- ---- cleared for good
 
 -- the number of the next sale has none yet
-not_next : (p : ℕ) (k : Key) (x : Sale) (s : Sales) → sale_of k s ≡ Some x
-    → same_key k (key p (made_at p s + 1)) ≡ false
-not_next p k x s is = by_test (same_key k (key p (made_at p s + 1))) refl
+not_next : (p h : ℕ) (k : Key) (x : Sale) (s : Sales) → sale_of k s ≡ Some x
+    → same_key k (next_key p h s) ≡ false
+not_next p h k x s is = by_test (same_key k (next_key p h s)) refl
   where
-    by_test : (b : Bool) → same_key k (key p (made_at p s + 1)) ≡ b → b ≡ false
+    by_test : (b : Bool) → same_key k (next_key p h s) ≡ b → b ≡ false
     by_test true at =
-        let none : Some x ≡ None = sym is ∙ one_sale k (key p (made_at p s + 1)) s at
-        ∙ numbered_next (sales_at p s) in
+        let none : Some x ≡ None = sym is ∙ one_sale k (next_key p h s) s at
+        ∙ none_next h (sales_at p s) in
         cc
     by_test false at = refl
 
@@ -126,16 +125,17 @@ cleared_for_good (asks t request j) s k x u shift there is =
     either true = refl
     either false = refl
 cleared_for_good (signs_off t) s k x u shift there is =
-    read_each (let_go t) k s ∙ ap (option_map (let_go t)) there
+    read_each (let_go t) k s (let_go_shift t) ∙ ap (option_map (let_go t)) there
     ∙ ap Some (let_go_cleared t u shift x is)
 cleared_for_good (sells p y) s k x u shift there is =
-    read_new p y k s ∙ ap (λ (b : Bool). cond b (Some y) (sale_of k s)) (not_next p k x s there)
+    read_new p y k s ∙ ap (λ (b : Bool). cond b (Some y) (sale_of k s)) (not_next p y.shift k x s there)
     ∙ there
 
 -- ---- a clear, and one locker
 
 one_key : (k : Key) → same_key k k ≡ true
-one_key k = rw (eq-eqb k.point k.point refl, eq-eqb k.number k.number refl) refl
+one_key k =
+    rw (eq-eqb k.point k.point refl, eq-eqb k.shift k.shift refl, eq-eqb k.number k.number refl) refl
 
 -- the transaction after the request that names it
 after_its_request : (t : ℕ) (request : Request) (k : Key) (x : Sale) (s : Sales)
@@ -253,22 +253,15 @@ locked_when t Payable is = cc
 locked_when t (LockedBy u) is = ap (λ (o : Option ℕ). LockedBy (unwrap_or o u)) is
 locked_when t (ClearedBy u shift) is = cc
 
-abbrev nothing : List Sale
-nothing = []
-
-none_there : (n : ℕ) (x : Sale) → numbered n [] ≡ Some x → ⊥
-none_there zero x is = cc
-none_there (suc n) x is = let within : suc n - 1 < length nothing =
-    numbered_there (suc n) nothing (omega arith) (ap is_some is) in omega arith
-
 -- the sales of a point, written in their own place
-written_back : (p n : ℕ) (x : Sale) (s : Sales) → sale_of (key p n) s ≡ Some x
-    → finite.insert s p (sales_at p s) ≡ s
-written_back p n x s is = insert_same s p (sales_at p s) (by_list (finite.get s p) is)
+written_back : (k : Key) (x : Sale) (s : Sales) → sale_of k s ≡ Some x
+    → finite.insert s k.point (sales_at k.point s) ≡ s
+written_back k x s is =
+    insert_same s k.point (sales_at k.point s) (by_list (finite.get s k.point) is)
   where
-    by_list : (o : Option (List Sale)) → numbered n (unwrap_or o []) ≡ Some x
+    by_list : (o : Option (List Sale)) → sale_in k.shift k.number (unwrap_or o []) ≡ Some x
         → o ≡ Some (unwrap_or o [])
-    by_list None none = absurd (none_there n x none)
+    by_list None none = cc
     by_list (Some xs) some = refl
 
 locked_again : (t : ℕ) (k : Key) (s : Sales) → locker_of k s ≡ Some t → after_request Lock t k s ≡ s
@@ -281,8 +274,8 @@ locked_again t k s is = by_sale (sale_of k s) refl is
         ap (λ l. after_line k x l s) (line_when_locked t Lock x locked)
         ∙ ap (λ (standing : Standing). with_sale k (record x { standing = standing }) s)
         (sym locked)
-        ∙ ap (finite.insert s k.point) (with_numbered_same k.number (sales_at k.point s) x there)
-        ∙ written_back k.point k.number x s there
+        ∙ ap (finite.insert s k.point) (with_self k.shift k.number (sales_at k.point s) x there)
+        ∙ written_back k x s there
 
 -- what an accepted request says of a transaction that is there
 of_sale : (request : Request) (t : ℕ) (k : Key) (s : Sales) (P : Option ℕ → Type 0)
@@ -307,9 +300,9 @@ one_locker = record {
       (λ x accepted. ap locker (left_by_unlock t x.cents x (seen_by t x.standing) accepted));
   by_clear = λ t shift j k s. locker_after (Clear shift) t None j k s
       (λ x accepted. ap locker (left_by_clear t shift x.cents x (seen_by t x.standing) accepted));
-  by_sign_off = λ t k s. ap locker_in (read_each (let_go t) k s) ∙ let_go_at t (sale_of k s);
+  by_sign_off = λ t k s. ap locker_in (read_each (let_go t) k s (let_go_shift t)) ∙ let_go_at t (sale_of k s);
   by_sale = λ p x k s. ap locker_in (read_new p x k s)
-      ∙ new_at (same_key k (key p (made_at p s + 1))) x (sale_of k s);
+      ∙ new_at (same_key k (next_key p x.shift s)) x (sale_of k s);
 }
   where
     let_go_at : (t : ℕ) (o : Option Sale)

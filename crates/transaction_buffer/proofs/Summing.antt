@@ -1,7 +1,5 @@
 -- How changes move the sum of a figure over the sales.
-use Rattle.std.proofs.Common.{◌≡◌, ℕ, zero, suc, ◌+◌, ◌-◌, ◌==◌, T, Bool, true, false, cond, List, [], ◌∷◌, ◌++◌, map, Option, Some, None, unwrap_or, Less, refl, ap, ◌∙◌, arith}
-use Rattle.std.proofs.Math.ListN.{set}
-use Rattle.std.specs.List.{slice_get}
+use Rattle.std.proofs.Common.{◌≡◌, ℕ, ◌+◌, T, cond, List, [], ◌∷◌, ◌++◌, map, Option, Some, None, unwrap_or, Less, refl, ap, ◌∙◌, arith}
 use Rattle.std.specs.declared.cmp.Ordering.{Ordering}
 use Rattle.std.specs.declared.cmp.Ordering.TheVariants.{Equal, Greater}
 use Rattle.std.specs.Ordering.{nat_cmp, is_eq}
@@ -9,33 +7,11 @@ use Rattle.std.proofs.lemmas.Cmp.{ranked, nat_cmp_total}
 use Rattle.std.specs.FinMap as finite
 use Rattle.std.specs.FinMap.{find, entries, entries_sorted, entries-insert, get-entries, is_sorted, put}
 use Rattle.std.specs.FinMap.Entries.{by_order, below_all}
-use Rattle.site_base.specs.Numbered.{numbered, with_numbered}
-use Rattle.transaction_buffer.specs.Sales.{Key, Sale, Sales, sales_at, sale_of, with_sale, with_new, each_changed}
+use Rattle.transaction_buffer.specs.Sales.{Key, Sale, Sales, with_in, sales_at, sale_of, with_sale, with_new, each_changed}
 use Rattle.transaction_buffer.specs.Sums.{sum_among, sum_over, sum_of}
 use Rattle.transaction_buffer.specs.Laws.{IsSummedAfter}
+use Rattle.transaction_buffer.proofs.InShift.{with_sum}
 use Rattle.transaction_buffer.proofs.Maps.{each, entries_each, find_before, first_half, second_half}
-
-set_sum : (figure : Sale → ℕ) (xs : List Sale) (i : ℕ) (old new : Sale) → slice_get xs i ≡ Some old
-    → sum_among figure (set xs i new) + figure old ≡ sum_among figure xs + figure new
-set_sum figure [] i old new is = cc
-set_sum figure (x ∷ xs) zero old new is =
-    let here : figure x ≡ figure old = ap (λ (o : Option Sale). figure (unwrap_or o x)) is in
-    omega (arith, here)
-set_sum figure (x ∷ xs) (suc i) old new is =
-    let rest : sum_among figure (set xs i new) + figure old ≡ sum_among figure xs + figure new =
-    set_sum figure xs i old new is in
-    omega (arith, rest)
-
--- a sale in the place of another of the same point
-with_sum : (figure : Sale → ℕ) (n : ℕ) (xs : List Sale) (old new : Sale) → numbered n xs ≡ Some old
-    → sum_among figure (with_numbered n new xs) + figure old ≡ sum_among figure xs + figure new
-with_sum figure n xs old new is = by_test (n == 0) is
-  where
-    by_test : (b : Bool) → cond b None (slice_get xs (n - 1)) ≡ Some old
-        → sum_among figure (cond b xs (set xs (n - 1) new)) + figure old
-        ≡ sum_among figure xs + figure new
-    by_test true none = cc
-    by_test false some = set_sum figure xs (n - 1) old new some
 
 -- one more sale of the same point
 push_sum : (figure : Sale → ℕ) (xs : List Sale) (x : Sale)
@@ -92,10 +68,10 @@ pub replaced_sum : (figure : Sale → ℕ) (k : Key) (old new : Sale) (s : Sales
 replaced_sum figure k old new s is =
     let xs : List Sale = sales_at k.point s in
     let all : sum_of figure (with_sale k new s) + sum_among figure xs ≡ sum_of figure s
-    + sum_among figure (with_numbered k.number new xs) =
-    insert_sum figure s k.point (with_numbered k.number new xs) in
-    let here : sum_among figure (with_numbered k.number new xs) + figure old ≡ sum_among figure xs
-    + figure new = with_sum figure k.number xs old new is in
+    + sum_among figure (with_in k.shift k.number new xs) =
+    insert_sum figure s k.point (with_in k.shift k.number new xs) in
+    let here : sum_among figure (with_in k.shift k.number new xs) + figure old ≡ sum_among figure xs
+    + figure new = with_sum figure k.shift k.number xs old new is in
     omega (arith, all, here)
 
 pub sold_sum : (figure : Sale → ℕ) (p : ℕ) (x : Sale) (s : Sales)

@@ -1,11 +1,11 @@
 -- How many sales are unpaid.
-use Rattle.std.proofs.Common.{◌≡◌, ℕ, Bool, true, false, cond, zero, suc, ◌+◌, ◌-◌, ◌<◌, ◌≤◌, List, [], ◌∷◌, ◌++◌, length, get_or, map, Option, Some, is_some, unwrap_or, refl, sym, ap, subst, ◌∙◌, arith}
-use Rattle.site_base.specs.Numbered.{numbered, with_numbered}
-use Rattle.site_base.proofs.Numbering.{numbered_there, numbered_within, with_numbered_place}
+use Rattle.std.proofs.Common.{◌≡◌, ℕ, Bool, true, false, cond, zero, suc, ◌+◌, ◌<◌, ◌≤◌, List, [], ◌∷◌, ◌++◌, length, get_or, map, Some, refl, sym, ap, ◌∙◌, arith}
 use Rattle.std.proofs.Math.ListN.{set}
 use Rattle.transaction_buffer.specs.declared.standing.Standing.{Standing}
 use Rattle.transaction_buffer.specs.declared.standing.Standing.TheVariants.{Payable, LockedBy, ClearedBy}
-use Rattle.transaction_buffer.specs.Sales.{Sale, is_unpaid, unpaid_among}
+use Rattle.transaction_buffer.specs.Sales.{Sale, sale_in, with_in, is_unpaid, unpaid_among}
+use Rattle.transaction_buffer.specs.Sums.{sum_among}
+use Rattle.transaction_buffer.proofs.InShift.{with_sum}
 use Rattle.transaction_buffer.specs.TransactionTable.{let_go, is_locked_by}
 
 at_most_one : (b : Bool) → cond b 1 0 ≤ 1
@@ -24,6 +24,13 @@ unpaid_pushed (x ∷ xs) y = omega (arith, unpaid_pushed xs y)
 
 pub unpaid_push : (xs : List Sale) (y : Sale) → unpaid_among (xs ++ y ∷ []) ≤ unpaid_among xs + 1
 unpaid_push xs y = omega (arith, unpaid_pushed xs y, at_most_one (is_unpaid y.standing))
+
+abbrev one_if_unpaid : Sale → ℕ
+one_if_unpaid x = cond (is_unpaid x.standing) 1 0
+
+unpaid_sum : (xs : List Sale) → unpaid_among xs ≡ sum_among one_if_unpaid xs
+unpaid_sum [] = refl
+unpaid_sum (x ∷ xs) = ap (λ (n : ℕ). one_if_unpaid x + n) (unpaid_sum xs)
 
 -- any sale in the place of an unpaid one
 pub unpaid_set : (xs : List Sale) (i : ℕ) (y d : Sale) → i < length xs
@@ -48,6 +55,10 @@ same_unpaid : (t : ℕ) (x : Sale) (locked : Bool) → is_locked_by t x.standing
 same_unpaid t x true is = sym (locked_unpaid t x.standing is)
 same_unpaid t x false is = refl
 
+-- a sign-off leaves a sale unpaid or paid
+pub let_go_unpaid : (t : ℕ) (x : Sale) → is_unpaid (let_go t x).standing ≡ is_unpaid x.standing
+let_go_unpaid t x = same_unpaid t x (is_locked_by t x.standing) refl
+
 -- what a sign-off lets go stays unpaid
 pub unpaid_let_go : (t : ℕ) (xs : List Sale) → unpaid_among (map (let_go t) xs) ≡ unpaid_among xs
 unpaid_let_go t [] = refl
@@ -56,16 +67,23 @@ unpaid_let_go t (x ∷ xs) =
     (same_unpaid t x (is_locked_by t x.standing) refl)
     ∙ ap (λ (n : ℕ). cond (is_unpaid x.standing) 1 0 + n) (unpaid_let_go t xs)
 
--- any sale in the place of the unpaid one with its number
-pub unpaid_with : (n : ℕ) (xs : List Sale) (x y : Sale) → numbered n xs ≡ Some x
-    → is_unpaid x.standing ≡ true → unpaid_among (with_numbered n y xs) ≤ unpaid_among xs
-unpaid_with zero xs x y is unpaid = cc
-unpaid_with (suc n) xs x y is unpaid =
-    let low : 1 ≤ suc n = omega arith in
-    let place : suc n - 1 < length xs = numbered_there (suc n) xs low (ap is_some is) in
-    let at : get_or xs (suc n - 1) x ≡ x =
-    ap (λ (o : Option Sale). unwrap_or o x)
-    (sym (numbered_within (suc n) xs (suc n - 1) x (omega arith) place) ∙ is) in
-    subst (λ (ys : List Sale). unpaid_among ys ≤ unpaid_among xs)
-    (sym (with_numbered_place (suc n) y xs low))
-    (unpaid_set xs (suc n - 1) y x place (ap (λ (z : Sale). is_unpaid z.standing) at ∙ unpaid))
+-- how many are unpaid, once a sale is in the place of an unpaid one
+pub unpaid_moved : (h n : ℕ) (xs : List Sale) (x y : Sale) → sale_in h n xs ≡ Some x
+    → is_unpaid x.standing ≡ true
+    → unpaid_among (with_in h n y xs) + 1 ≡ unpaid_among xs + cond (is_unpaid y.standing) 1 0
+unpaid_moved h n xs x y is unpaid =
+    let all = unpaid_sum xs in
+    let new = unpaid_sum (with_in h n y xs) in
+    let moved = with_sum one_if_unpaid h n xs x y is in
+    let was : one_if_unpaid x ≡ 1 = ap (λ (b : Bool). cond b 1 0) unpaid in
+    omega (arith, all, new, moved, was)
+
+-- any sale in the place of the unpaid one of its shift and number
+pub unpaid_with : (h n : ℕ) (xs : List Sale) (x y : Sale) → sale_in h n xs ≡ Some x
+    → is_unpaid x.standing ≡ true → unpaid_among (with_in h n y xs) ≤ unpaid_among xs
+unpaid_with h n xs x y is unpaid =
+    let all = unpaid_sum xs in
+    let new = unpaid_sum (with_in h n y xs) in
+    let moved = with_sum one_if_unpaid h n xs x y is in
+    let was : one_if_unpaid x ≡ 1 = ap (λ (b : Bool). cond b 1 0) unpaid in
+    omega (arith, all, new, moved, was, at_most_one (is_unpaid y.standing))

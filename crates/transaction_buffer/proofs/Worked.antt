@@ -16,6 +16,7 @@ use Rattle.transaction_buffer.specs.TransactionTable.{Line, line_of, refusal_in,
 -- 5,000 ml at 1,500 mills
 abbrev sold : Standing → Sale
 sold standing = record {
+  shift = 3;
   price = 1500;
   volume = 5000;
   cents = 750;

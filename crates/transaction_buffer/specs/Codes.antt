@@ -34,17 +34,18 @@ standing_code =
 
 abbrev pub sale_code : Coded Sale
 sale_code =
-    code_by (ℕ × (ℕ × (ℕ × (Option ℕ × (ℕ × Standing)))))
-    (coded× coded_ℕ (coded× coded_ℕ (coded× coded_ℕ
-    (coded× (coded_option coded_ℕ) (coded× coded_ℕ standing_code)))))
-    (λ x. (x.price, (x.volume, (x.cents, (x.prepaid, (x.product, x.standing))))))
+    code_by (ℕ × (ℕ × (ℕ × (ℕ × (Option ℕ × (ℕ × Standing))))))
+    (coded× coded_ℕ (coded× coded_ℕ (coded× coded_ℕ (coded× coded_ℕ
+    (coded× (coded_option coded_ℕ) (coded× coded_ℕ standing_code))))))
+    (λ x. (x.shift, (x.price, (x.volume, (x.cents, (x.prepaid, (x.product, x.standing)))))))
     (λ p. record {
-      price = p.0;
-      volume = p.1.0;
-      cents = p.1.1.0;
-      prepaid = p.1.1.1.0;
-      product = p.1.1.1.1.0;
-      standing = p.1.1.1.1.1;
+      shift = p.0;
+      price = p.1.0;
+      volume = p.1.1.0;
+      cents = p.1.1.1.0;
+      prepaid = p.1.1.1.1.0;
+      product = p.1.1.1.1.1.0;
+      standing = p.1.1.1.1.1.1;
     })
     (λ _. refl)
 

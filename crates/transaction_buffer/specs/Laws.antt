@@ -1,5 +1,5 @@
 -- What holds of the sales by their definitions, whatever a till asks, signs off or a point sells.
-use Rattle.std.specs.Prelude.{◌≡◌, ℕ, ◌+◌, ◌≤◌, ◌⊎◌, Option, option_map, Some, None, Ok, Err, ◌==◌, if◌then◌else◌}
+use Rattle.std.specs.Prelude.{◌≡◌, ℕ, ◌+◌, ◌≤◌, ◌⊎◌, Option, option_map, Some, None, Ok, Err, ◌==◌, ◌&&◌, if◌then◌else◌}
 use Rattle.site_base.specs.declared.answer.Answer.{Answer}
 use Rattle.site_base.specs.declared.answer.Answer.TheVariants.{Cleared}
 use Rattle.site_base.specs.declared.refusal.Refusal.{Refusal}
@@ -9,7 +9,7 @@ use Rattle.transaction_buffer.specs.declared.request.Request.{Request}
 use Rattle.transaction_buffer.specs.declared.request.Request.TheVariants.{Lock, Unlock, Clear}
 use Rattle.transaction_buffer.specs.declared.standing.Standing.TheVariants.{LockedBy, ClearedBy}
 use Rattle.transaction_buffer.specs.Asked.{Asked, reply_of}
-use Rattle.transaction_buffer.specs.Sales.{Key, key, Sale, Sales, sale_of, same_key, made_at, is_unpaid, unpaid_at, with_sale, with_new, each_changed}
+use Rattle.transaction_buffer.specs.Sales.{Key, next_key, Sale, Sales, sale_of, same_key, made_at, is_unpaid, unpaid_at, with_sale, with_new, each_changed}
 use Rattle.transaction_buffer.specs.TransactionTable.{refusal_of, answer_of, after_request, sale_after_request, let_go, after_sign_off, locker, locker_of}
 use Rattle.transaction_buffer.specs.Sums.{sum_of, volume_in, volume_with, volume_of, volume_by, locked_volume}
 
@@ -80,7 +80,7 @@ pub record HasOneLocker : Type 0 where
       → locker_of k (after_sign_off t s) ≡ unless_signed_off t (locker_of k s)
   pub by_sale : (p : ℕ) (x : Sale) (k : Key) (s : Sales)
       → locker_of k (with_new p x s)
-      ≡ (if same_key k (key p (made_at p s + 1)) then locker x.standing else locker_of k s)
+      ≡ (if same_key k (next_key p x.shift s) then locker x.standing else locker_of k s)
 
 -- what stands under a name after each change
 pub record IsReadAfter : Type 0 where
@@ -92,16 +92,18 @@ pub record IsReadAfter : Type 0 where
       → sale_of k (after_sign_off t s) ≡ option_map (let_go t) (sale_of k s)
   pub sold : (p : ℕ) (x : Sale) (k : Key) (s : Sales)
       → sale_of k (with_new p x s)
-      ≡ (if same_key k (key p (made_at p s + 1)) then Some x else sale_of k s)
+      ≡ (if same_key k (next_key p x.shift s) then Some x else sale_of k s)
 
--- A sale raises by one how many its point has made, so that no number is used twice; nothing else
--- changes that. Only a sale raises how many are unpaid.
+-- A sale raises by one how many its point has made in its shift, so that no number is used twice
+-- there; nothing else changes that. Only a sale raises how many are unpaid.
 pub record IsCountedAfter : Type 0 where
-  pub made_asked : (t : ℕ) (request : Request) (k : Key) (q : ℕ) (s : Sales)
-      → made_at q (after_request request t k s) ≡ made_at q s
-  pub made_signed_off : (t q : ℕ) (s : Sales) → made_at q (after_sign_off t s) ≡ made_at q s
-  pub made_sold : (p : ℕ) (x : Sale) (q : ℕ) (s : Sales)
-      → made_at q (with_new p x s) ≡ (if q == p then made_at q s + 1 else made_at q s)
+  pub made_asked : (t : ℕ) (request : Request) (k : Key) (q h : ℕ) (s : Sales)
+      → made_at q h (after_request request t k s) ≡ made_at q h s
+  pub made_signed_off : (t q h : ℕ) (s : Sales)
+      → made_at q h (after_sign_off t s) ≡ made_at q h s
+  pub made_sold : (p : ℕ) (x : Sale) (q h : ℕ) (s : Sales)
+      → made_at q h (with_new p x s)
+      ≡ (if q == p && x.shift == h then made_at q h s + 1 else made_at q h s)
   pub unpaid_asked : (t : ℕ) (request : Request) (k : Key) (q : ℕ) (s : Sales)
       → unpaid_at q (after_request request t k s) ≤ unpaid_at q s
   pub unpaid_signed_off : (t q : ℕ) (s : Sales) → unpaid_at q (after_sign_off t s) ≡ unpaid_at q s

@@ -1,8 +1,11 @@
 pub mod Asked
 pub mod Codes
+pub mod KeptSums
 pub mod Laws
 pub mod Rooms
 pub mod Sales
 pub mod Shelves
+pub mod Spans
 pub mod Sums
 pub mod TransactionTable
+pub mod UnpaidPlaces

@@ -1,27 +1,29 @@
 -- The sales of a site, and the words that read and change them.
-use Rattle.std.specs.Prelude.{ℕ, ◌+◌, List, [], ◌∷◌, ◌++◌, length, map, Bool, true, false, Option, option_map, Some, None, is_some, unwrap_or, ◌&&◌, ◌==◌, nat_lt, if◌then◌else◌}
+use Rattle.std.specs.Prelude.{◌≡◌, ℕ, ◌+◌, ◌-◌, ◌<◌, ◌≤◌, List, [], ◌∷◌, ◌++◌, map, Bool, true, false, Option, option_map, Some, None, is_some, unwrap_or, ◌&&◌, ◌==◌, nat_lt, if◌then◌else◌}
 use Rattle.std.specs.Ordering.{nat_cmp}
 use Rattle.std.specs.FinMap as finite
 use Rattle.std.specs.FinMap.{FinMap}
-use Rattle.site_base.specs.declared.limits.TheConstants.{GREATEST_SEQ}
+use Rattle.site_base.specs.declared.limits.TheConstants.{GREATEST_SEQ, GREATEST_SHIFT}
 use Rattle.site_base.specs.declared.state.Status.{Status}
 use Rattle.site_base.specs.declared.state.Status.TheVariants as statuses
 use Rattle.site_base.specs.declared.view.TransactionView.{TransactionView}
-use Rattle.site_base.specs.Numbered.{numbered, with_numbered}
 use Rattle.transaction_buffer.specs.declared.standing.Standing.{Standing}
 use Rattle.transaction_buffer.specs.declared.standing.Standing.TheVariants.{Payable, LockedBy, ClearedBy}
 
--- what a sale is called by: its fuelling point, and its number there
+-- what a sale is called by: the shift in which it was sold, its fuelling point, and its number
+-- there in that shift
 pub record Key : Type 0 where
+  pub shift : ℕ
   pub point : ℕ
   pub number : ℕ
 
-abbrev pub key : ℕ → ℕ → Key
-key p n = record { point = p; number = n }
+abbrev pub key : ℕ → ℕ → ℕ → Key
+key h p n = record { shift = h; point = p; number = n }
 
--- a sale: the price taken, the volume, the amount due, the prepaid cents where it was prepaid, the
--- product, and how it stands
+-- a sale: the shift in which it was sold, the price taken, the volume, the amount due, the prepaid
+-- cents where it was prepaid, the product, and how it stands
 pub record Sale : Type 0 where
+  pub shift : ℕ
   pub price : ℕ
   pub volume : ℕ
   pub cents : ℕ
@@ -29,7 +31,7 @@ pub record Sale : Type 0 where
   pub product : ℕ
   pub standing : Standing
 
--- the points that have sold, each with its sales in the order of their numbers, from 1 on
+-- the points that have sold, each with its sales in the order in which they were made
 abbrev pub Sales : Type 0
 Sales = FinMap nat_cmp (List Sale)
 
@@ -41,28 +43,54 @@ no_sales = finite.empty
 abbrev pub sales_at : ℕ → Sales → List Sale
 sales_at p s = unwrap_or (finite.get s p) []
 
+-- the sale of shift h with number n among a point's sales: the nth of that shift
+abbrev pub sale_in : ℕ → ℕ → List Sale → Option Sale
+sale_in h n [] = None
+sale_in h n (x ∷ xs) =
+    if x.shift == h then (if n == 1 then Some x else sale_in h (n - 1) xs) else sale_in h n xs
+
+-- how many of a point's sales are of shift h
+abbrev pub made_in : ℕ → List Sale → ℕ
+made_in h [] = 0
+made_in h (x ∷ xs) = (if x.shift == h then 1 else 0) + made_in h xs
+
+-- a point's sales, with y in the place of the sale of shift h with number n
+abbrev pub with_in : ℕ → ℕ → Sale → List Sale → List Sale
+with_in h n y [] = []
+with_in h n y (x ∷ xs) =
+    if x.shift == h then (if n == 1 then y ∷ xs else x ∷ with_in h (n - 1) y xs)
+    else x ∷ with_in h n y xs
+
 -- the sale of this name, if there is one
 abbrev pub sale_of : Key → Sales → Option Sale
-sale_of k s = numbered k.number (sales_at k.point s)
+sale_of k s = sale_in k.shift k.number (sales_at k.point s)
 
 abbrev pub has_sale : Key → Sales → Bool
 has_sale k s = is_some (sale_of k s)
 
 -- two names of one sale
 abbrev pub same_key : Key → Key → Bool
-same_key k j = k.point == j.point && k.number == j.number
+same_key k j = k.point == j.point && (k.shift == j.shift && k.number == j.number)
 
--- how many sales point p has made
-abbrev pub made_at : ℕ → Sales → ℕ
-made_at p s = length (sales_at p s)
+-- how many sales point p has made in shift h
+abbrev pub made_at : ℕ → ℕ → Sales → ℕ
+made_at p h s = made_in h (sales_at p s)
+
+-- no sale of point p is of a shift after h
+abbrev pub HasNoneLater : ℕ → ℕ → Sales → Type 0
+HasNoneLater p h s = (g : ℕ) → h < g → g ≤ GREATEST_SHIFT → made_at p g s ≡ 0
 
 -- the number of the next sale after so many: 1 more, and none after the greatest
 abbrev pub next_after : ℕ → Option ℕ
 next_after made = if nat_lt made GREATEST_SEQ then Some (made + 1) else None
 
--- the number of the next sale of point p
-abbrev pub next_number : ℕ → Sales → Option ℕ
-next_number p s = next_after (made_at p s)
+-- the number of the next sale of point p in shift h
+abbrev pub next_number : ℕ → ℕ → Sales → Option ℕ
+next_number p h s = next_after (made_at p h s)
+
+-- the name of the next sale of point p in shift h
+abbrev pub next_key : ℕ → ℕ → Sales → Key
+next_key p h s = key h p (made_at p h s + 1)
 
 -- unpaid: payable or locked
 abbrev pub is_unpaid : Standing → Bool
@@ -81,9 +109,10 @@ unpaid_at p s = unpaid_among (sales_at p s)
 
 -- the sales, with this one in the place of the one of the same name
 abbrev pub with_sale : Key → Sale → Sales → Sales
-with_sale k sale s = finite.insert s k.point (with_numbered k.number sale (sales_at k.point s))
+with_sale k sale s =
+    finite.insert s k.point (with_in k.shift k.number sale (sales_at k.point s))
 
--- one more sale of point p, with the next number
+-- one more sale of point p, with the next number of its shift
 abbrev pub with_new : ℕ → Sale → Sales → Sales
 with_new p sale s = finite.insert s p (sales_at p s ++ sale ∷ [])
 
@@ -134,9 +163,10 @@ abbrev pub new_standing : Option ℕ → Standing
 new_standing None = Payable
 new_standing (Some till) = LockedBy till
 
--- the sale that such a view shows
-abbrev pub new_sale : TransactionView → Sale
-new_sale v = record {
+-- the sale of shift h that such a view shows
+abbrev pub new_sale : ℕ → TransactionView → Sale
+new_sale h v = record {
+  shift = h;
   price = v.price;
   volume = v.volume;
   cents = v.cents;

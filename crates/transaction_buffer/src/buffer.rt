@@ -1,31 +1,38 @@
 //! The transaction buffer of a site.
 
-ghost use Rattle.std.specs.Prelude.{◌≡◌, ◌^◌, ◌<◌, ◌≤◌, true, Some, is_some, map, length, OnOk};
+ghost use Rattle.std.specs.Prelude.{◌≡◌, ◌+◌, ◌^◌, ◌<◌, ◌≤◌, true, Some, is_some, map, OnOk};
 ghost use Rattle.site_base.specs.declared.limits.TheConstants.{UNPAID_LIMIT};
-ghost use Rattle.transaction_buffer.specs.Sales.{key, no_sales, sale_of, next_number, unpaid_at, with_new, is_new, new_sale, shown};
+ghost use Rattle.transaction_buffer.specs.Sales.{key, no_sales, HasNoneLater, sale_of, next_number, unpaid_at, with_new, is_new, new_sale, shown};
 ghost use Rattle.transaction_buffer.specs.Asked.{Asked};
 ghost use Rattle.transaction_buffer.specs.TransactionTable.{let_go, after_sign_off};
-ghost use Rattle.transaction_buffer.specs.Sums.{volume_in, volume_with, volume_of, volume_by};
+ghost use Rattle.transaction_buffer.specs.Sums.{volume_in, volume_locked_by, volume_of, volume_by, locked_volume};
 ghost use Rattle.transaction_buffer.specs.Rooms.{room_at};
-ghost use Rattle.transaction_buffer.specs.Shelves.{sum_on};
+ghost use Rattle.transaction_buffer.specs.Shelves.{sum_on, sales_on};
+ghost use Rattle.transaction_buffer.specs.KeptSums.{AreSums};
 
 use crate::request::Request;
 use crate::sale::Sale;
 use crate::shelf::Shelf;
+use crate::sums::Sums;
 use site_base::{
-    Answer, FpNo, NoMemory, POINT_CELLS, ProductNo, Refusal, Seq, Status, TillNo, TransactionView,
+    Answer, FpNo, NoMemory, POINT_CELLS, PRODUCTS, ProductNo, Refusal, Seq, ShiftNo, Status, TillNo,
+    TransactionView,
 };
 use std::alloc::Global;
 use std::array;
 use std::marker::Model;
 
-/// The transactions of a site's fuelling points. A transaction is called by its point and its
-/// number there. Contracts see the finite map from the points that have sold to their sales in the
-/// order of their numbers, and for each point how many more sales there is room for.
+/// The transactions of a site's fuelling points. A transaction is called by the shift in which it
+/// was sold, its point, and its number there in that shift. Contracts see the finite map from the
+/// points that have sold to their sales in the order in which they were made, and for each point
+/// how many more sales there is room for. The volume of a product in all transactions fits in 64
+/// bits.
 #[derive(Drop)]
 pub struct Buffer {
     // The shelf of point p stands in cell p - 1.
     shelves: [Shelf; POINT_CELLS],
+    // What stands on all shelves.
+    sums: Sums,
 }
 
 impl Model for Buffer {
@@ -38,6 +45,10 @@ impl Model for Buffer {
     ghost coded = { buffered_code };
 
     ghost view = { λ b. record { sales = sales_on b.shelves; rooms = rooms_on b.shelves } };
+
+    ghost use Rattle.transaction_buffer.specs.KeptSums.{AreSums};
+
+    ghost invariant = { λ b. AreSums (sales_on b.shelves) b.sums };
 }
 
 impl Buffer {
@@ -47,6 +58,7 @@ impl Buffer {
     {
         Buffer {
             shelves: array::from_fn(|_| Shelf::new(alloc)),
+            sums: Sums::new(),
         }
     }
 
@@ -68,29 +80,35 @@ impl Buffer {
         shelf.unpaid()
     }
 
-    /// The number of point p's next sale: one more than it has made, so that no number is used
-    /// twice. None after `GREATEST_SEQ` sales.
-    pub fn next_seq(&self, p: FpNo) -> Option<Seq>
-        ensures { result ≡ next_number p self.now.sales }
+    /// The number of point p's next sale in a shift: one more than it has made there, so that no
+    /// number is used twice in a shift. None after `GREATEST_SEQ` sales.
+    pub fn next_seq(&self, p: FpNo, shift: ShiftNo) -> Option<Seq>
+        ensures { result ≡ next_number p shift self.now.sales }
     {
         let shelf = &self.shelves[p.cell()];
-        shelf.next_seq()
+        shelf.next_seq(shift)
     }
 
-    /// Adds a sale of point p and answers its number. The view is payable without a till, or locked
-    /// with one. Room for it is reserved, fewer than `UNPAID_LIMIT` transactions of the point are
-    /// unpaid, and it has a next number. No other transaction changes. It takes no memory.
-    pub fn add(&mut self, p: FpNo, view: TransactionView) -> Seq
+    /// Adds a sale of point p in a shift and answers its number there. The view is payable without a
+    /// till, or locked with one. Room for it is reserved, fewer than `UNPAID_LIMIT` transactions of
+    /// the point are unpaid, the shift has a next number, no sale of the point is of a later shift,
+    /// and the volumes of all sales of the product fit in 64 bits with this one. No other
+    /// transaction changes. It takes no memory.
+    pub fn add(&mut self, p: FpNo, shift: ShiftNo, view: TransactionView) -> Seq
         requires room { 0 < room_at p self.old.rooms }
         requires unpaid { unpaid_at p self.old.sales < UNPAID_LIMIT }
-        requires number { is_some (next_number p self.old.sales) ≡ true }
+        requires number { is_some (next_number p shift self.old.sales) ≡ true }
+        requires order { HasNoneLater p shift self.old.sales }
+        requires fits { volume_of view.product self.old.sales + view.volume < 2 ^ 64 }
         requires new { is_new view ≡ true }
-        ensures number { next_number p self.old.sales ≡ Some result }
-        ensures sales { self.new.sales ≡ with_new p (new_sale view) self.old.sales }
+        ensures number { next_number p shift self.old.sales ≡ Some result }
+        ensures sales { self.new.sales ≡ with_new p (new_sale shift view) self.old.sales }
     {
+        let sale = Sale::new(shift, &view);
         let shelf = &mut self.shelves[p.cell()];
-        let seq = shelf.next_seq().unwrap();
-        shelf.push(Sale::new(&view));
+        let seq = shelf.next_seq(shift).unwrap();
+        shelf.push(sale);
+        self.sums = self.sums.with(&sale);
         seq
     }
 
@@ -98,29 +116,49 @@ impl Buffer {
     /// locked it already, nothing changes. Refused, and nothing changes, with `NoSuchTransaction`
     /// where it isn't there, `AlreadyCleared` where a till has cleared it, and `LockedByOther`
     /// where another till has locked it.
-    pub fn lock(&mut self, p: FpNo, s: Seq, t: TillNo) -> Result<Answer, Refusal>
-        ensures { Asked Request.Lock t (key p s) self.old.sales self.new.sales result }
+    pub fn lock(
+        &mut self,
+        p: FpNo,
+        shift: ShiftNo,
+        s: Seq,
+        t: TillNo,
+    ) -> Result<Answer, Refusal>
+        ensures { Asked Request.Lock t (key shift p s) self.old.sales self.new.sales result }
     {
-        self.ask(p, s, t, &Request::Lock)
+        self.ask(p, shift, s, t, &Request::Lock)
     }
 
     /// The till makes a transaction that it has locked payable again: Unlocked. Refused, and
     /// nothing changes, with `NoSuchTransaction` where it isn't there, `AlreadyCleared` where a
     /// till has cleared it, `LockedByOther` where another till has locked it, and `NotLocked` where
     /// none has.
-    pub fn unlock(&mut self, p: FpNo, s: Seq, t: TillNo) -> Result<Answer, Refusal>
-        ensures { Asked Request.Unlock t (key p s) self.old.sales self.new.sales result }
+    pub fn unlock(
+        &mut self,
+        p: FpNo,
+        shift: ShiftNo,
+        s: Seq,
+        t: TillNo,
+    ) -> Result<Answer, Refusal>
+        ensures { Asked Request.Unlock t (key shift p s) self.old.sales self.new.sales result }
     {
-        self.ask(p, s, t, &Request::Unlock)
+        self.ask(p, shift, s, t, &Request::Unlock)
     }
 
-    /// The till clears a transaction that it has locked, in the shift with this number: Cleared,
-    /// with the transaction's cents. Nothing changes it any more. Refused, and nothing changes, as
+    /// The till clears a transaction that it has locked, in the open shift, the last argument: Cleared, with
+    /// the transaction's cents. Nothing changes it any more. Refused, and nothing changes, as
     /// `unlock` is.
-    pub fn clear(&mut self, p: FpNo, s: Seq, t: TillNo, shift: u16) -> Result<Answer, Refusal>
-        ensures { Asked (Request.Clear shift) t (key p s) self.old.sales self.new.sales result }
+    pub fn clear(
+        &mut self,
+        p: FpNo,
+        shift: ShiftNo,
+        s: Seq,
+        t: TillNo,
+        current: ShiftNo,
+    ) -> Result<Answer, Refusal>
+        ensures { Asked (Request.Clear current) t (key shift p s) self.old.sales self.new.sales
+            result }
     {
-        self.ask(p, s, t, &Request::Clear(shift))
+        self.ask(p, shift, s, t, &Request::Clear(current))
     }
 
     /// Makes every transaction that the till has locked payable; every other stays. It is what a
@@ -128,15 +166,16 @@ impl Buffer {
     pub fn release_all(&mut self, t: TillNo)
         ensures { self.new.sales ≡ after_sign_off t self.old.sales }
     {
+        self.sums = let_go_sums(&self.shelves, &self.sums, t);
         let_go_of_each(&mut self.shelves, t);
     }
 
     /// The transaction as a read shows it. None where it isn't there.
-    pub fn row(&self, p: FpNo, s: Seq) -> Option<TransactionView>
-        ensures { result ≡ shown (key p s) self.now.sales }
+    pub fn row(&self, p: FpNo, shift: ShiftNo, s: Seq) -> Option<TransactionView>
+        ensures { result ≡ shown (key shift p s) self.now.sales }
     {
         let shelf = &self.shelves[p.cell()];
-        match shelf.get(s) {
+        match shelf.get(shift, s) {
             Some(sale) => Some(sale.view()),
             None => None,
         }
@@ -148,19 +187,29 @@ impl Buffer {
         ensures value { result ≡ volume_by q status self.now.sales }
         ensures fits { volume_of q self.now.sales < 2 ^ 64 }
     {
-        volume_on(&self.shelves, q, &status)
+        let _ = q.get();
+        self.sums.get(q, status)
     }
 
     /// What the transaction table says of the till's request.
-    fn ask(&mut self, p: FpNo, s: Seq, t: TillNo, request: &Request) -> Result<Answer, Refusal>
-        ensures { Asked request.now t (key p s) self.old.sales self.new.sales result }
+    fn ask(
+        &mut self,
+        p: FpNo,
+        shift: ShiftNo,
+        s: Seq,
+        t: TillNo,
+        request: &Request,
+    ) -> Result<Answer, Refusal>
+        ensures { Asked request.now t (key shift p s) self.old.sales self.new.sales result }
     {
         let shelf = &mut self.shelves[p.cell()];
-        let Some(sale) = shelf.get(s) else {
+        let Some(old) = shelf.get(shift, s) else {
             return Err(Refusal::NoSuchTransaction);
         };
-        let (sale, answer) = sale.asked(request, t)?;
-        shelf.put(s, sale);
+        let (new, answer) = old.asked(request, t)?;
+        shelf.put(s, new);
+        let left = self.sums.without(&old);
+        self.sums = left.with(&new);
         Ok(answer)
     }
 }
@@ -175,15 +224,29 @@ fn let_go_of_each(shelves: &mut [Shelf], t: TillNo)
     }
 }
 
-/// The millilitres of this product in the sales of this status, on every shelf.
-fn volume_on(shelves: &[Shelf], q: ProductNo, status: &Status) -> u64
-    requires { length shelves.now ≤ POINT_CELLS }
-    ensures value { result ≡ sum_on (volume_with q status.now) shelves.now }
-    ensures fits { sum_on (volume_in q) shelves.now < 2 ^ 64 }
+/// The sums once the sales that this till has locked are payable.
+fn let_go_sums(shelves: &[Shelf], sums: &Sums, t: TillNo) -> Sums
+    requires { AreSums (sales_on shelves.now) sums.now }
+    ensures { AreSums (after_sign_off t (sales_on shelves.now)) result }
+{
+    let mut new = *sums;
+    for number in 1..=PRODUCTS {
+        let Some(q) = ProductNo::new(number) else {
+            unreachable!();
+        };
+        new = new.let_go(q, volume_locked(shelves, q, t));
+    }
+    new
+}
+
+/// The millilitres of this product in the sales that this till has locked, on every shelf.
+fn volume_locked(shelves: &[Shelf], q: ProductNo, t: TillNo) -> u64
+    requires { sum_on (volume_in q) shelves.now < 2 ^ 64 }
+    ensures { result ≡ sum_on (volume_locked_by q t) shelves.now }
 {
     let mut total = 0;
     for shelf in shelves {
-        total += shelf.volume(q, status);
+        total += shelf.volume_locked(q, t);
     }
     total
 }

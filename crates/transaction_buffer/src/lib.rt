@@ -8,9 +8,12 @@ mod laws;
 mod request;
 mod sale;
 mod shelf;
+mod span;
 mod standing;
+mod sums;
 #[cfg(test)]
 mod tests;
+mod unpaid_places;
 
 pub use buffer::Buffer;
 pub use laws::{

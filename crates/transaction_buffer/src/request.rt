@@ -1,5 +1,7 @@
 //! What a till asks of a transaction.
 
+use site_base::ShiftNo;
+
 /// What a till asks of a transaction.
 #[derive(Clone, Copy, Debug, PartialEq, Eq)]
 pub enum Request {
@@ -7,6 +9,6 @@ pub enum Request {
     Lock,
     /// To make it payable again.
     Unlock,
-    /// To clear it, in the shift with this number.
-    Clear(u16),
+    /// To clear it, in this shift.
+    Clear(ShiftNo),
 }

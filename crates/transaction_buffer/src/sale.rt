@@ -1,22 +1,24 @@
 //! One sale.
 
 ghost use Rattle.std.specs.Prelude.{◌≡◌, ◌≤◌};
-ghost use Rattle.site_base.specs.declared.limits.TheConstants.{GREATEST_READING};
-ghost use Rattle.transaction_buffer.specs.Sales.{is_unpaid, is_new, new_sale, view_of};
+ghost use Rattle.site_base.specs.declared.limits.TheConstants.{PRODUCTS};
+ghost use Rattle.transaction_buffer.specs.Sales.{is_unpaid, new_sale, status_of, view_of};
 ghost use Rattle.transaction_buffer.specs.Asked.{outcome};
 ghost use Rattle.transaction_buffer.specs.TransactionTable.{line_for, let_go};
-ghost use Rattle.transaction_buffer.specs.Sums.{volume_in, volume_with, has_status};
+ghost use Rattle.transaction_buffer.specs.Sums.{volume_in, volume_locked_by};
 
 use crate::request::Request;
 use crate::standing::Standing;
 use site_base::{
-    Answer, Cents, Millilitres, Mills, ProductNo, Refusal, Status, TillNo, TransactionView,
+    Answer, Cents, Millilitres, Mills, ProductNo, Refusal, ShiftNo, Status, TillNo,
+    TransactionView,
 };
 use std::marker::Model;
 
 /// A sale, and how it stands.
 #[derive(Clone, Copy, Drop)]
 pub struct Sale {
+    shift: ShiftNo,
     price: Mills,
     volume: Millilitres,
     cents: Cents,
@@ -31,6 +33,7 @@ impl Model for Sale {
     ghost Value = { SaleFacts };
 
     ghost view = { λ x. record {
+      shift = x.shift;
       price = x.price;
       volume = x.volume;
       cents = x.cents;
@@ -40,6 +43,7 @@ impl Model for Sale {
     } };
 
     ghost inverse = { λ x. record {
+      shift = x.shift;
       price = x.price;
       volume = x.volume;
       cents = x.cents;
@@ -50,15 +54,19 @@ impl Model for Sale {
 }
 
 impl Sale {
-    /// The sale that a view shows: payable where it names no till, else locked by that till.
-    pub fn new(view: &TransactionView) -> Self
-        ensures { result ≡ new_sale view.now }
+    /// The sale of a shift that a view shows: payable where it names no till, else locked by that
+    /// till.
+    pub fn new(shift: ShiftNo, view: &TransactionView) -> Self
+        ensures value { result ≡ new_sale shift view.now }
+        ensures range { (1 ≤ view.now.product) × (view.now.product ≤ PRODUCTS) }
     {
+        let _ = view.product.get();
         let standing = match view.till {
             None => Standing::Payable,
             Some(till) => Standing::LockedBy(till),
         };
         Sale {
+            shift,
             price: view.price,
             volume: view.volume,
             cents: view.cents,
@@ -99,25 +107,57 @@ impl Sale {
         }
     }
 
-    /// Its millilitres, if it is of this product and has this status; else 0.
-    pub fn volume_with(&self, q: ProductNo, status: &Status) -> u64
-        ensures value { result ≡ volume_with q status.now self.now }
-        ensures range { result ≤ GREATEST_READING }
-        ensures whole { volume_in q self.now ≤ GREATEST_READING }
+    /// The shift in which it was sold.
+    pub fn shift(&self) -> ShiftNo
+        ensures { result ≡ self.now.shift }
+    {
+        self.shift
+    }
+
+    /// Its product.
+    pub fn product(&self) -> ProductNo
+        ensures { result ≡ self.now.product }
+    {
+        self.product
+    }
+
+    /// Its millilitres.
+    pub fn volume(&self) -> u64
+        ensures { result ≡ self.now.volume }
+    {
+        self.volume.get()
+    }
+
+    /// Is it cleared, payable or locked?
+    pub fn status(&self) -> Status
+        ensures { result ≡ status_of self.now.standing }
+    {
+        match self.standing {
+            Standing::Payable => Status::Payable,
+            Standing::LockedBy(_) => Status::Locked,
+            Standing::ClearedBy(_, _) => Status::Cleared,
+        }
+    }
+
+    /// Its millilitres, if it is of this product and this till has locked it; else 0.
+    pub fn volume_locked(&self, q: ProductNo, t: TillNo) -> u64
+        ensures value { result ≡ volume_locked_by q t self.now }
+        ensures part { result ≤ volume_in q self.now }
     {
         let volume = self.volume.get();
-        if self.product.get() == q.get() && self.has_status(status) {
-            volume
-        } else {
-            0
+        match self.standing {
+            Standing::LockedBy(u) if u.get() == t.get() && self.product.get() == q.get() => volume,
+            _ => 0,
         }
     }
 
     /// What the transaction table says of the till's request: the sale afterwards and the answer,
     /// or the refusal.
     pub fn asked(&self, request: &Request, t: TillNo) -> Result<(Sale, Answer), Refusal>
-        ensures { result ≡ outcome (line_for request.now t self.now) self.now }
+        ensures outcome { result ≡ outcome (line_for request.now t self.now) self.now }
+        ensures range { (1 ≤ self.now.product) × (self.now.product ≤ PRODUCTS) }
     {
+        let _ = self.product.get();
         match request {
             Request::Lock => self.locked(t),
             Request::Unlock => self.unlocked(t),
@@ -145,16 +185,6 @@ impl Sale {
         ensures { result ≡ record self.now { standing = standing } }
     {
         Sale { standing, ..*self }
-    }
-
-    fn has_status(&self, status: &Status) -> bool
-        ensures { result ≡ has_status status.now self.now.standing }
-    {
-        match status {
-            Status::Payable => matches!(self.standing, Standing::Payable),
-            Status::Locked => matches!(self.standing, Standing::LockedBy(_)),
-            Status::Cleared => matches!(self.standing, Standing::ClearedBy(_, _)),
-        }
     }
 
     fn locked(&self, t: TillNo) -> Result<(Sale, Answer), Refusal>
@@ -187,7 +217,7 @@ impl Sale {
         }
     }
 
-    fn cleared(&self, t: TillNo, shift: u16) -> Result<(Sale, Answer), Refusal>
+    fn cleared(&self, t: TillNo, shift: ShiftNo) -> Result<(Sale, Answer), Refusal>
         ensures { result ≡ outcome (line_for (Request.Clear shift) t self.now) self.now }
     {
         match self.standing {

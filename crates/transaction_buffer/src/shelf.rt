@@ -1,40 +1,44 @@
 //! The sales of one fuelling point.
 
-ghost use Rattle.std.specs.Prelude.{◌≡◌, ◌+◌, ◌*◌, ◌<◌, ◌≤◌, [], ◌∷◌, ◌++◌, true, false, length, is_some, IfSome, map, OnOk};
-ghost use Rattle.site_base.specs.Numbered.{numbered, with_numbered};
-ghost use Rattle.site_base.specs.declared.limits.TheConstants.{GREATEST_READING, GREATEST_SEQ, UNPAID_LIMIT};
-ghost use Rattle.transaction_buffer.specs.Sales.{is_unpaid, next_after, unpaid_among};
+ghost use Rattle.std.specs.Prelude.{◌≡◌, ℕ, ◌-◌, ◌^◌, ◌<◌, ◌≤◌, [], ◌∷◌, ◌++◌, true, is_some, IfSome, length, map, OnOk, slice_index_or};
+ghost use Rattle.site_base.specs.declared.limits.TheConstants.{GREATEST_SEQ, GREATEST_SHIFT, UNPAID_LIMIT};
+ghost use Rattle.transaction_buffer.specs.Sales.{is_unpaid, made_in, next_after, sale_in, unpaid_among, with_in};
+ghost use Rattle.transaction_buffer.specs.Shelves.{NoneAfter, no_span, place_in, shifts_of};
 ghost use Rattle.transaction_buffer.specs.TransactionTable.{let_go};
-ghost use Rattle.transaction_buffer.specs.Sums.{sum_among, volume_in, volume_with};
+ghost use Rattle.transaction_buffer.specs.Sums.{sum_among, volume_in, volume_locked_by};
 
 use crate::sale::Sale;
-use site_base::{GREATEST_SEQ, NoMemory, ProductNo, Seq, Status, TillNo};
+use crate::span::Span;
+use crate::unpaid_places::UnpaidPlaces;
+use site_base::{GREATEST_SHIFT, NoMemory, ProductNo, Seq, ShiftNo, TillNo};
 use std::alloc::Global;
 use std::marker::Model;
 
-/// The sales of a fuelling point in the order of their numbers, from 1 on. At most `UNPAID_LIMIT`
-/// of them are unpaid.
+/// The sales of a fuelling point in the order in which they were made. At most `UNPAID_LIMIT` of
+/// them are unpaid. A sale is found at its place, without a search.
 #[derive(Drop)]
 pub struct Shelf {
-    // Sale n stands at place n - 1.
     sales: Vec<Sale>,
+    // Where the sales of shift h stand is told in cell h - 1.
+    spans: Vec<Span>,
+    // The places of the unpaid sales.
+    unpaid: UnpaidPlaces,
 }
 
 impl Model for Shelf {
-    ghost use Rattle.std.specs.Prelude.{◌-◌, ◌≤◌, length, vec_len, vec_capacity};
-    ghost use Rattle.site_base.specs.declared.limits.TheConstants.{GREATEST_SEQ, UNPAID_LIMIT};
-    ghost use Rattle.transaction_buffer.specs.Sales.{unpaid_among};
-    ghost use Rattle.transaction_buffer.specs.Shelves.{Shelf as ShelfFacts};
+    ghost use Rattle.std.specs.Prelude.{◌-◌, ◌==◌, if◌then◌else◌, vec_len, vec_capacity};
+    ghost use Rattle.site_base.specs.declared.limits.TheConstants.{GREATEST_SHIFT};
+    ghost use Rattle.transaction_buffer.specs.Shelves.{Shelf as ShelfFacts, IsShelf};
 
     ghost Value = { ShelfFacts };
 
     ghost view = { λ x. record {
       sales = x.sales.items;
-      room = vec_capacity x.sales - vec_len x.sales;
+      room = if vec_len x.spans == GREATEST_SHIFT then vec_capacity x.sales - vec_len x.sales
+          else 0;
     } };
 
-    ghost invariant = { λ x. (length x.sales.items ≤ GREATEST_SEQ)
-        × (unpaid_among x.sales.items ≤ UNPAID_LIMIT) };
+    ghost invariant = { λ x. IsShelf x.sales.items x.spans.items x.unpaid.one x.unpaid.other };
 }
 
 impl Shelf {
@@ -44,23 +48,27 @@ impl Shelf {
     {
         Shelf {
             sales: Vec::new(alloc),
+            spans: Vec::new(alloc),
+            unpaid: UnpaidPlaces::NONE,
         }
     }
 
-    /// Makes room for one more sale.
+    /// Makes room for one more sale of whichever shift.
     pub fn reserve(&mut self) -> Result<(), NoMemory>
         ensures sales { self.new.sales ≡ self.old.sales }
         ensures room { OnOk result (0 < self.new.room) }
     {
+        fill(&mut self.spans)?;
         self.sales.reserve(1)?;
         Ok(())
     }
 
-    /// The number of the next sale.
-    pub fn next_seq(&self) -> Option<Seq>
-        ensures { result ≡ next_after (length self.now.sales) }
+    /// The number of the next sale in this shift.
+    pub fn next_seq(&self, shift: ShiftNo) -> Option<Seq>
+        ensures { result ≡ next_after (made_in shift self.now.sales) }
     {
-        Seq::new(self.sales.len() as u16 + 1)
+        let span = span_of(&self.spans, shift);
+        Seq::new(span.count + 1)
     }
 
     /// How many sales are unpaid.
@@ -68,42 +76,49 @@ impl Shelf {
         ensures value { result ≡ unpaid_among self.now.sales }
         ensures range { result ≤ UNPAID_LIMIT }
     {
-        let mut count = 0;
-        for sale in &self.sales {
-            if sale.is_unpaid() {
-                count += 1;
-            }
-        }
-        count
+        self.unpaid.count()
     }
 
-    /// The sale with this number, if there is one.
-    pub fn get(&self, s: Seq) -> Option<Sale>
-        ensures { result ≡ numbered s self.now.sales }
+    /// The sale of this shift with this number, if there is one.
+    pub fn get(&self, shift: ShiftNo, s: Seq) -> Option<Sale>
+        ensures { result ≡ sale_in shift s self.now.sales }
     {
-        match self.sales.get(s.get() as usize - 1) {
-            Some(sale) => Some(*sale),
+        match self.place(shift, s) {
+            Some(place) => Some(self.sales[place]),
             None => None,
         }
     }
 
-    /// Adds a sale, where room is reserved, a number is left and not too many are unpaid.
+    /// Adds a sale, where room is reserved, no sale is of a later shift, its shift has a number left
+    /// and not too many are unpaid.
     pub fn push(&mut self, sale: Sale)
         requires room { 0 < self.old.room }
-        requires number { length self.old.sales < GREATEST_SEQ }
+        requires order { NoneAfter sale.shift (shifts_of self.old.sales) }
+        requires number { made_in sale.shift self.old.sales < GREATEST_SEQ }
         requires unpaid { unpaid_among self.old.sales < UNPAID_LIMIT }
         ensures { self.new.sales ≡ self.old.sales ++ sale ∷ [] }
     {
+        let cell = usize::from(sale.shift().get()) - 1;
+        let span = self.spans[cell];
+        let place = self.sales.len();
+        self.spans[cell] = span.grown(place);
+        self.unpaid = self.unpaid.after_sale(place, sale.is_unpaid());
         self.sales.push_reserved(sale);
     }
 
-    /// Puts a sale in the place of the one with this number, which is there and unpaid.
+    /// Puts a sale in the place of the one of the same shift with this number, which is there and
+    /// unpaid.
     pub fn put(&mut self, s: Seq, sale: Sale)
-        requires there { is_some (numbered s self.old.sales) ≡ true }
-        requires unpaid { IfSome (numbered s self.old.sales) (λ x. is_unpaid x.standing ≡ true) }
-        ensures { self.new.sales ≡ with_numbered s sale self.old.sales }
+        requires there { is_some (sale_in sale.shift s self.old.sales) ≡ true }
+        requires unpaid { IfSome (sale_in sale.shift s self.old.sales) (λ x.
+            is_unpaid x.standing ≡ true) }
+        ensures { self.new.sales ≡ with_in sale.shift s sale self.old.sales }
     {
-        self.sales[s.get() as usize - 1] = sale;
+        let Some(place) = self.place(sale.shift(), s) else {
+            unreachable!();
+        };
+        self.unpaid = self.unpaid.after_change(place, sale.is_unpaid());
+        self.sales[place] = sale;
     }
 
     /// Makes the sales that this till has locked payable.
@@ -113,17 +128,56 @@ impl Shelf {
         let_go_of(&mut self.sales, t);
     }
 
-    /// The millilitres of this product in the sales of this status.
-    pub fn volume(&self, q: ProductNo, status: &Status) -> u64
-        ensures value { result ≡ sum_among (volume_with q status.now) self.now.sales }
-        ensures range { result ≤ GREATEST_SEQ * GREATEST_READING }
-        ensures whole { sum_among (volume_in q) self.now.sales ≤ GREATEST_SEQ * GREATEST_READING }
+    /// The millilitres of this product in the sales that this till has locked. Those of all sales
+    /// fit in 64 bits.
+    pub fn volume_locked(&self, q: ProductNo, t: TillNo) -> u64
+        requires { sum_among (volume_in q) self.now.sales < 2 ^ 64 }
+        ensures value { result ≡ sum_among (volume_locked_by q t) self.now.sales }
+        ensures part { result ≤ sum_among (volume_in q) self.now.sales }
     {
         let mut total = 0;
         for sale in &self.sales {
-            total += sale.volume_with(q, status);
+            total += sale.volume_locked(q, t);
         }
         total
+    }
+
+    /// The place of the sale of this shift with this number, if there is one.
+    fn place(&self, shift: ShiftNo, s: Seq) -> Option<usize>
+        ensures { result ≡ place_in shift s (shifts_of self.now.sales) }
+    {
+        let span = span_of(&self.spans, shift);
+        let number = s.get();
+        if number <= span.count {
+            Some(span.first + (usize::from(number) - 1))
+        } else {
+            None
+        }
+    }
+}
+
+/// Makes a cell for each shift that has none yet: without sales.
+fn fill(spans: &mut Vec<Span>) -> Result<(), NoMemory>
+    requires { length spans.old.items ≤ GREATEST_SHIFT }
+    ensures same { (i : ℕ) → slice_index_or spans.new.items i no_span
+        ≡ slice_index_or spans.old.items i no_span }
+    ensures few { length spans.new.items ≤ GREATEST_SHIFT }
+    ensures full { OnOk result (length spans.new.items ≡ GREATEST_SHIFT) }
+{
+    while spans.len() < usize::from(GREATEST_SHIFT) {
+        spans.push(Span::NONE)?;
+    }
+    Ok(())
+}
+
+/// The span of this shift.
+fn span_of(spans: &[Span], shift: ShiftNo) -> Span
+    ensures span { result ≡ slice_index_or spans.now (shift - 1) no_span }
+    ensures range { (1 ≤ shift) × (shift ≤ GREATEST_SHIFT) }
+{
+    match spans.get(usize::from(shift.get()) - 1) {
+        Some(span) => *span,
+        None => Span::NONE,
     }
 }
 

@@ -1,6 +1,6 @@
 //! How a transaction stands.
 
-use site_base::TillNo;
+use site_base::{ShiftNo, TillNo};
 
 /// How a transaction stands.
 #[derive(Clone, Copy, Debug, PartialEq, Eq)]
@@ -9,6 +9,6 @@ pub enum Standing {
     Payable,
     /// Unpaid, and locked by this till.
     LockedBy(TillNo),
-    /// Paid: this till cleared it, in the shift with this number.
-    ClearedBy(TillNo, u16),
+    /// Paid: this till cleared it, in this shift.
+    ClearedBy(TillNo, ShiftNo),
 }

@@ -15,7 +15,7 @@ fn a_refused_room_leaves_the_transactions(rt: HostRuntime) {
         let made = match sell(&rt, &mut buffer, p, &view) {
             Err(NoMemory) => {
                 let _ = rt.eprintln("a growth was refused");
-                assert_eq!(rt; buffer.next_seq(p), Seq::new(place + 1));
+                assert_eq!(rt; buffer.next_seq(p, ShiftNo::FIRST), Seq::new(place + 1));
                 assert_eq!(rt;
                     buffer.sum(product(&rt, 1), Status::Cleared),
                     1000 * u64::from(place)
@@ -28,6 +28,6 @@ fn a_refused_room_leaves_the_transactions(rt: HostRuntime) {
             panic!(&rt; "want of memory twice");
         };
         assert_eq!(rt; made.get(), place + 1);
-        assert_eq!(rt; buffer.clear(p, made, t, 1), told);
+        assert_eq!(rt; buffer.clear(p, ShiftNo::FIRST, made, t, ShiftNo::FIRST), told);
     }
 }

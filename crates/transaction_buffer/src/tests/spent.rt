@@ -1,4 +1,4 @@
-//! Every number of one point, each sale cleared before the next.
+//! Every number of one point in a shift, each sale cleared before the next.
 
 use super::*;
 use site_base::{Answer, GREATEST_SEQ};
@@ -14,11 +14,16 @@ fn no_number_after_the_greatest(rt: HostRuntime) -> Result<(), Fail> {
     for place in 0..GREATEST_SEQ {
         let made = sell(&rt, &mut buffer, p, &view)?;
         assert_eq!(rt; made.get(), place + 1);
-        assert_eq!(rt; buffer.clear(p, made, t, 1), told);
+        assert_eq!(rt; buffer.clear(p, ShiftNo::FIRST, made, t, ShiftNo::FIRST), told);
     }
-    assert_eq!(rt; buffer.next_seq(p), None);
+    assert_eq!(rt; buffer.next_seq(p, ShiftNo::FIRST), None);
     assert_eq!(rt; buffer.unpaid(p), 0);
-    assert_eq!(rt; buffer.next_seq(point(&rt, 2)), Seq::new(1));
+    assert_eq!(rt; buffer.next_seq(point(&rt, 2), ShiftNo::FIRST), Seq::new(1));
     assert_eq!(rt; buffer.sum(product(&rt, 1), Status::Cleared), 9_999_000);
+    assert_eq!(rt; buffer.next_seq(p, shift(&rt, 2)), Seq::new(1));
+    let first = sell_in(&rt, &mut buffer, p, shift(&rt, 2), &view)?;
+    assert_eq!(rt; first.get(), 1);
+    assert_eq!(rt; buffer.next_seq(p, shift(&rt, 2)), Seq::new(2));
+    assert_eq!(rt; buffer.next_seq(p, ShiftNo::FIRST), None);
     Ok(())
 }

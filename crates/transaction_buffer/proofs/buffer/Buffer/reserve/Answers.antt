@@ -1,5 +1,6 @@
-use Rattle.std.proofs.Common.{arith}
+use Rattle.std.proofs.Common.{sym, subst, arith}
 use Rattle.transaction_buffer.proofs.OnShelves.{shelf_same, room_written}
+use Rattle.transaction_buffer.specs.KeptSums.{AreSums}
 use Rattle.transaction_buffer.proofs.buffer.Buffer.reserve.Goals as goal
 
 pub returns-clause-sales : goal.returns-clause-sales
@@ -12,3 +13,9 @@ returns-clause-room c =
     let room = room_written c.self.inside.shelves c.cell.result c.args.p c.reserve.new.self
     c.cell.ensures.place (omega arith) in
     rw room c.reserve.ensures.room
+
+pub invariant_of-self : goal.invariant_of-self
+invariant_of-self c =
+    subst (λ s. AreSums s c.self.inside.sums)
+    (sym (shelf_same c.self.inside.shelves c.cell.result c.reserve.new.self
+    c.index-self-cell.result (omega arith) c.reserve.ensures.sales)) c.self.invariant

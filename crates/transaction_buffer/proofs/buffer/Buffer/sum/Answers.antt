@@ -1,13 +1,9 @@
-use Rattle.std.proofs.Common.{sym, ◌∙◌}
-use Rattle.transaction_buffer.specs.Sums.{volume_in, volume_with}
-use Rattle.transaction_buffer.proofs.OnShelves.{sums_there}
+use Rattle.std.proofs.Common.{◌∙◌, arith}
 use Rattle.transaction_buffer.proofs.buffer.Buffer.sum.Goals as goal
 
 pub returns : goal.returns
-returns c =
-    let whole = sums_there (volume_in c.args.q) c.self.inside.shelves in
-    rw (← c.self.view_is) (record {
-      value = c.volume_on.ensures.value
-          ∙ sym (sums_there (volume_with c.args.q c.args.status) c.self.inside.shelves);
-      fits = rw whole c.volume_on.ensures.fits;
-    })
+returns c = rw (← c.self.view_is) (record {
+  value = c.get-2.ensures
+      ∙ c.self.invariant.kept c.args.q c.args.status (omega arith) (omega arith);
+  fits = c.self.invariant.fit c.args.q;
+})

@@ -1,8 +1,12 @@
-use Rattle.std.proofs.Common.{◌≡◌, ◌++◌, length, map, drop, take, ap, ◌∙◌, arith}
+use Rattle.std.proofs.Common.{◌≡◌, ◌++◌, length, map, drop, take, sym, ap, subst, ◌∙◌, arith}
 use Rattle.std.proofs.lemmas.List.{length-map, take_at}
 use Rattle.transaction_buffer.specs.Sales.{unpaid_among}
 use Rattle.transaction_buffer.specs.TransactionTable.{let_go}
+use Rattle.transaction_buffer.specs.Shelves.{AreSpans}
+use Rattle.transaction_buffer.proofs.Reading.{let_go_shift}
+use Rattle.transaction_buffer.proofs.Spans.{shifts_mapped}
 use Rattle.transaction_buffer.proofs.Unpaid.{unpaid_let_go}
+use Rattle.transaction_buffer.proofs.PlacesUnpaid.{places_let_go}
 use Rattle.transaction_buffer.proofs.shelf.Shelf.let_go.Goals as goal
 
 pub invariant_of-self : goal.invariant_of-self
@@ -20,4 +24,10 @@ invariant_of-self c =
     length-map old (let_go c.args.t) in
     let unpaid : unpaid_among (map (let_go c.args.t) old) ≡ unpaid_among old =
     unpaid_let_go c.args.t old in
-    rw (whole, moved) (omega (arith, c.self.invariant.0), omega (arith, c.self.invariant.1))
+    let shifts = shifts_mapped (let_go c.args.t) old (let_go_shift c.args.t) in
+    rw (whole, moved) (record {
+      unpaid = omega (arith, c.self.invariant.unpaid);
+      places = places_let_go c.args.t old c.self.inside.unpaid.one c.self.inside.unpaid.other c.self.invariant.places;
+      few = c.self.invariant.few;
+      spans = subst (λ gs. AreSpans gs c.self.inside.spans.items) (sym shifts) c.self.invariant.spans;
+    })

@@ -1,0 +1,36 @@
+-- The two places at which a shelf's unpaid sales stand.
+use Rattle.std.specs.Prelude.{◌≡◌, ℕ, ◌+◌, ◌<◌, List, Bool, true, false, Option, Some, None, ◌||◌, ◌==◌, if◌then◌else◌, length, slice_index_or}
+use Rattle.transaction_buffer.specs.Sales.{Sale, is_unpaid, unpaid_among}
+
+-- this place is the one that is kept
+abbrev pub is_at : Option ℕ → ℕ → Bool
+is_at None i = false
+is_at (Some place) i = place == i
+
+-- how many places are kept
+abbrev pub one_if_kept : Option ℕ → ℕ
+one_if_kept None = 0
+one_if_kept (Some place) = 1
+
+-- the first place once this one is kept too: it, where none was
+abbrev pub place_with : Option ℕ → ℕ → Option ℕ
+place_with None place = Some place
+place_with (Some old) place = Some old
+
+-- the second place once this one is kept too: it, where the first was taken
+abbrev pub place_kept : Option ℕ → Option ℕ → ℕ → Option ℕ
+place_kept None other place = other
+place_kept (Some old) other place = Some place
+
+-- the place, unless it is this one
+abbrev pub place_without : Option ℕ → ℕ → Option ℕ
+place_without None place = None
+place_without (Some old) place = if old == place then None else Some old
+
+-- just the sales at these two places are unpaid
+pub record AreUnpaid (xs : List Sale) (first second : Option ℕ) : Type 0 where
+  pub each : (i : ℕ) (d : Sale) → i < length xs
+      → is_unpaid (slice_index_or xs i d).standing ≡ (is_at first i || is_at second i)
+  pub within : (i : ℕ) → (is_at first i || is_at second i) ≡ true → i < length xs
+  pub apart : (i : ℕ) → first ≡ Some i → second ≡ Some i → ⊥
+  pub counted : unpaid_among xs ≡ one_if_kept first + one_if_kept second

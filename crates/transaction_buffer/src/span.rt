@@ -1,0 +1,32 @@
+//! Where the sales of a shift stand on a shelf.
+
+ghost use Rattle.std.specs.Prelude.{◌≡◌, ◌<◌};
+ghost use Rattle.site_base.specs.declared.limits.TheConstants.{GREATEST_SEQ};
+
+/// Where the sales of a shift stand on a shelf: so many, from this place on.
+#[derive(Clone, Copy, Debug, PartialEq, Eq)]
+pub struct Span {
+    /// The place of the first one.
+    pub first: usize,
+    /// How many there are.
+    pub count: u16,
+}
+
+impl Span {
+    ghost use Rattle.transaction_buffer.specs.Spans.{grown};
+
+    /// No sales.
+    pub const NONE: Self = Span { first: 0, count: 0 };
+
+    /// With one more sale, which stands at this place.
+    pub fn grown(self, end: usize) -> Self
+        requires { self.count < GREATEST_SEQ }
+        ensures { result ≡ grown self end }
+    {
+        let first = if self.count == 0 { end } else { self.first };
+        Span {
+            first,
+            count: self.count + 1,
+        }
+    }
+}
