@@ -83,17 +83,17 @@ with_other h n g m (z ∷ zs) y other its =
     by_tests true is false later true at true one behind = rw (is, later, at, one) refl
     by_tests true is false later true at false more behind =
         rw (is, later, at, more) (behind (n - 1) (m - 1) (λ e k.
-            let m_more : m ≢ 1 = apart m 1 more in
-            let n_more : n ≢ 1 = apart n 1 later in
-            let differ : m ≢ n = other e in
-            omega arith))
+        let m_more : m ≢ 1 = apart m 1 more in
+        let n_more : n ≢ 1 = apart n 1 later in
+        let differ : m ≢ n = other e in
+        omega arith))
     by_tests true is false later false at d one behind =
         rw (is, later, at) (behind (n - 1) m (λ e k.
-            apart z.shift g at (same z.shift h is ∙ sym e)))
+        apart z.shift g at (same z.shift h is ∙ sym e)))
     by_tests false is b first true at true one behind = rw (is, at, one) refl
     by_tests false is b first true at false more behind =
         rw (is, at, more) (behind n (m - 1) (λ e k.
-            apart z.shift h is (same z.shift g at ∙ e)))
+        apart z.shift h is (same z.shift g at ∙ e)))
     by_tests false is b first false at d one behind = rw (is, at) (behind n m other)
 
 -- after one more sale
@@ -215,8 +215,8 @@ made_with h n g (z ∷ zs) y its =
         → made_in g (with_in h n y (z ∷ zs)) ≡ made_in g (z ∷ zs)
     by_tests true here true first behind =
         rw (here, first)
-            (ap (λ (k : ℕ). (if k == g then 1 else 0) + made_in g zs)
-            (its ∙ sym (same z.shift h here)))
+        (ap (λ (k : ℕ). (if k == g then 1 else 0) + made_in g zs)
+        (its ∙ sym (same z.shift h here)))
     by_tests true here false later behind =
         rw (here, later) (ap (λ (k : ℕ). (if z.shift == g then 1 else 0) + k) (behind (n - 1)))
     by_tests false there b is_first behind =

@@ -53,10 +53,13 @@ part_of_all q statuses.Cleared s = omega (arith, add_up q s)
 module _ (s : Sales) (sums : Sums) (k : Key) (x y : Sale) (are : AreSums s sums)
     (is : sale_of k s ≡ Some x) (product : y.product ≡ x.product) (volume : y.volume ≡ x.volume)
     (low : 1 ≤ x.product) (high : x.product ≤ PRODUCTS) where
-
   pub among : x.volume ≤ kept_sum x.product (status_of x.standing) sums
-  among = omega (arith, own_volume x, are.kept x.product (status_of x.standing) low high,
-      member_volume x.product (status_of x.standing) k x s is)
+  among = omega (
+    arith,
+    own_volume x,
+    are.kept x.product (status_of x.standing) low high,
+    member_volume x.product (status_of x.standing) k x s is,
+  )
 
   alike : (q : ℕ) → volume_in q y ≡ volume_in q x
   alike q = ap (λ (p : ℕ). cond (p == q) y.volume 0) product
@@ -69,14 +72,23 @@ module _ (s : Sales) (sums : Sums) (k : Key) (x y : Sale) (are : AreSums s sums)
     left_by : (q : ℕ) (status : Status) → 1 ≤ q → q ≤ PRODUCTS
         → kept_sum q status left + volume_with q status y ≡ volume_by q status (with_sale k y s)
     left_by q status from most =
-        omega (arith, without q status from most, are.kept q status from most,
-        replaced_sum (volume_with q status) k x y s is)
+        omega (
+          arith,
+          without q status from most,
+          are.kept q status from most,
+          replaced_sum (volume_with q status) k x y s is,
+        )
 
     pub fits_again : kept_sum y.product (status_of y.standing) left + y.volume < 2 ^ 64
     fits_again =
-        omega (arith, own_volume y, left_by y.product (status_of y.standing)
-        (omega (arith, product)) (omega (arith, product)),
-        part_of_all y.product (status_of y.standing) (with_sale k y s), all_fit y.product)
+        omega (
+          arith,
+          own_volume y,
+          left_by y.product (status_of y.standing)
+              (omega (arith, product)) (omega (arith, product)),
+          part_of_all y.product (status_of y.standing) (with_sale k y s),
+          all_fit y.product,
+        )
 
     pub kept_replaced : (new : Sums) → AreWith y left new → AreSums (with_sale k y s) new
     kept_replaced new with = record {
@@ -87,11 +99,13 @@ module _ (s : Sales) (sums : Sums) (k : Key) (x y : Sale) (are : AreSums s sums)
 -- one more sale
 module _ (s : Sales) (sums : Sums) (p : ℕ) (x : Sale) (are : AreSums s sums)
     (fits : volume_of x.product s + x.volume < 2 ^ 64) where
-
   pub fits_more : 1 ≤ x.product → x.product ≤ PRODUCTS
       → kept_sum x.product (status_of x.standing) sums + x.volume < 2 ^ 64
-  fits_more low high = omega (arith, are.kept x.product (status_of x.standing) low high,
-      part_of_all x.product (status_of x.standing) s)
+  fits_more low high = omega (
+    arith,
+    are.kept x.product (status_of x.standing) low high,
+    part_of_all x.product (status_of x.standing) s,
+  )
 
   by_product : (q : ℕ) (b : Bool) → (x.product == q) ≡ b → volume_of q s + cond b x.volume 0 < 2 ^ 64
   by_product q true is =
@@ -121,7 +135,6 @@ chosen b c x y is = ap (λ (d : Bool). cond d x y) is
 
 module _ (s : Sales) (t q volume : ℕ) (moved : volume ≡ locked_volume q t s) (old : Sums)
     (so_far : LetGoBefore s t q old) (low : 1 ≤ q) (high : q ≤ PRODUCTS) where
-
   not_yet : (status : Status) → kept_sum q status old ≡ volume_by q status s
   not_yet status = so_far q status low high
       ∙ chosen (nat_lt q q) false _ _ (grind (arith, nat_tests))

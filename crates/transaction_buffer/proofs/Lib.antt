@@ -11,6 +11,7 @@ pub mod Requests
 pub mod Rules
 pub mod Spans
 pub mod Summing
+pub mod TwoPlaces
 pub mod Unpaid
 pub mod PlacesUnpaid
 pub mod Volumes

@@ -1,6 +1,7 @@
 -- The two places at which a shelf's unpaid sales stand.
-use Rattle.std.specs.Prelude.{◌≡◌, ℕ, ◌+◌, ◌<◌, List, Bool, true, false, Option, Some, None, ◌||◌, ◌==◌, if◌then◌else◌, length, slice_index_or}
+use Rattle.std.specs.Prelude.{◌≡◌, ℕ, ◌+◌, ◌<◌, List, Bool, true, false, Option, Some, None, ◌||◌, ◌==◌, if◌then◌else◌, length, option_map, slice_get, slice_index_or, unwrap_or}
 use Rattle.transaction_buffer.specs.Sales.{Sale, is_unpaid, unpaid_among}
+use Rattle.transaction_buffer.specs.TransactionTable.{let_go}
 
 -- this place is the one that is kept
 abbrev pub is_at : Option ℕ → ℕ → Bool
@@ -34,3 +35,15 @@ pub record AreUnpaid (xs : List Sale) (first second : Option ℕ) : Type 0 where
   pub within : (i : ℕ) → (is_at first i || is_at second i) ≡ true → i < length xs
   pub apart : (i : ℕ) → first ≡ Some i → second ≡ Some i → ⊥
   pub counted : unpaid_among xs ≡ one_if_kept first + one_if_kept second
+
+-- a figure of the sale at this place; 0 where there is none
+abbrev pub figure_at : (Sale → ℕ) → Option ℕ → List Sale → ℕ
+figure_at figure None xs = 0
+figure_at figure (Some place) xs = unwrap_or (option_map figure (slice_get xs place)) 0
+
+-- the sale at this place is let go by till t, and every other is as it was
+pub record IsLetGoAt (t : ℕ) (place : Option ℕ) (old new : List Sale) : Type 0 where
+  pub long : length new ≡ length old
+  pub each : (i : ℕ) (d : Sale) → i < length old
+      → slice_index_or new i d
+      ≡ (if is_at place i then let_go t (slice_index_or old i d) else slice_index_or old i d)

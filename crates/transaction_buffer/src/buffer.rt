@@ -15,8 +15,8 @@ use crate::sale::Sale;
 use crate::shelf::Shelf;
 use crate::sums::Sums;
 use site_base::{
-    Answer, FpNo, NoMemory, POINT_CELLS, PRODUCTS, ProductNo, Refusal, Seq, ShiftNo, Status, TillNo,
-    TransactionView,
+    Answer, FpNo, NoMemory, POINT_CELLS, PRODUCTS, ProductNo, Refusal, Seq, ShiftNo, Status,
+    TillNo, TransactionView,
 };
 use std::alloc::Global;
 use std::array;
@@ -116,13 +116,7 @@ impl Buffer {
     /// locked it already, nothing changes. Refused, and nothing changes, with `NoSuchTransaction`
     /// where it isn't there, `AlreadyCleared` where a till has cleared it, and `LockedByOther`
     /// where another till has locked it.
-    pub fn lock(
-        &mut self,
-        p: FpNo,
-        shift: ShiftNo,
-        s: Seq,
-        t: TillNo,
-    ) -> Result<Answer, Refusal>
+    pub fn lock(&mut self, p: FpNo, shift: ShiftNo, s: Seq, t: TillNo) -> Result<Answer, Refusal>
         ensures { Asked Request.Lock t (key shift p s) self.old.sales self.new.sales result }
     {
         self.ask(p, shift, s, t, &Request::Lock)
@@ -132,13 +126,7 @@ impl Buffer {
     /// nothing changes, with `NoSuchTransaction` where it isn't there, `AlreadyCleared` where a
     /// till has cleared it, `LockedByOther` where another till has locked it, and `NotLocked` where
     /// none has.
-    pub fn unlock(
-        &mut self,
-        p: FpNo,
-        shift: ShiftNo,
-        s: Seq,
-        t: TillNo,
-    ) -> Result<Answer, Refusal>
+    pub fn unlock(&mut self, p: FpNo, shift: ShiftNo, s: Seq, t: TillNo) -> Result<Answer, Refusal>
         ensures { Asked Request.Unlock t (key shift p s) self.old.sales self.new.sales result }
     {
         self.ask(p, shift, s, t, &Request::Unlock)

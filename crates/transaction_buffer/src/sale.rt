@@ -10,8 +10,7 @@ ghost use Rattle.transaction_buffer.specs.Sums.{volume_in, volume_locked_by};
 use crate::request::Request;
 use crate::standing::Standing;
 use site_base::{
-    Answer, Cents, Millilitres, Mills, ProductNo, Refusal, ShiftNo, Status, TillNo,
-    TransactionView,
+    Answer, Cents, Millilitres, Mills, ProductNo, Refusal, ShiftNo, Status, TillNo, TransactionView,
 };
 use std::marker::Model;
 

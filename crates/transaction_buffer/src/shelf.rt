@@ -5,6 +5,7 @@ ghost use Rattle.site_base.specs.declared.limits.TheConstants.{GREATEST_SEQ, GRE
 ghost use Rattle.transaction_buffer.specs.Sales.{is_unpaid, made_in, next_after, sale_in, unpaid_among, with_in};
 ghost use Rattle.transaction_buffer.specs.Shelves.{NoneAfter, no_span, place_in, shifts_of};
 ghost use Rattle.transaction_buffer.specs.TransactionTable.{let_go};
+ghost use Rattle.transaction_buffer.specs.UnpaidPlaces.{figure_at, AreUnpaid, IsLetGoAt};
 ghost use Rattle.transaction_buffer.specs.Sums.{sum_among, volume_in, volume_locked_by};
 
 use crate::sale::Sale;
@@ -125,7 +126,8 @@ impl Shelf {
     pub fn let_go(&mut self, t: TillNo)
         ensures sales { self.new.sales ≡ map (let_go t) self.old.sales }
     {
-        let_go_of(&mut self.sales, t);
+        let unpaid = self.unpaid;
+        let_go_unpaid(&mut self.sales, unpaid, t);
     }
 
     /// The millilitres of this product in the sales that this till has locked. Those of all sales
@@ -135,11 +137,10 @@ impl Shelf {
         ensures value { result ≡ sum_among (volume_locked_by q t) self.now.sales }
         ensures part { result ≤ sum_among (volume_in q) self.now.sales }
     {
-        let mut total = 0;
-        for sale in &self.sales {
-            total += sale.volume_locked(q, t);
-        }
-        total
+        let sales: &[Sale] = &self.sales;
+        let one = locked_at(sales, self.unpaid.one, q, t);
+        let other = locked_at(sales, self.unpaid.other, q, t);
+        one + other
     }
 
     /// The place of the sale of this shift with this number, if there is one.
@@ -181,11 +182,34 @@ fn span_of(spans: &[Span], shift: ShiftNo) -> Span
     }
 }
 
-/// Makes the sales that this till has locked payable.
-fn let_go_of(sales: &mut [Sale], t: TillNo)
+/// Makes the sales at these places payable, if this till has locked them: no other is unpaid.
+fn let_go_unpaid(sales: &mut [Sale], unpaid: UnpaidPlaces, t: TillNo)
+    requires { AreUnpaid sales.old unpaid.one unpaid.other }
     ensures { sales.new ≡ map (let_go t) sales.old }
 {
-    for sale in sales.iter_mut() {
-        *sale = sale.let_go(t);
+    let_go_at(sales, unpaid.one, t);
+    let_go_at(sales, unpaid.other, t);
+}
+
+/// Makes the sale at this place payable, if this till has locked it.
+fn let_go_at(sales: &mut [Sale], place: Option<usize>, t: TillNo)
+    requires { IfSome place (λ i. i < length sales.old) }
+    ensures { IsLetGoAt t place sales.old sales.new }
+{
+    if let Some(i) = place {
+        sales[i] = sales[i].let_go(t);
+    }
+}
+
+/// The millilitres of this product in the sale at this place, if this till has locked it.
+fn locked_at(sales: &[Sale], place: Option<usize>, q: ProductNo, t: TillNo) -> u64
+    ensures { result ≡ figure_at (volume_locked_by q t) place sales.now }
+{
+    let Some(i) = place else {
+        return 0;
+    };
+    match sales.get(i) {
+        Some(sale) => sale.volume_locked(q, t),
+        None => 0,
     }
 }

@@ -28,6 +28,9 @@ fn a_refused_room_leaves_the_transactions(rt: HostRuntime) {
             panic!(&rt; "want of memory twice");
         };
         assert_eq!(rt; made.get(), place + 1);
-        assert_eq!(rt; buffer.clear(p, ShiftNo::FIRST, made, t, ShiftNo::FIRST), told);
+        assert_eq!(rt;
+            buffer.clear(p, ShiftNo::FIRST, made, t, ShiftNo::FIRST),
+            told
+        );
     }
 }

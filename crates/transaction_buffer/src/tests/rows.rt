@@ -11,14 +11,32 @@ fn two_tills_at_one_transaction(rt: HostRuntime) -> Result<(), Fail> {
     let (first, second) = (till(&rt, 1), till(&rt, 2));
     let _ = sell(&rt, &mut buffer, p, &payable(&rt, 1, 10_000))?;
     let by_first = Err(Refusal::LockedByOther(first));
-    assert_eq!(rt; buffer.lock(p, ShiftNo::FIRST, s, first), Ok(Answer::Locked));
-    assert_eq!(rt; buffer.lock(p, ShiftNo::FIRST, s, first), Ok(Answer::Locked));
+    assert_eq!(rt;
+        buffer.lock(p, ShiftNo::FIRST, s, first),
+        Ok(Answer::Locked)
+    );
+    assert_eq!(rt;
+        buffer.lock(p, ShiftNo::FIRST, s, first),
+        Ok(Answer::Locked)
+    );
     assert_eq!(rt; buffer.lock(p, ShiftNo::FIRST, s, second), by_first);
-    assert_eq!(rt; buffer.clear(p, ShiftNo::FIRST, s, second, ShiftNo::FIRST), by_first);
+    assert_eq!(rt;
+        buffer.clear(p, ShiftNo::FIRST, s, second, ShiftNo::FIRST),
+        by_first
+    );
     buffer.release_all(first);
-    assert_eq!(rt; buffer.clear(p, ShiftNo::FIRST, s, second, ShiftNo::FIRST), Err(Refusal::NotLocked));
-    assert_eq!(rt; buffer.lock(p, ShiftNo::FIRST, s, second), Ok(Answer::Locked));
-    assert_eq!(rt; buffer.unlock(p, ShiftNo::FIRST, s, second), Ok(Answer::Unlocked));
+    assert_eq!(rt;
+        buffer.clear(p, ShiftNo::FIRST, s, second, ShiftNo::FIRST),
+        Err(Refusal::NotLocked)
+    );
+    assert_eq!(rt;
+        buffer.lock(p, ShiftNo::FIRST, s, second),
+        Ok(Answer::Locked)
+    );
+    assert_eq!(rt;
+        buffer.unlock(p, ShiftNo::FIRST, s, second),
+        Ok(Answer::Unlocked)
+    );
     Ok(())
 }
 
@@ -29,11 +47,20 @@ fn cleared_once(rt: HostRuntime) -> Result<(), Fail> {
     let (first, second) = (till(&rt, 1), till(&rt, 2));
     let diesel = product(&rt, 1);
     let _ = sell(&rt, &mut buffer, p, &payable(&rt, 1, 10_000))?;
-    assert_eq!(rt; buffer.lock(p, ShiftNo::FIRST, s, first), Ok(Answer::Locked));
+    assert_eq!(rt;
+        buffer.lock(p, ShiftNo::FIRST, s, first),
+        Ok(Answer::Locked)
+    );
     let told = Ok(Answer::Cleared(cents(&rt, 1500)));
-    assert_eq!(rt; buffer.clear(p, ShiftNo::FIRST, s, first, ShiftNo::FIRST), told);
+    assert_eq!(rt;
+        buffer.clear(p, ShiftNo::FIRST, s, first, ShiftNo::FIRST),
+        told
+    );
     let refusal = Err(Refusal::AlreadyCleared(first));
-    assert_eq!(rt; buffer.clear(p, ShiftNo::FIRST, s, first, ShiftNo::FIRST), refusal);
+    assert_eq!(rt;
+        buffer.clear(p, ShiftNo::FIRST, s, first, ShiftNo::FIRST),
+        refusal
+    );
     assert_eq!(rt; buffer.lock(p, ShiftNo::FIRST, s, second), refusal);
     assert_eq!(rt; buffer.sum(diesel, Status::Cleared), 10_000);
     assert_eq!(rt; buffer.sum(diesel, Status::Payable), 0);
@@ -57,7 +84,10 @@ fn two_unpaid_transactions(rt: HostRuntime) -> Result<(), Fail> {
     assert_eq!(rt; buffer.lock(p, ShiftNo::FIRST, one, t), Ok(Answer::Locked));
     assert_eq!(rt; buffer.unpaid(p), 2);
     let told = Ok(Answer::Cleared(cents(&rt, 1500)));
-    assert_eq!(rt; buffer.clear(p, ShiftNo::FIRST, one, t, ShiftNo::FIRST), told);
+    assert_eq!(rt;
+        buffer.clear(p, ShiftNo::FIRST, one, t, ShiftNo::FIRST),
+        told
+    );
     assert_eq!(rt; buffer.unpaid(p), 1);
     assert_eq!(rt; buffer.next_seq(p, ShiftNo::FIRST), Seq::new(3));
     Ok(())
@@ -113,12 +143,18 @@ fn a_second_shift_begins_at_one(rt: HostRuntime) -> Result<(), Fail> {
     assert_eq!(rt; (old.get(), new.get()), (1, 1));
     assert_eq!(rt; buffer.unpaid(p), 2);
     let told = Ok(Answer::Cleared(cents(&rt, 1500)));
-    assert_eq!(rt; buffer.clear(p, last, new, t, last), Err(Refusal::NotLocked));
+    assert_eq!(rt;
+        buffer.clear(p, last, new, t, last),
+        Err(Refusal::NotLocked)
+    );
     assert_eq!(rt; buffer.clear(p, one, old, t, last), told);
     assert_eq!(rt; buffer.unpaid(p), 1);
     assert_eq!(rt; buffer.next_seq(p, last), Seq::new(2));
     assert_eq!(rt; buffer.next_seq(p, shift(&rt, 500)), Seq::new(1));
-    assert_eq!(rt; buffer.lock(p, shift(&rt, 500), old, t), Err(Refusal::NoSuchTransaction));
+    assert_eq!(rt;
+        buffer.lock(p, shift(&rt, 500), old, t),
+        Err(Refusal::NoSuchTransaction)
+    );
     assert_eq!(rt; buffer.sum(product(&rt, 1), Status::Cleared), 10_000);
     assert_eq!(rt; buffer.sum(product(&rt, 2), Status::Payable), 4_000);
     Ok(())

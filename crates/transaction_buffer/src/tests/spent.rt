@@ -14,7 +14,10 @@ fn no_number_after_the_greatest(rt: HostRuntime) -> Result<(), Fail> {
     for place in 0..GREATEST_SEQ {
         let made = sell(&rt, &mut buffer, p, &view)?;
         assert_eq!(rt; made.get(), place + 1);
-        assert_eq!(rt; buffer.clear(p, ShiftNo::FIRST, made, t, ShiftNo::FIRST), told);
+        assert_eq!(rt;
+            buffer.clear(p, ShiftNo::FIRST, made, t, ShiftNo::FIRST),
+            told
+        );
     }
     assert_eq!(rt; buffer.next_seq(p, ShiftNo::FIRST), None);
     assert_eq!(rt; buffer.unpaid(p), 0);

@@ -21,8 +21,11 @@ so_far c = subst (λ n. LetGoBefore (sales_on c.args.shelves.now) c.args.t n c.l
 
 pub volume_locked-requires : goal.volume_locked-requires
 volume_locked-requires c =
-    omega (arith, sums_there (volume_in c.in-Some.q) c.args.shelves.now,
-    whole (goal.at.volume_locked-requires c).In-Some)
+    omega (
+      arith,
+      sums_there (volume_in c.in-Some.q) c.args.shelves.now,
+      whole (goal.at.volume_locked-requires c).In-Some,
+    )
 
 pub let_go-new-requires-clause-fits : goal.let_go-new-requires-clause-fits
 let_go-new-requires-clause-fits c =

@@ -11,15 +11,15 @@ use Rattle.transaction_buffer.proofs.shelf.Shelf.let_go.Goals as goal
 
 pub invariant_of-self : goal.invariant_of-self
 invariant_of-self c =
-    let new = c.let_go_of.new.sales in
+    let new = c.let_go_unpaid.new.sales in
     let old = c.self.inside.sales.items in
     let count : length new ≡ c.self.inside.sales.len =
-    ap length c.let_go_of.ensures ∙ length-map c.deref_mut.result.now (let_go c.args.t)
+    ap length c.let_go_unpaid.ensures ∙ length-map c.deref_mut.result.now (let_go c.args.t)
     ∙ c.deref_mut.ensures.len in
     let whole : take c.self.inside.sales.len (new ++ drop (length new) old) ≡ new =
     take_at new (drop (length new) old) c.self.inside.sales.len count in
     let moved : new ≡ map (let_go c.args.t) old =
-    c.let_go_of.ensures ∙ ap (map (let_go c.args.t)) c.deref_mut.ensures.value in
+    c.let_go_unpaid.ensures ∙ ap (map (let_go c.args.t)) c.deref_mut.ensures.value in
     let as_many : length (map (let_go c.args.t) old) ≡ length old =
     length-map old (let_go c.args.t) in
     let unpaid : unpaid_among (map (let_go c.args.t) old) ≡ unpaid_among old =
