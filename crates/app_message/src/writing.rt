@@ -16,8 +16,8 @@ pub fn encode(alloc: Global, message: &Message) -> Result<Vec<u8>, NoMemory>
     Ok(out)
 }
 
-/// Puts the one spelling of the message in place of what the buffer holds. After `NoMemory` the
-/// buffer is empty; it comes only where the buffer has no room for the spelling.
+/// Puts the one spelling of the message in place of what the buffer holds. `NoMemory` comes where
+/// the allocator refuses room for it; the buffer is empty then.
 pub fn encode_into(message: &Message, out: &mut Vec<u8>) -> Result<(), NoMemory>
     ensures ok { OnOk result (out.new.items ≡ spelling message.now) }
     ensures most { length out.new.items ≤ 1032 }

@@ -20,7 +20,7 @@ use site_base::{
 };
 use std::alloc::Global;
 
-/// The most octets that the items of a reply take, so that a reply takes one growth.
+/// No reply's items take more octets, so that a reply takes one growth.
 const ROOM: usize = 96;
 
 /// The message that tells the reply to this request: it goes from the site to the request's

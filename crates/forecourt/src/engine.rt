@@ -21,7 +21,7 @@ use std::marker::Model;
 use std::mem;
 
 /// A replay between two octets of its input. Beside what its text depends on it has buffers that
-/// stay, so that a line takes no growth of its own: for a line without its spaces, for its octets,
+/// stay, so that a line no longer than those before it takes no growth of its own: for a line without its spaces, for its octets,
 /// for its messages, and for the octets of a reply.
 #[derive(Drop)]
 pub struct Engine {
@@ -151,10 +151,10 @@ impl Engine {
         ensures state { OnOk result (self.new ≡ next_line self.old (line_told self.old)) }
         ensures text { OnOk result (out.new.items ≡ out.old.items ++ (line_told self.old).text) }
     {
-        let mut line = mem::replace(&mut self.line, Vec::new(self.alloc));
-        self.tell(&line, out)?;
-        line.clear();
-        self.line = line;
+        let mut held = mem::replace(&mut self.line, Vec::new(self.alloc));
+        self.tell(&held, out)?;
+        held.clear();
+        self.line = held;
         Ok(())
     }
 

@@ -1,5 +1,5 @@
 //! The site's sizes and limits, each written once. Types, arrays, invariants and definitions take
-//! them from here, for they will change.
+//! them from here, so that another site changes them in one place.
 
 /// Fuelling points of a site, numbered from 1.
 pub const POINTS: u8 = 64;
