@@ -39,12 +39,12 @@ let_go_both t xs ys zs a b are first second =
     same_lists zs (map (let_go t) xs)
     (second.long ∙ first.long ∙ sym (length-map xs (let_go t)))
     (λ i d within.
-        let in_ys : i < length ys = omega (arith, second.long) in
-        let in_xs : i < length xs = omega (arith, first.long) in
-        second.each i d in_ys
-        ∙ by_tests i d (is_at a i) refl (is_at b i) refl (first.each i d in_xs)
-        (are.each i d in_xs)
-        ∙ sym (get_or-map (let_go t) xs i d d in_xs))
+    let in_ys : i < length ys = omega (arith, second.long) in
+    let in_xs : i < length xs = omega (arith, first.long) in
+    second.each i d in_ys
+    ∙ by_tests i d (is_at a i) refl (is_at b i) refl (first.each i d in_xs)
+    (are.each i d in_xs)
+    ∙ sym (get_or-map (let_go t) xs i d d in_xs))
   where
     by_tests : (i : ℕ) (d : Sale) (m : Bool) → is_at a i ≡ m → (n : Bool) → is_at b i ≡ n
         → get_or ys i d ≡ (if is_at a i then let_go t (get_or xs i d) else get_or xs i d)

@@ -16,8 +16,13 @@ both c =
     ∙ ap (λ ys. figure_at f c.self.inside.unpaid.one ys) same in
     let other = c.locked_at-other.ensures
     ∙ ap (λ ys. figure_at f c.self.inside.unpaid.other ys) same in
-    omega (arith, one, other, locked_at_places c.args.q c.args.t xs c.self.inside.unpaid.one
-    c.self.inside.unpaid.other c.self.invariant.places)
+    omega (
+      arith,
+      one,
+      other,
+      locked_at_places c.args.q c.args.t xs c.self.inside.unpaid.one
+          c.self.inside.unpaid.other c.self.invariant.places,
+    )
 
 pub overflow_add-result : goal.overflow_add-result
 overflow_add-result c =
