@@ -89,8 +89,8 @@ impl Buffer {
         shelf.next_seq(shift)
     }
 
-    /// Adds a sale of point p in a shift and answers its number there. The view is payable without a
-    /// till, or locked with one. Room for it is reserved, fewer than `UNPAID_LIMIT` transactions of
+    /// Adds a sale of point p in a shift and answers its number there. The view is payable without
+    /// a till, or locked with one. Room for it is reserved, fewer than `UNPAID_LIMIT` transactions of
     /// the point are unpaid, the shift has a next number, no sale of the point is of a later shift,
     /// and the volumes of all sales of the product fit in 64 bits with this one. No other
     /// transaction changes. It takes no memory.
@@ -132,9 +132,9 @@ impl Buffer {
         self.ask(p, shift, s, t, &Request::Unlock)
     }
 
-    /// The till clears a transaction that it has locked, in the open shift, the last argument: Cleared, with
-    /// the transaction's cents. Nothing changes it any more. Refused, and nothing changes, as
-    /// `unlock` is.
+    /// The till clears a transaction that it has locked, in the open shift, which comes last:
+    /// Cleared, with the transaction's cents. Nothing changes it any more. Refused, and nothing
+    /// changes, as `unlock` is.
     pub fn clear(
         &mut self,
         p: FpNo,
