@@ -81,7 +81,6 @@ goes_on front low s e t total some h so_far =
 pub ends : (e : Stop) (front : List Entry) (low : ℕ) (s : List ℕ) (total : Result (List Entry) Halt)
     → 0 < length s → Fails e (item_at low s)
     → with_front front (items_at (length s) low s) ≡ total → Fails e total
-ends stops.NoMemory front low s total some h so_far = tt
 ends stops.Short front low s total some h so_far =
     let one : with_front front (items_at (length s) low s) ≡ Err short =
     rw (items_step low s some, h) refl in

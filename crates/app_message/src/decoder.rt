@@ -153,13 +153,12 @@ fn walk(alloc: Global, octets: &[u8], list: Messages) -> Result<(Fed, &[u8]), No
     let mut messages = list;
     let mut rest = octets;
     loop {
-        match reading::front(alloc, rest) {
+        match reading::front(rest) {
             Ok((message, after)) => {
-                messages.push(message)?;
+                messages.push(alloc, message)?;
                 rest = after;
             }
             Err(stop) => match stop {
-                Stop::NoMemory => return Err(NoMemory),
                 Stop::Short => {
                     let fault = None;
                     return Ok((Fed { messages, fault }, rest));

@@ -14,6 +14,7 @@ use crate::kind::Kind;
 use crate::message::Message;
 use crate::parts;
 use crate::token::Token;
+use site_base::NoMemory;
 use std::alloc::{AllocError, Global};
 use std::marker::Model;
 
@@ -64,6 +65,38 @@ impl Draft {
         let mut body = Vec::with_capacity(alloc, room.saturating_add(address.len() + 1))?;
         body.push(address.len() as u8)?;
         body.extend_from_slice(address)?;
+        Ok(Draft {
+            to,
+            from,
+            kind,
+            token,
+            body,
+        })
+    }
+
+    /// A message without items that goes back to the originator of another one: its recipient is that
+    /// originator, and its token and database address are that message's. It is written into the
+    /// buffer, whose content goes, with room for so many octets of items, so that a buffer that served
+    /// before is meant to take no memory. `NoMemory` comes where the allocator refuses the room; the
+    /// buffer is lost then.
+    #[inline(always)]
+    pub fn back(
+        request: &Message,
+        from: [u8; 2],
+        kind: Kind,
+        buffer: Vec<u8>,
+        room: usize,
+    ) -> Result<Draft, NoMemory>
+        ensures made { IfOk result (λ d. d ≡ telegram request.now.from from kind request.now.token request.now.address []) }
+        ensures least { OnOk result (1 ≤ length request.now.address) }
+        ensures most { OnOk result (length request.now.address ≤ 8) }
+    {
+        let (to, token) = (request.from(), request.token());
+        parts::typed(&to, &from, token);
+        let mut body = buffer;
+        body.clear();
+        body.reserve(room.saturating_add(9))?;
+        body.extend_from_slice(request.spelled_address())?;
         Ok(Draft {
             to,
             from,
@@ -140,7 +173,6 @@ fn put_item(out: &mut Vec<u8>, id: u8, content: &[u8]) -> Result<(), AllocError>
     ensures err { OnErr result (out.new.items ≡ out.old.items) }
 {
     out.reserve(content.len() + 2)?;
-    out.push(id)?;
-    out.push(content.len() as u8)?;
+    out.extend_from_slice(&[id, content.len() as u8])?;
     out.extend_from_slice(content)
 }

@@ -19,6 +19,7 @@ mod message;
 mod messages;
 mod parts;
 mod reading;
+mod spelled_message;
 mod token;
 mod writing;
 

@@ -1,6 +1,6 @@
 //! A message, valid by its type.
 
-ghost use Rattle.std.specs.Prelude.{◌≡◌, ◌≢◌, ◌≤◌, true, IfOk, OnOk, IfErr, length, List, Some};
+ghost use Rattle.std.specs.Prelude.{◌≡◌, ◌≢◌, ◌≤◌, ◌∷◌, true, IfOk, OnOk, IfErr, length, List, Some};
 ghost use Rattle.app_message.specs.Telegram.{telegram, entries};
 ghost use Rattle.app_message.specs.Spelling.{IsMessage, body};
 ghost use Rattle.app_message.specs.Bodies.{of_body, with_items, IsBody};
@@ -133,6 +133,20 @@ impl Message {
         ensures valid { IsMessage self.now }
     {
         Items::new(parts::split(&self.body).1)
+    }
+
+    /// The address as it is spelled: its length, and its octets.
+    pub(crate) fn spelled_address(&self) -> &[u8]
+        ensures text { result.now ≡ length self.now.address ∷ self.now.address }
+        ensures valid { IsMessage self.now }
+    {
+        &self.body[..usize::from(self.body[0]) + 1]
+    }
+
+    /// The room that the message has, for another one. Its octets mean nothing any more. It takes no
+    /// memory.
+    pub fn into_buffer(self) -> Vec<u8> {
+        self.body
     }
 
     /// The address and the items as they are spelled, behind the length.

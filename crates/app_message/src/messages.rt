@@ -3,14 +3,18 @@
 ghost use Rattle.std.specs.Prelude.{◌≡◌, ◌==◌, [], ◌∷◌, ◌++◌, length, OnOk};
 
 use crate::message::Message;
+use crate::spelled_message::SpelledMessage;
 use site_base::NoMemory;
 use std::alloc::Global;
 use std::marker::Model;
+use std::mem;
 
-/// Messages in their order. A contract sees them as a list.
+/// Messages in their order. A contract sees them as a list. Beside them it keeps messages that were
+/// cleared, since their room serves again.
 #[derive(Debug, Drop)]
 pub struct Messages {
     items: Vec<Message>,
+    cleared: Vec<Message>,
 }
 
 impl Model for Messages {
@@ -29,14 +33,16 @@ impl Messages {
     {
         Messages {
             items: Vec::new(alloc),
+            cleared: Vec::new(alloc),
         }
     }
 
     /// These messages. It takes no memory.
-    pub fn from_vec(items: Vec<Message>) -> Messages
+    pub fn from_vec(alloc: Global, items: Vec<Message>) -> Messages
         ensures { result ≡ items.items }
     {
-        Messages { items }
+        let cleared = Vec::new(alloc);
+        Messages { items, cleared }
     }
 
     /// The messages as a `Vec`. It takes no memory.
@@ -46,18 +52,23 @@ impl Messages {
         self.items
     }
 
-    /// Drops the messages; their room stays.
+    /// Clears the list. The room of its messages serves those that come next.
     pub fn clear(&mut self)
         ensures { self.new ≡ [] }
     {
+        mem::swap(&mut self.items, &mut self.cleared);
         self.items.clear();
     }
 
-    /// Adds a message behind the others.
-    pub(crate) fn push(&mut self, message: Message) -> Result<(), NoMemory>
-        ensures { OnOk result (self.new ≡ self.old ++ message ∷ []) }
+    /// Copies a message behind the others, into the room of one that was cleared where there is one.
+    pub(crate) fn push(&mut self, alloc: Global, spelled: SpelledMessage<'_>) -> Result<(), NoMemory>
+        ensures { OnOk result (self.new ≡ self.old ++ spelled.entry ∷ []) }
     {
-        self.items.push(message)?;
+        let room = match self.cleared.pop() {
+            Some(message) => message.into_buffer(),
+            None => Vec::new(alloc),
+        };
+        self.items.push(spelled.copied(room)?)?;
         Ok(())
     }
 

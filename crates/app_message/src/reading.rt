@@ -7,41 +7,21 @@ ghost use Rattle.app_message.specs.Grammar.{kind_at, length_at, header_at, item_
 ghost use Rattle.app_message.specs.Grammar.{address_at, body_at, front_at};
 ghost use Rattle.app_message.specs.Bodies.{listed};
 ghost use Rattle.app_message.specs.Reading.{Gives, header};
-ghost use Rattle.app_message.specs.declared.reading.Stop.TheVariants.{NoMemory as no_memory};
 
 use crate::fault::GrammarFault;
 use crate::item::Item;
 use crate::kind::Kind;
-use crate::message::Message;
 use crate::parts;
+use crate::spelled_message::SpelledMessage;
 use crate::token::Token;
-use std::alloc::{AllocError, AllocFailed, Global};
 
 /// Why no message was read.
 #[derive(Clone, Copy, Debug, PartialEq, Eq)]
 pub enum Stop {
-    /// The allocator refused a growth.
-    NoMemory,
     /// The octets end before the message does.
     Short,
     /// The octets begin with a fault.
     Fault(GrammarFault),
-}
-
-impl From<AllocError> for Stop {
-    ghost from_gives = { λ _ e. e ≡ no_memory };
-
-    fn from(_e: AllocError) -> Stop {
-        Stop::NoMemory
-    }
-}
-
-impl<T: Drop> From<AllocFailed<T>> for Stop {
-    ghost from_gives = { λ _ e. e ≡ no_memory };
-
-    fn from(_e: AllocFailed<T>) -> Stop {
-        Stop::NoMemory
-    }
 }
 
 /// The first eight octets of a message.
@@ -160,7 +140,7 @@ fn check_address(octets: &[u8]) -> Result<(), Stop>
 }
 
 #[tactic(auto, unfolding(crate::specs::Grammar::body_at))]
-fn body_of(alloc: Global, head: Head, octets: &[u8]) -> Result<Message, Stop>
+fn body_of(head: Head, octets: &[u8]) -> Result<SpelledMessage<'_>, Stop>
     requires head { IsHead head.to head.from head.token }
     requires least { 2 ≤ length octets.now }
     requires most { length octets.now ≤ 1024 }
@@ -169,13 +149,12 @@ fn body_of(alloc: Global, head: Head, octets: &[u8]) -> Result<Message, Stop>
     check_address(octets)?;
     let (_address, items) = parts::split(octets);
     check_items(items)?;
-    let body = Vec::from_slice(alloc, octets)?;
-    Ok(Message::of_body(head.to, head.from, head.kind, head.token, body))
+    Ok(SpelledMessage::new(head, octets))
 }
 
-/// The message at the front, and the octets after it.
+/// The message at the front, where it lies, and the octets after it.
 #[tactic(auto, unfolding(crate::specs::Grammar::front_at))]
-pub fn front(alloc: Global, octets: &[u8]) -> Result<(Message, &[u8]), Stop>
+pub fn front(octets: &[u8]) -> Result<(SpelledMessage<'_>, &[u8]), Stop>
     ensures exact { Gives (λ x. (x.0, x.1.now)) result (front_at octets.now) }
     ensures shorter { IfOk result (λ x. length x.1.now < length octets.now) }
 {
@@ -186,6 +165,5 @@ pub fn front(alloc: Global, octets: &[u8]) -> Result<(Message, &[u8]), Stop>
         return Err(Stop::Short);
     }
     let (body, rest) = after.split_at(size);
-    let message = body_of(alloc, head, body)?;
-    Ok((message, rest))
+    Ok((body_of(head, body)?, rest))
 }

@@ -1,0 +1,49 @@
+//! A message where it lies.
+
+ghost use Rattle.std.specs.Prelude.{◌≡◌, IfOk};
+ghost use Rattle.app_message.specs.Bodies.{of_body, IsBody};
+
+use crate::message::Message;
+use crate::reading::Head;
+use site_base::NoMemory;
+use std::marker::Model;
+
+/// A message that was read and not copied yet: its head, and its body in the octets that it was read
+/// from.
+#[derive(Drop)]
+pub struct SpelledMessage<'a> {
+    head: Head,
+    body: &'a [u8],
+}
+
+impl<'a> Model for SpelledMessage<'a> {
+    ghost use Rattle.app_message.specs.Telegram.{Telegram};
+    ghost use Rattle.app_message.specs.Bodies.{of_body, IsBody};
+
+    ghost Value = { Telegram };
+
+    ghost view = { λ m. of_body m.head.to m.head.from m.head.kind m.head.token m.body.now };
+
+    ghost invariant = { λ m. IsBody (of_body m.head.to m.head.from m.head.kind m.head.token m.body.now) m.body.now };
+}
+
+impl<'a> SpelledMessage<'a> {
+    /// The message of this head and this body.
+    pub fn new(head: Head, body: &'a [u8]) -> SpelledMessage<'a>
+        requires { IsBody (of_body head.to head.from head.kind head.token body.now) body.now }
+        ensures { result ≡ of_body head.to head.from head.kind head.token body.now }
+    {
+        SpelledMessage { head, body }
+    }
+
+    /// The message, copied into this buffer, whose content goes. The buffer is lost after `NoMemory`.
+    pub fn copied(self, buffer: Vec<u8>) -> Result<Message, NoMemory>
+        ensures { IfOk result (λ m. m ≡ self.entry) }
+    {
+        let SpelledMessage { head, body: octets } = self;
+        let mut body = buffer;
+        body.clear();
+        body.extend_from_slice(octets)?;
+        Ok(Message::of_body(head.to, head.from, head.kind, head.token, body))
+    }
+}
