@@ -2,7 +2,7 @@
 
 ghost use Rattle.std.specs.Prelude.{◌≡◌, ◌≢◌, ◌≤◌, ◌∷◌, true, IfOk, OnOk, IfErr, length, List, Some};
 ghost use Rattle.app_message.specs.Telegram.{telegram, entries};
-ghost use Rattle.app_message.specs.Spelling.{IsMessage, body};
+ghost use Rattle.app_message.specs.Spelling.{IsMessage, body, head_text};
 ghost use Rattle.app_message.specs.Bodies.{of_body, with_items, IsBody};
 ghost use Rattle.app_message.specs.Parts.{parts_fault, do_rise};
 
@@ -149,8 +149,19 @@ impl Message {
         self.body
     }
 
-    /// The address and the items as they are spelled, behind the length.
-    pub(crate) fn body(&self) -> &[u8]
+    /// The first eight octets of its spelling: recipient, originator, code 00, kind and token, the
+    /// number of octets of the body.
+    pub fn head(&self) -> [u8; 8]
+        ensures { result ≡ head_text self.now (length (body self.now)) }
+    {
+        let status = self.kind.code() * 32 + self.token.get();
+        let [high, low] = (self.body.len() as u16).to_be_bytes();
+        let (to, from) = (self.to, self.from);
+        [to[0], to[1], from[0], from[1], 0, status, high, low]
+    }
+
+    /// The rest of its spelling, the body: the address behind the number of its octets, and the items.
+    pub fn body(&self) -> &[u8]
         ensures text { result.now ≡ body self.now }
         ensures most { length result.now ≤ 1024 }
     {

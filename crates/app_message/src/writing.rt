@@ -1,7 +1,7 @@
 //! Messages to octets.
 
 ghost use Rattle.std.specs.Prelude.{◌≡◌, ◌≤◌, [], length, IfOk, OnOk, OnErr};
-ghost use Rattle.app_message.specs.Spelling.{spelling, head_text};
+ghost use Rattle.app_message.specs.Spelling.{spelling};
 
 use crate::message::Message;
 use site_base::NoMemory;
@@ -26,19 +26,7 @@ pub fn encode_into(message: &Message, out: &mut Vec<u8>) -> Result<(), NoMemory>
     let body = message.body();
     out.clear();
     out.reserve(body.len() + 8)?;
-    out.extend_from_slice(&head_of(message, body.len() as u16))?;
+    out.extend_from_slice(&message.head())?;
     out.extend_from_slice(body)?;
     Ok(())
-}
-
-/// The eight octets before a body of this length: recipient, originator, code 00, kind and token,
-/// length.
-fn head_of(message: &Message, length: u16) -> [u8; 8]
-    requires { length ≤ 1024 }
-    ensures { result ≡ head_text message.now length }
-{
-    let (to, from) = (message.to(), message.from());
-    let status = message.kind().code() * 32 + message.token().get();
-    let [high, low] = length.to_be_bytes();
-    [to[0], to[1], from[0], from[1], 0, status, high, low]
 }

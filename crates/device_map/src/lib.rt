@@ -19,5 +19,5 @@ mod request;
 
 pub use fault::MapFault;
 pub use laws::one_request;
-pub use reply::{refusal_of, reply_of, stream_refusal};
+pub use reply::{refusal_in, refusal_of, reply_in, reply_of, stream_refusal};
 pub use request::request_of;

@@ -29,7 +29,14 @@ const ROOM: usize = 96;
 pub fn reply_of(alloc: Global, request: &Message, reply: &Reply) -> Result<Message, NoMemory>
     ensures { IfOk result (λ message. message ≡ reply_message request.now reply.now) }
 {
-    let mut draft = back(alloc, request, kind_of(reply))?;
+    reply_in(Vec::new(alloc), request, reply)
+}
+
+/// The same message, written into a buffer, whose content goes. The buffer is lost after `NoMemory`.
+pub fn reply_in(buffer: Vec<u8>, request: &Message, reply: &Reply) -> Result<Message, NoMemory>
+    ensures { IfOk result (λ message. message ≡ reply_message request.now reply.now) }
+{
+    let mut draft = back(buffer, request, kind_of(reply))?;
     put_reply(&mut draft, reply)?;
     Ok(finished(draft))
 }
@@ -39,7 +46,14 @@ pub fn reply_of(alloc: Global, request: &Message, reply: &Reply) -> Result<Messa
 pub fn refusal_of(alloc: Global, request: &Message, number: u8) -> Result<Message, NoMemory>
     ensures { IfOk result (λ message. message ≡ number_message request.now number) }
 {
-    let mut draft = back(alloc, request, Kind::Ack)?;
+    refusal_in(Vec::new(alloc), request, number)
+}
+
+/// The same message, written into a buffer, whose content goes. The buffer is lost after `NoMemory`.
+pub fn refusal_in(buffer: Vec<u8>, request: &Message, number: u8) -> Result<Message, NoMemory>
+    ensures { IfOk result (λ message. message ≡ number_message request.now number) }
+{
+    let mut draft = back(buffer, request, Kind::Ack)?;
     put_octet(&mut draft, ids::RESULT, number)?;
     Ok(finished(draft))
 }
@@ -57,18 +71,13 @@ pub fn stream_refusal(alloc: Global, fault: &StreamFault) -> Result<Message, NoM
 
 /// A message without items yet, from the site to the originator of the request, with its token and
 /// address.
-fn back(alloc: Global, request: &Message, kind: Kind) -> Result<Draft, NoMemory>
+#[inline(always)]
+fn back(buffer: Vec<u8>, request: &Message, kind: Kind) -> Result<Draft, NoMemory>
     ensures value { IfOk result (λ draft. draft ≡ back request.now kind []) }
     ensures least { OnOk result (1 ≤ length request.now.address) }
     ensures most { OnOk result (length request.now.address ≤ 8) }
 {
-    begun(
-        alloc,
-        request.from(),
-        kind,
-        request.token(),
-        request.address(),
-    )
+    Draft::back(request, node::site(), kind, buffer, ROOM)
 }
 
 /// A message from the site, without items yet.

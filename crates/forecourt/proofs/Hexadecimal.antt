@@ -1,12 +1,12 @@
--- A text that is hexadecimal as it stands has no spaces, and isn't a comment.
-use Rattle.std.proofs.Common.{◌≡◌, ◌<◌, ℕ, List, [], ◌∷◌, length, true, false, not, eqb, filter, refl}
+-- A text that is hexadecimal as it stands has no spaces, and isn't a comment; octets in two parts.
+use Rattle.std.proofs.Common.{◌≡◌, ◌<◌, ℕ, List, [], ◌∷◌, ◌++◌, length, true, false, not, eqb, filter, refl}
 use Rattle.std.proofs.Common.{subst, sym, ap, ◌∙◌, Bool, Result, Ok, Err, inl, inr, arith}
-use Rattle.std.specs.Prelude.{MatchResult}
+use Rattle.std.specs.Prelude.{◌/◌, ◌%◌, MatchResult, slice_index}
 use Rattle.std.specs.List.{AllByRecursion}
 use Rattle.std.proofs.lemmas.Bool.{cases_eq, ne_eqb}
 use Rattle.std.proofs.lemmas.List.Elements.{recursion_from_All}
 use Rattle.hex.specs.declared.error.FromHexError.{FromHexError}
-use Rattle.hex.specs.Hex.{is_hex_digit, decode_of}
+use Rattle.hex.specs.Hex.{is_hex_digit, decode_of, encode_with}
 use Rattle.hex.proofs.HexLemmas.{decode_of-ok}
 use Rattle.app_message.specs.Stream.{Held, fed_by}
 use Rattle.forecourt.specs.Book.{Book}
@@ -60,3 +60,12 @@ pub hexadecimal_read : (number : ℕ) (stream : Held) (book : Book) (text octets
     → judged number stream book (without_spaces text) ≡ answered book (fed_by stream octets)
 hexadecimal_read number stream book text octets is some m true_is =
     read_so number stream book text octets is (decode_of text) some refl m true_is
+
+-- what is spelled in two parts is spelled whole
+pub spelled_in_parts : (digits xs ys : List ℕ)
+    → encode_with digits (xs ++ ys) ≡ encode_with digits xs ++ encode_with digits ys
+unfolding encode_with
+spelled_in_parts digits [] ys = refl
+spelled_in_parts digits (x ∷ xs) ys =
+    ap (λ (l : List ℕ). slice_index digits (x / 16) ∷ slice_index digits (x % 16) ∷ l)
+    (spelled_in_parts digits xs ys)

@@ -22,7 +22,7 @@ use std::mem;
 
 /// A replay between two octets of its input. Beside what its text depends on it has buffers that
 /// stay, so that a line no longer than those before it takes no growth of its own: for a line without its spaces, for its octets,
-/// for its messages, and for the octets of a reply.
+/// for its messages, and for a reply.
 #[derive(Drop)]
 pub struct Engine {
     alloc: Global,
@@ -245,6 +245,6 @@ impl Engine {
         ensures text { OnOk result (out.new.items ≡ out.old.items ++ line_of (fault_message fault.now)) }
     {
         let refusal = stream_refusal(self.alloc, fault)?;
-        put_line(&mut self.reply, out, &refusal)
+        put_line(out, &refusal)
     }
 }

@@ -1,5 +1,5 @@
 use Rattle.device_map.proofs.Short.{number_short}
-use Rattle.device_map.proofs.reply.refusal_of.Goals as goal
+use Rattle.device_map.proofs.reply.refusal_in.Goals as goal
 
 pub finished-requires-clause-short : goal.finished-requires-clause-short
 finished-requires-clause-short c =
