@@ -61,7 +61,11 @@ impl Messages {
     }
 
     /// Copies a message behind the others, into the room of one that was cleared where there is one.
-    pub(crate) fn push(&mut self, alloc: Global, spelled: SpelledMessage<'_>) -> Result<(), NoMemory>
+    pub(crate) fn push(
+        &mut self,
+        alloc: Global,
+        spelled: SpelledMessage<'_>,
+    ) -> Result<(), NoMemory>
         ensures { OnOk result (self.new ≡ self.old ++ spelled.entry ∷ []) }
     {
         let room = match self.cleared.pop() {

@@ -1,14 +1,12 @@
 -- The items of a reply rise and are short, so that with any address they fit a message.
 use Rattle.std.proofs.Common.{◌≡◌, ◌≤◌, ℕ, length, arith, List, ◌++◌, Option, Some, None, Result}
 use Rattle.std.proofs.Common.{Bool, true, false, Ok, Err, refl, lit≤}
-use Rattle.std.specs.Prelude.{unwrap_or}
 use Rattle.site_base.specs.declared.answer.Answer.{Answer}
 use Rattle.site_base.specs.declared.answer.Answer.TheVariants as answers
 use Rattle.site_base.specs.declared.refusal.Refusal.{Refusal}
 use Rattle.site_base.specs.declared.state.Preset.{Preset}
 use Rattle.site_base.specs.declared.state.Preset.TheVariants.{Unset, Volume, Money}
 use Rattle.site_base.specs.declared.view.PointView.{PointView}
-use Rattle.site_base.specs.States.{state_number}
 use Rattle.site_base.specs.Refusals.{refusal_number, refusal_detail}
 use Rattle.std.specs.List.{flat_map}
 use Rattle.std.proofs.lemmas.Bool.{le-ltb}

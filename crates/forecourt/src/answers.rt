@@ -13,11 +13,7 @@ use std::mem;
 
 /// The message that answers a message, written into a buffer, whose content goes, and its row where
 /// it means an event. The buffer is lost after `NoMemory`.
-pub fn answer(
-    buffer: Vec<u8>,
-    book: &mut SiteBook,
-    message: &Message,
-) -> Result<Message, NoMemory>
+pub fn answer(buffer: Vec<u8>, book: &mut SiteBook, message: &Message) -> Result<Message, NoMemory>
     ensures answer { IfOk result (λ answer. answer ≡ answer_to book.old message.now) }
     ensures book { OnOk result (book.new ≡ book_after book.old message.now) }
 {

@@ -1,4 +1,4 @@
-use Rattle.std.proofs.Common.{◌≡◌, ◌++◌, ◌∷◌, [], ◌∙◌, List, ℕ, ap, append_assoc, sym}
+use Rattle.std.proofs.Common.{◌++◌, ◌∷◌, [], ◌∙◌, List, ℕ, ap, append_assoc, sym}
 use Rattle.hex.specs.Hex.{encode_lower, lower_digits}
 use Rattle.forecourt.proofs.Hexadecimal.{spelled_in_parts}
 use Rattle.forecourt.proofs.answers.put_line.Goals as goal

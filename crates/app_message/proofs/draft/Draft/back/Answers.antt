@@ -1,4 +1,4 @@
-use Rattle.std.proofs.Common.{◌≡◌, ◌∷◌, ◌∙◌, length, refl}
+use Rattle.std.proofs.Common.{◌≡◌, ◌∷◌, length, refl}
 use Rattle.app_message.proofs.Bodies.{begun}
 use Rattle.app_message.proofs.draft.Draft.back.Goals as goal
 
