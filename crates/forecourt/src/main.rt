@@ -2,21 +2,8 @@
 //! standard input on the site that it knows by itself, and writes a line for each answer.
 #![tactic(auto)]
 
-ghost use Rattle.std.specs.Prelude.{◌≡◌};
-ghost use Rattle.forecourt.specs.Ends.{exit_status};
-
-mod answers;
-mod book;
-mod engine;
-mod fault;
-mod laws;
-mod line;
-mod replay;
-mod sites;
-
-use crate::fault::ReplayFault;
-use crate::replay::replay;
-use crate::sites::known_site;
+use forecourt_engines::replay::replay;
+use forecourt_engines::{ReplayFault, known_site};
 use site_base::{Counted, NoMemory};
 use std::env;
 use std::io::{self, ErrorKind};
@@ -40,7 +27,7 @@ fn main(rt: HostRuntime) -> ExitCode {
 fn ended(rt: &impl Eprint, fault: Option<ReplayFault>) -> ExitCode {
     match fault {
         None => ExitCode::SUCCESS,
-        Some(fault) => told(eprintln!(rt; "{fault}"), status_of(fault)),
+        Some(fault) => told(eprintln!(rt; "{fault}"), fault.exit_status()),
     }
 }
 
@@ -66,16 +53,6 @@ fn replayed(rt: &HostRuntime) -> Option<ReplayFault> {
             replay(alloc, &config, &mut reader, &mut writer, TURNS).fault
         }
         Err(_) => Some(ReplayFault::NoMemory),
-    }
-}
-
-/// The exit status of this fault: 4 for want of memory, else 1.
-fn status_of(fault: ReplayFault) -> u8
-    ensures { result ≡ exit_status fault }
-{
-    match fault {
-        ReplayFault::NoMemory => 4,
-        _ => 1,
     }
 }
 

@@ -1,8 +1,0 @@
-use Rattle.forecourt.specs.Book.{IsBook}
-use Rattle.forecourt.proofs.Books.{IsBook-push}
-use Rattle.forecourt.proofs.book.SiteBook.apply.Goals as goal
-
-pub invariant_of-self-2 : goal.invariant_of-self-2
-invariant_of-self-2 c =
-    let book : IsBook c.self.inside.config c.reserve.new.self.rows c.prepare.new.self.site = rw (c.in_ok-reserve.ensures.rows, c.in_ok-prepare.ensures.site) c.self.invariant in
-    rw c.push.ensures.rows (IsBook-push _ _ _ _ _ _ _ book c.step.ensures.step)

@@ -1,5 +1,0 @@
-use Rattle.forecourt.proofs.Lines as lines
-use Rattle.forecourt.proofs.laws.a_line_says.Goals as goal
-
-pub returns : goal.returns
-returns c = lines.line_says

@@ -1,0 +1,5 @@
+use Rattle.forecourt_engines.proofs.Lines as lines
+use Rattle.forecourt_engines.proofs.laws.a_long_line_says.Goals as goal
+
+pub returns : goal.returns
+returns c = lines.long_line_says

@@ -1,0 +1,160 @@
+-- The text of a replay, octet by octet: what is written for an input, and why it ends.
+use Rattle.std.specs.Prelude.{ℕ, ◌+◌, ◌-◌, ◌^◌, Bool, true, not, min, filter, List, [], ◌∷◌, ◌++◌, length, ◌==◌, nat_le, Option, Some, None, Result, Ok, Err, if◌then◌else◌}
+use Rattle.std.specs.Io.BufRead.{strip_last}
+use Rattle.hex.specs.Hex.{decode_of}
+use Rattle.hex.specs.declared.error.FromHexError.{FromHexError}
+use Rattle.app_message.specs.declared.fault.StreamFault.{StreamFault}
+use Rattle.app_message.specs.Stream.{Stream, Held, held, held_after, fed_by}
+use Rattle.device_map.specs.Replies.{fault_message}
+use Rattle.forecourt_engines.specs.declared.fault.TextFault.{TextFault}
+use Rattle.forecourt_engines.specs.declared.fault.TextFault.TheVariants as faults
+use Rattle.forecourt_engines.specs.declared.line.TheConstants.{LINE_OCTETS}
+use Rattle.forecourt_engines.specs.Book.{Book}
+use Rattle.forecourt_engines.specs.Answers.{answers_to, book_after_all, line_of}
+
+-- between two octets of the input: the line so far and its number, the octets of a message to come, the
+-- book, and why the text has ended, if it has
+pub record State : Type 0 where
+  pub line : List ℕ
+  pub number : ℕ
+  pub stream : Held
+  pub book : Book
+  pub stop : Option TextFault
+
+-- before the first octet
+abbrev pub start : Book → State
+start b = record { line = []; number = 1; stream = held_after []; book = b; stop = None }
+
+-- ---- what a line says
+
+abbrev pub without_spaces : List ℕ → List ℕ
+without_spaces text = filter (λ b. not (b == 32)) text
+
+-- a line without its spaces, and without a carriage return that ends it
+abbrev pub kept_of : List ℕ → List ℕ
+kept_of line = without_spaces (strip_last 13 line)
+
+-- an empty line or a comment
+abbrev pub is_skipped : List ℕ → Bool
+is_skipped [] = true
+is_skipped (b ∷ bs) = b == 35
+
+-- what a line leads to, and the text that it adds
+pub record Told : Type 0 where
+  pub stream : Held
+  pub book : Book
+  pub stop : Option TextFault
+  pub text : List ℕ
+
+-- a fault of the stream ends the text, with its refusal as the last line
+abbrev pub stop_of : Option StreamFault → Option TextFault
+stop_of None = None
+stop_of (Some f) = Some (faults.Stream f.fault)
+
+abbrev pub fault_text : Option StreamFault → List ℕ
+fault_text None = []
+fault_text (Some f) = line_of (fault_message f)
+
+-- the messages of octets, each answered by a line
+abbrev pub answered : Book → Stream → Told
+answered b s = record { stream = held s; book = book_after_all b s.messages; stop = stop_of s.fault; text = answers_to b s.messages ++ fault_text s.fault }
+
+-- a line that isn't hexadecimal ends the text; else its octets go to the stream
+abbrev pub decoded : ℕ → Held → Book → Result (List ℕ) FromHexError → Told
+decoded number stream b (Ok octets) = answered b (fed_by stream octets)
+decoded number stream b (Err e) = record { stream = stream; book = b; stop = Some (faults.NotHexadecimal number); text = [] }
+
+abbrev pub judged : ℕ → Held → Book → List ℕ → Told
+judged number stream b kept = if is_skipped kept then record { stream = stream; book = b; stop = None; text = [] } else decoded number stream b (decode_of kept)
+
+-- what the line so far says where it ends here
+abbrev pub line_told : State → Told
+line_told st = judged st.number st.stream st.book (kept_of st.line)
+
+-- ---- what an octet says
+
+-- lines are counted up to the greatest count
+abbrev pub next_number : ℕ → ℕ
+next_number n = min (n + 1) (2 ^ 64 - 1)
+
+-- a line has ended
+abbrev pub next_line : State → Told → State
+next_line st t = record { line = []; number = next_number st.number; stream = t.stream; book = t.book; stop = t.stop }
+
+-- what the text of a line says, in this state
+abbrev pub told_by : State → List ℕ → Told
+told_by st text = judged st.number st.stream st.book (without_spaces text)
+
+-- what a line leads to, while it stands
+abbrev pub talked : State → Told → State
+talked st t = record st { stream = t.stream; book = t.book }
+
+-- a line feed ends the line; another octet goes on with it, if it may be longer
+abbrev pub stepped : Option TextFault → State → ℕ → State
+stepped (Some f) st b = st
+stepped None st b =
+    if b == 10 then next_line st (line_told st)
+    else if nat_le LINE_OCTETS (length st.line) then record st { stop = Some (faults.TooLong st.number) }
+    else record st { line = st.line ++ b ∷ [] }
+
+abbrev pub next : State → ℕ → State
+next st b = stepped st.stop st b
+
+abbrev pub says : Option TextFault → State → ℕ → List ℕ
+says (Some f) st b = []
+says None st b = if b == 10 then (line_told st).text else []
+
+-- the text that an octet adds
+abbrev pub said : State → ℕ → List ℕ
+said st b = says st.stop st b
+
+-- ---- what an input says
+
+-- the state after octets
+abbrev pub after : State → List ℕ → State
+after st [] = st
+after st (b ∷ bs) = after (next st b) bs
+
+-- the text that octets add
+abbrev pub text_from : State → List ℕ → List ℕ
+text_from st [] = []
+text_from st (b ∷ bs) = said st b ++ text_from (next st b) bs
+
+-- the end of the input ends a line that has no line feed
+abbrev pub ends : Option TextFault → State → State
+ends (Some f) st = st
+ends None st = next_line st (line_told st)
+
+abbrev pub ended : State → State
+ended st = ends st.stop st
+
+abbrev pub last_says : Option TextFault → State → List ℕ
+last_says (Some f) st = []
+last_says None st = (line_told st).text
+
+abbrev pub last_text : State → List ℕ
+last_text st = last_says st.stop st
+
+-- octets of a message that doesn't come
+abbrev pub left_over : List ℕ → Option TextFault
+left_over [] = None
+left_over (b ∷ bs) = Some faults.Truncated
+
+abbrev pub fault_at_end : Option TextFault → State → Option TextFault
+fault_at_end (Some f) st = Some f
+fault_at_end None st = left_over st.stream.rest
+
+abbrev pub last_fault : State → Option TextFault
+last_fault st = fault_at_end (ended st).stop (ended st)
+
+-- the whole text of an input
+abbrev pub text_of : State → List ℕ → List ℕ
+text_of st input = text_from st input ++ last_text (after st input)
+
+-- why it ends
+abbrev pub fault_of : State → List ℕ → Option TextFault
+fault_of st input = last_fault (after st input)
+
+-- the book that it leads to
+abbrev pub book_of : State → List ℕ → Book
+book_of st input = (ended (after st input)).book

@@ -1,0 +1,250 @@
+//! The engine of a replay: octets in, text out.
+
+ghost use Rattle.std.specs.Prelude.{◌≡◌, [], ◌∷◌, ◌++◌, None, IfOk, OnOk};
+ghost use Rattle.forecourt_engines.specs.Text.{start, after, text_from, ended, last_text, last_fault};
+ghost use Rattle.forecourt_engines.specs.Text.{kept_of, judged, answered, told_by, line_told, next_line, talked};
+ghost use Rattle.forecourt_engines.specs.Answers.{line_of};
+ghost use Rattle.device_map.specs.Replies.{fault_message};
+ghost use Rattle.app_message.specs.Stream.{fed_by};
+ghost use Rattle.forecourt_engines.specs.Laws.{IsLine};
+
+use crate::answers::{answer_all, put_line};
+use crate::book::SiteBook;
+use crate::fault::TextFault;
+use crate::line::{LINE_OCTETS, decode, put_without_spaces, skips, text_of};
+use app_message::{Decoder, Fed, Messages, StreamFault};
+use device_map::stream_refusal;
+use memchr::memchr;
+use site_base::NoMemory;
+use std::alloc::Global;
+use std::marker::Model;
+use std::mem;
+
+/// A replay between two octets of its input. Beside what its text depends on it has buffers that
+/// stay, so that a line no longer than those before it takes no growth of its own: for a line without its spaces, for its octets,
+/// for its messages, and for a reply.
+#[derive(Drop)]
+pub struct Engine {
+    alloc: Global,
+    line: Vec<u8>,
+    number: u64,
+    decoder: Decoder,
+    book: SiteBook,
+    stop: Option<TextFault>,
+    kept: Vec<u8>,
+    octets: Vec<u8>,
+    reply: Vec<u8>,
+    messages: Messages,
+}
+
+impl Model for Engine {
+    ghost use Rattle.std.specs.Prelude.{◌≤◌, length};
+    ghost use Rattle.forecourt_engines.specs.declared.line.TheConstants.{LINE_OCTETS};
+    ghost use Rattle.forecourt_engines.specs.Text.{State};
+
+    ghost Value = { State };
+
+    ghost view = { λ e. record { line = e.line.items; number = e.number; stream = e.decoder; book = e.book; stop = e.stop } };
+
+    ghost invariant = { λ e. length e.line.items ≤ LINE_OCTETS };
+}
+
+impl Engine {
+    /// The engine before the first octet. It takes no memory.
+    pub fn new(alloc: Global, book: SiteBook) -> Engine
+        ensures { result ≡ start book }
+    {
+        Engine {
+            alloc,
+            line: Vec::new(alloc),
+            number: 1,
+            decoder: Decoder::new(alloc),
+            book,
+            stop: None,
+            kept: Vec::new(alloc),
+            octets: Vec::new(alloc),
+            reply: Vec::new(alloc),
+            messages: Messages::new(alloc),
+        }
+    }
+
+    /// Why the text has ended, if it has.
+    pub fn stop(&self) -> Option<TextFault>
+        ensures { result ≡ self.now.stop }
+    {
+        self.stop
+    }
+
+    /// The book.
+    pub fn into_book(self) -> SiteBook
+        ensures { result ≡ self.book }
+    {
+        self.book
+    }
+
+    /// Takes a piece of the input, and appends its text. After `NoMemory` the engine is of no use.
+    pub fn feed(&mut self, piece: &[u8], out: &mut Vec<u8>) -> Result<(), NoMemory>
+        ensures state { OnOk result (self.new ≡ after self.old piece.now) }
+        ensures text { OnOk result (out.new.items ≡ out.old.items ++ text_from self.old piece.now) }
+    {
+        let mut rest = piece;
+        while let Some(end) = memchr(b'\n', rest) {
+            let (line, others) = rest.split_at(end);
+            self.end_line(line, out)?;
+            rest = &others[1..];
+        }
+        self.begin_line(rest)
+    }
+
+    /// The end of the input: it ends the last line. Appends its text, and answers why the text ends.
+    pub fn finish(&mut self, out: &mut Vec<u8>) -> Result<Option<TextFault>, NoMemory>
+        ensures fault { IfOk result (λ fault. fault ≡ last_fault self.old) }
+        ensures state { OnOk result (self.new ≡ ended self.old) }
+        ensures text { OnOk result (out.new.items ≡ out.old.items ++ last_text self.old) }
+    {
+        if self.stop.is_none() {
+            self.tell_held(out)?;
+        }
+        if self.stop.is_none() && self.decoder.held() > 0 {
+            return Ok(Some(TextFault::Truncated));
+        }
+        Ok(self.stop)
+    }
+
+    /// Octets that go on with a line, and its line feed.
+    fn end_line(&mut self, line: &[u8], out: &mut Vec<u8>) -> Result<(), NoMemory>
+        requires { IsLine line.now }
+        ensures state { OnOk result (self.new ≡ after self.old (line.now ++ 10 ∷ [])) }
+        ensures text { OnOk result (out.new.items ≡ out.old.items ++ text_from self.old (line.now ++ 10 ∷ [])) }
+    {
+        if self.stop.is_none() && self.line.is_empty() && line.len() <= LINE_OCTETS {
+            return self.tell(line, out);
+        }
+        self.begin_line(line)?;
+        if self.stop.is_none() {
+            self.tell_held(out)?;
+        }
+        Ok(())
+    }
+
+    /// Octets that go on with a line: they are held, as many as a line may have.
+    fn begin_line(&mut self, more: &[u8]) -> Result<(), NoMemory>
+        requires { IsLine more.now }
+        ensures state { OnOk result (self.new ≡ after self.old more.now) }
+        ensures silent { OnOk result (text_from self.old more.now ≡ []) }
+    {
+        if self.stop.is_some() {
+            return Ok(());
+        }
+        let room = LINE_OCTETS - self.line.len();
+        if more.len() > room {
+            self.line.extend_from_slice(&more[..room])?;
+            self.stop = Some(TextFault::TooLong(self.number));
+        } else {
+            self.line.extend_from_slice(more)?;
+        }
+        Ok(())
+    }
+
+    /// Tells the line that is held.
+    fn tell_held(&mut self, out: &mut Vec<u8>) -> Result<(), NoMemory>
+        ensures state { OnOk result (self.new ≡ next_line self.old (line_told self.old)) }
+        ensures text { OnOk result (out.new.items ≡ out.old.items ++ (line_told self.old).text) }
+    {
+        let mut held = mem::replace(&mut self.line, Vec::new(self.alloc));
+        self.tell(&held, out)?;
+        held.clear();
+        self.line = held;
+        Ok(())
+    }
+
+    /// What a line says: the next one begins, and its text is appended.
+    fn tell(&mut self, line: &[u8], out: &mut Vec<u8>) -> Result<(), NoMemory>
+        ensures state { OnOk result (self.new ≡ next_line self.old (judged self.old.number self.old.stream self.old.book (kept_of line.now))) }
+        ensures text { OnOk result (out.new.items ≡ out.old.items ++ (judged self.old.number self.old.stream self.old.book (kept_of line.now)).text) }
+    {
+        let text = text_of(line);
+        let mut octets = mem::replace(&mut self.octets, Vec::new(self.alloc));
+        self.stop = self.judge(text, &mut octets, out)?;
+        self.octets = octets;
+        self.line.clear();
+        self.number = self.number.saturating_add(1);
+        Ok(())
+    }
+
+    /// What the text of a line says: its octets go to the decoder, each message that they end is
+    /// answered over the book, and the text is appended. The answer is why the text ends with this
+    /// line, if it does.
+    fn judge(
+        &mut self,
+        text: &[u8],
+        octets: &mut Vec<u8>,
+        out: &mut Vec<u8>,
+    ) -> Result<Option<TextFault>, NoMemory>
+        ensures stop { IfOk result (λ stop. stop ≡ (told_by self.old text.now).stop) }
+        ensures state { OnOk result (self.new ≡ talked self.old (told_by self.old text.now)) }
+        ensures text { OnOk result (out.new.items ≡ out.old.items ++ (told_by self.old text.now).text) }
+    {
+        // Most lines are hexadecimal as they stand.
+        if !text.is_empty() && decode(text, octets)? {
+            return self.answer(octets, out);
+        }
+        self.judge_kept(text, octets, out)
+    }
+
+    /// The same, where there may be spaces, or no hexadecimal.
+    fn judge_kept(
+        &mut self,
+        text: &[u8],
+        octets: &mut Vec<u8>,
+        out: &mut Vec<u8>,
+    ) -> Result<Option<TextFault>, NoMemory>
+        ensures stop { IfOk result (λ stop. stop ≡ (told_by self.old text.now).stop) }
+        ensures state { OnOk result (self.new ≡ talked self.old (told_by self.old text.now)) }
+        ensures text { OnOk result (out.new.items ≡ out.old.items ++ (told_by self.old text.now).text) }
+    {
+        put_without_spaces(text, &mut self.kept)?;
+        if skips(&self.kept) {
+            return Ok(None);
+        }
+        if !decode(&self.kept, octets)? {
+            return Ok(Some(TextFault::NotHexadecimal(self.number)));
+        }
+        self.answer(octets, out)
+    }
+
+    /// The messages that these octets end, each answered over the book by a line, and the refusal of a
+    /// stream's fault. The answer is why the text ends with them, if it does.
+    fn answer(&mut self, octets: &[u8], out: &mut Vec<u8>) -> Result<Option<TextFault>, NoMemory>
+        ensures stop { IfOk result (λ stop. stop ≡ (answered self.old.book (fed_by self.old.stream octets.now)).stop) }
+        ensures state { OnOk result (self.new ≡ talked self.old (answered self.old.book (fed_by self.old.stream octets.now))) }
+        ensures text { OnOk result (out.new.items ≡ out.old.items ++ (answered self.old.book (fed_by self.old.stream octets.now)).text) }
+    {
+        let room = mem::replace(&mut self.messages, Messages::new(self.alloc));
+        let Fed { messages, fault } = self.decoder.feed_into(octets, room)?;
+        answer_all(
+            self.alloc,
+            &mut self.book,
+            messages.as_slice(),
+            &mut self.reply,
+            out,
+        )?;
+        self.messages = messages;
+        match fault {
+            None => Ok(None),
+            Some(fault) => {
+                self.refuse(&fault, out)?;
+                Ok(Some(TextFault::Stream(fault.fault)))
+            }
+        }
+    }
+
+    /// Appends the refusal of a stream's fault as a line.
+    fn refuse(&mut self, fault: &StreamFault, out: &mut Vec<u8>) -> Result<(), NoMemory>
+        ensures state { OnOk result (self.new ≡ self.old) }
+        ensures text { OnOk result (out.new.items ≡ out.old.items ++ line_of (fault_message fault.now)) }
+    {
+        let refusal = stream_refusal(self.alloc, fault)?;
+        put_line(out, &refusal)
+    }
+}

@@ -1,0 +1,23 @@
+//! The engines of the forecourt program: what it does with octets, rows and texts, apart from its
+//! command line.
+//!
+//! `replay` answers lines of messages over the opening site of a configuration. What it writes is the
+//! text of what it read, as `specs/Text.antt` defines it octet by octet; the laws join that text to
+//! lines and to one stream of messages.
+#![tactic(auto)]
+
+mod answers;
+mod book;
+mod engine;
+mod fault;
+mod laws;
+mod line;
+pub mod replay;
+mod sites;
+
+pub use book::SiteBook;
+pub use fault::{ReplayFault, TextFault};
+pub use laws::{
+    a_last_line_says, a_line_says, a_long_line_says, nothing_follows, one_stream_of_lines,
+};
+pub use sites::known_site;

@@ -1,0 +1,52 @@
+//! The text of one line.
+
+ghost use Rattle.std.specs.Prelude.{◌≡◌, true, false, IfOk, OnOk, MatchResult};
+ghost use Rattle.std.specs.Io.BufRead.{strip_last};
+ghost use Rattle.hex.specs.Hex.{decode_of};
+ghost use Rattle.forecourt_engines.specs.Text.{is_skipped, without_spaces};
+
+use site_base::NoMemory;
+
+/// The most octets that a line may have before its line feed.
+pub const LINE_OCTETS: usize = 65_536;
+
+/// The line without a carriage return that ends it.
+pub fn text_of(line: &[u8]) -> &[u8]
+    ensures { result.now ≡ strip_last 13 line.now }
+{
+    match line {
+        [front @ .., 13] => front,
+        _ => line,
+    }
+}
+
+/// Puts the text without its spaces in place of what the buffer holds.
+pub fn put_without_spaces(text: &[u8], kept: &mut Vec<u8>) -> Result<(), NoMemory>
+    ensures { OnOk result (kept.new.items ≡ without_spaces text.now) }
+{
+    kept.clear();
+    for octet in text {
+        if *octet != b' ' {
+            kept.push(*octet)?;
+        }
+    }
+    Ok(())
+}
+
+/// An empty line or a comment.
+pub fn skips(kept: &[u8]) -> bool
+    ensures { result ≡ is_skipped kept.now }
+{
+    match kept {
+        [] => true,
+        [first, ..] => *first == b'#',
+    }
+}
+
+/// Whether the text is hexadecimal; if so, its octets take the place of what the buffer holds.
+pub fn decode(text: &[u8], octets: &mut Vec<u8>) -> Result<bool, NoMemory>
+    ensures { IfOk result (λ is. MatchResult (decode_of text.now) (λ bytes. (is ≡ true) × (octets.new.items ≡ bytes)) (λ _. is ≡ false)) }
+{
+    octets.resize(text.len() / 2, 0)?;
+    Ok(hex::decode_to_slice(text, octets.as_mut_slice()).is_ok())
+}

@@ -1,0 +1,107 @@
+//! The replay: lines of messages in, lines of answers out.
+
+ghost use Rattle.std.specs.Prelude.{◌≡◌, ◌⊎◌, [], Some, None, OnOk};
+ghost use Rattle.std.specs.Result.{IsErrOf, result_err};
+ghost use Rattle.std.specs.Io.KnownBytes.{IsAtEnd};
+ghost use Rattle.site_base.specs.Counted.{device_of, failures_of};
+ghost use Rattle.site_base.specs.Devices.{Rose};
+ghost use Rattle.forecourt_engines.specs.Text.{start};
+ghost use Rattle.forecourt_engines.specs.Replay.{Replayed};
+
+use crate::book::SiteBook;
+use crate::engine::Engine;
+use crate::fault::ReplayFault;
+use site_base::{Counted, ReadFault, SiteConfig, WriteFault, read_piece, write_whole};
+use std::alloc::Global;
+use std::io::{Read, Write};
+
+/// How a replay ended.
+#[derive(Drop)]
+pub struct ReplayEnd {
+    /// Why it ended; None where the input was read to its end without a fault.
+    pub fault: Option<ReplayFault>,
+    /// The book; None only where there was no memory to open it.
+    pub book: Option<SiteBook>,
+}
+
+/// The octets of one read.
+pub const PIECE_OCTETS: usize = 4_096;
+
+/// Replays lines of messages on the opening site of this configuration: each message is answered by
+/// a line, in order. It ends at the end of the input, at the first fault of the text, where a growth
+/// is refused, a device fails, or `turns` are used up (each read call and each interrupted write call
+/// is a turn), so that no more than a piece a turn is read. Whatever it ends with, what was written is a front of the text of what was read. It ends
+/// with a fault of the text only where the text stops at what was read, or the input is at its end.
+pub fn replay<R: Read, W: Write>(
+    alloc: Global,
+    config: &SiteConfig,
+    reader: &mut Counted<R>,
+    writer: &mut Counted<W>,
+    turns: u64,
+) -> ReplayEnd
+    ensures told { Replayed turns (start (record { config = config.now; rows = [] }))
+        (R.remaining (device_of reader.old)) (R.remaining (device_of reader.new))
+        (W.contents (device_of writer.old)) (W.contents (device_of writer.new)) result.fault result.book }
+    ensures end { result.fault ≡ None → IsAtEnd (R.remaining (device_of reader.new)) }
+    ensures no_turns { turns ≡ 0
+        → (result.fault ≡ Some (ReplayFault.Read ReadFault.TurnLimit)) ⊎ (result.fault ≡ Some ReplayFault.NoMemory) }
+    ensures unopened { result.book ≡ None → result.fault ≡ Some ReplayFault.NoMemory }
+    ensures read_failed { result.fault ≡ Some (ReplayFault.Read ReadFault.Failed)
+        → Rose (failures_of reader.old) (failures_of reader.new) }
+    ensures write_failed { result.fault ≡ Some (ReplayFault.Write WriteFault.Failed)
+        → Rose (failures_of writer.old) (failures_of writer.new) }
+{
+    match SiteBook::try_open(alloc, config) {
+        Ok(book) => {
+            let mut engine = Engine::new(alloc, book);
+            let fault = run(alloc, &mut engine, reader, writer, turns).err();
+            ReplayEnd {
+                fault,
+                book: Some(engine.into_book()),
+            }
+        }
+        Err(_) => ReplayEnd {
+            fault: Some(ReplayFault::NoMemory),
+            book: None,
+        },
+    }
+}
+
+/// Runs the engine over the devices, piece after piece.
+#[tactic(auto, using(crate::proofs::Running::running))]
+fn run<R: Read, W: Write>(
+    alloc: Global,
+    engine: &mut Engine,
+    reader: &mut Counted<R>,
+    writer: &mut Counted<W>,
+    mut turns: u64,
+) -> Result<(), ReplayFault>
+    ensures told { Replayed turns engine.old
+        (R.remaining (device_of reader.old)) (R.remaining (device_of reader.new))
+        (W.contents (device_of writer.old)) (W.contents (device_of writer.new)) (result_err result) (Some engine.new.book) }
+    ensures end { OnOk result (IsAtEnd (R.remaining (device_of reader.new))) }
+    ensures no_turns { turns ≡ 0 → IsErrOf result (ReplayFault.Read ReadFault.TurnLimit) }
+    ensures read_failed { IsErrOf result (ReplayFault.Read ReadFault.Failed)
+        → Rose (failures_of reader.old) (failures_of reader.new) }
+    ensures write_failed { IsErrOf result (ReplayFault.Write WriteFault.Failed)
+        → Rose (failures_of writer.old) (failures_of writer.new) }
+{
+    let mut piece = [0u8; PIECE_OCTETS];
+    loop {
+        let n = read_piece(reader, &mut piece, &mut turns)?;
+        let mut text = Vec::new(alloc);
+        if n == 0 {
+            let fault = engine.finish(&mut text)?;
+            write_whole(writer, &text, &mut turns)?;
+            return match fault {
+                None => Ok(()),
+                Some(fault) => Err(ReplayFault::Text(fault)),
+            };
+        }
+        engine.feed(&piece[..n], &mut text)?;
+        write_whole(writer, &text, &mut turns)?;
+        if let Some(fault) = engine.stop() {
+            return Err(ReplayFault::Text(fault));
+        }
+    }
+}

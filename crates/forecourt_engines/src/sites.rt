@@ -1,0 +1,73 @@
+//! The site that the program knows by itself.
+
+ghost use Rattle.std.specs.Prelude.{◌≡◌, ◌≤◌, IfOk};
+ghost use Rattle.forecourt_engines.specs.Sites.{known_site, known_points, known_point};
+
+use site_base::{
+    FpNo, GREATEST_PRICE, GREATEST_READING, GREATEST_ROWS, Millilitres, Mills, NoMemory,
+    NozzleEntry, POINTS, PRODUCTS, PointEntry, ProductEntry, ProductNo, SiteConfig, TillNo,
+};
+use std::alloc::Global;
+
+/// Two products (diesel at 1500 mills, petrol at 1799), five fuelling points that each have a nozzle of
+/// diesel from reading 0 and a nozzle of petrol from reading 1000, and till 1 as a manager.
+pub fn known_site(alloc: Global) -> Result<SiteConfig, NoMemory>
+    ensures { IfOk result (λ config. config ≡ known_site) }
+{
+    let mut managers = Vec::new(alloc);
+    managers.push(TillNo::new(1).unwrap())?;
+    let mut products = Vec::new(alloc);
+    products.push(product(alloc, 1, "diesel", 1500)?)?;
+    products.push(product(alloc, 2, "petrol", 1799)?)?;
+    let points = points(alloc)?;
+    Ok(SiteConfig::try_new(GREATEST_ROWS, managers, products, points).unwrap())
+}
+
+fn product(alloc: Global, number: u8, name: &str, price: u32) -> Result<ProductEntry, NoMemory>
+    requires number { (1 ≤ number) × (number ≤ PRODUCTS) }
+    requires price { (1 ≤ price) × (price ≤ GREATEST_PRICE) }
+    ensures { IfOk result (λ e. e ≡ record { number = number; name = name.now; price = price }) }
+{
+    let name = String::from_str(alloc, name)?;
+    Ok(ProductEntry {
+        number: ProductNo::new(number).unwrap(),
+        name,
+        price: Mills::new(price).unwrap(),
+    })
+}
+
+fn points(alloc: Global) -> Result<Vec<PointEntry>, NoMemory>
+    ensures { IfOk result (λ v. v.items ≡ known_points) }
+{
+    let mut points = Vec::new(alloc);
+    points.push(point(alloc, 1)?)?;
+    points.push(point(alloc, 2)?)?;
+    points.push(point(alloc, 3)?)?;
+    points.push(point(alloc, 4)?)?;
+    points.push(point(alloc, 5)?)?;
+    Ok(points)
+}
+
+fn point(alloc: Global, number: u8) -> Result<PointEntry, NoMemory>
+    requires { (1 ≤ number) × (number ≤ POINTS) }
+    ensures { IfOk result (λ e. e ≡ known_point number) }
+{
+    let mut nozzles = Vec::new(alloc);
+    nozzles.push(nozzle(1, 0))?;
+    nozzles.push(nozzle(2, 1000))?;
+    Ok(PointEntry {
+        number: FpNo::new(number).unwrap(),
+        nozzles,
+    })
+}
+
+fn nozzle(product: u8, reading: u64) -> NozzleEntry
+    requires product { (1 ≤ product) × (product ≤ PRODUCTS) }
+    requires reading { reading ≤ GREATEST_READING }
+    ensures { result ≡ record { product = product; reading = reading } }
+{
+    NozzleEntry {
+        product: ProductNo::new(product).unwrap(),
+        reading: Millilitres::new(reading).unwrap(),
+    }
+}
