@@ -1,4 +1,5 @@
 pub mod OneRequest
+pub mod Changes
 pub mod Short
 pub mod WorkedRequests
 pub mod WorkedReplies

@@ -36,7 +36,7 @@ use Rattle.device_map.specs.Laws.{is_point_if_named, Asks, IsOneRequest}
 -- ---- the way to each event, a line for each
 
 -- a kind of message to a database, with a command or without
-record Way : Type 0 where
+pub record Way : Type 0 where
   kind : Kind
   database : Database
   command : Option ℕ
@@ -47,7 +47,7 @@ commanded kind database id = record { kind = kind; database = database; command 
 abbrev reading : Database → Way
 reading database = record { kind = kinds.Read; database = database; command = None }
 
-abbrev way_to : Event → Way
+abbrev pub way_to : Event → Way
 way_to events.SignOn = commanded kinds.Write Site ids.SIGN_ON
 way_to events.SignOff = commanded kinds.Write Site ids.SIGN_OFF
 way_to (events.Open p) = commanded kinds.Write (Point p) ids.OPEN
@@ -70,7 +70,7 @@ abbrev node_of : Actor → List ℕ
 node_of (Till t) = ids.TILL_SUBNET ∷ t ∷ []
 node_of (Dispenser d) = ids.DISPENSER_SUBNET ∷ d ∷ []
 
-abbrev request_by : ℕ → Actor → Way → Telegram
+abbrev pub request_by : ℕ → Actor → Way → Telegram
 request_by token actor way =
     telegram site_node (node_of actor) way.kind token (address_of way.database)
     (items_of way.command)
@@ -90,7 +90,7 @@ no_octets : AreOctets []
 no_octets i = omega arith
 
 -- the site, or a fuelling point in range: where events are asked for
-abbrev is_asked : Database → Bool
+abbrev pub is_asked : Database → Bool
 is_asked Site = true
 is_asked (Point p) = is_between 1 POINTS p
 is_asked database = false
@@ -195,7 +195,7 @@ can_be_spelled token t way short own asked small =
       most = size.1;
     }
 
-till_asks : (token t : ℕ) (event : Event) → is_between 1 TILLS t ≡ true
+pub till_asks : (token t : ℕ) (event : Event) → is_between 1 TILLS t ≡ true
     → is_asked (way_to event).database ≡ true
     → request_at (request_by token (Till t) (way_to event)) ≡ Ok (Till t, event)
 unfolding request_at for_us

@@ -7,3 +7,4 @@ pub mod Requests
 pub mod Items
 pub mod Replies
 pub mod Laws
+pub mod Changes

@@ -1,10 +1,17 @@
-//! What holds of requests. The law has no code: it is proved of the definitions that `request_of`'s
-//! contract cites.
+//! What holds of requests and changes. The laws have no code: they are proved of the definitions that
+//! the contracts of `request_of` and `change_of` cite.
 
+ghost use Rattle.device_map.specs.Changes.{ChangesRepeatRequests};
 ghost use Rattle.device_map.specs.Laws.{IsOneRequest};
 
 /// For each token, each event with an actor of its own kind and numbers in range has one request: a
 /// message that can be spelled, has this token and asks for just that event, and no other message.
 pub fn one_request()
     ensures { IsOneRequest }
+{}
+
+/// A change has the address and the items of the request that made it: in a till's command they ask for
+/// the event of the row.
+pub fn changes_repeat_requests()
+    ensures { ChangesRepeatRequests }
 {}

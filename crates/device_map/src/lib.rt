@@ -1,7 +1,8 @@
 //! Messages and events: which event a message asks for, and which message tells a reply.
 //!
 //! `request_of` answers the pair of actor and event that a request means, or its first fault.
-//! `reply_of`, `refusal_of` and `stream_refusal` make the message that goes back.
+//! `reply_of`, `refusal_of` and `stream_refusal` make the message that goes back, `change_of` the one
+//! that a dispenser is told.
 //!
 //! The commands stand in one table, `specs/Commands.antt`, each with the shape of its content, and
 //! `request.rt` has an arm for each. Worked messages, by their octets, are theorems of the
@@ -9,6 +10,7 @@
 #![tactic(auto)]
 
 mod address;
+mod change;
 mod fault;
 mod ids;
 mod laws;
@@ -17,7 +19,8 @@ mod put;
 mod reply;
 mod request;
 
+pub use change::change_of;
 pub use fault::MapFault;
-pub use laws::one_request;
+pub use laws::{changes_repeat_requests, one_request};
 pub use reply::{refusal_in, refusal_of, reply_in, reply_of, stream_refusal};
 pub use request::request_of;

@@ -1,6 +1,7 @@
 //! Who speaks from a node.
 
-ghost use Rattle.std.specs.Prelude.{◌≡◌};
+ghost use Rattle.std.specs.Prelude.{◌≡◌, [], ◌∷◌};
+ghost use Rattle.device_map.specs.declared.ids.TheConstants.{DISPENSER_SUBNET};
 ghost use Rattle.device_map.specs.Stages.{Gives};
 ghost use Rattle.device_map.specs.Nodes.{is_site_node, site_node, for_us, till_at, dispenser_at};
 ghost use Rattle.device_map.specs.Nodes.{actor_at, is_request};
@@ -15,6 +16,13 @@ pub fn site() -> [u8; 2]
     ensures { result ≡ site_node }
 {
     [SITE_SUBNET, SITE_NODE]
+}
+
+/// Subnet and node of the dispenser of a fuelling point.
+pub fn dispenser(point: FpNo) -> [u8; 2]
+    ensures { result ≡ DISPENSER_SUBNET ∷ point ∷ [] }
+{
+    [DISPENSER_SUBNET, point.get()]
 }
 
 /// A Read, a Write or a Report.
