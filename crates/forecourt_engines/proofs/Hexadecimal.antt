@@ -9,7 +9,7 @@ use Rattle.hex.specs.declared.error.FromHexError.{FromHexError}
 use Rattle.hex.specs.Hex.{is_hex_digit, decode_of, encode_with}
 use Rattle.hex.proofs.HexLemmas.{decode_of-ok}
 use Rattle.app_message.specs.Stream.{Held, fed_by}
-use Rattle.forecourt_engines.specs.Book.{Book}
+use Rattle.forecourt_engines.specs.Answers.{Answerer}
 use Rattle.forecourt_engines.specs.Text.{is_skipped, without_spaces, answered, judged}
 
 not_space : (x : ℕ) → is_hex_digit x ≡ true → eqb x 32 ≡ false
@@ -36,30 +36,30 @@ digits_told [] all some = absurd (omega arith)
 digits_told (x ∷ xs) all some = not_hash x all.0
 
 -- so its octets go to the stream
-pub hexadecimal_told : (number : ℕ) (stream : Held) (book : Book) (text octets : List ℕ)
+pub hexadecimal_told : (number : ℕ) (stream : Held) (answerer : Answerer) (text octets : List ℕ)
     → 0 < length text → decode_of text ≡ Ok octets
-    → judged number stream book (without_spaces text) ≡ answered book (fed_by stream octets)
-hexadecimal_told number stream book text octets some is =
+    → judged number stream answerer (without_spaces text) ≡ answered answerer (fed_by stream octets)
+hexadecimal_told number stream answerer text octets some is =
     let digits = recursion_from_All (λ x. is_hex_digit x ≡ true) text (decode_of-ok text octets is).1 in
     rw (digits_kept text digits, digits_told text digits some, is) refl
 
-read_so : (number : ℕ) (stream : Held) (book : Book) (text octets : List ℕ) (is : Bool)
+read_so : (number : ℕ) (stream : Held) (answerer : Answerer) (text octets : List ℕ) (is : Bool)
     (r : Result (List ℕ) FromHexError) → 0 < length text → decode_of text ≡ r
     → MatchResult r (λ bytes. (is ≡ true) × (octets ≡ bytes)) (λ _. is ≡ false) → is ≡ true
-    → judged number stream book (without_spaces text) ≡ answered book (fed_by stream octets)
-read_so number stream book text octets is (Ok bytes) some e m true_is =
-    hexadecimal_told number stream book text octets some
+    → judged number stream answerer (without_spaces text) ≡ answered answerer (fed_by stream octets)
+read_so number stream answerer text octets is (Ok bytes) some e m true_is =
+    hexadecimal_told number stream answerer text octets some
     (e ∙ ap (λ (l : List ℕ). Ok l) (sym m.1))
-read_so number stream book text octets is (Err f) some e m true_is = absurd (cc (m, true_is))
+read_so number stream answerer text octets is (Err f) some e m true_is = absurd (cc (m, true_is))
 
 -- the same of what a reader of hexadecimal answers
-pub hexadecimal_read : (number : ℕ) (stream : Held) (book : Book) (text octets : List ℕ)
+pub hexadecimal_read : (number : ℕ) (stream : Held) (answerer : Answerer) (text octets : List ℕ)
     (is : Bool) → 0 < length text
     → MatchResult (decode_of text) (λ bytes. (is ≡ true) × (octets ≡ bytes)) (λ _. is ≡ false)
     → is ≡ true
-    → judged number stream book (without_spaces text) ≡ answered book (fed_by stream octets)
-hexadecimal_read number stream book text octets is some m true_is =
-    read_so number stream book text octets is (decode_of text) some refl m true_is
+    → judged number stream answerer (without_spaces text) ≡ answered answerer (fed_by stream octets)
+hexadecimal_read number stream answerer text octets is some m true_is =
+    read_so number stream answerer text octets is (decode_of text) some refl m true_is
 
 -- what is spelled in two parts is spelled whole
 pub spelled_in_parts : (digits xs ys : List ℕ)

@@ -1,5 +1,5 @@
 -- A replay in its course, and how it ends.
-use Rattle.std.proofs.Common.{◌≡◌, ℕ, ◌+◌, ◌*◌, ◌<◌, ◌≤◌, length, length-append, arith, take, List, [], ◌∷◌, ◌++◌, Option, Some, is_some, inl, inr, true, refl, sym, ap, ◌∙◌, subst, append_assoc, append-nil}
+use Rattle.std.proofs.Common.{◌≡◌, ℕ, ◌+◌, ◌*◌, ◌<◌, ◌≤◌, length, length-append, arith, take, List, [], ◌∷◌, ◌++◌, Option, Some, None, is_some, inl, inr, true, refl, sym, ap, ◌∙◌, subst, append_assoc, append-nil}
 use Rattle.std.specs.Io.KnownBytes.{Appends, Consumes, Keeps, IsAtEnd}
 use Rattle.std.proofs.lemmas.List.{length-take-le}
 use Rattle.site_base.specs.Devices.{AppendsFront}
@@ -56,6 +56,20 @@ is_small n buf most within small = omega (arith, length-take-le n buf within, wi
 
 AppendsFront-none : (u : Option (List ℕ)) (a : List ℕ) → AppendsFront u u a
 AppendsFront-none u a = record { front = []; rest = a; parts = refl; written = Appends-none u }
+
+-- the book couldn't be opened
+pub ends_unopened : (turns : ℕ) (st : State) (a x : Option (List ℕ)) (f : ReplayFault) → is_early (Some f) ≡ true
+    → Replayed turns st a a x x (Some f) None
+ends_unopened turns st a x f early = record {
+  read = [];
+  consumed = Consumes-none a;
+  few = omega arith;
+  front = AppendsFront-none x (last_text st);
+  whole = λ late. cc;
+  exact = λ late. cc;
+  rows = λ late. cc;
+  there = λ late. cc;
+}
 
 -- no more could be read
 pub ends_unread : (turns more : ℕ) (st now : State) (a b c x y : Option (List ℕ)) (f : ReplayFault) (book : Option Book) → is_early (Some f) ≡ true
@@ -115,7 +129,7 @@ ends_late turns more st now a b c x y z piece f book early r none p q = record {
 -- the input has ended, and the last text is written
 pub ends_whole : (turns more : ℕ) (st now new : State) (a b c x y z : Option (List ℕ)) (piece text : List ℕ) (fault : Option TextFault) → Running turns more st now a b x y
     → piece ≡ [] → Consumes b c piece → text ≡ last_text now → Appends y z text → fault ≡ last_fault now → new ≡ ended now → IsAtEnd c
-    → Replayed turns st a c x z (as_fault fault) (Some new.book)
+    → Replayed turns st a c x z (as_fault fault) (Some new.answerer.book)
 ends_whole turns more st now new a b c x y z piece text fault r none p told q why state done =
     let last : text ≡ last_text (after st r.read) = told ∙ ap last_text r.leads in
     let written : Appends x z (text_of st r.read) = Appends-then x y z (text_from st r.read) (last_text (after st r.read)) r.written (subst (Appends y z) last q) in
@@ -126,7 +140,7 @@ ends_whole turns more st now new a b c x y z piece text fault r none p told q wh
       front = AppendsFront-whole x z (text_of st r.read) written;
       whole = λ late. written;
       exact = λ late. ap as_fault (why ∙ ap last_fault r.leads);
-      rows = λ late. ap (λ (s : State). Some s.book) (state ∙ ap ended r.leads);
+      rows = λ late. ap (λ (s : State). Some s.answerer.book) (state ∙ ap ended r.leads);
       there = λ late. inr done;
     }
 
@@ -143,7 +157,7 @@ stopped_fault st f e = ap (λ (s : State). fault_at_end s.stop s) (stopped_ended
 
 -- the text has ended
 pub ends_stopped : (turns more : ℕ) (st now : State) (a b x y : Option (List ℕ)) (f : TextFault) → Running turns more st now a b x y → now.stop ≡ Some f
-    → Replayed turns st a b x y (Some (faults.Text f)) (Some now.book)
+    → Replayed turns st a b x y (Some (faults.Text f)) (Some now.answerer.book)
 ends_stopped turns more st now a b x y f r stop =
     let there : (after st r.read).stop ≡ Some f = ap (λ (s : State). s.stop) (sym r.leads) ∙ stop in
     let all : text_from st r.read ≡ text_of st r.read = sym (append-nil (text_from st r.read)) ∙ ap (λ (t : List ℕ). text_from st r.read ++ t) (sym (stopped_says (after st r.read) f there)) in
@@ -155,7 +169,7 @@ ends_stopped turns more st now a b x y f r stop =
       front = AppendsFront-whole x y (text_of st r.read) written;
       whole = λ late. written;
       exact = λ late. ap as_fault (sym (stopped_fault (after st r.read) f there));
-      rows = λ late. ap (λ (s : State). Some s.book) (r.leads ∙ sym (stopped_ended (after st r.read) f there));
+      rows = λ late. ap (λ (s : State). Some s.answerer.book) (r.leads ∙ sym (stopped_ended (after st r.read) f there));
       there = λ late. inl (ap is_some there);
     }
 

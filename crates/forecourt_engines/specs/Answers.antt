@@ -1,5 +1,6 @@
--- What a message is answered with, and the book that it leads to.
-use Rattle.std.specs.Prelude.{ℕ, List, [], ◌∷◌, ◌++◌, Result, Ok, Err, if◌then◌else◌}
+-- What a message is answered with, the change that it makes, and the book that it leads to.
+use Rattle.std.specs.Prelude.{ℕ, Bool, true, false, List, [], ◌∷◌, ◌++◌, Option, Some, None}
+use Rattle.std.specs.Prelude.{Result, Ok, Err, if◌then◌else◌}
 use Rattle.hex.specs.Hex.{encode_lower}
 use Rattle.site_base.specs.declared.actor.Actor.{Actor}
 use Rattle.site_base.specs.declared.event.Event.{Event}
@@ -8,10 +9,11 @@ use Rattle.site_base.specs.Refusals.{no_row_number}
 use Rattle.app_message.specs.Telegram.{Telegram}
 use Rattle.app_message.specs.Spelling.{spelling}
 use Rattle.device_map.specs.declared.fault.MapFault.{MapFault}
+use Rattle.device_map.specs.Changes.{change_of}
 use Rattle.device_map.specs.Faults.{map_number}
 use Rattle.device_map.specs.Requests.{request_at}
 use Rattle.device_map.specs.Replies.{reply_message, number_message}
-use Rattle.forecourt_engines.specs.Book.{Book, is_full, book_reply, with_row_of}
+use Rattle.forecourt_engines.specs.Book.{Book, is_full, book_reply, next_row, with_row_of}
 
 -- the answer to a request that means this: the mapping's fault, a full book, or the reply
 abbrev pub answer_meaning : Book → Telegram → Result (Actor × Event) MapFault → Telegram
@@ -34,12 +36,42 @@ book_after b m = book_meaning b (request_at m)
 abbrev pub line_of : Telegram → List ℕ
 line_of m = encode_lower (spelling m) ++ 10 ∷ []
 
--- the answers to messages, each a line, in order
-abbrev pub answers_to : Book → List Telegram → List ℕ
-answers_to b [] = []
-answers_to b (m ∷ ms) = line_of (answer_to b m) ++ answers_to (book_after b m) ms
+-- a change as a line, if there is one
+abbrev pub change_line : Option Telegram → List ℕ
+change_line None = []
+change_line (Some m) = line_of m
 
--- the book after messages
-abbrev pub book_after_all : Book → List Telegram → Book
-book_after_all b [] = b
-book_after_all b (m ∷ ms) = book_after_all (book_after b m) ms
+-- the change of the row that a message makes, if it makes one
+abbrev pub change_meaning : Book → Result (Actor × Event) MapFault → Option Telegram
+change_meaning b (Err f) = None
+change_meaning b (Ok x) = if is_full b then None else change_of (next_row b x.0 x.1)
+
+abbrev pub change_to : Book → Telegram → Option Telegram
+change_to b m = change_meaning b (request_at m)
+
+-- what answers messages: a book, and whether the changes of its rows are told too
+pub record Answerer : Type 0 where
+  pub book : Book
+  pub changes : Bool
+
+-- the line of the change that a message makes, where changes are told
+abbrev pub told_change : Bool → Option Telegram → List ℕ
+told_change true change = change_line change
+told_change false change = []
+
+-- the lines for a message: its answer, and then the change
+abbrev pub lines_for : Answerer → Telegram → List ℕ
+lines_for a m = line_of (answer_to a.book m) ++ told_change a.changes (change_to a.book m)
+
+abbrev pub after_message : Answerer → Telegram → Answerer
+after_message a m = record a { book = book_after a.book m }
+
+-- the lines for messages, in order
+abbrev pub answers_to : Answerer → List Telegram → List ℕ
+answers_to a [] = []
+answers_to a (m ∷ ms) = lines_for a m ++ answers_to (after_message a m) ms
+
+-- .. and what answers those that follow
+abbrev pub after_messages : Answerer → List Telegram → Answerer
+after_messages a [] = a
+after_messages a (m ∷ ms) = after_messages (after_message a m) ms

@@ -10,20 +10,20 @@ use Rattle.forecourt_engines.specs.declared.fault.TextFault.{TextFault}
 use Rattle.forecourt_engines.specs.declared.fault.TextFault.TheVariants as faults
 use Rattle.forecourt_engines.specs.declared.line.TheConstants.{LINE_OCTETS}
 use Rattle.forecourt_engines.specs.Book.{Book}
-use Rattle.forecourt_engines.specs.Answers.{answers_to, book_after_all, line_of}
+use Rattle.forecourt_engines.specs.Answers.{Answerer, answers_to, after_messages, line_of}
 
 -- between two octets of the input: the line so far and its number, the octets of a message to come, the
--- book, and why the text has ended, if it has
+-- book with whether changes are told, and why the text has ended, if it has
 pub record State : Type 0 where
   pub line : List ℕ
   pub number : ℕ
   pub stream : Held
-  pub book : Book
+  pub answerer : Answerer
   pub stop : Option TextFault
 
 -- before the first octet
-abbrev pub start : Book → State
-start b = record { line = []; number = 1; stream = held_after []; book = b; stop = None }
+abbrev pub start : Answerer → State
+start b = record { line = []; number = 1; stream = held_after []; answerer = b; stop = None }
 
 -- ---- what a line says
 
@@ -42,7 +42,7 @@ is_skipped (b ∷ bs) = b == 35
 -- what a line leads to, and the text that it adds
 pub record Told : Type 0 where
   pub stream : Held
-  pub book : Book
+  pub answerer : Answerer
   pub stop : Option TextFault
   pub text : List ℕ
 
@@ -56,20 +56,20 @@ fault_text None = []
 fault_text (Some f) = line_of (fault_message f)
 
 -- the messages of octets, each answered by a line
-abbrev pub answered : Book → Stream → Told
-answered b s = record { stream = held s; book = book_after_all b s.messages; stop = stop_of s.fault; text = answers_to b s.messages ++ fault_text s.fault }
+abbrev pub answered : Answerer → Stream → Told
+answered b s = record { stream = held s; answerer = after_messages b s.messages; stop = stop_of s.fault; text = answers_to b s.messages ++ fault_text s.fault }
 
 -- a line that isn't hexadecimal ends the text; else its octets go to the stream
-abbrev pub decoded : ℕ → Held → Book → Result (List ℕ) FromHexError → Told
+abbrev pub decoded : ℕ → Held → Answerer → Result (List ℕ) FromHexError → Told
 decoded number stream b (Ok octets) = answered b (fed_by stream octets)
-decoded number stream b (Err e) = record { stream = stream; book = b; stop = Some (faults.NotHexadecimal number); text = [] }
+decoded number stream b (Err e) = record { stream = stream; answerer = b; stop = Some (faults.NotHexadecimal number); text = [] }
 
-abbrev pub judged : ℕ → Held → Book → List ℕ → Told
-judged number stream b kept = if is_skipped kept then record { stream = stream; book = b; stop = None; text = [] } else decoded number stream b (decode_of kept)
+abbrev pub judged : ℕ → Held → Answerer → List ℕ → Told
+judged number stream b kept = if is_skipped kept then record { stream = stream; answerer = b; stop = None; text = [] } else decoded number stream b (decode_of kept)
 
 -- what the line so far says where it ends here
 abbrev pub line_told : State → Told
-line_told st = judged st.number st.stream st.book (kept_of st.line)
+line_told st = judged st.number st.stream st.answerer (kept_of st.line)
 
 -- ---- what an octet says
 
@@ -79,15 +79,15 @@ next_number n = min (n + 1) (2 ^ 64 - 1)
 
 -- a line has ended
 abbrev pub next_line : State → Told → State
-next_line st t = record { line = []; number = next_number st.number; stream = t.stream; book = t.book; stop = t.stop }
+next_line st t = record { line = []; number = next_number st.number; stream = t.stream; answerer = t.answerer; stop = t.stop }
 
 -- what the text of a line says, in this state
 abbrev pub told_by : State → List ℕ → Told
-told_by st text = judged st.number st.stream st.book (without_spaces text)
+told_by st text = judged st.number st.stream st.answerer (without_spaces text)
 
 -- what a line leads to, while it stands
 abbrev pub talked : State → Told → State
-talked st t = record st { stream = t.stream; book = t.book }
+talked st t = record st { stream = t.stream; answerer = t.answerer }
 
 -- a line feed ends the line; another octet goes on with it, if it may be longer
 abbrev pub stepped : Option TextFault → State → ℕ → State
@@ -157,4 +157,4 @@ fault_of st input = last_fault (after st input)
 
 -- the book that it leads to
 abbrev pub book_of : State → List ℕ → Book
-book_of st input = (ended (after st input)).book
+book_of st input = (ended (after st input)).answerer.book

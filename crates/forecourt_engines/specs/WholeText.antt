@@ -8,8 +8,7 @@ use Rattle.app_message.specs.Stream.{Stream, stream_of}
 use Rattle.forecourt_engines.specs.declared.fault.TextFault.{TextFault}
 use Rattle.forecourt_engines.specs.declared.fault.TextFault.TheVariants as faults
 use Rattle.forecourt_engines.specs.declared.line.TheConstants.{LINE_OCTETS}
-use Rattle.forecourt_engines.specs.Book.{Book}
-use Rattle.forecourt_engines.specs.Answers.{answers_to, book_after_all}
+use Rattle.forecourt_engines.specs.Answers.{Answerer, answers_to, after_messages}
 use Rattle.forecourt_engines.specs.Text.{start, kept_of, is_skipped, next_number, fault_text, left_over, text_of, fault_of, book_of}
 
 -- what follows the last line feed is a line where it isn't empty
@@ -58,13 +57,13 @@ end_of None (Some bad) rest = Some bad
 end_of None None rest = left_over rest
 
 -- the whole of a replay: text, fault and book are those of one stream, which the lines spell
-pub record IsWhole (b : Book) (input : List ℕ) (lines : Spoken) (stream : Stream) : Type 0 where
+pub record IsWhole (b : Answerer) (input : List ℕ) (lines : Spoken) (stream : Stream) : Type 0 where
   pub text : text_of (start b) input ≡ answers_to b stream.messages ++ fault_text stream.fault
   pub fault : fault_of (start b) input ≡ end_of stream.fault lines.bad stream.rest
-  pub book : book_of (start b) input ≡ book_after_all b stream.messages
+  pub book : book_of (start b) input ≡ (after_messages b stream.messages).book
 
 -- every text is that of the one stream that its lines before the first bad one spell: for each message its
 -- answer as a line, then the line of the stream's fault, if it has one
 abbrev pub IsOneStreamOfLines : Type 0
-IsOneStreamOfLines = (b : Book) (input : List ℕ)
+IsOneStreamOfLines = (b : Answerer) (input : List ℕ)
     → IsWhole b input (spoken 1 (lines_of input)) (stream_of (spoken 1 (lines_of input)).octets)

@@ -2,28 +2,112 @@
 
 ghost use Rattle.std.specs.Prelude.{◌≡◌, ◌≤◌, ◌++◌, length, IfOk, OnOk};
 ghost use Rattle.hex.specs.Hex.{encode_lower};
-ghost use Rattle.forecourt_engines.specs.Answers.{answer_to, book_after, line_of, answers_to, book_after_all};
+ghost use Rattle.forecourt_engines.specs.Answers.{line_of, change_line, lines_for, after_message};
+ghost use Rattle.forecourt_engines.specs.Answers.{answers_to, after_messages};
+ghost use Rattle.device_map.specs.Changes.{change_of};
 
 use crate::book::SiteBook;
 use app_message::Message;
-use device_map::{refusal_in, reply_in, request_of};
-use site_base::{NoMemory, NoRow};
+use device_map::{change_of, refusal_in, reply_in, request_of};
+use site_base::{NoMemory, NoRow, Row};
 use std::alloc::Global;
+use std::marker::Model;
 use std::mem;
 
-/// The message that answers a message, written into a buffer, whose content goes, and its row where
-/// it means an event. The buffer is lost after `NoMemory`.
-pub fn answer(buffer: Vec<u8>, book: &mut SiteBook, message: &Message) -> Result<Message, NoMemory>
-    ensures answer { IfOk result (λ answer. answer ≡ answer_to book.old message.now) }
-    ensures book { OnOk result (book.new ≡ book_after book.old message.now) }
+/// What answers messages: a book, and whether the changes of its rows are told too.
+#[derive(Drop)]
+pub struct Answerer {
+    book: SiteBook,
+    changes: bool,
+}
+
+impl Model for Answerer {
+    ghost use Rattle.forecourt_engines.specs.Answers.{Answerer};
+
+    ghost Value = { Answerer };
+
+    ghost view = { λ a. record { book = a.book; changes = a.changes } };
+}
+
+impl Answerer {
+    /// An answerer over this book, which tells changes or not.
+    pub fn new(book: SiteBook, changes: bool) -> Answerer
+        ensures { result ≡ record { book = book; changes = changes } }
+    {
+        Answerer { book, changes }
+    }
+
+    /// The book.
+    pub fn into_book(self) -> SiteBook
+        ensures { result ≡ self.book }
+    {
+        self.book
+    }
+
+    /// Appends the lines for messages, in order: for each its answer, and, where changes are told, the
+    /// change of its row. Each answer is made in the buffer.
+    pub fn answer_all(
+        &mut self,
+        alloc: Global,
+        messages: &[Message],
+        buffer: &mut Vec<u8>,
+        out: &mut Vec<u8>,
+    ) -> Result<(), NoMemory>
+        ensures text { OnOk result (out.new.items ≡ out.old.items ++ answers_to self.old messages.now) }
+        ensures state { OnOk result (self.new ≡ after_messages self.old messages.now) }
+    {
+        for message in messages {
+            let room = mem::replace(buffer, Vec::new(alloc));
+            *buffer = self.answer(alloc, message, room, out)?;
+        }
+        Ok(())
+    }
+
+    /// Appends the lines for a message. The answer is made in the buffer, which comes back.
+    fn answer(
+        &mut self,
+        alloc: Global,
+        message: &Message,
+        buffer: Vec<u8>,
+        out: &mut Vec<u8>,
+    ) -> Result<Vec<u8>, NoMemory>
+        ensures text { OnOk result (out.new.items ≡ out.old.items ++ lines_for self.old message.now) }
+        ensures state { OnOk result (self.new ≡ after_message self.old message.now) }
+    {
+        let (actor, event) = match request_of(message) {
+            Err(fault) => return tell(refusal_in(buffer, message, fault.number())?, out),
+            Ok(request) => request,
+        };
+        let placed = match self.book.apply(actor, event) {
+            Ok(placed) => placed,
+            Err(NoRow::BookFull) => return tell(refusal_in(buffer, message, NoRow::BookFull.number())?, out),
+            Err(NoRow::NoMemory) => return Err(NoMemory),
+        };
+        let reply = placed.reply;
+        let room = tell(reply_in(buffer, message, &reply)?, out)?;
+        if self.changes {
+            put_change(alloc, &Row { actor, event, reply }, out)?;
+            return Ok(room);
+        }
+        Ok(room)
+    }
+}
+
+/// Appends a message as a line, and gives its room back.
+fn tell(message: Message, out: &mut Vec<u8>) -> Result<Vec<u8>, NoMemory>
+    ensures { OnOk result (out.new.items ≡ out.old.items ++ line_of message) }
 {
-    match request_of(message) {
-        Err(fault) => refusal_in(buffer, message, fault.number()),
-        Ok((actor, event)) => match book.apply(actor, event) {
-            Ok(placed) => reply_in(buffer, message, &placed.reply),
-            Err(NoRow::BookFull) => refusal_in(buffer, message, NoRow::BookFull.number()),
-            Err(NoRow::NoMemory) => Err(NoMemory),
-        },
+    put_line(out, &message)?;
+    Ok(message.into_buffer())
+}
+
+/// Appends the change that a row stands for as a line, if it stands for one.
+fn put_change(alloc: Global, row: &Row, out: &mut Vec<u8>) -> Result<(), NoMemory>
+    ensures { OnOk result (out.new.items ≡ out.old.items ++ change_line (change_of row.now)) }
+{
+    match change_of(alloc, row)? {
+        None => Ok(()),
+        Some(change) => put_line(out, &change),
     }
 }
 
@@ -49,24 +133,4 @@ fn put_hexadecimal(out: &mut Vec<u8>, octets: &[u8]) -> Result<(), NoMemory>
         Ok(()) => Ok(()),
         Err(_) => unreachable!(),
     }
-}
-
-/// Appends the answers to messages, in order, each by way of the buffer.
-pub fn answer_all(
-    alloc: Global,
-    book: &mut SiteBook,
-    messages: &[Message],
-    buffer: &mut Vec<u8>,
-    out: &mut Vec<u8>,
-) -> Result<(), NoMemory>
-    ensures text { OnOk result (out.new.items ≡ out.old.items ++ answers_to book.old messages.now) }
-    ensures book { OnOk result (book.new ≡ book_after_all book.old messages.now) }
-{
-    for message in messages {
-        let room = mem::replace(buffer, Vec::new(alloc));
-        let answer = answer(room, book, message)?;
-        put_line(out, &answer)?;
-        *buffer = answer.into_buffer();
-    }
-    Ok(())
 }

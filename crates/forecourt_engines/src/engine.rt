@@ -8,7 +8,7 @@ ghost use Rattle.device_map.specs.Replies.{fault_message};
 ghost use Rattle.app_message.specs.Stream.{fed_by};
 ghost use Rattle.forecourt_engines.specs.Laws.{IsLine};
 
-use crate::answers::{answer_all, put_line};
+use crate::answers::{Answerer, put_line};
 use crate::book::SiteBook;
 use crate::fault::TextFault;
 use crate::line::{LINE_OCTETS, decode, put_without_spaces, skips, text_of};
@@ -29,7 +29,7 @@ pub struct Engine {
     line: Vec<u8>,
     number: u64,
     decoder: Decoder,
-    book: SiteBook,
+    answerer: Answerer,
     stop: Option<TextFault>,
     kept: Vec<u8>,
     octets: Vec<u8>,
@@ -44,22 +44,23 @@ impl Model for Engine {
 
     ghost Value = { State };
 
-    ghost view = { λ e. record { line = e.line.items; number = e.number; stream = e.decoder; book = e.book; stop = e.stop } };
+    ghost view = { λ e. record { line = e.line.items; number = e.number; stream = e.decoder; answerer = e.answerer; stop = e.stop } };
 
     ghost invariant = { λ e. length e.line.items ≤ LINE_OCTETS };
 }
 
 impl Engine {
-    /// The engine before the first octet. It takes no memory.
-    pub fn new(alloc: Global, book: SiteBook) -> Engine
-        ensures { result ≡ start book }
+    /// The engine before the first octet, over this book; it tells the changes of its rows or not. It
+    /// takes no memory.
+    pub fn new(alloc: Global, book: SiteBook, changes: bool) -> Engine
+        ensures { result ≡ start (record { book = book; changes = changes }) }
     {
         Engine {
             alloc,
             line: Vec::new(alloc),
             number: 1,
             decoder: Decoder::new(alloc),
-            book,
+            answerer: Answerer::new(book, changes),
             stop: None,
             kept: Vec::new(alloc),
             octets: Vec::new(alloc),
@@ -77,9 +78,9 @@ impl Engine {
 
     /// The book.
     pub fn into_book(self) -> SiteBook
-        ensures { result ≡ self.book }
+        ensures { result ≡ self.answerer.book }
     {
-        self.book
+        self.answerer.into_book()
     }
 
     /// Takes a piece of the input, and appends its text. After `NoMemory` the engine is of no use.
@@ -160,8 +161,8 @@ impl Engine {
 
     /// What a line says: the next one begins, and its text is appended.
     fn tell(&mut self, line: &[u8], out: &mut Vec<u8>) -> Result<(), NoMemory>
-        ensures state { OnOk result (self.new ≡ next_line self.old (judged self.old.number self.old.stream self.old.book (kept_of line.now))) }
-        ensures text { OnOk result (out.new.items ≡ out.old.items ++ (judged self.old.number self.old.stream self.old.book (kept_of line.now)).text) }
+        ensures state { OnOk result (self.new ≡ next_line self.old (judged self.old.number self.old.stream self.old.answerer (kept_of line.now))) }
+        ensures text { OnOk result (out.new.items ≡ out.old.items ++ (judged self.old.number self.old.stream self.old.answerer (kept_of line.now)).text) }
     {
         let text = text_of(line);
         let mut octets = mem::replace(&mut self.octets, Vec::new(self.alloc));
@@ -216,15 +217,14 @@ impl Engine {
     /// The messages that these octets end, each answered over the book by a line, and the refusal of a
     /// stream's fault. The answer is why the text ends with them, if it does.
     fn answer(&mut self, octets: &[u8], out: &mut Vec<u8>) -> Result<Option<TextFault>, NoMemory>
-        ensures stop { IfOk result (λ stop. stop ≡ (answered self.old.book (fed_by self.old.stream octets.now)).stop) }
-        ensures state { OnOk result (self.new ≡ talked self.old (answered self.old.book (fed_by self.old.stream octets.now))) }
-        ensures text { OnOk result (out.new.items ≡ out.old.items ++ (answered self.old.book (fed_by self.old.stream octets.now)).text) }
+        ensures stop { IfOk result (λ stop. stop ≡ (answered self.old.answerer (fed_by self.old.stream octets.now)).stop) }
+        ensures state { OnOk result (self.new ≡ talked self.old (answered self.old.answerer (fed_by self.old.stream octets.now))) }
+        ensures text { OnOk result (out.new.items ≡ out.old.items ++ (answered self.old.answerer (fed_by self.old.stream octets.now)).text) }
     {
         let room = mem::replace(&mut self.messages, Messages::new(self.alloc));
         let Fed { messages, fault } = self.decoder.feed_into(octets, room)?;
-        answer_all(
+        self.answerer.answer_all(
             self.alloc,
-            &mut self.book,
             messages.as_slice(),
             &mut self.reply,
             out,

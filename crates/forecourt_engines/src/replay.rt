@@ -28,7 +28,7 @@ pub struct ReplayEnd {
 pub const PIECE_OCTETS: usize = 4_096;
 
 /// Replays lines of messages on the opening site of this configuration: each message is answered by
-/// a line, in order. It ends at the end of the input, at the first fault of the text, where a growth
+/// a line, in order, and, with `changes`, the change that its row stands for follows as a line. It ends at the end of the input, at the first fault of the text, where a growth
 /// is refused, a device fails, or `turns` are used up (each read call and each interrupted write call
 /// is a turn), so that no more than a piece a turn is read. Whatever it ends with, what was written is a front of the text of what was read. It ends
 /// with a fault of the text only where the text stops at what was read, or the input is at its end.
@@ -38,8 +38,9 @@ pub fn replay<R: Read, W: Write>(
     reader: &mut Counted<R>,
     writer: &mut Counted<W>,
     turns: u64,
+    changes: bool,
 ) -> ReplayEnd
-    ensures told { Replayed turns (start (record { config = config.now; rows = [] }))
+    ensures told { Replayed turns (start (record { book = record { config = config.now; rows = [] }; changes = changes }))
         (R.remaining (device_of reader.old)) (R.remaining (device_of reader.new))
         (W.contents (device_of writer.old)) (W.contents (device_of writer.new)) result.fault result.book }
     ensures end { result.fault ≡ None → IsAtEnd (R.remaining (device_of reader.new)) }
@@ -53,7 +54,7 @@ pub fn replay<R: Read, W: Write>(
 {
     match SiteBook::try_open(alloc, config) {
         Ok(book) => {
-            let mut engine = Engine::new(alloc, book);
+            let mut engine = Engine::new(alloc, book, changes);
             let fault = run(alloc, &mut engine, reader, writer, turns).err();
             ReplayEnd {
                 fault,
@@ -78,7 +79,7 @@ fn run<R: Read, W: Write>(
 ) -> Result<(), ReplayFault>
     ensures told { Replayed turns engine.old
         (R.remaining (device_of reader.old)) (R.remaining (device_of reader.new))
-        (W.contents (device_of writer.old)) (W.contents (device_of writer.new)) (result_err result) (Some engine.new.book) }
+        (W.contents (device_of writer.old)) (W.contents (device_of writer.new)) (result_err result) (Some engine.new.answerer.book) }
     ensures end { OnOk result (IsAtEnd (R.remaining (device_of reader.new))) }
     ensures no_turns { turns ≡ 0 → IsErrOf result (ReplayFault.Read ReadFault.TurnLimit) }
     ensures read_failed { IsErrOf result (ReplayFault.Read ReadFault.Failed)

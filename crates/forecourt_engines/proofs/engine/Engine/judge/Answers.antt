@@ -8,7 +8,7 @@ returns-then-branch-clause-stop c =
     let some : 0 < length c.args.text.now =
     omega (arith, eqb-false _ _ (sym c.if-not-is_empty.ensures)) in
     let told =
-    hexadecimal_read c.args.self.now.number c.args.self.now.stream c.args.self.now.book
+    hexadecimal_read c.args.self.now.number c.args.self.now.stream c.args.self.now.answerer
     c.args.text.now c.decode.new.octets.items c.in_ok-decode.field-0 some c.in_ok-decode.ensures
     c.if-branch.true in
     rw told (rw c.deref.ensures.value at c.answer.ensures.stop)
@@ -18,7 +18,7 @@ returns-then-branch-clause-state c =
     let some : 0 < length c.args.text.now =
     omega (arith, eqb-false _ _ (sym c.if-not-is_empty.ensures)) in
     let told =
-    hexadecimal_read c.args.self.now.number c.args.self.now.stream c.args.self.now.book
+    hexadecimal_read c.args.self.now.number c.args.self.now.stream c.args.self.now.answerer
     c.args.text.now c.decode.new.octets.items c.in_ok-decode.field-0 some c.in_ok-decode.ensures
     c.if-branch.true in
     rw told (rw c.deref.ensures.value at c.answer.ensures.state)
@@ -28,7 +28,7 @@ returns-then-branch-clause-text c =
     let some : 0 < length c.args.text.now =
     omega (arith, eqb-false _ _ (sym c.if-not-is_empty.ensures)) in
     let told =
-    hexadecimal_read c.args.self.now.number c.args.self.now.stream c.args.self.now.book
+    hexadecimal_read c.args.self.now.number c.args.self.now.stream c.args.self.now.answerer
     c.args.text.now c.decode.new.octets.items c.in_ok-decode.field-0 some c.in_ok-decode.ensures
     c.if-branch.true in
     rw told (rw c.deref.ensures.value at c.answer.ensures.text)
