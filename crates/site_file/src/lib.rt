@@ -1,0 +1,15 @@
+//! The site file: which site a TOML text configures, or its first fault.
+//!
+//! `read_config` answers the configuration that the text says, exactly, or the first fault in the
+//! order of the site file's table. Which that is, `specs/SiteFile.antt` says line for line.
+#![tactic(auto)]
+
+mod fault;
+mod key;
+mod known;
+mod printed;
+mod values;
+
+pub use fault::ConfigFault;
+pub use key::Key;
+pub use printed::PrintedKey;
