@@ -1,3 +1,4 @@
+pub mod ByNumber
 pub mod Faults
 pub mod Keys
 pub mod Said

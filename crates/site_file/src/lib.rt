@@ -7,7 +7,9 @@
 mod fault;
 mod key;
 mod known;
+mod managers;
 mod printed;
+mod products;
 mod values;
 
 pub use fault::ConfigFault;

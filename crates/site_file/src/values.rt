@@ -1,7 +1,9 @@
 //! One value of a table: is it there, of its kind, in its range?
 
-ghost use Rattle.std.specs.Prelude.{◌≡◌, ◌≤◌, IfOk, string_bytes};
+ghost use Rattle.std.specs.Prelude.{◌≡◌, ◌≤◌, IfOk, option_map, string_bytes};
+ghost use Rattle.toml.specs.Data.{get_member};
 ghost use Rattle.toml.specs.View.{view, array_view, table_view};
+ghost use Rattle.site_file.specs.Keys.{key_text};
 ghost use Rattle.site_file.specs.Said.{Gives};
 ghost use Rattle.site_file.specs.SiteFile as file;
 
@@ -10,12 +12,19 @@ use crate::key::Key;
 use toml::value::Array;
 use toml::{Table, Value};
 
+/// What stands at a key, if anything does.
+pub fn found_at(table: &Table, key: Key) -> Option<&Value>
+    ensures { option_map (λ v. view v.now) result ≡ get_member (key_text key) (table_view table.now) }
+{
+    table.get(key.text())
+}
+
 /// What stands at a key, which must be there.
 #[tactic(auto, unfolding(crate::specs::SiteFile::value_at))]
 pub fn value_at(table: &Table, key: Key) -> Result<&Value, ConfigFault>
     ensures { Gives (λ v. view v.now) result (file.value_at key (table_view table.now)) }
 {
-    match table.get(key.text()) {
+    match found_at(table, key) {
         Some(value) => Ok(value),
         None => Err(ConfigFault::MissingKey(key)),
     }
