@@ -5,7 +5,7 @@ ghost use Rattle.std.specs.BTreeMap.{keys, IsOrdered};
 ghost use Rattle.toml.specs.View.{table_view};
 ghost use Rattle.site_file.specs.Keys.{is_known};
 ghost use Rattle.site_file.specs.Said.{Gives};
-ghost use Rattle.site_file.specs.SiteFile as file;
+ghost use Rattle.site_file.specs.SiteFile as spec;
 
 use crate::fault::ConfigFault;
 use crate::key::Key;
@@ -16,7 +16,7 @@ use toml::Table;
 /// The table has none but these keys, or its least other one is the fault.
 #[tactic(auto, using(crate::proofs::Trees::least_unknown), unfolding(crate::specs::SiteFile::with_keys))]
 pub fn with_keys(alloc: Global, table: &Table, known: &[Key]) -> Result<(), ConfigFault>
-    ensures { Gives (λ _. table_view table.now) result (file.with_keys known.now (table_view table.now)) }
+    ensures { Gives (λ _. table_view table.now) result (spec.with_keys known.now (table_view table.now)) }
 {
     // A table's keys ascend, so the first unknown one is the least.
     match first_unknown(table, known) {

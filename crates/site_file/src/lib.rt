@@ -4,12 +4,15 @@
 //! order of the site file's table. Which that is, `specs/SiteFile.antt` says line for line.
 #![tactic(auto)]
 
+mod by_number;
 mod fault;
 mod key;
 mod known;
 mod managers;
+mod points;
 mod printed;
 mod products;
+mod site;
 mod values;
 
 pub use fault::ConfigFault;

@@ -1,81 +1,89 @@
-//! The products of a site file, found by their numbers and kept in configured order.
+//! The products of a site file.
 
-ghost use Rattle.std.specs.Prelude.{◌≡◌, ◌++◌, [], ◌∷◌, false, is_some, IfOk, IfSome, OnOk};
+ghost use Rattle.std.specs.Prelude.{◌≡◌, ◌≤◌, [], false, IfOk};
 ghost use Rattle.site_base.specs.Configured.{has_product};
-ghost use Rattle.site_file.specs.SiteFile.{has_name};
+ghost use Rattle.toml.specs.View.{view, items_view, table_view};
+ghost use Rattle.site_file.specs.declared.key.Key.TheVariants as key;
+ghost use Rattle.site_file.specs.Said.{Gives};
+ghost use Rattle.site_file.specs.SiteFile as spec;
 
-use indexmap::IndexMap;
-use site_base::{NoMemory, ProductEntry, ProductNo};
+use crate::by_number::Products;
+use crate::fault::ConfigFault;
+use crate::key::Key;
+use crate::known::with_keys;
+use crate::values::{list_at, number_at, table, text, value_at};
+use site_base::{GREATEST_PRICE, Mills, PRODUCTS, ProductEntry, ProductNo};
 use std::alloc::Global;
-use std::marker::Model;
+use toml::{Table, Value};
 
-/// The products taken so far. Contracts see their list, in configured order.
-#[derive(Drop)]
-pub struct Products {
-    by_number: IndexMap<u64, ProductEntry>,
+/// The products of a site file, in configured order.
+#[tactic(auto, unfolding(crate::specs::SiteFile::products_of))]
+pub fn products_of(alloc: Global, file: &Table) -> Result<Products, ConfigFault>
+    ensures { Gives (λ p. p) result (spec.products_of (table_view file.now)) }
+{
+    products_in(alloc, list_at(file, Key::Product, usize::from(PRODUCTS))?)
 }
 
-impl Model for Products {
-    ghost use Rattle.std.specs.Prelude.{◌≡◌, List, true};
-    ghost use Rattle.indexmap.specs.IndexMap.{values};
-    ghost use Rattle.site_base.specs.Configured.{ConfiguredProduct};
-    ghost use Rattle.site_file.specs.ByNumber.{are_by_number};
-
-    ghost Value = { List ConfiguredProduct };
-
-    ghost view = { λ p. values p.by_number };
-
-    ghost invariant = { λ p. are_by_number p.by_number.entries ≡ true };
+fn products_in(alloc: Global, members: &[Value]) -> Result<Products, ConfigFault>
+    ensures { Gives (λ p. p) result (spec.products_from [] (items_view members.now)) }
+{
+    let mut products = Products::new(alloc);
+    for member in members {
+        let product = product_of(alloc, &products, member)?;
+        products.push(product)?;
+    }
+    Ok(products)
 }
 
-impl Products {
-    /// No products.
-    pub fn new(alloc: Global) -> Self
-        ensures { result ≡ [] }
-    {
-        Products {
-            by_number: IndexMap::new(alloc),
-        }
-    }
+/// A product whose number and name aren't among those taken.
+#[tactic(auto, unfolding(crate::specs::SiteFile::product_of))]
+fn product_of(alloc: Global, taken: &Products, value: &Value) -> Result<ProductEntry, ConfigFault>
+    ensures said { Gives (λ p. p) result (spec.product_of taken.now (view value.now)) }
+    ensures new { IfOk result (λ p. has_product taken.now p.number ≡ false) }
+{
+    let product = table(value, Key::Product)?;
+    with_keys(alloc, product, &[Key::Number, Key::Name, Key::Price])?;
+    let number = product_number(taken, product)?;
+    let name = product_name(taken, product)?;
+    let price = product_price(product)?;
+    Ok(ProductEntry {
+        number,
+        name: String::from_str(alloc, name)?,
+        price,
+    })
+}
 
-    /// The product of this number, if it is there.
-    pub fn numbered(&self, number: u64) -> Option<ProductNo>
-        ensures there { is_some result ≡ has_product self.now number }
-        ensures value { IfSome result (λ q. q ≡ number) }
-    {
-        match self.by_number.get(&number) {
-            Some(product) => Some(product.number),
-            None => None,
-        }
+/// A number that none of the products taken has.
+#[tactic(auto, unfolding(crate::specs::SiteFile::product_number))]
+fn product_number(taken: &Products, product: &Table) -> Result<ProductNo, ConfigFault>
+    ensures said { Gives (λ n. n) result (spec.product_number taken.now (table_view product.now)) }
+    ensures new { IfOk result (λ n. has_product taken.now n ≡ false) }
+{
+    let number = number_at(product, Key::Number, 1, u64::from(PRODUCTS))?;
+    match taken.numbered(number) {
+        Some(_) => Err(ConfigFault::Repeated(Key::Number)),
+        None => Ok(ProductNo::new(number as u8).unwrap()),
     }
+}
 
-    /// Has a product this name?
-    pub fn has_name(&self, name: &str) -> bool
-        ensures { result ≡ has_name self.now name.now }
-    {
-        self.by_number
-            .values()
-            .any(|product| product.name.as_str() == name)
+/// A fit name that none of the products taken has.
+#[tactic(auto, unfolding(crate::specs::SiteFile::product_name))]
+fn product_name<'a>(taken: &Products, product: &'a Table) -> Result<&'a str, ConfigFault>
+    ensures { Gives (λ s. s.now) result (spec.product_name taken.now (table_view product.now)) }
+{
+    let name = text(value_at(product, Key::Name)?, Key::Name)?.as_str();
+    if !ProductEntry::is_name(name) {
+        return Err(ConfigFault::OutOfRange(Key::Name));
     }
+    if taken.has_name(name) {
+        return Err(ConfigFault::Repeated(Key::Name));
+    }
+    Ok(name)
+}
 
-    /// Takes one more product, whose number is new. On want of memory nothing changes.
-    pub fn push(&mut self, product: ProductEntry) -> Result<(), NoMemory>
-        requires new { has_product self.old product.number ≡ false }
-        ensures ok { OnOk result (self.new ≡ self.old ++ product ∷ []) }
-    {
-        let number = u64::from(product.number.get());
-        self.by_number.insert(number, product)?;
-        Ok(())
-    }
-
-    /// The list of the products.
-    pub fn into_list(self, alloc: Global) -> Result<Vec<ProductEntry>, NoMemory>
-        ensures { IfOk result (λ v. v.items ≡ self) }
-    {
-        let mut list = Vec::new(alloc);
-        for product in self.by_number.into_values() {
-            list.push(product)?;
-        }
-        Ok(list)
-    }
+fn product_price(product: &Table) -> Result<Mills, ConfigFault>
+    ensures { Gives (λ m. m) result (spec.number_at key.Price 1 GREATEST_PRICE (table_view product.now)) }
+{
+    let price = number_at(product, Key::Price, 1, u64::from(GREATEST_PRICE))?;
+    Ok(Mills::new(price as u32).unwrap())
 }

@@ -2,7 +2,7 @@ use Rattle.std.proofs.Common.{◌≡◌, ap, sym, ◌∙◌, is_some, nat_eq, op
 use Rattle.std.specs.Map.{lookup}
 use Rattle.site_base.specs.Configured.{ConfiguredProduct}
 use Rattle.site_file.proofs.Numbered.{found_there, found_number}
-use Rattle.site_file.proofs.products.Products.numbered.Goals as goal
+use Rattle.site_file.proofs.by_number.Products.numbered.Goals as goal
 
 pub returns-in-Some-clause-there : goal.returns-in-Some-clause-there
 returns-in-Some-clause-there c =
