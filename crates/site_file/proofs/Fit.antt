@@ -1,5 +1,5 @@
 -- What a site file says is a fit site: what the judge accepts, a configuration accepts.
-use Rattle.std.proofs.Common.{◌≡◌, ℕ, ◌+◌, ℤ, pos, negsuc, Bool, true, false, not, ◌&&◌, ◌||◌, ◌==◌, List, [], ◌∷◌, ◌++◌, length, Option, Some, None, Result, Ok, Err, IfOk, nat_eq, refl, sym, ap, subst, ◌∙◌, inl, inr, arith}
+use Rattle.std.proofs.Common.{◌≡◌, ℕ, ◌+◌, ℤ, pos, negsuc, Bool, true, false, not, ◌||◌, ◌==◌, List, [], ◌∷◌, ◌++◌, length, Option, Some, None, Result, Ok, Err, IfOk, nat_eq, refl, subst, inl, inr, arith}
 use Rattle.std.proofs.lemmas.Bool.{cases_Bool, and_parts}
 use Rattle.std.proofs.lemmas.Bool.Decides.{nat_tests}
 use Rattle.std.proofs.lemmas.Result.{IfOk-weaker, IfOk-at_ok}
@@ -126,7 +126,7 @@ managers_from-fit : (taken : List ℕ) (items : Items) → none_alike nat_eq tak
 managers_from-fit taken no_items fit = fit
 managers_from-fit taken (item value more) fit =
     stage (manager_of taken value) _ (λ t. list_any (nat_eq t) taken ≡ false) _ (manager_of-fit taken value)
-      (λ t new. managers_from-fit (taken ++ t ∷ []) more (alike-push nat_eq taken t fit (any_turned t taken new)))
+    (λ t new. managers_from-fit (taken ++ t ∷ []) more (alike-push nat_eq taken t fit (any_turned t taken new)))
 
 managers_of-fit : (value : Option Data) → IfOk (managers_of value) (λ ts. none_alike nat_eq ts ≡ true)
 unfolding managers_of
@@ -154,7 +154,7 @@ product_name-fit : (taken : List ConfiguredProduct) (file : Members) → IfOk (p
 unfolding product_name
 product_name-fit taken file =
     later (value_at Name file) _ _ (λ value. later (text Name value) _ _ (λ octets.
-      stage (only_if (is_name octets) _ octets) _ (λ (name : List ℕ). is_name name ≡ true) _ (passed is_name _ octets) (λ name fit. named taken _ name fit)))
+    stage (only_if (is_name octets) _ octets) _ (λ (name : List ℕ). is_name name ≡ true) _ (passed is_name _ octets) (λ name fit. named taken _ name fit)))
 
 -- a product that may follow those taken
 abbrev IsNewProduct : List ConfiguredProduct → ConfiguredProduct → Type 0
@@ -164,17 +164,18 @@ product_of-fit : (taken : List ConfiguredProduct) (value : Data) → IfOk (produ
 unfolding product_of
 product_of-fit taken value =
     later (table_of Product value) _ _ (λ members. later (with_keys _ members) _ _ (λ file.
-      stage (product_number taken file) _ (λ (n : ℕ). has_product taken n ≡ false) _ (product_number-fit taken file) (λ number new.
-        stage (product_name taken file) _ (IsNewName taken) _ (product_name-fit taken file) (λ name fit.
-          later (number_at Price 1 GREATEST_PRICE file) _ _ (λ price. (fit.0, new, fit.1))))))
+    stage (product_number taken file) _ (λ (n : ℕ). has_product taken n ≡ false) _ (product_number-fit taken file) (λ number new.
+    stage (product_name taken file) _ (IsNewName taken) _ (product_name-fit taken file) (λ name fit.
+    later (number_at Price 1 GREATEST_PRICE file) _ _ (λ price. (fit.0, new, fit.1))))))
 
 abbrev FitProducts : List ConfiguredProduct → Type 0
 FitProducts ps = (list_all (λ p. is_name p.name) ps ≡ true) × (none_alike same_product ps ≡ true)
 
 FitProducts-push : (ps : List ConfiguredProduct) (p : ConfiguredProduct) → FitProducts ps → IsNewProduct ps p → FitProducts (ps ++ p ∷ [])
-FitProducts-push ps p fit new =
-    (all-push (λ q. is_name q.name) ps p fit.0 new.0
-    , alike-push same_product ps p fit.1 (any_or (λ q. q.number == p.number) (λ q. bytes_eq q.name p.name) ps new.1 new.2))
+FitProducts-push ps p fit new = (
+  all-push (λ q. is_name q.name) ps p fit.0 new.0,
+  alike-push same_product ps p fit.1 (any_or (λ q. q.number == p.number) (λ q. bytes_eq q.name p.name) ps new.1 new.2),
+)
 
 -- as many as there are members, and fit
 abbrev Counted : {A : Type 0} → (List A → Type 0) → ℕ → List A → Type 0
@@ -185,9 +186,9 @@ products_from-fit : (taken : List ConfiguredProduct) (items : Items) → FitProd
 products_from-fit taken no_items fit = (omega arith, fit)
 products_from-fit taken (item value more) fit =
     stage (product_of taken value) _ (IsNewProduct taken) _ (product_of-fit taken value) (λ p new.
-      let same : length (taken ++ p ∷ []) + count more ≡ length taken + (1 + count more) = omega (arith, length-push taken p) in
-      subst (λ (n : ℕ). IfOk (products_from (taken ++ p ∷ []) more) (Counted FitProducts n)) same
-        (products_from-fit (taken ++ p ∷ []) more (FitProducts-push taken p fit new)))
+    let same : length (taken ++ p ∷ []) + count more ≡ length taken + (1 + count more) = omega (arith, length-push taken p) in
+    subst (λ (n : ℕ). IfOk (products_from (taken ++ p ∷ []) more) (Counted FitProducts n)) same
+    (products_from-fit (taken ++ p ∷ []) more (FitProducts-push taken p fit new)))
 
 are_products-made : (n : ℕ) (ps : List ConfiguredProduct) → is_between 1 PRODUCTS n ≡ true → Counted FitProducts (0 + n) ps → are_products ps ≡ true
 are_products-made n ps between (long, (names, apart)) = let as_many : length ps ≡ n = omega (arith, long) in rw (as_many, between, names, apart) refl
@@ -196,7 +197,7 @@ products_of-fit : (file : Members) → IfOk (products_of file) (λ ps. are_produ
 unfolding products_of
 products_of-fit file =
     stage (list_at Product PRODUCTS file) (products_from []) (λ (items : Items). is_between 1 PRODUCTS (count items) ≡ true) _ (list_at-fit Product PRODUCTS file)
-      (λ items between. IfOk-weaker (products_from [] items) _ _ (λ ps made. are_products-made (count items) ps between made) (products_from-fit [] items (refl, refl)))
+    (λ items between. IfOk-weaker (products_from [] items) _ _ (λ ps made. are_products-made (count items) ps between made) (products_from-fit [] items (refl, refl)))
 
 -- ---- points
 
@@ -208,8 +209,8 @@ nozzle_of-fit : (products : List ConfiguredProduct) (value : Data) → IfOk (noz
 unfolding nozzle_of
 nozzle_of-fit products value =
     later (table_of Nozzles value) _ _ (λ members. later (with_keys _ members) _ _ (λ file. later (value_at Product file) _ _ (λ named. later (whole Product named) _ _ (λ z.
-      stage (product_in products z) _ (λ (n : ℕ). has_product products n ≡ true) _ (product_in-fit products z) (λ n there.
-        later (number_at Reading 0 GREATEST_READING file) _ _ (λ reading. there))))))
+    stage (product_in products z) _ (λ (n : ℕ). has_product products n ≡ true) _ (product_in-fit products z) (λ n there.
+    later (number_at Reading 0 GREATEST_READING file) _ _ (λ reading. there))))))
 
 abbrev Supplied : List ConfiguredProduct → List NozzleEntry → Type 0
 Supplied products ns = list_all (λ n. has_product products n.product) ns ≡ true
@@ -219,9 +220,9 @@ nozzles_from-fit : (products : List ConfiguredProduct) (taken : List NozzleEntry
 nozzles_from-fit products taken no_items fit = (omega arith, fit)
 nozzles_from-fit products taken (item value more) fit =
     stage (nozzle_of products value) _ (λ (n : NozzleEntry). has_product products n.product ≡ true) _ (nozzle_of-fit products value) (λ n there.
-      let same : length (taken ++ n ∷ []) + count more ≡ length taken + (1 + count more) = omega (arith, length-push taken n) in
-      subst (λ (m : ℕ). IfOk (nozzles_from products (taken ++ n ∷ []) more) (Counted (Supplied products) m)) same
-        (nozzles_from-fit products (taken ++ n ∷ []) more (all-push (λ m. has_product products m.product) taken n fit there)))
+    let same : length (taken ++ n ∷ []) + count more ≡ length taken + (1 + count more) = omega (arith, length-push taken n) in
+    subst (λ (m : ℕ). IfOk (nozzles_from products (taken ++ n ∷ []) more) (Counted (Supplied products) m)) same
+    (nozzles_from-fit products (taken ++ n ∷ []) more (all-push (λ m. has_product products m.product) taken n fit there)))
 
 are_nozzles-made : (products : List ConfiguredProduct) (n : ℕ) (ns : List NozzleEntry) → is_between 1 NOZZLES n ≡ true → Counted (Supplied products) (0 + n) ns → are_nozzles products ns ≡ true
 are_nozzles-made products n ns between (long, supplied) = let as_many : length ns ≡ n = omega (arith, long) in rw (as_many, between, supplied) refl
@@ -230,7 +231,7 @@ nozzles_of-fit : (products : List ConfiguredProduct) (file : Members) → IfOk (
 unfolding nozzles_of
 nozzles_of-fit products file =
     stage (list_at Nozzles NOZZLES file) (nozzles_from products []) (λ (items : Items). is_between 1 NOZZLES (count items) ≡ true) _ (list_at-fit Nozzles NOZZLES file)
-      (λ items between. IfOk-weaker (nozzles_from products [] items) _ _ (λ ns made. are_nozzles-made products (count items) ns between made) (nozzles_from-fit products [] items refl))
+    (λ items between. IfOk-weaker (nozzles_from products [] items) _ _ (λ ns made. are_nozzles-made products (count items) ns between made) (nozzles_from-fit products [] items refl))
 
 point_number-fit : (taken : List ConfiguredPoint) (file : Members) → IfOk (point_number taken file) (λ n. has_point taken n ≡ false)
 unfolding point_number
@@ -244,8 +245,8 @@ point_of-fit : (products : List ConfiguredProduct) (taken : List ConfiguredPoint
 unfolding point_of
 point_of-fit products taken value =
     later (table_of Point value) _ _ (λ members. later (with_keys _ members) _ _ (λ file.
-      stage (point_number taken file) _ (λ (n : ℕ). has_point taken n ≡ false) _ (point_number-fit taken file) (λ number new.
-        stage (nozzles_of products file) _ (λ (ns : List NozzleEntry). are_nozzles products ns ≡ true) _ (nozzles_of-fit products file) (λ nozzles fit. (new, fit)))))
+    stage (point_number taken file) _ (λ (n : ℕ). has_point taken n ≡ false) _ (point_number-fit taken file) (λ number new.
+    stage (nozzles_of products file) _ (λ (ns : List NozzleEntry). are_nozzles products ns ≡ true) _ (nozzles_of-fit products file) (λ nozzles fit. (new, fit)))))
 
 abbrev FitPoints : List ConfiguredProduct → List ConfiguredPoint → Type 0
 FitPoints products ps = (list_all (λ p. are_nozzles products p.nozzles) ps ≡ true) × (none_alike same_point ps ≡ true)
@@ -258,9 +259,9 @@ points_from-fit : (products : List ConfiguredProduct) (taken : List ConfiguredPo
 points_from-fit products taken no_items fit = (omega arith, fit)
 points_from-fit products taken (item value more) fit =
     stage (point_of products taken value) _ (IsNewPoint products taken) _ (point_of-fit products taken value) (λ p new.
-      let same : length (taken ++ p ∷ []) + count more ≡ length taken + (1 + count more) = omega (arith, length-push taken p) in
-      subst (λ (n : ℕ). IfOk (points_from products (taken ++ p ∷ []) more) (Counted (FitPoints products) n)) same
-        (points_from-fit products (taken ++ p ∷ []) more (FitPoints-push products taken p fit new)))
+    let same : length (taken ++ p ∷ []) + count more ≡ length taken + (1 + count more) = omega (arith, length-push taken p) in
+    subst (λ (n : ℕ). IfOk (points_from products (taken ++ p ∷ []) more) (Counted (FitPoints products) n)) same
+    (points_from-fit products (taken ++ p ∷ []) more (FitPoints-push products taken p fit new)))
 
 are_points-made : (products : List ConfiguredProduct) (n : ℕ) (ps : List ConfiguredPoint) → is_between 1 POINTS n ≡ true → Counted (FitPoints products) (0 + n) ps → are_points products ps ≡ true
 are_points-made products n ps between (long, (supplied, apart)) = let as_many : length ps ≡ n = omega (arith, long) in rw (as_many, between, supplied, apart) refl
@@ -269,7 +270,7 @@ points_of-fit : (products : List ConfiguredProduct) (file : Members) → IfOk (p
 unfolding points_of
 points_of-fit products file =
     stage (list_at Point POINTS file) (points_from products []) (λ (items : Items). is_between 1 POINTS (count items) ≡ true) _ (list_at-fit Point POINTS file)
-      (λ items between. IfOk-weaker (points_from products [] items) _ _ (λ ps made. are_points-made products (count items) ps between made) (points_from-fit products [] items (refl, refl)))
+    (λ items between. IfOk-weaker (points_from products [] items) _ _ (λ ps made. are_points-made products (count items) ps between made) (points_from-fit products [] items (refl, refl)))
 
 -- ---- the site
 
@@ -277,11 +278,11 @@ site_of-fit : (members : Members) → IfOk (site_of members) (λ c. is_site c �
 unfolding site_of
 site_of-fit members =
     later (with_keys _ members) _ _ (λ file.
-      stage (rows_of (get_member (key_text Rows) file)) _ (λ (n : ℕ). is_between 1 GREATEST_ROWS n ≡ true) _ (rows_of-fit (get_member (key_text Rows) file)) (λ rows between.
-        stage (managers_of (get_member (key_text Managers) file)) _ (λ (ts : List ℕ). none_alike nat_eq ts ≡ true) _ (managers_of-fit (get_member (key_text Managers) file)) (λ managers apart.
-          stage (products_of file) _ (λ (ps : List ConfiguredProduct). are_products ps ≡ true) _ (products_of-fit file) (λ products named.
-            stage (points_of products file) _ (λ (ps : List ConfiguredPoint). are_points products ps ≡ true) _ (points_of-fit products file) (λ points supplied.
-              rw (between, apart, named, supplied) refl)))))
+    stage (rows_of (get_member (key_text Rows) file)) _ (λ (n : ℕ). is_between 1 GREATEST_ROWS n ≡ true) _ (rows_of-fit (get_member (key_text Rows) file)) (λ rows between.
+    stage (managers_of (get_member (key_text Managers) file)) _ (λ (ts : List ℕ). none_alike nat_eq ts ≡ true) _ (managers_of-fit (get_member (key_text Managers) file)) (λ managers apart.
+    stage (products_of file) _ (λ (ps : List ConfiguredProduct). are_products ps ≡ true) _ (products_of-fit file) (λ products named.
+    stage (points_of products file) _ (λ (ps : List ConfiguredPoint). are_points products ps ≡ true) _ (points_of-fit products file) (λ points supplied.
+    rw (between, apart, named, supplied) refl)))))
 
 -- what a site file says is fit
 pub site_is_fit : (members : Members) (c : Configured) → site_of members ≡ Ok c → is_site c ≡ true

@@ -1,14 +1,15 @@
 -- What a site file says: the table of its keys, line by line, over the tree of its text. The stages stand in the
 -- order in which they are judged, so the first that fails gives the fault.
-use Rattle.std.specs.Prelude.{ℕ, ◌+◌, ℤ, pos, negsuc, Bool, true, false, not, ◌==◌, List, [], ◌∷◌, ◌++◌, Option, Some, None, Result, Ok, Err, if◌then◌else◌, nat_eq, codes}
+use Rattle.std.specs.Prelude.{ℕ, ◌+◌, ℤ, pos, negsuc, Bool, true, false, not, ◌==◌, List, [], ◌∷◌, ◌++◌, Option, Some, None, Result, Ok, Err, if◌then◌else◌, nat_eq}
 use Rattle.std.specs.List.{list_any}
-use Rattle.std.specs.Str.{bytes_eq}
-use Rattle.toml.specs.Data.{Data, string, integer, float, boolean, datetime, array, table, Items, no_items, item, Members, no_members, member, get_member}
+use Rattle.std.specs.Str.{bytes_eq, is_utf8}
+use Rattle.toml.specs.Parse.{parse_document}
+use Rattle.toml.specs.Data.{Data, string, integer, array, table, Items, no_items, item, Members, no_members, member, get_member}
 use Rattle.site_base.specs.declared.config.NozzleEntry.{NozzleEntry}
 use Rattle.site_base.specs.declared.limits.TheConstants.{GREATEST_PRICE, GREATEST_READING, GREATEST_ROWS, NOZZLES, POINTS, PRODUCTS, TILLS}
 use Rattle.site_base.specs.Configured.{Configured, ConfiguredProduct, ConfiguredPoint, is_between, is_name, has_product}
 use Rattle.site_file.specs.declared.fault.ConfigFault.{ConfigFault}
-use Rattle.site_file.specs.declared.fault.ConfigFault.TheVariants.{UnknownKey, MissingKey, WrongKind, OutOfRange, Repeated, UnknownProduct}
+use Rattle.site_file.specs.declared.fault.ConfigFault.TheVariants.{NotToml, UnknownKey, MissingKey, WrongKind, OutOfRange, Repeated, UnknownProduct}
 use Rattle.site_file.specs.declared.key.Key.{Key}
 use Rattle.site_file.specs.declared.key.Key.TheVariants.{Rows, Managers, Product, Point, Number, Name, Price, Nozzles, Reading}
 use Rattle.site_file.specs.Keys.{key_text, printed_key, is_known, least}
@@ -210,3 +211,18 @@ site_of members = do
   products ← products_of file
   points ← points_of products file
   Ok (record { rows = rows; managers = managers; products = products; points = points })
+
+-- ---- the text of a site file
+
+-- the tree of a text that is a document
+abbrev pub of_document : Option Members → Result Members ConfigFault
+of_document None = Err NotToml
+of_document (Some file) = Ok file
+
+-- the tree of the octets, if they are UTF-8 and a document by TOML's grammar
+unfoldable pub tree_of : List ℕ → Result Members ConfigFault
+tree_of octets = if is_utf8 octets then of_document (parse_document octets) else Err NotToml
+
+-- what the octets of a site file say: the site, or the first fault
+unfoldable pub config_of : List ℕ → Result Configured ConfigFault
+config_of octets = tree_of octets >>= site_of

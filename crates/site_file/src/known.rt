@@ -20,10 +20,7 @@ pub fn with_keys(alloc: Global, table: &Table, known: &[Key]) -> Result<(), Conf
 {
     // A table's keys ascend, so the first unknown one is the least.
     match first_unknown(table, known) {
-        Some(key) => Err(ConfigFault::UnknownKey(PrintedKey::new(
-            alloc,
-            key.as_bytes(),
-        )?)),
+        Some(key) => Err(ConfigFault::UnknownKey(PrintedKey::new(alloc, key.as_bytes())?)),
         None => Ok(()),
     }
 }

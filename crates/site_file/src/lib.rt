@@ -12,9 +12,11 @@ mod managers;
 mod points;
 mod printed;
 mod products;
+mod reading;
 mod site;
 mod values;
 
 pub use fault::ConfigFault;
 pub use key::Key;
 pub use printed::PrintedKey;
+pub use reading::read_config;

@@ -11,7 +11,9 @@ use crate::fault::ConfigFault;
 use crate::key::Key;
 use crate::known::with_keys;
 use crate::values::{list_at, number_at, table, value_at, whole};
-use site_base::{FpNo, GREATEST_READING, Millilitres, NOZZLES, NozzleEntry, POINTS, PointEntry, ProductNo};
+use site_base::{
+    FpNo, GREATEST_READING, Millilitres, NOZZLES, NozzleEntry, POINTS, PointEntry, ProductNo,
+};
 use std::alloc::Global;
 use toml::{Table, Value};
 
@@ -77,9 +79,7 @@ fn point_number(taken: &[PointEntry], point: &Table) -> Result<FpNo, ConfigFault
 fn is_among(number: FpNo, taken: &[PointEntry]) -> bool
     ensures { result ≡ spec.has_point taken.now number }
 {
-    taken
-        .iter()
-        .any(|point| point.number.get() == number.get())
+    taken.iter().any(|point| point.number.get() == number.get())
 }
 
 /// The nozzles of a point, the nth being nozzle n.

@@ -21,7 +21,11 @@ use toml::{Table, Value};
 pub fn site_of(alloc: Global, file: &Table) -> Result<SiteConfig, ConfigFault>
     ensures { Gives (λ c. c) result (spec.site_of (table_view file.now)) }
 {
-    with_keys(alloc, file, &[Key::Rows, Key::Managers, Key::Product, Key::Point])?;
+    with_keys(
+        alloc,
+        file,
+        &[Key::Rows, Key::Managers, Key::Product, Key::Point],
+    )?;
     let rows = rows_of(found_at(file, Key::Rows))?;
     let managers = managers_of(alloc, found_at(file, Key::Managers))?;
     let products = products_of(alloc, file)?;

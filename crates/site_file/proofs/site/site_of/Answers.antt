@@ -1,6 +1,6 @@
-use Rattle.std.proofs.Common.{◌≡◌, ◌∙◌, rules, Ok, true}
+use Rattle.std.proofs.Common.{◌≡◌, ◌∙◌, rules, Ok}
 use Rattle.toml.specs.View.{table_view}
-use Rattle.site_base.specs.Configured.{Configured, is_site}
+use Rattle.site_base.specs.Configured.{Configured}
 use Rattle.site_file.specs.SiteFile.{site_of}
 use Rattle.site_file.proofs.Fit.{site_is_fit}
 use Rattle.site_file.proofs.site.site_of.Goals as goal

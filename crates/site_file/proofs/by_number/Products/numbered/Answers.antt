@@ -1,5 +1,4 @@
-use Rattle.std.proofs.Common.{◌≡◌, ap, sym, ◌∙◌, is_some, nat_eq, option_copied, Some}
-use Rattle.std.specs.Map.{lookup}
+use Rattle.std.proofs.Common.{ap, sym, ◌∙◌, is_some, option_copied}
 use Rattle.site_base.specs.Configured.{ConfiguredProduct}
 use Rattle.site_file.proofs.Numbered.{found_there, found_number}
 use Rattle.site_file.proofs.by_number.Products.numbered.Goals as goal

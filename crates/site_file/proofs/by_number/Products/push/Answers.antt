@@ -1,7 +1,6 @@
-use Rattle.std.proofs.Common.{◌≡◌, ℕ, false, true, ap, sym, subst, ◌∙◌, List, refl}
+use Rattle.std.proofs.Common.{ap, ◌∙◌, List, refl}
 use Rattle.std.specs.Map.{values_of}
 use Rattle.site_base.specs.Configured.{ConfiguredProduct, has_product}
-use Rattle.site_file.specs.ByNumber.{are_by_number}
 use Rattle.site_file.proofs.Numbered.{inserted, are_by_number-push, values_of-push}
 use Rattle.site_file.proofs.by_number.Products.push.Goals as goal
 
