@@ -1,3 +1,4 @@
 pub mod Fit
 pub mod Numbered
 pub mod Trees
+pub mod Worked
