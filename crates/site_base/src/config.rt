@@ -173,10 +173,11 @@ impl ProductEntry {
         others.iter().any(|other| self.is_like(other))
     }
 
-    fn is_named(&self) -> bool
-        ensures { result ≡ is_name self.now.name }
+    /// Is this fit as a product's name: 1 to `NAME_OCTETS` of a to z, 0 to 9 and hyphen?
+    pub fn is_name(name: &str) -> bool
+        ensures { result ≡ is_name name.now }
     {
-        let octets = self.name.as_bytes();
+        let octets = name.as_bytes();
         is_count(octets.len(), NAME_OCTETS) && are_in_names(octets)
     }
 
@@ -256,7 +257,9 @@ fn are_supplied(products: &[ProductEntry], nozzles: &[NozzleEntry]) -> bool
 fn are_named(products: &[ProductEntry]) -> bool
     ensures { result ≡ list_all (λ p. is_name p.name) products.now }
 {
-    products.iter().all(|product| product.is_named())
+    products
+        .iter()
+        .all(|product| ProductEntry::is_name(product.name.as_str()))
 }
 
 fn have_fit_nozzles(products: &[ProductEntry], points: &[PointEntry]) -> bool

@@ -1,0 +1,4 @@
+pub mod Fit
+pub mod Numbered
+pub mod Trees
+pub mod Worked

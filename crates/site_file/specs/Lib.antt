@@ -1,0 +1,5 @@
+pub mod ByNumber
+pub mod Faults
+pub mod Keys
+pub mod Said
+pub mod SiteFile

@@ -1,0 +1,22 @@
+//! The site file: which site a TOML text configures, or its first fault.
+//!
+//! `read_config` answers the configuration that the text says, exactly, or the first fault in the
+//! order of the site file's table. Which that is, `specs/SiteFile.antt` says line for line.
+#![tactic(auto)]
+
+mod by_number;
+mod fault;
+mod key;
+mod known;
+mod managers;
+mod points;
+mod printed;
+mod products;
+mod reading;
+mod site;
+mod values;
+
+pub use fault::ConfigFault;
+pub use key::Key;
+pub use printed::PrintedKey;
+pub use reading::read_config;
