@@ -1,63 +1,99 @@
-//! The forecourt site controller's program. Without arguments it replays lines of messages from
-//! standard input on the site that it knows by itself, and writes a line for each answer.
+//! The forecourt site controller's program: its words, its files and its texts on standard error.
+//! What it does stands in `forecourt_engines`, how a site file is read in `site_file`.
 #![tactic(auto)]
 
+mod command_line;
+mod end;
+mod files;
+
+use crate::command_line::{answered, command};
+use crate::end::{COMMAND_LINE, ended, failed, told};
+use crate::files::site_of;
+use clap::ArgMatches;
 use forecourt_engines::replay::replay;
-use forecourt_engines::{ReplayFault, known_site};
-use site_base::{Counted, NoMemory};
+use forecourt_engines::{Sizes, known_site};
+use site_base::{Counted, SiteConfig};
 use std::env;
-use std::io::{self, ErrorKind};
+use std::io::ErrorKind;
 use std::process::ExitCode;
 
 /// The read calls and interrupted write calls that a replay may make.
 const TURNS: u64 = 1_000_000_000;
 
-/// The exit status of a mistake on the command line.
-const COMMAND_LINE: u8 = 2;
-
 fn main(rt: HostRuntime) -> ExitCode {
-    match has_arguments(&rt) {
-        Ok(false) => ended(&rt, replayed(&rt)),
-        Ok(true) => told(eprintln!(&rt; "usage: forecourt < MESSAGES"), COMMAND_LINE),
-        Err(NoMemory) => ended(&rt, Some(ReplayFault::NoMemory)),
+    match words(&rt) {
+        Ok(words) if words.len() > 1 => asked(&rt, words.as_slice()),
+        Ok(_) => replayed_here(&rt),
+        Err(status) => status,
     }
 }
 
-/// Tells why the replay ended, if it ended with a fault.
-fn ended(rt: &impl Eprint, fault: Option<ReplayFault>) -> ExitCode {
-    match fault {
-        None => ExitCode::SUCCESS,
-        Some(fault) => told(eprintln!(rt; "{fault}"), fault.exit_status()),
-    }
-}
-
-/// Are there words behind the program's name? Words that aren't text count too.
-fn has_arguments(rt: &HostRuntime) -> Result<bool, NoMemory> {
-    match env::args(rt) {
-        Ok(mut words) => {
-            let _name = words.next();
-            Ok(words.next().is_some())
-        }
-        Err(error) if error.kind() == ErrorKind::OutOfMemory => Err(NoMemory),
-        Err(_) => Ok(true),
-    }
-}
-
-/// Replays standard input, and answers why the replay ended.
-fn replayed(rt: &HostRuntime) -> Option<ReplayFault> {
+/// The words of the command line, the program's name first. Words that aren't text are a mistake.
+fn words(rt: &HostRuntime) -> Result<Vec<String>, ExitCode> {
     let alloc = rt.alloc();
-    match known_site(alloc) {
-        Ok(config) => {
-            let mut reader = Counted::new(rt.stdin());
-            let mut writer = Counted::new(rt.stdout());
-            replay(alloc, &config, &mut reader, &mut writer, TURNS).fault
-        }
-        Err(_) => Some(ReplayFault::NoMemory),
+    match env::args(rt) {
+        Ok(words) => words.collect(alloc).map_err(|_| failed(rt)),
+        Err(error) if error.kind() == ErrorKind::OutOfMemory => Err(failed(rt)),
+        Err(_) => Err(told(
+            eprintln!(rt; "a word of the command line isn't text"),
+            COMMAND_LINE,
+        )),
     }
 }
 
-/// The exit status, where standard error took the text; where it didn't, it is the same.
-fn told(printed: io::Result<()>, status: u8) -> ExitCode {
-    let _ = printed;
-    ExitCode::from(status)
+/// What these words ask for.
+fn asked(rt: &HostRuntime, words: &[String]) -> ExitCode {
+    let built = match command(rt.alloc()) {
+        Ok(built) => built,
+        Err(error) => return answered(rt, &error),
+    };
+    match built.try_get_matches_from(words) {
+        Ok(matches) => done(rt, &matches),
+        Err(error) => answered(rt, &error),
+    }
+}
+
+fn done(rt: &HostRuntime, matches: &ArgMatches<'_>) -> ExitCode {
+    match matches.subcommand() {
+        Some(("check", words)) => checked(rt, words.get_str("FILE").unwrap_or("")),
+        Some(("replay", words)) => {
+            let file = words.get_str("FILE").unwrap_or("");
+            let changes = words.get_flag("changes");
+            match site_of(rt, file) {
+                Ok(config) => replayed(rt, &config, changes),
+                Err(status) => status,
+            }
+        }
+        _ => replayed_here(rt),
+    }
+}
+
+/// Reads a site file, and tells how large the site is.
+fn checked(rt: &HostRuntime, file: &str) -> ExitCode {
+    match site_of(rt, file) {
+        Ok(config) => {
+            let sizes = Sizes::of(&config);
+            match println!(rt; "ok {sizes}") {
+                Ok(()) => ExitCode::SUCCESS,
+                Err(_) => told(eprintln!(rt; "fault 62"), 1),
+            }
+        }
+        Err(status) => status,
+    }
+}
+
+/// Replays standard input on the known site.
+fn replayed_here(rt: &HostRuntime) -> ExitCode {
+    match known_site(rt.alloc()) {
+        Ok(config) => replayed(rt, &config, false),
+        Err(_) => failed(rt),
+    }
+}
+
+/// Replays standard input on this site, and tells why the replay ended, if it ended with a fault.
+fn replayed(rt: &HostRuntime, config: &SiteConfig, changes: bool) -> ExitCode {
+    let mut reader = Counted::new(rt.stdin());
+    let mut writer = Counted::new(rt.stdout());
+    let end = replay(rt.alloc(), config, &mut reader, &mut writer, TURNS, changes);
+    ended(rt, end.fault)
 }

@@ -4,5 +4,6 @@ pub mod Answers
 pub mod Text
 pub mod Replay
 pub mod Ends
+pub mod SiteSizes
 pub mod WholeText
 pub mod Laws

@@ -14,6 +14,7 @@ mod laws;
 mod line;
 pub mod replay;
 mod sites;
+mod sizes;
 
 pub use book::SiteBook;
 pub use fault::{ReplayFault, TextFault};
@@ -21,3 +22,4 @@ pub use laws::{
     a_last_line_says, a_line_says, a_long_line_says, nothing_follows, one_stream_of_lines,
 };
 pub use sites::known_site;
+pub use sizes::Sizes;

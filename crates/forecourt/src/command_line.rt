@@ -1,0 +1,46 @@
+//! The words of the command line.
+
+use crate::end::{COMMAND_LINE, failed, told};
+use clap::error::ErrorKind;
+use clap::{Arg, ArgAction, Command, Error};
+use std::alloc::Global;
+use std::process::ExitCode;
+
+/// The commands of the program.
+pub fn command<'a>(alloc: Global) -> Result<Command<'a>, Error> {
+    let check = Command::new(alloc, "check")
+        .about("Reads a site file, and tells its first fault or how large the site is")
+        .arg(file(alloc))?;
+    let changes = Arg::new(alloc, "changes")
+        .long("changes")
+        .help("Prints the changes that dispensers are told, too")
+        .action(ArgAction::SetTrue);
+    let replay = Command::new(alloc, "replay")
+        .about("Answers the messages of standard input on the site of a file")
+        .arg(file(alloc))?
+        .arg(changes)?;
+    Ok(
+        Command::new(alloc, "forecourt")
+            .version("0.1.0")
+            .about(
+                "The forecourt site controller. Without words it answers the messages of standard input on a site that it knows",
+            )
+            .subcommand(check)?
+            .subcommand(replay)?,
+    )
+}
+
+/// The site file that a command reads.
+fn file<'a>(alloc: Global) -> Arg<'a> {
+    Arg::new(alloc, "FILE").help("The site file").required(true)
+}
+
+/// Prints what `clap` answers in place of matches: help and version on standard output, with status 0;
+/// a mistake on standard error, with status 2.
+pub fn answered(rt: &HostRuntime, error: &Error) -> ExitCode {
+    if error.kind() == ErrorKind::OutOfMemory {
+        return failed(rt);
+    }
+    let status = if error.use_stderr() { COMMAND_LINE } else { 0 };
+    told(error.print(rt), status)
+}
