@@ -2,6 +2,7 @@
  *
  *   REFUSE_GROWTH=N    the Nth growth of the process is refused, once
  *   FAIL_READ=K        the Kth read of standard input fails
+ *   FAIL_FILE_READ=K   the Kth read of another file fails
  *   FAIL_WRITE=K       the Kth write to standard output fails
  *   SHORT_WRITE=M      a write to standard output takes at most M octets
  *   TAKE_ALL=M         standard output takes M octets in all, and then none
@@ -42,7 +43,7 @@ static int fails(const char *name, long *calls)
     return 1;
 }
 
-static long growths, reads, writes, taken;
+static long growths, reads, file_reads, writes, taken;
 static int read_before, written_before;
 
 void *malloc(size_t size)
@@ -95,6 +96,9 @@ ssize_t read(int file, void *room, size_t size)
             errno = EIO;
             return -1;
         }
+    } else if (fails("FAIL_FILE_READ", &file_reads)) {
+        errno = EIO;
+        return -1;
     }
     return syscall(SYS_read, file, room, size);
 }
