@@ -143,6 +143,17 @@ impl Message {
         &self.body[..usize::from(self.body[0]) + 1]
     }
 
+    /// Whether the two messages are the same.
+    pub fn is(&self, other: &Message) -> bool
+        ensures { result ≡ true → self.now ≡ other.now }
+    {
+        self.to == other.to
+            && self.from == other.from
+            && self.kind == other.kind
+            && self.token == other.token
+            && self.body == other.body
+    }
+
     /// The room that the message has, for another one. Its octets mean nothing any more. It takes no
     /// memory.
     pub fn into_buffer(self) -> Vec<u8> {

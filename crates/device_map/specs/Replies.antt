@@ -148,6 +148,14 @@ back request kind items = record {
 abbrev pub reply_message : Telegram → Result Answer Refusal → Telegram
 reply_message request reply = back request (reply_kind reply) (reply_items reply)
 
+-- a message with the recipient, the token and the address of this one, that tells a reply
+abbrev pub told_message : Telegram → Result Answer Refusal → Telegram
+told_message m reply = record m {
+  from = site_node;
+  kind = reply_kind reply;
+  items = reply_items reply;
+}
+
 -- the message that tells a number in place of a reply
 abbrev pub number_message : Telegram → ℕ → Telegram
 number_message request number = back request kinds.Ack (octet ids.RESULT number)

@@ -34,7 +34,15 @@ fn told(alloc: Global, point: FpNo, command: u8) -> Result<Message, NoMemory>
     let address = [ids::POINT_ADDRESS + point.get()];
     let content: &[u8] = &[];
     let items = [(command, content)];
-    match Message::try_new(alloc, to, node::site(), Kind::Notice, token, &address, &items) {
+    match Message::try_new(
+        alloc,
+        to,
+        node::site(),
+        Kind::Notice,
+        token,
+        &address,
+        &items,
+    ) {
         Ok(message) => Ok(message),
         Err(fault) => match fault {
             MessageFault::NoMemory => Err(NoMemory),

@@ -18,9 +18,11 @@ mod node;
 mod put;
 mod reply;
 mod request;
+mod told;
 
 pub use change::change_of;
 pub use fault::MapFault;
 pub use laws::{changes_repeat_requests, one_request};
 pub use reply::{refusal_in, refusal_of, reply_in, reply_of, stream_refusal};
 pub use request::request_of;
+pub use told::reply_told;

@@ -8,7 +8,7 @@ ghost use Rattle.device_map.specs.Replies.{standing_items};
 ghost use Rattle.device_map.specs.Replies.{transaction_items, product_items, site_items, outcome};
 ghost use Rattle.device_map.specs.Replies.{answer_items, answer_kind, detail_items, refusal_items};
 ghost use Rattle.device_map.specs.Replies.{reply_items, reply_kind, reply_message, number_message};
-ghost use Rattle.device_map.specs.Replies.{fault_message, packed, AreShort, back};
+ghost use Rattle.device_map.specs.Replies.{fault_message, packed, AreShort, back, told_message};
 ghost use Rattle.device_map.specs.Nodes.{site_node};
 
 use crate::put::{put_eight, put_four, put_octet, put_two};
@@ -56,6 +56,23 @@ pub fn refusal_in(buffer: Vec<u8>, request: &Message, number: u8) -> Result<Mess
     let mut draft = back(buffer, request, Kind::Ack)?;
     put_octet(&mut draft, ids::RESULT, number)?;
     Ok(finished(draft))
+}
+
+/// The message that tells this reply to the recipient of another message, with that one's token and
+/// address.
+pub fn reply_like(alloc: Global, message: &Message, reply: &Reply) -> Result<Message, NoMemory>
+    ensures { IfOk result (λ m. m ≡ told_message message.now reply.now) }
+{
+    let address = message.address();
+    let mut again = begun(
+        alloc,
+        message.to(),
+        kind_of(reply),
+        message.token(),
+        address,
+    )?;
+    put_reply(&mut again, reply)?;
+    Ok(finished(again))
 }
 
 /// The message that tells why a stream ended: an Ack with the site's address, to the originator and
