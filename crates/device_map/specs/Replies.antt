@@ -156,6 +156,14 @@ told_message m reply = record m {
   items = reply_items reply;
 }
 
+-- .. and one that tells a number
+abbrev pub told_number : Telegram → ℕ → Telegram
+told_number m number = record m {
+  from = site_node;
+  kind = kinds.Ack;
+  items = octet ids.RESULT number;
+}
+
 -- the message that tells a number in place of a reply
 abbrev pub number_message : Telegram → ℕ → Telegram
 number_message request number = back request kinds.Ack (octet ids.RESULT number)

@@ -1,12 +1,13 @@
 //! Changes: what dispensers are told.
 
-ghost use Rattle.std.specs.Prelude.{◌≡◌, [], ◌∷◌, Some, None, IfOk};
+ghost use Rattle.std.specs.Prelude.{◌≡◌, [], ◌∷◌, Some, None, IfOk, IfSome};
 ghost use Rattle.app_message.specs.Telegram.{entry};
-ghost use Rattle.device_map.specs.Changes.{change_of, notice};
+ghost use Rattle.device_map.specs.Changes.{change_by, change_of, notice};
 
+use crate::request::request_of;
 use crate::{ids, node};
 use app_message::{Draft, Kind, Message, MessageFault, Token};
-use site_base::{Event, FpNo, NoMemory, Row};
+use site_base::{Event, FpNo, NoMemory, Row, TillNo};
 use std::alloc::Global;
 
 /// The message that tells the dispenser of a fuelling point of a change: a command that was accepted
@@ -18,10 +19,62 @@ pub fn change_of(alloc: Global, row: &Row) -> Result<Option<Message>, NoMemory>
     if row.reply.is_err() {
         return Ok(None);
     }
-    match row.event {
+    change_by(alloc, row.event)
+}
+
+/// The message that tells of an accepted event, where it is a change.
+fn change_by(alloc: Global, event: Event) -> Result<Option<Message>, NoMemory>
+    ensures { IfOk result (λ change. change ≡ change_by event) }
+{
+    match event {
         Event::Open(p) => Ok(Some(told(alloc, p, ids::OPEN)?)),
         Event::Close(p) => Ok(Some(told(alloc, p, ids::CLOSE)?)),
         _ => Ok(None),
+    }
+}
+
+/// The event of the change that a message tells, if it tells one: of an event that is answered the message
+/// is just the profile's change.
+pub fn change_told(alloc: Global, message: &Message) -> Result<Option<Event>, NoMemory>
+    ensures { IfOk result (λ told. IfSome told (λ event. change_by event ≡ Some message.now)) }
+{
+    let event = &match commanded(alloc, message)? {
+        None => return Ok(None),
+        Some(event) => event,
+    };
+    // What was read is right where it is spelled so again.
+    match change_by(alloc, *event)? {
+        None => Ok(None),
+        Some(change) => {
+            if change.is(message) {
+                return Ok(Some(*event));
+            }
+            Ok(None)
+        }
+    }
+}
+
+/// The event that the address and the items ask for in a till's command, if they ask for one.
+fn commanded(alloc: Global, message: &Message) -> Result<Option<Event>, NoMemory> {
+    let (site, till) = (node::site(), node::till(TillNo::new(1).unwrap()));
+    let (token, address) = (message.token(), message.address());
+    match Draft::try_new(alloc, site, till, Kind::Write, token, address, 0) {
+        Err(MessageFault::NoMemory) => Err(NoMemory),
+        Err(_) => Ok(None),
+        Ok(mut draft) => {
+            for item in message.items() {
+                if draft.put(item.id(), item.content()).is_err() {
+                    return Err(NoMemory);
+                }
+            }
+            match draft.finish() {
+                Err(_) => Ok(None),
+                Ok(command) => match request_of(&command) {
+                    Err(_) => Ok(None),
+                    Ok((_, event)) => Ok(Some(event)),
+                },
+            }
+        }
     }
 }
 

@@ -18,6 +18,11 @@ pub fn site() -> [u8; 2]
     [SITE_SUBNET, SITE_NODE]
 }
 
+/// Subnet and node of a till.
+pub fn till(till: TillNo) -> [u8; 2] {
+    [TILL_SUBNET, till.get()]
+}
+
 /// Subnet and node of the dispenser of a fuelling point.
 pub fn dispenser(point: FpNo) -> [u8; 2]
     ensures { result ≡ DISPENSER_SUBNET ∷ point ∷ [] }

@@ -8,7 +8,7 @@ ghost use Rattle.device_map.specs.Replies.{standing_items};
 ghost use Rattle.device_map.specs.Replies.{transaction_items, product_items, site_items, outcome};
 ghost use Rattle.device_map.specs.Replies.{answer_items, answer_kind, detail_items, refusal_items};
 ghost use Rattle.device_map.specs.Replies.{reply_items, reply_kind, reply_message, number_message};
-ghost use Rattle.device_map.specs.Replies.{fault_message, packed, AreShort, back, told_message};
+ghost use Rattle.device_map.specs.Replies.{fault_message, packed, AreShort, back, told_message, told_number};
 ghost use Rattle.device_map.specs.Nodes.{site_node};
 
 use crate::put::{put_eight, put_four, put_octet, put_two};
@@ -72,6 +72,17 @@ pub fn reply_like(alloc: Global, message: &Message, reply: &Reply) -> Result<Mes
         address,
     )?;
     put_reply(&mut again, reply)?;
+    Ok(finished(again))
+}
+
+/// The message that tells this number to the recipient of another message, with that one's token and
+/// address.
+pub fn number_like(alloc: Global, message: &Message, number: u8) -> Result<Message, NoMemory>
+    ensures { IfOk result (λ m. m ≡ told_number message.now number) }
+{
+    let address = message.address();
+    let mut again = begun(alloc, message.to(), Kind::Ack, message.token(), address)?;
+    put_octet(&mut again, ids::RESULT, number)?;
     Ok(finished(again))
 }
 

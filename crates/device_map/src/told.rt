@@ -1,10 +1,10 @@
 //! Replies read back from their messages.
 
 ghost use Rattle.std.specs.Prelude.{◌≡◌, IfOk, IfSome};
-ghost use Rattle.device_map.specs.Replies.{told_message};
+ghost use Rattle.device_map.specs.Replies.{told_message, told_number};
 
 use crate::ids;
-use crate::reply::reply_like;
+use crate::reply::{number_like, reply_like};
 use app_message::{Kind, Message};
 use site_base::{
     Answer, Cents, Millilitres, Mills, NoMemory, NozzleNo, PointState, PointView, Preset,
@@ -24,6 +24,22 @@ pub fn reply_told(alloc: Global, message: &Message) -> Result<Option<Reply>, NoM
             // What was read is right where it is spelled so again.
             if message.is(&reply_like(alloc, message, &reply)?) {
                 return Ok(Some(reply));
+            }
+            Ok(None)
+        }
+    }
+}
+
+/// The number that a message from the site tells in place of a reply, if it tells one: of a number that is
+/// answered the message is just the profile's.
+pub fn number_told(alloc: Global, message: &Message) -> Result<Option<u8>, NoMemory>
+    ensures { IfOk result (λ told. IfSome told (λ number. message.now ≡ told_number message.now number)) }
+{
+    match octet(message, ids::RESULT) {
+        None => Ok(None),
+        Some(number) => {
+            if message.is(&number_like(alloc, message, number)?) {
+                return Ok(Some(number));
             }
             Ok(None)
         }

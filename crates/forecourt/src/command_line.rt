@@ -19,14 +19,18 @@ pub fn command<'a>(alloc: Global) -> Result<Command<'a>, Error> {
         .about("Answers the messages of standard input on the site of a file")
         .arg(file(alloc))?
         .arg(changes)?;
+    let explain = Command::new(alloc, "explain").about(
+        "Prints the messages of standard input in words, requests and replies",
+    );
     Ok(
         Command::new(alloc, "forecourt")
             .version("0.1.0")
             .about(
-                "The forecourt site controller. Without words it answers the messages of standard input on a site that it knows",
+                "The forecourt site controller; without words it replays on a site that it knows",
             )
             .subcommand(check)?
-            .subcommand(replay)?,
+            .subcommand(replay)?
+            .subcommand(explain)?,
     )
 }
 

@@ -23,6 +23,11 @@ pub fn failed(rt: &impl Eprint) -> ExitCode {
     told(eprintln!(rt; "fault 31"), NO_MEMORY)
 }
 
+/// Tells that standard output takes no more.
+pub fn unwritten(rt: &impl Eprint) -> ExitCode {
+    told(eprintln!(rt; "fault 62"), 1)
+}
+
 /// The exit status, where standard error took the text; where it didn't, it is the same.
 pub fn told(printed: io::Result<()>, status: u8) -> ExitCode {
     let _ = printed;

@@ -4,10 +4,12 @@
 
 mod command_line;
 mod end;
+mod explaining;
 mod files;
 
 use crate::command_line::{answered, command};
-use crate::end::{COMMAND_LINE, ended, failed, told};
+use crate::end::{COMMAND_LINE, ended, failed, told, unwritten};
+use crate::explaining::explained;
 use crate::files::site_of;
 use clap::ArgMatches;
 use forecourt_engines::replay::replay;
@@ -64,6 +66,7 @@ fn done(rt: &HostRuntime, matches: &ArgMatches<'_>) -> ExitCode {
                 Err(status) => status,
             }
         }
+        Some(("explain", _)) => explained(rt),
         _ => replayed_here(rt),
     }
 }
@@ -75,7 +78,7 @@ fn checked(rt: &HostRuntime, file: &str) -> ExitCode {
             let sizes = Sizes::of(&config);
             match println!(rt; "ok {sizes}") {
                 Ok(()) => ExitCode::SUCCESS,
-                Err(_) => told(eprintln!(rt; "fault 62"), 1),
+                Err(_) => unwritten(rt),
             }
         }
         Err(status) => status,

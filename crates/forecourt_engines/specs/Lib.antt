@@ -7,3 +7,4 @@ pub mod Ends
 pub mod SiteSizes
 pub mod WholeText
 pub mod Laws
+pub mod Meanings

@@ -80,13 +80,24 @@ impl Answerer {
         };
         let placed = match self.book.apply(actor, event) {
             Ok(placed) => placed,
-            Err(NoRow::BookFull) => return tell(refusal_in(buffer, message, NoRow::BookFull.number())?, out),
+            Err(NoRow::BookFull) => return tell(
+                refusal_in(buffer, message, NoRow::BookFull.number())?,
+                out,
+            ),
             Err(NoRow::NoMemory) => return Err(NoMemory),
         };
         let reply = placed.reply;
         let room = tell(reply_in(buffer, message, &reply)?, out)?;
         if self.changes {
-            put_change(alloc, &Row { actor, event, reply }, out)?;
+            put_change(
+                alloc,
+                &Row {
+                    actor,
+                    event,
+                    reply,
+                },
+                out,
+            )?;
             return Ok(room);
         }
         Ok(room)

@@ -223,12 +223,8 @@ impl Engine {
     {
         let room = mem::replace(&mut self.messages, Messages::new(self.alloc));
         let Fed { messages, fault } = self.decoder.feed_into(octets, room)?;
-        self.answerer.answer_all(
-            self.alloc,
-            messages.as_slice(),
-            &mut self.reply,
-            out,
-        )?;
+        self.answerer
+            .answer_all(self.alloc, messages.as_slice(), &mut self.reply, out)?;
         self.messages = messages;
         match fault {
             None => Ok(None),

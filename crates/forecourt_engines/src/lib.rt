@@ -3,18 +3,20 @@
 //!
 //! `replay` answers lines of messages over the opening site of a configuration. What it writes is the
 //! text of what it read, as `specs/Text.antt` defines it octet by octet; the laws join that text to
-//! lines and to one stream of messages.
+//! lines and to one stream of messages. `Trace` explains such lines, message by message, in words.
 #![tactic(auto)]
 
 mod answers;
 mod book;
 mod engine;
+pub mod explain;
 mod fault;
 mod laws;
 mod line;
 pub mod replay;
 mod sites;
 mod sizes;
+mod trace;
 
 pub use book::SiteBook;
 pub use fault::{ReplayFault, TextFault};
@@ -23,3 +25,4 @@ pub use laws::{
 };
 pub use sites::known_site;
 pub use sizes::Sizes;
+pub use trace::{Explained, Trace};

@@ -1,0 +1,114 @@
+//! A trace: lines of messages, to be explained.
+
+ghost use Rattle.std.specs.Prelude.{◌≡◌, ◌≤◌, ◌<◌, [], length, Some, None, IfOk, OnOk};
+ghost use Rattle.app_message.specs.Stream.{held_after};
+ghost use Rattle.forecourt_engines.specs.Answers.{Answerer};
+ghost use Rattle.forecourt_engines.specs.Meanings.{messages_in};
+ghost use Rattle.forecourt_engines.specs.Text.{judged, kept_of, left_over};
+ghost use Rattle.forecourt_engines.specs.declared.line.TheConstants.{LINE_OCTETS};
+ghost use Rattle.forecourt_engines.specs.declared.fault.TextFault.TheVariants.{TooLong};
+
+use crate::fault::TextFault;
+use crate::line::{LINE_OCTETS, decode, put_without_spaces, skips, text_of};
+use app_message::{Decoder, Fed, Messages};
+use site_base::NoMemory;
+use std::alloc::Global;
+use std::marker::Model;
+
+/// A trace between two of its lines. It is read as a replay reads its input.
+#[derive(Drop)]
+pub struct Trace {
+    alloc: Global,
+    number: u64,
+    decoder: Decoder,
+}
+
+impl Model for Trace {
+    ghost use Rattle.forecourt_engines.specs.Meanings.{TraceState};
+
+    ghost Value = { TraceState };
+
+    ghost view = { λ t. record { number = t.number; stream = t.decoder } };
+}
+
+/// What a line of a trace brings.
+#[derive(Drop)]
+pub struct Explained {
+    /// The messages that end in the line.
+    pub messages: Messages,
+    /// Why the trace ends with the line, if it does.
+    pub stop: Option<TextFault>,
+}
+
+impl Trace {
+    /// A trace before its first line. It takes no memory.
+    pub fn new(alloc: Global) -> Trace
+        ensures { result ≡ record { number = 1; stream = held_after [] } }
+    {
+        Trace {
+            alloc,
+            number: 1,
+            decoder: Decoder::new(alloc),
+        }
+    }
+
+    /// Takes a line, which comes without its line feed, and gives the messages that end in it. It ends the trace where it ends a replay, with
+    /// the same fault, whatever book the replay is over. After `NoMemory` the trace is of no use.
+    pub fn line(&mut self, line: &[u8]) -> Result<Explained, NoMemory>
+        ensures messages { IfOk result (λ told. length line.now ≤ LINE_OCTETS
+            → told.messages ≡ messages_in self.old.stream (kept_of line.now)) }
+        ensures stop { IfOk result (λ told. (a : Answerer) → length line.now ≤ LINE_OCTETS
+            → told.stop ≡ (judged self.old.number self.old.stream a (kept_of line.now)).stop) }
+        ensures stream { OnOk result ((a : Answerer) → length line.now ≤ LINE_OCTETS
+            → self.new.stream ≡ (judged self.old.number self.old.stream a (kept_of line.now)).stream) }
+        ensures long { IfOk result (λ told. LINE_OCTETS < length line.now → told.stop ≡ Some (TooLong self.old.number)) }
+    {
+        let number = self.number;
+        self.number = number.saturating_add(1);
+        if line.len() > LINE_OCTETS {
+            return Ok(self.stopped(TextFault::TooLong(number)));
+        }
+        let (mut kept, mut octets) = (Vec::new(self.alloc), Vec::new(self.alloc));
+        put_without_spaces(text_of(line), &mut kept)?;
+        if skips(&kept) {
+            return Ok(Explained {
+                messages: Messages::new(self.alloc),
+                stop: None,
+            });
+        }
+        if !decode(&kept, &mut octets)? {
+            return Ok(self.stopped(TextFault::NotHexadecimal(number)));
+        }
+        let Fed { messages, fault } = self.decoder.feed(&octets)?;
+        match fault {
+            None => Ok(Explained {
+                messages,
+                stop: None,
+            }),
+            Some(fault) => Ok(Explained {
+                messages,
+                stop: Some(TextFault::Stream(fault.fault)),
+            }),
+        }
+    }
+
+    /// The end of the trace: octets of a message that doesn't come are a fault.
+    pub fn end(&self) -> Option<TextFault>
+        ensures { result ≡ left_over self.now.stream.rest }
+    {
+        if self.decoder.held() > 0 {
+            return Some(TextFault::Truncated);
+        }
+        None
+    }
+
+    fn stopped(&self, fault: TextFault) -> Explained
+        ensures messages { result.messages ≡ [] }
+        ensures stop { result.stop ≡ Some fault }
+    {
+        Explained {
+            messages: Messages::new(self.alloc),
+            stop: Some(fault),
+        }
+    }
+}
