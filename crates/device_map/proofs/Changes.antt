@@ -1,5 +1,5 @@
 -- A change has the address and the items of the request that made it.
-use Rattle.std.proofs.Common.{◌≡◌, ℕ, List, true, Option, Some, None, Result, Ok, Err, subst, sym, ap}
+use Rattle.std.proofs.Common.{◌≡◌, ℕ, true, Some, Result, Ok, Err}
 use Rattle.site_base.specs.declared.answer.Answer.{Answer}
 use Rattle.site_base.specs.declared.event.Event.{Event}
 use Rattle.site_base.specs.declared.event.Event.TheVariants as events

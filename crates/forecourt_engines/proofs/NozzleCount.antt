@@ -1,11 +1,11 @@
 -- No site has more nozzles than its points may have.
-use Rattle.std.proofs.Common.{◌≡◌, ◌≤◌, ◌*◌, ◌+◌, ℕ, List, [], ◌∷◌, length, Bool, true, arith}
+use Rattle.std.proofs.Common.{◌≡◌, ◌≤◌, ◌*◌, List, [], ◌∷◌, length, Bool, true, arith}
 use Rattle.std.specs.Prelude.{◌&&◌}
 use Rattle.std.specs.List.{list_all}
 use Rattle.std.proofs.lemmas.Bool.{and_parts}
 use Rattle.std.proofs.lemmas.Bool.Decides.{nat_tests}
 use Rattle.site_base.specs.declared.limits.TheConstants.{NOZZLES, POINTS}
-use Rattle.site_base.specs.Configured.{ConfiguredProduct, ConfiguredPoint, is_between, are_nozzles, are_points, has_product, none_alike, same_point}
+use Rattle.site_base.specs.Configured.{ConfiguredProduct, ConfiguredPoint, is_between, are_nozzles, are_points}
 use Rattle.forecourt_engines.specs.SiteSizes.{nozzle_count}
 
 few_nozzles : (products : List ConfiguredProduct) (ps : List ConfiguredPoint)
