@@ -89,15 +89,12 @@ impl Answerer {
         let reply = placed.reply;
         let room = tell(reply_in(buffer, message, &reply)?, out)?;
         if self.changes {
-            put_change(
-                alloc,
-                &Row {
-                    actor,
-                    event,
-                    reply,
-                },
-                out,
-            )?;
+            let row = Row {
+                actor,
+                event,
+                reply,
+            };
+            put_change(alloc, &row, out)?;
             return Ok(room);
         }
         Ok(room)
