@@ -30,7 +30,7 @@ found_number k (e ∷ es) p by found =
     let (here, rest) = and_parts (e.0 == e.1.number) (are_by_number es) by in
     let key : e.0 ≡ e.1.number = eqb-true _ _ here in
     elim (cases_Bool (nat_eq k e.0)) [
-      | inl is ↦ let same : k ≡ e.0 = eqb-true _ _ is in let at : Some e.1 ≡ Some p = rw is at found in let seen : e.1 ≡ p = cc in ap (λ (q : ConfiguredProduct). q.number) (sym seen) ∙ sym key ∙ sym same
+      | inl is ↦ let at : Some e.1 ≡ Some p = rw is at found in let seen : e.1 ≡ p = cc in ap (λ (q : ConfiguredProduct). q.number) (sym seen) ∙ sym key ∙ sym (eqb-true _ _ is)
       | inr is ↦ found_number k es p rest (rw is at found)
     ]
 
