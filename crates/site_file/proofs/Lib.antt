@@ -1,4 +1,6 @@
+pub mod EverySite
 pub mod Fit
+pub mod Lists
 pub mod Numbered
 pub mod Trees
 pub mod Worked

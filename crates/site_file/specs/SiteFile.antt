@@ -1,5 +1,5 @@
--- What a site file says: the table of its keys, line by line, over the tree of its text. The stages stand in the
--- order in which they are judged, so the first that fails gives the fault.
+-- What a site file says: the table of its keys, line by line, over the tree of its text. The stages
+-- stand in the order in which they are judged, so the first that fails gives the fault.
 use Rattle.std.specs.Prelude.{ℕ, ◌+◌, ℤ, pos, negsuc, Bool, true, false, not, ◌==◌, List, [], ◌∷◌, ◌++◌, Option, Some, None, Result, Ok, Err, if◌then◌else◌, nat_eq}
 use Rattle.std.specs.List.{list_any}
 use Rattle.std.specs.Str.{bytes_eq, is_utf8}
@@ -18,7 +18,8 @@ use Rattle.site_file.specs.Keys.{key_text, printed_key, is_known, least}
 
 -- a stage, and then the next one, unless it failed
 infixl 10 ◌>>=◌
-abbrev pub ◌>>=◌ : {A B : Type 0} → Result A ConfigFault → (A → Result B ConfigFault) → Result B ConfigFault
+abbrev pub ◌>>=◌ : {A B : Type 0} → Result A ConfigFault → (A → Result B ConfigFault)
+    → Result B ConfigFault
 (Ok x) >>= next = next x
 (Err fault) >>= next = Err fault
 
@@ -32,7 +33,8 @@ only_if false fault x = Err fault
 -- the unknown keys of a table
 abbrev pub unknown_keys : List Key → Members → List (List ℕ)
 unknown_keys known no_members = []
-unknown_keys known (member key value more) = if is_known known key then unknown_keys known more else key ∷ unknown_keys known more
+unknown_keys known (member key value more) =
+    if is_known known key then unknown_keys known more else key ∷ unknown_keys known more
 
 -- a table has these keys alone, or its least unknown one is told
 abbrev pub refuse_least : Members → Option (List ℕ) → Result Members ConfigFault
@@ -105,7 +107,8 @@ manager_of taken value = do
 
 abbrev pub managers_from : List ℕ → Items → Result (List ℕ) ConfigFault
 managers_from taken no_items = Ok taken
-managers_from taken (item value more) = manager_of taken value >>= λ till. managers_from (taken ++ till ∷ []) more
+managers_from taken (item value more) =
+    manager_of taken value >>= λ till. managers_from (taken ++ till ∷ []) more
 
 unfoldable pub managers_of : Option Data → Result (List ℕ) ConfigFault
 managers_of None = Ok []
@@ -141,9 +144,11 @@ product_of taken value = do
   price ← number_at Price 1 GREATEST_PRICE file
   Ok (record { number = number; name = name; price = price })
 
-abbrev pub products_from : List ConfiguredProduct → Items → Result (List ConfiguredProduct) ConfigFault
+abbrev pub products_from : List ConfiguredProduct → Items
+    → Result (List ConfiguredProduct) ConfigFault
 products_from taken no_items = Ok taken
-products_from taken (item value more) = product_of taken value >>= λ product. products_from (taken ++ product ∷ []) more
+products_from taken (item value more) =
+    product_of taken value >>= λ product. products_from (taken ++ product ∷ []) more
 
 -- product: a list of 1 to 8 tables
 unfoldable pub products_of : Members → Result (List ConfiguredProduct) ConfigFault
@@ -167,9 +172,11 @@ nozzle_of products value = do
   reading ← number_at Reading 0 GREATEST_READING file
   Ok (record { product = product; reading = reading })
 
-abbrev pub nozzles_from : List ConfiguredProduct → List NozzleEntry → Items → Result (List NozzleEntry) ConfigFault
+abbrev pub nozzles_from : List ConfiguredProduct → List NozzleEntry → Items
+    → Result (List NozzleEntry) ConfigFault
 nozzles_from products taken no_items = Ok taken
-nozzles_from products taken (item value more) = nozzle_of products value >>= λ nozzle. nozzles_from products (taken ++ nozzle ∷ []) more
+nozzles_from products taken (item value more) =
+    nozzle_of products value >>= λ nozzle. nozzles_from products (taken ++ nozzle ∷ []) more
 
 -- nozzles: a list of 1 to 8 tables; nozzle n is the nth
 unfoldable pub nozzles_of : List ConfiguredProduct → Members → Result (List NozzleEntry) ConfigFault
@@ -186,7 +193,8 @@ point_number taken file = do
   only_if (not (has_point taken number)) (Repeated Number) number
 
 -- a point, after those taken: number, nozzles
-unfoldable pub point_of : List ConfiguredProduct → List ConfiguredPoint → Data → Result ConfiguredPoint ConfigFault
+unfoldable pub point_of : List ConfiguredProduct → List ConfiguredPoint → Data
+    → Result ConfiguredPoint ConfigFault
 point_of products taken value = do
   members ← table_of Point value
   file ← with_keys (Number ∷ Nozzles ∷ []) members
@@ -194,12 +202,15 @@ point_of products taken value = do
   nozzles ← nozzles_of products file
   Ok (record { number = number; nozzles = nozzles })
 
-abbrev pub points_from : List ConfiguredProduct → List ConfiguredPoint → Items → Result (List ConfiguredPoint) ConfigFault
+abbrev pub points_from : List ConfiguredProduct → List ConfiguredPoint → Items
+    → Result (List ConfiguredPoint) ConfigFault
 points_from products taken no_items = Ok taken
-points_from products taken (item value more) = point_of products taken value >>= λ point. points_from products (taken ++ point ∷ []) more
+points_from products taken (item value more) =
+    point_of products taken value >>= λ point. points_from products (taken ++ point ∷ []) more
 
 -- point: a list of 1 to 64 tables
-unfoldable pub points_of : List ConfiguredProduct → Members → Result (List ConfiguredPoint) ConfigFault
+unfoldable pub points_of : List ConfiguredProduct → Members
+    → Result (List ConfiguredPoint) ConfigFault
 points_of products file = list_at Point POINTS file >>= points_from products []
 
 -- ---- the site: rows, managers, product, point
