@@ -1,11 +1,16 @@
--- What the table of the site file is checked by: a file says fit sites, and every fit site.
-use Rattle.std.specs.Prelude.{◌≡◌, ℕ, pos, Bool, true, ◌&&◌, List, [], ◌∷◌, Ok, codes}
+-- What the table of the site file is checked by: a file says fit sites, and every fit site; and which
+-- faults are of the text, and which of what it says.
+use Rattle.std.specs.Prelude.{◌≡◌, ◌≢◌, ◌⊎◌, ℕ, pos, Bool, true, false, ◌&&◌, List, [], ◌∷◌, None, Ok, Err, codes}
 use Rattle.std.specs.List.{list_all}
+use Rattle.std.specs.Str.{is_utf8}
 use Rattle.toml.specs.Data.{Data, string, integer, array, table, Items, no_items, item, Members, no_members, member}
+use Rattle.toml.specs.Parse.{parse_document}
 use Rattle.site_base.specs.declared.config.NozzleEntry.{NozzleEntry}
 use Rattle.site_base.specs.declared.limits.TheConstants.{GREATEST_PRICE, GREATEST_READING, POINTS, PRODUCTS, TILLS}
 use Rattle.site_base.specs.Configured.{Configured, ConfiguredProduct, ConfiguredPoint, is_between, is_site}
-use Rattle.site_file.specs.SiteFile.{site_of}
+use Rattle.site_file.specs.declared.fault.ConfigFault.{ConfigFault}
+use Rattle.site_file.specs.declared.fault.ConfigFault.TheVariants.{NoMemory, NotToml}
+use Rattle.site_file.specs.SiteFile.{site_of, config_of}
 
 -- ---- the tree by which a file can say a site
 
@@ -40,7 +45,7 @@ site_tree c =
     (member (codes "product") (array (list_tree product_tree c.products))
     (member (codes "rows") (number_tree c.rows) no_members)))
 
--- ---- the law
+-- ---- the laws
 
 -- the numbers of a configuration are in the ranges of their types
 abbrev pub is_product_in_range : ConfiguredProduct → Bool
@@ -61,3 +66,18 @@ pub record IsInRange (c : Configured) : Type 0 where
 pub record AcceptsTheFitSites : Type 0 where
   pub fit : (file : Members) (c : Configured) → site_of file ≡ Ok c → is_site c ≡ true
   pub every : (c : Configured) → is_site c ≡ true → IsInRange c → site_of (site_tree c) ≡ Ok c
+
+-- a fault of what a text says, and not of the text itself or of memory
+abbrev pub is_of_tree : ConfigFault → Bool
+is_of_tree NoMemory = false
+is_of_tree NotToml = false
+is_of_tree fault = true
+
+-- A tree has no fault but 71 to 76. The octets of a file are no TOML only where they aren't UTF-8 or
+-- no document by TOML's grammar. What a file says is never want of memory.
+pub record TellsTheTextApart : Type 0 where
+  pub tree : (file : Members) (fault : ConfigFault)
+      → site_of file ≡ Err fault → is_of_tree fault ≡ true
+  pub text : (octets : List ℕ) → config_of octets ≡ Err NotToml
+      → (is_utf8 octets ≡ false) ⊎ (parse_document octets ≡ None)
+  pub memory : (octets : List ℕ) → config_of octets ≢ Err NoMemory

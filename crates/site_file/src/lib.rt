@@ -19,6 +19,6 @@ mod values;
 
 pub use fault::ConfigFault;
 pub use key::Key;
-pub use laws::accepts_the_fit_sites;
+pub use laws::{accepts_the_fit_sites, tells_the_text_apart};
 pub use printed::PrintedKey;
 pub use reading::read_config;
