@@ -1,5 +1,6 @@
 pub mod ByNumber
 pub mod Faults
 pub mod Keys
+pub mod Laws
 pub mod Said
 pub mod SiteFile

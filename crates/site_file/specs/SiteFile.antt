@@ -1,5 +1,5 @@
--- What a site file says: the table of its keys, line by line, over the tree of its text. The stages stand in the
--- order in which they are judged, so the first that fails gives the fault.
+-- What a site file says: the table of its keys, line by line, over the tree of its text. The stages
+-- stand in the order in which they are judged, so the first that fails gives the fault.
 use Rattle.std.specs.Prelude.{ℕ, ◌+◌, ℤ, pos, negsuc, Bool, true, false, not, ◌==◌, List, [], ◌∷◌, ◌++◌, Option, Some, None, Result, Ok, Err, if◌then◌else◌, nat_eq}
 use Rattle.std.specs.List.{list_any}
 use Rattle.std.specs.Str.{bytes_eq, is_utf8}
@@ -18,7 +18,8 @@ use Rattle.site_file.specs.Keys.{key_text, printed_key, is_known, least}
 
 -- a stage, and then the next one, unless it failed
 infixl 10 ◌>>=◌
-abbrev pub ◌>>=◌ : {A B : Type 0} → Result A ConfigFault → (A → Result B ConfigFault) → Result B ConfigFault
+abbrev pub ◌>>=◌ : {A B : Type 0} → Result A ConfigFault → (A → Result B ConfigFault)
+    → Result B ConfigFault
 (Ok x) >>= next = next x
 (Err fault) >>= next = Err fault
 
@@ -32,15 +33,16 @@ only_if false fault x = Err fault
 -- the unknown keys of a table
 abbrev pub unknown_keys : List Key → Members → List (List ℕ)
 unknown_keys known no_members = []
-unknown_keys known (member key value more) = if is_known known key then unknown_keys known more else key ∷ unknown_keys known more
+unknown_keys known (member key value more) =
+    if is_known known key then unknown_keys known more else key ∷ unknown_keys known more
 
 -- a table has these keys alone, or its least unknown one is told
 abbrev pub refuse_least : Members → Option (List ℕ) → Result Members ConfigFault
-refuse_least file None = Ok file
-refuse_least file (Some key) = Err (UnknownKey (printed_key key))
+refuse_least members None = Ok members
+refuse_least members (Some key) = Err (UnknownKey (printed_key key))
 
 unfoldable pub with_keys : List Key → Members → Result Members ConfigFault
-with_keys known file = refuse_least file (least (unknown_keys known file))
+with_keys known members = refuse_least members (least (unknown_keys known members))
 
 -- what stands at a key, which must be there
 abbrev pub there : Key → Option Data → Result Data ConfigFault
@@ -48,7 +50,7 @@ there key None = Err (MissingKey key)
 there key (Some value) = Ok value
 
 unfoldable pub value_at : Key → Members → Result Data ConfigFault
-value_at key file = there key (get_member (key_text key) file)
+value_at key members = there key (get_member (key_text key) members)
 
 -- a whole number, a text, a list, a table, or the wrong kind
 abbrev pub whole : Key → Data → Result ℤ ConfigFault
@@ -64,7 +66,7 @@ list key (array items) = Ok items
 list key value = Err (WrongKind key)
 
 abbrev pub table_of : Key → Data → Result Members ConfigFault
-table_of key (table file) = Ok file
+table_of key (table members) = Ok members
 table_of key value = Err (WrongKind key)
 
 -- a whole number from low to high
@@ -76,7 +78,7 @@ unfoldable pub number_in : Key → ℕ → ℕ → Data → Result ℕ ConfigFau
 number_in key low high value = whole key value >>= in_range key low high
 
 unfoldable pub number_at : Key → ℕ → ℕ → Members → Result ℕ ConfigFault
-number_at key low high file = value_at key file >>= number_in key low high
+number_at key low high members = value_at key members >>= number_in key low high
 
 -- how many members a list has
 abbrev pub count : Items → ℕ
@@ -85,8 +87,8 @@ count (item value more) = 1 + count more
 
 -- a list of 1 to most members
 unfoldable pub list_at : Key → ℕ → Members → Result Items ConfigFault
-list_at key most file = do
-  value ← value_at key file
+list_at key most members = do
+  value ← value_at key members
   items ← list key value
   only_if (is_between 1 most (count items)) (OutOfRange key) items
 
@@ -105,7 +107,8 @@ manager_of taken value = do
 
 abbrev pub managers_from : List ℕ → Items → Result (List ℕ) ConfigFault
 managers_from taken no_items = Ok taken
-managers_from taken (item value more) = manager_of taken value >>= λ till. managers_from (taken ++ till ∷ []) more
+managers_from taken (item value more) =
+    manager_of taken value >>= λ till. managers_from (taken ++ till ∷ []) more
 
 unfoldable pub managers_of : Option Data → Result (List ℕ) ConfigFault
 managers_of None = Ok []
@@ -115,8 +118,8 @@ managers_of (Some value) = list Managers value >>= managers_from []
 
 -- number: 1 to 8, not repeated
 unfoldable pub product_number : List ConfiguredProduct → Members → Result ℕ ConfigFault
-product_number taken file = do
-  number ← number_at Number 1 PRODUCTS file
+product_number taken product = do
+  number ← number_at Number 1 PRODUCTS product
   only_if (not (has_product taken number)) (Repeated Number) number
 
 -- a product of this name is there
@@ -125,8 +128,8 @@ has_name products name = list_any (λ p. bytes_eq p.name name) products
 
 -- name: 1 to 20 of a to z, 0 to 9 and hyphen, not repeated
 unfoldable pub product_name : List ConfiguredProduct → Members → Result (List ℕ) ConfigFault
-product_name taken file = do
-  value ← value_at Name file
+product_name taken product = do
+  value ← value_at Name product
   octets ← text Name value
   name ← only_if (is_name octets) (OutOfRange Name) octets
   only_if (not (has_name taken name)) (Repeated Name) name
@@ -135,15 +138,17 @@ product_name taken file = do
 unfoldable pub product_of : List ConfiguredProduct → Data → Result ConfiguredProduct ConfigFault
 product_of taken value = do
   members ← table_of Product value
-  file ← with_keys (Number ∷ Name ∷ Price ∷ []) members
-  number ← product_number taken file
-  name ← product_name taken file
-  price ← number_at Price 1 GREATEST_PRICE file
+  product ← with_keys (Number ∷ Name ∷ Price ∷ []) members
+  number ← product_number taken product
+  name ← product_name taken product
+  price ← number_at Price 1 GREATEST_PRICE product
   Ok (record { number = number; name = name; price = price })
 
-abbrev pub products_from : List ConfiguredProduct → Items → Result (List ConfiguredProduct) ConfigFault
+abbrev pub products_from : List ConfiguredProduct → Items
+    → Result (List ConfiguredProduct) ConfigFault
 products_from taken no_items = Ok taken
-products_from taken (item value more) = product_of taken value >>= λ product. products_from (taken ++ product ∷ []) more
+products_from taken (item value more) =
+    product_of taken value >>= λ product. products_from (taken ++ product ∷ []) more
 
 -- product: a list of 1 to 8 tables
 unfoldable pub products_of : Members → Result (List ConfiguredProduct) ConfigFault
@@ -160,20 +165,22 @@ product_in products (negsuc n) = Err UnknownProduct
 unfoldable pub nozzle_of : List ConfiguredProduct → Data → Result NozzleEntry ConfigFault
 nozzle_of products value = do
   members ← table_of Nozzles value
-  file ← with_keys (Product ∷ Reading ∷ []) members
-  named ← value_at Product file
+  nozzle ← with_keys (Product ∷ Reading ∷ []) members
+  named ← value_at Product nozzle
   number ← whole Product named
   product ← product_in products number
-  reading ← number_at Reading 0 GREATEST_READING file
+  reading ← number_at Reading 0 GREATEST_READING nozzle
   Ok (record { product = product; reading = reading })
 
-abbrev pub nozzles_from : List ConfiguredProduct → List NozzleEntry → Items → Result (List NozzleEntry) ConfigFault
+abbrev pub nozzles_from : List ConfiguredProduct → List NozzleEntry → Items
+    → Result (List NozzleEntry) ConfigFault
 nozzles_from products taken no_items = Ok taken
-nozzles_from products taken (item value more) = nozzle_of products value >>= λ nozzle. nozzles_from products (taken ++ nozzle ∷ []) more
+nozzles_from products taken (item value more) =
+    nozzle_of products value >>= λ nozzle. nozzles_from products (taken ++ nozzle ∷ []) more
 
 -- nozzles: a list of 1 to 8 tables; nozzle n is the nth
 unfoldable pub nozzles_of : List ConfiguredProduct → Members → Result (List NozzleEntry) ConfigFault
-nozzles_of products file = list_at Nozzles NOZZLES file >>= nozzles_from products []
+nozzles_of products point = list_at Nozzles NOZZLES point >>= nozzles_from products []
 
 -- a point of this number is there
 abbrev pub has_point : List ConfiguredPoint → ℕ → Bool
@@ -181,25 +188,29 @@ has_point points number = list_any (λ p. p.number == number) points
 
 -- number: 1 to 64, not repeated
 unfoldable pub point_number : List ConfiguredPoint → Members → Result ℕ ConfigFault
-point_number taken file = do
-  number ← number_at Number 1 POINTS file
+point_number taken point = do
+  number ← number_at Number 1 POINTS point
   only_if (not (has_point taken number)) (Repeated Number) number
 
 -- a point, after those taken: number, nozzles
-unfoldable pub point_of : List ConfiguredProduct → List ConfiguredPoint → Data → Result ConfiguredPoint ConfigFault
+unfoldable pub point_of : List ConfiguredProduct → List ConfiguredPoint → Data
+    → Result ConfiguredPoint ConfigFault
 point_of products taken value = do
   members ← table_of Point value
-  file ← with_keys (Number ∷ Nozzles ∷ []) members
-  number ← point_number taken file
-  nozzles ← nozzles_of products file
+  point ← with_keys (Number ∷ Nozzles ∷ []) members
+  number ← point_number taken point
+  nozzles ← nozzles_of products point
   Ok (record { number = number; nozzles = nozzles })
 
-abbrev pub points_from : List ConfiguredProduct → List ConfiguredPoint → Items → Result (List ConfiguredPoint) ConfigFault
+abbrev pub points_from : List ConfiguredProduct → List ConfiguredPoint → Items
+    → Result (List ConfiguredPoint) ConfigFault
 points_from products taken no_items = Ok taken
-points_from products taken (item value more) = point_of products taken value >>= λ point. points_from products (taken ++ point ∷ []) more
+points_from products taken (item value more) =
+    point_of products taken value >>= λ point. points_from products (taken ++ point ∷ []) more
 
 -- point: a list of 1 to 64 tables
-unfoldable pub points_of : List ConfiguredProduct → Members → Result (List ConfiguredPoint) ConfigFault
+unfoldable pub points_of : List ConfiguredProduct → Members
+    → Result (List ConfiguredPoint) ConfigFault
 points_of products file = list_at Point POINTS file >>= points_from products []
 
 -- ---- the site: rows, managers, product, point

@@ -43,10 +43,17 @@ impl Products {
         ensures there { is_some result ≡ has_product self.now number }
         ensures value { IfSome result (λ q. q ≡ number) }
     {
-        match self.by_number.get(&number) {
+        match self.find(number) {
             Some(product) => Some(product.number),
             None => None,
         }
+    }
+
+    fn find(&self, number: u64) -> Option<&ProductEntry>
+        ensures there { is_some result ≡ has_product self.now number }
+        ensures value { IfSome result (λ p. p.now.number ≡ number) }
+    {
+        self.by_number.get(&number)
     }
 
     /// Has a product this name?

@@ -5,8 +5,8 @@ ghost use Rattle.site_file.specs.Keys.{key_text};
 
 use std::fmt;
 
-/// A key of a site file. `Product` is a key of the file, whose value is the list of products, and of a
-/// nozzle, whose value is the number of one.
+/// A key of a site file. `Product` is a key of the file, whose value is the list of products, and
+/// of a nozzle, whose value is the number of one.
 #[derive(Clone, Copy, Debug, PartialEq, Eq)]
 pub enum Key {
     /// The most rows of the history.

@@ -16,7 +16,8 @@ use toml::Table;
 /// The table has none but these keys, or its least other one is the fault.
 #[tactic(auto, using(crate::proofs::Trees::least_unknown), unfolding(crate::specs::SiteFile::with_keys))]
 pub fn with_keys(alloc: Global, table: &Table, known: &[Key]) -> Result<(), ConfigFault>
-    ensures { Gives (λ _. table_view table.now) result (spec.with_keys known.now (table_view table.now)) }
+    ensures { Gives (λ _. table_view table.now) result
+        (spec.with_keys known.now (table_view table.now)) }
 {
     // A table's keys ascend, so the first unknown one is the least.
     match first_unknown(table, known) {
@@ -26,7 +27,8 @@ pub fn with_keys(alloc: Global, table: &Table, known: &[Key]) -> Result<(), Conf
 }
 
 fn first_unknown<'a>(table: &'a Table, known: &[Key]) -> Option<&'a String>
-    ensures first { option_copied result ≡ find (λ key. not (is_known known.now (string_bytes key))) (keys table.now) }
+    ensures first { option_copied result
+        ≡ find (λ key. not (is_known known.now (string_bytes key))) (keys table.now) }
     ensures ordered { IsOrdered string_cmp table.now }
 {
     table.keys().find(|key| !is_known(key.as_str(), known))

@@ -8,6 +8,7 @@ mod by_number;
 mod fault;
 mod key;
 mod known;
+mod laws;
 mod managers;
 mod points;
 mod printed;
@@ -18,5 +19,6 @@ mod values;
 
 pub use fault::ConfigFault;
 pub use key::Key;
+pub use laws::{accepts_the_fit_sites, tells_the_text_apart};
 pub use printed::PrintedKey;
 pub use reading::read_config;

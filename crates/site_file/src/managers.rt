@@ -16,7 +16,8 @@ use toml::Value;
 /// The tills of the list, none twice; none where there is no list.
 #[tactic(auto, unfolding(crate::specs::SiteFile::managers_of))]
 pub fn managers_of(alloc: Global, value: Option<&Value>) -> Result<Vec<TillNo>, ConfigFault>
-    ensures { Gives (λ v. v.items) result (spec.managers_of (option_map (λ v. view v.now) value.entry)) }
+    ensures { Gives (λ v. v.items) result
+        (spec.managers_of (option_map (λ v. view v.now) value.entry)) }
 {
     match value {
         Some(value) => managers_in(alloc, list(value, Key::Managers)?),

@@ -35,7 +35,8 @@ fn points_in(
     products: &Products,
     members: &[Value],
 ) -> Result<Vec<PointEntry>, ConfigFault>
-    ensures { Gives (λ v. v.items) result (spec.points_from products.now [] (items_view members.now)) }
+    ensures { Gives (λ v. v.items) result
+        (spec.points_from products.now [] (items_view members.now)) }
 {
     let mut points = Vec::new(alloc);
     for member in members {
@@ -100,7 +101,8 @@ fn nozzles_in(
     products: &Products,
     members: &[Value],
 ) -> Result<Vec<NozzleEntry>, ConfigFault>
-    ensures { Gives (λ v. v.items) result (spec.nozzles_from products.now [] (items_view members.now)) }
+    ensures { Gives (λ v. v.items) result
+        (spec.nozzles_from products.now [] (items_view members.now)) }
 {
     let mut nozzles = Vec::new(alloc);
     for member in members {
@@ -137,7 +139,8 @@ fn product_in(products: &Products, number: i64) -> Result<ProductNo, ConfigFault
 }
 
 fn reading_of(nozzle: &Table) -> Result<Millilitres, ConfigFault>
-    ensures { Gives (λ m. m) result (spec.number_at key.Reading 0 GREATEST_READING (table_view nozzle.now)) }
+    ensures { Gives (λ m. m) result
+        (spec.number_at key.Reading 0 GREATEST_READING (table_view nozzle.now)) }
 {
     let reading = number_at(nozzle, Key::Reading, 0, GREATEST_READING)?;
     Ok(Millilitres::new(reading).unwrap())

@@ -82,7 +82,8 @@ fn product_name<'a>(taken: &Products, product: &'a Table) -> Result<&'a str, Con
 }
 
 fn product_price(product: &Table) -> Result<Mills, ConfigFault>
-    ensures { Gives (λ m. m) result (spec.number_at key.Price 1 GREATEST_PRICE (table_view product.now)) }
+    ensures { Gives (λ m. m) result
+        (spec.number_at key.Price 1 GREATEST_PRICE (table_view product.now)) }
 {
     let price = number_at(product, Key::Price, 1, u64::from(GREATEST_PRICE))?;
     Ok(Mills::new(price as u32).unwrap())

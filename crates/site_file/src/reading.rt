@@ -10,9 +10,10 @@ use site_base::SiteConfig;
 use std::alloc::Global;
 use toml::Table;
 
-/// The site that a site file configures, or its first fault: what a key that has no table may have
-/// comes first, then each key in the order of the site file's table, and of a key that it isn't there,
-/// its kind, its range, its repetition.
+/// The site that a site file configures, or its first fault. Of a table its unknown keys come
+/// first, then its keys in the order of the site file's table: is one there, is it of its kind, in
+/// its range, not repeated, and is a nozzle's product there. Want of memory is answered only where
+/// a growth was refused in the call.
 #[tactic(auto, unfolding(crate::specs::SiteFile::config_of))]
 pub fn read_config(alloc: Global, octets: &[u8]) -> Result<SiteConfig, ConfigFault>
     ensures { Gives (λ c. c) result (spec.config_of octets.now) }

@@ -14,7 +14,8 @@ use toml::{Table, Value};
 
 /// What stands at a key, if anything does.
 pub fn found_at(table: &Table, key: Key) -> Option<&Value>
-    ensures { option_map (λ v. view v.now) result ≡ get_member (key_text key) (table_view table.now) }
+    ensures { option_map (λ v. view v.now) result
+        ≡ get_member (key_text key) (table_view table.now) }
 {
     table.get(key.text())
 }

@@ -4,4 +4,6 @@ use Rattle.site_file.specs.SiteFile.{products_from}
 use Rattle.site_file.proofs.products.products_in.Given as goal
 
 abbrev pub invariant-loop-member : goal.invariant-loop-member
-invariant-loop-member l = products_from l.products (items_view (drop l.member-index l.members)) ≡ products_from [] (items_view l.members)
+invariant-loop-member l =
+    products_from l.products (items_view (drop l.member-index l.members))
+    ≡ products_from [] (items_view l.members)

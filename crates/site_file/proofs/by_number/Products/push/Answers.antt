@@ -6,14 +6,21 @@ use Rattle.site_file.proofs.by_number.Products.push.Goals as goal
 
 pub invariant_of-self-2 : goal.invariant_of-self-2
 invariant_of-self-2 c =
-    let key = c.from-number.ensures ∙ c.get.ensures.value ∙ ap (λ (p : ConfiguredProduct). p.number) c.product.view_is in
-    let new = ap (λ (ps : List ConfiguredProduct). has_product ps c.args.product.number) c.self.view_is ∙ c.requires.new in
-    let added = c.in_ok-insert.ensures.entries ∙ inserted c.self.inside.by_number _ c.args.product key c.self.invariant new in
+    let key = c.from-number.ensures ∙ c.get.ensures.value
+    ∙ ap (λ (p : ConfiguredProduct). p.number) c.product.view_is in
+    let new = ap (λ (ps : List ConfiguredProduct). has_product ps c.args.product.number) c.self.view_is
+    ∙ c.requires.new in
+    let added = c.in_ok-insert.ensures.entries
+    ∙ inserted c.self.inside.by_number _ c.args.product key c.self.invariant new in
     rw added (are_by_number-push c.self.inside.by_number.entries c.args.product c.self.invariant)
 
 pub returns-clause-ok : goal.returns-clause-ok
 returns-clause-ok c =
-    let key = c.from-number.ensures ∙ c.get.ensures.value ∙ ap (λ (p : ConfiguredProduct). p.number) c.product.view_is in
-    let new = ap (λ (ps : List ConfiguredProduct). has_product ps c.args.product.number) c.self.view_is ∙ c.requires.new in
-    let added = c.in_ok-insert.ensures.entries ∙ inserted c.self.inside.by_number _ c.args.product key c.self.invariant new in
-    ap values_of added ∙ values_of-push c.self.inside.by_number.entries _ c.args.product ∙ rw c.self.view_is refl
+    let key = c.from-number.ensures ∙ c.get.ensures.value
+    ∙ ap (λ (p : ConfiguredProduct). p.number) c.product.view_is in
+    let new = ap (λ (ps : List ConfiguredProduct). has_product ps c.args.product.number) c.self.view_is
+    ∙ c.requires.new in
+    let added = c.in_ok-insert.ensures.entries
+    ∙ inserted c.self.inside.by_number _ c.args.product key c.self.invariant new in
+    ap values_of added ∙ values_of-push c.self.inside.by_number.entries _ c.args.product
+    ∙ rw c.self.view_is refl
