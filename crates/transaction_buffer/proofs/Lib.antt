@@ -2,7 +2,9 @@ pub mod Accepted
 pub mod Counting
 pub mod InShift
 pub mod Kept
+pub mod LetGo
 pub mod Lists
+pub mod Lockers
 pub mod Maps
 pub mod Numbers
 pub mod OnShelves

@@ -1,5 +1,5 @@
 -- What the shelves of the points say of the sales, and what a change of one shelf changes.
-use Rattle.std.proofs.Common.{◌≡◌, ℕ, zero, suc, ◌+◌, ◌-◌, ◌<◌, ◌==◌, Bool, true, false, if◌then◌else◌, List, [], ◌∷◌, ◌++◌, length, get_or, map, Option, Some, None, unwrap_or, refl, sym, ap, ◌∙◌, arith, length-set, get_or-set_same}
+use Rattle.std.proofs.Common.{◌≡◌, ℕ, zero, suc, ◌+◌, ◌-◌, ◌<◌, ◌≤◌, ◌==◌, Bool, true, false, if◌then◌else◌, List, [], ◌∷◌, ◌++◌, length, get_or, map, Option, Some, None, unwrap_or, refl, sym, ap, ◌∙◌, arith, length-set, get_or-set_same}
 use Rattle.std.proofs.Math.ListN.{set}
 use Rattle.std.proofs.lemmas.List.{map-set, get_or-map, set-get_or, length-map}
 use Rattle.std.specs.FinMap as finite
@@ -106,6 +106,23 @@ pub sums_there : (figure : Sale → ℕ) (shelves : List Shelf)
     → sum_of figure (sales_on shelves) ≡ sum_on figure shelves
 sums_there figure shelves = ap (sum_over figure) (entries_of_cells (cells_of shelves))
     ∙ sums_from figure 1 shelves
+
+-- the sum over one shelf is part of that over all
+pub sum_part : (figure : Sale → ℕ) (shelves : List Shelf) (i : ℕ) (d : Shelf) → i < length shelves
+    → sum_among figure (get_or shelves i d).sales ≤ sum_on figure shelves
+sum_part figure [] i d within = absurd (omega arith)
+sum_part figure (x ∷ xs) zero d within = omega arith
+sum_part figure (x ∷ xs) (suc i) d within = omega (arith, sum_part figure xs i d (omega arith))
+
+-- the sum once another shelf is in the place of one
+pub sum_changed : (figure : Sale → ℕ) (shelves : List Shelf) (i : ℕ) (new d : Shelf)
+    → i < length shelves
+    → sum_on figure (set shelves i new) + sum_among figure (get_or shelves i d).sales
+    ≡ sum_on figure shelves + sum_among figure new.sales
+sum_changed figure [] i new d within = absurd (omega arith)
+sum_changed figure (x ∷ xs) zero new d within = omega arith
+sum_changed figure (x ∷ xs) (suc i) new d within =
+    omega (arith, sum_changed figure xs i new d (omega arith))
 
 cells_of_sales : (shelves : List Shelf)
     → cells_of shelves ≡ map stock (map (λ (x : Shelf). x.sales) shelves)

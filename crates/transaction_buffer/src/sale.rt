@@ -4,7 +4,7 @@ ghost use Rattle.std.specs.Prelude.{◌≡◌, ◌≤◌};
 ghost use Rattle.site_base.specs.declared.limits.TheConstants.{PRODUCTS};
 ghost use Rattle.transaction_buffer.specs.Sales.{is_unpaid, new_sale, status_of, view_of};
 ghost use Rattle.transaction_buffer.specs.Asked.{outcome};
-ghost use Rattle.transaction_buffer.specs.TransactionTable.{line_for, let_go};
+ghost use Rattle.transaction_buffer.specs.TransactionTable.{line_for, let_go, locker};
 ghost use Rattle.transaction_buffer.specs.Sums.{volume_in, volume_locked_by};
 
 use crate::request::Request;
@@ -125,6 +125,16 @@ impl Sale {
         ensures { result ≡ self.now.volume }
     {
         self.volume.get()
+    }
+
+    /// The till that has locked it.
+    pub fn locker(&self) -> Option<TillNo>
+        ensures { result ≡ locker self.now.standing }
+    {
+        match self.standing {
+            Standing::LockedBy(till) => Some(till),
+            _ => None,
+        }
     }
 
     /// Is it cleared, payable or locked?

@@ -1,5 +1,6 @@
 use Rattle.std.proofs.Common.{sym, subst, arith}
 use Rattle.transaction_buffer.proofs.OnShelves.{shelf_same, room_written}
+use Rattle.transaction_buffer.proofs.Lockers.{noted_same}
 use Rattle.transaction_buffer.specs.KeptSums.{AreSums}
 use Rattle.transaction_buffer.proofs.buffer.Buffer.reserve.Goals as goal
 
@@ -15,7 +16,11 @@ returns-clause-room c =
     rw room c.reserve.ensures.room
 
 pub invariant_of-self : goal.invariant_of-self
-invariant_of-self c =
-    subst (λ s. AreSums s c.self.inside.sums)
-    (sym (shelf_same c.self.inside.shelves c.cell.result c.reserve.new.self
-    c.index-self-cell.result (omega arith) c.reserve.ensures.sales)) c.self.invariant
+invariant_of-self c = record {
+  sums = subst (λ s. AreSums s c.self.inside.sums)
+      (sym (shelf_same c.self.inside.shelves c.cell.result c.reserve.new.self
+      c.index-self-cell.result (omega arith) c.reserve.ensures.sales)) c.self.invariant.sums;
+  noted = noted_same c.self.inside.shelves c.cell.result c.reserve.new.self
+      c.index-self-cell.result c.self.inside.locked c.self.invariant.noted (omega arith)
+      c.reserve.ensures.sales c.reserve.ensures.lockers;
+}
