@@ -3,7 +3,6 @@ pub mod Counting
 pub mod InShift
 pub mod Kept
 pub mod LetGo
-pub mod Lists
 pub mod Lockers
 pub mod Maps
 pub mod Numbers

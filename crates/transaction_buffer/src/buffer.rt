@@ -1,6 +1,6 @@
 //! The transaction buffer of a site.
 
-ghost use Rattle.std.specs.Prelude.{◌≡◌, ◌+◌, ◌^◌, ◌<◌, ◌≤◌, true, Some, is_some, length, OnOk};
+ghost use Rattle.std.specs.Prelude.{◌≡◌, ◌≢◌, ℕ, ◌+◌, ◌^◌, ◌<◌, ◌≤◌, true, Some, is_some, length, OnErr, OnOk};
 ghost use Rattle.site_base.specs.declared.limits.TheConstants.{POINT_CELLS, UNPAID_LIMIT};
 ghost use Rattle.transaction_buffer.specs.Sales.{key, no_sales, HasNoneLater, sale_of, next_number, unpaid_at, with_new, is_new, new_sale, shown};
 ghost use Rattle.transaction_buffer.specs.Asked.{Asked};
@@ -67,10 +67,15 @@ impl Buffer {
         }
     }
 
-    /// Makes the room that the next sale of point p needs. The sales stay.
+    /// Makes the room that the next sale of point p needs. The sales stay, and so does the room of
+    /// every other point. Where there is no memory, nothing changes.
     pub fn reserve(&mut self, p: FpNo) -> Result<(), NoMemory>
         ensures sales { self.new.sales ≡ self.old.sales }
         ensures room { OnOk result (0 < room_at p self.new.rooms) }
+        ensures kept { (q : ℕ) → room_at q self.old.rooms ≤ room_at q self.new.rooms }
+        ensures others { (q : ℕ) → q ≢ p
+            → room_at q self.new.rooms ≡ room_at q self.old.rooms }
+        ensures err { OnErr result (self.new ≡ self.old) }
     {
         let shelf = &mut self.shelves[p.cell()];
         shelf.reserve()

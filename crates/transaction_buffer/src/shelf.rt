@@ -1,6 +1,6 @@
 //! The sales of one fuelling point.
 
-ghost use Rattle.std.specs.Prelude.{◌≡◌, ℕ, ◌-◌, ◌<◌, ◌≤◌, [], ◌∷◌, ◌++◌, true, is_some, IfSome, length, map, OnOk, slice_index_or};
+ghost use Rattle.std.specs.Prelude.{◌≡◌, ℕ, ◌-◌, ◌<◌, ◌≤◌, [], ◌∷◌, ◌++◌, true, is_some, IfSome, length, map, OnErr, OnOk, slice_index_or};
 ghost use Rattle.site_base.specs.declared.limits.TheConstants.{GREATEST_SEQ, GREATEST_SHIFT, UNPAID_LIMIT};
 ghost use Rattle.transaction_buffer.specs.Sales.{is_unpaid, made_in, next_after, sale_in, unpaid_among, with_in};
 ghost use Rattle.transaction_buffer.specs.Shelves.{NoneAfter, no_span, place_in, shifts_of};
@@ -62,14 +62,16 @@ impl Shelf {
         }
     }
 
-    /// Makes room for one more sale of whichever shift.
+    /// Makes room for one more sale of whichever shift. Where there is no memory, nothing changes.
     pub fn reserve(&mut self) -> Result<(), NoMemory>
         ensures sales { self.new.sales ≡ self.old.sales }
         ensures lockers { self.new.lockers ≡ self.old.lockers }
         ensures room { OnOk result (0 < self.new.room) }
+        ensures kept { self.old.room ≤ self.new.room }
+        ensures err { OnErr result (self.new.room ≡ self.old.room) }
     {
-        fill(&mut self.spans)?;
         self.sales.reserve(1)?;
+        fill(&mut self.spans)?;
         Ok(())
     }
 
@@ -181,6 +183,8 @@ fn fill(spans: &mut Vec<Span>) -> Result<(), NoMemory>
     ensures same { (i : ℕ) → slice_index_or spans.new.items i no_span
         ≡ slice_index_or spans.old.items i no_span }
     ensures few { length spans.new.items ≤ GREATEST_SHIFT }
+    ensures more { length spans.old.items ≤ length spans.new.items }
+    ensures err { OnErr result (length spans.new.items < GREATEST_SHIFT) }
     ensures full { OnOk result (length spans.new.items ≡ GREATEST_SHIFT) }
 {
     while spans.len() < usize::from(GREATEST_SHIFT) {
