@@ -110,7 +110,8 @@ module _ (s : Sales) (sums : Sums) (p : ℕ) (x : Sale) (are : AreSums s sums)
     part_of_all x.product (status_of x.standing) s,
   )
 
-  by_product : (q : ℕ) (b : Bool) → (x.product == q) ≡ b → volume_of q s + cond b x.volume 0 < 2 ^ 64
+  by_product : (q : ℕ) (b : Bool) → (x.product == q) ≡ b
+      → volume_of q s + cond b x.volume 0 < 2 ^ 64
   by_product q true is =
       let same : x.product ≡ q = grind (arith, nat_tests) in
       omega (arith, ap (λ (r : ℕ). volume_of r s) same)
@@ -154,7 +155,8 @@ whole_let_go : (q t : ℕ) (xs : List Sale)
 whole_let_go q t [] = refl
 whole_let_go q t (x ∷ xs) = omega (arith, let_go_whole q t x, whole_let_go q t xs)
 
-module _ (t : ℕ) (shelves : List Shelf) (i : ℕ) (d : Shelf) (sums : Sums) (inside : i < length shelves)
+module _ (t : ℕ) (shelves : List Shelf) (i : ℕ) (d : Shelf) (sums : Sums)
+    (inside : i < length shelves)
     (are : AreSums (sales_on shelves) sums) where
   abbrev here : List Sale
   here = (get_or shelves i d).sales

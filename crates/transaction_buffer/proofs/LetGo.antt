@@ -19,7 +19,8 @@ IsStage t false false old now = now ≡ old
 
 abbrev pub AreStages : ℕ → ℕ → ℕ → List Shelf → List Shelf → Type 0
 AreStages t points left old now = (i : ℕ) (d : Shelf) → i < length old
-    → IsStage t (has_point (i + 1) points) (has_point (i + 1) left) (get_or old i d) (get_or now i d)
+    → IsStage t (has_point (i + 1) points) (has_point (i + 1) left) (get_or old i d)
+    (get_or now i d)
 
 at_first : (t : ℕ) (b : Bool) (x : Shelf) → IsStage t b b x x
 at_first t true x = refl
@@ -27,7 +28,8 @@ at_first t false x = refl
 
 -- before the first point
 pub stages_first : (t points : ℕ) (shelves : List Shelf) → AreStages t points points shelves shelves
-stages_first t points shelves i d within = at_first t (has_point (i + 1) points) (get_or shelves i d)
+stages_first t points shelves i d within =
+    at_first t (has_point (i + 1) points) (get_or shelves i d)
 
 at_visit : (t : ℕ) (b : Bool) (old now new : Shelf) → IsStage t b true old now → IsLetGo t now new
     → IsStage t b false old new
@@ -39,7 +41,8 @@ pub stages_next : (t points left rest p k : ℕ) (old now : List Shelf) (d new :
     → length old ≡ POINT_CELLS → length now ≡ POINT_CELLS → k + 1 ≡ p → k < POINT_CELLS
     → has_point p left ≡ true → IsWithout p left rest → IsLetGo t (get_or now k d) new
     → AreStages t points left old now → AreStages t points rest old (set now k new)
-stages_next t points left rest p k old now d new count_old count_now place inside member without gone stages i e within =
+stages_next t points left rest p k old now d new count_old count_now place inside member without
+    gone stages i e within =
     elim (cases_eq i k) [
       | inl here ↦
           let at : i + 1 ≡ p = omega arith in
@@ -56,7 +59,8 @@ stages_next t points left rest p k old now d new count_old count_now place insid
           let goes : IsLetGo t (get_or now i d) new =
           subst (λ n. IsLetGo t (get_or now n d) new) (sym here) gone in
           let one_old : get_or old i d ≡ get_or old i e = get_or_default old i d e within in
-          subst (λ b. IsStage t (has_point (i + 1) points) b (get_or old i e) (get_or (set now k new) i e))
+          subst (λ b. IsStage t (has_point (i + 1) points) b (get_or old i e)
+          (get_or (set now k new) i e))
           (sym rest_here)
           (subst (λ x. IsStage t (has_point (i + 1) points) false (get_or old i e) x) (sym is)
           (subst (λ x. IsStage t (has_point (i + 1) points) false x new) one_old
@@ -66,9 +70,11 @@ stages_next t points left rest p k old now d new count_old count_now place insid
           let rest_here : has_point (i + 1) rest ≡ has_point (i + 1) left =
           without (i + 1) (omega arith) (omega arith)
           ∙ ap (λ b. not b && has_point (i + 1) left) apart in
-          subst (λ b. IsStage t (has_point (i + 1) points) b (get_or old i e) (get_or (set now k new) i e))
+          subst (λ b. IsStage t (has_point (i + 1) points) b (get_or old i e)
+          (get_or (set now k new) i e))
           (sym rest_here)
-          (subst (λ x. IsStage t (has_point (i + 1) points) (has_point (i + 1) left) (get_or old i e) x)
+          (subst (λ x. IsStage t (has_point (i + 1) points) (has_point (i + 1) left)
+          (get_or old i e) x)
           (sym (get_or-set_other now k i new e other)) (stages i e within))
     ]
 

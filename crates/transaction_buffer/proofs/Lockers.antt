@@ -15,7 +15,7 @@ use Rattle.transaction_buffer.specs.declared.standing.Standing.{Standing}
 use Rattle.transaction_buffer.specs.declared.standing.Standing.TheVariants.{Payable, LockedBy, ClearedBy}
 use Rattle.transaction_buffer.specs.Kept.{AreNoted}
 use Rattle.transaction_buffer.specs.LetGo.{IsLetGo, IsLetGoWhere, AreLetGo}
-use Rattle.transaction_buffer.specs.Locked.{locker_at, lockers_at, is_locker, locker_without, lockers_without, AreTold, IsForgotten, IsNoted, KeepsOthers}
+use Rattle.transaction_buffer.specs.Locked.{locker_at, lockers_at, no_lockers, is_locker, locker_without, lockers_without, AreTold, IsForgotten, IsNoted, KeepsOthers}
 use Rattle.transaction_buffer.specs.Sales.{Sale}
 use Rattle.transaction_buffer.specs.Shelves.{Shelf}
 use Rattle.transaction_buffer.specs.TransactionTable.{is_locked_by, let_go, locker}
@@ -50,7 +50,8 @@ stays_at t (Some k) xs isnt = record {
         let here : slice_get xs k ≡ Some (get_or xs i d) =
         ap (slice_get xs) (same_number k i at) ∙ slice_get-get_or xs i d within in
         sym (stays t (get_or xs i d)
-        (sym (ap (λ (o : Option Sale). is_locker t (option_and_then (λ x. locker x.standing) o)) here)
+        (sym (ap (λ (o : Option Sale). is_locker t (option_and_then (λ x. locker x.standing) o))
+        here)
         ∙ isnt))
     by_test i d within false at = refl
 
@@ -87,7 +88,8 @@ wasn't_locker t Payable isnt = refl
 wasn't_locker t (LockedBy u) isnt = ap (λ (b : Bool). cond b None (Some u)) isnt
 wasn't_locker t (ClearedBy u shift) isnt = refl
 
-locker_let_go : (t : ℕ) (x : Sale) → locker (let_go t x).standing ≡ locker_without t (locker x.standing)
+locker_let_go : (t : ℕ) (x : Sale)
+    → locker (let_go t x).standing ≡ locker_without t (locker x.standing)
 locker_let_go t x = by_test (is_locked_by t x.standing) refl
   where
     by_test : (b : Bool) → is_locked_by t x.standing ≡ b
@@ -163,7 +165,8 @@ noted_change shelves i new was now are inside told_new noted_new keeps = record 
   cells = length-set shelves i new ∙ are.cells;
   each = λ j d within. elim (cases_eq j i) [
     | inl here ↦
-        let is : get_or (set shelves i new) j d ≡ new = get_or-set_at shelves i j new d here inside in
+        let is : get_or (set shelves i new) j d ≡ new =
+        get_or-set_at shelves i j new d here inside in
         subst (λ (x : Shelf). IsNoted (j + 1) x.lockers now) (sym is)
         (subst (λ n. IsNoted (n + 1) new.lockers now) (sym here) noted_new)
     | inr other ↦
@@ -172,8 +175,8 @@ noted_change shelves i new was now are inside told_new noted_new keeps = record 
         let old : j < length shelves = omega (arith, length-set shelves i new) in
         subst (λ (x : Shelf). IsNoted (j + 1) x.lockers now) (sym there)
         (λ k till.
-        let kept = keeps (j + 1) k (λ e. other (omega arith)) (omega arith) (omega (arith, are.cells))
-        till in
+        let kept = keeps (j + 1) k (λ e. other (omega arith)) (omega arith)
+        (omega (arith, are.cells)) till in
         let before = are.each j d old k till in
         (kept.0 ∙ before.0, kept.1 ∙ before.1))
   ];
@@ -279,7 +282,7 @@ module _ (t k one other : ℕ) (first second third : List Shelf) (was now : Lock
       ))
       (λ i d within.
       let inside : i < length first = omega (arith, count_third, are.cells) in
-      let e : Shelf = record { sales = d; room = 0; lockers = record { one = None; other = None } } in
+      let e : Shelf = record { sales = d; room = 0; lockers = no_lockers } in
       get_or-map (λ (x : Shelf). x.sales) third i e d (omega (arith, are.cells))
       ∙ (shelf_let_go i e inside).sales
       ∙ sym (get_or-map (map (let_go t)) (map (λ (x : Shelf). x.sales) first) i d d

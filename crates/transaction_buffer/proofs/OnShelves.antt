@@ -97,8 +97,8 @@ room_kept shelves i p new d place within more q = elim (cases_eq q p) [
   | inl here ↦
       let before = room_there shelves i p d place within in
       let after = room_written shelves i p new place within in
-      subst (λ n. room_at n (rooms_on shelves) ≤ room_at n (rooms_on (set shelves i new))) (sym here)
-      (omega (arith, before, after, more))
+      subst (λ n. room_at n (rooms_on shelves) ≤ room_at n (rooms_on (set shelves i new)))
+      (sym here) (omega (arith, before, after, more))
   | inr other ↦ let same = room_elsewhere shelves i p q new place other in omega (arith, same)
 ]
 

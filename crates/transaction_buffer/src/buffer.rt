@@ -100,9 +100,9 @@ impl Buffer {
     }
 
     /// Adds a sale of point p in a shift and answers its number there. The view is payable without
-    /// a till, or locked with one. Room for it is reserved, fewer than `UNPAID_LIMIT` transactions of
-    /// the point are unpaid, the shift has a next number, no sale of the point is of a later shift,
-    /// and the volumes of all sales of the product fit in 64 bits with this one. No other
+    /// a till, or locked with one. Room for it is reserved, fewer than `UNPAID_LIMIT` transactions
+    /// of the point are unpaid, the shift has a next number, no sale of the point is of a later
+    /// shift, and the volumes of all sales of the product fit in 64 bits with this one. No other
     /// transaction changes. It takes no memory.
     pub fn add(&mut self, p: FpNo, shift: ShiftNo, view: TransactionView) -> Seq
         requires room { 0 < room_at p self.old.rooms }

@@ -101,8 +101,8 @@ impl Shelf {
         }
     }
 
-    /// Adds a sale, where room is reserved, no sale is of a later shift, its shift has a number left
-    /// and not too many are unpaid.
+    /// Adds a sale, where room is reserved, no sale is of a later shift, its shift has a number
+    /// left and not too many are unpaid.
     pub fn push(&mut self, sale: Sale)
         requires room { 0 < self.old.room }
         requires order { NoneAfter sale.shift (shifts_of self.old.sales) }

@@ -9,7 +9,8 @@ use Rattle.transaction_buffer.proofs.buffer.Buffer.new.Goals as goal
 use Rattle.transaction_buffer.proofs.buffer.Buffer.new.Goals.{After-from_fn}
 
 empty : (c : After-from_fn) (i : ℕ) (d : Shelf) → i < length c.from_fn.result
-    → ((get_or c.from_fn.result i d).sales ≡ []) × ((get_or c.from_fn.result i d).lockers ≡ no_lockers)
+    → ((get_or c.from_fn.result i d).sales ≡ [])
+    × ((get_or c.from_fn.result i d).lockers ≡ no_lockers)
 empty c i d within =
     let called = c.from_fn.ensures.items.at i d (omega (arith, c.from_fn.ensures.items.long)) in
     search (rules, called)

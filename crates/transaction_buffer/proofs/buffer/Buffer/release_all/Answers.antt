@@ -11,12 +11,14 @@ returns c =
     let one = get_or locked.one k c.index-self-cell.result in
     let other = get_or locked.other k c.index-self-cell-2.result in
     let is_one : one ≡ get_or locked.one k 0 = get_or_default locked.one k _ _ (omega arith) in
-    let is_other : other ≡ get_or locked.other k 0 = get_or_default locked.other k _ _ (omega arith) in
+    let is_other : other ≡ get_or locked.other k 0 =
+    get_or_default locked.other k _ _ (omega arith) in
     rw (← c.self.view_is)
     (let_go_there c.args.t c.self.inside.shelves c.let_go_at-self-inside-2.new.shelves
     (sales_let_go c.args.t k one other
     c.self.inside.shelves c.let_go_at-self-inside.new.shelves c.let_go_at-self-inside-2.new.shelves
-    locked c.forget.new.self c.self.invariant.noted c.cell-cell.ensures.place (omega arith) is_one is_other
+    locked c.forget.new.self c.self.invariant.noted c.cell-cell.ensures.place (omega arith) is_one
+    is_other
     c.let_go_at-self-inside.ensures.cells c.let_go_at-self-inside-2.ensures.cells
     c.let_go_at-self-inside.ensures.shelves c.let_go_at-self-inside-2.ensures.shelves
     c.forget.ensures))
@@ -28,13 +30,15 @@ invariant_of-self c =
     let one = get_or locked.one k c.index-self-cell.result in
     let other = get_or locked.other k c.index-self-cell-2.result in
     let is_one : one ≡ get_or locked.one k 0 = get_or_default locked.one k _ _ (omega arith) in
-    let is_other : other ≡ get_or locked.other k 0 = get_or_default locked.other k _ _ (omega arith) in
+    let is_other : other ≡ get_or locked.other k 0 =
+    get_or_default locked.other k _ _ (omega arith) in
     record {
       sums = c.let_go_at-self-inside-2.ensures.sums;
       noted = noted_let_go c.args.t k one other
           c.self.inside.shelves c.let_go_at-self-inside.new.shelves
           c.let_go_at-self-inside-2.new.shelves locked c.forget.new.self c.self.invariant.noted
-          c.cell-cell.ensures.place (omega arith) is_one is_other c.let_go_at-self-inside.ensures.cells
+          c.cell-cell.ensures.place (omega arith) is_one is_other
+          c.let_go_at-self-inside.ensures.cells
           c.let_go_at-self-inside-2.ensures.cells c.let_go_at-self-inside.ensures.shelves
           c.let_go_at-self-inside-2.ensures.shelves c.forget.ensures;
     }

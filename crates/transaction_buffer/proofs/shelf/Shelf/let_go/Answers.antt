@@ -50,5 +50,6 @@ invariant_of-self c =
       places = places_let_go c.args.t old c.self.inside.unpaid.one c.self.inside.unpaid.other
           c.self.invariant.places;
       few = c.self.invariant.few;
-      spans = subst (λ gs. AreSpans gs c.self.inside.spans.items) (sym shifts) c.self.invariant.spans;
+      spans = subst (λ gs. AreSpans gs c.self.inside.spans.items) (sym shifts)
+          c.self.invariant.spans;
     })

@@ -9,7 +9,8 @@ use Rattle.transaction_buffer.proofs.shelf.Shelf.let_go_sums.Goals.{After-deref-
 
 -- what the till has locked at the one place, at the other, and among all sales
 abbrev at_one : After-deref-sales → ℕ → ℕ
-at_one c q = figure_at (volume_locked_by q c.args.t) c.self.inside.unpaid.one c.deref-sales.result.now
+at_one c q =
+    figure_at (volume_locked_by q c.args.t) c.self.inside.unpaid.one c.deref-sales.result.now
 
 abbrev at_other : After-deref-sales → ℕ → ℕ
 at_other c q =
