@@ -1,6 +1,7 @@
 # The forecourt site controller. `make` alone says what there is.
 
 PROGRAM := crates/forecourt/out/forecourt
+COSTS := crates/parts_cost/out/parts_cost
 CRATES := $(patsubst crates/%/wrong-bodies,%,$(wildcard crates/*/wrong-bodies))
 
 .PHONY: help run build check test audit bench
@@ -12,7 +13,7 @@ help:
 	@echo 'make test     the gate: every proof from nothing, the wrong bodies of the first shelf, every test,'
 	@echo '              the built programs, refused growths and failing devices'
 	@echo 'make audit    the wrong bodies of the second shelf, of every crate or of CRATES="a b"'
-	@echo 'make bench    messages a second, memory, and their growth with the input'
+	@echo 'make bench    messages a second, memory, and their growth with the input; what a call of a part costs'
 
 run:
 	@cd crates/forecourt && rt try < stdin
@@ -33,3 +34,5 @@ audit:
 
 bench: build
 	@scripts/bench $(PROGRAM)
+	@cd crates/parts_cost && rt run > /dev/null
+	@scripts/parts-cost $(COSTS)

@@ -56,19 +56,19 @@ fn held_list(rt: HostRuntime) -> Result<(), Fail> {
 #[test]
 fn points_are_told_in_rising_order(rt: HostRuntime) -> Result<(), Fail> {
     let mut claims = Claims::new();
-    for number in [16, 3, 9, 1, 12, 4, 10, 7, 15, 2] {
+    for number in [64, 3, 33, 1, 48, 4, 10, 7, 63, 2] {
         take(&rt, &mut claims, number, 1);
     }
-    take(&rt, &mut claims, 5, 8);
-    claims.free(point(&rt, 9));
+    take(&rt, &mut claims, 5, 32);
+    claims.free(point(&rt, 33));
     assert_held(
         &rt,
         rt.alloc(),
         &claims,
         1,
-        &[1, 2, 3, 4, 7, 10, 12, 15, 16],
+        &[1, 2, 3, 4, 7, 10, 48, 63, 64],
     )?;
-    assert_held(&rt, rt.alloc(), &claims, 8, &[5])?;
-    assert_eq!(rt; claims.holder(point(&rt, 9)), None);
+    assert_held(&rt, rt.alloc(), &claims, 32, &[5])?;
+    assert_eq!(rt; claims.holder(point(&rt, 33)), None);
     Ok(())
 }

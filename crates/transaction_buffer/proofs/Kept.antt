@@ -1,6 +1,7 @@
 -- The kept sums after each change.
-use Rattle.std.proofs.Common.{◌≡◌, ℕ, ◌+◌, ◌^◌, ◌<◌, ◌≤◌, ◌≢◌, ◌==◌, ◌&&◌, Bool, true, false, cond, nat_lt, if◌then◌else◌, Some, inl, inr, refl, sym, ap, ◌∙◌, arith}
-use Rattle.std.proofs.lemmas.Bool.{eq-eqb, cases_eq}
+use Rattle.std.proofs.Common.{◌≡◌, ℕ, ◌+◌, ◌^◌, ◌<◌, ◌≤◌, ◌==◌, ◌&&◌, Bool, true, false, cond, List, [], ◌∷◌, length, get_or, map, Some, refl, sym, ap, ◌∙◌, arith}
+use Rattle.std.proofs.Math.ListN.{set}
+use Rattle.std.proofs.lemmas.Bool.{eq-eqb}
 use Rattle.std.proofs.lemmas.Bool.Decides.{nat_tests}
 use Rattle.site_base.specs.declared.limits.TheConstants.{PRODUCTS}
 use Rattle.site_base.specs.declared.state.Status.{Status}
@@ -9,11 +10,13 @@ use Rattle.transaction_buffer.specs.declared.standing.Standing.{Standing}
 use Rattle.transaction_buffer.specs.declared.standing.Standing.TheVariants.{Payable, LockedBy, ClearedBy}
 use Rattle.transaction_buffer.specs.declared.sums.Sums.{Sums}
 use Rattle.transaction_buffer.specs.Sales.{Key, Sale, Sales, sale_of, status_of, with_sale, with_new}
-use Rattle.transaction_buffer.specs.TransactionTable.{after_sign_off}
-use Rattle.transaction_buffer.specs.KeptSums.{kept_sum, AreMoved, AreSums, AreWith, AreWithout}
-use Rattle.transaction_buffer.specs.Sums.{has_status, volume_in, volume_with, volume_of, volume_by, locked_volume}
+use Rattle.transaction_buffer.specs.TransactionTable.{let_go}
+use Rattle.transaction_buffer.specs.KeptSums.{kept_sum, AreMoved, AreSums, AreWith, AreWithout, CanMove}
+use Rattle.transaction_buffer.specs.Shelves.{Shelf, sales_on}
+use Rattle.transaction_buffer.specs.Sums.{sum_among, sum_of, has_status, volume_in, volume_with, volume_locked_by, volume_of, volume_by}
+use Rattle.transaction_buffer.proofs.OnShelves.{sums_there, sum_part, sum_changed}
 use Rattle.transaction_buffer.proofs.Summing.{replaced_sum, sold_sum}
-use Rattle.transaction_buffer.proofs.Volumes.{add_up, move}
+use Rattle.transaction_buffer.proofs.Volumes.{add_up, let_go_payable, let_go_locked, let_go_cleared, let_go_whole}
 
 -- a sale has its own status
 own_status : (standing : Standing) → has_status (status_of standing) standing ≡ true
@@ -107,7 +110,8 @@ module _ (s : Sales) (sums : Sums) (p : ℕ) (x : Sale) (are : AreSums s sums)
     part_of_all x.product (status_of x.standing) s,
   )
 
-  by_product : (q : ℕ) (b : Bool) → (x.product == q) ≡ b → volume_of q s + cond b x.volume 0 < 2 ^ 64
+  by_product : (q : ℕ) (b : Bool) → (x.product == q) ≡ b
+      → volume_of q s + cond b x.volume 0 < 2 ^ 64
   by_product q true is =
       let same : x.product ≡ q = grind (arith, nat_tests) in
       omega (arith, ap (λ (r : ℕ). volume_of r s) same)
@@ -122,85 +126,125 @@ module _ (s : Sales) (sums : Sums) (p : ℕ) (x : Sale) (are : AreSums s sums)
         ∙ sym (sold_sum (volume_with q status) p x s);
   }
 
--- ---- a sign-off, product by product
+-- ---- a till lets go of what it has locked on one shelf
 
--- the sums of the products before n are those after the sign-off of till t, the others as they were
-abbrev pub LetGoBefore : Sales → ℕ → ℕ → Sums → Type 0
-LetGoBefore s t n sums = (r : ℕ) (status : Status) → 1 ≤ r → r ≤ PRODUCTS
-    → kept_sum r status sums
-    ≡ (if nat_lt r n then volume_by r status (after_sign_off t s) else volume_by r status s)
+-- what a till has locked among some sales
+abbrev locked_among : ℕ → List Sale → ℕ → ℕ
+locked_among t xs q = sum_among (volume_locked_by q t) xs
 
-chosen : (b c : Bool) (x y : ℕ) → b ≡ c → cond b x y ≡ cond c x y
-chosen b c x y is = ap (λ (d : Bool). cond d x y) is
+payable_let_go : (q t : ℕ) (xs : List Sale)
+    → sum_among (volume_with q statuses.Payable) (map (let_go t) xs)
+    ≡ sum_among (volume_with q statuses.Payable) xs + locked_among t xs q
+payable_let_go q t [] = refl
+payable_let_go q t (x ∷ xs) = omega (arith, let_go_payable q t x, payable_let_go q t xs)
 
-module _ (s : Sales) (t q volume : ℕ) (moved : volume ≡ locked_volume q t s) (old : Sums)
-    (so_far : LetGoBefore s t q old) (low : 1 ≤ q) (high : q ≤ PRODUCTS) where
-  not_yet : (status : Status) → kept_sum q status old ≡ volume_by q status s
-  not_yet status = so_far q status low high
-      ∙ chosen (nat_lt q q) false _ _ (grind (arith, nat_tests))
+locked_let_go : (q t : ℕ) (xs : List Sale)
+    → sum_among (volume_with q statuses.Locked) (map (let_go t) xs) + locked_among t xs q
+    ≡ sum_among (volume_with q statuses.Locked) xs
+locked_let_go q t [] = refl
+locked_let_go q t (x ∷ xs) = omega (arith, let_go_locked q t x, locked_let_go q t xs)
 
-  pub let_go_among : volume ≤ kept_sum q statuses.Locked old
-  let_go_among = omega (arith, not_yet statuses.Locked, move.locked_at_sign_off q t s)
+cleared_let_go : (q t : ℕ) (xs : List Sale)
+    → sum_among (volume_with q statuses.Cleared) (map (let_go t) xs)
+    ≡ sum_among (volume_with q statuses.Cleared) xs
+cleared_let_go q t [] = refl
+cleared_let_go q t (x ∷ xs) = omega (arith, let_go_cleared q t x, cleared_let_go q t xs)
 
-  pub let_go_fits : volume_of q s < 2 ^ 64 → kept_sum q statuses.Payable old + volume < 2 ^ 64
-  let_go_fits fit = omega (arith, not_yet statuses.Payable, move.locked_at_sign_off q t s, add_up q s)
+whole_let_go : (q t : ℕ) (xs : List Sale)
+    → sum_among (volume_in q) (map (let_go t) xs) ≡ sum_among (volume_in q) xs
+whole_let_go q t [] = refl
+whole_let_go q t (x ∷ xs) = omega (arith, let_go_whole q t x, whole_let_go q t xs)
 
-  module _ (new : Sums) (are : AreMoved q volume old new) where
-    own : (status : Status) → kept_sum q status new ≡ volume_by q status (after_sign_off t s)
-    own statuses.Payable =
-        let same : (q == q) ≡ true = eq-eqb q q refl in
-        let here = are.payable q low high in
-        let all : cond (q == q) volume 0 ≡ volume = ap (λ (b : Bool). cond b volume 0) same in
-        omega (arith, here, all, not_yet statuses.Payable, move.payable_at_sign_off q t s)
-    own statuses.Locked =
-        let same : (q == q) ≡ true = eq-eqb q q refl in
-        let here = are.locked q low high in
-        let all : cond (q == q) volume 0 ≡ volume = ap (λ (b : Bool). cond b volume 0) same in
-        omega (arith, here, all, not_yet statuses.Locked, move.locked_at_sign_off q t s)
-    own statuses.Cleared =
-        are.cleared q low high ∙ not_yet statuses.Cleared
-        ∙ sym (move.cleared_at_sign_off q t s)
+module _ (t : ℕ) (shelves : List Shelf) (i : ℕ) (d : Shelf) (sums : Sums)
+    (inside : i < length shelves)
+    (are : AreSums (sales_on shelves) sums) where
+  abbrev here : List Sale
+  here = (get_or shelves i d).sales
 
-    others : (r : ℕ) (status : Status) → r ≢ q → 1 ≤ r → r ≤ PRODUCTS
-        → kept_sum r status new ≡ kept_sum r status old
-    others r statuses.Payable other from most =
-        let isnt : (r == q) ≡ false = grind (arith, nat_tests) in
-        let none : cond (r == q) volume 0 ≡ 0 = ap (λ (b : Bool). cond b volume 0) isnt in
-        omega (arith, are.payable r from most, none)
-    others r statuses.Locked other from most =
-        let isnt : (r == q) ≡ false = grind (arith, nat_tests) in
-        let none : cond (r == q) volume 0 ≡ 0 = ap (λ (b : Bool). cond b volume 0) isnt in
-        omega (arith, are.locked r from most, none)
-    others r statuses.Cleared other from most = are.cleared r from most
+  pub can_let_go : CanMove (locked_among t here) sums
+  can_let_go = record {
+    among = λ q low high. omega (
+      arith,
+      are.kept q statuses.Locked low high,
+      sums_there (volume_with q statuses.Locked) shelves,
+      sum_part (volume_with q statuses.Locked) shelves i d inside,
+      locked_let_go q t here,
+    );
+    fits = λ q low high. omega (
+      arith,
+      are.kept q statuses.Payable low high,
+      are.fit q,
+      add_up q (sales_on shelves),
+      sums_there (volume_with q statuses.Locked) shelves,
+      sum_part (volume_with q statuses.Locked) shelves i d inside,
+      locked_let_go q t here,
+    );
+  }
 
-    pub let_go_next : LetGoBefore s t (q + 1) new
-    let_go_next r status from most = elim (cases_eq r q) [
-      | inl same ↦
-          ap (λ k. kept_sum k status new) same ∙ own status
-          ∙ ap (λ k. volume_by k status (after_sign_off t s)) (sym same)
-          ∙ sym (chosen (nat_lt r (q + 1)) true _ _ (grind (arith, nat_tests)))
-      | inr other ↦
-          others r status other from most ∙ so_far r status from most
-          ∙ chosen (nat_lt r q) (nat_lt r (q + 1)) _ _ (same_test r other)
-    ]
-      where
-        same_test : (r : ℕ) → r ≢ q → nat_lt r q ≡ nat_lt r (q + 1)
-        same_test r other = by_test (nat_lt r q) refl
-          where
-            by_test : (b : Bool) → nat_lt r q ≡ b → b ≡ nat_lt r (q + 1)
-            by_test true is = grind (arith, nat_tests)
-            by_test false is = grind (arith, nat_tests)
+  module _ (shelf : Shelf) (is : shelf.sales ≡ map (let_go t) here) (new : Sums)
+      (moved : AreMoved (locked_among t here) sums new) where
+    changed : (figure : Sale → ℕ) → sum_of figure (sales_on (set shelves i shelf))
+        + sum_among figure here
+        ≡ sum_of figure (sales_on shelves) + sum_among figure (map (let_go t) here)
+    changed figure = omega (
+      arith,
+      sums_there figure shelves,
+      sums_there figure (set shelves i shelf),
+      sum_changed figure shelves i shelf d inside,
+      ap (sum_among figure) is,
+    )
 
--- before the first product
-pub let_go_none : (s : Sales) (t : ℕ) (sums : Sums) → AreSums s sums → LetGoBefore s t 1 sums
-let_go_none s t sums are r status low high =
-    are.kept r status low high ∙ sym (chosen (nat_lt r 1) false _ _ (grind (arith, nat_tests)))
+    kept_by : (q : ℕ) (status : Status) → 1 ≤ q → q ≤ PRODUCTS
+        → kept_sum q status new ≡ volume_by q status (sales_on (set shelves i shelf))
+    kept_by q statuses.Payable low high = omega (
+      arith,
+      moved.payable q low high,
+      are.kept q statuses.Payable low high,
+      changed (volume_with q statuses.Payable),
+      payable_let_go q t here,
+    )
+    kept_by q statuses.Locked low high = omega (
+      arith,
+      moved.locked q low high,
+      are.kept q statuses.Locked low high,
+      changed (volume_with q statuses.Locked),
+      locked_let_go q t here,
+    )
+    kept_by q statuses.Cleared low high = omega (
+      arith,
+      moved.cleared q low high,
+      are.kept q statuses.Cleared low high,
+      changed (volume_with q statuses.Cleared),
+      cleared_let_go q t here,
+    )
 
--- after the last
-pub let_go_all : (s : Sales) (t n : ℕ) (old new : Sums) → AreSums s old → PRODUCTS < n
-    → LetGoBefore s t n new → AreSums (after_sign_off t s) new
-let_go_all s t n old new are past so_far = record {
-  fit = λ q. omega (arith, move.whole_at_sign_off q t s, are.fit q);
-  kept = λ q status low high. so_far q status low high
-      ∙ chosen (nat_lt q n) true _ _ (grind (arith, nat_tests));
-}
+    pub kept_let_go : AreSums (sales_on (set shelves i shelf)) new
+    kept_let_go = record {
+      fit = λ q. omega (arith, are.fit q, changed (volume_in q), whole_let_go q t here);
+      kept = kept_by;
+    }
+
+-- ---- so many millilitres let go in two steps
+module _ (one other both : ℕ → ℕ) (parts : (q : ℕ) → both q ≡ one q + other q) (sums left : Sums)
+  where
+    pub can_first : CanMove both sums → CanMove one sums
+    can_first can = record {
+      among = λ q low high. omega (arith, parts q, can.among q low high);
+      fits = λ q low high. omega (arith, parts q, can.fits q low high);
+    }
+
+    pub can_second : CanMove both sums → AreMoved one sums left → CanMove other left
+    can_second can moved = record {
+      among = λ q low high. omega (arith, parts q, can.among q low high, moved.locked q low high);
+      fits = λ q low high. omega (arith, parts q, can.fits q low high, moved.payable q low high);
+    }
+
+    pub moved_twice : (new : Sums) → AreMoved one sums left → AreMoved other left new
+        → AreMoved both sums new
+    moved_twice new first second = record {
+      payable = λ q low high.
+          omega (arith, parts q, first.payable q low high, second.payable q low high);
+      locked = λ q low high.
+          omega (arith, parts q, first.locked q low high, second.locked q low high);
+      cleared = λ q low high. second.cleared q low high ∙ first.cleared q low high;
+    }

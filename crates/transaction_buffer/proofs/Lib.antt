@@ -2,7 +2,8 @@ pub mod Accepted
 pub mod Counting
 pub mod InShift
 pub mod Kept
-pub mod Lists
+pub mod LetGo
+pub mod Lockers
 pub mod Maps
 pub mod Numbers
 pub mod OnShelves

@@ -1,11 +1,13 @@
 -- What the shelves of the points say of the sales, and what a change of one shelf changes.
-use Rattle.std.proofs.Common.{◌≡◌, ℕ, zero, suc, ◌+◌, ◌-◌, ◌<◌, ◌==◌, Bool, true, false, if◌then◌else◌, List, [], ◌∷◌, ◌++◌, length, get_or, map, Option, Some, None, unwrap_or, refl, sym, ap, ◌∙◌, arith, length-set, get_or-set_same}
+use Rattle.std.proofs.Common.{◌≡◌, ◌≢◌, ℕ, zero, suc, ◌+◌, ◌-◌, ◌<◌, ◌≤◌, ◌==◌, Bool, true, false, if◌then◌else◌, List, [], ◌∷◌, ◌++◌, length, get_or, map, Option, Some, None, unwrap_or, inl, inr, refl, sym, ap, subst, ◌∙◌, arith, length-set, get_or-set_same}
 use Rattle.std.proofs.Math.ListN.{set}
 use Rattle.std.proofs.lemmas.List.{map-set, get_or-map, set-get_or, length-map}
 use Rattle.std.specs.FinMap as finite
 use Rattle.site_base.specs.Cells.{entries_from}
 use Rattle.site_base.proofs.Cells.{cell_read, cell_filled, entries_of_cells}
-use Rattle.site_base.proofs.Numbering.{numbered_within}
+use Rattle.site_base.proofs.Numbering.{numbered_within, numbered_with_other, with_numbered_place}
+use Rattle.site_base.specs.Numbered.{with_numbered}
+use Rattle.std.proofs.lemmas.Bool.{cases_eq}
 use Rattle.transaction_buffer.specs.Sales.{Sale, no_sales, sales_at, sale_in, with_in}
 use Rattle.transaction_buffer.specs.TransactionTable.{let_go, after_sign_off}
 use Rattle.transaction_buffer.specs.Sums.{sum_among, sum_over, sum_of}
@@ -70,6 +72,45 @@ room_written shelves i p new place within =
     room_there (set shelves i new) i p new place (omega arith)
     ∙ ap (λ (x : Shelf). x.room) (get_or-set_same shelves i new new within)
 
+-- the rooms with that of one shelf in the place of another
+rooms_written : (shelves : List Shelf) (i p : ℕ) (new : Shelf) → i + 1 ≡ p
+    → rooms_on (set shelves i new) ≡ with_numbered p new.room (rooms_on shelves)
+rooms_written shelves i p new place =
+    let back : i ≡ p - 1 = omega arith in
+    map-set (λ (x : Shelf). x.room) shelves i new
+    ∙ ap (λ k. set (rooms_on shelves) k new.room) back
+    ∙ sym (with_numbered_place p new.room (rooms_on shelves) (omega arith))
+
+-- every other point has the room that it had
+pub room_elsewhere : (shelves : List Shelf) (i p q : ℕ) (new : Shelf) → i + 1 ≡ p → q ≢ p
+    → room_at q (rooms_on (set shelves i new)) ≡ room_at q (rooms_on shelves)
+room_elsewhere shelves i p q new place other =
+    ap (room_at q) (rooms_written shelves i p new place)
+    ∙ ap (λ (o : Option ℕ). unwrap_or o 0)
+    (numbered_with_other p q (rooms_on shelves) new.room other)
+
+-- where the new shelf has no less room, no point has less
+pub room_kept : (shelves : List Shelf) (i p : ℕ) (new d : Shelf) → i + 1 ≡ p → i < length shelves
+    → (get_or shelves i d).room ≤ new.room → (q : ℕ)
+    → room_at q (rooms_on shelves) ≤ room_at q (rooms_on (set shelves i new))
+room_kept shelves i p new d place within more q = elim (cases_eq q p) [
+  | inl here ↦
+      let before = room_there shelves i p d place within in
+      let after = room_written shelves i p new place within in
+      subst (λ n. room_at n (rooms_on shelves) ≤ room_at n (rooms_on (set shelves i new)))
+      (sym here) (omega (arith, before, after, more))
+  | inr other ↦ let same = room_elsewhere shelves i p q new place other in omega (arith, same)
+]
+
+-- where the new shelf has the same room, every point has
+pub rooms_same : (shelves : List Shelf) (i : ℕ) (new d : Shelf) → i < length shelves
+    → new.room ≡ (get_or shelves i d).room → rooms_on (set shelves i new) ≡ rooms_on shelves
+rooms_same shelves i new d within same =
+    map-set (λ (x : Shelf). x.room) shelves i new
+    ∙ ap (set (rooms_on shelves) i)
+    (same ∙ sym (get_or-map (λ (x : Shelf). x.room) shelves i d 0 within))
+    ∙ set-get_or (rooms_on shelves) i 0
+
 -- a point that has sold has sales to show
 pub stock_push : (xs : List Sale) (y : Sale) → stock (xs ++ y ∷ []) ≡ Some (xs ++ y ∷ [])
 stock_push [] y = refl
@@ -106,6 +147,23 @@ pub sums_there : (figure : Sale → ℕ) (shelves : List Shelf)
     → sum_of figure (sales_on shelves) ≡ sum_on figure shelves
 sums_there figure shelves = ap (sum_over figure) (entries_of_cells (cells_of shelves))
     ∙ sums_from figure 1 shelves
+
+-- the sum over one shelf is part of that over all
+pub sum_part : (figure : Sale → ℕ) (shelves : List Shelf) (i : ℕ) (d : Shelf) → i < length shelves
+    → sum_among figure (get_or shelves i d).sales ≤ sum_on figure shelves
+sum_part figure [] i d within = absurd (omega arith)
+sum_part figure (x ∷ xs) zero d within = omega arith
+sum_part figure (x ∷ xs) (suc i) d within = omega (arith, sum_part figure xs i d (omega arith))
+
+-- the sum once another shelf is in the place of one
+pub sum_changed : (figure : Sale → ℕ) (shelves : List Shelf) (i : ℕ) (new d : Shelf)
+    → i < length shelves
+    → sum_on figure (set shelves i new) + sum_among figure (get_or shelves i d).sales
+    ≡ sum_on figure shelves + sum_among figure new.sales
+sum_changed figure [] i new d within = absurd (omega arith)
+sum_changed figure (x ∷ xs) zero new d within = omega arith
+sum_changed figure (x ∷ xs) (suc i) new d within =
+    omega (arith, sum_changed figure xs i new d (omega arith))
 
 cells_of_sales : (shelves : List Shelf)
     → cells_of shelves ≡ map stock (map (λ (x : Shelf). x.sales) shelves)

@@ -312,20 +312,6 @@ nowhere h n (x ∷ xs) is =
         rw there refl in
         rw there (behind n (none (place_in h n (shifts_of xs)) (sym at ∙ is)))
 
--- a shelf whose cells say the same
-pub shelf_filled : (xs ys : List Sale) (cells more : List Span) (a b : Option ℕ)
-    → IsShelf xs cells a b → ys ≡ xs
-    → ((i : ℕ) → get_or more i no_span ≡ get_or cells i no_span) → length more ≤ GREATEST_SHIFT
-    → IsShelf ys more a b
-shelf_filled xs ys cells more a b is items alike few =
-    subst (λ zs. IsShelf zs more a b) (sym items) (record {
-      unpaid = is.unpaid;
-      places = is.places;
-      few = few;
-      spans = λ h low high. subst (λ (s : Span). IsSpan h (shifts_of xs) s) (sym (alike (h - 1)))
-          (is.spans h low high);
-    })
-
 -- a cell without sales says what no cell does
 pub filled_more : (cells : List Span) (i : ℕ)
     → get_or (cells ++ no_span ∷ []) i no_span ≡ get_or cells i no_span

@@ -162,15 +162,3 @@ pub locked_at_places : (q t : ℕ) (xs : List Sale) (a b : Option ℕ) → AreUn
     ≡ figure_at (volume_locked_by q t) a xs + figure_at (volume_locked_by q t) b xs
 locked_at_places q t xs a b are =
     two_places (volume_locked_by q t) xs a b (paid_nothing q t) are.each are.apart
-
--- what a till has locked is part of all
-pub locked_part : (q t : ℕ) (xs : List Sale)
-    → sum_among (volume_locked_by q t) xs ≤ sum_among (volume_in q) xs
-locked_part q t [] = omega arith
-locked_part q t (x ∷ xs) =
-    let here : volume_locked_by q t x ≤ volume_in q x = by_test (is_locked_by t x.standing) in
-    omega (arith, here, locked_part q t xs)
-  where
-    by_test : (c : Bool) → cond c (volume_in q x) 0 ≤ volume_in q x
-    by_test true = omega arith
-    by_test false = omega arith

@@ -106,7 +106,7 @@ keeps true h volume is = rw is refl
 keeps false h volume is = refl
 
 -- a sale that the till lets go is payable, and was locked
-let_go_payable : (q t : ℕ) (x : Sale)
+pub let_go_payable : (q t : ℕ) (x : Sale)
     → volume_with q statuses.Payable (let_go t x)
     ≡ volume_with q statuses.Payable x + volume_locked_by q t x
 let_go_payable q t x = by_test (is_locked_by t x.standing) refl
@@ -118,7 +118,7 @@ let_go_payable q t x = by_test (is_locked_by t x.standing) refl
         (wasn't_payable t x.standing is)
     by_test false is = omega arith
 
-let_go_locked : (q t : ℕ) (x : Sale)
+pub let_go_locked : (q t : ℕ) (x : Sale)
     → volume_with q statuses.Locked (let_go t x) + volume_locked_by q t x
     ≡ volume_with q statuses.Locked x
 let_go_locked q t x = by_test (is_locked_by t x.standing) refl
@@ -131,7 +131,7 @@ let_go_locked q t x = by_test (is_locked_by t x.standing) refl
         (was_locked t x.standing is)
     by_test false is = omega arith
 
-let_go_cleared : (q t : ℕ) (x : Sale)
+pub let_go_cleared : (q t : ℕ) (x : Sale)
     → volume_with q statuses.Cleared (let_go t x) ≡ volume_with q statuses.Cleared x
 let_go_cleared q t x = by_test (is_locked_by t x.standing) refl
   where
@@ -142,7 +142,7 @@ let_go_cleared q t x = by_test (is_locked_by t x.standing) refl
         (wasn't_cleared t x.standing is)
     by_test false is = refl
 
-let_go_whole : (q t : ℕ) (x : Sale) → volume_in q (let_go t x) ≡ volume_in q x
+pub let_go_whole : (q t : ℕ) (x : Sale) → volume_in q (let_go t x) ≡ volume_in q x
 let_go_whole q t x = by_test (is_locked_by t x.standing)
   where
     by_test : (b : Bool) → volume_in q (cond b (record x { standing = Payable }) x) ≡ volume_in q x

@@ -1,5 +1,5 @@
 -- The sums that the buffer keeps: for each product one for each status.
-use Rattle.std.specs.Prelude.{◌≡◌, ℕ, ◌+◌, ◌-◌, ◌^◌, ◌<◌, ◌≤◌, ◌==◌, if◌then◌else◌, slice_index}
+use Rattle.std.specs.Prelude.{◌≡◌, ℕ, ◌+◌, ◌-◌, ◌^◌, ◌<◌, ◌≤◌, slice_index}
 use Rattle.site_base.specs.declared.limits.TheConstants.{PRODUCTS}
 use Rattle.site_base.specs.declared.state.Status.{Status}
 use Rattle.site_base.specs.declared.state.Status.TheVariants as statuses
@@ -24,16 +24,21 @@ abbrev pub AreWith : Sale → Sums → Sums → Type 0
 AreWith x old new = (q : ℕ) (status : Status) → 1 ≤ q → q ≤ PRODUCTS
     → kept_sum q status new ≡ kept_sum q status old + volume_with q status x
 
--- the sums once so many millilitres of product q, which were locked, are payable
-pub record AreMoved (q volume : ℕ) (old new : Sums) : Type 0 where
-  pub payable : (r : ℕ) → 1 ≤ r → r ≤ PRODUCTS
-      → kept_sum r statuses.Payable new
-      ≡ kept_sum r statuses.Payable old + (if r == q then volume else 0)
-  pub locked : (r : ℕ) → 1 ≤ r → r ≤ PRODUCTS
-      → kept_sum r statuses.Locked new + (if r == q then volume else 0)
-      ≡ kept_sum r statuses.Locked old
-  pub cleared : (r : ℕ) → 1 ≤ r → r ≤ PRODUCTS
-      → kept_sum r statuses.Cleared new ≡ kept_sum r statuses.Cleared old
+-- the sums have room to let so many millilitres of each product go: they are among the locked ones,
+-- and fit with the payable ones
+pub record CanMove (volume : ℕ → ℕ) (sums : Sums) : Type 0 where
+  pub among : (q : ℕ) → 1 ≤ q → q ≤ PRODUCTS → volume q ≤ kept_sum q statuses.Locked sums
+  pub fits : (q : ℕ) → 1 ≤ q → q ≤ PRODUCTS
+      → kept_sum q statuses.Payable sums + volume q < 2 ^ 64
+
+-- the sums once so many millilitres of each product, which were locked, are payable
+pub record AreMoved (volume : ℕ → ℕ) (old new : Sums) : Type 0 where
+  pub payable : (q : ℕ) → 1 ≤ q → q ≤ PRODUCTS
+      → kept_sum q statuses.Payable new ≡ kept_sum q statuses.Payable old + volume q
+  pub locked : (q : ℕ) → 1 ≤ q → q ≤ PRODUCTS
+      → kept_sum q statuses.Locked new + volume q ≡ kept_sum q statuses.Locked old
+  pub cleared : (q : ℕ) → 1 ≤ q → q ≤ PRODUCTS
+      → kept_sum q statuses.Cleared new ≡ kept_sum q statuses.Cleared old
 
 -- the sums without this sale's volume
 abbrev pub AreWithout : Sale → Sums → Sums → Type 0

@@ -1,7 +1,10 @@
 pub mod Asked
 pub mod Codes
 pub mod KeptSums
+pub mod Kept
+pub mod LetGo
 pub mod Laws
+pub mod Locked
 pub mod Rooms
 pub mod Sales
 pub mod Shelves

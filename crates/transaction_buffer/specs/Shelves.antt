@@ -1,17 +1,21 @@
--- How the buffer keeps the sales: on a shelf for each point, each shift's sales one behind the other.
+-- How the buffer keeps the sales: on a shelf for each point, each shift's sales one behind the
+-- other.
 use Rattle.std.specs.Prelude.{◌≡◌, ℕ, ◌+◌, ◌-◌, ◌<◌, ◌≤◌, List, [], ◌∷◌, length, map, Option, option_map, Some, None, ◌==◌, if◌then◌else◌, slice_index_or}
 use Rattle.std.specs.FinMap as finite
 use Rattle.site_base.specs.declared.limits.TheConstants.{GREATEST_SEQ, GREATEST_SHIFT, UNPAID_LIMIT}
 use Rattle.site_base.specs.Cells.{entries_from}
+use Rattle.transaction_buffer.specs.declared.locked_points.Lockers.{Lockers}
 use Rattle.transaction_buffer.specs.declared.span.Span.{Span}
 use Rattle.transaction_buffer.specs.Sales.{Sale, Sales, unpaid_among}
 use Rattle.transaction_buffer.specs.Sums.{sum_among}
 use Rattle.transaction_buffer.specs.UnpaidPlaces.{AreUnpaid}
 
--- the sales of a point, and how many more there is room for
+-- the sales of a point, how many more there is room for, and the tills that have locked the sales
+-- at its two unpaid places
 pub record Shelf : Type 0 where
   pub sales : List Sale
   pub room : ℕ
+  pub lockers : Lockers
 
 -- a point that has sold nothing has no sales to show
 abbrev pub stock : List Sale → Option (List Sale)

@@ -1,21 +1,23 @@
 //! The transaction buffer of a site.
 
-ghost use Rattle.std.specs.Prelude.{◌≡◌, ◌+◌, ◌^◌, ◌<◌, ◌≤◌, true, Some, is_some, map, OnOk};
-ghost use Rattle.site_base.specs.declared.limits.TheConstants.{UNPAID_LIMIT};
+ghost use Rattle.std.specs.Prelude.{◌≡◌, ◌≢◌, ℕ, ◌+◌, ◌^◌, ◌<◌, ◌≤◌, true, Some, is_some, length, OnErr, OnOk};
+ghost use Rattle.site_base.specs.declared.limits.TheConstants.{POINT_CELLS, UNPAID_LIMIT};
 ghost use Rattle.transaction_buffer.specs.Sales.{key, no_sales, HasNoneLater, sale_of, next_number, unpaid_at, with_new, is_new, new_sale, shown};
 ghost use Rattle.transaction_buffer.specs.Asked.{Asked};
-ghost use Rattle.transaction_buffer.specs.TransactionTable.{let_go, after_sign_off};
-ghost use Rattle.transaction_buffer.specs.Sums.{volume_in, volume_locked_by, volume_of, volume_by, locked_volume};
+ghost use Rattle.transaction_buffer.specs.LetGo.{AreLetGo};
+ghost use Rattle.transaction_buffer.specs.TransactionTable.{after_sign_off};
+ghost use Rattle.transaction_buffer.specs.Sums.{volume_of, volume_by};
 ghost use Rattle.transaction_buffer.specs.Rooms.{room_at};
-ghost use Rattle.transaction_buffer.specs.Shelves.{sum_on, sales_on};
+ghost use Rattle.transaction_buffer.specs.Shelves.{sales_on};
 ghost use Rattle.transaction_buffer.specs.KeptSums.{AreSums};
 
+use crate::locked_points::LockedPoints;
 use crate::request::Request;
 use crate::sale::Sale;
 use crate::shelf::Shelf;
 use crate::sums::Sums;
 use site_base::{
-    Answer, FpNo, NoMemory, POINT_CELLS, PRODUCTS, ProductNo, Refusal, Seq, ShiftNo, Status,
+    Answer, FpNo, NoMemory, POINT_CELLS, PointSet, ProductNo, Refusal, Seq, ShiftNo, Status,
     TillNo, TransactionView,
 };
 use std::alloc::Global;
@@ -33,6 +35,8 @@ pub struct Buffer {
     shelves: [Shelf; POINT_CELLS],
     // What stands on all shelves.
     sums: Sums,
+    // The points of which each till has locked a sale.
+    locked: LockedPoints,
 }
 
 impl Model for Buffer {
@@ -46,9 +50,9 @@ impl Model for Buffer {
 
     ghost view = { λ b. record { sales = sales_on b.shelves; rooms = rooms_on b.shelves } };
 
-    ghost use Rattle.transaction_buffer.specs.KeptSums.{AreSums};
+    ghost use Rattle.transaction_buffer.specs.Kept.{IsKept};
 
-    ghost invariant = { λ b. AreSums (sales_on b.shelves) b.sums };
+    ghost invariant = { λ b. IsKept b.shelves b.sums b.locked };
 }
 
 impl Buffer {
@@ -59,13 +63,19 @@ impl Buffer {
         Buffer {
             shelves: array::from_fn(|_| Shelf::new(alloc)),
             sums: Sums::new(),
+            locked: LockedPoints::new(),
         }
     }
 
-    /// Makes the room that the next sale of point p needs. The sales stay.
+    /// Makes the room that the next sale of point p needs. The sales stay, and so does the room of
+    /// every other point. Where there is no memory, nothing changes.
     pub fn reserve(&mut self, p: FpNo) -> Result<(), NoMemory>
         ensures sales { self.new.sales ≡ self.old.sales }
         ensures room { OnOk result (0 < room_at p self.new.rooms) }
+        ensures kept { (q : ℕ) → room_at q self.old.rooms ≤ room_at q self.new.rooms }
+        ensures others { (q : ℕ) → q ≢ p
+            → room_at q self.new.rooms ≡ room_at q self.old.rooms }
+        ensures err { OnErr result (self.new ≡ self.old) }
     {
         let shelf = &mut self.shelves[p.cell()];
         shelf.reserve()
@@ -90,9 +100,9 @@ impl Buffer {
     }
 
     /// Adds a sale of point p in a shift and answers its number there. The view is payable without
-    /// a till, or locked with one. Room for it is reserved, fewer than `UNPAID_LIMIT` transactions of
-    /// the point are unpaid, the shift has a next number, no sale of the point is of a later shift,
-    /// and the volumes of all sales of the product fit in 64 bits with this one. No other
+    /// a till, or locked with one. Room for it is reserved, fewer than `UNPAID_LIMIT` transactions
+    /// of the point are unpaid, the shift has a next number, no sale of the point is of a later
+    /// shift, and the volumes of all sales of the product fit in 64 bits with this one. No other
     /// transaction changes. It takes no memory.
     pub fn add(&mut self, p: FpNo, shift: ShiftNo, view: TransactionView) -> Seq
         requires room { 0 < room_at p self.old.rooms }
@@ -107,8 +117,11 @@ impl Buffer {
         let sale = Sale::new(shift, &view);
         let shelf = &mut self.shelves[p.cell()];
         let seq = shelf.next_seq(shift).unwrap();
+        let before = shelf.lockers();
         shelf.push(sale);
+        let after = shelf.lockers();
         self.sums = self.sums.with(&sale);
+        self.locked.note(p, before, after);
         seq
     }
 
@@ -154,8 +167,11 @@ impl Buffer {
     pub fn release_all(&mut self, t: TillNo)
         ensures { self.new.sales ≡ after_sign_off t self.old.sales }
     {
-        self.sums = let_go_sums(&self.shelves, &self.sums, t);
-        let_go_of_each(&mut self.shelves, t);
+        let cell = t.cell();
+        let (one, other) = (self.locked.one[cell], self.locked.other[cell]);
+        self.sums = let_go_at(&mut self.shelves, one, &self.sums, t);
+        self.sums = let_go_at(&mut self.shelves, other, &self.sums, t);
+        self.locked.forget(t);
     }
 
     /// The transaction as a read shows it. None where it isn't there.
@@ -195,46 +211,31 @@ impl Buffer {
             return Err(Refusal::NoSuchTransaction);
         };
         let (new, answer) = old.asked(request, t)?;
+        let before = shelf.lockers();
         shelf.put(s, new);
+        let after = shelf.lockers();
         let left = self.sums.without(&old);
         self.sums = left.with(&new);
+        self.locked.note(p, before, after);
         Ok(answer)
     }
 }
 
-/// Makes the sales that this till has locked payable, on each shelf.
-fn let_go_of_each(shelves: &mut [Shelf], t: TillNo)
-    ensures { map (λ x. x.sales) shelves.new
-        ≡ map (map (let_go t)) (map (λ x. x.sales) shelves.old) }
-{
-    for shelf in shelves.iter_mut() {
-        shelf.let_go(t);
-    }
-}
-
-/// The sums once the sales that this till has locked are payable.
-fn let_go_sums(shelves: &[Shelf], sums: &Sums, t: TillNo) -> Sums
-    requires { AreSums (sales_on shelves.now) sums.now }
-    ensures { AreSums (after_sign_off t (sales_on shelves.now)) result }
+/// Makes the sales of these points that this till has locked payable, and answers the sums then.
+fn let_go_at(shelves: &mut [Shelf], points: PointSet, sums: &Sums, t: TillNo) -> Sums
+    requires cells { length shelves.old ≡ POINT_CELLS }
+    requires sums { AreSums (sales_on shelves.old) sums.now }
+    ensures cells { length shelves.new ≡ POINT_CELLS }
+    ensures shelves { AreLetGo t points shelves.old shelves.new }
+    ensures sums { AreSums (sales_on shelves.new) result }
 {
     let mut new = *sums;
-    for number in 1..=PRODUCTS {
-        let Some(q) = ProductNo::new(number) else {
-            unreachable!();
-        };
-        new = new.let_go(q, volume_locked(shelves, q, t));
+    let mut left = points;
+    while let Some(p) = left.first() {
+        let shelf = &mut shelves[p.cell()];
+        new = shelf.let_go_sums(&new, t);
+        shelf.let_go(t);
+        left.remove(p);
     }
     new
-}
-
-/// The millilitres of this product in the sales that this till has locked, on every shelf.
-fn volume_locked(shelves: &[Shelf], q: ProductNo, t: TillNo) -> u64
-    requires { sum_on (volume_in q) shelves.now < 2 ^ 64 }
-    ensures { result ≡ sum_on (volume_locked_by q t) shelves.now }
-{
-    let mut total = 0;
-    for shelf in shelves {
-        total += shelf.volume_locked(q, t);
-    }
-    total
 }

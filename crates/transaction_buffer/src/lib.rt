@@ -5,6 +5,7 @@
 
 mod buffer;
 mod laws;
+mod locked_points;
 mod request;
 mod sale;
 mod shelf;

@@ -4,8 +4,8 @@ ghost use Rattle.std.specs.Prelude.{◌≡◌, ◌≤◌};
 ghost use Rattle.site_base.specs.declared.limits.TheConstants.{PRODUCTS};
 ghost use Rattle.transaction_buffer.specs.Sales.{is_unpaid, new_sale, status_of, view_of};
 ghost use Rattle.transaction_buffer.specs.Asked.{outcome};
-ghost use Rattle.transaction_buffer.specs.TransactionTable.{line_for, let_go};
-ghost use Rattle.transaction_buffer.specs.Sums.{volume_in, volume_locked_by};
+ghost use Rattle.transaction_buffer.specs.TransactionTable.{line_for, let_go, locker};
+ghost use Rattle.transaction_buffer.specs.Sums.{volume_locked_by};
 
 use crate::request::Request;
 use crate::standing::Standing;
@@ -127,6 +127,16 @@ impl Sale {
         self.volume.get()
     }
 
+    /// The till that has locked it.
+    pub fn locker(&self) -> Option<TillNo>
+        ensures { result ≡ locker self.now.standing }
+    {
+        match self.standing {
+            Standing::LockedBy(till) => Some(till),
+            _ => None,
+        }
+    }
+
     /// Is it cleared, payable or locked?
     pub fn status(&self) -> Status
         ensures { result ≡ status_of self.now.standing }
@@ -140,8 +150,7 @@ impl Sale {
 
     /// Its millilitres, if it is of this product and this till has locked it; else 0.
     pub fn volume_locked(&self, q: ProductNo, t: TillNo) -> u64
-        ensures value { result ≡ volume_locked_by q t self.now }
-        ensures part { result ≤ volume_in q self.now }
+        ensures { result ≡ volume_locked_by q t self.now }
     {
         let volume = self.volume.get();
         match self.standing {

@@ -1,17 +1,22 @@
 //! The sales of one fuelling point.
 
-ghost use Rattle.std.specs.Prelude.{◌≡◌, ℕ, ◌-◌, ◌^◌, ◌<◌, ◌≤◌, [], ◌∷◌, ◌++◌, true, is_some, IfSome, length, map, OnOk, slice_index_or};
+ghost use Rattle.std.specs.Prelude.{◌≡◌, ℕ, ◌-◌, ◌<◌, ◌≤◌, [], ◌∷◌, ◌++◌, true, is_some, IfSome, length, map, OnErr, OnOk, slice_index_or};
 ghost use Rattle.site_base.specs.declared.limits.TheConstants.{GREATEST_SEQ, GREATEST_SHIFT, UNPAID_LIMIT};
 ghost use Rattle.transaction_buffer.specs.Sales.{is_unpaid, made_in, next_after, sale_in, unpaid_among, with_in};
 ghost use Rattle.transaction_buffer.specs.Shelves.{NoneAfter, no_span, place_in, shifts_of};
 ghost use Rattle.transaction_buffer.specs.TransactionTable.{let_go};
 ghost use Rattle.transaction_buffer.specs.UnpaidPlaces.{figure_at, AreUnpaid, IsLetGoAt};
-ghost use Rattle.transaction_buffer.specs.Sums.{sum_among, volume_in, volume_locked_by};
+ghost use Rattle.transaction_buffer.specs.KeptSums.{AreMoved, CanMove};
+ghost use Rattle.transaction_buffer.specs.LetGo.{IsLetGo};
+ghost use Rattle.transaction_buffer.specs.Locked.{locker_at, no_lockers, AreTold};
+ghost use Rattle.transaction_buffer.specs.Sums.{sum_among, volume_locked_by};
 
+use crate::locked_points::Lockers;
 use crate::sale::Sale;
 use crate::span::Span;
+use crate::sums::Sums;
 use crate::unpaid_places::UnpaidPlaces;
-use site_base::{GREATEST_SHIFT, NoMemory, ProductNo, Seq, ShiftNo, TillNo};
+use site_base::{GREATEST_SHIFT, NoMemory, Seq, ShiftNo, TillNo};
 use std::alloc::Global;
 use std::marker::Model;
 
@@ -29,6 +34,7 @@ pub struct Shelf {
 impl Model for Shelf {
     ghost use Rattle.std.specs.Prelude.{◌-◌, ◌==◌, if◌then◌else◌, vec_len, vec_capacity};
     ghost use Rattle.site_base.specs.declared.limits.TheConstants.{GREATEST_SHIFT};
+    ghost use Rattle.transaction_buffer.specs.Locked.{lockers_at};
     ghost use Rattle.transaction_buffer.specs.Shelves.{Shelf as ShelfFacts, IsShelf};
 
     ghost Value = { ShelfFacts };
@@ -37,6 +43,7 @@ impl Model for Shelf {
       sales = x.sales.items;
       room = if vec_len x.spans == GREATEST_SHIFT then vec_capacity x.sales - vec_len x.sales
           else 0;
+      lockers = lockers_at x.unpaid.one x.unpaid.other x.sales.items;
     } };
 
     ghost invariant = { λ x. IsShelf x.sales.items x.spans.items x.unpaid.one x.unpaid.other };
@@ -45,7 +52,8 @@ impl Model for Shelf {
 impl Shelf {
     /// No sales. It takes no memory.
     pub fn new(alloc: Global) -> Self
-        ensures { result.sales ≡ [] }
+        ensures sales { result.sales ≡ [] }
+        ensures lockers { result.lockers ≡ no_lockers }
     {
         Shelf {
             sales: Vec::new(alloc),
@@ -54,13 +62,16 @@ impl Shelf {
         }
     }
 
-    /// Makes room for one more sale of whichever shift.
+    /// Makes room for one more sale of whichever shift. Where there is no memory, nothing changes.
     pub fn reserve(&mut self) -> Result<(), NoMemory>
         ensures sales { self.new.sales ≡ self.old.sales }
+        ensures lockers { self.new.lockers ≡ self.old.lockers }
         ensures room { OnOk result (0 < self.new.room) }
+        ensures kept { self.old.room ≤ self.new.room }
+        ensures err { OnErr result (self.new.room ≡ self.old.room) }
     {
-        fill(&mut self.spans)?;
         self.sales.reserve(1)?;
+        fill(&mut self.spans)?;
         Ok(())
     }
 
@@ -90,8 +101,8 @@ impl Shelf {
         }
     }
 
-    /// Adds a sale, where room is reserved, no sale is of a later shift, its shift has a number left
-    /// and not too many are unpaid.
+    /// Adds a sale, where room is reserved, no sale is of a later shift, its shift has a number
+    /// left and not too many are unpaid.
     pub fn push(&mut self, sale: Sale)
         requires room { 0 < self.old.room }
         requires order { NoneAfter sale.shift (shifts_of self.old.sales) }
@@ -122,25 +133,34 @@ impl Shelf {
         self.sales[place] = sale;
     }
 
+    /// The tills that have locked the sales at its two unpaid places: no other till has locked any.
+    pub fn lockers(&self) -> Lockers
+        ensures value { result ≡ self.now.lockers }
+        ensures told { AreTold self.now.sales self.now.lockers }
+    {
+        let sales: &[Sale] = &self.sales;
+        Lockers {
+            one: locker_at(sales, self.unpaid.one),
+            other: locker_at(sales, self.unpaid.other),
+        }
+    }
+
     /// Makes the sales that this till has locked payable.
     pub fn let_go(&mut self, t: TillNo)
-        ensures sales { self.new.sales ≡ map (let_go t) self.old.sales }
+        ensures { IsLetGo t self.old self.new }
     {
         let unpaid = self.unpaid;
         let_go_unpaid(&mut self.sales, unpaid, t);
     }
 
-    /// The millilitres of this product in the sales that this till has locked. Those of all sales
-    /// fit in 64 bits.
-    pub fn volume_locked(&self, q: ProductNo, t: TillNo) -> u64
-        requires { sum_among (volume_in q) self.now.sales < 2 ^ 64 }
-        ensures value { result ≡ sum_among (volume_locked_by q t) self.now.sales }
-        ensures part { result ≤ sum_among (volume_in q) self.now.sales }
+    /// The sums, in which the sales that this till has locked are, once they are payable.
+    pub fn let_go_sums(&self, sums: &Sums, t: TillNo) -> Sums
+        requires { CanMove (λ q. sum_among (volume_locked_by q t) self.now.sales) sums.now }
+        ensures { AreMoved (λ q. sum_among (volume_locked_by q t) self.now.sales) sums.now result }
     {
         let sales: &[Sale] = &self.sales;
-        let one = locked_at(sales, self.unpaid.one, q, t);
-        let other = locked_at(sales, self.unpaid.other, q, t);
-        one + other
+        let left = let_go_sum_at(sales, self.unpaid.one, sums, t);
+        let_go_sum_at(sales, self.unpaid.other, &left, t)
     }
 
     /// The place of the sale of this shift with this number, if there is one.
@@ -163,6 +183,8 @@ fn fill(spans: &mut Vec<Span>) -> Result<(), NoMemory>
     ensures same { (i : ℕ) → slice_index_or spans.new.items i no_span
         ≡ slice_index_or spans.old.items i no_span }
     ensures few { length spans.new.items ≤ GREATEST_SHIFT }
+    ensures more { length spans.old.items ≤ length spans.new.items }
+    ensures err { OnErr result (length spans.new.items < GREATEST_SHIFT) }
     ensures full { OnOk result (length spans.new.items ≡ GREATEST_SHIFT) }
 {
     while spans.len() < usize::from(GREATEST_SHIFT) {
@@ -201,15 +223,26 @@ fn let_go_at(sales: &mut [Sale], place: Option<usize>, t: TillNo)
     }
 }
 
-/// The millilitres of this product in the sale at this place, if this till has locked it.
-fn locked_at(sales: &[Sale], place: Option<usize>, q: ProductNo, t: TillNo) -> u64
-    ensures { result ≡ figure_at (volume_locked_by q t) place sales.now }
+/// The till that has locked the sale at this place.
+fn locker_at(sales: &[Sale], place: Option<usize>) -> Option<TillNo>
+    ensures { result ≡ locker_at place sales.now }
+{
+    match sales.get(place?) {
+        Some(sale) => sale.locker(),
+        None => None,
+    }
+}
+
+/// The sums once the sale at this place is payable, if this till has locked it.
+fn let_go_sum_at(sales: &[Sale], place: Option<usize>, sums: &Sums, t: TillNo) -> Sums
+    requires { CanMove (λ q. figure_at (volume_locked_by q t) place sales.now) sums.now }
+    ensures { AreMoved (λ q. figure_at (volume_locked_by q t) place sales.now) sums.now result }
 {
     let Some(i) = place else {
-        return 0;
+        return *sums;
     };
     match sales.get(i) {
-        Some(sale) => sale.volume_locked(q, t),
-        None => 0,
+        Some(sale) => sums.let_go(sale, t),
+        None => *sums,
     }
 }

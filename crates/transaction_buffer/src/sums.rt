@@ -6,7 +6,7 @@ ghost use Rattle.site_base.specs.declared.state.Status.{Status};
 ghost use Rattle.transaction_buffer.specs.Sales.{status_of};
 
 use crate::sale::Sale;
-use site_base::{PRODUCT_CELLS, ProductNo, Status};
+use site_base::{PRODUCT_CELLS, ProductNo, Status, TillNo};
 
 /// The millilitres of the sales, for each product and status. Those of product q stand in cell
 /// q - 1.
@@ -21,7 +21,8 @@ pub struct Sums {
 }
 
 impl Sums {
-    ghost use Rattle.transaction_buffer.specs.KeptSums.{kept_sum, AreMoved, AreWith, AreWithout};
+    ghost use Rattle.transaction_buffer.specs.KeptSums.{kept_sum, AreMoved, AreWith, AreWithout, CanMove};
+    ghost use Rattle.transaction_buffer.specs.Sums.{volume_locked_by};
 
     /// No volume.
     pub fn new() -> Self
@@ -93,12 +94,13 @@ impl Sums {
         }
     }
 
-    /// The sums once so many millilitres of a product, which were locked, are payable.
-    pub fn let_go(&self, q: ProductNo, volume: u64) -> Sums
-        requires fits { kept_sum q Status.Payable self.now + volume < 2 ^ 64 }
-        requires among { volume ≤ kept_sum q Status.Locked self.now }
-        ensures { AreMoved q volume self.now result }
+    /// The sums once this sale is payable, if this till has locked it.
+    pub fn let_go(&self, sale: &Sale, t: TillNo) -> Sums
+        requires { CanMove (λ q. volume_locked_by q t sale.now) self.now }
+        ensures { AreMoved (λ q. volume_locked_by q t sale.now) self.now result }
     {
+        let q = sale.product();
+        let volume = sale.volume_locked(q, t);
         let cell = q.cell();
         Sums {
             payable: raised(&self.payable, cell, volume),

@@ -1,8 +1,8 @@
 //! Words that no table of events shows yet, and the ends of the ranges of numbers.
 
 use site_base::{
-    Answer, FpNo, Mills, PointState, PointView, Preset, ProductView, Refusal, SaleId, Seq, ShiftNo,
-    SiteView, TillNo,
+    Answer, FpNo, Mills, NozzleNo, PointState, PointView, Preset, ProductNo, ProductView, Refusal,
+    SaleId, Seq, ShiftNo, SiteView, TillNo,
 };
 use std::test::Fail;
 
@@ -81,6 +81,15 @@ fn ranges_end_where_the_profile_says(rt: HostRuntime) {
     assert!(rt; TillNo::new(0).is_none());
     assert!(rt; TillNo::new(32).is_some());
     assert!(rt; TillNo::new(33).is_none());
+    assert!(rt; NozzleNo::new(0).is_none());
+    assert!(rt; NozzleNo::new(8).is_some());
+    assert!(rt; NozzleNo::new(9).is_none());
+    assert!(rt; ProductNo::new(0).is_none());
+    assert!(rt; ProductNo::new(8).is_some());
+    assert!(rt; ProductNo::new(9).is_none());
+    assert!(rt; Seq::new(0).is_none());
+    assert!(rt; Seq::new(9999).is_some());
+    assert!(rt; Seq::new(10_000).is_none());
     assert!(rt; ShiftNo::new(0).is_none());
     assert_eq!(rt; ShiftNo::new(1), Some(ShiftNo::FIRST));
     assert!(rt; ShiftNo::new(999).is_some());

@@ -7,6 +7,7 @@ abbrev pub invariant-loop-spans : goal.invariant-loop-spans
 invariant-loop-spans l = record {
   same : (i : ℕ) → get_or l.spans.items i no_span ≡ get_or l.fn.spans.items i no_span;
   few : length l.spans.items ≤ GREATEST_SHIFT;
+  more : length l.fn.spans.items ≤ length l.spans.items;
 }
 
 abbrev pub decreases-loop-spans : goal.decreases-loop-spans

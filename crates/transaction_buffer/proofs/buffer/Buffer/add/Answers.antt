@@ -7,6 +7,7 @@ use Rattle.transaction_buffer.specs.Sums.{volume_of}
 use Rattle.transaction_buffer.specs.Shelves.{sales_on, stock}
 use Rattle.transaction_buffer.proofs.OnShelves.{sales_there, room_there, shelf_filled, stock_push}
 use Rattle.transaction_buffer.proofs.Kept.{fits_more, kept_sold}
+use Rattle.transaction_buffer.proofs.Lockers.{noted_there, noted_after}
 use Rattle.transaction_buffer.proofs.Spans.{made_counts}
 use Rattle.transaction_buffer.proofs.buffer.Buffer.add.Goals as goal
 use Rattle.transaction_buffer.proofs.buffer.Buffer.add.Goals.{After-push}
@@ -85,12 +86,24 @@ with-self-inside-requires c =
     let product : c.new-sale.result.product ≡ c.args.view.product =
     ap (λ (x : Sale). x.product) c.new-sale.ensures.value in
     fits_more (sales_on c.self.inside.shelves) c.self.inside.sums c.args.p c.new-sale.result
-    c.self.invariant (fitting (goal.at.with-self-inside-requires c).After-push)
+    c.self.invariant.sums (fitting (goal.at.with-self-inside-requires c).After-push)
     (omega (arith, product, c.new-sale.ensures.range)) (omega (arith, product, c.new-sale.ensures.range))
+
+pub note-requires : goal.note-requires
+note-requires c =
+    noted_there c.self.inside.shelves c.cell.result c.args.p c.index-self-cell.result
+    c.self.inside.locked c.lockers-before.result c.self.invariant.noted c.cell.ensures.place
+    (omega arith) c.lockers-before.ensures.value
 
 pub invariant_of-self : goal.invariant_of-self
 invariant_of-self c =
     let d = (goal.at.invariant_of-self c).After-push in
-    subst (λ s. AreSums s c.with-self-inside.result) (sym (sold d))
-    (kept_sold (sales_on c.self.inside.shelves) c.self.inside.sums c.args.p c.new-sale.result
-    c.self.invariant (fitting d) c.with-self-inside.result c.with-self-inside.ensures)
+    record {
+      sums = subst (λ s. AreSums s c.with-self-inside.result) (sym (sold d))
+          (kept_sold (sales_on c.self.inside.shelves) c.self.inside.sums c.args.p c.new-sale.result
+          c.self.invariant.sums (fitting d) c.with-self-inside.result c.with-self-inside.ensures);
+      noted = noted_after c.self.inside.shelves c.cell.result c.args.p c.push.new.self
+          c.self.inside.locked c.note.new.self c.lockers-after.result c.self.invariant.noted
+          c.cell.ensures.place (omega arith) c.lockers-after.ensures.value
+          c.lockers-after.ensures.told c.note.ensures.noted c.note.ensures.others;
+    }

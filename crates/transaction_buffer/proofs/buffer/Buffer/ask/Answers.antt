@@ -12,6 +12,7 @@ use Rattle.transaction_buffer.specs.Shelves.{stock, sales_on}
 use Rattle.transaction_buffer.proofs.Accepted.{IsAccepted, accepted}
 use Rattle.transaction_buffer.proofs.InShift.{of_shift}
 use Rattle.transaction_buffer.proofs.Kept.{among, fits_again, kept_replaced}
+use Rattle.transaction_buffer.proofs.Lockers.{noted_there, noted_after}
 use Rattle.transaction_buffer.proofs.OnShelves.{sales_there, shelf_filled, stock_with}
 use Rattle.transaction_buffer.proofs.Requests.{asked_of_none, asked_and_refused, asked_and_accepted}
 use Rattle.transaction_buffer.proofs.buffer.Buffer.ask.Goals as goal
@@ -116,7 +117,7 @@ without-left-requires c =
     let sale = found (goal.at.without-left-requires c).In-Some in
     let range = c.asked.ensures.range in
     among (sales_on c.self.inside.shelves) c.self.inside.sums
-    (key c.args.shift c.args.p c.args.s) c.in-Some.old c.in_ok-new.new c.self.invariant sale
+    (key c.args.shift c.args.p c.args.s) c.in-Some.old c.in_ok-new.new c.self.invariant.sums sale
     (left d).product (left d).volume range.0 range.1
 
 pub with-self-inside-requires : goal.with-self-inside-requires
@@ -125,20 +126,32 @@ with-self-inside-requires c =
     let sale = found (goal.at.with-self-inside-requires c).In-Some in
     let range = c.asked.ensures.range in
     fits_again (sales_on c.self.inside.shelves) c.self.inside.sums
-    (key c.args.shift c.args.p c.args.s) c.in-Some.old c.in_ok-new.new c.self.invariant sale
+    (key c.args.shift c.args.p c.args.s) c.in-Some.old c.in_ok-new.new c.self.invariant.sums sale
     (left d).product (left d).volume range.0 range.1 c.without-left.result c.without-left.ensures
+
+pub note-requires : goal.note-requires
+note-requires c =
+    noted_there c.self.inside.shelves c.cell.result c.args.p c.index-self-cell.result
+    c.self.inside.locked c.lockers-before.result c.self.invariant.noted c.cell.ensures.place
+    (omega arith) c.lockers-before.ensures.value
 
 pub invariant_of-self-2 : goal.invariant_of-self-2
 invariant_of-self-2 c =
     let d = (goal.at.invariant_of-self-2 c).In_ok-new in
     let sale = found (goal.at.invariant_of-self-2 c).In-Some in
     let range = c.asked.ensures.range in
-    subst (λ s. AreSums s c.with-self-inside.result)
-    (sym (written (goal.at.invariant_of-self-2 c).After-put))
-    (kept_replaced (sales_on c.self.inside.shelves) c.self.inside.sums
-    (key c.args.shift c.args.p c.args.s) c.in-Some.old c.in_ok-new.new c.self.invariant sale
-    (left d).product (left d).volume range.0 range.1 c.without-left.result c.without-left.ensures
-    c.with-self-inside.result c.with-self-inside.ensures)
+    record {
+      sums = subst (λ s. AreSums s c.with-self-inside.result)
+          (sym (written (goal.at.invariant_of-self-2 c).After-put))
+          (kept_replaced (sales_on c.self.inside.shelves) c.self.inside.sums
+          (key c.args.shift c.args.p c.args.s) c.in-Some.old c.in_ok-new.new c.self.invariant.sums
+          sale (left d).product (left d).volume range.0 range.1 c.without-left.result
+          c.without-left.ensures c.with-self-inside.result c.with-self-inside.ensures);
+      noted = noted_after c.self.inside.shelves c.cell.result c.args.p c.put.new.self
+          c.self.inside.locked c.note.new.self c.lockers-after.result c.self.invariant.noted
+          c.cell.ensures.place (omega arith) c.lockers-after.ensures.value
+          c.lockers-after.ensures.told c.note.ensures.noted c.note.ensures.others;
+    }
 
 pub returns : goal.returns
 returns c =

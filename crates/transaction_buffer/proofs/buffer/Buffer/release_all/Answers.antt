@@ -1,14 +1,44 @@
-use Rattle.std.proofs.Common.{sym, subst}
-use Rattle.transaction_buffer.specs.KeptSums.{AreSums}
+use Rattle.std.proofs.Common.{◌≡◌, get_or, arith}
+use Rattle.std.proofs.lemmas.List.{get_or_default}
+use Rattle.transaction_buffer.proofs.Lockers.{sales_let_go, noted_let_go}
 use Rattle.transaction_buffer.proofs.OnShelves.{let_go_there}
 use Rattle.transaction_buffer.proofs.buffer.Buffer.release_all.Goals as goal
 
 pub returns : goal.returns
-returns c = rw (← c.self.view_is)
-    (let_go_there c.args.t c.self.inside.shelves _ c.let_go_of_each.ensures)
+returns c =
+    let k = c.cell-cell.result in
+    let locked = c.self.inside.locked in
+    let one = get_or locked.one k c.index-self-cell.result in
+    let other = get_or locked.other k c.index-self-cell-2.result in
+    let is_one : one ≡ get_or locked.one k 0 = get_or_default locked.one k _ _ (omega arith) in
+    let is_other : other ≡ get_or locked.other k 0 =
+    get_or_default locked.other k _ _ (omega arith) in
+    rw (← c.self.view_is)
+    (let_go_there c.args.t c.self.inside.shelves c.let_go_at-self-inside-2.new.shelves
+    (sales_let_go c.args.t k one other
+    c.self.inside.shelves c.let_go_at-self-inside.new.shelves c.let_go_at-self-inside-2.new.shelves
+    locked c.forget.new.self c.self.invariant.noted c.cell-cell.ensures.place (omega arith) is_one
+    is_other
+    c.let_go_at-self-inside.ensures.cells c.let_go_at-self-inside-2.ensures.cells
+    c.let_go_at-self-inside.ensures.shelves c.let_go_at-self-inside-2.ensures.shelves
+    c.forget.ensures))
 
 pub invariant_of-self : goal.invariant_of-self
 invariant_of-self c =
-    subst (λ s. AreSums s c.let_go_sums-self-inside.result)
-    (sym (let_go_there c.args.t c.self.inside.shelves _ c.let_go_of_each.ensures))
-    c.let_go_sums-self-inside.ensures
+    let k = c.cell-cell.result in
+    let locked = c.self.inside.locked in
+    let one = get_or locked.one k c.index-self-cell.result in
+    let other = get_or locked.other k c.index-self-cell-2.result in
+    let is_one : one ≡ get_or locked.one k 0 = get_or_default locked.one k _ _ (omega arith) in
+    let is_other : other ≡ get_or locked.other k 0 =
+    get_or_default locked.other k _ _ (omega arith) in
+    record {
+      sums = c.let_go_at-self-inside-2.ensures.sums;
+      noted = noted_let_go c.args.t k one other
+          c.self.inside.shelves c.let_go_at-self-inside.new.shelves
+          c.let_go_at-self-inside-2.new.shelves locked c.forget.new.self c.self.invariant.noted
+          c.cell-cell.ensures.place (omega arith) is_one is_other
+          c.let_go_at-self-inside.ensures.cells
+          c.let_go_at-self-inside-2.ensures.cells c.let_go_at-self-inside.ensures.shelves
+          c.let_go_at-self-inside-2.ensures.shelves c.forget.ensures;
+    }

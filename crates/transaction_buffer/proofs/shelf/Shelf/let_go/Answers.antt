@@ -1,33 +1,55 @@
-use Rattle.std.proofs.Common.{◌≡◌, ◌++◌, length, map, drop, take, sym, ap, subst, ◌∙◌, arith}
+use Rattle.std.proofs.Common.{◌≡◌, ◌++◌, length, map, drop, take, sym, ap, subst, ◌∙◌, arith, refl}
 use Rattle.std.proofs.lemmas.List.{length-map, take_at}
 use Rattle.transaction_buffer.specs.Sales.{unpaid_among}
 use Rattle.transaction_buffer.specs.TransactionTable.{let_go}
 use Rattle.transaction_buffer.specs.Shelves.{AreSpans}
+use Rattle.transaction_buffer.proofs.Lockers.{lockers_let_go, told}
 use Rattle.transaction_buffer.proofs.Reading.{let_go_shift}
 use Rattle.transaction_buffer.proofs.Spans.{shifts_mapped}
 use Rattle.transaction_buffer.proofs.Unpaid.{unpaid_let_go}
 use Rattle.transaction_buffer.proofs.PlacesUnpaid.{places_let_go}
 use Rattle.transaction_buffer.proofs.shelf.Shelf.let_go.Goals as goal
+use Rattle.transaction_buffer.proofs.shelf.Shelf.let_go.Goals.{After-let_go_unpaid}
 
-pub invariant_of-self : goal.invariant_of-self
-invariant_of-self c =
+-- the sales as they stand then
+all_moved : (c : After-let_go_unpaid)
+    → take c.self.inside.sales.len
+    (c.let_go_unpaid.new.sales ++ drop (length c.let_go_unpaid.new.sales) c.self.inside.sales.items)
+    ≡ map (let_go c.args.t) c.self.inside.sales.items
+all_moved c =
     let new = c.let_go_unpaid.new.sales in
     let old = c.self.inside.sales.items in
     let count : length new ≡ c.self.inside.sales.len =
     ap length c.let_go_unpaid.ensures ∙ length-map c.deref_mut.result.now (let_go c.args.t)
     ∙ c.deref_mut.ensures.len in
-    let whole : take c.self.inside.sales.len (new ++ drop (length new) old) ≡ new =
-    take_at new (drop (length new) old) c.self.inside.sales.len count in
-    let moved : new ≡ map (let_go c.args.t) old =
-    c.let_go_unpaid.ensures ∙ ap (map (let_go c.args.t)) c.deref_mut.ensures.value in
+    take_at new (drop (length new) old) c.self.inside.sales.len count
+    ∙ c.let_go_unpaid.ensures ∙ ap (map (let_go c.args.t)) c.deref_mut.ensures.value
+
+pub returns : goal.returns
+returns c =
+    let old = c.self.inside.sales.items in
+    let a = c.self.inside.unpaid.one in
+    let b = c.self.inside.unpaid.other in
+    rw (← c.self.view_is, all_moved (goal.at.returns c).After-let_go_unpaid) (record {
+      sales = refl;
+      lockers = lockers_let_go c.args.t a b old;
+      told = told (map (let_go c.args.t) old) a b
+          (places_let_go c.args.t old a b c.self.invariant.places);
+    })
+
+pub invariant_of-self : goal.invariant_of-self
+invariant_of-self c =
+    let old = c.self.inside.sales.items in
     let as_many : length (map (let_go c.args.t) old) ≡ length old =
     length-map old (let_go c.args.t) in
     let unpaid : unpaid_among (map (let_go c.args.t) old) ≡ unpaid_among old =
     unpaid_let_go c.args.t old in
     let shifts = shifts_mapped (let_go c.args.t) old (let_go_shift c.args.t) in
-    rw (whole, moved) (record {
+    rw (all_moved (goal.at.invariant_of-self c).After-let_go_unpaid) (record {
       unpaid = omega (arith, c.self.invariant.unpaid);
-      places = places_let_go c.args.t old c.self.inside.unpaid.one c.self.inside.unpaid.other c.self.invariant.places;
+      places = places_let_go c.args.t old c.self.inside.unpaid.one c.self.inside.unpaid.other
+          c.self.invariant.places;
       few = c.self.invariant.few;
-      spans = subst (λ gs. AreSpans gs c.self.inside.spans.items) (sym shifts) c.self.invariant.spans;
+      spans = subst (λ gs. AreSpans gs c.self.inside.spans.items) (sym shifts)
+          c.self.invariant.spans;
     })
