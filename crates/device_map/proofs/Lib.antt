@@ -3,3 +3,4 @@ pub mod Changes
 pub mod Short
 pub mod WorkedRequests
 pub mod WorkedReplies
+pub mod WorkedChanges
