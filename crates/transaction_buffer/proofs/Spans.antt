@@ -8,7 +8,7 @@ use Rattle.std.proofs.lemmas.List.{get_or-set_other, length_push}
 use Rattle.site_base.specs.declared.limits.TheConstants.{GREATEST_SEQ, GREATEST_SHIFT}
 use Rattle.transaction_buffer.specs.declared.span.Span.{Span}
 use Rattle.transaction_buffer.specs.Sales.{Sale, sale_in, made_in, with_in}
-use Rattle.transaction_buffer.specs.Shelves.{shifts_of, count_in, place_in, NoneAfter, IsSpan, AreSpans, IsShelf, no_span}
+use Rattle.transaction_buffer.specs.Shelves.{shifts_of, count_in, place_in, NoneAfter, IsSpan, AreSpans, no_span}
 use Rattle.transaction_buffer.specs.Spans.{grown}
 
 same : (n m : ℕ) → (n == m) ≡ true → n ≡ m
