@@ -38,11 +38,11 @@ unknown_keys known (member key value more) =
 
 -- a table has these keys alone, or its least unknown one is told
 abbrev pub refuse_least : Members → Option (List ℕ) → Result Members ConfigFault
-refuse_least members None = Ok members
-refuse_least members (Some key) = Err (UnknownKey (printed_key key))
+refuse_least entries None = Ok entries
+refuse_least entries (Some key) = Err (UnknownKey (printed_key key))
 
 unfoldable pub with_keys : List Key → Members → Result Members ConfigFault
-with_keys known members = refuse_least members (least (unknown_keys known members))
+with_keys known entries = refuse_least entries (least (unknown_keys known entries))
 
 -- what stands at a key, which must be there
 abbrev pub there : Key → Option Data → Result Data ConfigFault
@@ -50,7 +50,7 @@ there key None = Err (MissingKey key)
 there key (Some value) = Ok value
 
 unfoldable pub value_at : Key → Members → Result Data ConfigFault
-value_at key members = there key (get_member (key_text key) members)
+value_at key entries = there key (get_member (key_text key) entries)
 
 -- a whole number, a text, a list, a table, or the wrong kind
 abbrev pub whole : Key → Data → Result ℤ ConfigFault
@@ -66,7 +66,7 @@ list key (array items) = Ok items
 list key value = Err (WrongKind key)
 
 abbrev pub table_of : Key → Data → Result Members ConfigFault
-table_of key (table members) = Ok members
+table_of key (table entries) = Ok entries
 table_of key value = Err (WrongKind key)
 
 -- a whole number from low to high
@@ -78,7 +78,7 @@ unfoldable pub number_in : Key → ℕ → ℕ → Data → Result ℕ ConfigFau
 number_in key low high value = whole key value >>= in_range key low high
 
 unfoldable pub number_at : Key → ℕ → ℕ → Members → Result ℕ ConfigFault
-number_at key low high members = value_at key members >>= number_in key low high
+number_at key low high entries = value_at key entries >>= number_in key low high
 
 -- how many members a list has
 abbrev pub count : Items → ℕ
@@ -87,8 +87,8 @@ count (item value more) = 1 + count more
 
 -- a list of 1 to most members
 unfoldable pub list_at : Key → ℕ → Members → Result Items ConfigFault
-list_at key most members = do
-  value ← value_at key members
+list_at key most entries = do
+  value ← value_at key entries
   items ← list key value
   only_if (is_between 1 most (count items)) (OutOfRange key) items
 
@@ -137,8 +137,8 @@ product_name taken product = do
 -- a product, after those taken: number, name, price
 unfoldable pub product_of : List ConfiguredProduct → Data → Result ConfiguredProduct ConfigFault
 product_of taken value = do
-  members ← table_of Product value
-  product ← with_keys (Number ∷ Name ∷ Price ∷ []) members
+  entries ← table_of Product value
+  product ← with_keys (Number ∷ Name ∷ Price ∷ []) entries
   number ← product_number taken product
   name ← product_name taken product
   price ← number_at Price 1 GREATEST_PRICE product
@@ -164,8 +164,8 @@ product_in products (negsuc n) = Err UnknownProduct
 -- a nozzle: product, reading
 unfoldable pub nozzle_of : List ConfiguredProduct → Data → Result NozzleEntry ConfigFault
 nozzle_of products value = do
-  members ← table_of Nozzles value
-  nozzle ← with_keys (Product ∷ Reading ∷ []) members
+  entries ← table_of Nozzles value
+  nozzle ← with_keys (Product ∷ Reading ∷ []) entries
   named ← value_at Product nozzle
   number ← whole Product named
   product ← product_in products number
@@ -196,8 +196,8 @@ point_number taken point = do
 unfoldable pub point_of : List ConfiguredProduct → List ConfiguredPoint → Data
     → Result ConfiguredPoint ConfigFault
 point_of products taken value = do
-  members ← table_of Point value
-  point ← with_keys (Number ∷ Nozzles ∷ []) members
+  entries ← table_of Point value
+  point ← with_keys (Number ∷ Nozzles ∷ []) entries
   number ← point_number taken point
   nozzles ← nozzles_of products point
   Ok (record { number = number; nozzles = nozzles })
@@ -215,8 +215,8 @@ points_of products file = list_at Point POINTS file >>= points_from products []
 
 -- ---- the site: rows, managers, product, point
 unfoldable pub site_of : Members → Result Configured ConfigFault
-site_of members = do
-  file ← with_keys (Rows ∷ Managers ∷ Product ∷ Point ∷ []) members
+site_of entries = do
+  file ← with_keys (Rows ∷ Managers ∷ Product ∷ Point ∷ []) entries
   rows ← rows_of (get_member (key_text Rows) file)
   managers ← managers_of (get_member (key_text Managers) file)
   products ← products_of file
