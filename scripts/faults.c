@@ -6,7 +6,8 @@
  *   FAIL_WRITE=K       the Kth write to standard output fails
  *   SHORT_WRITE=M      a write to standard output takes at most M octets
  *   TAKE_ALL=M         standard output takes M octets in all, and then none
- *   INTERRUPT=1        every second read and write is interrupted
+ *   INTERRUPT=1        every second read, of any file, and every second write to standard output is
+ *                      interrupted
  *   MET=FILE           is made when a growth, a read or a write met its fault
  */
 #include <errno.h>
@@ -44,7 +45,7 @@ static int fails(const char *name, long *calls)
 }
 
 static long growths, reads, file_reads, writes, taken;
-static int read_before, written_before;
+static int read_before, file_read_before, written_before;
 
 void *malloc(size_t size)
 {
@@ -96,9 +97,13 @@ ssize_t read(int file, void *room, size_t size)
             errno = EIO;
             return -1;
         }
-    } else if (fails("FAIL_FILE_READ", &file_reads)) {
-        errno = EIO;
-        return -1;
+    } else {
+        if (interrupted(&file_read_before))
+            return -1;
+        if (fails("FAIL_FILE_READ", &file_reads)) {
+            errno = EIO;
+            return -1;
+        }
     }
     return syscall(SYS_read, file, room, size);
 }

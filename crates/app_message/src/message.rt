@@ -1,6 +1,6 @@
 //! A message, valid by its type.
 
-ghost use Rattle.std.specs.Prelude.{◌≡◌, ◌≢◌, ◌≤◌, ◌∷◌, true, IfOk, OnOk, IfErr, length, List, Some};
+ghost use Rattle.std.specs.Prelude.{◌≡◌, ◌≢◌, ◌≤◌, ◌∷◌, true, false, IfOk, OnOk, IfErr, length, List, Some};
 ghost use Rattle.app_message.specs.Telegram.{telegram, entries};
 ghost use Rattle.app_message.specs.Spelling.{IsMessage, body, head_text};
 ghost use Rattle.app_message.specs.Bodies.{of_body, with_items, IsBody};
@@ -145,7 +145,8 @@ impl Message {
 
     /// Whether the two messages are the same.
     pub fn is(&self, other: &Message) -> bool
-        ensures { result ≡ true → self.now ≡ other.now }
+        ensures same { result ≡ true → self.now ≡ other.now }
+        ensures other { result ≡ false → self.now ≢ other.now }
     {
         self.to == other.to
             && self.from == other.from

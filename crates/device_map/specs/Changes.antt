@@ -25,7 +25,11 @@ notice p items = telegram (ids.DISPENSER_SUBNET ∷ p ∷ []) site_node kinds.No
 abbrev pub change_by : Event → Option Telegram
 change_by (events.Open p) = Some (notice p (entry ids.OPEN [] ∷ []))
 change_by (events.Close p) = Some (notice p (entry ids.CLOSE [] ∷ []))
-change_by event = None
+change_by events.SignOn = None
+change_by events.SignOff = None
+change_by (events.Assign p) = None
+change_by (events.Unassign p) = None
+change_by (events.ReadPoint p) = None
 
 abbrev pub change_where : Event → Result Answer Refusal → Option Telegram
 change_where event (Ok answer) = change_by event

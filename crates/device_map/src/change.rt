@@ -29,7 +29,8 @@ fn change_by(alloc: Global, event: Event) -> Result<Option<Message>, NoMemory>
     match event {
         Event::Open(p) => Ok(Some(told(alloc, p, ids::OPEN)?)),
         Event::Close(p) => Ok(Some(told(alloc, p, ids::CLOSE)?)),
-        _ => Ok(None),
+        Event::SignOn | Event::SignOff => Ok(None),
+        Event::Assign(_) | Event::Unassign(_) | Event::ReadPoint(_) => Ok(None),
     }
 }
 

@@ -1,6 +1,6 @@
 //! The words of the command line.
 
-use crate::end::{COMMAND_LINE, failed, told};
+use crate::end::{COMMAND_LINE, failed, told, unwritten};
 use clap::error::ErrorKind;
 use clap::{Arg, ArgAction, Command, Error};
 use std::alloc::Global;
@@ -25,6 +25,7 @@ pub fn command<'a>(alloc: Global) -> Result<Command<'a>, Error> {
     Ok(
         Command::new(alloc, "forecourt")
             .version("0.1.0")
+            .subcommand_required(true)
             .about(
                 "The forecourt site controller; without words it replays on a site that it knows",
             )
@@ -45,6 +46,12 @@ pub fn answered(rt: &HostRuntime, error: &Error) -> ExitCode {
     if error.kind() == ErrorKind::OutOfMemory {
         return failed(rt);
     }
-    let status = if error.use_stderr() { COMMAND_LINE } else { 0 };
-    told(error.print(rt), status)
+    let printed = error.print(rt);
+    if error.use_stderr() {
+        return told(printed, COMMAND_LINE);
+    }
+    match printed {
+        Ok(()) => ExitCode::SUCCESS,
+        Err(_) => unwritten(rt),
+    }
 }

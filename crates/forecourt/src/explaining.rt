@@ -2,9 +2,9 @@
 
 use crate::end::{ended, failed, unwritten};
 use forecourt_engines::explain::{explain, name_of};
-use forecourt_engines::{Explained, ReplayFault, TextFault, Trace};
+use forecourt_engines::{Explained, LINE_OCTETS, ReplayFault, TextFault, Trace};
 use site_base::{NoMemory, ReadFault};
-use std::io::{BufRead, BufReader, ErrorKind};
+use std::io::{BufRead, BufReader, ErrorKind, Read};
 use std::process::ExitCode;
 
 /// Prints each message of standard input in words, and tells why the trace ended, if it ended with a
@@ -12,21 +12,35 @@ use std::process::ExitCode;
 pub fn explained(rt: &HostRuntime) -> ExitCode {
     let alloc = rt.alloc();
     let mut trace = Trace::new(alloc);
-    let reader = match BufReader::new(alloc, rt.stdin()) {
+    let mut reader = match BufReader::new(alloc, rt.stdin()) {
         Ok(reader) => reader,
         Err(_) => return failed(rt),
     };
-    for line in reader.split(alloc, b'\n') {
-        let line = match line {
-            Ok(line) => line,
+    for _ in 0..u64::MAX {
+        let mut line = Vec::new(alloc);
+        // No more is read of a line than it takes to see that it is too long.
+        let mut limited = (&mut reader).take(LINE_OCTETS as u64 + 1);
+        match limited.read_until(b'\n', &mut line) {
+            Ok(0) => return ended(rt, trace.end().map(ReplayFault::Text)),
+            Ok(_) => {
+                if let Err(status) = printed(rt, trace.line(without_line_feed(&line))) {
+                    return status;
+                }
+            }
             Err(error) if error.kind() == ErrorKind::OutOfMemory => return failed(rt),
             Err(_) => return ended(rt, Some(ReplayFault::Read(ReadFault::Failed))),
-        };
-        if let Err(status) = printed(rt, trace.line(&line)) {
-            return status;
         }
     }
-    ended(rt, trace.end().map(ReplayFault::Text))
+    // No trace has so many lines.
+    ended(rt, Some(ReplayFault::Read(ReadFault::TurnLimit)))
+}
+
+/// The line without the line feed that ends it.
+fn without_line_feed(line: &[u8]) -> &[u8] {
+    match line {
+        [front @ .., b'\n'] => front,
+        _ => line,
+    }
 }
 
 /// Prints what a line brought, or how the program ends with it.

@@ -1,7 +1,8 @@
 -- What messages mean, and where a trace of them stands.
-use Rattle.std.specs.Prelude.{◌≡◌, ℕ, List, [], Some, Result, Ok, Err, if◌then◌else◌}
+use Rattle.std.specs.Prelude.{◌≡◌, ◌||◌, ℕ, Bool, true, List, [], Some, Result, Ok, Err, if◌then◌else◌}
 use Rattle.hex.specs.Hex.{decode_of}
 use Rattle.hex.specs.declared.error.FromHexError.{FromHexError}
+use Rattle.site_base.specs.Configured.{is_between}
 use Rattle.app_message.specs.Stream.{Held, fed_by}
 use Rattle.app_message.specs.Telegram.{Telegram}
 use Rattle.device_map.specs.Changes.{change_by}
@@ -11,12 +12,16 @@ use Rattle.forecourt_engines.specs.declared.explain.Meaning.{Meaning}
 use Rattle.forecourt_engines.specs.declared.explain.Meaning.TheVariants as meanings
 use Rattle.forecourt_engines.specs.Text.{is_skipped}
 
+-- the numbers that stand in place of a reply: no row, faults of a stream, faults of the mapping
+abbrev pub stands_alone : ℕ → Bool
+stands_alone n = is_between 30 31 n || is_between 40 43 n || is_between 50 58 n
+
 -- a request asks for its event; what the site tells is spelled just so; of any other message the
 -- mapping's fault is told
 abbrev pub Means : Telegram → Meaning → Type 0
 Means m (meanings.Asked actor event) = request_at m ≡ Ok (actor, event)
 Means m (meanings.Told reply) = m ≡ told_message m reply
-Means m (meanings.Numbered number) = m ≡ told_number m number
+Means m (meanings.Numbered number) = (stands_alone number ≡ true) × (m ≡ told_number m number)
 Means m (meanings.Changed event) = change_by event ≡ Some m
 Means m (meanings.NotAsked fault) = request_at m ≡ Err fault
 

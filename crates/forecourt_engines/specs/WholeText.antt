@@ -63,7 +63,7 @@ pub record IsWhole (b : Answerer) (input : List ℕ) (lines : Spoken) (stream : 
   pub book : book_of (start b) input ≡ (after_messages b stream.messages).book
 
 -- every text is that of the one stream that its lines before the first bad one spell: for each message its
--- answer as a line, then the line of the stream's fault, if it has one
+-- answer as a line, with its change where changes are told, then the line of the stream's fault, if it has one
 abbrev pub IsOneStreamOfLines : Type 0
 IsOneStreamOfLines = (b : Answerer) (input : List ℕ)
     → IsWhole b input (spoken 1 (lines_of input)) (stream_of (spoken 1 (lines_of input)).octets)

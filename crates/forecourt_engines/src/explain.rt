@@ -1,7 +1,7 @@
 //! Messages in words, for people who read a trace.
 
-ghost use Rattle.std.specs.Prelude.{◌≡◌, IfOk};
-ghost use Rattle.forecourt_engines.specs.Meanings.{Means};
+ghost use Rattle.std.specs.Prelude.{◌≡◌, IfOk, is_some};
+ghost use Rattle.forecourt_engines.specs.Meanings.{Means, stands_alone};
 
 use app_message::{Message, Token};
 use device_map::{MapFault, change_told, number_told, reply_told, request_of};
@@ -122,7 +122,9 @@ impl fmt::Display for Node {
 }
 
 /// The name of a number that stands in place of a reply, if it is one.
-pub fn name_of(number: u8) -> Option<&'static str> {
+pub fn name_of(number: u8) -> Option<&'static str>
+    ensures { is_some result ≡ stands_alone number }
+{
     match number {
         30 => Some("BookFull"),
         31 => Some("NoMemory"),

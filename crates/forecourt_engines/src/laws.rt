@@ -27,7 +27,8 @@ pub fn nothing_follows()
 {}
 
 /// The text of a replay as a whole. The lines before the first bad one spell one stream of octets,
-/// wherever they cut it. The text is the answers to the messages of that stream, each a line, and then the
+/// wherever they cut it. The text is the answers to the messages of that stream, each a line, with the
+/// changes where they are told, and then the
 /// line of the stream's fault, if it has one; the replay's fault is that one, else the bad line, else 44
 /// where octets of the stream are left; the rows are those of its messages.
 pub fn one_stream_of_lines()

@@ -4,7 +4,7 @@ ghost use Rattle.std.specs.Prelude.{◌≡◌, ◌≤◌, ◌<◌, [], length, S
 ghost use Rattle.app_message.specs.Stream.{held_after};
 ghost use Rattle.forecourt_engines.specs.Answers.{Answerer};
 ghost use Rattle.forecourt_engines.specs.Meanings.{messages_in};
-ghost use Rattle.forecourt_engines.specs.Text.{judged, kept_of, left_over};
+ghost use Rattle.forecourt_engines.specs.Text.{judged, kept_of, left_over, next_number};
 ghost use Rattle.forecourt_engines.specs.declared.line.TheConstants.{LINE_OCTETS};
 ghost use Rattle.forecourt_engines.specs.declared.fault.TextFault.TheVariants.{TooLong};
 
@@ -55,6 +55,7 @@ impl Trace {
     /// Takes a line, which comes without its line feed, and gives the messages that end in it. It ends the trace where it ends a replay, with
     /// the same fault, whatever book the replay is over. After `NoMemory` the trace is of no use.
     pub fn line(&mut self, line: &[u8]) -> Result<Explained, NoMemory>
+        ensures number { OnOk result (self.new.number ≡ next_number self.old.number) }
         ensures messages { IfOk result (λ told. length line.now ≤ LINE_OCTETS
             → told.messages ≡ messages_in self.old.stream (kept_of line.now)) }
         ensures stop { IfOk result (λ told. (a : Answerer) → length line.now ≤ LINE_OCTETS

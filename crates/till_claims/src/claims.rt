@@ -52,7 +52,8 @@ impl Claims {
     pub fn holder(&self, p: FpNo) -> Option<TillNo>
         ensures { result ≡ map.get self.now p }
     {
-        self.holders[p.cell()]
+        let holder = self.holders[p.cell()];
+        holder
     }
 
     /// The till takes the hold of a point that no other till holds. Where it holds the point
