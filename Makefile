@@ -34,5 +34,6 @@ audit:
 
 bench: build
 	@scripts/bench $(PROGRAM)
+	@scripts/instructions $(PROGRAM)
 	@cd crates/parts_cost && rt run > /dev/null
 	@scripts/parts-cost $(COSTS)

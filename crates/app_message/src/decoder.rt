@@ -74,6 +74,7 @@ impl Decoder {
 
     /// Takes a piece of the stream as `feed` does. The messages that end in it take the place of those
     /// in the list that is handed in, which is lost after `NoMemory`; so its room can serve again.
+    #[inline(always)]
     pub fn feed_into(&mut self, piece: &[u8], list: Messages) -> Result<Fed, NoMemory>
         ensures messages { IfOk result (λ fed. fed.messages ≡ (fed_by self.old piece.now).messages) }
         ensures fault { IfOk result (λ fed. fed.fault ≡ (fed_by self.old piece.now).fault) }

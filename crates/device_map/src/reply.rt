@@ -154,6 +154,7 @@ fn kind_of(reply: &Reply) -> Kind
     }
 }
 
+#[inline(always)]
 fn put_reply(draft: &mut Draft, reply: &Reply) -> Result<(), NoMemory>
     ensures { OnOk result (draft.new ≡ with_items draft.old (reply_items reply.now)) }
 {

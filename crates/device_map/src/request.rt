@@ -16,6 +16,7 @@ use site_base::{Actor, Event, FpNo};
 /// variants: it is a request, for this site, from one who may ask it, of a database that has
 /// requests of this kind, with just the items that belong to it.
 #[tactic(auto, unfolding(crate::specs::Requests::request_at))]
+#[inline(always)]
 pub fn request_of(message: &Message) -> Result<(Actor, Event), MapFault>
     ensures { Gives result (request_at message.now) }
 {
