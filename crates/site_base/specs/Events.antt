@@ -4,8 +4,9 @@ use Rattle.std.specs.Prelude.{ℕ, Bool, true, false, Option, Some, None, Result
 use Rattle.site_base.specs.declared.answer.Answer.{Answer}
 use Rattle.site_base.specs.declared.answer.Answer.TheVariants.{Flowed, Sold, Drawn, Cleared}
 use Rattle.site_base.specs.declared.event.Event.{Event}
-use Rattle.site_base.specs.declared.event.Event.TheVariants.{SignOn, SignOff, Open, Close, Assign, Unassign, ReadPoint}
+use Rattle.site_base.specs.declared.event.Event.TheVariants.{SignOn, SignOff, Open, Close, Assign, Unassign, Release, Prepay, TestRelease, Suspend, Resume, Terminate, ReplaceMeter, ReadPoint, ReadTransaction, Online, Lift}
 use Rattle.site_base.specs.declared.refusal.Refusal.{Refusal}
+use Rattle.site_base.specs.declared.sale.SaleId.{SaleId}
 
 -- the fuelling point that an event names
 abbrev pub point_named : Event → Option ℕ
@@ -15,10 +16,33 @@ point_named (Open p) = Some p
 point_named (Close p) = Some p
 point_named (Assign p) = Some p
 point_named (Unassign p) = Some p
+point_named (Release p preset) = Some p
+point_named (Prepay p cents) = Some p
+point_named (TestRelease p) = Some p
+point_named (Suspend p) = Some p
+point_named (Resume p) = Some p
+point_named (Terminate p) = Some p
+point_named (ReplaceMeter p n reading) = Some p
 point_named (ReadPoint p) = Some p
+point_named (ReadTransaction p s) = Some p
+point_named (Online p) = Some p
+point_named (Lift p n reading) = Some p
 
--- the point whose dispenser reports an event; none for what a till asks, which is all that is built
+-- the nozzle of that point that an event names
+abbrev pub nozzle_named : Event → Option ℕ
+nozzle_named (ReplaceMeter p n reading) = Some n
+nozzle_named (Lift p n reading) = Some n
+nozzle_named event = None
+
+-- the transaction of that point that an event names
+abbrev pub sale_named : Event → Option SaleId
+sale_named (ReadTransaction p s) = Some s
+sale_named event = None
+
+-- the point whose dispenser reports an event; none for what a till asks
 abbrev pub reported_by : Event → Option ℕ
+reported_by (Online p) = Some p
+reported_by (Lift p n reading) = Some p
 reported_by event = None
 
 -- the event is for a point that no other till holds
@@ -27,7 +51,38 @@ needs_free_point (Open p) = true
 needs_free_point (Close p) = true
 needs_free_point (Assign p) = true
 needs_free_point (Unassign p) = true
+needs_free_point (Release p preset) = true
+needs_free_point (Prepay p cents) = true
+needs_free_point (TestRelease p) = true
+needs_free_point (Resume p) = true
+needs_free_point (Terminate p) = true
 needs_free_point event = false
+
+-- the event is for managers alone
+abbrev pub needs_manager : Event → Bool
+needs_manager (TestRelease p) = true
+needs_manager (ReplaceMeter p n reading) = true
+needs_manager event = false
+
+-- the till that asks for the event takes the hold of its point
+abbrev pub takes_point : Event → Bool
+takes_point (Assign p) = true
+takes_point (Release p preset) = true
+takes_point (Prepay p cents) = true
+takes_point (TestRelease p) = true
+takes_point event = false
+
+-- the event, once accepted, is a change that the dispenser of its point is told of
+abbrev pub has_change : Event → Bool
+has_change (Open p) = true
+has_change (Close p) = true
+has_change (Release p preset) = true
+has_change (Prepay p cents) = true
+has_change (TestRelease p) = true
+has_change (Suspend p) = true
+has_change (Resume p) = true
+has_change (Terminate p) = true
+has_change event = false
 
 -- the millilitres that a reply adds to what was metered
 abbrev pub growth_told : Result Answer Refusal → ℕ

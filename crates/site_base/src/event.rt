@@ -1,17 +1,21 @@
 //! What a till or a dispenser asks of the site.
 
 ghost use Rattle.std.specs.Prelude.{◌≡◌};
-ghost use Rattle.site_base.specs.Events.{point_named, needs_free_point};
+ghost use Rattle.site_base.specs.Events.{point_named, nozzle_named, sale_named, reported_by};
+ghost use Rattle.site_base.specs.Events.{needs_free_point, needs_manager, takes_point, has_change};
 
-use crate::numbers::FpNo;
+use crate::amounts::Millilitres;
+use crate::numbers::{FpNo, NozzleNo};
+use crate::sale::SaleId;
+use crate::state::Preset;
 
 /// One event of the site: one atomic step of one actor.
 #[derive(Clone, Copy, Debug, PartialEq, Eq)]
 pub enum Event {
     /// The till signs on.
     SignOn,
-    /// The till signs off. Its holds of points that are closed, idle or calling end; a hold of any
-    /// other point outlives it.
+    /// The till signs off. Its locked transactions are payable again, and its holds of points that
+    /// are closed, idle or calling end; a hold of any other point outlives it.
     SignOff,
     /// Opens a closed fuelling point: it is idle then.
     Open(FpNo),
@@ -21,8 +25,32 @@ pub enum Event {
     Assign(FpNo),
     /// The till gives back its hold of a fuelling point.
     Unassign(FpNo),
+    /// The till takes the hold of a fuelling point and releases it for one fuelling, within this
+    /// preset.
+    Release(FpNo, Preset),
+    /// The till takes the hold of a fuelling point and releases it for one fuelling that is prepaid,
+    /// within these cents.
+    Prepay(FpNo, u32),
+    /// A manager takes the hold of a fuelling point and releases it for a test, whose fuel goes back
+    /// to the tank.
+    TestRelease(FpNo),
+    /// Suspends the fuelling at a point.
+    Suspend(FpNo),
+    /// Lets the suspended fuelling at a point go on.
+    Resume(FpNo),
+    /// Takes back the release of a point, or ends its fuelling, which is suspended until hang up. A
+    /// manager may do so whoever holds the point.
+    Terminate(FpNo),
+    /// A manager notes that a nozzle's meter was replaced by one that begins with this reading.
+    ReplaceMeter(FpNo, NozzleNo, Millilitres),
     /// Reads a fuelling point; changes nothing.
     ReadPoint(FpNo),
+    /// Reads a transaction of a fuelling point; changes nothing.
+    ReadTransaction(FpNo, SaleId),
+    /// The dispenser of the point is reached.
+    Online(FpNo),
+    /// The nozzle of the point is taken out, and its meter reads this.
+    Lift(FpNo, NozzleNo, Millilitres),
 }
 
 impl Event {
@@ -36,7 +64,49 @@ impl Event {
             Event::Close(p) => Some(*p),
             Event::Assign(p) => Some(*p),
             Event::Unassign(p) => Some(*p),
+            Event::Release(p, _) => Some(*p),
+            Event::Prepay(p, _) => Some(*p),
+            Event::TestRelease(p) => Some(*p),
+            Event::Suspend(p) => Some(*p),
+            Event::Resume(p) => Some(*p),
+            Event::Terminate(p) => Some(*p),
+            Event::ReplaceMeter(p, _, _) => Some(*p),
             Event::ReadPoint(p) => Some(*p),
+            Event::ReadTransaction(p, _) => Some(*p),
+            Event::Online(p) => Some(*p),
+            Event::Lift(p, _, _) => Some(*p),
+        }
+    }
+
+    /// The nozzle of that point that the event names, if it names one.
+    pub fn nozzle(&self) -> Option<NozzleNo>
+        ensures { result ≡ nozzle_named self.now }
+    {
+        match self {
+            Event::ReplaceMeter(_, n, _) => Some(*n),
+            Event::Lift(_, n, _) => Some(*n),
+            _ => None,
+        }
+    }
+
+    /// The transaction of that point that the event names, if it names one.
+    pub fn sale(&self) -> Option<SaleId>
+        ensures { result ≡ sale_named self.now }
+    {
+        match self {
+            Event::ReadTransaction(_, s) => Some(*s),
+            _ => None,
+        }
+    }
+
+    /// The point whose dispenser reports the event; None for what a till asks.
+    pub fn reported_by(&self) -> Option<FpNo>
+        ensures { result ≡ reported_by self.now }
+    {
+        match self {
+            Event::Online(p) => Some(*p),
+            Event::Lift(p, _, _) => Some(*p),
+            _ => None,
         }
     }
 
@@ -46,7 +116,49 @@ impl Event {
     {
         matches!(
             self,
-            Event::Open(_) | Event::Close(_) | Event::Assign(_) | Event::Unassign(_)
+            Event::Open(_)
+                | Event::Close(_)
+                | Event::Assign(_)
+                | Event::Unassign(_)
+                | Event::Release(_, _)
+                | Event::Prepay(_, _)
+                | Event::TestRelease(_)
+                | Event::Resume(_)
+                | Event::Terminate(_)
+        )
+    }
+
+    /// Is the event for managers alone?
+    pub fn needs_manager(&self) -> bool
+        ensures { result ≡ needs_manager self.now }
+    {
+        matches!(self, Event::TestRelease(_) | Event::ReplaceMeter(_, _, _))
+    }
+
+    /// Does the till that asks for the event take the hold of its point?
+    pub fn takes_point(&self) -> bool
+        ensures { result ≡ takes_point self.now }
+    {
+        matches!(
+            self,
+            Event::Assign(_) | Event::Release(_, _) | Event::Prepay(_, _) | Event::TestRelease(_)
+        )
+    }
+
+    /// Is the event, once accepted, a change that the dispenser of its point is told of?
+    pub fn has_change(&self) -> bool
+        ensures { result ≡ has_change self.now }
+    {
+        matches!(
+            self,
+            Event::Open(_)
+                | Event::Close(_)
+                | Event::Release(_, _)
+                | Event::Prepay(_, _)
+                | Event::TestRelease(_)
+                | Event::Suspend(_)
+                | Event::Resume(_)
+                | Event::Terminate(_)
         )
     }
 }

@@ -2,8 +2,10 @@
 //! cases: one grammar for all, which docs/PROFILE.md explains.
 
 use crate::actor::Actor;
+use crate::amounts::Millilitres;
 use crate::answer::Answer;
 use crate::event::Event;
+use crate::numbers::{FpNo, NozzleNo};
 use crate::refusal::Refusal;
 use crate::row::{Reply, Row};
 use crate::sale::SaleId;
@@ -21,7 +23,8 @@ impl fmt::Display for Actor {
     }
 }
 
-/// The event's name, and the number of the point that it names: `Open 3`.
+/// The event's name, the number of the point that it names, and what else it carries: `Open 3`,
+/// `Release 3 Volume(3000)`, `Prepay 1 2000`, `Lift 2 1@1000`, `ReadTransaction 3/2/1`.
 impl fmt::Display for Event {
     fn fmt<W: fmt::Write>(&self, f: &mut fmt::Formatter<W>) -> fmt::Result {
         match self {
@@ -31,9 +34,43 @@ impl fmt::Display for Event {
             Event::Close(p) => write!(f, "Close {}", p.get()),
             Event::Assign(p) => write!(f, "Assign {}", p.get()),
             Event::Unassign(p) => write!(f, "Unassign {}", p.get()),
+            Event::Release(p, preset) => write_release(f, *p, *preset),
+            Event::Prepay(p, cents) => write!(f, "Prepay {} {}", p.get(), cents),
+            Event::TestRelease(p) => write!(f, "TestRelease {}", p.get()),
+            Event::Suspend(p) => write!(f, "Suspend {}", p.get()),
+            Event::Resume(p) => write!(f, "Resume {}", p.get()),
+            Event::Terminate(p) => write!(f, "Terminate {}", p.get()),
+            Event::ReplaceMeter(p, n, r) => write_meter(f, "ReplaceMeter", *p, *n, *r),
             Event::ReadPoint(p) => write!(f, "ReadPoint {}", p.get()),
+            Event::ReadTransaction(p, s) => write!(f, "ReadTransaction {}/{}", p.get(), s),
+            Event::Online(p) => write!(f, "Online {}", p.get()),
+            Event::Lift(p, n, r) => write_meter(f, "Lift", *p, *n, *r),
         }
     }
+}
+
+/// A release, with its preset where it has one: `Release 3`, `Release 3 Money(2000)`.
+fn write_release<W: fmt::Write>(
+    f: &mut fmt::Formatter<W>,
+    p: FpNo,
+    preset: Preset,
+) -> fmt::Result {
+    write!(f, "Release {}", p.get())?;
+    match preset {
+        Preset::Unset => Ok(()),
+        _ => write!(f, " {preset}"),
+    }
+}
+
+/// An event of this name at a nozzle's meter, which reads so much: `Lift 1 2@1000`.
+fn write_meter<W: fmt::Write>(
+    f: &mut fmt::Formatter<W>,
+    name: &str,
+    p: FpNo,
+    n: NozzleNo,
+    reading: Millilitres,
+) -> fmt::Result {
+    write!(f, "{} {} {}@{}", name, p.get(), n.get(), reading.get())
 }
 
 /// A sale's number, behind that of its shift where one is named: `1`, `2/1`. The number of its
