@@ -1,5 +1,5 @@
 -- The holder of a point is a slot of the site's history.
-use Rattle.std.proofs.Common.{◌≡◌, ℕ, ◌==◌, not, ◌&&◌, Bool, true, false, cond, List, [], ◌∷◌, ◌++◌, Option, Some, None, Result, refl, sym, ap, subst, ◌∙◌, if◌then◌else◌, arith}
+use Rattle.std.proofs.Common.{◌≡◌, ℕ, ◌==◌, not, ◌&&◌, Bool, true, false, cond, List, [], ◌∷◌, ◌++◌, Option, Some, None, Ok, refl, sym, ap, subst, ◌∙◌, if◌then◌else◌, arith}
 use Rattle.std.proofs.lemmas.Bool.Decides.{nat_tests}
 use Rattle.std.specs.Ordering.{nat_cmp}
 use Rattle.std.specs.Cmp.{nat_cmp_total}
@@ -7,20 +7,28 @@ use Rattle.std.specs.FinMap as finite
 use Rattle.std.specs.FinMap.{FinMap, get-empty, get-insert, get-remove, get-retain_keys, nat_cmp-IsAntisymmetric}
 use Rattle.site_base.specs.declared.actor.Actor.{Actor}
 use Rattle.site_base.specs.declared.actor.Actor.TheVariants.{Till}
-use Rattle.site_base.specs.declared.answer.Answer.{Answer}
 use Rattle.site_base.specs.declared.event.Event.{Event}
-use Rattle.site_base.specs.declared.event.Event.TheVariants.{SignOff, Assign, Unassign}
+use Rattle.site_base.specs.declared.event.Event.TheVariants.{SignOff, Assign, Unassign, Release, Prepay, TestRelease, Terminate, ReadTransaction, Lift}
 use Rattle.site_base.specs.declared.refusal.Refusal.{Refusal}
 use Rattle.site_base.specs.declared.refusal.Refusal.TheVariants.{AssignedToOther}
 use Rattle.site_base.specs.declared.row.Row.{Row}
+use Rattle.site_base.specs.declared.state.PointState.{PointState}
+use Rattle.site_base.specs.declared.state.PointState.TheVariants.{Idle, Authorised}
+use Rattle.site_base.specs.declared.view.TransactionView.{TransactionView}
 use Rattle.site_base.specs.Checks.{unless}
+use Rattle.fuelling_point.specs.declared.event.PointEvent.TheVariants as points
+use Rattle.fuelling_point.specs.declared.step.PointStep.{PointStep}
+use Rattle.fuelling_point.specs.declared.step.PointStep.TheVariants.{NoSale, Sold, Drawn, Stopped}
+use Rattle.fuelling_point.specs.Kept.{Facts}
+use Rattle.fuelling_point.specs.Step as machine
+use Rattle.fuelling_point.specs.Table.{line_of}
 use Rattle.till_claims.specs.Holds.{is_held_by}
-use Rattle.written_site.specs.SiteState.{SiteState, opening, holder_of, rests}
+use Rattle.written_site.specs.SiteState.{SiteState, opening, facts_of, holder_of, rests, sale_shown, price_at_start, reading_at_start}
 use Rattle.written_site.specs.SiteChecks.{first_refusal, free_for}
-use Rattle.written_site.specs.SiteStep.{accepted_site, site_after, ends_at_sign_off, holds_without}
+use Rattle.written_site.specs.SiteStep.{accepted_site, site_after, site_answer, step_told, sale_told, ends_at_sign_off, holds_without, holds_unless_over}
 use Rattle.written_site.specs.SiteRun.{row_to, rows_of, events_of, site_at_end, site_of_rows}
 use Rattle.written_site.specs.Histories.{Moment, moments_after, moments_of}
-use Rattle.written_site.specs.Holders.{takes_hold, ends_hold, hold_taker, is_end, AreHeldByOne, AreHoldsOf, IsHeldByOne, AreUnendedTakes, AreBooksHeldByOne}
+use Rattle.written_site.specs.Holders.{takes_hold, ends_hold, hold_taker, is_end, tells_end, AreHeldByOne, AreHoldsOf, IsHeldByOne, AreUnendedTakes, AreBooksHeldByOne}
 use Rattle.site_base.proofs.Cells.{apart, alike}
 use Rattle.written_site.proofs.Passed.{passed}
 use Rattle.written_site.proofs.Bridge.{legal_histories_are_runs}
@@ -95,13 +103,42 @@ signed_off : (s : SiteState) (t p : ℕ) → Does (holder_of s p) (finite.get (h
 signed_off s t p = rw (get-retain_keys s.holds (λ q. not (ends_at_sign_off s.points s.holds t q)) p (λ x tied. ap (λ (y : ℕ). not (ends_at_sign_off s.points s.holds t y)) (sym (nat_cmp-IsAntisymmetric p x tied))))
     (let_go (rests s.points p) t (holder_of s p))
 
--- an accepted event, with its reply
-accepted : (s : SiteState) (a : Actor) (e : Event) (reply : Result Answer Refusal) (p : ℕ) → first_refusal s a e ≡ None
-    → Does (holder_of s p) (holder_of (accepted_site s a e) p) (hold_taker p a e) (λ t. is_end p t s a e reply)
-accepted s (Till t) (Assign q) reply p ok = assigned s.holds p q t (may_take t (holder_of s q) (passed s (Till t) (Assign q) ok).free)
-accepted s (Till t) (Unassign q) reply p ok = unassigned s.holds p q
-accepted s (Till t) SignOff reply p ok = signed_off s t p
-accepted s a e reply p ok = idle (holder_of s p)
+-- what a step of q is told as, and what it leaves of the holds, agree: both end the hold, or neither does
+stepped : (s : SiteState) (holds : FinMap nat_cmp ℕ) (p q growth : ℕ) (step : PointStep)
+    → Does (finite.get holds p) (finite.get (holds_unless_over q step holds) p) None
+    (λ u. tells_end (Ok (step_told s q growth step)) && q == p)
+stepped s holds p q growth Stopped = unassigned holds p q
+stepped s holds p q growth NoSale = unassigned holds p q
+stepped s holds p q growth (Sold nozzle volume price prepaid) = unassigned holds p q
+stepped s holds p q growth (Drawn nozzle volume) = unassigned holds p q
+stepped s holds p q growth step = idle (finite.get holds p)
+
+-- a lift ends nothing
+lifts : (s : SiteState) (q n last price : ℕ) (f : Facts) (state : PointState)
+    → tells_end (Ok (step_told s q 0 (machine.step_by (line_of (points.Lift n last price) state) (points.Lift n last price) f))) ≡ false
+lifts s q n last price f Idle = refl
+lifts s q n last price f Authorised = refl
+lifts s q n last price f state = refl
+
+-- nor does a read
+shows_sale : (view : Option TransactionView) → tells_end (Ok (sale_told view)) ≡ false
+shows_sale None = refl
+shows_sale (Some view) = refl
+
+-- an accepted event, with its answer
+accepted : (s : SiteState) (a : Actor) (e : Event) (p : ℕ) → first_refusal s a e ≡ None
+    → Does (holder_of s p) (holder_of (accepted_site s a e) p) (hold_taker p a e) (λ t. is_end p t s a e (Ok (site_answer s e)))
+accepted s (Till t) (Assign q) p ok = assigned s.holds p q t (may_take t (holder_of s q) (passed s (Till t) (Assign q) ok).free)
+accepted s (Till t) (Release q preset) p ok = assigned s.holds p q t (may_take t (holder_of s q) (passed s (Till t) (Release q preset) ok).free)
+accepted s (Till t) (Prepay q cents) p ok = assigned s.holds p q t (may_take t (holder_of s q) (passed s (Till t) (Prepay q cents) ok).free)
+accepted s (Till t) (TestRelease q) p ok = assigned s.holds p q t (may_take t (holder_of s q) (passed s (Till t) (TestRelease q) ok).free)
+accepted s (Till t) (Unassign q) p ok = unassigned s.holds p q
+accepted s (Till t) SignOff p ok = signed_off s t p
+accepted s a (Terminate q) p ok = stepped s s.holds p q 0 (machine.step_of points.Terminate (facts_of s q))
+accepted s a (Lift q n reading) p ok =
+    rw (lifts s q n (reading_at_start s q (Some n)) (price_at_start s q (Some n)) (facts_of s q) (facts_of s q).state) (idle (holder_of s p))
+accepted s a (ReadTransaction q id) p ok = rw (shows_sale (sale_shown s q id)) (idle (holder_of s p))
+accepted s a e p ok = idle (holder_of s p)
 
 -- the moment of an event at this site
 abbrev moment : List Row → SiteState → Actor → Event → Moment
@@ -115,7 +152,7 @@ does earlier s a e p = by_refusal (first_refusal s a e) refl
     by_refusal : (r : Option Refusal) → first_refusal s a e ≡ r
         → Does (holder_of s p) (holder_of (site_after s a e) p) (takes_hold p (moment earlier s a e)) (λ t. ends_hold p t (moment earlier s a e))
     by_refusal (Some refusal) is = rw is (idle (holder_of s p))
-    by_refusal None is = rw is (accepted s a e _ p is)
+    by_refusal None is = rw is (accepted s a e p is)
 
 -- the moments of a run from this site on
 abbrev moments_from : List Row → SiteState → List (Actor × Event) → List Moment

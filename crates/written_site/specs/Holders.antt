@@ -1,14 +1,16 @@
 -- Takes and ends of a point's hold, read from the rows of a history, and the law of one holder.
-use Rattle.std.specs.Prelude.{◌≡◌, ◌≢◌, ◌↔◌, ℕ, Bool, true, false, ◌&&◌, ◌==◌, if◌then◌else◌, List, ◌∷◌, ◌++◌, Option, Some, None, Result, is_ok}
+use Rattle.std.specs.Prelude.{◌≡◌, ◌≢◌, ◌↔◌, ℕ, Bool, true, false, ◌&&◌, ◌==◌, if◌then◌else◌, List, ◌∷◌, ◌++◌, Option, Some, None, Result, Ok, is_ok}
 use Rattle.std.specs.List.{list_any}
 use Rattle.site_base.specs.declared.actor.Actor.{Actor}
 use Rattle.site_base.specs.declared.actor.Actor.TheVariants.{Till}
 use Rattle.site_base.specs.declared.answer.Answer.{Answer}
+use Rattle.site_base.specs.declared.answer.Answer.TheVariants.{Stopped, NoSale, Sold, Drawn}
 use Rattle.site_base.specs.declared.event.Event.{Event}
-use Rattle.site_base.specs.declared.event.Event.TheVariants.{SignOff, Assign, Unassign}
+use Rattle.site_base.specs.declared.event.Event.TheVariants.{SignOff, Assign, Unassign, Release, Prepay, TestRelease}
 use Rattle.site_base.specs.declared.refusal.Refusal.{Refusal}
 use Rattle.site_base.specs.declared.row.Row.{Row}
 use Rattle.site_base.specs.Configured.{Configured}
+use Rattle.site_base.specs.Events.{point_named}
 use Rattle.written_site.specs.SiteState.{SiteState, opening, holder_of, rests}
 use Rattle.written_site.specs.SiteRun.{site_at_end, site_of_rows, IsLegal}
 use Rattle.written_site.specs.Histories.{Moment, moments_of, history}
@@ -17,20 +19,38 @@ use Rattle.written_site.specs.Slots.{IsLastTake}
 -- the till that such an event, once accepted, gives the hold of the point
 abbrev pub hold_taker : ℕ → Actor → Event → Option ℕ
 hold_taker p (Till t) (Assign q) = if q == p then Some t else None
+hold_taker p (Till t) (Release q preset) = if q == p then Some t else None
+hold_taker p (Till t) (Prepay q cents) = if q == p then Some t else None
+hold_taker p (Till t) (TestRelease q) = if q == p then Some t else None
 hold_taker p actor event = None
 
--- a take of the point: an accepted Assign, by the till that asks for it
+-- a take of the point: an accepted Assign, Release, Prepay or TestRelease, by the till that asks for it
 abbrev pub takes_hold : ℕ → Moment → Option ℕ
 takes_hold p m = if is_ok m.row.reply then hold_taker p m.row.actor m.row.event else None
+
+-- the reply tells that what the point was released for is over: the release is taken back, or the fuelling
+-- has ended
+abbrev pub tells_end : Result Answer Refusal → Bool
+tells_end (Ok Stopped) = true
+tells_end (Ok NoSale) = true
+tells_end (Ok (Sold seq growth)) = true
+tells_end (Ok (Drawn growth)) = true
+tells_end reply = false
+
+-- this very point is named
+abbrev pub names_point : ℕ → Option ℕ → Bool
+names_point p None = false
+names_point p (Some q) = q == p
 
 -- such an event, once accepted with this reply, ends the hold that till t has of the point
 abbrev pub is_end : ℕ → ℕ → SiteState → Actor → Event → Result Answer Refusal → Bool
 is_end p t s (Till u) (Unassign q) reply = q == p
 is_end p t s (Till u) SignOff reply = rests s.points p && t == u
-is_end p t s actor event reply = false
+is_end p t s actor event reply = tells_end reply && names_point p (point_named event)
 
--- an end of the till's hold of the point: an accepted Unassign of it, or the till's accepted sign-off
--- where the point is closed, idle or calling
+-- an end of the till's hold of the point: an accepted Unassign of it, an answer of it that tells that its
+-- release is taken back or its fuelling over, or the till's accepted sign-off where the point is closed,
+-- idle or calling
 abbrev pub ends_hold : ℕ → ℕ → Moment → Bool
 ends_hold p t m = is_ok m.row.reply && is_end p t m.before m.row.actor m.row.event m.row.reply
 

@@ -1,27 +1,60 @@
 -- The first refusal: the checks of an event in their order, of which the first that fails decides.
-use Rattle.std.specs.Prelude.{◌≡◌, ℕ, Bool, false, not, Option, Some, None, is_none, is_some, ◌==◌, if◌then◌else◌}
+use Rattle.std.specs.Prelude.{◌≡◌, ℕ, Bool, true, false, not, ◌&&◌, Option, Some, None, is_none, is_some, ◌==◌, nat_lt, if◌then◌else◌}
 use Rattle.site_base.specs.declared.actor.Actor.{Actor}
 use Rattle.site_base.specs.declared.actor.Actor.TheVariants.{Till, Dispenser}
 use Rattle.site_base.specs.declared.event.Event.{Event}
-use Rattle.site_base.specs.declared.event.Event.TheVariants.{SignOn, SignOff, Open, Close, Assign, Unassign, ReadPoint}
+use Rattle.site_base.specs.declared.event.Event.TheVariants.{SignOn, SignOff, Open, Close, Assign, Unassign, Release, Prepay, TestRelease, Suspend, Resume, Terminate, ReplaceMeter, ReadPoint, ReadTransaction, Online, Lift}
+use Rattle.site_base.specs.declared.limits.TheConstants.{GREATEST_PRESET, REPLACEMENT_LIMIT, UNPAID_LIMIT}
 use Rattle.site_base.specs.declared.refusal.Refusal.{Refusal}
-use Rattle.site_base.specs.declared.refusal.Refusal.TheVariants.{NotSignedOn, SignedOn, NoSuchPoint, AssignedToOther, NotYours, NotYourPoint}
+use Rattle.site_base.specs.declared.refusal.Refusal.TheVariants.{NotSignedOn, SignedOn, NoSuchPoint, NoSuchNozzle, NoSuchTransaction, NotManager, BadPreset, AssignedToOther, NotYours, NotYourPoint, BufferFull, SequenceSpent, MeterSpent}
+use Rattle.site_base.specs.declared.sale.SaleId.{SaleId}
+use Rattle.site_base.specs.declared.state.Preset.{Preset}
+use Rattle.site_base.specs.declared.state.Preset.TheVariants.{Unset, Volume, Money}
 use Rattle.site_base.specs.Checks.{◌or_else◌, unless}
-use Rattle.site_base.specs.Events.{point_named, reported_by, needs_free_point}
+use Rattle.site_base.specs.Configured.{is_between}
+use Rattle.site_base.specs.Events.{point_named, nozzle_named, sale_named, reported_by, needs_free_point, needs_manager}
 use Rattle.fuelling_point.specs.declared.event.PointEvent.{PointEvent}
 use Rattle.fuelling_point.specs.declared.event.PointEvent.TheVariants as points
 use Rattle.fuelling_point.specs.PointChecks as machine
-use Rattle.written_site.specs.SiteState.{SiteState, is_signed_on, has_point, facts_of, holder_of}
+use Rattle.meters.specs.declared.report.Report.TheVariants.{Still}
+use Rattle.meters.specs.Nozzles.{has_nozzle, reading_of, times_replaced}
+use Rattle.meters.specs.Reports.{report_refusal}
+use Rattle.transaction_buffer.specs.Sales.{has_sale, next_number, unpaid_at}
+use Rattle.written_site.specs.SiteState.{SiteState, is_signed_on, is_manager, has_point, facts_of, holder_of, open_shift, key_named, price_at_start, reading_at_start}
+
+-- a release of point p within this preset, which may be prepaid: a fuelling that it starts is of the
+-- nozzle that is out
+abbrev pub released : SiteState → ℕ → Preset → Option ℕ → PointEvent
+released s p preset prepaid =
+    points.Release preset prepaid (reading_at_start s p (facts_of s p).out) (price_at_start s p (facts_of s p).out)
+
+-- a release of point p for a test
+abbrev pub test_released : SiteState → ℕ → PointEvent
+test_released s p = points.TestRelease (reading_at_start s p (facts_of s p).out) (price_at_start s p (facts_of s p).out)
+
+-- nozzle n of point p is taken out
+abbrev pub lifted : SiteState → ℕ → ℕ → PointEvent
+lifted s p n = points.Lift n (reading_at_start s p (Some n)) (price_at_start s p (Some n))
 
 -- what an event is to the point that it names; none where it is nothing to a point
-abbrev pub own_event : Event → Option (ℕ × PointEvent)
-own_event SignOn = None
-own_event SignOff = None
-own_event (Open p) = Some (p, points.Open)
-own_event (Close p) = Some (p, points.Close)
-own_event (Assign p) = Some (p, points.Assign)
-own_event (Unassign p) = Some (p, points.Unassign)
-own_event (ReadPoint p) = None
+abbrev pub own_event : SiteState → Event → Option (ℕ × PointEvent)
+own_event s SignOn = None
+own_event s SignOff = None
+own_event s (Open p) = Some (p, points.Open)
+own_event s (Close p) = Some (p, points.Close)
+own_event s (Assign p) = Some (p, points.Assign)
+own_event s (Unassign p) = Some (p, points.Unassign)
+own_event s (Release p preset) = Some (p, released s p preset None)
+own_event s (Prepay p cents) = Some (p, released s p (Money cents) (Some cents))
+own_event s (TestRelease p) = Some (p, test_released s p)
+own_event s (Suspend p) = Some (p, points.Suspend)
+own_event s (Resume p) = Some (p, points.Resume)
+own_event s (Terminate p) = Some (p, points.Terminate)
+own_event s (ReplaceMeter p n reading) = Some (p, points.ReplaceMeter)
+own_event s (ReadPoint p) = None
+own_event s (ReadTransaction p id) = None
+own_event s (Online p) = Some (p, points.Online)
+own_event s (Lift p n reading) = Some (p, lifted s p n)
 
 -- this very point
 abbrev pub is_point : ℕ → Option ℕ → Bool
@@ -39,14 +72,44 @@ abbrev pub is_there : SiteState → Option ℕ → Option Refusal
 is_there s None = None
 is_there s (Some p) = unless (has_point s p) NoSuchPoint
 
+-- a nozzle that is named is there, at the point that is named
+abbrev pub is_nozzle_there : SiteState → Option ℕ → Option ℕ → Option Refusal
+is_nozzle_there s (Some p) (Some n) = unless (has_nozzle p n s.nozzles) NoSuchNozzle
+is_nozzle_there s point nozzle = None
+
+-- a transaction that is named is there, at the point that is named
+abbrev pub is_sale_there : SiteState → Option ℕ → Option SaleId → Option Refusal
+is_sale_there s (Some p) (Some id) = unless (has_sale (key_named s p id) s.sales) NoSuchTransaction
+is_sale_there s point sale = None
+
 -- the numbers that the event names are there
 abbrev pub numbers : SiteState → Event → Option Refusal
-numbers s event = is_there s (point_named event)
+numbers s event =
+    is_there s (point_named event)
+    or_else is_nozzle_there s (point_named event) (nozzle_named event)
+    or_else is_sale_there s (point_named event) (sale_named event)
 
 -- a till asks what tills ask, a dispenser reports of its own point
 abbrev pub own_kind : Actor → Event → Option Refusal
 own_kind (Till t) event = unless (is_none (reported_by event)) NotYourPoint
 own_kind (Dispenser d) event = unless (is_point d (reported_by event)) NotYourPoint
+
+-- what is for managers alone is asked by one
+abbrev pub managed : SiteState → Actor → Event → Option Refusal
+managed s (Till t) event = if needs_manager event then unless (is_manager s t) NotManager else None
+managed s (Dispenser d) event = None
+
+-- a volume or a sum of money that a release may be limited to
+abbrev pub is_preset : Preset → Bool
+is_preset Unset = true
+is_preset (Volume millilitres) = is_between 1 GREATEST_PRESET millilitres
+is_preset (Money cents) = is_between 1 GREATEST_PRESET cents
+
+-- a preset or a prepayment is in range
+abbrev pub presets : Event → Option Refusal
+presets (Release p preset) = unless (is_preset preset) BadPreset
+presets (Prepay p cents) = unless (is_preset (Money cents)) BadPreset
+presets event = None
 
 -- no other till is the holder
 abbrev pub free_for : ℕ → Option ℕ → Option Refusal
@@ -58,9 +121,18 @@ abbrev pub holder_named : SiteState → Option ℕ → Option ℕ
 holder_named s None = None
 holder_named s (Some p) = holder_of s p
 
+-- a manager may terminate any point
+abbrev pub is_exempt : SiteState → ℕ → Event → Bool
+is_exempt s t (Terminate p) = is_manager s t
+is_exempt s t event = false
+
+-- the till's event is for a point that no other till holds
+abbrev pub asks_free_point : SiteState → ℕ → Event → Bool
+asks_free_point s t event = needs_free_point event && not (is_exempt s t event)
+
 -- no other till holds the point, where a till's event is for one that no other holds
 abbrev pub not_held : SiteState → Actor → Event → Option Refusal
-not_held s (Till t) event = if needs_free_point event then free_for t (holder_named s (point_named event)) else None
+not_held s (Till t) event = if asks_free_point s t event then free_for t (holder_named s (point_named event)) else None
 not_held s (Dispenser d) event = None
 
 -- why the point refuses what the event is to it
@@ -70,12 +142,32 @@ point_refusal s (Some e) = machine.refusal_of e.1 (facts_of s e.0)
 
 -- the point takes the event
 abbrev pub at_point : SiteState → Event → Option Refusal
-at_point s event = point_refusal s (own_event event)
+at_point s event = point_refusal s (own_event s event)
 
 -- what is given back is held
 abbrev pub is_held : SiteState → Event → Option Refusal
 is_held s (Unassign p) = unless (is_some (holder_of s p)) NotYours
 is_held s event = None
+
+-- the point may make one more sale: fewer than two are unpaid, and the open shift has a number for it
+abbrev pub may_sell : SiteState → ℕ → Option Refusal
+may_sell s p =
+    unless (nat_lt (unpaid_at p s.sales) UNPAID_LIMIT) BufferFull
+    or_else unless (is_some (next_number p (open_shift s) s.sales)) SequenceSpent
+
+-- a point that is released for a sale may make one
+abbrev pub sale_room : SiteState → Event → Option Refusal
+sale_room s (Release p preset) = may_sell s p
+sale_room s (Prepay p cents) = may_sell s p
+sale_room s event = None
+
+-- the meter agrees: a lifted nozzle reads what it read last, and a meter is replaced no more often than
+-- it may be
+abbrev pub metering : SiteState → Event → Option Refusal
+metering s (Lift p n reading) = report_refusal Still (reading_of p n s.nozzles) reading
+metering s (ReplaceMeter p n reading) =
+    unless (nat_lt (times_replaced p n s.nozzles) REPLACEMENT_LIMIT) MeterSpent
+metering s event = None
 
 -- the first check that fails
 abbrev pub first_refusal : SiteState → Actor → Event → Option Refusal
@@ -83,29 +175,40 @@ first_refusal s actor event =
     signing s actor event
     or_else numbers s event
     or_else own_kind actor event
+    or_else managed s actor event
+    or_else presets event
     or_else not_held s actor event
     or_else at_point s event
     or_else is_held s event
+    or_else sale_room s event
+    or_else metering s event
 
 -- what is known of an accepted event: it has passed each check
 pub record Passed (s : SiteState) (actor : Actor) (event : Event) : Type 0 where
   pub signs : signing s actor event ≡ None
   pub names : numbers s event ≡ None
   pub asks : own_kind actor event ≡ None
+  pub manages : managed s actor event ≡ None
+  pub limits : presets event ≡ None
   pub free : not_held s actor event ≡ None
   pub takes : at_point s event ≡ None
   pub holds : is_held s event ≡ None
+  pub sells : sale_room s event ≡ None
+  pub reads : metering s event ≡ None
 
--- the checks before the point's own, for a till's event at a point: it is signed on, the point is there, and
--- no other till holds it where the event is for one that no other holds
-abbrev pub may_ask : SiteState → ℕ → ℕ → Event → Option Refusal
-may_ask s t p event =
+-- the checks before the point's own, for a till's event: it is signed on, what the event names is there,
+-- a manager asks what is for managers alone, a preset is in range, and no other till holds the point where
+-- the event is for one that no other holds
+abbrev pub may_ask : SiteState → ℕ → Event → Option Refusal
+may_ask s t event =
     unless (is_signed_on s t) NotSignedOn
-    or_else unless (has_point s p) NoSuchPoint
+    or_else numbers s event
+    or_else managed s (Till t) event
+    or_else presets event
     or_else not_held s (Till t) event
 
--- why a dispenser is refused what tills ask: the point that is named isn't there, or else it isn't the
--- dispenser's to ask
+-- why a report is refused to a till, and what tills ask to a dispenser: what the event names isn't there,
+-- or else it isn't the actor's
 abbrev pub strange : SiteState → Event → Option Refusal
 strange s event = numbers s event or_else Some NotYourPoint
 

@@ -1,33 +1,82 @@
 -- The written step: what the one-thread site answers to an event, and the site that it leads to.
-use Rattle.std.specs.Prelude.{◌≡◌, ℕ, Bool, not, ◌&&◌, List, Option, Some, None, Result}
+use Rattle.std.specs.Prelude.{◌≡◌, ℕ, ◌+◌, Bool, true, false, not, ◌&&◌, List, Option, Some, None, Result, if◌then◌else◌}
 use Rattle.std.specs.Ordering.{nat_cmp}
 use Rattle.std.specs.FinMap as finite
 use Rattle.std.specs.FinSet as set
 use Rattle.site_base.specs.declared.actor.Actor.{Actor}
 use Rattle.site_base.specs.declared.actor.Actor.TheVariants.{Till}
 use Rattle.site_base.specs.declared.answer.Answer.{Answer}
-use Rattle.site_base.specs.declared.answer.Answer.TheVariants.{Done, PointIs}
+use Rattle.site_base.specs.declared.answer.Answer.TheVariants as answers
 use Rattle.site_base.specs.declared.event.Event.{Event}
-use Rattle.site_base.specs.declared.event.Event.TheVariants.{SignOn, SignOff, Open, Close, Assign, Unassign, ReadPoint}
+use Rattle.site_base.specs.declared.event.Event.TheVariants.{SignOn, SignOff, Open, Close, Assign, Unassign, Release, Prepay, TestRelease, Suspend, Resume, Terminate, ReplaceMeter, ReadPoint, ReadTransaction, Online, Lift}
 use Rattle.site_base.specs.declared.refusal.Refusal.{Refusal}
+use Rattle.site_base.specs.declared.view.TransactionView.{TransactionView}
 use Rattle.site_base.specs.Checks.{reply_or, value_or}
 use Rattle.site_base.specs.Table.{with_row}
 use Rattle.fuelling_point.specs.declared.event.PointEvent.{PointEvent}
-use Rattle.fuelling_point.specs.Kept.{Facts, point_view}
+use Rattle.fuelling_point.specs.declared.step.PointStep.{PointStep}
+use Rattle.fuelling_point.specs.declared.step.PointStep.TheVariants.{Moved, Calling, Start, Flowed, HungUp, NoSale, Sold, Drawn, Stopped, Ending}
+use Rattle.fuelling_point.specs.Kept.{Facts, growth_of, point_view}
 use Rattle.fuelling_point.specs.Step as machine
+use Rattle.meters.specs.Nozzles.{Nozzle, with_meter}
 use Rattle.till_claims.specs.Holds.{is_held_by}
-use Rattle.written_site.specs.SiteState.{SiteState, facts_in, facts_of, holder_of, rests}
+use Rattle.transaction_buffer.specs.Sales.{Sales, made_at}
+use Rattle.transaction_buffer.specs.TransactionTable.{after_sign_off}
+use Rattle.written_site.specs.SiteState.{SiteState, facts_in, facts_of, holder_of, open_shift, rests, sale_shown}
 use Rattle.written_site.specs.SiteChecks.{own_event, first_refusal}
+
+-- what the point does of what the event is to it; of an event that is nothing to a point, nothing
+abbrev pub step_by : SiteState → Option (ℕ × PointEvent) → PointStep
+step_by s None = Moved
+step_by s (Some e) = machine.step_of e.1 (facts_of s e.0)
+
+-- what the event's point does of it
+abbrev pub step_at : SiteState → Event → PointStep
+step_at s event = step_by s (own_event s event)
+
+-- how this step of point p is told, which took this growth; a sale with its number, the next one of the
+-- point in the open shift
+abbrev pub step_told : SiteState → ℕ → ℕ → PointStep → Answer
+step_told s p growth Moved = answers.Done
+step_told s p growth Calling = answers.Calling
+step_told s p growth (Start preset price) = answers.Start preset price
+step_told s p growth (Flowed flowed) = answers.Flowed flowed
+step_told s p growth HungUp = answers.HungUp
+step_told s p growth NoSale = answers.NoSale
+step_told s p growth (Sold nozzle volume price prepaid) = answers.Sold (made_at p (open_shift s) s.sales + 1) growth
+step_told s p growth (Drawn nozzle volume) = answers.Drawn growth
+step_told s p growth Stopped = answers.Stopped
+step_told s p growth Ending = answers.Ending
+
+-- how what the event's point does of it is told
+abbrev pub told_by : SiteState → Option (ℕ × PointEvent) → Answer
+told_by s None = answers.Done
+told_by s (Some e) = step_told s e.0 (growth_of e.1) (machine.step_of e.1 (facts_of s e.0))
+
+-- a transaction that is there, as a read is answered
+abbrev pub sale_told : Option TransactionView → Answer
+sale_told None = answers.Done
+sale_told (Some view) = answers.TransactionIs view
 
 -- what an accepted event is answered with: each event has its line
 abbrev pub site_answer : SiteState → Event → Answer
-site_answer s SignOn = Done
-site_answer s SignOff = Done
-site_answer s (Open p) = Done
-site_answer s (Close p) = Done
-site_answer s (Assign p) = Done
-site_answer s (Unassign p) = Done
-site_answer s (ReadPoint p) = PointIs (point_view (facts_of s p) (holder_of s p))
+site_answer s SignOn = answers.Done
+site_answer s SignOff = answers.Done
+site_answer s (Open p) = answers.Done
+site_answer s (Close p) = answers.Done
+site_answer s (Assign p) = answers.Done
+site_answer s (Unassign p) = answers.Done
+site_answer s (Release p preset) = answers.Done
+site_answer s (Prepay p cents) = answers.Done
+site_answer s (TestRelease p) = answers.Done
+site_answer s (Suspend p) = answers.Done
+site_answer s (Resume p) = answers.Done
+site_answer s (Terminate p) = told_by s (own_event s (Terminate p))
+site_answer s (ReplaceMeter p n reading) = answers.Done
+site_answer s (ReadPoint p) = answers.PointIs (point_view (facts_of s p) (holder_of s p))
+site_answer s (ReadTransaction p id) = sale_told (sale_shown s p id)
+site_answer s (Online p) = answers.Done
+site_answer s (Lift p n reading) = told_by s (own_event s (Lift p n reading))
 
 -- the points once one of them has done what the point table says of an event
 abbrev pub with_event : List (ℕ × Facts) → Option (ℕ × PointEvent) → List (ℕ × Facts)
@@ -36,7 +85,12 @@ with_event points (Some e) = with_row e.0 (machine.after e.1 (facts_in points e.
 
 -- the points after an accepted event: what it is to its point, that point does
 abbrev pub points_after : SiteState → Event → List (ℕ × Facts)
-points_after s event = with_event s.points (own_event event)
+points_after s event = with_event s.points (own_event s event)
+
+-- the nozzles after an accepted event; one without a line leaves them
+abbrev pub nozzles_after : SiteState → Event → List Nozzle
+nozzles_after s (ReplaceMeter p n reading) = with_meter p n reading s.nozzles
+nozzles_after s event = s.nozzles
 
 -- the till has the hold of the point, and the point rests: the hold ends when the till signs off
 abbrev pub ends_at_sign_off : List (ℕ × Facts) → finite.FinMap nat_cmp ℕ → ℕ → ℕ → Bool
@@ -46,12 +100,33 @@ ends_at_sign_off points holds t p = rests points p && is_held_by t (finite.get h
 abbrev pub holds_without : List (ℕ × Facts) → finite.FinMap nat_cmp ℕ → ℕ → finite.FinMap nat_cmp ℕ
 holds_without points holds t = finite.retain_keys holds (λ p. not (ends_at_sign_off points holds t p))
 
+-- the step ends what the point was released for: a release that is taken back, or a fuelling
+abbrev pub ends_release : PointStep → Bool
+ends_release Stopped = true
+ends_release NoSale = true
+ends_release (Sold nozzle volume price prepaid) = true
+ends_release (Drawn nozzle volume) = true
+ends_release step = false
+
+-- the holds after this step of point p
+abbrev pub holds_unless_over : ℕ → PointStep → finite.FinMap nat_cmp ℕ → finite.FinMap nat_cmp ℕ
+holds_unless_over p step holds = if ends_release step then finite.remove holds p else holds
+
 -- the holds after an accepted event; one without a line leaves them
 abbrev pub holds_after : SiteState → Actor → Event → finite.FinMap nat_cmp ℕ
 holds_after s (Till t) SignOff = holds_without s.points s.holds t
 holds_after s (Till t) (Assign p) = finite.insert s.holds p t
+holds_after s (Till t) (Release p preset) = finite.insert s.holds p t
+holds_after s (Till t) (Prepay p cents) = finite.insert s.holds p t
+holds_after s (Till t) (TestRelease p) = finite.insert s.holds p t
 holds_after s (Till t) (Unassign p) = finite.remove s.holds p
+holds_after s actor (Terminate p) = holds_unless_over p (step_at s (Terminate p)) s.holds
 holds_after s actor event = s.holds
+
+-- the sales after an accepted event; one without a line leaves them
+abbrev pub sales_after : SiteState → Actor → Event → Sales
+sales_after s (Till t) SignOff = after_sign_off t s.sales
+sales_after s actor event = s.sales
 
 -- the tills signed on after an accepted event; one without a line leaves them
 abbrev pub signed_on_after : SiteState → Actor → Event → set.FinSet nat_cmp
@@ -63,8 +138,13 @@ signed_on_after s actor event = s.signed_on
 abbrev pub accepted_site : SiteState → Actor → Event → SiteState
 accepted_site s actor event = record {
   points = points_after s event;
+  nozzles = nozzles_after s event;
   holds = holds_after s actor event;
+  sales = sales_after s actor event;
+  prices = s.prices;
+  managers = s.managers;
   signed_on = signed_on_after s actor event;
+  drawn = s.drawn;
 }
 
 -- the written step's reply

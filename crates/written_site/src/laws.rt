@@ -16,8 +16,9 @@ pub fn legal_histories_are_runs()
 {}
 
 /// For every list of events from the opening site of any configuration: between takes of a fuelling point
-/// by two different tills stands an end of the first one's hold. A take is an accepted Assign; an end is an
-/// accepted Unassign, or the holder's sign-off while the point is closed, idle or calling.
+/// by two different tills stands an end of the first one's hold. A take is an accepted Assign,
+/// Release, Prepay or TestRelease; an end is an accepted Unassign, an answer that tells that the release is
+/// taken back or the fuelling over, or the holder's sign-off while the point is closed, idle or calling.
 pub fn held_by_one()
     ensures { IsHeldByOne }
 {}
