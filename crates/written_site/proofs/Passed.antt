@@ -5,7 +5,7 @@ use Rattle.site_base.specs.declared.event.Event.{Event}
 use Rattle.site_base.specs.declared.refusal.Refusal.{Refusal}
 use Rattle.site_base.specs.Checks.{◌or_else◌}
 use Rattle.written_site.specs.SiteState.{SiteState}
-use Rattle.written_site.specs.SiteChecks.{Passed, first_refusal, signing, numbers, own_kind, managed, presets, not_held, at_point, is_held, sale_room, metering}
+use Rattle.written_site.specs.SiteChecks.{Passed, first_refusal, may_ask, can_do, signing, numbers, own_kind, managed, presets, not_held, at_point, is_held, sale_room, metering}
 
 -- two checks one after the other that refuse nothing: neither does
 pub both_pass : (a b : Option Refusal) → a or_else b ≡ None → (a ≡ None) × (b ≡ None)
@@ -14,13 +14,13 @@ both_pass (Some refusal) b is = cc
 
 pub passed : (s : SiteState) (a : Actor) (e : Event) → first_refusal s a e ≡ None → Passed s a e
 passed s a e accepted =
-    let to_names = both_pass (signing s a e) _ accepted in
+    let halves = both_pass (may_ask s a e) (can_do s e) accepted in
+    let to_names = both_pass (signing s a e) _ halves.0 in
     let to_asks = both_pass (numbers s e) _ to_names.1 in
     let to_manages = both_pass (own_kind a e) _ to_asks.1 in
     let to_limits = both_pass (managed s a e) _ to_manages.1 in
-    let to_free = both_pass (presets e) _ to_limits.1 in
-    let to_takes = both_pass (not_held s a e) _ to_free.1 in
-    let to_holds = both_pass (at_point s e) _ to_takes.1 in
+    let to_free = both_pass (presets e) (not_held s a e) to_limits.1 in
+    let to_holds = both_pass (at_point s e) _ halves.1 in
     let to_sells = both_pass (is_held s e) _ to_holds.1 in
     let to_reads = both_pass (sale_room s e) (metering s e) to_sells.1 in
     record {
@@ -29,7 +29,7 @@ passed s a e accepted =
       asks = to_manages.0;
       manages = to_limits.0;
       limits = to_free.0;
-      free = to_takes.0;
+      free = to_free.1;
       takes = to_holds.0;
       holds = to_sells.0;
       sells = to_reads.0;

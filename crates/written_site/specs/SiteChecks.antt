@@ -169,19 +169,30 @@ metering s (ReplaceMeter p n reading) =
     unless (nat_lt (times_replaced p n s.nozzles) REPLACEMENT_LIMIT) MeterSpent
 metering s event = None
 
--- the first check that fails
-abbrev pub first_refusal : SiteState → Actor → Event → Option Refusal
-first_refusal s actor event =
+-- the checks of who asks: it is signed on, what the event names is there, the event is the actor's to ask,
+-- a manager asks what is for managers alone, a preset is in range, and no other till holds the point where
+-- the event is for one that no other holds
+abbrev pub may_ask : SiteState → Actor → Event → Option Refusal
+may_ask s actor event =
     signing s actor event
     or_else numbers s event
     or_else own_kind actor event
     or_else managed s actor event
     or_else presets event
     or_else not_held s actor event
-    or_else at_point s event
+
+-- the checks of what is asked: the point takes the event, what is given back is held, a sale has room, and
+-- the meter agrees
+abbrev pub can_do : SiteState → Event → Option Refusal
+can_do s event =
+    at_point s event
     or_else is_held s event
     or_else sale_room s event
     or_else metering s event
+
+-- the first check that fails
+abbrev pub first_refusal : SiteState → Actor → Event → Option Refusal
+first_refusal s actor event = may_ask s actor event or_else can_do s event
 
 -- what is known of an accepted event: it has passed each check
 pub record Passed (s : SiteState) (actor : Actor) (event : Event) : Type 0 where
@@ -195,22 +206,6 @@ pub record Passed (s : SiteState) (actor : Actor) (event : Event) : Type 0 where
   pub holds : is_held s event ≡ None
   pub sells : sale_room s event ≡ None
   pub reads : metering s event ≡ None
-
--- the checks before the point's own, for a till's event: it is signed on, what the event names is there,
--- a manager asks what is for managers alone, a preset is in range, and no other till holds the point where
--- the event is for one that no other holds
-abbrev pub may_ask : SiteState → ℕ → Event → Option Refusal
-may_ask s t event =
-    unless (is_signed_on s t) NotSignedOn
-    or_else numbers s event
-    or_else managed s (Till t) event
-    or_else presets event
-    or_else not_held s (Till t) event
-
--- why a report is refused to a till, and what tills ask to a dispenser: what the event names isn't there,
--- or else it isn't the actor's
-abbrev pub strange : SiteState → Event → Option Refusal
-strange s event = numbers s event or_else Some NotYourPoint
 
 -- an event that isn't refused has passed each check
 abbrev pub PassesEachCheck : Type 0
