@@ -59,6 +59,13 @@ impl Meters {
         })
     }
 
+    /// Is there a nozzle n of point p?
+    pub fn contains(&self, p: FpNo, n: NozzleNo) -> bool
+        ensures { result ≡ has_nozzle p n self.now }
+    {
+        self.place(p, n).is_some()
+    }
+
     /// The product of nozzle n of point p. None where there is no such nozzle.
     pub fn product(&self, p: FpNo, n: NozzleNo) -> Option<ProductNo>
         ensures { result ≡ product_of p n self.now }

@@ -1,4 +1,3 @@
 pub mod TillSets
 pub mod SignOffs
 pub mod RunSteps
-pub mod Commands

@@ -13,7 +13,7 @@ impl SiteParts {
     pub(crate) fn assign(&mut self, t: TillNo, p: FpNo) -> Reply
         ensures { Steps (site_of self.old) (Till t) (Event.Assign p) (site_of self.new) result }
     {
-        self.may_ask(t, p, &Event::Assign(p))?;
+        self.may_ask(t, &Event::Assign(p))?;
         self.points.on(p, PointEvent::Assign)?;
         self.claims.take(p, t);
         Ok(Answer::Done)
@@ -23,7 +23,7 @@ impl SiteParts {
     pub(crate) fn unassign(&mut self, t: TillNo, p: FpNo) -> Reply
         ensures { Steps (site_of self.old) (Till t) (Event.Unassign p) (site_of self.new) result }
     {
-        self.may_ask(t, p, &Event::Unassign(p))?;
+        self.may_ask(t, &Event::Unassign(p))?;
         self.points.judge(p, &PointEvent::Unassign)?;
         if self.claims.holder(p).is_none() {
             return Err(Refusal::NotYours);

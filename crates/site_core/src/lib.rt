@@ -3,14 +3,20 @@
 //! it was.
 #![tactic(auto)]
 
+mod asking;
 mod commanding;
+mod figures;
 mod holding;
+mod managing;
 mod points;
+mod releasing;
+mod reporting;
 mod runs;
-mod signed_on;
 mod signing;
 mod site;
 mod site_parts;
+mod telling;
+mod tills;
 
 pub use runs::{RunStopped, run};
 pub use site::Site;

@@ -8,7 +8,7 @@ ghost use Rattle.site_base.specs.Table.{row_of, with_row};
 ghost use Rattle.written_site.specs.SiteState.{points_of, facts_in, rests, is_resting};
 
 use fuelling_point::{Point, PointEvent, PointStep};
-use site_base::{FpNo, NoMemory, PointEntry, PointState, PointView, Refusal, place_of};
+use site_base::{FpNo, NoMemory, NozzleNo, PointEntry, PointState, PointView, Refusal, place_of};
 use std::alloc::Global;
 use std::marker::Model;
 
@@ -52,6 +52,16 @@ impl Points {
     {
         match place_of(&self.rows, p) {
             Some(place) => Some(self.rows[place].1.view()),
+            None => None,
+        }
+    }
+
+    /// The nozzle that is out at the point; None where the point isn't there.
+    pub fn out(&self, p: FpNo) -> Option<NozzleNo>
+        ensures { result ≡ (facts_in self.now p).out }
+    {
+        match self.view(p) {
+            Some(view) => view.out,
             None => None,
         }
     }

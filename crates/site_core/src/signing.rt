@@ -37,11 +37,12 @@ impl SiteParts {
         Ok(Answer::Done)
     }
 
-    /// The till leaves: its holds of points that are closed, idle or calling end, and it isn't signed
-    /// on any more.
+    /// The till leaves: its locked transactions are payable again, its holds of points that are closed,
+    /// idle or calling end, and it isn't signed on any more.
     pub(crate) fn leave(&mut self, t: TillNo)
         ensures { site_of self.new ≡ accepted_site (site_of self.old) (Till t) SignOff }
     {
+        self.sales.release_all(t);
         let_go(&self.points, &mut self.claims, t);
         self.signed_on.remove(t);
     }

@@ -21,11 +21,12 @@ impl Model for Site {
     ghost use Rattle.std.specs.Ordering.{nat_cmp};
     ghost use Rattle.std.specs.FinMap as finite;
     ghost use Rattle.std.specs.FinSet as set;
+    ghost use Rattle.transaction_buffer.specs.Codes.{sales_code};
     ghost use Rattle.site_core.specs.Shown.{Seen};
 
     ghost Value = { Seen };
 
-    ghost coded = { Prim.hlevel (codes, finite.code {R = nat_cmp} coded_ℕ coded_ℕ, set.code {R = nat_cmp} coded_ℕ) };
+    ghost coded = { Prim.hlevel (codes, finite.code {R = nat_cmp} coded_ℕ coded_ℕ, set.code {R = nat_cmp} coded_ℕ, sales_code) };
 
     ghost use Rattle.site_core.specs.SiteParts.{site_of, room_of};
 

@@ -1,28 +1,35 @@
-//! What the site keeps, and which event is whose: the events themselves stand in `signing`, `commanding` and
-//! `holding`.
+//! What the site keeps, and which event is whose: the events themselves stand in `signing`, `commanding`,
+//! `holding`, `releasing`, `reporting`, `managing` and `figures`.
 
-ghost use Rattle.std.specs.Prelude.{◌≡◌, IfOk, OnOk, Some};
-ghost use Rattle.written_site.specs.SiteState.{opening, is_signed_on, point_shown};
-ghost use Rattle.written_site.specs.SiteChecks.{strange};
+ghost use Rattle.std.specs.Prelude.{◌≡◌, IfOk, OnOk};
+ghost use Rattle.written_site.specs.SiteState.{opening, is_signed_on};
 ghost use Rattle.written_site.specs.SiteStep.{Steps};
 ghost use Rattle.site_core.specs.SiteParts.{site_of, room_of};
 ghost use Rattle.site_core.specs.Shown.{HasRoom};
+ghost use Rattle.std.specs.FinSet as set;
 
 use crate::points::Points;
-use crate::signed_on::SignedOn;
+use crate::tills::Tills;
 use fuelling_point::PointEvent;
-use site_base::{
-    Actor, Answer, Event, FpNo, NoMemory, PointView, Refusal, Reply, SiteConfig, TillNo,
-};
+use meters::Meters;
+use shift_ledger::ShiftBook;
+use site_base::{Actor, Event, FpNo, NoMemory, PriceBook, Refusal, Reply, SiteConfig, TillNo};
 use std::alloc::Global;
 use till_claims::Claims;
+use transaction_buffer::Buffer;
 
-/// The points, which till holds which of them, and the tills that are signed on.
+/// The points, their nozzles' meters, which till holds which point, the sales, the prices, the tills that
+/// are managers and those that are signed on, and the shifts.
 #[derive(Drop)]
 pub struct SiteParts {
     pub(crate) points: Points,
+    pub(crate) meters: Meters,
     pub(crate) claims: Claims,
-    pub(crate) signed_on: SignedOn,
+    pub(crate) sales: Buffer,
+    pub(crate) prices: PriceBook,
+    pub(crate) managers: Tills,
+    pub(crate) signed_on: Tills,
+    pub(crate) shifts: ShiftBook,
 }
 
 impl SiteParts {
@@ -31,10 +38,18 @@ impl SiteParts {
         ensures { IfOk result (λ parts. site_of parts ≡ opening config.now) }
     {
         let points = Points::try_new(alloc, config.points())?;
+        let meters = Meters::try_new(alloc, config)?;
+        let prices = PriceBook::try_new(alloc, config)?;
+        let managers = Tills::try_from_list(alloc, config.managers())?;
         Ok(SiteParts {
             points,
+            meters,
             claims: Claims::new(),
-            signed_on: SignedOn::new(alloc),
+            sales: Buffer::new(alloc),
+            prices,
+            managers,
+            signed_on: Tills::new(alloc),
+            shifts: ShiftBook::new(alloc),
         })
     }
 
@@ -71,37 +86,27 @@ impl SiteParts {
             Event::Close(p) => self.command(t, *p, event, PointEvent::Close),
             Event::Assign(p) => self.assign(t, *p),
             Event::Unassign(p) => self.unassign(t, *p),
+            Event::Release(p, preset) => self.release(t, *p, *preset),
+            Event::Prepay(p, cents) => self.prepay(t, *p, *cents),
+            Event::TestRelease(p) => self.test_release(t, *p),
+            Event::Suspend(p) => self.command(t, *p, event, PointEvent::Suspend),
+            Event::Resume(p) => self.command(t, *p, event, PointEvent::Resume),
+            Event::Terminate(p) => self.terminate(t, *p),
+            Event::ReplaceMeter(p, n, reading) => self.replace_meter(t, *p, *n, *reading),
             Event::ReadPoint(p) => self.read_point(t, *p),
+            Event::ReadTransaction(p, id) => self.read_sale(t, *p, *id),
+            Event::Online(_) => Err(self.not_a_tills(t, event)),
+            Event::Lift(_, _, _) => Err(self.not_a_tills(t, event)),
         }
     }
 
-    /// What tills ask, asked by a dispenser.
-    fn dispenser_step(&self, d: FpNo, event: &Event) -> Reply
-        ensures { Steps (site_of self.now) (Actor.Dispenser d) event.now (site_of self.now) result }
+    fn dispenser_step(&mut self, d: FpNo, event: &Event) -> Reply
+        ensures { Steps (site_of self.old) (Actor.Dispenser d) event.now (site_of self.new) result }
     {
-        let _ = d;
-        Err(self.strange(event))
-    }
-
-    /// Why a dispenser is refused what tills ask: the numbers are looked at first.
-    fn strange(&self, event: &Event) -> Refusal
-        ensures { strange (site_of self.now) event.now ≡ Some result }
-    {
-        match event.point() {
-            Some(p) if !self.points.contains(p) => Refusal::NoSuchPoint,
-            _ => Refusal::NotYourPoint,
-        }
-    }
-
-    fn read_point(&self, t: TillNo, p: FpNo) -> Reply
-        ensures { Steps (site_of self.now) (Actor.Till t) (Event.ReadPoint p) (site_of self.now) result }
-    {
-        if !self.signed_on.contains(t) {
-            return Err(Refusal::NotSignedOn);
-        }
-        match self.point_shown(p) {
-            Some(view) => Ok(Answer::PointIs(view)),
-            None => Err(Refusal::NoSuchPoint),
+        match event {
+            Event::Online(p) => self.online(d, *p),
+            Event::Lift(p, n, reading) => self.lift(d, *p, *n, *reading),
+            _ => Err(self.strange(d, event)),
         }
     }
 
@@ -110,18 +115,5 @@ impl SiteParts {
         ensures { result ≡ is_signed_on (site_of self.now) t }
     {
         self.signed_on.contains(t)
-    }
-
-    /// The point as a read shows it.
-    pub fn point_shown(&self, p: FpNo) -> Option<PointView>
-        ensures { result ≡ point_shown (site_of self.now) p }
-    {
-        match self.points.view(p) {
-            Some(view) => Some(PointView {
-                holder: self.claims.holder(p),
-                ..view
-            }),
-            None => None,
-        }
     }
 }

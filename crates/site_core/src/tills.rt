@@ -1,6 +1,6 @@
-//! The tills that are signed on.
+//! Sets of tills.
 
-ghost use Rattle.std.specs.Prelude.{◌≡◌, ◌<◌, ◌==◌, not, filter, nat_eq, OnOk};
+ghost use Rattle.std.specs.Prelude.{◌≡◌, ◌<◌, ◌==◌, not, filter, nat_eq, IfOk, OnOk};
 ghost use Rattle.std.specs.List.{list_any};
 ghost use Rattle.std.specs.FinSet as set;
 
@@ -10,11 +10,11 @@ use std::marker::Model;
 
 /// A set of tills, and the room that is reserved for more of them.
 #[derive(Drop)]
-pub struct SignedOn {
+pub struct Tills {
     tills: Vec<TillNo>,
 }
 
-impl Model for SignedOn {
+impl Model for Tills {
     ghost use Rattle.std.specs.Prelude.{◌-◌, vec_len, vec_capacity};
     ghost use Rattle.std.specs.Ordering.{nat_cmp};
     ghost use Rattle.std.specs.FinSet as set;
@@ -28,17 +28,28 @@ impl Model for SignedOn {
     ghost view = { λ s. record { tills = set.from_list s.tills.items; room = vec_capacity s.tills - vec_len s.tills } };
 }
 
-impl SignedOn {
+impl Tills {
     /// Nobody. It takes no memory.
     pub fn new(alloc: Global) -> Self
         ensures { result.tills ≡ set.empty }
     {
-        SignedOn {
+        Tills {
             tills: Vec::new(alloc),
         }
     }
 
-    /// Is this till signed on?
+    /// These tills.
+    pub fn try_from_list(alloc: Global, tills: &[TillNo]) -> Result<Self, NoMemory>
+        ensures { IfOk result (λ new. new.tills ≡ set.from_list tills.now) }
+    {
+        let mut rows = Vec::new(alloc);
+        for till in tills {
+            rows.push(*till)?;
+        }
+        Ok(Tills { tills: rows })
+    }
+
+    /// Is this till a member?
     pub fn contains(&self, t: TillNo) -> bool
         ensures { result ≡ set.contains self.now.tills t }
     {

@@ -1,7 +1,7 @@
 use Rattle.std.proofs.Common.{ap, sym, ◌∙◌, nat_eq}
 use Rattle.std.specs.List.{list_any}
 use Rattle.std.specs.FinSet.{contains-from_list_nat}
-use Rattle.site_core.proofs.signed_on.SignedOn.contains.Goals as goal
+use Rattle.site_core.proofs.tills.Tills.contains.Goals as goal
 
 pub returns : goal.returns
 returns c =

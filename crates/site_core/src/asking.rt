@@ -1,0 +1,174 @@
+//! Who may ask for what: the checks before those of the point, its sales and its meters.
+
+ghost use Rattle.std.specs.Prelude.{◌≡◌, false, is_none, None, Some, MatchResult, OnOk};
+ghost use Rattle.site_base.specs.declared.actor.Actor.TheVariants.{Till, Dispenser};
+ghost use Rattle.site_base.specs.declared.refusal.Refusal.TheVariants.{NotSignedOn};
+ghost use Rattle.site_base.specs.Checks.{unless};
+ghost use Rattle.site_base.specs.Events.{reported_by};
+ghost use Rattle.written_site.specs.SiteState.{is_signed_on};
+ghost use Rattle.written_site.specs.SiteChecks.{asks_free_point, free_for, is_preset, managed, may_ask};
+ghost use Rattle.written_site.specs.SiteChecks.{not_held, numbers, presets, signing};
+ghost use Rattle.site_core.specs.SiteParts.{site_of};
+
+use crate::site_parts::SiteParts;
+use site_base::{Event, FpNo, GREATEST_PRESET, Preset, Refusal, TillNo};
+
+impl SiteParts {
+    /// The till is signed on, what its event names is there, the event is a till's to ask, a manager
+    /// asks what is for managers alone, a preset is in range, and no other till holds the point where
+    /// the event is for one that no other holds.
+    pub(crate) fn may_ask(&self, t: TillNo, event: &Event) -> Result<(), Refusal>
+        requires { signing (site_of self.now) (Till t) event.now
+            ≡ unless (is_signed_on (site_of self.now) t) NotSignedOn }
+        ensures checks { MatchResult result
+            (λ _. may_ask (site_of self.now) (Till t) event.now ≡ None)
+            (λ r. may_ask (site_of self.now) (Till t) event.now ≡ Some r) }
+        ensures there { OnOk result (numbers (site_of self.now) event.now ≡ None) }
+        ensures free { OnOk result (not_held (site_of self.now) (Till t) event.now ≡ None) }
+    {
+        if !self.signed_on.contains(t) {
+            return Err(Refusal::NotSignedOn);
+        }
+        self.names(event)?;
+        if event.reported_by().is_some() {
+            return Err(Refusal::NotYourPoint);
+        }
+        self.manages(t, event)?;
+        limits(event)?;
+        self.finds_free(t, event)
+    }
+
+    /// What the report names is there, and it is of the dispenser's own point.
+    pub(crate) fn may_report(&self, d: FpNo, event: &Event) -> Result<(), Refusal>
+        requires { presets event.now ≡ None }
+        ensures checks { MatchResult result
+            (λ _. may_ask (site_of self.now) (Dispenser d) event.now ≡ None)
+            (λ r. may_ask (site_of self.now) (Dispenser d) event.now ≡ Some r) }
+        ensures there { OnOk result (numbers (site_of self.now) event.now ≡ None) }
+    {
+        self.names(event)?;
+        match event.reported_by() {
+            Some(p) if p == d => Ok(()),
+            _ => Err(Refusal::NotYourPoint),
+        }
+    }
+
+    /// Why a dispenser is refused what tills ask: the numbers are looked at first.
+    pub(crate) fn strange(&self, d: FpNo, event: &Event) -> Refusal
+        requires { reported_by event.now ≡ None }
+        ensures { may_ask (site_of self.now) (Dispenser d) event.now ≡ Some result }
+    {
+        let _ = d;
+        match self.names(event) {
+            Err(refusal) => refusal,
+            Ok(()) => Refusal::NotYourPoint,
+        }
+    }
+
+    /// Why a till is refused what dispensers report: that it isn't signed on and the numbers are looked
+    /// at first.
+    pub(crate) fn not_a_tills(&self, t: TillNo, event: &Event) -> Refusal
+        requires reported { is_none (reported_by event.now) ≡ false }
+        requires signs { signing (site_of self.now) (Till t) event.now
+            ≡ unless (is_signed_on (site_of self.now) t) NotSignedOn }
+        ensures { may_ask (site_of self.now) (Till t) event.now ≡ Some result }
+    {
+        if !self.signed_on.contains(t) {
+            return Refusal::NotSignedOn;
+        }
+        match self.names(event) {
+            Err(refusal) => refusal,
+            Ok(()) => Refusal::NotYourPoint,
+        }
+    }
+
+    /// The point, the nozzle and the transaction that the event names are there.
+    fn names(&self, event: &Event) -> Result<(), Refusal>
+        ensures { MatchResult result
+            (λ _. numbers (site_of self.now) event.now ≡ None)
+            (λ r. numbers (site_of self.now) event.now ≡ Some r) }
+    {
+        let Some(p) = event.point() else {
+            return Ok(());
+        };
+        if !self.points.contains(p) {
+            return Err(Refusal::NoSuchPoint);
+        }
+        if let Some(n) = event.nozzle()
+            && !self.meters.contains(p, n)
+        {
+            return Err(Refusal::NoSuchNozzle);
+        }
+        if let Some(id) = event.sale()
+            && self.sale_shown(p, &id).is_none()
+        {
+            return Err(Refusal::NoSuchTransaction);
+        }
+        Ok(())
+    }
+
+    /// A manager asks what is for managers alone.
+    fn manages(&self, t: TillNo, event: &Event) -> Result<(), Refusal>
+        ensures { MatchResult result
+            (λ _. managed (site_of self.now) (Till t) event.now ≡ None)
+            (λ r. managed (site_of self.now) (Till t) event.now ≡ Some r) }
+    {
+        if event.needs_manager() && !self.managers.contains(t) {
+            return Err(Refusal::NotManager);
+        }
+        Ok(())
+    }
+
+    /// No other till holds the point, where the till's event is for one that no other holds.
+    fn finds_free(&self, t: TillNo, event: &Event) -> Result<(), Refusal>
+        ensures { MatchResult result
+            (λ _. not_held (site_of self.now) (Till t) event.now ≡ None)
+            (λ r. not_held (site_of self.now) (Till t) event.now ≡ Some r) }
+    {
+        if !self.asks_free_point(t, event) {
+            return Ok(());
+        }
+        let Some(p) = event.point() else {
+            return Ok(());
+        };
+        match self.claims.holder(p) {
+            Some(holder) if holder != t => Err(Refusal::AssignedToOther(holder)),
+            _ => Ok(()),
+        }
+    }
+
+    /// Is the till's event for a point that no other till holds? A manager may terminate any point.
+    fn asks_free_point(&self, t: TillNo, event: &Event) -> bool
+        ensures { result ≡ asks_free_point (site_of self.now) t event.now }
+    {
+        match event {
+            Event::Terminate(_) => !self.managers.contains(t),
+            _ => event.needs_free_point(),
+        }
+    }
+}
+
+/// A preset or a prepayment is in range.
+fn limits(event: &Event) -> Result<(), Refusal>
+    ensures { MatchResult result
+        (λ _. presets event.now ≡ None)
+        (λ r. presets event.now ≡ Some r) }
+{
+    let fits = match event {
+        Event::Release(_, preset) => is_preset(*preset),
+        Event::Prepay(_, cents) => is_preset(Preset::Money(*cents)),
+        _ => true,
+    };
+    if fits { Ok(()) } else { Err(Refusal::BadPreset) }
+}
+
+/// Is this a volume or a sum of money that a release may be limited to?
+fn is_preset(preset: Preset) -> bool
+    ensures { result ≡ is_preset preset }
+{
+    match preset {
+        Preset::Unset => true,
+        Preset::Volume(millilitres) => 1 <= millilitres && millilitres <= GREATEST_PRESET,
+        Preset::Money(cents) => 1 <= cents && cents <= GREATEST_PRESET,
+    }
+}
