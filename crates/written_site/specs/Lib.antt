@@ -1,4 +1,5 @@
 pub mod SiteState
+pub mod Volumes
 pub mod SiteChecks
 pub mod SiteStep
 pub mod SiteRun
