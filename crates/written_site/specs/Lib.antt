@@ -7,3 +7,4 @@ pub mod Histories
 pub mod Bridge
 pub mod Slots
 pub mod Holders
+pub mod Sound
