@@ -4,7 +4,7 @@ use Rattle.std.specs.Prelude.{ℕ, Bool, true, false, Option, Some, None, Result
 use Rattle.site_base.specs.declared.answer.Answer.{Answer}
 use Rattle.site_base.specs.declared.answer.Answer.TheVariants.{Flowed, Sold, Drawn, Cleared}
 use Rattle.site_base.specs.declared.event.Event.{Event}
-use Rattle.site_base.specs.declared.event.Event.TheVariants.{SignOn, SignOff, Open, Close, Assign, Unassign, Release, Prepay, TestRelease, Suspend, Resume, Terminate, ReplaceMeter, ReadPoint, ReadTransaction, Online, Lift}
+use Rattle.site_base.specs.declared.event.Event.TheVariants.{SignOn, SignOff, Open, Close, Assign, Unassign, Release, Prepay, TestRelease, Suspend, Resume, Terminate, ReplaceMeter, ReadPoint, ReadTransaction, ReadProduct, Online, Offline, Lift, Flow, HangUp}
 use Rattle.site_base.specs.declared.refusal.Refusal.{Refusal}
 use Rattle.site_base.specs.declared.sale.SaleId.{SaleId}
 
@@ -25,13 +25,19 @@ point_named (Terminate p) = Some p
 point_named (ReplaceMeter p n reading) = Some p
 point_named (ReadPoint p) = Some p
 point_named (ReadTransaction p s) = Some p
+point_named (ReadProduct q) = None
 point_named (Online p) = Some p
+point_named (Offline p) = Some p
 point_named (Lift p n reading) = Some p
+point_named (Flow p n reading) = Some p
+point_named (HangUp p n reading) = Some p
 
 -- the nozzle of that point that an event names
 abbrev pub nozzle_named : Event → Option ℕ
 nozzle_named (ReplaceMeter p n reading) = Some n
 nozzle_named (Lift p n reading) = Some n
+nozzle_named (Flow p n reading) = Some n
+nozzle_named (HangUp p n reading) = Some n
 nozzle_named event = None
 
 -- the transaction of that point that an event names
@@ -39,10 +45,18 @@ abbrev pub sale_named : Event → Option SaleId
 sale_named (ReadTransaction p s) = Some s
 sale_named event = None
 
+-- the product that an event names
+abbrev pub product_named : Event → Option ℕ
+product_named (ReadProduct q) = Some q
+product_named event = None
+
 -- the point whose dispenser reports an event; none for what a till asks
 abbrev pub reported_by : Event → Option ℕ
 reported_by (Online p) = Some p
+reported_by (Offline p) = Some p
 reported_by (Lift p n reading) = Some p
+reported_by (Flow p n reading) = Some p
+reported_by (HangUp p n reading) = Some p
 reported_by event = None
 
 -- the event is for a point that no other till holds

@@ -1,11 +1,11 @@
 //! What a till or a dispenser asks of the site.
 
 ghost use Rattle.std.specs.Prelude.{◌≡◌};
-ghost use Rattle.site_base.specs.Events.{point_named, nozzle_named, sale_named, reported_by};
-ghost use Rattle.site_base.specs.Events.{needs_free_point, needs_manager, takes_point, has_change};
+ghost use Rattle.site_base.specs.Events.{point_named, nozzle_named, sale_named, product_named};
+ghost use Rattle.site_base.specs.Events.{reported_by, needs_free_point, needs_manager, takes_point, has_change};
 
 use crate::amounts::Millilitres;
-use crate::numbers::{FpNo, NozzleNo};
+use crate::numbers::{FpNo, NozzleNo, ProductNo};
 use crate::sale::SaleId;
 use crate::state::Preset;
 
@@ -47,10 +47,18 @@ pub enum Event {
     ReadPoint(FpNo),
     /// Reads a transaction of a fuelling point; changes nothing.
     ReadTransaction(FpNo, SaleId),
+    /// Reads a product; changes nothing.
+    ReadProduct(ProductNo),
     /// The dispenser of the point is reached.
     Online(FpNo),
+    /// The dispenser of the point isn't reached any more. A fuelling under way is over.
+    Offline(FpNo),
     /// The nozzle of the point is taken out, and its meter reads this.
     Lift(FpNo, NozzleNo, Millilitres),
+    /// Fuel may have flowed by the nozzle of the point, whose meter reads this.
+    Flow(FpNo, NozzleNo, Millilitres),
+    /// The nozzle of the point is put back, and its meter reads this. A fuelling under way is over.
+    HangUp(FpNo, NozzleNo, Millilitres),
 }
 
 impl Event {
@@ -73,8 +81,12 @@ impl Event {
             Event::ReplaceMeter(p, _, _) => Some(*p),
             Event::ReadPoint(p) => Some(*p),
             Event::ReadTransaction(p, _) => Some(*p),
+            Event::ReadProduct(_) => None,
             Event::Online(p) => Some(*p),
+            Event::Offline(p) => Some(*p),
             Event::Lift(p, _, _) => Some(*p),
+            Event::Flow(p, _, _) => Some(*p),
+            Event::HangUp(p, _, _) => Some(*p),
         }
     }
 
@@ -85,6 +97,8 @@ impl Event {
         match self {
             Event::ReplaceMeter(_, n, _) => Some(*n),
             Event::Lift(_, n, _) => Some(*n),
+            Event::Flow(_, n, _) => Some(*n),
+            Event::HangUp(_, n, _) => Some(*n),
             _ => None,
         }
     }
@@ -99,13 +113,26 @@ impl Event {
         }
     }
 
+    /// The product that the event names, if it names one.
+    pub fn product(&self) -> Option<ProductNo>
+        ensures { result ≡ product_named self.now }
+    {
+        match self {
+            Event::ReadProduct(q) => Some(*q),
+            _ => None,
+        }
+    }
+
     /// The point whose dispenser reports the event; None for what a till asks.
     pub fn reported_by(&self) -> Option<FpNo>
         ensures { result ≡ reported_by self.now }
     {
         match self {
             Event::Online(p) => Some(*p),
+            Event::Offline(p) => Some(*p),
             Event::Lift(p, _, _) => Some(*p),
+            Event::Flow(p, _, _) => Some(*p),
+            Event::HangUp(p, _, _) => Some(*p),
             _ => None,
         }
     }

@@ -43,8 +43,12 @@ impl fmt::Display for Event {
             Event::ReplaceMeter(p, n, r) => write_meter(f, "ReplaceMeter", *p, *n, *r),
             Event::ReadPoint(p) => write!(f, "ReadPoint {}", p.get()),
             Event::ReadTransaction(p, s) => write!(f, "ReadTransaction {}/{}", p.get(), s),
+            Event::ReadProduct(q) => write!(f, "ReadProduct {}", q.get()),
             Event::Online(p) => write!(f, "Online {}", p.get()),
+            Event::Offline(p) => write!(f, "Offline {}", p.get()),
             Event::Lift(p, n, r) => write_meter(f, "Lift", *p, *n, *r),
+            Event::Flow(p, n, r) => write_meter(f, "Flow", *p, *n, *r),
+            Event::HangUp(p, n, r) => write_meter(f, "HangUp", *p, *n, *r),
         }
     }
 }

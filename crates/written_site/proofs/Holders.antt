@@ -8,12 +8,12 @@ use Rattle.std.specs.FinMap.{FinMap, get-empty, get-insert, get-remove, get-reta
 use Rattle.site_base.specs.declared.actor.Actor.{Actor}
 use Rattle.site_base.specs.declared.actor.Actor.TheVariants.{Till}
 use Rattle.site_base.specs.declared.event.Event.{Event}
-use Rattle.site_base.specs.declared.event.Event.TheVariants.{SignOff, Assign, Unassign, Release, Prepay, TestRelease, Terminate, ReadTransaction, Lift}
+use Rattle.site_base.specs.declared.event.Event.TheVariants.{SignOff, Assign, Unassign, Release, Prepay, TestRelease, Terminate, ReadTransaction, ReadProduct, Lift, Offline, Flow, HangUp}
 use Rattle.site_base.specs.declared.refusal.Refusal.{Refusal}
 use Rattle.site_base.specs.declared.refusal.Refusal.TheVariants.{AssignedToOther}
 use Rattle.site_base.specs.declared.row.Row.{Row}
 use Rattle.site_base.specs.declared.state.PointState.{PointState}
-use Rattle.site_base.specs.declared.state.PointState.TheVariants.{Idle, Authorised}
+use Rattle.site_base.specs.declared.state.PointState.TheVariants.{Idle, Authorised, Started, SuspendedStarted, Fuelling, SuspendedFuelling}
 use Rattle.site_base.specs.declared.view.TransactionView.{TransactionView}
 use Rattle.site_base.specs.Checks.{unless}
 use Rattle.fuelling_point.specs.declared.event.PointEvent.TheVariants as points
@@ -21,11 +21,12 @@ use Rattle.fuelling_point.specs.declared.step.PointStep.{PointStep}
 use Rattle.fuelling_point.specs.declared.step.PointStep.TheVariants.{NoSale, Sold, Drawn, Stopped}
 use Rattle.fuelling_point.specs.Kept.{Facts}
 use Rattle.fuelling_point.specs.Step as machine
-use Rattle.fuelling_point.specs.Table.{line_of}
+use Rattle.fuelling_point.specs.Table.{line_of, line, Growth, zero, above_zero, Flow as flow, growth_in}
+use Rattle.site_base.specs.Table.{row_of}
 use Rattle.till_claims.specs.Holds.{is_held_by}
 use Rattle.written_site.specs.SiteState.{SiteState, opening, facts_of, holder_of, rests, sale_shown, price_at_start, reading_at_start}
-use Rattle.written_site.specs.SiteChecks.{first_refusal, free_for}
-use Rattle.written_site.specs.SiteStep.{accepted_site, site_after, site_answer, step_told, sale_told, ends_at_sign_off, holds_without, holds_unless_over}
+use Rattle.written_site.specs.SiteChecks.{first_refusal, free_for, flowed}
+use Rattle.written_site.specs.SiteStep.{accepted_site, site_after, site_answer, step_told, sale_told, product_told, ends_at_sign_off, holds_without, holds_unless_over}
 use Rattle.written_site.specs.SiteRun.{row_to, rows_of, events_of, site_at_end, site_of_rows}
 use Rattle.written_site.specs.Histories.{Moment, moments_after, moments_of}
 use Rattle.written_site.specs.Holders.{takes_hold, ends_hold, hold_taker, is_end, tells_end, AreHeldByOne, AreHoldsOf, IsHeldByOne, AreUnendedTakes, AreBooksHeldByOne}
@@ -120,10 +121,27 @@ lifts s q n last price f Idle = refl
 lifts s q n last price f Authorised = refl
 lifts s q n last price f state = refl
 
+-- nor does a flow
+flows : (s : SiteState) (q n growth : ℕ) (f : Facts) (size : Growth) (state : PointState)
+    → tells_end (Ok (step_told s q growth (machine.step_by (line (flow size) state) (points.Flow n growth) f))) ≡ false
+flows s q n growth f zero Started = refl
+flows s q n growth f zero SuspendedStarted = refl
+flows s q n growth f zero Fuelling = refl
+flows s q n growth f zero SuspendedFuelling = refl
+flows s q n growth f above_zero Started = refl
+flows s q n growth f above_zero SuspendedStarted = refl
+flows s q n growth f above_zero Fuelling = refl
+flows s q n growth f above_zero SuspendedFuelling = refl
+flows s q n growth f size state = refl
+
 -- nor does a read
 shows_sale : (view : Option TransactionView) → tells_end (Ok (sale_told view)) ≡ false
 shows_sale None = refl
 shows_sale (Some view) = refl
+
+shows_product : (s : SiteState) (q : ℕ) (price : Option ℕ) → tells_end (Ok (product_told s q price)) ≡ false
+shows_product s q None = refl
+shows_product s q (Some price) = refl
 
 -- an accepted event, with its answer
 accepted : (s : SiteState) (a : Actor) (e : Event) (p : ℕ) → first_refusal s a e ≡ None
@@ -134,9 +152,14 @@ accepted s (Till t) (Prepay q cents) p ok = assigned s.holds p q t (may_take t (
 accepted s (Till t) (TestRelease q) p ok = assigned s.holds p q t (may_take t (holder_of s q) (passed s (Till t) (TestRelease q) ok).free)
 accepted s (Till t) (Unassign q) p ok = unassigned s.holds p q
 accepted s (Till t) SignOff p ok = signed_off s t p
+accepted s a (Offline q) p ok = unassigned s.holds p q
+accepted s a (HangUp q n reading) p ok = stepped s s.holds p q (flowed s q n reading) (machine.step_of (points.HangUp n (flowed s q n reading)) (facts_of s q))
 accepted s a (Terminate q) p ok = stepped s s.holds p q 0 (machine.step_of points.Terminate (facts_of s q))
 accepted s a (Lift q n reading) p ok =
     rw (lifts s q n (reading_at_start s q (Some n)) (price_at_start s q (Some n)) (facts_of s q) (facts_of s q).state) (idle (holder_of s p))
+accepted s a (Flow q n reading) p ok =
+    rw (flows s q n (flowed s q n reading) (facts_of s q) (growth_in (flowed s q n reading)) (facts_of s q).state) (idle (holder_of s p))
+accepted s a (ReadProduct q) p ok = rw (shows_product s q (row_of q s.prices)) (idle (holder_of s p))
 accepted s a (ReadTransaction q id) p ok = rw (shows_sale (sale_shown s q id)) (idle (holder_of s p))
 accepted s a e p ok = idle (holder_of s p)
 

@@ -6,7 +6,7 @@ use Rattle.site_base.specs.declared.actor.Actor.TheVariants.{Till}
 use Rattle.site_base.specs.declared.answer.Answer.{Answer}
 use Rattle.site_base.specs.declared.answer.Answer.TheVariants.{Stopped, NoSale, Sold, Drawn}
 use Rattle.site_base.specs.declared.event.Event.{Event}
-use Rattle.site_base.specs.declared.event.Event.TheVariants.{SignOff, Assign, Unassign, Release, Prepay, TestRelease}
+use Rattle.site_base.specs.declared.event.Event.TheVariants.{SignOff, Assign, Unassign, Release, Prepay, TestRelease, Offline}
 use Rattle.site_base.specs.declared.refusal.Refusal.{Refusal}
 use Rattle.site_base.specs.declared.row.Row.{Row}
 use Rattle.site_base.specs.Configured.{Configured}
@@ -45,10 +45,11 @@ names_point p (Some q) = q == p
 -- such an event, once accepted with this reply, ends the hold that till t has of the point
 abbrev pub is_end : ℕ → ℕ → SiteState → Actor → Event → Result Answer Refusal → Bool
 is_end p t s (Till u) (Unassign q) reply = q == p
+is_end p t s actor (Offline q) reply = q == p
 is_end p t s (Till u) SignOff reply = rests s.points p && t == u
 is_end p t s actor event reply = tells_end reply && names_point p (point_named event)
 
--- an end of the till's hold of the point: an accepted Unassign of it, an answer of it that tells that its
+-- an end of the till's hold of the point: an accepted Unassign or Offline of it, an answer of it that tells that its
 -- release is taken back or its fuelling over, or the till's accepted sign-off where the point is closed,
 -- idle or calling
 abbrev pub ends_hold : ℕ → ℕ → Moment → Bool

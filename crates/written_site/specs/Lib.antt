@@ -1,4 +1,5 @@
 pub mod SiteState
+pub mod Volumes
 pub mod SiteChecks
 pub mod SiteStep
 pub mod SiteRun
@@ -6,3 +7,4 @@ pub mod Histories
 pub mod Bridge
 pub mod Slots
 pub mod Holders
+pub mod Sound

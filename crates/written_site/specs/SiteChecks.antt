@@ -3,22 +3,26 @@ use Rattle.std.specs.Prelude.{◌≡◌, ℕ, Bool, true, false, not, ◌&&◌, 
 use Rattle.site_base.specs.declared.actor.Actor.{Actor}
 use Rattle.site_base.specs.declared.actor.Actor.TheVariants.{Till, Dispenser}
 use Rattle.site_base.specs.declared.event.Event.{Event}
-use Rattle.site_base.specs.declared.event.Event.TheVariants.{SignOn, SignOff, Open, Close, Assign, Unassign, Release, Prepay, TestRelease, Suspend, Resume, Terminate, ReplaceMeter, ReadPoint, ReadTransaction, Online, Lift}
+use Rattle.site_base.specs.declared.event.Event.TheVariants.{SignOn, SignOff, Open, Close, Assign, Unassign, Release, Prepay, TestRelease, Suspend, Resume, Terminate, ReplaceMeter, ReadPoint, ReadTransaction, ReadProduct, Online, Offline, Lift, Flow, HangUp}
 use Rattle.site_base.specs.declared.limits.TheConstants.{GREATEST_PRESET, REPLACEMENT_LIMIT, UNPAID_LIMIT}
 use Rattle.site_base.specs.declared.refusal.Refusal.{Refusal}
-use Rattle.site_base.specs.declared.refusal.Refusal.TheVariants.{NotSignedOn, SignedOn, NoSuchPoint, NoSuchNozzle, NoSuchTransaction, NotManager, BadPreset, AssignedToOther, NotYours, NotYourPoint, BufferFull, SequenceSpent, MeterSpent}
+use Rattle.site_base.specs.declared.refusal.Refusal.TheVariants.{NotSignedOn, SignedOn, NoSuchPoint, NoSuchNozzle, NoSuchProduct, NoSuchTransaction, NotManager, BadPreset, AssignedToOther, NotYours, NotYourPoint, BufferFull, SequenceSpent, MeterSpent}
 use Rattle.site_base.specs.declared.sale.SaleId.{SaleId}
+use Rattle.site_base.specs.declared.state.PointState.{PointState}
+use Rattle.site_base.specs.declared.state.PointState.TheVariants.{Calling}
 use Rattle.site_base.specs.declared.state.Preset.{Preset}
 use Rattle.site_base.specs.declared.state.Preset.TheVariants.{Unset, Volume, Money}
 use Rattle.site_base.specs.Checks.{◌or_else◌, unless}
 use Rattle.site_base.specs.Configured.{is_between}
-use Rattle.site_base.specs.Events.{point_named, nozzle_named, sale_named, reported_by, needs_free_point, needs_manager}
+use Rattle.site_base.specs.Table.{row_of}
+use Rattle.site_base.specs.Events.{point_named, nozzle_named, sale_named, product_named, reported_by, needs_free_point, needs_manager}
 use Rattle.fuelling_point.specs.declared.event.PointEvent.{PointEvent}
 use Rattle.fuelling_point.specs.declared.event.PointEvent.TheVariants as points
 use Rattle.fuelling_point.specs.PointChecks as machine
-use Rattle.meters.specs.declared.report.Report.TheVariants.{Still}
+use Rattle.meters.specs.declared.report.Report.{Report}
+use Rattle.meters.specs.declared.report.Report.TheVariants.{Still, Growing}
 use Rattle.meters.specs.Nozzles.{has_nozzle, reading_of, times_replaced}
-use Rattle.meters.specs.Reports.{report_refusal}
+use Rattle.meters.specs.Reports.{report_refusal, growth_of}
 use Rattle.transaction_buffer.specs.Sales.{has_sale, next_number, unpaid_at}
 use Rattle.written_site.specs.SiteState.{SiteState, is_signed_on, is_manager, has_point, facts_of, holder_of, open_shift, key_named, price_at_start, reading_at_start}
 
@@ -35,6 +39,10 @@ test_released s p = points.TestRelease (reading_at_start s p (facts_of s p).out)
 -- nozzle n of point p is taken out
 abbrev pub lifted : SiteState → ℕ → ℕ → PointEvent
 lifted s p n = points.Lift n (reading_at_start s p (Some n)) (price_at_start s p (Some n))
+
+-- what has flowed by nozzle n of point p since its last reading, where it reads this
+abbrev pub flowed : SiteState → ℕ → ℕ → ℕ → ℕ
+flowed s p n reading = growth_of (reading_of p n s.nozzles) reading
 
 -- what an event is to the point that it names; none where it is nothing to a point
 abbrev pub own_event : SiteState → Event → Option (ℕ × PointEvent)
@@ -53,8 +61,12 @@ own_event s (Terminate p) = Some (p, points.Terminate)
 own_event s (ReplaceMeter p n reading) = Some (p, points.ReplaceMeter)
 own_event s (ReadPoint p) = None
 own_event s (ReadTransaction p id) = None
+own_event s (ReadProduct q) = None
 own_event s (Online p) = Some (p, points.Online)
+own_event s (Offline p) = Some (p, points.Offline)
 own_event s (Lift p n reading) = Some (p, lifted s p n)
+own_event s (Flow p n reading) = Some (p, points.Flow n (flowed s p n reading))
+own_event s (HangUp p n reading) = Some (p, points.HangUp n (flowed s p n reading))
 
 -- this very point
 abbrev pub is_point : ℕ → Option ℕ → Bool
@@ -77,6 +89,11 @@ abbrev pub is_nozzle_there : SiteState → Option ℕ → Option ℕ → Option 
 is_nozzle_there s (Some p) (Some n) = unless (has_nozzle p n s.nozzles) NoSuchNozzle
 is_nozzle_there s point nozzle = None
 
+-- a product that is named is there
+abbrev pub is_product_there : SiteState → Option ℕ → Option Refusal
+is_product_there s None = None
+is_product_there s (Some q) = unless (is_some (row_of q s.prices)) NoSuchProduct
+
 -- a transaction that is named is there, at the point that is named
 abbrev pub is_sale_there : SiteState → Option ℕ → Option SaleId → Option Refusal
 is_sale_there s (Some p) (Some id) = unless (has_sale (key_named s p id) s.sales) NoSuchTransaction
@@ -87,6 +104,7 @@ abbrev pub numbers : SiteState → Event → Option Refusal
 numbers s event =
     is_there s (point_named event)
     or_else is_nozzle_there s (point_named event) (nozzle_named event)
+    or_else is_product_there s (product_named event)
     or_else is_sale_there s (point_named event) (sale_named event)
 
 -- a till asks what tills ask, a dispenser reports of its own point
@@ -161,10 +179,19 @@ sale_room s (Release p preset) = may_sell s p
 sale_room s (Prepay p cents) = may_sell s p
 sale_room s event = None
 
--- the meter agrees: a lifted nozzle reads what it read last, and a meter is replaced no more often than
--- it may be
+-- what a nozzle that is put back may read: where its point only calls, no fuel has flowed
+abbrev pub put_back_at : PointState → Report
+put_back_at Calling = Still
+put_back_at state = Growing
+
+-- the meter agrees: a nozzle that is lifted, or put back where its point only calls, reads what it read
+-- last; one that flows, or is put back after a fuelling, may have grown; and a meter is replaced no more
+-- often than it may be
 abbrev pub metering : SiteState → Event → Option Refusal
 metering s (Lift p n reading) = report_refusal Still (reading_of p n s.nozzles) reading
+metering s (Flow p n reading) = report_refusal Growing (reading_of p n s.nozzles) reading
+metering s (HangUp p n reading) =
+    report_refusal (put_back_at (facts_of s p).state) (reading_of p n s.nozzles) reading
 metering s (ReplaceMeter p n reading) =
     unless (nat_lt (times_replaced p n s.nozzles) REPLACEMENT_LIMIT) MeterSpent
 metering s event = None

@@ -1,5 +1,5 @@
 -- The written step: what the one-thread site answers to an event, and the site that it leads to.
-use Rattle.std.specs.Prelude.{◌≡◌, ℕ, ◌+◌, Bool, true, false, not, ◌&&◌, List, Option, Some, None, Result, if◌then◌else◌}
+use Rattle.std.specs.Prelude.{◌≡◌, ℕ, ◌+◌, Bool, true, false, not, ◌&&◌, List, [], ◌∷◌, Option, Some, None, Result, unwrap_or, if◌then◌else◌}
 use Rattle.std.specs.Ordering.{nat_cmp}
 use Rattle.std.specs.FinMap as finite
 use Rattle.std.specs.FinSet as set
@@ -8,21 +8,24 @@ use Rattle.site_base.specs.declared.actor.Actor.TheVariants.{Till}
 use Rattle.site_base.specs.declared.answer.Answer.{Answer}
 use Rattle.site_base.specs.declared.answer.Answer.TheVariants as answers
 use Rattle.site_base.specs.declared.event.Event.{Event}
-use Rattle.site_base.specs.declared.event.Event.TheVariants.{SignOn, SignOff, Open, Close, Assign, Unassign, Release, Prepay, TestRelease, Suspend, Resume, Terminate, ReplaceMeter, ReadPoint, ReadTransaction, Online, Lift}
+use Rattle.site_base.specs.declared.event.Event.TheVariants.{SignOn, SignOff, Open, Close, Assign, Unassign, Release, Prepay, TestRelease, Suspend, Resume, Terminate, ReplaceMeter, ReadPoint, ReadTransaction, ReadProduct, Online, Offline, Lift, Flow, HangUp}
 use Rattle.site_base.specs.declared.refusal.Refusal.{Refusal}
 use Rattle.site_base.specs.declared.view.TransactionView.{TransactionView}
 use Rattle.site_base.specs.Checks.{reply_or, value_or}
-use Rattle.site_base.specs.Table.{with_row}
+use Rattle.site_base.specs.Amounts.{amount}
+use Rattle.site_base.specs.Numbered.{numbered, with_numbered}
+use Rattle.site_base.specs.Table.{row_of, with_row}
 use Rattle.fuelling_point.specs.declared.event.PointEvent.{PointEvent}
 use Rattle.fuelling_point.specs.declared.step.PointStep.{PointStep}
 use Rattle.fuelling_point.specs.declared.step.PointStep.TheVariants.{Moved, Calling, Start, Flowed, HungUp, NoSale, Sold, Drawn, Stopped, Ending}
 use Rattle.fuelling_point.specs.Kept.{Facts, growth_of, point_view}
 use Rattle.fuelling_point.specs.Step as machine
-use Rattle.meters.specs.Nozzles.{Nozzle, with_meter}
+use Rattle.meters.specs.Nozzles.{Nozzle, with_last, with_meter}
 use Rattle.till_claims.specs.Holds.{is_held_by}
-use Rattle.transaction_buffer.specs.Sales.{Sales, made_at}
+use Rattle.transaction_buffer.specs.Sales.{Sale, Sales, made_at, new_standing, with_new}
 use Rattle.transaction_buffer.specs.TransactionTable.{after_sign_off}
-use Rattle.written_site.specs.SiteState.{SiteState, facts_in, facts_of, holder_of, open_shift, rests, sale_shown}
+use Rattle.written_site.specs.SiteState.{SiteState, facts_in, facts_of, holder_of, is_signed_on, open_shift, rests, sale_shown}
+use Rattle.written_site.specs.Volumes.{product_out, running_at, product_view}
 use Rattle.written_site.specs.SiteChecks.{own_event, first_refusal}
 
 -- what the point does of what the event is to it; of an event that is nothing to a point, nothing
@@ -58,6 +61,11 @@ abbrev pub sale_told : Option TransactionView → Answer
 sale_told None = answers.Done
 sale_told (Some view) = answers.TransactionIs view
 
+-- a product at today's price, if it has one, as a read is answered
+abbrev pub product_told : SiteState → ℕ → Option ℕ → Answer
+product_told s q None = answers.Done
+product_told s q (Some price) = answers.ProductIs (product_view s q price)
+
 -- what an accepted event is answered with: each event has its line
 abbrev pub site_answer : SiteState → Event → Answer
 site_answer s SignOn = answers.Done
@@ -75,8 +83,12 @@ site_answer s (Terminate p) = told_by s (own_event s (Terminate p))
 site_answer s (ReplaceMeter p n reading) = answers.Done
 site_answer s (ReadPoint p) = answers.PointIs (point_view (facts_of s p) (holder_of s p))
 site_answer s (ReadTransaction p id) = sale_told (sale_shown s p id)
+site_answer s (ReadProduct q) = product_told s q (row_of q s.prices)
 site_answer s (Online p) = answers.Done
+site_answer s (Offline p) = told_by s (own_event s (Offline p))
 site_answer s (Lift p n reading) = told_by s (own_event s (Lift p n reading))
+site_answer s (Flow p n reading) = told_by s (own_event s (Flow p n reading))
+site_answer s (HangUp p n reading) = told_by s (own_event s (HangUp p n reading))
 
 -- the points once one of them has done what the point table says of an event
 abbrev pub with_event : List (ℕ × Facts) → Option (ℕ × PointEvent) → List (ℕ × Facts)
@@ -87,8 +99,11 @@ with_event points (Some e) = with_row e.0 (machine.after e.1 (facts_in points e.
 abbrev pub points_after : SiteState → Event → List (ℕ × Facts)
 points_after s event = with_event s.points (own_event s event)
 
--- the nozzles after an accepted event; one without a line leaves them
+-- the nozzles after an accepted event: the reading reported is a nozzle's last one. One without a line
+-- leaves them.
 abbrev pub nozzles_after : SiteState → Event → List Nozzle
+nozzles_after s (Flow p n reading) = with_last p n reading s.nozzles
+nozzles_after s (HangUp p n reading) = with_last p n reading s.nozzles
 nozzles_after s (ReplaceMeter p n reading) = with_meter p n reading s.nozzles
 nozzles_after s event = s.nozzles
 
@@ -120,13 +135,70 @@ holds_after s (Till t) (Release p preset) = finite.insert s.holds p t
 holds_after s (Till t) (Prepay p cents) = finite.insert s.holds p t
 holds_after s (Till t) (TestRelease p) = finite.insert s.holds p t
 holds_after s (Till t) (Unassign p) = finite.remove s.holds p
+holds_after s actor (Offline p) = finite.remove s.holds p
+holds_after s actor (HangUp p n reading) = holds_unless_over p (step_at s (HangUp p n reading)) s.holds
 holds_after s actor (Terminate p) = holds_unless_over p (step_at s (Terminate p)) s.holds
 holds_after s actor event = s.holds
+
+-- this till, where it is signed on
+abbrev pub if_signed_on : SiteState → Option ℕ → Option ℕ
+if_signed_on s None = None
+if_signed_on s (Some t) = if is_signed_on s t then Some t else None
+
+-- the till that has locked a sale from its beginning: of a prepaid one the holder, where it is signed on
+abbrev pub first_locker : SiteState → ℕ → Option ℕ → Option ℕ
+first_locker s p None = None
+first_locker s p (Some prepaid) = if_signed_on s (holder_of s p)
+
+-- the sale of the fuelling of point p that is over, with these nozzles' last readings: the volume since its
+-- start, at the price it took
+abbrev pub sale_made : SiteState → List Nozzle → ℕ → Sale
+sale_made s nozzles p =
+    record {
+      shift = open_shift s;
+      price = (facts_of s p).price;
+      volume = running_at nozzles p (facts_of s p);
+      cents = amount (running_at nozzles p (facts_of s p)) (facts_of s p).price;
+      prepaid = (facts_of s p).prepaid;
+      product = product_out nozzles p (facts_of s p);
+      standing = new_standing (first_locker s p (facts_of s p).prepaid);
+    }
+
+-- the sales after this step of point p, with these nozzles' last readings
+abbrev pub sales_by : SiteState → List Nozzle → ℕ → PointStep → Sales
+sales_by s nozzles p (Sold nozzle volume price prepaid) = with_new p (sale_made s nozzles p) s.sales
+sales_by s nozzles p step = s.sales
 
 -- the sales after an accepted event; one without a line leaves them
 abbrev pub sales_after : SiteState → Actor → Event → Sales
 sales_after s (Till t) SignOff = after_sign_off t s.sales
+sales_after s actor (Offline p) = sales_by s s.nozzles p (step_at s (Offline p))
+sales_after s actor (HangUp p n reading) =
+    sales_by s (nozzles_after s (HangUp p n reading)) p (step_at s (HangUp p n reading))
 sales_after s actor event = s.sales
+
+-- the draws of a shift, with one more of product q
+abbrev pub one_more_drawn : ℕ → ℕ → List ℕ → List ℕ
+one_more_drawn q volume row = with_numbered q (unwrap_or (numbered q row) 0 + volume) row
+
+-- the draws by shift, with one more in the open one
+abbrev pub draw_noted : ℕ → ℕ → List (List ℕ) → List (List ℕ)
+draw_noted q volume [] = []
+draw_noted q volume (row ∷ []) = one_more_drawn q volume row ∷ []
+draw_noted q volume (row ∷ rows) = row ∷ draw_noted q volume rows
+
+-- the draws after this step of point p, with these nozzles' last readings
+abbrev pub draws_by : SiteState → List Nozzle → ℕ → PointStep → List (List ℕ)
+draws_by s nozzles p (Drawn nozzle volume) =
+    draw_noted (product_out nozzles p (facts_of s p)) (running_at nozzles p (facts_of s p)) s.drawn
+draws_by s nozzles p step = s.drawn
+
+-- the draws after an accepted event; one without a line leaves them
+abbrev pub drawn_after : SiteState → Event → List (List ℕ)
+drawn_after s (Offline p) = draws_by s s.nozzles p (step_at s (Offline p))
+drawn_after s (HangUp p n reading) =
+    draws_by s (nozzles_after s (HangUp p n reading)) p (step_at s (HangUp p n reading))
+drawn_after s event = s.drawn
 
 -- the tills signed on after an accepted event; one without a line leaves them
 abbrev pub signed_on_after : SiteState → Actor → Event → set.FinSet nat_cmp
@@ -144,7 +216,7 @@ accepted_site s actor event = record {
   prices = s.prices;
   managers = s.managers;
   signed_on = signed_on_after s actor event;
-  drawn = s.drawn;
+  drawn = drawn_after s event;
 }
 
 -- the written step's reply
