@@ -50,6 +50,14 @@ abbrev pub product_named : Event → Option ℕ
 product_named (ReadProduct q) = Some q
 product_named event = None
 
+-- the reading of a meter that an event carries
+abbrev pub reading_carried : Event → Option ℕ
+reading_carried (ReplaceMeter p n reading) = Some reading
+reading_carried (Lift p n reading) = Some reading
+reading_carried (Flow p n reading) = Some reading
+reading_carried (HangUp p n reading) = Some reading
+reading_carried event = None
+
 -- the point whose dispenser reports an event; none for what a till asks
 abbrev pub reported_by : Event → Option ℕ
 reported_by (Online p) = Some p

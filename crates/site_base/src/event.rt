@@ -1,7 +1,9 @@
 //! What a till or a dispenser asks of the site.
 
-ghost use Rattle.std.specs.Prelude.{◌≡◌};
+ghost use Rattle.std.specs.Prelude.{◌≡◌, ◌≤◌, IfSome};
+ghost use Rattle.site_base.specs.declared.limits.TheConstants.{GREATEST_READING};
 ghost use Rattle.site_base.specs.Events.{point_named, nozzle_named, sale_named, product_named};
+ghost use Rattle.site_base.specs.Events.{reading_carried};
 ghost use Rattle.site_base.specs.Events.{reported_by, needs_free_point, needs_manager, takes_point, has_change};
 
 use crate::amounts::Millilitres;
@@ -121,6 +123,22 @@ impl Event {
             Event::ReadProduct(q) => Some(*q),
             _ => None,
         }
+    }
+
+    /// The reading of a meter that the event carries, if it carries one. It is one that a meter can show.
+    pub fn reading(&self) -> Option<Millilitres>
+        ensures reading { result ≡ reading_carried self.now }
+        ensures range { IfSome (reading_carried self.now) (λ reading. reading ≤ GREATEST_READING) }
+    {
+        let carried = match self {
+            Event::ReplaceMeter(_, _, reading) => *reading,
+            Event::Lift(_, _, reading) => *reading,
+            Event::Flow(_, _, reading) => *reading,
+            Event::HangUp(_, _, reading) => *reading,
+            _ => return None,
+        };
+        let _ = carried.get();
+        Some(carried)
     }
 
     /// The point whose dispenser reports the event; None for what a till asks.

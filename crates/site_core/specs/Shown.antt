@@ -1,19 +1,23 @@
 -- What contracts see of a site: its state, and the room that is reserved.
-use Rattle.std.specs.Prelude.{ℕ, ◌<◌}
+use Rattle.std.specs.Prelude.{ℕ, ◌<◌, List}
 use Rattle.site_base.specs.declared.event.Event.{Event}
-use Rattle.site_base.specs.declared.event.Event.TheVariants.{SignOn}
+use Rattle.site_base.specs.declared.event.Event.TheVariants.{SignOn, Offline, HangUp}
+use Rattle.transaction_buffer.specs.Rooms.{room_at}
 use Rattle.written_site.specs.SiteState.{SiteState}
 
--- how many more members each list has room for
+-- how many more tills may sign on, and how many more sales of each point, from 1 on, there is room for
 pub record Room : Type 0 where
   pub tills : ℕ
+  pub sales : List ℕ
 
 -- a site and its room
 pub record Seen : Type 0 where
   pub site : SiteState
   pub room : Room
 
--- there is room for what the event adds
+-- there is room for what the event adds: the sale of a fuelling that it ends
 abbrev pub HasRoom : Room → Event → Type 0
 HasRoom room SignOn = 0 < room.tills
+HasRoom room (Offline p) = 0 < room_at p room.sales
+HasRoom room (HangUp p n reading) = 0 < room_at p room.sales
 HasRoom room event = Unit {0}

@@ -82,24 +82,30 @@ impl SiteParts {
         }
     }
 
-    /// The point, the nozzle and the transaction that the event names are there.
+    /// The point, the nozzle, the product and the transaction that the event names are there.
     fn names(&self, event: &Event) -> Result<(), Refusal>
         ensures { MatchResult result
             (λ _. numbers (site_of self.now) event.now ≡ None)
             (λ r. numbers (site_of self.now) event.now ≡ Some r) }
     {
-        let Some(p) = event.point() else {
-            return Ok(());
-        };
-        if !self.points.contains(p) {
+        if let Some(p) = event.point()
+            && !self.points.contains(p)
+        {
             return Err(Refusal::NoSuchPoint);
         }
-        if let Some(n) = event.nozzle()
+        if let Some(p) = event.point()
+            && let Some(n) = event.nozzle()
             && !self.meters.contains(p, n)
         {
             return Err(Refusal::NoSuchNozzle);
         }
-        if let Some(id) = event.sale()
+        if let Some(q) = event.product()
+            && self.prices.get(q).is_none()
+        {
+            return Err(Refusal::NoSuchProduct);
+        }
+        if let Some(p) = event.point()
+            && let Some(id) = event.sale()
             && self.sale_shown(p, &id).is_none()
         {
             return Err(Refusal::NoSuchTransaction);

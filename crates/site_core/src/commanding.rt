@@ -6,9 +6,10 @@ ghost use Rattle.written_site.specs.SiteStep.{Steps};
 ghost use Rattle.site_core.specs.SiteParts.{site_of};
 ghost use Rattle.site_core.specs.Commands.{IsCommand};
 
+use crate::ending::ends_release;
 use crate::site_parts::SiteParts;
 use crate::telling::told;
-use fuelling_point::{PointEvent, PointStep};
+use fuelling_point::PointEvent;
 use site_base::{Answer, Event, FpNo, Reply, TillNo};
 
 impl SiteParts {
@@ -30,7 +31,7 @@ impl SiteParts {
     {
         self.may_ask(t, &Event::Terminate(p))?;
         let step = &self.points.on(p, PointEvent::Terminate)?;
-        if let PointStep::Stopped = step {
+        if ends_release(step) {
             self.claims.free(p);
         }
         Ok(told(step))

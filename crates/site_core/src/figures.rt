@@ -4,12 +4,14 @@ ghost use Rattle.std.specs.Prelude.{◌≡◌};
 ghost use Rattle.site_base.specs.declared.actor.Actor.TheVariants.{Till};
 ghost use Rattle.written_site.specs.SiteState.{open_shift, point_shown, price_of, sale_shown, shift_named};
 ghost use Rattle.written_site.specs.SiteStep.{Steps};
+ghost use Rattle.written_site.specs.Sound.{Sound};
+ghost use Rattle.written_site.specs.Volumes.{product_view};
 ghost use Rattle.site_core.specs.SiteParts.{site_of};
 
 use crate::site_parts::SiteParts;
 use site_base::{
-    Answer, Event, FpNo, Mills, NozzleNo, PointView, Refusal, Reply, SaleId, ShiftNo, TillNo,
-    TransactionView,
+    Answer, Event, FpNo, Mills, NozzleNo, PointView, ProductNo, ProductView, Refusal, Reply, SaleId,
+    ShiftNo, Status, TillNo, TransactionView,
 };
 
 impl SiteParts {
@@ -31,6 +33,39 @@ impl SiteParts {
         match self.sale_shown(p, &id) {
             Some(view) => Ok(Answer::TransactionIs(view)),
             None => Err(Refusal::NoSuchTransaction),
+        }
+    }
+
+    pub(crate) fn read_product(&self, t: TillNo, q: ProductNo) -> Reply
+        requires { Sound (site_of self.now) }
+        ensures { Steps (site_of self.now) (Till t) (Event.ReadProduct q) (site_of self.now) result }
+    {
+        self.may_ask(t, &Event::ReadProduct(q))?;
+        match self.prices.get(q) {
+            Some(price) => Ok(Answer::ProductIs(self.product_view(q, price))),
+            None => Err(Refusal::NoSuchProduct),
+        }
+    }
+
+    /// The product at this price, as a read shows it. What is in fuellings under way is what the meters
+    /// have counted and no sale or draw has.
+    fn product_view(&self, q: ProductNo, price: Mills) -> ProductView
+        requires { Sound (site_of self.now) }
+        ensures { result ≡ product_view (site_of self.now) q price }
+    {
+        let metered = self.meters.product_total(q);
+        let payable = self.sales.sum(q, Status::Payable);
+        let locked = self.sales.sum(q, Status::Locked);
+        let cleared = self.sales.sum(q, Status::Cleared);
+        let adjusted = self.draws.total(q);
+        ProductView {
+            price,
+            metered,
+            running: metered - payable - locked - cleared - adjusted,
+            payable,
+            locked,
+            cleared,
+            adjusted,
         }
     }
 
@@ -69,7 +104,7 @@ impl SiteParts {
     pub(crate) fn open_shift(&self) -> ShiftNo
         ensures { result ≡ open_shift (site_of self.now) }
     {
-        self.shifts.open()
+        self.draws.open_shift()
     }
 
     /// Today's price of the nozzle's product.

@@ -5,6 +5,8 @@
 
 mod asking;
 mod commanding;
+mod draws;
+mod ending;
 mod figures;
 mod holding;
 mod managing;

@@ -56,6 +56,17 @@ impl Points {
         }
     }
 
+    /// The state of a point that is there.
+    pub fn state(&self, p: FpNo) -> PointState
+        requires { is_some (row_of p self.now) ≡ true }
+        ensures { result ≡ (facts_in self.now p).state }
+    {
+        match self.view(p) {
+            Some(view) => view.state,
+            None => unreachable!(),
+        }
+    }
+
     /// The nozzle that is out at the point; None where the point isn't there.
     pub fn out(&self, p: FpNo) -> Option<NozzleNo>
         ensures { result ≡ (facts_in self.now p).out }

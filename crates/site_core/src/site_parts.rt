@@ -4,22 +4,23 @@
 ghost use Rattle.std.specs.Prelude.{◌≡◌, IfOk, OnOk};
 ghost use Rattle.written_site.specs.SiteState.{opening, is_signed_on};
 ghost use Rattle.written_site.specs.SiteStep.{Steps};
+ghost use Rattle.written_site.specs.Sound.{Sound};
 ghost use Rattle.site_core.specs.SiteParts.{site_of, room_of};
 ghost use Rattle.site_core.specs.Shown.{HasRoom};
 ghost use Rattle.std.specs.FinSet as set;
 
+use crate::draws::Draws;
 use crate::points::Points;
 use crate::tills::Tills;
 use fuelling_point::PointEvent;
 use meters::Meters;
-use shift_ledger::ShiftBook;
 use site_base::{Actor, Event, FpNo, NoMemory, PriceBook, Refusal, Reply, SiteConfig, TillNo};
 use std::alloc::Global;
 use till_claims::Claims;
 use transaction_buffer::Buffer;
 
 /// The points, their nozzles' meters, which till holds which point, the sales, the prices, the tills that
-/// are managers and those that are signed on, and the shifts.
+/// are managers and those that are signed on, and what tests drew in each shift.
 #[derive(Drop)]
 pub struct SiteParts {
     pub(crate) points: Points,
@@ -29,7 +30,7 @@ pub struct SiteParts {
     pub(crate) prices: PriceBook,
     pub(crate) managers: Tills,
     pub(crate) signed_on: Tills,
-    pub(crate) shifts: ShiftBook,
+    pub(crate) draws: Draws,
 }
 
 impl SiteParts {
@@ -49,7 +50,7 @@ impl SiteParts {
             prices,
             managers,
             signed_on: Tills::new(alloc),
-            shifts: ShiftBook::new(alloc),
+            draws: Draws::new(alloc),
         })
     }
 
@@ -60,13 +61,16 @@ impl SiteParts {
     {
         match event {
             Event::SignOn => self.signed_on.reserve(),
+            Event::Offline(p) => self.sales.reserve(*p),
+            Event::HangUp(p, _, _) => self.sales.reserve(*p),
             _ => Ok(()),
         }
     }
 
     /// The written step.
     pub fn step(&mut self, actor: Actor, event: &Event) -> Reply
-        requires { HasRoom (room_of self.old) event.now }
+        requires sound { Sound (site_of self.old) }
+        requires room { HasRoom (room_of self.old) event.now }
         ensures { Steps (site_of self.old) actor event.now (site_of self.new) result }
     {
         match actor {
@@ -76,7 +80,8 @@ impl SiteParts {
     }
 
     fn till_step(&mut self, t: TillNo, event: &Event) -> Reply
-        requires { HasRoom (room_of self.old) event.now }
+        requires sound { Sound (site_of self.old) }
+        requires room { HasRoom (room_of self.old) event.now }
         ensures { Steps (site_of self.old) (Actor.Till t) event.now (site_of self.new) result }
     {
         match event {
@@ -95,17 +100,26 @@ impl SiteParts {
             Event::ReplaceMeter(p, n, reading) => self.replace_meter(t, *p, *n, *reading),
             Event::ReadPoint(p) => self.read_point(t, *p),
             Event::ReadTransaction(p, id) => self.read_sale(t, *p, *id),
+            Event::ReadProduct(q) => self.read_product(t, *q),
             Event::Online(_) => Err(self.not_a_tills(t, event)),
+            Event::Offline(_) => Err(self.not_a_tills(t, event)),
             Event::Lift(_, _, _) => Err(self.not_a_tills(t, event)),
+            Event::Flow(_, _, _) => Err(self.not_a_tills(t, event)),
+            Event::HangUp(_, _, _) => Err(self.not_a_tills(t, event)),
         }
     }
 
     fn dispenser_step(&mut self, d: FpNo, event: &Event) -> Reply
+        requires sound { Sound (site_of self.old) }
+        requires room { HasRoom (room_of self.old) event.now }
         ensures { Steps (site_of self.old) (Actor.Dispenser d) event.now (site_of self.new) result }
     {
         match event {
             Event::Online(p) => self.online(d, *p),
+            Event::Offline(p) => self.offline(d, *p),
             Event::Lift(p, n, reading) => self.lift(d, *p, *n, *reading),
+            Event::Flow(p, n, reading) => self.flow(d, *p, *n, *reading),
+            Event::HangUp(p, n, reading) => self.hang_up(d, *p, *n, *reading),
             _ => Err(self.strange(d, event)),
         }
     }

@@ -45,12 +45,13 @@ abbrev pub drawn_by : (ℕ → ℕ) → List (List ℕ) → ℕ
 drawn_by w [] = 0
 drawn_by w (shift ∷ shifts) = weighed_from w 1 shift + drawn_by w shifts
 
--- the millilitres of product q in fuellings under way, and those that tests drew of it
+-- the millilitres of product q in fuellings under way
 abbrev pub running : SiteState → ℕ → ℕ
 running s q = running_by (product_alone q) s.nozzles s.points
 
-abbrev pub adjusted : SiteState → ℕ → ℕ
-adjusted s q = drawn_by (product_alone q) s.drawn
+-- the millilitres that tests drew of product q in all shifts
+abbrev pub drawn_of : ℕ → List (List ℕ) → ℕ
+drawn_of q drawn = drawn_by (product_alone q) drawn
 
 -- a product at this price as a read shows it
 abbrev pub product_view : SiteState → ℕ → ℕ → ProductView
@@ -61,5 +62,5 @@ product_view s q price = record {
   payable = volume_by q Payable s.sales;
   locked = volume_by q Locked s.sales;
   cleared = volume_by q Cleared s.sales;
-  adjusted = adjusted s q;
+  adjusted = drawn_of q s.drawn;
 }
