@@ -5,3 +5,9 @@ pub mod Slots
 pub mod Holders
 pub mod Worked
 pub mod WorkedHolds
+pub mod SoundTables
+pub mod SoundMachine
+pub mod SoundPoints
+pub mod SoundMeters
+pub mod SoundReports
+pub mod SoundHolds
