@@ -11,3 +11,5 @@ pub mod SoundPoints
 pub mod SoundMeters
 pub mod SoundReports
 pub mod SoundHolds
+pub mod SoundSales
+pub mod SoundDraws

@@ -10,6 +10,7 @@ use Rattle.fuelling_point.specs.Kept.{Facts, is_under_way, volume_of, growth_of}
 use Rattle.fuelling_point.specs.Whole.{IsWhole, is_released}
 use Rattle.fuelling_point.specs.PointChecks.{refusal_of}
 use Rattle.fuelling_point.specs.Step.{step_of, after}
+use Rattle.written_site.specs.Volumes.{nozzle_out}
 use Rattle.fuelling_point.specs.Laws.{delivered_in, sold_in, drawn_in, is_end, handed_in, lifted_by}
 
 -- the nozzle that is out was out, or it is the one lifted
@@ -67,3 +68,63 @@ starts event f is was = record {
   taken = grind (arith, common_steps);
   volume = grind (arith, common_steps);
 }
+
+-- where a point sells: a fuelling that is no test was under way, and this is its volume, its nozzle and the
+-- price that it took
+pub record SoldFrom (event : PointEvent) (f : Facts) (nozzle volume price : ℕ) (prepaid : Option ℕ) : Type 0 where
+  pub was : is_under_way f.state ≡ true
+  pub over : is_released (after event f).state ≡ false
+  pub sale : f.test ≡ false
+  pub its_nozzle : nozzle ≡ nozzle_out f
+  pub its_volume : volume ≡ f.volume + growth_of event
+  pub its_price : price ≡ f.price
+  pub its_prepaid : prepaid ≡ f.prepaid
+  pub something : 1 ≤ volume
+
+pub sold_from : (event : PointEvent) (f : Facts) (nozzle volume price : ℕ) (prepaid : Option ℕ)
+    → IsWhole f → refusal_of event f ≡ None → step_of event f ≡ Sold nozzle volume price prepaid
+    → SoldFrom event f nozzle volume price prepaid
+sold_from event f nozzle volume price prepaid w taken is =
+    let something = w.something in
+    record {
+      was = grind (arith, common_steps);
+      over = grind (arith, common_steps);
+      sale = grind (arith, common_steps);
+      its_nozzle = grind (arith, common_steps);
+      its_volume = grind (arith, common_steps);
+      its_price = grind (arith, common_steps);
+      its_prepaid = grind (arith, common_steps);
+      something = grind (arith, common_steps);
+    }
+
+-- where a point draws: a test was under way, and this is its volume and its nozzle
+pub record DrawnFrom (event : PointEvent) (f : Facts) (nozzle volume : ℕ) : Type 0 where
+  pub was : is_under_way f.state ≡ true
+  pub over : is_released (after event f).state ≡ false
+  pub test : f.test ≡ true
+  pub its_nozzle : nozzle ≡ nozzle_out f
+  pub its_volume : volume ≡ f.volume + growth_of event
+  pub something : 1 ≤ volume
+
+pub drawn_from : (event : PointEvent) (f : Facts) (nozzle volume : ℕ)
+    → IsWhole f → refusal_of event f ≡ None → step_of event f ≡ Drawn nozzle volume
+    → DrawnFrom event f nozzle volume
+drawn_from event f nozzle volume w taken is =
+    let something = w.something in
+    record {
+      was = grind (arith, common_steps);
+      over = grind (arith, common_steps);
+      test = grind (arith, common_steps);
+      its_nozzle = grind (arith, common_steps);
+      its_volume = grind (arith, common_steps);
+      something = grind (arith, common_steps);
+    }
+
+-- nothing but a hang up or an offline sells or draws
+pub nothing_sold : (event : PointEvent) (f : Facts) → is_end event ≡ false
+    → sold_in (step_of event f) ≡ 0
+nothing_sold event f other = grind (arith, common_steps)
+
+pub nothing_drawn : (event : PointEvent) (f : Facts) → is_end event ≡ false
+    → drawn_in (step_of event f) ≡ 0
+nothing_drawn event f other = grind (arith, common_steps)
