@@ -13,3 +13,4 @@ pub mod SoundReports
 pub mod SoundHolds
 pub mod SoundSales
 pub mod SoundDraws
+pub mod SoundSold

@@ -39,7 +39,7 @@ pub record SameCounts (q : ℕ) (old new : Sales) : Type 0 where
 same_counts : (q : ℕ) (sales : Sales) → SameCounts q sales sales
 same_counts q sales = record { unpaid = refl; made = λ h. refl }
 
-let_go_counts : (t q : ℕ) (sales : Sales) → SameCounts q sales (after_sign_off t sales)
+pub let_go_counts : (t q : ℕ) (sales : Sales) → SameCounts q sales (after_sign_off t sales)
 let_go_counts t q sales = record {
   unpaid = counted_after.unpaid_signed_off t q sales;
   made = λ h. counted_after.made_signed_off t q h sales;
@@ -100,7 +100,7 @@ counts_after s a e q none = same_counts q s.sales
 
 -- ---- no more are unpaid than may be, and none is of a later shift
 
-unpaid_by : (s : SiteState) (nozzles : List Nozzle) (p : ℕ) (step : PointStep)
+pub unpaid_by : (s : SiteState) (nozzles : List Nozzle) (p : ℕ) (step : PointStep)
     → (sells step ≡ true → MaySell s p) → ((q : ℕ) → unpaid_at q s.sales ≤ UNPAID_LIMIT)
     → (q : ℕ) → unpaid_at q (sales_by s nozzles p step) ≤ UNPAID_LIMIT
 unpaid_by s nozzles p (Sold nozzle volume price prepaid) may all q =
@@ -118,7 +118,7 @@ unpaid_by s nozzles p (Sold nozzle volume price prepaid) may all q =
     by_test false at unpaid = all q
 unpaid_by s nozzles p step may all q = all q
 
-order_by : (s : SiteState) (nozzles : List Nozzle) (p : ℕ) (step : PointStep)
+pub order_by : (s : SiteState) (nozzles : List Nozzle) (p : ℕ) (step : PointStep)
     → ((q h : ℕ) → open_shift s < h → made_at q h s.sales ≡ 0)
     → (q h : ℕ) → open_shift s < h → made_at q h (sales_by s nozzles p step) ≡ 0
 order_by s nozzles p (Sold nozzle volume price prepaid) none q h later =
@@ -135,7 +135,7 @@ sound_let_go t x is = by_test (is_locked_by t x.standing)
     by_test true = record { something = is.something; price = is.price; cents = is.cents }
     by_test false = is
 
-signed_off_sales : (t : ℕ) (sales : Sales)
+pub signed_off_sales : (t : ℕ) (sales : Sales)
     → ((k : Key) (x : Sale) → sale_of k sales ≡ Some x → IsSaleSound x)
     → (k : Key) (x : Sale) → sale_of k (after_sign_off t sales) ≡ Some x → IsSaleSound x
 signed_off_sales t sales all k x is =
@@ -147,7 +147,7 @@ signed_off_sales t sales all k x is =
     by_sale (Some y) at made =
         subst IsSaleSound (told_once (let_go t y) x made) (sound_let_go t y (all k y at))
 
-sales_by_step : (s : SiteState) (nozzles : List Nozzle) (p : ℕ) (step : PointStep)
+pub sales_by_step : (s : SiteState) (nozzles : List Nozzle) (p : ℕ) (step : PointStep)
     → (sells step ≡ true → IsSaleSound (sale_made s nozzles p))
     → ((k : Key) (x : Sale) → sale_of k s.sales ≡ Some x → IsSaleSound x)
     → (k : Key) (x : Sale) → sale_of k (sales_by s nozzles p step) ≡ Some x → IsSaleSound x
