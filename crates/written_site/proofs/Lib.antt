@@ -5,3 +5,12 @@ pub mod Slots
 pub mod Holders
 pub mod Worked
 pub mod WorkedHolds
+pub mod SoundTables
+pub mod SoundMachine
+pub mod SoundPoints
+pub mod SoundMeters
+pub mod SoundReports
+pub mod SoundHolds
+pub mod SoundSales
+pub mod SoundDraws
+pub mod SoundSold

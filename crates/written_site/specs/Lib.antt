@@ -8,3 +8,4 @@ pub mod Bridge
 pub mod Slots
 pub mod Holders
 pub mod Sound
+pub mod SoundSteps
