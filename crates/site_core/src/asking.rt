@@ -1,9 +1,9 @@
 //! Who may ask for what: the checks before those of the point, its sales and its meters.
 
-ghost use Rattle.std.specs.Prelude.{◌≡◌, false, is_none, None, Some, MatchResult, OnOk};
+ghost use Rattle.std.specs.Prelude.{◌≡◌, true, false, is_none, None, Some, MatchResult, OnOk};
 ghost use Rattle.site_base.specs.declared.actor.Actor.TheVariants.{Till, Dispenser};
-ghost use Rattle.site_base.specs.declared.refusal.Refusal.TheVariants.{NotSignedOn};
-ghost use Rattle.site_base.specs.Checks.{unless};
+ghost use Rattle.site_base.specs.declared.refusal.Refusal.TheVariants.{NotSignedOn, NotYourPoint};
+ghost use Rattle.site_base.specs.Checks.{unless, ◌or_else◌};
 ghost use Rattle.site_base.specs.Events.{reported_by};
 ghost use Rattle.written_site.specs.SiteState.{is_signed_on};
 ghost use Rattle.written_site.specs.SiteChecks.{asks_free_point, free_for, is_preset, managed, may_ask};
@@ -26,9 +26,7 @@ impl SiteParts {
         ensures there { OnOk result (numbers (site_of self.now) event.now ≡ None) }
         ensures free { OnOk result (not_held (site_of self.now) (Till t) event.now ≡ None) }
     {
-        if !self.signed_on.contains(t) {
-            return Err(Refusal::NotSignedOn);
-        }
+        self.signs(t)?;
         self.names(event)?;
         if event.reported_by().is_some() {
             return Err(Refusal::NotYourPoint);
@@ -59,26 +57,43 @@ impl SiteParts {
         ensures { may_ask (site_of self.now) (Dispenser d) event.now ≡ Some result }
     {
         let _ = d;
-        match self.names(event) {
-            Err(refusal) => refusal,
-            Ok(()) => Refusal::NotYourPoint,
-        }
+        self.not_yours(event)
     }
 
-    /// Why a till is refused what dispensers report: that it isn't signed on and the numbers are looked
-    /// at first.
+    /// Why a till is refused what dispensers report: that it is signed on and the numbers are looked at
+    /// first.
     pub(crate) fn not_a_tills(&self, t: TillNo, event: &Event) -> Refusal
         requires reported { is_none (reported_by event.now) ≡ false }
         requires signs { signing (site_of self.now) (Till t) event.now
             ≡ unless (is_signed_on (site_of self.now) t) NotSignedOn }
         ensures { may_ask (site_of self.now) (Till t) event.now ≡ Some result }
     {
-        if !self.signed_on.contains(t) {
-            return Refusal::NotSignedOn;
+        match self.signs(t) {
+            Err(unsigned) => unsigned,
+            Ok(()) => self.not_yours(event),
         }
+    }
+
+    /// What the event names isn't there, or else it isn't the actor's.
+    fn not_yours(&self, event: &Event) -> Refusal
+        ensures { numbers (site_of self.now) event.now or_else Some NotYourPoint ≡ Some result }
+    {
         match self.names(event) {
             Err(refusal) => refusal,
             Ok(()) => Refusal::NotYourPoint,
+        }
+    }
+
+    /// The till is signed on.
+    fn signs(&self, t: TillNo) -> Result<(), Refusal>
+        ensures { MatchResult result
+            (λ _. is_signed_on (site_of self.now) t ≡ true)
+            (λ r. (is_signed_on (site_of self.now) t ≡ false) × (r ≡ NotSignedOn)) }
+    {
+        if self.signed_on.contains(t) {
+            Ok(())
+        } else {
+            Err(Refusal::NotSignedOn)
         }
     }
 

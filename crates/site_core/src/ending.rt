@@ -1,13 +1,11 @@
 //! The end of a fuelling: its sale, or the draw of a test.
 
-ghost use Rattle.std.specs.Prelude.{◌≡◌, ◌<◌, Some, true, is_some};
-ghost use Rattle.fuelling_point.specs.declared.step.PointStep.TheVariants.{Sold};
-ghost use Rattle.site_base.specs.Table.{row_of};
+ghost use Rattle.std.specs.Prelude.{◌≡◌, ℕ, ◌<◌, Some, true, is_some};
 ghost use Rattle.transaction_buffer.specs.Rooms.{room_at};
-ghost use Rattle.transaction_buffer.specs.Sales.{next_number, new_sale, is_new, with_new};
+ghost use Rattle.transaction_buffer.specs.Sales.{new_sale, is_new};
 ghost use Rattle.written_site.specs.SiteState.{open_shift};
 ghost use Rattle.written_site.specs.SiteStep.{ends_release, first_locker, step_told};
-ghost use Rattle.site_core.specs.Endings.{draws_with, MayEnd, sale_told, sales_with, product_by, HasPlace};
+ghost use Rattle.site_core.specs.Endings.{draws_with, MayEnd, sale_told, sales_with};
 ghost use Rattle.site_core.specs.SiteParts.{site_of};
 ghost use Rattle.meters.specs.Nozzles.{product_of};
 

@@ -10,7 +10,7 @@ ghost use Rattle.site_core.specs.SiteParts.{site_of};
 
 use crate::site_parts::SiteParts;
 use site_base::{
-    Answer, Event, FpNo, Mills, NozzleNo, PointView, ProductNo, ProductView, Refusal, Reply, SaleId,
+    Answer, Event, FpNo, Mills, NozzleNo, PointView, ProductNo, ProductView, Reply, SaleId,
     ShiftNo, Status, TillNo, TransactionView,
 };
 
@@ -21,7 +21,7 @@ impl SiteParts {
         self.may_ask(t, &Event::ReadPoint(p))?;
         match self.point_shown(p) {
             Some(view) => Ok(Answer::PointIs(view)),
-            None => Err(Refusal::NoSuchPoint),
+            None => unreachable!(),
         }
     }
 
@@ -32,7 +32,7 @@ impl SiteParts {
         self.may_ask(t, &Event::ReadTransaction(p, id))?;
         match self.sale_shown(p, &id) {
             Some(view) => Ok(Answer::TransactionIs(view)),
-            None => Err(Refusal::NoSuchTransaction),
+            None => unreachable!(),
         }
     }
 
@@ -43,7 +43,7 @@ impl SiteParts {
         self.may_ask(t, &Event::ReadProduct(q))?;
         match self.prices.get(q) {
             Some(price) => Ok(Answer::ProductIs(self.product_view(q, price))),
-            None => Err(Refusal::NoSuchProduct),
+            None => unreachable!(),
         }
     }
 

@@ -53,6 +53,9 @@ running s q = running_by (product_alone q) s.nozzles s.points
 abbrev pub drawn_of : ℕ → List (List ℕ) → ℕ
 drawn_of q drawn = drawn_by (product_alone q) drawn
 
+abbrev pub adjusted : SiteState → ℕ → ℕ
+adjusted s q = drawn_of q s.drawn
+
 -- a product at this price as a read shows it
 abbrev pub product_view : SiteState → ℕ → ℕ → ProductView
 product_view s q price = record {
@@ -62,5 +65,5 @@ product_view s q price = record {
   payable = volume_by q Payable s.sales;
   locked = volume_by q Locked s.sales;
   cleared = volume_by q Cleared s.sales;
-  adjusted = drawn_of q s.drawn;
+  adjusted = adjusted s q;
 }
