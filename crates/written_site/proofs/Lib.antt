@@ -7,10 +7,10 @@ pub mod Worked
 pub mod WorkedHolds
 pub mod SoundTables
 pub mod SoundMachine
-pub mod SoundPoints
 pub mod SoundMeters
 pub mod SoundReports
 pub mod SoundHolds
 pub mod SoundSales
 pub mod SoundDraws
 pub mod SoundSold
+pub mod SoundPoints

@@ -1,22 +1,24 @@
 -- The meter of the nozzle that is out, and the point that its reports are of.
-use Rattle.std.proofs.Common.{◌≡◌, ℕ, ◌+◌, ◌-◌, ◌≤◌, ◌==◌, Bool, true, false, List, Option, Some, None, is_some, unwrap_or, refl, sym, ap, subst, ◌∙◌, arith}
+use Rattle.std.proofs.Common.{◌≡◌, ℕ, ◌+◌, ◌-◌, ◌≤◌, ◌<◌, ◌==◌, Bool, true, false, List, Option, Some, None, is_some, unwrap_or, refl, sym, ap, subst, ◌∙◌, arith}
 use Rattle.std.proofs.lemmas.Bool.{false≢true}
 use Rattle.std.proofs.lemmas.Bool.Decides.{nat_tests}
 use Rattle.std.proofs.lemmas.Grind.{common_steps}
 use Rattle.site_base.specs.declared.event.Event.{Event}
 use Rattle.site_base.specs.declared.event.Event.TheVariants.{SignOn, SignOff, ReplaceMeter, ReadPoint, ReadTransaction, ReadProduct, Flow, HangUp}
-use Rattle.site_base.specs.declared.limits.TheConstants.{GREATEST_READING}
+use Rattle.site_base.specs.declared.limits.TheConstants.{GREATEST_READING, REPLACEMENT_LIMIT}
 use Rattle.fuelling_point.specs.declared.event.PointEvent.{PointEvent}
 use Rattle.fuelling_point.specs.declared.event.PointEvent.TheVariants as points
 use Rattle.fuelling_point.specs.Kept.{Facts, growth_of, is_under_way, FitsGrowth}
 use Rattle.fuelling_point.specs.PointChecks.{refusal_of}
 use Rattle.fuelling_point.specs.Whole.{IsWhole}
-use Rattle.meters.specs.Nozzles.{Nozzle, reading_of, has_nozzle, with_last, read_at, replaced_at}
+use Rattle.meters.specs.Nozzles.{Nozzle, reading_of, has_nozzle, times_replaced, with_nozzle, with_last, read_at, replaced_at, AreNozzles, EachMetered}
 use Rattle.meters.specs.Reports.{report_refusal}
 use Rattle.meters.specs.declared.report.Report.TheVariants.{Still, Growing}
+use Rattle.meters.proofs.Bounded.{reads, replaces}
+use Rattle.meters.proofs.Looked.{length-with_nozzle, read_there}
 use Rattle.meters.proofs.Weighed.{accepted_above}
 use Rattle.written_site.specs.SiteState.{SiteState, facts_of}
-use Rattle.written_site.specs.SiteChecks.{own_event, at_point, numbers, flowed, put_back_at}
+use Rattle.written_site.specs.SiteChecks.{own_event, at_point, numbers, metering, flowed, put_back_at}
 use Rattle.written_site.specs.SiteStep.{nozzles_after}
 use Rattle.written_site.specs.SoundSteps.{IsTaken, growth_at, growth_by}
 use Rattle.written_site.specs.Volumes.{nozzle_out}
@@ -146,3 +148,35 @@ pub reading_own : (s : SiteState) (e : Event) (q : ℕ) (event : PointEvent) →
     ≡ reading_of q (nozzle_out (facts_of s q)) s.nozzles + growth_of event
 reading_own s e q event taken own =
     subst (ReadsOwn s (nozzles_after s e)) own (reads_own s e taken)
+
+-- ---- the nozzles after an event are such as a site has
+
+few_replaced : (s : SiteState) (p n reading : ℕ) → metering s (ReplaceMeter p n reading) ≡ None
+    → times_replaced p n s.nozzles < REPLACEMENT_LIMIT
+few_replaced s p n reading reads = grind (arith, common_steps, nat_tests)
+
+changed_nozzles : (p n : ℕ) (change : Nozzle → Nozzle) (xs : List Nozzle) → AreNozzles xs
+    → EachMetered (with_nozzle p n change xs) → AreNozzles (with_nozzle p n change xs)
+changed_nozzles p n change xs are each =
+    record { few = omega (arith, length-with_nozzle p n change xs, are.few); each = each }
+
+read_nozzles : (p n reading : ℕ) (xs : List Nozzle) → AreNozzles xs → has_nozzle p n xs ≡ true
+    → reading_of p n xs ≤ reading → reading ≤ GREATEST_READING
+    → AreNozzles (with_last p n reading xs)
+read_nozzles p n reading xs are there above high =
+    changed_nozzles p n (read_at reading) xs are
+    (reads xs p n reading (reading_of p n xs) are.each (read_there p n xs there) above high)
+
+pub nozzles_stay : (s : SiteState) (e : Event) → IsTaken s e → AreNozzles s.nozzles
+    → AreNozzles (nozzles_after s e)
+nozzles_stay s (Flow p n reading) taken are =
+    read_nozzles p n reading s.nozzles are (flow_nozzle s p n reading taken.names)
+    (accepted_above Growing (reading_of p n s.nozzles) reading taken.reads) taken.range
+nozzles_stay s (HangUp p n reading) taken are =
+    read_nozzles p n reading s.nozzles are (hung_up_nozzle s p n reading taken.names)
+    (accepted_above (put_back_at (facts_of s p).state) (reading_of p n s.nozzles) reading taken.reads)
+    taken.range
+nozzles_stay s (ReplaceMeter p n reading) taken are =
+    changed_nozzles p n (replaced_at reading) s.nozzles are
+    (replaces s.nozzles p n reading are.each (few_replaced s p n reading taken.reads) taken.range)
+nozzles_stay s e taken are = are
