@@ -1,3 +1,4 @@
+pub mod Reports
 pub mod TillSets
 pub mod SignOffs
 pub mod RunSteps

@@ -6,7 +6,7 @@ ghost use Rattle.written_site.specs.SiteStep.{Steps};
 ghost use Rattle.site_core.specs.SiteParts.{site_of};
 ghost use Rattle.site_core.specs.Commands.{IsCommand};
 
-use crate::ending::ends_release;
+use crate::ending::give_back;
 use crate::site_parts::SiteParts;
 use crate::telling::told;
 use fuelling_point::PointEvent;
@@ -31,9 +31,7 @@ impl SiteParts {
     {
         self.may_ask(t, &Event::Terminate(p))?;
         let step = &self.points.on(p, PointEvent::Terminate)?;
-        if ends_release(step) {
-            self.claims.free(p);
-        }
+        give_back(&mut self.claims, p, step);
         Ok(told(step))
     }
 }

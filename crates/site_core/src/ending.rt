@@ -4,7 +4,7 @@ ghost use Rattle.std.specs.Prelude.{◌≡◌, ℕ, ◌<◌, Some, true, is_some
 ghost use Rattle.transaction_buffer.specs.Rooms.{room_at};
 ghost use Rattle.transaction_buffer.specs.Sales.{new_sale, is_new};
 ghost use Rattle.written_site.specs.SiteState.{open_shift};
-ghost use Rattle.written_site.specs.SiteStep.{ends_release, first_locker, step_told};
+ghost use Rattle.written_site.specs.SiteStep.{first_locker, holds_unless_over, step_told};
 ghost use Rattle.site_core.specs.Endings.{draws_with, MayEnd, sale_told, sales_with};
 ghost use Rattle.site_core.specs.SiteParts.{site_of};
 ghost use Rattle.meters.specs.Nozzles.{product_of};
@@ -16,6 +16,7 @@ use site_base::{
     Answer, FpNo, Millilitres, Mills, NozzleNo, ProductNo, Seq, Status, TillNo, TransactionView,
     amount_of,
 };
+use till_claims::Claims;
 
 impl SiteParts {
     /// Tells a step of the point, which took this growth. Where it ends a fuelling, its sale or its draw
@@ -109,12 +110,18 @@ impl SiteParts {
     }
 }
 
-/// Does the step end what its point was released for?
-pub fn ends_release(step: &PointStep) -> bool
-    ensures { result ≡ ends_release step.now }
+/// Gives back the hold of the point, where this step of it ends what it was released for.
+pub fn give_back(claims: &mut Claims, p: FpNo, step: &PointStep)
+    ensures { claims.new ≡ holds_unless_over p step.now claims.old }
 {
-    matches!(
+    let over = matches!(
         step,
-        PointStep::Stopped | PointStep::NoSale | PointStep::Sold { .. } | PointStep::Drawn { .. }
-    )
+        PointStep::Stopped
+            | PointStep::NoSale
+            | PointStep::Sold { .. }
+            | PointStep::Drawn { .. }
+    );
+    if over {
+        claims.free(p);
+    }
 }

@@ -10,7 +10,7 @@ ghost use Rattle.site_base.specs.declared.actor.Actor.TheVariants.{Dispenser};
 ghost use Rattle.written_site.specs.SiteStep.{Steps};
 ghost use Rattle.site_core.specs.SiteParts.{site_of};
 
-use crate::ending::ends_release;
+use crate::ending::give_back;
 use crate::site_parts::SiteParts;
 use crate::telling::told;
 use fuelling_point::PointEvent;
@@ -91,9 +91,7 @@ impl SiteParts {
         let step = &self.points.on(p, own)?;
         self.meters.advance(p, n, reading);
         let answer = self.end(p, growth, step);
-        if ends_release(step) {
-            self.claims.free(p);
-        }
+        give_back(&mut self.claims, p, step);
         Ok(answer)
     }
 
