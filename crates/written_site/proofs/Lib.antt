@@ -14,3 +14,4 @@ pub mod SoundSales
 pub mod SoundDraws
 pub mod SoundSold
 pub mod SoundPoints
+pub mod SoundRunning
