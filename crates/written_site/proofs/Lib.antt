@@ -15,3 +15,5 @@ pub mod SoundDraws
 pub mod SoundSold
 pub mod SoundPoints
 pub mod SoundRunning
+pub mod SoundDrawn
+pub mod SoundVolumes

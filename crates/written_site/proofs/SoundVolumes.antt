@@ -1,0 +1,159 @@
+-- How an event moves the volumes of a sound site.
+use Rattle.std.proofs.Common.{◌≡◌, ℕ, ◌+◌, ◌-◌, ◌*◌, ◌≤◌, ◌<◌, Bool, true, false, cond, List, length, Option, option_map, Some, None, is_some, unwrap_or, refl, sym, ap, subst, ◌∙◌, ◌⊎◌, inl, inr, arith}
+use Rattle.std.proofs.Math.Nat.{mul-zero, mul-add}
+use Rattle.std.proofs.lemmas.Bool.Decides.{nat_tests}
+use Rattle.std.proofs.lemmas.Grind.{common_steps}
+use Rattle.site_base.specs.declared.actor.Actor.{Actor}
+use Rattle.site_base.specs.declared.actor.Actor.TheVariants.{Till}
+use Rattle.site_base.specs.declared.event.Event.{Event}
+use Rattle.site_base.specs.declared.event.Event.TheVariants.{SignOff, ReplaceMeter, Offline, Flow, HangUp}
+use Rattle.site_base.specs.declared.state.PointState.TheVariants as states
+use Rattle.std.specs.Prelude.{nat_eq}
+use Rattle.site_base.specs.Configured.{none_alike}
+use Rattle.site_base.specs.Table.{row_of, with_row}
+use Rattle.fuelling_point.specs.declared.event.PointEvent.{PointEvent}
+use Rattle.fuelling_point.specs.declared.event.PointEvent.TheVariants as points
+use Rattle.fuelling_point.specs.declared.step.PointStep.{PointStep}
+use Rattle.fuelling_point.specs.declared.step.PointStep.TheVariants.{Sold, Drawn}
+use Rattle.fuelling_point.specs.Kept.{Facts, is_under_way, volume_of, growth_of}
+use Rattle.fuelling_point.specs.Laws.{sold_in, drawn_in}
+use Rattle.fuelling_point.specs.Step.{step_of, after}
+use Rattle.fuelling_point.proofs.Whole.{conserved}
+use Rattle.meters.specs.Metered.{metered_by}
+use Rattle.meters.specs.Nozzles.{Nozzle, AreNozzles, nozzle_of, product_of, reading_of, has_nozzle, with_last}
+use Rattle.meters.proofs.Looked.{there, reading_is}
+use Rattle.meters.proofs.Weighed.{read_raises, meter_keeps, accepted_above}
+use Rattle.meters.specs.declared.report.Report.TheVariants.{Growing}
+use Rattle.written_site.specs.SiteState.{SiteState, facts_in, facts_of}
+use Rattle.written_site.specs.SiteChecks.{own_event, metering, flowed, put_back_at}
+use Rattle.written_site.specs.SiteStep.{nozzles_after, points_after, step_at, step_by, with_event}
+use Rattle.written_site.specs.Sound.{Sound, numbers_of}
+use Rattle.written_site.specs.SoundSteps.{IsTaken, growth_at, growth_by, product_at, product_by, sold_at, drawn_at}
+use Rattle.written_site.specs.Volumes.{nozzle_out, product_out, running_at, running_by, sold_by, drawn_by}
+use Rattle.written_site.proofs.SoundTables.{numbers_kept}
+use Rattle.written_site.proofs.SoundMachine.{same_nozzle}
+use Rattle.written_site.proofs.SoundPoints.{run_is_volume, run_after}
+use Rattle.written_site.proofs.SoundMeters.{product_after}
+use Rattle.written_site.proofs.SoundReports.{flow_nozzle, hung_up_nozzle, flow_is_out, hung_up_is_out}
+use Rattle.written_site.proofs.SoundRunning.{flowed_by, running_is, flowed_products, flowed_with}
+use Rattle.written_site.proofs.SoundSold.{OwnPoint, own_point}
+
+-- ---- metered
+
+weighs_none : (weight volume : ℕ) → volume ≡ volume + weight * 0
+weighs_none weight volume = omega (arith, mul-zero weight)
+
+-- a reading above the last one, of the nozzle that is out
+metered_more : (w : ℕ → ℕ) (s : SiteState) (p n reading : ℕ) (f : Facts) → AreNozzles s.nozzles
+    → has_nozzle p n s.nozzles ≡ true → nozzle_out f ≡ n → reading_of p n s.nozzles ≤ reading
+    → metered_by w (with_last p n reading s.nozzles)
+    ≡ metered_by w s.nozzles + w (product_out s.nozzles p f) * flowed s p n reading
+metered_more w s p n reading f are has out above =
+    let x = there (nozzle_of p n s.nozzles) has in
+    let last : reading_of p n s.nozzles ≡ x.nozzle.last = reading_is p n s.nozzles x.nozzle x.is in
+    let product : product_out s.nozzles p f ≡ x.nozzle.product =
+    ap (λ (m : ℕ). unwrap_or (product_of p m s.nozzles) 0) out
+    ∙ ap (λ (o : Option Nozzle). unwrap_or (option_map (λ y. y.product) o) 0) x.is in
+    read_raises w p n reading x.nozzle s.nozzles are.each x.is (omega arith)
+    ∙ ap (λ (q : ℕ). metered_by w s.nozzles + w q * (reading - x.nozzle.last)) (sym product)
+    ∙ ap (λ (v : ℕ). metered_by w s.nozzles + w (product_out s.nozzles p f) * (reading - v)) (sym last)
+
+pub metered_moves : (w : ℕ → ℕ) (s : SiteState) (e : Event) → Sound s → IsTaken s e
+    → metered_by w (nozzles_after s e)
+    ≡ metered_by w s.nozzles + w (product_at s e) * growth_at s e
+metered_moves w s (Flow p n reading) sound taken =
+    let own = own_point s (Flow p n reading) p (points.Flow n (flowed s p n reading)) sound taken refl in
+    metered_more w s p n reading (facts_of s p) sound.meters (flow_nozzle s p n reading taken.names)
+    (flow_is_out n (flowed s p n reading) (facts_of s p) own.sound.whole own.taken)
+    (accepted_above Growing (reading_of p n s.nozzles) reading taken.reads)
+metered_moves w s (HangUp p n reading) sound taken =
+    let own = own_point s (HangUp p n reading) p (points.HangUp n (flowed s p n reading)) sound taken refl in
+    metered_more w s p n reading (facts_of s p) sound.meters (hung_up_nozzle s p n reading taken.names)
+    (hung_up_is_out n (flowed s p n reading) (facts_of s p) own.sound.whole own.taken)
+    (accepted_above (put_back_at (facts_of s p).state) (reading_of p n s.nozzles) reading taken.reads)
+metered_moves w s (ReplaceMeter p n reading) sound taken =
+    meter_keeps w p n reading s.nozzles
+    ∙ weighs_none (w (product_at s (ReplaceMeter p n reading))) (metered_by w s.nozzles)
+metered_moves w s e sound taken = weighs_none (w (product_at s e)) (metered_by w s.nozzles)
+
+-- ---- running
+
+-- where the point only calls, nothing flows
+calling_still : (s : SiteState) (e : Event) (p : ℕ) (event : PointEvent) → IsTaken s e
+    → own_event s e ≡ Some (p, event) → (facts_of s p).state ≡ states.Calling → growth_of event ≡ 0
+calling_still s e p event taken own calling =
+    let takes = taken.takes in
+    let reads = taken.reads in
+    grind (arith, common_steps, nat_tests)
+
+weighed : (weight v growth v' sold drawn : ℕ) → v + growth ≡ v' + sold + drawn
+    → weight * v + weight * growth ≡ weight * v' + weight * (sold + drawn)
+weighed weight v growth v' sold drawn is =
+    let all : weight * (v + growth) ≡ weight * (v' + sold + drawn) =
+    ap (λ (n : ℕ). weight * n) is in
+    omega (arith, all)
+
+-- a volume after the event weighs what it would by the nozzle that was out
+same_weight : (w : ℕ → ℕ) (nozzles : List Nozzle) (p : ℕ) (old new : Facts)
+    → (volume_of new ≡ 0) ⊎ (new.out ≡ old.out)
+    → w (product_out nozzles p new) * volume_of new ≡ w (product_out nozzles p old) * volume_of new
+same_weight w nozzles p old new (inl none) =
+    ap (λ (v : ℕ). w (product_out nozzles p new) * v) none
+    ∙ mul-zero (w (product_out nozzles p new)) ∙ sym (mul-zero (w (product_out nozzles p old)))
+    ∙ ap (λ (v : ℕ). w (product_out nozzles p old) * v) (sym none)
+same_weight w nozzles p old new (inr out) =
+    ap (λ (o : Option ℕ). w (unwrap_or (product_of p (unwrap_or o 0) nozzles) 0) * volume_of new) out
+
+joined : (moved was all new kept over growth : ℕ) → moved + was ≡ all + new → new ≡ kept
+    → was + growth ≡ kept + over → moved + over ≡ all + growth
+joined moved was all new kept over growth with_row same_ones is = omega arith
+
+-- the points' volumes, once the event's own point has moved
+flowed_moves : (w : ℕ → ℕ) (s : SiteState) (e : Event) (own : Option (ℕ × PointEvent)) → Sound s
+    → IsTaken s e → own_event s e ≡ own
+    → flowed_by w s.nozzles (with_event s.points own)
+    + w (product_by s own) * (sold_in (step_by s own) + drawn_in (step_by s own))
+    ≡ flowed_by w s.nozzles s.points + w (product_by s own) * growth_by own
+flowed_moves w s e None sound taken is = refl
+flowed_moves w s e (Some x) sound taken is =
+    let f : Facts = facts_of s x.0 in
+    let own = own_point s e x.0 x.1 sound taken is in
+    let weight : ℕ = w (product_out s.nozzles x.0 f) in
+    joined (flowed_by w s.nozzles (with_row x.0 (after x.1 f) s.points)) (weight * volume_of f)
+    (flowed_by w s.nozzles s.points) (w (product_out s.nozzles x.0 (after x.1 f)) * volume_of (after x.1 f))
+    (weight * volume_of (after x.1 f)) (weight * (sold_in (step_of x.1 f) + drawn_in (step_of x.1 f)))
+    (weight * growth_of x.1)
+    (flowed_with w s.nozzles x.0 f (after x.1 f) s.points own.there)
+    (same_weight w s.nozzles x.0 f (after x.1 f) (same_nozzle x.1 f own.taken))
+    (weighed weight (volume_of f) (growth_of x.1) (volume_of (after x.1 f)) (sold_in (step_of x.1 f))
+    (drawn_in (step_of x.1 f))
+    (conserved x.1 f own.sound.whole own.taken (calling_still s e x.0 x.1 taken is)))
+
+-- the numbers stay
+numbers_stay : (points : List (ℕ × Facts)) (own : Option (ℕ × PointEvent))
+    → numbers_of (with_event points own) ≡ numbers_of points
+numbers_stay points None = refl
+numbers_stay points (Some x) = numbers_kept x.0 (after x.1 (facts_in points x.0)) points
+
+pub alone_after : (s : SiteState) (e : Event) → none_alike nat_eq (numbers_of s.points) ≡ true
+    → none_alike nat_eq (numbers_of (points_after s e)) ≡ true
+alone_after s e alone =
+    ap (none_alike nat_eq) (numbers_stay s.points (own_event s e)) ∙ alone
+
+pub running_flowed : (w : ℕ → ℕ) (s : SiteState) → Sound s
+    → running_by w s.nozzles s.points ≡ flowed_by w s.nozzles s.points
+running_flowed w s sound = running_is w s.nozzles s.points sound.numbers (λ p f is.
+    run_is_volume s.nozzles p f (sound.points p f is).flowed)
+
+pub running_moves : (w : ℕ → ℕ) (s : SiteState) (e : Event) → Sound s → IsTaken s e
+    → running_by w (nozzles_after s e) (points_after s e)
+    + w (product_at s e) * (sold_at s e + drawn_at s e)
+    ≡ running_by w s.nozzles s.points + w (product_at s e) * growth_at s e
+running_moves w s e sound taken =
+    let over : ℕ = w (product_at s e) * (sold_at s e + drawn_at s e) in
+    let after_is = running_is w (nozzles_after s e) (points_after s e) (alone_after s e sound.numbers)
+    (run_after s e sound taken) in
+    ap (λ (v : ℕ). v + over)
+    (after_is ∙ flowed_products w s.nozzles (nozzles_after s e) (product_after s e) (points_after s e))
+    ∙ flowed_moves w s e (own_event s e) sound taken refl
+    ∙ ap (λ (v : ℕ). v + w (product_at s e) * growth_at s e) (sym (running_flowed w s sound))
