@@ -93,7 +93,7 @@ reading_at s q None there = cc
 reading_at s q (Some n) there = refl
 
 -- a fuelling that goes on has a nozzle out
-out_under_way : (state : PointState) → is_under_way state ≡ true → has_nozzle_out state ≡ true
+pub out_under_way : (state : PointState) → is_under_way state ≡ true → has_nozzle_out state ≡ true
 out_under_way state is = grind (arith, common_steps)
 
 -- no meter moves where a fuelling starts

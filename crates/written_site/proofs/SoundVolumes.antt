@@ -1,6 +1,7 @@
 -- How an event moves the volumes of a sound site.
 use Rattle.std.proofs.Common.{◌≡◌, ℕ, ◌+◌, ◌-◌, ◌*◌, ◌≤◌, ◌<◌, Bool, true, false, cond, List, length, Option, option_map, Some, None, is_some, unwrap_or, refl, sym, ap, subst, ◌∙◌, ◌⊎◌, inl, inr, arith}
 use Rattle.std.proofs.Math.Nat.{mul-zero, mul-add}
+use Rattle.std.proofs.lemmas.Bool.{false≢true}
 use Rattle.std.proofs.lemmas.Bool.Decides.{nat_tests}
 use Rattle.std.proofs.lemmas.Grind.{common_steps}
 use Rattle.site_base.specs.declared.actor.Actor.{Actor}
@@ -16,7 +17,7 @@ use Rattle.fuelling_point.specs.declared.event.PointEvent.TheVariants as points
 use Rattle.fuelling_point.specs.declared.step.PointStep.{PointStep}
 use Rattle.fuelling_point.specs.declared.step.PointStep.TheVariants.{Sold, Drawn}
 use Rattle.fuelling_point.specs.Kept.{Facts, is_under_way, volume_of, growth_of}
-use Rattle.fuelling_point.specs.Laws.{sold_in, drawn_in}
+use Rattle.fuelling_point.specs.Laws.{sold_in, drawn_in, is_end}
 use Rattle.fuelling_point.specs.Step.{step_of, after}
 use Rattle.fuelling_point.proofs.Whole.{conserved}
 use Rattle.meters.specs.Metered.{metered_by}
@@ -24,19 +25,24 @@ use Rattle.meters.specs.Nozzles.{Nozzle, AreNozzles, nozzle_of, product_of, read
 use Rattle.meters.proofs.Looked.{there, reading_is}
 use Rattle.meters.proofs.Weighed.{read_raises, meter_keeps, accepted_above}
 use Rattle.meters.specs.declared.report.Report.TheVariants.{Growing}
+use Rattle.transaction_buffer.specs.declared.standing.Standing.TheVariants.{Payable}
+use Rattle.transaction_buffer.specs.Sales.{Sale, Sales}
+use Rattle.transaction_buffer.specs.TransactionTable.{after_sign_off, let_go, is_locked_by}
+use Rattle.transaction_buffer.proofs.Summing.{sold_sum, changed_sum, alike_sum}
 use Rattle.written_site.specs.SiteState.{SiteState, facts_in, facts_of}
 use Rattle.written_site.specs.SiteChecks.{own_event, metering, flowed, put_back_at}
-use Rattle.written_site.specs.SiteStep.{nozzles_after, points_after, step_at, step_by, with_event}
-use Rattle.written_site.specs.Sound.{Sound, numbers_of}
-use Rattle.written_site.specs.SoundSteps.{IsTaken, growth_at, growth_by, product_at, product_by, sold_at, drawn_at}
+use Rattle.written_site.specs.SiteStep.{nozzles_after, points_after, sales_after, sales_by, sale_made, drawn_after, draws_by, step_at, step_by, with_event}
+use Rattle.written_site.specs.Sound.{IsPointSound, IsSupplied, Sound, numbers_of}
+use Rattle.written_site.specs.SoundSteps.{IsTaken, MovesVolumes, growth_at, growth_by, product_at, product_by, sold_at, drawn_at}
 use Rattle.written_site.specs.Volumes.{nozzle_out, product_out, running_at, running_by, sold_by, drawn_by}
 use Rattle.written_site.proofs.SoundTables.{numbers_kept}
-use Rattle.written_site.proofs.SoundMachine.{same_nozzle}
-use Rattle.written_site.proofs.SoundPoints.{run_is_volume, run_after}
+use Rattle.written_site.proofs.SoundMachine.{same_nozzle, sold_from, drawn_from, nothing_sold, nothing_drawn}
+use Rattle.written_site.proofs.SoundPoints.{out_under_way, run_is_volume, run_after}
 use Rattle.written_site.proofs.SoundMeters.{product_after}
 use Rattle.written_site.proofs.SoundReports.{flow_nozzle, hung_up_nozzle, flow_is_out, hung_up_is_out}
 use Rattle.written_site.proofs.SoundRunning.{flowed_by, running_is, flowed_products, flowed_with}
-use Rattle.written_site.proofs.SoundSold.{OwnPoint, own_point}
+use Rattle.written_site.proofs.SoundSold.{own_point, run_own}
+use Rattle.written_site.proofs.SoundDrawn.{drawn_more}
 
 -- ---- metered
 
@@ -157,3 +163,172 @@ running_moves w s e sound taken =
     (after_is ∙ flowed_products w s.nozzles (nozzles_after s e) (product_after s e) (points_after s e))
     ∙ flowed_moves w s e (own_event s e) sound taken refl
     ∙ ap (λ (v : ℕ). v + w (product_at s e) * growth_at s e) (sym (running_flowed w s sound))
+
+-- ---- sold
+
+-- what an event is to its point ends a fuelling
+abbrev ends_by : Option (ℕ × PointEvent) → Bool
+ends_by None = false
+ends_by (Some x) = is_end x.1
+
+none_sold : (s : SiteState) (own : Option (ℕ × PointEvent)) → ends_by own ≡ false
+    → sold_in (step_by s own) ≡ 0
+none_sold s None other = refl
+none_sold s (Some x) other = nothing_sold x.1 (facts_of s x.0) other
+
+none_drawn : (s : SiteState) (own : Option (ℕ × PointEvent)) → ends_by own ≡ false
+    → drawn_in (step_by s own) ≡ 0
+none_drawn s None other = refl
+none_drawn s (Some x) other = nothing_drawn x.1 (facts_of s x.0) other
+
+stays_so : (weight all volume : ℕ) → volume ≡ 0 → all ≡ all + weight * volume
+stays_so weight all volume none =
+    weighs_none weight all ∙ ap (λ (v : ℕ). all + weight * v) (sym none)
+
+abbrev weight_of : (ℕ → ℕ) → Sale → ℕ
+weight_of w x = w x.product * x.volume
+
+let_go_weighs : (w : ℕ → ℕ) (t : ℕ) (x : Sale) → weight_of w (let_go t x) ≡ weight_of w x
+let_go_weighs w t x = by_test (is_locked_by t x.standing)
+  where
+    by_test : (b : Bool)
+        → weight_of w (cond b (record x { standing = Payable }) x) ≡ weight_of w x
+    by_test true = refl
+    by_test false = refl
+
+sign_off_weighs : (w : ℕ → ℕ) (t : ℕ) (sales : Sales)
+    → sold_by w (after_sign_off t sales) ≡ sold_by w sales
+sign_off_weighs w t sales =
+    changed_sum (weight_of w) (let_go t) sales
+    ∙ alike_sum (λ x. weight_of w (let_go t x)) (weight_of w) (let_go_weighs w t) sales
+
+-- a nozzle that is out delivers what it did
+product_out_after : (s : SiteState) (e : Event) (p : ℕ) (f : Facts)
+    → product_out (nozzles_after s e) p f ≡ product_out s.nozzles p f
+product_out_after s e p f =
+    ap (λ (o : Option ℕ). unwrap_or o 0) (product_after s e p (nozzle_out f))
+
+-- the volume of a fuelling that is over
+over_is : (w : ℕ → ℕ) (s : SiteState) (e : Event) (p volume : ℕ) (f : Facts)
+    → running_at (nozzles_after s e) p f ≡ volume
+    → w (product_out (nozzles_after s e) p f) * running_at (nozzles_after s e) p f
+    ≡ w (product_out s.nozzles p f) * volume
+over_is w s e p volume f is =
+    ap (λ (q : ℕ). w q * running_at (nozzles_after s e) p f) (product_out_after s e p f)
+    ∙ ap (λ (v : ℕ). w (product_out s.nozzles p f) * v) is
+
+sold_by_step : (w : ℕ → ℕ) (s : SiteState) (e : Event) (p : ℕ) (event : PointEvent) → Sound s
+    → IsTaken s e → own_event s e ≡ Some (p, event) → (step : PointStep)
+    → step_of event (facts_of s p) ≡ step
+    → sold_by w (sales_by s (nozzles_after s e) p step)
+    ≡ sold_by w s.sales + w (product_out s.nozzles p (facts_of s p)) * sold_in step
+sold_by_step w s e p event sound taken own (Sold nozzle volume price prepaid) is =
+    let f : Facts = facts_of s p in
+    let at = own_point s e p event sound taken own in
+    let from = sold_from event f nozzle volume price prepaid at.sound.whole at.taken is in
+    let run : running_at (nozzles_after s e) p f ≡ volume =
+    run_own s e p event taken own at.sound from.was ∙ sym from.its_volume in
+    sold_sum (weight_of w) p (sale_made s (nozzles_after s e) p) s.sales
+    ∙ ap (λ (v : ℕ). sold_by w s.sales + v) (over_is w s e p volume f run)
+sold_by_step w s e p event sound taken own step is =
+    weighs_none (w (product_out s.nozzles p (facts_of s p))) (sold_by w s.sales)
+
+pub sold_moves : (w : ℕ → ℕ) (s : SiteState) (a : Actor) (e : Event) → Sound s → IsTaken s e
+    → sold_by w (sales_after s a e) ≡ sold_by w s.sales + w (product_at s e) * sold_at s e
+sold_moves w s (Till t) SignOff sound taken =
+    sign_off_weighs w t s.sales ∙ weighs_none (w 0) (sold_by w s.sales)
+sold_moves w s a (Offline p) sound taken =
+    sold_by_step w s (Offline p) p points.Offline sound taken refl (step_at s (Offline p)) refl
+sold_moves w s a (HangUp p n reading) sound taken =
+    sold_by_step w s (HangUp p n reading) p (points.HangUp n (flowed s p n reading)) sound taken refl
+    (step_at s (HangUp p n reading)) refl
+sold_moves w s a e sound taken =
+    stays_so (w (product_at s e)) (sold_by w s.sales) (sold_at s e)
+    (none_sold s (own_event s e) refl)
+
+-- ---- drawn
+
+-- the product of a nozzle that is there has a number that a product may have
+product_supplied : (s : SiteState) (p n : ℕ) → Sound s → has_nozzle p n s.nozzles ≡ true
+    → IsSupplied s (unwrap_or (product_of p n s.nozzles) 0)
+product_supplied s p n sound has =
+    let x = there (nozzle_of p n s.nozzles) has in
+    let product : product_of p n s.nozzles ≡ Some x.nozzle.product =
+    ap (λ (o : Option Nozzle). option_map (λ y. y.product) o) x.is in
+    subst (λ (o : Option ℕ). IsSupplied s (unwrap_or o 0)) (sym product)
+    (sound.products p n x.nozzle.product product)
+
+-- the nozzle of a fuelling under way is there
+pub nozzle_there : (s : SiteState) (p : ℕ) (f : Facts) → IsPointSound s p f
+    → is_under_way f.state ≡ true → has_nozzle p (nozzle_out f) s.nozzles ≡ true
+nozzle_there s p f point under_way = by_out f.out refl
+  where
+    some : is_some f.out ≡ true
+    some = point.whole.nozzle ∙ out_under_way f.state under_way
+
+    by_out : (o : Option ℕ) → f.out ≡ o → has_nozzle p (unwrap_or o 0) s.nozzles ≡ true
+    by_out None is = absurd (false≢true (ap is_some (sym is) ∙ some))
+    by_out (Some n) is = point.nozzle n is
+
+drawn_by_step : (w : ℕ → ℕ) (s : SiteState) (e : Event) (p : ℕ) (event : PointEvent) → Sound s
+    → IsTaken s e → own_event s e ≡ Some (p, event) → (step : PointStep)
+    → step_of event (facts_of s p) ≡ step
+    → drawn_by w (draws_by s (nozzles_after s e) p step)
+    ≡ drawn_by w s.drawn + w (product_out s.nozzles p (facts_of s p)) * drawn_in step
+drawn_by_step w s e p event sound taken own (Drawn nozzle volume) is =
+    let f : Facts = facts_of s p in
+    let at = own_point s e p event sound taken own in
+    let from = drawn_from event f nozzle volume at.sound.whole at.taken is in
+    let run : running_at (nozzles_after s e) p f ≡ volume =
+    run_own s e p event taken own at.sound from.was ∙ sym from.its_volume in
+    let supplied = product_supplied s p (nozzle_out f) sound (nozzle_there s p f at.sound from.was) in
+    let product : product_out (nozzles_after s e) p f ≡ product_out s.nozzles p f =
+    product_out_after s e p f in
+    drawn_more w (product_out (nozzles_after s e) p f) (running_at (nozzles_after s e) p f) s.drawn
+    sound.draws sound.shift.low (omega (arith, product, supplied.low)) (omega (arith, product, supplied.high))
+    ∙ ap (λ (v : ℕ). drawn_by w s.drawn + v) (over_is w s e p volume f run)
+drawn_by_step w s e p event sound taken own step is =
+    weighs_none (w (product_out s.nozzles p (facts_of s p))) (drawn_by w s.drawn)
+
+pub drawn_moves : (w : ℕ → ℕ) (s : SiteState) (e : Event) → Sound s → IsTaken s e
+    → drawn_by w (drawn_after s e) ≡ drawn_by w s.drawn + w (product_at s e) * drawn_at s e
+drawn_moves w s (Offline p) sound taken =
+    drawn_by_step w s (Offline p) p points.Offline sound taken refl (step_at s (Offline p)) refl
+drawn_moves w s (HangUp p n reading) sound taken =
+    drawn_by_step w s (HangUp p n reading) p (points.HangUp n (flowed s p n reading)) sound taken refl
+    (step_at s (HangUp p n reading)) refl
+drawn_moves w s e sound taken =
+    stays_so (w (product_at s e)) (drawn_by w s.drawn) (drawn_at s e)
+    (none_drawn s (own_event s e) refl)
+
+-- ---- all four
+
+pub moves_volumes : (w : ℕ → ℕ) (s : SiteState) (a : Actor) (e : Event) → Sound s → IsTaken s e
+    → MovesVolumes w s a e
+moves_volumes w s a e sound taken = record {
+  metered = metered_moves w s e sound taken;
+  running = running_moves w s e sound taken;
+  sold = sold_moves w s a e sound taken;
+  drawn = drawn_moves w s e sound taken;
+}
+
+balanced : (metered metered' running running' sold sold' drawn drawn' grown weight s d : ℕ)
+    → metered ≡ running + sold + drawn → metered' ≡ metered + grown
+    → running' + weight * (s + d) ≡ running + grown → sold' ≡ sold + weight * s
+    → drawn' ≡ drawn + weight * d → metered' ≡ running' + sold' + drawn'
+balanced metered metered' running running' sold sold' drawn drawn' grown weight s d was m r x y =
+    omega (arith, mul-add weight s d)
+
+-- what the meters have counted is in the fuellings under way, in sales and in draws
+pub conserved_after : (w : ℕ → ℕ) (s : SiteState) (a : Actor) (e : Event) → Sound s → IsTaken s e
+    → metered_by w (nozzles_after s e)
+    ≡ running_by w (nozzles_after s e) (points_after s e) + sold_by w (sales_after s a e)
+    + drawn_by w (drawn_after s e)
+conserved_after w s a e sound taken =
+    let moves = moves_volumes w s a e sound taken in
+    balanced (metered_by w s.nozzles) (metered_by w (nozzles_after s e))
+    (running_by w s.nozzles s.points) (running_by w (nozzles_after s e) (points_after s e))
+    (sold_by w s.sales) (sold_by w (sales_after s a e)) (drawn_by w s.drawn)
+    (drawn_by w (drawn_after s e)) (w (product_at s e) * growth_at s e) (w (product_at s e))
+    (sold_at s e) (drawn_at s e) (sound.conserved w) moves.metered moves.running moves.sold
+    moves.drawn
