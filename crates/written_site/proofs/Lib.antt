@@ -17,3 +17,4 @@ pub mod SoundPoints
 pub mod SoundRunning
 pub mod SoundDrawn
 pub mod SoundVolumes
+pub mod Sound
