@@ -14,3 +14,7 @@ pub mod SoundSales
 pub mod SoundDraws
 pub mod SoundSold
 pub mod SoundPoints
+pub mod SoundRunning
+pub mod SoundDrawn
+pub mod SoundVolumes
+pub mod Sound

@@ -128,3 +128,8 @@ nothing_sold event f other = grind (arith, common_steps)
 pub nothing_drawn : (event : PointEvent) (f : Facts) → is_end event ≡ false
     → drawn_in (step_of event f) ≡ 0
 nothing_drawn event f other = grind (arith, common_steps)
+
+-- a volume after the event is of the nozzle that was out
+pub same_nozzle : (event : PointEvent) (f : Facts) → refusal_of event f ≡ None
+    → (volume_of (after event f) ≡ 0) ⊎ ((after event f).out ≡ f.out)
+same_nozzle event f taken = grind (arith, common_steps)

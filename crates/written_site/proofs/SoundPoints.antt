@@ -1,5 +1,5 @@
 -- Each point stays sound.
-use Rattle.std.proofs.Common.{◌≡◌, ℕ, ◌+◌, ◌≤◌, ◌<◌, ◌==◌, Bool, true, false, cond, List, [], ◌∷◌, length, Option, option_and_then, Some, None, is_some, unwrap_or, ◌⊎◌, inl, inr, refl, sym, ap, subst, ◌∙◌, arith}
+use Rattle.std.proofs.Common.{◌≡◌, ℕ, ◌+◌, ◌-◌, ◌≤◌, ◌<◌, ◌==◌, Bool, true, false, cond, List, [], ◌∷◌, length, Option, option_and_then, Some, None, is_some, unwrap_or, ◌⊎◌, inl, inr, refl, sym, ap, subst, ◌∙◌, arith}
 use Rattle.std.proofs.lemmas.Bool.{and_parts}
 use Rattle.std.proofs.lemmas.Bool.Decides.{nat_tests}
 use Rattle.std.proofs.lemmas.Grind.{common_steps}
@@ -12,20 +12,20 @@ use Rattle.site_base.specs.Configured.{is_between}
 use Rattle.site_base.specs.Prices.{are_in_range}
 use Rattle.site_base.specs.Table.{row_of, with_row}
 use Rattle.fuelling_point.specs.declared.event.PointEvent.{PointEvent}
-use Rattle.fuelling_point.specs.Kept.{Facts, is_under_way, has_nozzle_out, growth_of}
+use Rattle.fuelling_point.specs.Kept.{Facts, is_under_way, has_nozzle_out, volume_of}
 use Rattle.fuelling_point.specs.Laws.{lifted_by}
 use Rattle.fuelling_point.specs.PointChecks.{refusal_of}
 use Rattle.fuelling_point.specs.Step.{step_of, after}
 use Rattle.fuelling_point.specs.Whole.{IsWhole, is_released}
 use Rattle.fuelling_point.proofs.Whole.{whole_accepted}
-use Rattle.meters.specs.Nozzles.{has_nozzle, product_of, reading_of}
+use Rattle.meters.specs.Nozzles.{Nozzle, has_nozzle, product_of, reading_of}
 use Rattle.transaction_buffer.specs.Sales.{made_at}
 use Rattle.written_site.specs.SiteState.{SiteState, facts_of, open_shift, price_at_start, reading_at_start}
 use Rattle.written_site.specs.SiteChecks.{Passed, own_event, numbers, sale_room, may_sell}
 use Rattle.written_site.specs.SiteStep.{accepted_site, nozzles_after, points_after, holds_after, sales_after, drawn_after}
 use Rattle.written_site.specs.Sound.{IsPointSound, IsPrice, MaySell, Sound}
 use Rattle.written_site.specs.SoundSteps.{IsTaken}
-use Rattle.written_site.specs.Volumes.{nozzle_out}
+use Rattle.written_site.specs.Volumes.{nozzle_out, running_at}
 use Rattle.written_site.proofs.SoundTables.{told_once, facts_there, RowAfter, kept, done, row_after}
 use Rattle.written_site.proofs.SoundMachine.{is_sale_release, out_after, sells_after, goes_on, starts}
 use Rattle.written_site.proofs.SoundMeters.{nozzle_after}
@@ -93,7 +93,7 @@ reading_at s q None there = cc
 reading_at s q (Some n) there = refl
 
 -- a fuelling that goes on has a nozzle out
-out_under_way : (state : PointState) → is_under_way state ≡ true → has_nozzle_out state ≡ true
+pub out_under_way : (state : PointState) → is_under_way state ≡ true → has_nozzle_out state ≡ true
 out_under_way state is = grind (arith, common_steps)
 
 -- no meter moves where a fuelling starts
@@ -269,3 +269,32 @@ point_after s a e sound passed taken q f is = by_row (row_after s.points (own_ev
         subst (IsPointSound (accepted_site s a e) q) facts
         (done_point s a e q event sound passed taken own (λ released.
         held (ap (λ (g : Facts). is_released g.state) (sym facts) ∙ released)))
+
+-- ---- the volume of a fuelling under way is what its meter has grown since its start
+
+pub run_is_volume : (nozzles : List Nozzle) (p : ℕ) (f : Facts)
+    → (is_under_way f.state ≡ true → f.start + f.volume ≡ reading_of p (nozzle_out f) nozzles)
+    → running_at nozzles p f ≡ volume_of f
+run_is_volume nozzles p f grown = by_test (is_under_way f.state) refl
+  where
+    by_test : (b : Bool) → is_under_way f.state ≡ b
+        → cond b (reading_of p (nozzle_out f) nozzles - f.start) 0 ≡ cond b f.volume 0
+    by_test true is = let since = grown is in omega arith
+    by_test false is = refl
+
+pub run_after : (s : SiteState) (e : Event) → Sound s → IsTaken s e → (q : ℕ) (f : Facts)
+    → row_of q (points_after s e) ≡ Some f → running_at (nozzles_after s e) q f ≡ volume_of f
+run_after s e sound taken q f is = by_row (row_after s.points (own_event s e) q f is)
+  where
+    by_row : RowAfter s.points (own_event s e) q f
+        → running_at (nozzles_after s e) q f ≡ volume_of f
+    by_row (kept row away) = run_is_volume (nozzles_after s e) q f (λ under_way.
+        (sound.points q f row).flowed under_way ∙ sym (reading_elsewhere s e q (nozzle_out f) away))
+    by_row (done event old own row made) =
+        let own_is = own_point s e q event sound taken own in
+        let whole = whole_accepted event (facts_of s q) own_is.sound.whole own_is.taken in
+        let facts : after event (facts_of s q) ≡ f =
+        ap (after event) (facts_there s.points q old row) ∙ sym made in
+        subst (λ (g : Facts). running_at (nozzles_after s e) q g ≡ volume_of g) facts
+        (run_is_volume (nozzles_after s e) q (after event (facts_of s q))
+        (flowed_own s e q event taken own own_is.sound whole))

@@ -32,12 +32,12 @@ pub own_growth : (s : SiteState) (e : Event) (q : ℕ) (event : PointEvent)
 own_growth s e q event own = ap growth_by own
 
 -- the nozzle that flows, or is put back, is the one that is out
-flow_is_out : (n growth : ℕ) (f : Facts) → IsWhole f → refusal_of (points.Flow n growth) f ≡ None
+pub flow_is_out : (n growth : ℕ) (f : Facts) → IsWhole f → refusal_of (points.Flow n growth) f ≡ None
     → nozzle_out f ≡ n
 flow_is_out n growth f w taken =
     let nozzle = w.nozzle in grind (arith, common_steps, nat_tests)
 
-hung_up_is_out : (n growth : ℕ) (f : Facts) → IsWhole f
+pub hung_up_is_out : (n growth : ℕ) (f : Facts) → IsWhole f
     → refusal_of (points.HangUp n growth) f ≡ None → nozzle_out f ≡ n
 hung_up_is_out n growth f w taken =
     let nozzle = w.nozzle in grind (arith, common_steps, nat_tests)

@@ -1,0 +1,59 @@
+-- Every event leaves a sound site sound.
+use Rattle.std.proofs.Common.{◌≡◌, ℕ, ◌<◌, length, Option, Some, None, refl, sym, subst, ◌∙◌, arith}
+use Rattle.site_base.specs.declared.actor.Actor.{Actor}
+use Rattle.site_base.specs.declared.event.Event.{Event}
+use Rattle.site_base.specs.declared.refusal.Refusal.{Refusal}
+use Rattle.meters.specs.Nozzles.{product_of}
+use Rattle.written_site.specs.SiteState.{SiteState, open_shift}
+use Rattle.written_site.specs.SiteChecks.{Passed, first_refusal}
+use Rattle.written_site.specs.SiteStep.{accepted_site, site_after, nozzles_after, drawn_after}
+use Rattle.written_site.specs.Sound.{InRange, IsShift, IsSupplied, Sound, StaysSound}
+use Rattle.written_site.specs.SoundSteps.{IsTaken}
+use Rattle.written_site.proofs.Passed.{passed}
+use Rattle.written_site.proofs.SoundDraws.{drawn_length, drawn_rows}
+use Rattle.written_site.proofs.SoundMeters.{product_after}
+use Rattle.written_site.proofs.SoundReports.{nozzles_stay}
+use Rattle.written_site.proofs.SoundSold.{unpaid_after, order_after, sale_after}
+use Rattle.written_site.proofs.SoundPoints.{point_after}
+use Rattle.written_site.proofs.SoundVolumes.{alone_after, conserved_after}
+
+-- an accepted event passes the checks on which points and volumes depend
+pub taken_when_passed : (s : SiteState) (a : Actor) (e : Event) → InRange e → Passed s a e → IsTaken s e
+taken_when_passed s a e range passes = record {
+  names = passes.names;
+  takes = passes.takes;
+  reads = passes.reads;
+  range = range;
+}
+
+-- the site after an accepted event
+sound_accepted : (s : SiteState) (a : Actor) (e : Event) → InRange e → Sound s
+    → first_refusal s a e ≡ None → Sound (accepted_site s a e)
+sound_accepted s a e range sound accepted =
+    let passes = passed s a e accepted in
+    let taken = taken_when_passed s a e range passes in
+    let shift : length (drawn_after s e) ≡ open_shift s = drawn_length s e in
+    record {
+      numbers = alone_after s e sound.numbers;
+      points = point_after s a e sound passes taken;
+      products = λ p n q is.
+          let supplied = sound.products p n q (sym (product_after s e p n) ∙ is) in
+          record { low = supplied.low; high = supplied.high; priced = supplied.priced };
+      prices = sound.prices;
+      meters = nozzles_stay s e taken sound.meters;
+      unpaid = unpaid_after s a e sound taken;
+      order = λ p h later. order_after s a e sound p h (omega (arith, shift, later));
+      sales = sale_after s a e sound taken;
+      shift = subst IsShift (sym shift) sound.shift;
+      draws = drawn_rows s e sound.draws;
+      conserved = λ w. conserved_after w s a e sound taken;
+    }
+
+-- the site after an event, which a refused one leaves
+pub sound_after : (s : SiteState) (a : Actor) (e : Event) → InRange e → Sound s
+    → Sound (site_after s a e)
+sound_after s a e range sound = by_refusal (first_refusal s a e) refl
+  where
+    by_refusal : (r : Option Refusal) → first_refusal s a e ≡ r → Sound (site_after s a e)
+    by_refusal (Some refusal) is = rw is sound
+    by_refusal None is = rw is (sound_accepted s a e range sound is)
