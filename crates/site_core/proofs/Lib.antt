@@ -1,3 +1,4 @@
+pub mod NotedDraws
 pub mod Reports
 pub mod TillSets
 pub mod SignOffs

@@ -28,6 +28,8 @@ use Rattle.meters.proofs.Weighed.{accepted_above}
 use Rattle.transaction_buffer.specs.Sales.{Sale, next_after, with_new}
 use Rattle.transaction_buffer.specs.Sums as sums
 use Rattle.transaction_buffer.proofs.Summing.{alike_sum}
+use Rattle.transaction_buffer.proofs.Volumes.{add_up}
+use Rattle.site_base.specs.declared.state.Status.TheVariants as statuses
 use Rattle.written_site.specs.SiteState.{SiteState, facts_of, has_point, open_shift}
 use Rattle.written_site.specs.SiteChecks.{own_event, numbers, flowed, put_back_at, may_ask, first_refusal}
 use Rattle.written_site.specs.SiteStep.{Steps, sales_by, draws_by, nozzles_after, step_told, holds_unless_over}
@@ -89,6 +91,29 @@ pub conserved_of : (s : SiteState) (q : ℕ) → Sound s
 conserved_of s q sound =
     sound.conserved (product_alone q)
     ∙ ap (λ (v : ℕ). running s q + v + drawn_of q s.drawn) (sold_alone q s)
+
+-- what is in fuellings under way is what the meters have counted of a product and no sale or draw has
+pub record IsRest (metered running payable locked cleared adjusted : ℕ) : Type 0 where
+  pub whole : metered ≡ running + (payable + locked + cleared) + adjusted
+  pub rest : metered - payable - locked - cleared - adjusted ≡ running
+
+pub rest_of : (s : SiteState) (q : ℕ) → Sound s
+    → IsRest (product_total q s.nozzles) (running s q) (sums.volume_by q statuses.Payable s.sales)
+    (sums.volume_by q statuses.Locked s.sales) (sums.volume_by q statuses.Cleared s.sales)
+    (drawn_of q s.drawn)
+rest_of s q sound =
+    let whole = conserved_of s q sound
+    ∙ ap (λ (v : ℕ). running s q + v + drawn_of q s.drawn) (sym (add_up q s.sales)) in
+    record { whole = whole; rest = omega (arith, whole) }
+
+-- the same of figures that equal these
+pub rest_told : (s : SiteState) (q metered payable locked cleared adjusted : ℕ) → Sound s
+    → metered ≡ product_total q s.nozzles → payable ≡ sums.volume_by q statuses.Payable s.sales
+    → locked ≡ sums.volume_by q statuses.Locked s.sales
+    → cleared ≡ sums.volume_by q statuses.Cleared s.sales → adjusted ≡ drawn_of q s.drawn
+    → IsRest metered (running s q) payable locked cleared adjusted
+rest_told s q metered payable locked cleared adjusted sound a b c d e =
+    rw (a, b, c, d, e) (rest_of s q sound)
 
 pub sold_bound : (s : SiteState) (q : ℕ) → Sound s → sums.volume_of q s.sales ≤ most_of_a_site
 sold_bound s q sound =
@@ -344,11 +369,11 @@ pub hang_up_steps : (s new : SiteState) (rows : List (ℕ × Facts)) (nozzles : 
     → holds ≡ holds_unless_over p step s.holds
     → answer ≡ step_told (record s { points = rows; nozzles = nozzles }) p growth step
     → Steps s (Dispenser d) (HangUp p n reading) (record new { holds = holds }) (Ok answer)
-hang_up_steps s new rows nozzles holds d p n reading growth report step answer over asks is takes as reads moved read stepped led held told =
+hang_up_steps s new rows nozzles holds d p n reading growth report step answer over asks is takes kind reads moved read stepped led held told =
     let same : refusal_of (points.HangUp n (flowed s p n reading)) (facts_of s p) ≡ None =
     sym (ap (λ (g : ℕ). refusal_of (points.HangUp n g) (facts_of s p)) is) ∙ takes in
     let agrees : report_refusal (put_back_at (facts_of s p).state) (reading_of p n s.nozzles) reading ≡ None =
-    sym (ap (λ (r : Report). report_refusal r (reading_of p n s.nozzles) reading) as) ∙ reads in
+    sym (ap (λ (r : Report). report_refusal r (reading_of p n s.nozzles) reading) kind) ∙ reads in
     let accepted : first_refusal s (Dispenser d) (HangUp p n reading) ≡ None = rw (asks, same, agrees) refl in
     record {
       replies = rw (accepted, told, told_alike s rows nozzles p growth step, stepped, is) refl;

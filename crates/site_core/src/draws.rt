@@ -54,8 +54,9 @@ impl Draws {
         requires { drawn_of q self.old + volume < 2 ^ 64 }
         ensures { self.new ≡ draw_noted q volume self.old }
     {
+        let cell = q.cell();
         self.shifts.note_drawn(q, volume);
-        self.totals[q.cell()] += volume;
+        self.totals[cell] += volume;
     }
 
     /// The millilitres that tests drew of a product in all shifts.

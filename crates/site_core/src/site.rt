@@ -31,6 +31,10 @@ impl Model for Site {
     ghost use Rattle.site_core.specs.SiteParts.{site_of, room_of};
 
     ghost view = { λ s. record { site = site_of s.parts; room = room_of s.parts } };
+
+    ghost use Rattle.written_site.specs.Sound.{Sound};
+
+    ghost invariant = { λ s. Sound (site_of s.parts) };
 }
 
 impl Site {
@@ -57,6 +61,8 @@ impl Site {
         requires room { HasRoom self.old.room event }
         ensures step { Steps self.old.site actor event self.new.site result }
     {
+        // The range of a reading that the event carries.
+        let _ = event.reading();
         self.parts.step(actor, &event)
     }
 

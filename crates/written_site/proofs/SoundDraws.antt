@@ -26,7 +26,7 @@ noted_length q volume (row ∷ next ∷ rows) = ap suc (noted_length q volume (n
 more_length : (q volume : ℕ) (row : List ℕ) → length (one_more_drawn q volume row) ≡ length row
 more_length q volume row = length-with_numbered q (unwrap_or (numbered q row) 0 + volume) row
 
-noted_rows : (q volume : ℕ) (rows : List (List ℕ)) → list_all is_draw_row rows ≡ true
+pub noted_rows : (q volume : ℕ) (rows : List (List ℕ)) → list_all is_draw_row rows ≡ true
     → list_all is_draw_row (draw_noted q volume rows) ≡ true
 noted_rows q volume [] all = refl
 noted_rows q volume (row ∷ []) all =
