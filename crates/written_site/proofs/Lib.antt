@@ -18,3 +18,4 @@ pub mod SoundRunning
 pub mod SoundDrawn
 pub mod SoundVolumes
 pub mod Sound
+pub mod SoundOpening

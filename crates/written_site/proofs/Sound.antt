@@ -14,6 +14,7 @@ use Rattle.written_site.proofs.SoundDraws.{drawn_length, drawn_rows}
 use Rattle.written_site.proofs.SoundMeters.{product_after}
 use Rattle.written_site.proofs.SoundReports.{nozzles_stay}
 use Rattle.written_site.proofs.SoundSold.{unpaid_after, order_after, sale_after}
+use Rattle.written_site.proofs.SoundOpening.{opening_sound}
 use Rattle.written_site.proofs.SoundPoints.{point_after}
 use Rattle.written_site.proofs.SoundVolumes.{alone_after, conserved_after}
 
@@ -57,3 +58,6 @@ sound_after s a e range sound = by_refusal (first_refusal s a e) refl
     by_refusal : (r : Option Refusal) → first_refusal s a e ≡ r → Sound (site_after s a e)
     by_refusal (Some refusal) is = rw is sound
     by_refusal None is = rw is (sound_accepted s a e range sound is)
+
+pub stays_sound : StaysSound
+stays_sound = record { opens = opening_sound; keeps = sound_after }

@@ -3,6 +3,7 @@
 ghost use Rattle.written_site.specs.Bridge.{AreLegalHistoriesRuns};
 ghost use Rattle.written_site.specs.Holders.{IsHeldByOne, AreUnendedTakes, AreBooksHeldByOne};
 ghost use Rattle.written_site.specs.SiteChecks.{PassesEachCheck};
+ghost use Rattle.written_site.specs.Sound.{StaysSound};
 
 /// An event that isn't refused has passed each of the checks.
 pub fn passes_each_check()
@@ -31,4 +32,13 @@ pub fn holds_are_unended_takes()
 /// Both of the rows of every legal history, such as a book keeps.
 pub fn books_held_by_one()
     ensures { AreBooksHeldByOne }
+{}
+
+/// The opening site of each fit configuration is sound, and each event leaves a sound site sound: no point
+/// number stands twice; each point is whole, and held where it is released; the volume of a fuelling is what
+/// its meter has grown; a point that is released for a sale has room and a number for it; prices, readings,
+/// shifts and sales are in range; and however the products are weighed, what the meters have counted is in the
+/// fuellings under way, in sales and in draws.
+pub fn stays_sound()
+    ensures { StaysSound }
 {}

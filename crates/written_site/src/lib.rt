@@ -8,5 +8,5 @@ mod laws;
 
 pub use laws::{
     books_held_by_one, held_by_one, holds_are_unended_takes, legal_histories_are_runs,
-    passes_each_check,
+    passes_each_check, stays_sound,
 };
