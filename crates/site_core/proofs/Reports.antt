@@ -329,7 +329,7 @@ pub offline_ends : (s : SiteState) (rows : List (ℕ × Facts)) (p : ℕ) (step 
 offline_ends s rows p step sound names takes told =
     let there = offline_there s p names in
     rw told (report_ended s rows (Offline p) p points.Offline sound
-    (record { names = names; takes = takes; reads = refl; range = omega arith }) refl there takes
+    (record { names = names; takes = takes; reads = refl; range = tt }) refl there takes
     (resting_fits (facts_of s p) (point_at s p sound there)))
   where
     resting_fits : (f : Facts) → IsPointSound s p f → volume_of f + 0 ≤ GREATEST_READING

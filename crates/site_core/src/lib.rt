@@ -11,6 +11,7 @@ mod figures;
 mod holding;
 mod managing;
 mod points;
+mod ranges;
 mod releasing;
 mod reporting;
 mod runs;

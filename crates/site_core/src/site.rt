@@ -5,6 +5,7 @@ ghost use Rattle.written_site.specs.SiteState.{opening, is_signed_on, point_show
 ghost use Rattle.written_site.specs.SiteStep.{Steps};
 ghost use Rattle.site_core.specs.Shown.{HasRoom};
 
+use crate::ranges::are_fit;
 use crate::site_parts::SiteParts;
 use site_base::{Actor, Answer, Event, FpNo, NoMemory, PointView, Reply, SiteConfig, TillNo};
 use std::alloc::Global;
@@ -43,6 +44,8 @@ impl Site {
         ensures { IfOk result (λ s. s.site ≡ opening config.now) }
     {
         let parts = SiteParts::try_open(alloc, config)?;
+        // What the site keeps is sound, since the configuration is fit.
+        are_fit(config, &parts.prices);
         Ok(Site { parts })
     }
 

@@ -1,13 +1,13 @@
 -- What a site always keeps: the facts on which the code of the site and its laws rely. An opening site has
 -- them, and every event leaves them.
-use Rattle.std.specs.Prelude.{◌≡◌, ℕ, ◌+◌, ◌<◌, ◌≤◌, Bool, true, false, List, map, length, Some, is_some, ◌==◌, nat_eq, nat_le}
+use Rattle.std.specs.Prelude.{◌≡◌, ℕ, ◌+◌, ◌<◌, ◌≤◌, Bool, true, false, List, map, length, Some, is_some, IfSome, ◌==◌, nat_eq, nat_le}
 use Rattle.std.specs.List.{list_all}
 use Rattle.site_base.specs.declared.actor.Actor.{Actor}
 use Rattle.site_base.specs.declared.event.Event.{Event}
-use Rattle.site_base.specs.declared.event.Event.TheVariants.{ReplaceMeter, Lift, Flow, HangUp}
 use Rattle.site_base.specs.declared.limits.TheConstants.{GREATEST_PRICE, GREATEST_READING, GREATEST_SEQ, GREATEST_SHIFT, PRODUCT_CELLS, PRODUCTS, UNPAID_LIMIT}
 use Rattle.site_base.specs.Amounts.{amount}
 use Rattle.site_base.specs.Configured.{Configured, is_between, none_alike, is_site}
+use Rattle.site_base.specs.Events.{reading_carried}
 use Rattle.site_base.specs.Prices.{prices_of, are_in_range}
 use Rattle.site_base.specs.Table.{row_of}
 use Rattle.fuelling_point.specs.Kept.{Facts, is_under_way}
@@ -88,17 +88,9 @@ pub record Sound (s : SiteState) : Type 0 where
   pub conserved : (w : ℕ → ℕ) → metered_by w s.nozzles
       ≡ running_by w s.nozzles s.points + sold_by w s.sales + drawn_by w s.drawn
 
--- the reading that an event carries; of one that carries none, 0
-abbrev pub reading_carried : Event → ℕ
-reading_carried (ReplaceMeter p n reading) = reading
-reading_carried (Lift p n reading) = reading
-reading_carried (Flow p n reading) = reading
-reading_carried (HangUp p n reading) = reading
-reading_carried event = 0
-
 -- the reading that an event carries is one that a meter can show
 abbrev pub InRange : Event → Type 0
-InRange event = reading_carried event ≤ GREATEST_READING
+InRange event = IfSome (reading_carried event) (λ reading. reading ≤ GREATEST_READING)
 
 -- a configuration that a site can open from: it is fit, and each product's number, each price and each
 -- nozzle's reading is in its range

@@ -9,7 +9,7 @@ use Rattle.site_core.proofs.draws.Draws.note.Goals as goal
 pub note_drawn-requires : goal.note_drawn-requires
 note_drawn-requires c =
     let shifts = c.self.inside.shifts.shifts in
-    let bound = figure_bound shifts c.self.inside.totals c.args.q c.self.invariant (omega (arith, c.cell.ensures.place)) (omega (arith, c.cell.ensures.place, c.cell.ensures.within)) in
+    let bound = figure_bound shifts c.self.inside.totals c.args.q c.self.invariant (omega (arith, c.cell-cell.ensures.place)) (omega (arith, c.cell-cell.ensures.place, c.cell-cell.ensures.within)) in
     let fits : drawn_of c.args.q (draws_of shifts) + c.args.volume < 2 ^ 64 =
     subst (λ d. drawn_of c.args.q d + c.args.volume < 2 ^ 64) (sym c.self.view_is) c.requires in
     omega (arith, bound, fits)
@@ -18,8 +18,8 @@ pub invariant_of-self : goal.invariant_of-self
 invariant_of-self c =
     let shifts = c.self.inside.shifts.shifts in
     rw c.note_drawn.ensures.shifts
-    (kept_noted shifts c.self.inside.totals c.args.q c.cell.result c.args.volume c.self.invariant
-    c.cell.ensures.place c.cell.ensures.within c.self.told)
+    (kept_noted shifts c.self.inside.totals c.args.q c.cell-cell.result c.args.volume c.self.invariant
+    c.cell-cell.ensures.place c.cell-cell.ensures.within c.self.told)
 
 pub returns : goal.returns
 returns c =
