@@ -12,8 +12,10 @@ use Rattle.site_base.specs.Events.{point_named}
 use Rattle.app_message.specs.declared.kind.Kind.TheVariants as kinds
 use Rattle.app_message.specs.Telegram.{Entry, entry, Telegram, telegram}
 use Rattle.device_map.specs.declared.ids.TheConstants as ids
+use Rattle.device_map.specs.Items.{four_octets}
 use Rattle.device_map.specs.Laws.{is_point_if_named}
 use Rattle.device_map.specs.Nodes.{site_node}
+use Rattle.device_map.specs.Replies.{preset_items}
 use Rattle.device_map.specs.Requests.{request_at}
 
 -- a notice from the site to the dispenser of point p, with the point's address
@@ -25,11 +27,14 @@ notice p items = telegram (ids.DISPENSER_SUBNET ∷ p ∷ []) site_node kinds.No
 abbrev pub change_by : Event → Option Telegram
 change_by (events.Open p) = Some (notice p (entry ids.OPEN [] ∷ []))
 change_by (events.Close p) = Some (notice p (entry ids.CLOSE [] ∷ []))
-change_by events.SignOn = None
-change_by events.SignOff = None
-change_by (events.Assign p) = None
-change_by (events.Unassign p) = None
-change_by (events.ReadPoint p) = None
+change_by (events.Release p preset) = Some (notice p (entry ids.RELEASE [] ∷ preset_items preset))
+change_by (events.Prepay p cents) =
+    Some (notice p (entry ids.PREPAY [] ∷ four_octets ids.PRESET_MONEY cents))
+change_by (events.TestRelease p) = Some (notice p (entry ids.TEST_RELEASE [] ∷ []))
+change_by (events.Suspend p) = Some (notice p (entry ids.SUSPEND [] ∷ []))
+change_by (events.Resume p) = Some (notice p (entry ids.RESUME [] ∷ []))
+change_by (events.Terminate p) = Some (notice p (entry ids.TERMINATE [] ∷ []))
+change_by event = None
 
 abbrev pub change_where : Event → Result Answer Refusal → Option Telegram
 change_where event (Ok answer) = change_by event

@@ -11,7 +11,9 @@
 
 mod address;
 mod change;
+mod decimal;
 mod fault;
+mod further;
 mod ids;
 mod laws;
 mod node;
