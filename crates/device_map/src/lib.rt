@@ -24,7 +24,7 @@ mod told;
 
 pub use change::{change_of, change_told};
 pub use fault::MapFault;
-pub use laws::{changes_repeat_requests, one_request};
+pub use laws::{changes_are_told, changes_repeat_requests, one_request};
 pub use reply::{refusal_in, refusal_of, reply_in, reply_of, stream_refusal};
 pub use request::request_of;
 pub use told::{number_told, reply_told};
