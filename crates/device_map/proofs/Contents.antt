@@ -119,8 +119,7 @@ contents_rise id (payment n) own below =
 contents_rise id (meter n r) own below =
     let both = and_parts (is_between 1 NOZZLES n) (nat_le r GREATEST_READING) own in
     let number : is_between 1 NOZZLES n ≡ true = both.0 in
-    let small : n < 256 = grind (arith, nat_tests) in
-    (
+    let small : n < 256 = grind (arith, nat_tests) in (
       grind (arith, nat_tests),
       is_one ids.NOZZLE n (omega arith) small,
       (omega arith, is_eight ids.READING r (omega arith), tt),

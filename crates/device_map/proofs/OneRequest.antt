@@ -108,8 +108,7 @@ no_octets i = omega arith
 items_rise : (command : Option ℕ) (content : Content) → is_content content ≡ true
     → is_spelled command content ≡ true → Rises 0 (items_of command content)
 items_rise (Some id) content own spelled =
-    let small = command_small id content spelled in
-    (
+    let small = command_small id content spelled in (
       omega arith,
       record { id = small; size = omega arith; octets = no_octets },
       contents_rise id content own spelled,
@@ -168,7 +167,7 @@ there token actor event short own fit =
     let sent : may_send actor (way_to event).kind ≡ true = sym (sender_there actor event) ∙ own in
     record {
       message = can_be_spelled token actor (way_to event) short sent (asked_there event fit)
-              (carried_there event fit) (spelled_there event);
+          (carried_there event fit) (spelled_there event);
       told = refl;
       asks = asks token actor event own fit;
     }
@@ -245,7 +244,7 @@ command_told kind d (e ∷ es) event rise is =
       content = by.content;
       way = by.way;
       items_are = ap (λ (x : List ℕ). entry e.id x ∷ es) no_content
-                ∙ ap (λ (x : List Entry). entry e.id [] ∷ x) by.is;
+          ∙ ap (λ (x : List Entry). entry e.id [] ∷ x) by.is;
     }
 
 read_told : (d : Database) (shape : Option Shape) (items : List Entry) (event : Event)

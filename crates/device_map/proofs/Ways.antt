@@ -1,7 +1,7 @@
 -- The way to each event: the kind of message, the database, the command and what stands behind it.
 use Rattle.std.specs.Prelude.{◌&&◌, nat_lt, Option, Some, None}
 use Rattle.std.proofs.Common.{◌≡◌, ℕ, ◌+◌, Bool, true, false, List, [], ◌∷◌, Result, Ok, Err, refl, sym}
-use Rattle.std.proofs.Common.{◌==◌, ap, subst, ◌∙◌}
+use Rattle.std.proofs.Common.{◌==◌, ap, subst, ◌∙◌, rules}
 use Rattle.std.proofs.lemmas.Bool.{and_parts}
 use Rattle.site_base.specs.declared.limits.TheConstants.{TILLS, POINTS}
 use Rattle.site_base.specs.declared.actor.Actor.{Actor}
@@ -162,17 +162,9 @@ ReadLeadsBack d None = Unit {0}
 ReadLeadsBack d (Some shape) = LeadsBack kinds.Read d None shape
 
 commands_lead : (kind : Kind) (d : Database) → RowsLeadBack kind d (commands kind d)
-commands_lead kinds.Write Site = (refl, (refl, tt))
-commands_lead kinds.Write (Point p) =
-    -- open, close, release
-    (refl, (refl, ((λ preset. refl),
-    -- terminate, suspend, resume
-    (refl, (refl, (refl,
-    -- assign, unassign, prepay
-    (refl, (refl, ((λ cents. refl),
-    -- test release, replace meter
-    (refl, ((λ n r. refl), tt)))))))))))
-commands_lead kinds.Report (Point p) = (refl, ((λ n r. refl), tt))
+commands_lead kinds.Write Site = search rules
+commands_lead kinds.Write (Point p) = search rules
+commands_lead kinds.Report (Point p) = search rules
 commands_lead kind d = tt
 
 pub reads_lead : (d : Database) → ReadLeadsBack d (reading_of d)

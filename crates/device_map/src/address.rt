@@ -33,12 +33,21 @@ impl Database {
         match address {
             [octet] => Database::of_octet(*octet),
             [octet, TRANSACTION_FORM, high, low] => {
-                let seq = Digits { high: *high, low: *low };
+                let seq = Digits {
+                    high: *high,
+                    low: *low,
+                };
                 Database::of_transaction(*octet, SaleDigits { shift: None, seq })
             }
             [octet, SHIFT_FORM, shift_high, shift_low, high, low] => {
-                let shift = Some(Digits { high: *shift_high, low: *shift_low });
-                let seq = Digits { high: *high, low: *low };
+                let shift = Some(Digits {
+                    high: *shift_high,
+                    low: *shift_low,
+                });
+                let seq = Digits {
+                    high: *high,
+                    low: *low,
+                };
                 Database::of_transaction(*octet, SaleDigits { shift, seq })
             }
             _ => Err(MapFault::BadAddress),

@@ -46,16 +46,11 @@ pub fn preset(mut items: Items<'_>) -> Result<Preset, MapFault>
 pub fn money(mut items: Items<'_>) -> Result<u32, MapFault>
     ensures { Gives result (money_in items.entry) }
 {
-    let Some(item) = items.next() else {
-        return Err(MapFault::ItemMissing);
-    };
-    if item.id() != ids::PRESET_MONEY {
+    let money = items.next().ok_or(MapFault::ItemMissing)?;
+    if money.id() != ids::PRESET_MONEY || !items.is_empty() {
         return Err(MapFault::UnknownItem);
     }
-    if !items.is_empty() {
-        return Err(MapFault::UnknownItem);
-    }
-    four_octets(&item)
+    four_octets(&money)
 }
 
 /// A nozzle and the reading of its meter.
@@ -63,9 +58,7 @@ pub fn money(mut items: Items<'_>) -> Result<u32, MapFault>
 pub fn meter(mut items: Items<'_>) -> Result<(NozzleNo, Millilitres), MapFault>
     ensures { Gives result (meter_in items.entry) }
 {
-    let Some(first) = items.next() else {
-        return Err(MapFault::ItemMissing);
-    };
+    let first = items.next().ok_or(MapFault::ItemMissing)?;
     let Some(second) = items.next() else {
         if first.id() == ids::NOZZLE || first.id() == ids::READING {
             return Err(MapFault::ItemMissing);

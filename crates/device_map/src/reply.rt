@@ -16,8 +16,8 @@ use crate::put::{put_eight, put_four, put_octet, put_two};
 use crate::{ids, node};
 use app_message::{Draft, Kind, Message, MessageFault, StreamFault, Token};
 use site_base::{
-    Answer, Cents, Mills, NoMemory, NozzleNo, PointView, Preset, ProductView,
-    Refusal, Reply, Seq, ShiftNo, SiteView, TillNo, TransactionView,
+    Answer, Cents, Mills, NoMemory, NozzleNo, PointView, Preset, ProductView, Refusal, Reply, Seq,
+    ShiftNo, SiteView, TillNo, TransactionView,
 };
 use std::alloc::Global;
 

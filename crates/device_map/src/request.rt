@@ -77,9 +77,7 @@ fn report_event(database: Database, items: Items<'_>) -> Result<Event, MapFault>
 fn site_command(mut items: Items<'_>) -> Result<Event, MapFault>
     ensures { Gives result (command_in (commands Kind.Write Database.Site) items.entry) }
 {
-    let Some(command) = items.next() else {
-        return Err(MapFault::ItemMissing);
-    };
+    let command = items.next().ok_or(MapFault::ItemMissing)?;
     let event = site_event(command.id(), items)?;
     no_content(&command)?;
     Ok(event)
@@ -90,9 +88,7 @@ fn site_command(mut items: Items<'_>) -> Result<Event, MapFault>
 fn point_command(point: FpNo, mut items: Items<'_>) -> Result<Event, MapFault>
     ensures { Gives result (command_in (commands Kind.Write (Database.Point point)) items.entry) }
 {
-    let Some(command) = items.next() else {
-        return Err(MapFault::ItemMissing);
-    };
+    let command = items.next().ok_or(MapFault::ItemMissing)?;
     let event = point_event(point, command.id(), items)?;
     no_content(&command)?;
     Ok(event)
@@ -103,9 +99,7 @@ fn point_command(point: FpNo, mut items: Items<'_>) -> Result<Event, MapFault>
 fn report(point: FpNo, mut items: Items<'_>) -> Result<Event, MapFault>
     ensures { Gives result (command_in (commands Kind.Report (Database.Point point)) items.entry) }
 {
-    let Some(command) = items.next() else {
-        return Err(MapFault::ItemMissing);
-    };
+    let command = items.next().ok_or(MapFault::ItemMissing)?;
     let event = reported_event(point, command.id(), items)?;
     no_content(&command)?;
     Ok(event)
