@@ -1,9 +1,9 @@
 -- What stands behind a command is spelled by one list of items, and read from no other.
-use Rattle.std.specs.Prelude.{◌&&◌, ◌≤◌, ◌^◌, ◌/◌, ◌%◌, nat_lt, nat_le, slice_index, get_or, Option, Some, None}
+use Rattle.std.specs.Prelude.{◌&&◌, ◌≤◌, ◌^◌, ◌/◌, nat_lt, nat_le, slice_index, Option, Some, None}
 use Rattle.std.specs.Int.{w32, w64, byte_at, bytes_high_first, to_be_bytes, from_be_bytes}
 use Rattle.std.specs.List.{flat_map}
-use Rattle.std.proofs.Common.{◌≡◌, ℕ, zero, suc, ◌+◌, ◌<◌, ◌==◌, Bool, true, false, List, [], ◌∷◌, ◌++◌}
-use Rattle.std.proofs.Common.{length, Result, Ok, Err, refl, sym, ap, subst, cond, ◌∙◌, arith, lit≤}
+use Rattle.std.proofs.Common.{◌≡◌, ℕ, zero, suc, ◌+◌, ◌<◌, ◌==◌, Bool, true, false, List, [], ◌∷◌}
+use Rattle.std.proofs.Common.{◌++◌, length, Result, Ok, refl, sym, ap, subst, cond, ◌∙◌, arith, lit≤}
 use Rattle.std.proofs.lemmas.Bool.{and_parts}
 use Rattle.std.proofs.lemmas.Bool.Decides.{nat_tests}
 use Rattle.std.proofs.lemmas.Nat.{be_bytes_4, be_bytes_8, mod_below}
@@ -12,7 +12,7 @@ use Rattle.site_base.specs.declared.limits.TheConstants.{NOZZLES, GREATEST_READI
 use Rattle.site_base.specs.declared.state.Preset.{Preset}
 use Rattle.site_base.specs.declared.state.Preset.TheVariants.{Unset, Volume, Money}
 use Rattle.site_base.specs.Configured.{is_between}
-use Rattle.app_message.specs.Telegram.{Entry, entry, AreOctets, IsEntry, Rises}
+use Rattle.app_message.specs.Telegram.{Entry, entry, IsEntry, Rises}
 use Rattle.app_message.specs.Spelling.{item_text}
 use Rattle.device_map.specs.declared.fault.MapFault.{MapFault}
 use Rattle.device_map.specs.declared.fault.MapFault.TheVariants.{UnknownItem, BadNumber}
@@ -142,7 +142,8 @@ unfolding four_octets
 four_back e id n named entry_is is =
     let test =
     passed (length e.content == 4) BadNumber (Ok (from_be_bytes w32 e.content)) n is in
-    let number : n ≡ from_be_bytes w32 e.content = sym (ok_is (from_be_bytes w32 e.content) n test.1) in
+    let number : n ≡ from_be_bytes w32 e.content =
+    sym (ok_is (from_be_bytes w32 e.content) n test.1) in
     let content : to_be_bytes w32 n ≡ e.content =
     be_bytes_4 e.content n (equal _ _ test.0) entry_is.octets number in
     ap (λ (x : ℕ). entry x e.content ∷ []) (equal e.id id named)
@@ -169,8 +170,10 @@ reading_back e n named entry_is is =
     passed (length e.content == 8 && nat_le (from_be_bytes w64 e.content) GREATEST_READING)
     BadNumber (Ok (from_be_bytes w64 e.content)) n is in
     let size = equal _ _ (and_parts _ _ test.0).0 in
-    let number : n ≡ from_be_bytes w64 e.content = sym (ok_is (from_be_bytes w64 e.content) n test.1) in
-    let content : to_be_bytes w64 n ≡ e.content = be_bytes_8 e.content n size entry_is.octets number in
+    let number : n ≡ from_be_bytes w64 e.content =
+    sym (ok_is (from_be_bytes w64 e.content) n test.1) in
+    let content : to_be_bytes w64 n ≡ e.content =
+    be_bytes_8 e.content n size entry_is.octets number in
     ap (λ (x : ℕ). entry x e.content ∷ []) (equal e.id ids.READING named)
     ∙ ap (λ (x : List ℕ). entry ids.READING x ∷ []) (sym content)
 
@@ -272,7 +275,8 @@ meter_told low (Some e) (Some f) nozzle reading n r named named' rise there ther
     let first = nozzle_back e n named (ap nozzle_in (ok_is e nozzle there) ∙ is) in
     let second =
     reading_back f r named' rise.2.1 (ap reading_in (ok_is f reading there') ∙ is') in
-    ap (λ (x : List Entry). x ++ f ∷ []) first ∙ ap (λ (x : List Entry). octet ids.NOZZLE n ++ x) second
+    ap (λ (x : List Entry). x ++ f ∷ []) first
+    ∙ ap (λ (x : List Entry). octet ids.NOZZLE n ++ x) second
 
 pub meter_back : (low : ℕ) (items : List Entry) (n r : ℕ) → Rises low items
     → meter_in items ≡ Ok (n, r) → items ≡ content_items (meter n r)

@@ -1,11 +1,10 @@
 -- Each database that is asked has one address.
 use Rattle.std.specs.Prelude.{slice_index, ◌&&◌, ◌≤◌, Option, Some, None}
 use Rattle.std.proofs.Common.{◌≡◌, ℕ, zero, suc, ◌+◌, ◌-◌, ◌<◌, ◌==◌, Bool, true, false, cond}
-use Rattle.std.proofs.Common.{List, [], ◌∷◌, length, Result, Ok, Err, refl, ap, ◌∙◌, arith, lit≤}
+use Rattle.std.proofs.Common.{List, [], ◌∷◌, length, Ok, Err, refl, ap, ◌∙◌, arith, lit≤}
 use Rattle.std.proofs.lemmas.Bool.{and_parts}
 use Rattle.std.proofs.lemmas.Bool.Decides.{nat_tests}
 use Rattle.site_base.specs.declared.limits.TheConstants.{POINTS}
-use Rattle.site_base.specs.declared.sale.SaleId.{SaleId}
 use Rattle.site_base.specs.Configured.{is_between}
 use Rattle.app_message.specs.Telegram.{AreOctets}
 use Rattle.device_map.specs.declared.address.Database.{Database}
@@ -16,9 +15,9 @@ use Rattle.device_map.specs.declared.decimal.SaleDigits.{SaleDigits}
 use Rattle.device_map.specs.declared.fault.MapFault.TheVariants.{BadAddress}
 use Rattle.device_map.specs.declared.ids.TheConstants as ids
 use Rattle.device_map.specs.Addresses.{database_of_octet, transaction_of, is_point_octet}
-use Rattle.device_map.specs.Addresses.{is_product_octet, database_at, digits_at}
+use Rattle.device_map.specs.Addresses.{is_product_octet, database_at}
 use Rattle.device_map.specs.Addresses.{sale_of_open_shift, sale_of_shift}
-use Rattle.device_map.proofs.DecimalDigits.{digits_of, shift_digits, sale_digits}
+use Rattle.device_map.proofs.DecimalDigits.{digits_of, shift_digits}
 use Rattle.device_map.proofs.Results.{ok_is, passed, first_that, equal, one_is, one_octet}
 
 -- the form and the digits that name a transaction
@@ -35,7 +34,7 @@ address_of (Product q) = (ids.PRODUCT_ADDRESS + q) ∷ []
 
 -- ---- the address is there
 
--- the site, or a fuelling point in range, or digits of a transaction there: where events are asked for
+-- where events are asked for: the site, a fuelling point in range, a transaction of one
 abbrev pub IsAsked : Database → Type 0
 IsAsked Site = Unit {0}
 IsAsked (Point p) = is_between 1 POINTS p ≡ true
@@ -63,7 +62,8 @@ sale_octets None seq =
     (octets_of seq [] no_octets)
 sale_octets (Some shift) seq =
     more_octets ids.SHIFT_FORM
-    ((digits_of shift).high ∷ (digits_of shift).low ∷ (digits_of seq).high ∷ (digits_of seq).low ∷ [])
+    ((digits_of shift).high ∷ (digits_of shift).low ∷ (digits_of seq).high ∷ (digits_of seq).low
+    ∷ [])
     (omega arith)
     (octets_of shift ((digits_of seq).high ∷ (digits_of seq).low ∷ []) (octets_of seq [] no_octets))
 

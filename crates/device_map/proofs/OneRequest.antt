@@ -1,8 +1,8 @@
 -- Each event with an actor of its own kind has one request.
-use Rattle.std.specs.Prelude.{slice_index, ◌&&◌, ◌≤◌, nat_lt, Option, Some, None}
+use Rattle.std.specs.Prelude.{slice_index, ◌&&◌, ◌≤◌, Option, Some, None}
 use Rattle.std.specs.List.{flat_map}
-use Rattle.std.proofs.Common.{◌≡◌, ℕ, zero, suc, ◌+◌, ◌<◌, ◌==◌, Bool, true, false, List, [], ◌∷◌}
-use Rattle.std.proofs.Common.{length, Result, Ok, Err, refl, sym, ap, subst, ◌∙◌, arith, lit≤}
+use Rattle.std.proofs.Common.{◌≡◌, ℕ, zero, suc, ◌+◌, ◌<◌, ◌==◌, true, List, [], ◌∷◌}
+use Rattle.std.proofs.Common.{length, Ok, refl, sym, ap, ◌∙◌, arith}
 use Rattle.std.proofs.lemmas.Bool.{and_parts}
 use Rattle.std.proofs.lemmas.Bool.Decides.{nat_tests}
 use Rattle.std.proofs.lemmas.List.{length-append}
@@ -15,25 +15,24 @@ use Rattle.site_base.specs.Events.{reported_by}
 use Rattle.app_message.specs.declared.kind.Kind.{Kind}
 use Rattle.app_message.specs.declared.kind.Kind.TheVariants as kinds
 use Rattle.app_message.specs.Telegram.{Entry, Telegram, AreOctets, Rises, entry, telegram}
-use Rattle.app_message.specs.Spelling.{IsMessage, body_text, item_text}
+use Rattle.app_message.specs.Spelling.{IsMessage, item_text}
 use Rattle.device_map.specs.declared.address.Database.{Database}
-use Rattle.device_map.specs.declared.fault.MapFault.{MapFault}
 use Rattle.device_map.specs.declared.fault.MapFault.TheVariants.{BadOriginator, BadNumber}
 use Rattle.device_map.specs.declared.ids.TheConstants as ids
 use Rattle.device_map.specs.Nodes.{site_node, is_request, for_us, till_at, dispenser_at, actor_at}
 use Rattle.device_map.specs.Addresses.{database_at}
 use Rattle.device_map.specs.Commands.{Shape, commands, reading_of}
-use Rattle.device_map.specs.Requests.{some_known, first_item, shape_of, event_by, event_among}
+use Rattle.device_map.specs.Requests.{some_known, shape_of, event_among}
 use Rattle.device_map.specs.Requests.{empty_content, command_in, read_by, event_at, request_at}
 use Rattle.device_map.specs.Laws.{may_ask, is_in_range, Asks, IsOneRequest}
-use Rattle.device_map.proofs.Contents.{Content, nothing, limit, payment, meter, content_items}
+use Rattle.device_map.proofs.Contents.{Content, nothing, limit, payment, meter}
 use Rattle.device_map.proofs.Contents.{is_content, is_below}
 use Rattle.device_map.proofs.Contents.{contents_rise, contents_short}
 use Rattle.device_map.proofs.OneAddress.{address_of, IsAsked, database_there, address_is, names}
 use Rattle.device_map.proofs.Results.{bind_ok, went, ok_is, passed, equal, none_of, one_octet}
 use Rattle.device_map.proofs.Ways.{Way, way_at, way_to, items_of, may_send, is_spelled}
 use Rattle.device_map.proofs.Ways.{asked_there, carried_there, spelled_there, sender_there}
-use Rattle.device_map.proofs.Ways.{event_there, IsBy, shaped, command_leads, ReadLeadsBack}
+use Rattle.device_map.proofs.Ways.{event_there, shaped, command_leads, ReadLeadsBack}
 use Rattle.device_map.proofs.Ways.{reads_lead}
 
 abbrev node_of : Actor → List ℕ

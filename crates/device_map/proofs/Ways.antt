@@ -1,6 +1,6 @@
 -- The way to each event: the kind of message, the database, the command and what stands behind it.
-use Rattle.std.specs.Prelude.{◌&&◌, nat_lt, Option, Some, None}
-use Rattle.std.proofs.Common.{◌≡◌, ℕ, ◌+◌, Bool, true, false, List, [], ◌∷◌, Result, Ok, Err, refl, sym}
+use Rattle.std.specs.Prelude.{Option, Some, None}
+use Rattle.std.proofs.Common.{◌≡◌, ℕ, Bool, true, false, List, [], ◌∷◌, Ok, refl, sym}
 use Rattle.std.proofs.Common.{◌==◌, ap, subst, ◌∙◌, rules}
 use Rattle.std.proofs.lemmas.Bool.{and_parts}
 use Rattle.site_base.specs.declared.limits.TheConstants.{TILLS, POINTS}
@@ -19,11 +19,9 @@ use Rattle.device_map.specs.declared.address.Database.{Database}
 use Rattle.device_map.specs.declared.address.Database.TheVariants.{Site, Point, Transaction}
 use Rattle.device_map.specs.declared.decimal.SaleDigits.{SaleDigits}
 use Rattle.device_map.specs.declared.ids.TheConstants as ids
-use Rattle.device_map.specs.Stages.{◌>>=◌}
 use Rattle.device_map.specs.Commands.{Shape, bare, limited, prepaid, metered, of_sale}
 use Rattle.device_map.specs.Commands.{Command, commands, reading_of}
 use Rattle.device_map.specs.Further.{items_end, preset_in, money_in, meter_in, sale_in}
-use Rattle.device_map.specs.Decimal.{sale_named}
 use Rattle.device_map.specs.Requests.{shape_of, event_by, command_in, event_at}
 use Rattle.device_map.specs.Laws.{may_ask, is_point_if_named, is_carried, is_in_range, is_sale}
 use Rattle.device_map.proofs.Contents.{Content, nothing, limit, payment, meter, content_items}
@@ -103,7 +101,8 @@ is_spelled (Some id) content = is_below id content
 is_spelled None nothing = true
 is_spelled None content = false
 
-pub spelled_there : (event : Event) → is_spelled (way_to event).command (way_to event).content ≡ true
+pub spelled_there : (event : Event)
+    → is_spelled (way_to event).command (way_to event).content ≡ true
 spelled_there events.SignOn = refl
 spelled_there event = refl
 
@@ -190,7 +189,8 @@ command_leads kind d id shape found =
     found_leads kind d id shape (commands kind d) (commands_lead kind d) found
 
 -- what stands behind the command, and the event's way
-pub record IsBy (kind : Kind) (d : Database) (command : Option ℕ) (items : List Entry) (event : Event) : Type 0 where
+pub record IsBy (kind : Kind) (d : Database) (command : Option ℕ)
+    (items : List Entry) (event : Event) : Type 0 where
   pub content : Content
   pub way : way_to event ≡ way_at kind d command content
   pub is : items ≡ content_items content

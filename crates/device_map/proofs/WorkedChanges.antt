@@ -2,7 +2,8 @@
 use Prim.Native.String.{String}
 use Rattle.std.specs.List.{flat_map}
 use Rattle.std.specs.Prelude.{map}
-use Rattle.std.proofs.Common.{◌≡◌, ℕ, List, [], ◌∷◌, ◌++◌, Option, Some, None, Result, Ok, Err, refl}
+use Rattle.std.proofs.Common.{◌≡◌, ℕ, List, [], ◌∷◌, ◌++◌}
+use Rattle.std.proofs.Common.{Option, Some, None, Result, Ok, Err, refl}
 use Rattle.site_base.specs.declared.actor.Actor.TheVariants.{Till}
 use Rattle.site_base.specs.declared.answer.Answer.{Answer}
 use Rattle.site_base.specs.declared.answer.Answer.TheVariants as answers
@@ -55,14 +56,12 @@ changes_are_spelled : map (λ row. changed row.event (Ok answers.Done)) told_row
 unfolding four_octets
 changes_are_spelled = refl
 
--- of a release that had the nozzle out before, and a terminate by any outcome
-by_outcome : changed (events.Release 3 Unset) (Ok answers.Done)
-    ++ changed (events.Terminate 3) (Ok answers.Stopped)
+-- whatever the answer
+stopped_or_ending : changed (events.Terminate 3) (Ok answers.Stopped)
     ++ changed (events.Terminate 3) (Ok answers.Ending)
-    ≡ octets "03 03 01 01 00 80 00 04 01 23 3E 00"
-    ∷ octets "03 03 01 01 00 80 00 04 01 23 3F 00"
+    ≡ octets "03 03 01 01 00 80 00 04 01 23 3F 00"
     ∷ octets "03 03 01 01 00 80 00 04 01 23 3F 00" ∷ []
-by_outcome = refl
+stopped_or_ending = refl
 
 -- a refused one isn't, nor is another event
 refused_is_silent : changed (events.Open 3) (Err (refusals.AssignedToOther 1)) ≡ []

@@ -17,8 +17,8 @@ pub enum Database {
     Site,
     /// A fuelling point's.
     Point(FpNo),
-    /// That of a transaction of a fuelling point, by its digits as they came. Whether they are decimal
-    /// is judged after the items of the request, and before the widths of these.
+    /// That of a transaction of a fuelling point, by its digits as they came. Whether they are
+    /// decimal is judged after the items of the request, and before the widths of these.
     Transaction(FpNo, SaleDigits),
     /// A product's.
     Product(ProductNo),
@@ -33,21 +33,12 @@ impl Database {
         match address {
             [octet] => Database::of_octet(*octet),
             [octet, TRANSACTION_FORM, high, low] => {
-                let seq = Digits {
-                    high: *high,
-                    low: *low,
-                };
+                let seq = Digits::new(*high, *low);
                 Database::of_transaction(*octet, SaleDigits { shift: None, seq })
             }
             [octet, SHIFT_FORM, shift_high, shift_low, high, low] => {
-                let shift = Some(Digits {
-                    high: *shift_high,
-                    low: *shift_low,
-                });
-                let seq = Digits {
-                    high: *high,
-                    low: *low,
-                };
+                let shift = Some(Digits::new(*shift_high, *shift_low));
+                let seq = Digits::new(*high, *low);
                 Database::of_transaction(*octet, SaleDigits { shift, seq })
             }
             _ => Err(MapFault::BadAddress),

@@ -49,6 +49,14 @@ impl SaleDigits {
 }
 
 impl Digits {
+    /// The digits in these two octets.
+    pub fn new(high: u8, low: u8) -> Self
+        ensures { result ≡ record { high = high; low = low } }
+    {
+        Digits { high, low }
+    }
+
+    /// The shift that they number.
     #[tactic(auto, unfolding(crate::specs::Decimal::decimal_in))]
     fn shift(self) -> Result<ShiftNo, MapFault>
         ensures { Gives result (decimal_in GREATEST_SHIFT self) }
@@ -62,8 +70,9 @@ impl Digits {
         }
     }
 
+    /// The sequence number that they make.
     #[tactic(auto, unfolding(crate::specs::Decimal::decimal_in))]
-    fn seq(self) -> Result<Seq, MapFault>
+    pub fn seq(self) -> Result<Seq, MapFault>
         ensures { Gives result (decimal_in GREATEST_SEQ self) }
     {
         if !self.are_decimal() {

@@ -4,9 +4,10 @@
 //! `reply_of`, `refusal_of` and `stream_refusal` make the message that goes back, `change_of` the one
 //! that a dispenser is told.
 //!
-//! The commands stand in one table, `specs/Commands.antt`, each with the shape of its content, and
-//! `request.rt` has an arm for each. Worked messages, by their octets, are theorems of the
-//! definitions that the contracts cite: `proofs/WorkedRequests.antt` and `WorkedReplies.antt`.
+//! The requests stand in one table, `specs/Commands.antt`, each with the shape of what it carries:
+//! `request.rt` has an arm for each request, `further.rt` a function for each shape. Worked
+//! messages, by their octets, are theorems of the definitions that the contracts cite:
+//! `proofs/WorkedRequests.antt`, `WorkedReplies.antt` and `WorkedChanges.antt`.
 #![tactic(auto)]
 
 mod address;
