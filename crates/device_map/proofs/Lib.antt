@@ -1,3 +1,8 @@
+pub mod Results
+pub mod DecimalDigits
+pub mod Contents
+pub mod OneAddress
+pub mod Ways
 pub mod OneRequest
 pub mod Changes
 pub mod Short

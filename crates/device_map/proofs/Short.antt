@@ -1,5 +1,6 @@
 -- The items of a reply rise and are short, so that with any address they fit a message.
-use Rattle.std.proofs.Common.{◌≡◌, ◌≤◌, ℕ, length, arith, List, ◌++◌, Option, Some, None, Result}
+use Rattle.std.proofs.Common.{◌≡◌, ◌≤◌, ◌<◌, ℕ, ◌+◌, nat_lt, length, arith, List, [], ◌∷◌, ◌++◌}
+use Rattle.std.proofs.Common.{Option, Some, None, Result}
 use Rattle.std.proofs.Common.{Bool, true, false, Ok, Err, refl, lit≤}
 use Rattle.site_base.specs.declared.answer.Answer.{Answer}
 use Rattle.site_base.specs.declared.answer.Answer.TheVariants as answers
@@ -11,7 +12,7 @@ use Rattle.site_base.specs.Refusals.{refusal_number, refusal_detail}
 use Rattle.std.specs.List.{flat_map}
 use Rattle.std.proofs.lemmas.Bool.{le-ltb}
 use Rattle.std.proofs.lemmas.List.{length-append}
-use Rattle.app_message.specs.Telegram.{Entry}
+use Rattle.app_message.specs.Telegram.{Entry, entry}
 use Rattle.app_message.specs.Spelling.{item_text, body_text}
 use Rattle.app_message.specs.Parts.{parts_fault}
 use Rattle.device_map.specs.declared.ids.TheConstants as ids
@@ -62,6 +63,26 @@ reply_short (Err refusal) = refusal_short (refusal_number refusal) (refusal_deta
 pub number_short : (number : ℕ) → AreShort (octet ids.RESULT number)
 unfolding octet two_octets four_octets eight_octets
 number_short number = refusal_short number None
+
+-- a command below the presets, and one of these
+pub command_short : (command : ℕ) (preset : Preset) → command < ids.PRESET_VOLUME
+    → AreShort (entry command [] ∷ preset_items preset)
+unfolding four_octets
+command_short command preset below = by preset
+  where
+    first : nat_lt command 0 ≡ false
+    first = le-ltb command 0 (omega arith)
+
+    volume : nat_lt ids.PRESET_VOLUME (command + 1) ≡ false
+    volume = le-ltb ids.PRESET_VOLUME (command + 1) (omega arith)
+
+    money : nat_lt ids.PRESET_MONEY (command + 1) ≡ false
+    money = le-ltb ids.PRESET_MONEY (command + 1) (omega arith)
+
+    by : (preset : Preset) → AreShort (entry command [] ∷ preset_items preset)
+    by Unset = record { rise = rw first refl; size = lit≤ tt }
+    by (Volume n) = record { rise = rw (first, volume) refl; size = lit≤ tt }
+    by (Money n) = record { rise = rw (first, money) refl; size = lit≤ tt }
 
 -- with an address they have no fault
 pub short_fits : (address : List ℕ) (items : List Entry) → 1 ≤ length address → length address ≤ 8

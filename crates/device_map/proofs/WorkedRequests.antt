@@ -1,18 +1,21 @@
 -- Worked requests, by computing the definitions: messages by their octets, and what each asks for,
 -- or its first fault.
 use Prim.Native.String.{String}
-use Rattle.std.specs.Prelude.{◌≡◌, List, [], ◌∷◌, map, Result, Ok, Err}
+use Rattle.std.specs.Prelude.{◌≡◌, ℕ, List, [], ◌∷◌, map, Option, Some, None, Result, Ok, Err}
 use Rattle.std.proofs.Common.{refl}
 use Rattle.site_base.specs.declared.actor.Actor.{Actor}
-use Rattle.site_base.specs.declared.actor.Actor.TheVariants.{Till}
+use Rattle.site_base.specs.declared.actor.Actor.TheVariants.{Till, Dispenser}
 use Rattle.site_base.specs.declared.event.Event.{Event}
 use Rattle.site_base.specs.declared.event.Event.TheVariants as events
+use Rattle.site_base.specs.declared.sale.SaleId.{SaleId}
+use Rattle.site_base.specs.declared.state.Preset.TheVariants.{Unset, Volume, Money}
 use Rattle.app_message.specs.Grammar.{header_at, item_at, items_at, address_at, body_at, front_at}
 use Rattle.app_message.specs.Stream.{walk, stream_of}
 use Rattle.app_message.proofs.Hexadecimal.{octets}
 use Rattle.device_map.specs.declared.address.Database.{Database}
 use Rattle.device_map.specs.declared.address.Database.TheVariants.{Site, Point, Transaction}
 use Rattle.device_map.specs.declared.address.Database.TheVariants.{Product}
+use Rattle.device_map.specs.declared.decimal.Digits.{Digits}
 use Rattle.device_map.specs.declared.fault.MapFault.{MapFault}
 use Rattle.device_map.specs.declared.fault.MapFault.TheVariants.{NotARequest, NotForUs}
 use Rattle.device_map.specs.declared.fault.MapFault.TheVariants.{BadOriginator, BadAddress}
@@ -21,7 +24,9 @@ use Rattle.device_map.specs.declared.fault.MapFault.TheVariants.{BadDecimal, Bad
 use Rattle.device_map.specs.Faults.{map_number}
 use Rattle.device_map.specs.Nodes.{for_us, till_at, dispenser_at}
 use Rattle.device_map.specs.Addresses.{database_at}
-use Rattle.device_map.specs.Requests.{command_in, read_at, request_at}
+use Rattle.device_map.specs.Decimal.{decimal_in, sale_named}
+use Rattle.device_map.specs.Further.{preset_in, money_in, meter_in, sale_in}
+use Rattle.device_map.specs.Requests.{command_in, request_at}
 
 -- a message by its octets, and what it asks for
 record Row : Type 0 where
@@ -47,6 +52,10 @@ requests =
     asks "01 01 02 01 00 44 00 04 01 22 42 00" (Till 1) (events.Assign 2) ∷
     asks "01 01 02 01 00 48 00 04 01 22 43 00" (Till 1) (events.Unassign 2) ∷
     asks "01 01 02 01 00 03 00 02 01 23" (Till 1) (events.ReadPoint 3) ∷
+    asks "01 01 02 01 00 48 00 04 01 23 45 00" (Till 1) (events.TestRelease 3) ∷
+    asks "01 01 02 01 00 49 00 04 01 23 40 00" (Till 1) (events.Suspend 3) ∷
+    asks "01 01 02 01 00 4A 00 04 01 23 41 00" (Till 1) (events.Resume 3) ∷
+    asks "01 01 02 01 00 4B 00 04 01 23 3F 00" (Till 1) (events.Terminate 3) ∷
     -- the last till, and the last point
     asks "01 01 02 20 00 40 00 04 01 60 42 00" (Till 32) (events.Assign 64) ∷
     asks "01 01 02 20 00 1F 00 02 01 60" (Till 32) (events.ReadPoint 64) ∷
@@ -55,9 +64,84 @@ requests =
     []
 
 requests_ask : map (λ row. read_in row.text) requests ≡ map (λ row. row.pair ∷ []) requests
-unfolding request_at for_us till_at database_at command_in read_at
+unfolding request_at for_us till_at database_at command_in
     walk front_at header_at item_at items_at address_at body_at
 requests_ask = refl
+
+-- ---- presets, meters and reports
+
+abbrev carrying : List Row
+carrying =
+    asks "01 01 02 01 00 45 00 04 01 23 3E 00" (Till 1) (events.Release 3 Unset) ∷
+    asks "01 01 02 01 00 45 00 0A 01 23 3E 00 50 04 00 00 0B B8"
+    (Till 1) (events.Release 3 (Volume 3000)) ∷
+    asks "01 01 02 01 00 45 00 0A 01 23 3E 00 51 04 00 00 07 D0"
+    (Till 1) (events.Release 3 (Money 2000)) ∷
+    -- a preset out of range is the site's to refuse
+    asks "01 01 02 01 00 45 00 0A 01 23 3E 00 50 04 00 00 00 00"
+    (Till 1) (events.Release 3 (Volume 0)) ∷
+    asks "01 01 02 01 00 45 00 0A 01 23 3E 00 51 04 FF FF FF FF"
+    (Till 1) (events.Release 3 (Money 4294967295)) ∷
+    asks "01 01 02 01 00 45 00 0A 01 21 44 00 51 04 00 00 07 D0"
+    (Till 1) (events.Prepay 1 2000) ∷
+    asks "01 01 02 01 00 41 00 11 01 21 46 00 70 01 02 71 08 00 00 00 00 00 00 00 07"
+    (Till 1) (events.ReplaceMeter 1 2 7) ∷
+    asks "01 01 03 01 00 61 00 04 01 21 60 00" (Dispenser 1) (events.Online 1) ∷
+    asks "01 01 03 40 00 61 00 04 01 60 60 00" (Dispenser 64) (events.Online 64) ∷
+    asks "01 01 03 01 00 62 00 11 01 21 62 00 70 01 02 71 08 00 00 00 00 00 00 03 E8"
+    (Dispenser 1) (events.Lift 1 2 1000) ∷
+    -- the last nozzle, and the greatest reading
+    asks "01 01 03 01 00 62 00 11 01 21 62 00 70 01 08 71 08 00 00 00 E8 D4 A5 0F FF"
+    (Dispenser 1) (events.Lift 1 8 999999999999) ∷
+    -- a dispenser that speaks of another point is the site's to refuse
+    asks "01 01 03 02 00 61 00 04 01 21 60 00" (Dispenser 2) (events.Online 1) ∷
+    []
+
+carrying_asks : map (λ row. read_in row.text) carrying ≡ map (λ row. row.pair ∷ []) carrying
+unfolding request_at for_us till_at dispenser_at database_at command_in preset_in money_in meter_in
+    walk front_at header_at item_at items_at address_at body_at
+carrying_asks = refl
+
+-- ---- transactions
+
+abbrev sale : Option ℕ → ℕ → SaleId
+sale shift seq = record { shift = shift; seq = seq }
+
+abbrev transactions : List Row
+transactions =
+    asks "01 01 02 01 00 01 00 05 04 23 21 00 01"
+    (Till 1) (events.ReadTransaction 3 (sale None 1)) ∷
+    asks "01 01 02 01 00 01 00 05 04 60 21 99 99"
+    (Till 1) (events.ReadTransaction 64 (sale None 9999)) ∷
+    asks "01 01 02 01 00 01 00 07 06 23 22 00 02 00 01"
+    (Till 1) (events.ReadTransaction 3 (sale (Some 2) 1)) ∷
+    asks "01 01 02 01 00 01 00 07 06 21 22 09 99 12 34"
+    (Till 1) (events.ReadTransaction 1 (sale (Some 999) 1234)) ∷
+    -- each of the four digits above 9, and 0000
+    fails "01 01 02 01 00 01 00 05 04 21 21 A0 00" BadDecimal ∷
+    fails "01 01 02 01 00 01 00 05 04 21 21 0A 80" BadDecimal ∷
+    fails "01 01 02 01 00 01 00 05 04 21 21 00 A0" BadDecimal ∷
+    fails "01 01 02 01 00 01 00 05 04 21 21 00 0A" BadDecimal ∷
+    fails "01 01 02 01 00 01 00 05 04 21 21 00 00" BadDecimal ∷
+    -- shift 0000 and 1000, a shift of no digits, and one with sequence 0000
+    fails "01 01 02 01 00 01 00 07 06 21 22 00 00 00 01" BadDecimal ∷
+    fails "01 01 02 01 00 01 00 07 06 21 22 10 00 00 01" BadDecimal ∷
+    fails "01 01 02 01 00 01 00 07 06 21 22 00 0A 00 01" BadDecimal ∷
+    fails "01 01 02 01 00 01 00 07 06 21 22 00 01 00 00" BadDecimal ∷
+    -- an item in a read comes before the digits
+    fails "01 01 02 01 00 01 00 07 04 21 21 00 0A 80 00" UnknownItem ∷
+    -- no transaction is written yet, whatever its digits
+    fails "01 01 02 01 00 47 00 07 04 21 21 00 0A 80 00" BadAddress ∷
+    fails "01 01 02 01 00 4A 00 09 06 21 22 00 01 00 01 80 00" BadAddress ∷
+    []
+
+transactions_ask :
+    map (λ row. read_in row.text) transactions ≡ map (λ row. row.pair ∷ []) transactions
+unfolding request_at for_us till_at database_at command_in sale_in sale_named decimal_in
+    walk front_at header_at item_at items_at address_at body_at
+transactions_ask = refl
+
+-- ---- messages that ask for nothing
 
 -- in each group the first fault is told: what stands behind it is wrong too
 abbrev no_requests : List Row
@@ -85,24 +169,28 @@ no_requests =
     fails "01 01 02 01 00 41 00 02 01 89" BadAddress ∷
     fails "01 01 02 01 00 41 00 03 02 21 21" BadAddress ∷
     fails "01 01 02 01 00 41 00 03 02 01 01" BadAddress ∷
-    -- nothing is asked of transactions and products, and the site isn't read
-    fails "01 01 02 01 00 41 00 05 04 21 21 00 01" BadAddress ∷
-    fails "01 01 02 01 00 41 00 05 04 21 21 AA AA" BadAddress ∷
-    fails "01 01 02 01 00 01 00 05 04 21 21 00 01" BadAddress ∷
+    -- a transaction of point 65, of another form, with an octet too few and one too many
+    fails "01 01 02 01 00 01 00 05 04 61 21 00 01" BadAddress ∷
+    fails "01 01 02 01 00 01 00 05 04 21 22 00 01" BadAddress ∷
+    fails "01 01 02 01 00 01 00 07 06 21 21 00 01 00 01" BadAddress ∷
+    fails "01 01 02 01 00 01 00 04 03 21 21 00" BadAddress ∷
+    fails "01 01 02 01 00 01 00 06 05 21 21 00 01 00" BadAddress ∷
+    -- nothing is asked of products, and the site isn't read
     fails "01 01 02 01 00 41 00 02 01 81" BadAddress ∷
     fails "01 01 02 01 00 01 00 02 01 88" BadAddress ∷
     fails "01 01 02 01 00 01 00 04 01 01 31 00" BadAddress ∷
-    -- a dispenser reports nothing yet
-    fails "01 01 03 02 00 61 00 04 01 22 42 00" BadAddress ∷
-    fails "01 01 03 01 00 61 00 04 01 21 60 00" BadAddress ∷
+    -- a dispenser reports nothing of the site, nor of a transaction
+    fails "01 01 03 02 00 61 00 04 01 01 60 00" BadAddress ∷
+    fails "01 01 03 01 00 61 00 07 04 21 21 00 01 60 00" BadAddress ∷
     -- a first item that is no command, with content
     fails "01 01 02 01 00 41 00 05 01 21 31 01 00" UnknownItem ∷
     -- a point's command to the site, and the site's to a point
     fails "01 01 02 01 00 41 00 04 01 01 42 00" UnknownItem ∷
     fails "01 01 02 01 00 41 00 04 01 01 43 00" UnknownItem ∷
     fails "01 01 02 01 00 41 00 04 01 22 32 00" UnknownItem ∷
-    -- a release isn't built yet
-    fails "01 01 02 01 00 41 00 04 01 22 3E 00" UnknownItem ∷
+    -- a till's command reported, and a report written
+    fails "01 01 03 02 00 61 00 04 01 22 42 00" UnknownItem ∷
+    fails "01 01 02 01 00 41 00 04 01 22 60 00" UnknownItem ∷
     -- a command behind another, and content in the first
     fails "01 01 02 01 00 41 00 06 01 22 42 00 43 00" UnknownItem ∷
     fails "01 01 02 01 00 41 00 07 01 22 42 01 00 43 00" UnknownItem ∷
@@ -117,9 +205,73 @@ no_requests =
     []
 
 no_requests_ask : map (λ row. read_in row.text) no_requests ≡ map (λ row. row.pair ∷ []) no_requests
-unfolding request_at for_us till_at dispenser_at database_at command_in read_at walk front_at
-    header_at item_at items_at address_at body_at
+unfolding request_at for_us till_at dispenser_at database_at command_in walk front_at header_at
+    item_at items_at address_at body_at
 no_requests_ask = refl
+
+-- what stands behind commands
+abbrev strange_items : List Row
+strange_items =
+    -- both presets, even of wrong widths, another item, and one behind a preset
+    fails "01 01 02 01 00 45 00 10 01 23 3E 00 50 04 00 00 0B B8 51 04 00 00 07 D0" UnknownItem ∷
+    fails "01 01 02 01 00 45 00 08 01 23 3E 00 50 00 51 00" UnknownItem ∷
+    fails "01 01 02 01 00 45 00 06 01 23 3E 00 52 00" UnknownItem ∷
+    fails "01 01 02 01 00 45 00 0C 01 23 3E 00 50 04 00 00 0B B8 52 00" UnknownItem ∷
+    -- a prepayment by volume, by both, and by money with another item
+    fails "01 01 02 01 00 45 00 0A 01 21 44 00 50 04 00 00 0B B8" UnknownItem ∷
+    fails "01 01 02 01 00 45 00 08 01 21 44 00 50 00 51 00" UnknownItem ∷
+    fails "01 01 02 01 00 45 00 08 01 21 44 00 51 00 52 00" UnknownItem ∷
+    -- a test with a preset
+    fails "01 01 02 01 00 45 00 0A 01 21 45 00 51 04 00 00 07 D0" UnknownItem ∷
+    -- another item before, between and behind a nozzle and its reading, each of them empty
+    fails "01 01 03 01 00 62 00 0A 01 21 62 00 6F 00 70 00 71 00" UnknownItem ∷
+    fails "01 01 03 01 00 62 00 0A 01 21 62 00 70 00 71 00 72 00" UnknownItem ∷
+    -- another item in place of the reading, and of both
+    fails "01 01 03 01 00 62 00 08 01 21 62 00 70 00 72 00" UnknownItem ∷
+    fails "01 01 03 01 00 62 00 08 01 21 62 00 71 00 72 00" UnknownItem ∷
+    fails "01 01 03 01 00 62 00 06 01 21 62 00 72 00" UnknownItem ∷
+    -- an online with a nozzle
+    fails "01 01 03 01 00 61 00 07 01 21 60 00 70 01 01" UnknownItem ∷
+    -- no money; no nozzle and reading, no reading, no nozzle; a report of nothing
+    fails "01 01 02 01 00 45 00 04 01 21 44 00" ItemMissing ∷
+    fails "01 01 03 01 00 62 00 04 01 21 62 00" ItemMissing ∷
+    fails "01 01 03 01 00 62 00 06 01 21 62 00 70 00" ItemMissing ∷
+    fails "01 01 03 01 00 62 00 06 01 21 62 00 71 00" ItemMissing ∷
+    fails "01 01 02 01 00 41 00 07 01 21 46 00 70 01 02" ItemMissing ∷
+    fails "01 01 03 01 00 61 00 02 01 21" ItemMissing ∷
+    []
+
+strange_items_ask :
+    map (λ row. read_in row.text) strange_items ≡ map (λ row. row.pair ∷ []) strange_items
+unfolding request_at for_us till_at dispenser_at database_at command_in preset_in money_in meter_in
+    walk front_at header_at item_at items_at address_at body_at
+strange_items_ask = refl
+
+-- widths and ranges
+abbrev bad_numbers : List Row
+bad_numbers =
+    -- a preset of three octets, money of five, a prepayment of none
+    fails "01 01 02 01 00 45 00 09 01 23 3E 00 50 03 00 0B B8" BadNumber ∷
+    fails "01 01 02 01 00 45 00 0B 01 23 3E 00 51 05 00 00 00 07 D0" BadNumber ∷
+    fails "01 01 02 01 00 45 00 06 01 21 44 00 51 00" BadNumber ∷
+    -- content in the command of a right request
+    fails "01 01 02 01 00 45 00 0B 01 23 3E 01 00 50 04 00 00 0B B8" BadNumber ∷
+    -- nozzles 0 and 9, and one of two octets
+    fails "01 01 03 01 00 62 00 11 01 21 62 00 70 01 00 71 08 00 00 00 00 00 00 03 E8" BadNumber ∷
+    fails "01 01 03 01 00 62 00 11 01 21 62 00 70 01 09 71 08 00 00 00 00 00 00 03 E8" BadNumber ∷
+    fails "01 01 03 01 00 62 00 12 01 21 62 00 70 02 00 01 71 08 00 00 00 00 00 00 03 E8"
+    BadNumber ∷
+    -- the reading 1,000,000,000,000, and one of seven octets
+    fails "01 01 03 01 00 62 00 11 01 21 62 00 70 01 02 71 08 00 00 00 E8 D4 A5 10 00" BadNumber ∷
+    fails "01 01 03 01 00 62 00 10 01 21 62 00 70 01 02 71 07 00 00 00 00 00 03 E8" BadNumber ∷
+    fails "01 01 02 01 00 41 00 11 01 21 46 00 70 01 09 71 08 00 00 00 00 00 00 00 07" BadNumber ∷
+    []
+
+bad_numbers_ask :
+    map (λ row. read_in row.text) bad_numbers ≡ map (λ row. row.pair ∷ []) bad_numbers
+unfolding request_at for_us till_at dispenser_at database_at command_in preset_in money_in meter_in
+    walk front_at header_at item_at items_at address_at body_at
+bad_numbers_ask = refl
 
 -- the octets of an address, and the database that it names
 record AddressRow : Type 0 where
@@ -129,20 +281,30 @@ record AddressRow : Type 0 where
 abbrev names : String → Result Database MapFault → AddressRow
 names text database = record { text = text; database = database }
 
--- the four forms of an address; digits stay as they came, also where they are none
+-- two octets as they came
+abbrev digits : ℕ → ℕ → Digits
+digits high low = record { high = high; low = low }
+
+abbrev transaction : ℕ → Option Digits → Digits → Result Database MapFault
+transaction p shift seq = Ok (Transaction p (record { shift = shift; seq = seq }))
+
+-- the five forms of an address; digits stay as they came, also where they are none
 abbrev addresses : List AddressRow
 addresses =
     names "01" (Ok Site) ∷
     names "21" (Ok (Point 1)) ∷
     names "60" (Ok (Point 64)) ∷
-    names "21 21 99 99" (Ok (Transaction 1 (octets "99 99"))) ∷
-    names "60 21 AB 00" (Ok (Transaction 64 (octets "AB 00"))) ∷
+    names "21 21 12 34" (transaction 1 None (digits 18 52)) ∷
+    names "60 21 AB 00" (transaction 64 None (digits 171 0)) ∷
+    names "21 22 09 99 12 34" (transaction 1 (Some (digits 9 153)) (digits 18 52)) ∷
     names "81" (Ok (Product 1)) ∷
     names "88" (Ok (Product 8)) ∷
     -- another form, a point out of range, and three octets
     names "21 22 00 01" (Err BadAddress) ∷
     names "20 21 00 01" (Err BadAddress) ∷
     names "61 21 00 01" (Err BadAddress) ∷
+    names "20 22 00 01 00 01" (Err BadAddress) ∷
+    names "21 21 00 01 00 01" (Err BadAddress) ∷
     names "21 21 00" (Err BadAddress) ∷
     names "02" (Err BadAddress) ∷
     []

@@ -1,15 +1,18 @@
 -- The database that an address names.
-use Rattle.std.specs.Prelude.{ℕ, ◌+◌, ◌-◌, Bool, List, [], ◌∷◌, length, ◌&&◌, ◌==◌, slice_index}
-use Rattle.std.specs.Prelude.{Result, Ok, Err, if◌then◌else◌}
+use Rattle.std.specs.Prelude.{ℕ, ◌+◌, ◌-◌, Bool, List, length, ◌&&◌, ◌==◌, slice_index}
+use Rattle.std.specs.Prelude.{Some, None, Result, Ok, Err, if◌then◌else◌}
 use Rattle.site_base.specs.declared.limits.TheConstants.{POINTS, PRODUCTS}
 use Rattle.site_base.specs.Configured.{is_between}
 use Rattle.device_map.specs.declared.address.Database.{Database}
 use Rattle.device_map.specs.declared.address.Database.TheVariants.{Site, Point, Transaction}
 use Rattle.device_map.specs.declared.address.Database.TheVariants.{Product}
+use Rattle.device_map.specs.declared.decimal.Digits.{Digits}
+use Rattle.device_map.specs.declared.decimal.SaleDigits.{SaleDigits}
 use Rattle.device_map.specs.declared.fault.MapFault.{MapFault}
 use Rattle.device_map.specs.declared.fault.MapFault.TheVariants.{BadAddress}
 use Rattle.device_map.specs.declared.ids.TheConstants.{SITE_ADDRESS, POINT_ADDRESS}
-use Rattle.device_map.specs.declared.ids.TheConstants.{PRODUCT_ADDRESS, TRANSACTION_FORM}
+use Rattle.device_map.specs.declared.ids.TheConstants.{PRODUCT_ADDRESS}
+use Rattle.device_map.specs.declared.ids.TheConstants.{TRANSACTION_FORM, SHIFT_FORM}
 
 -- the octet in which the address of a fuelling point, or of its transactions, begins
 abbrev pub is_point_octet : ℕ → Bool
@@ -27,17 +30,29 @@ database_of_octet a =
     else if is_product_octet a then Ok (Product (a - PRODUCT_ADDRESS))
     else Err BadAddress
 
--- the transaction of an address of four octets: its point, the form, and the digits as they came
-abbrev pub transaction_at : ℕ → ℕ → ℕ → ℕ → Result Database MapFault
-transaction_at point form high low =
-    if is_point_octet point && form == TRANSACTION_FORM
-    then Ok (Transaction (point - POINT_ADDRESS) (high ∷ low ∷ []))
-    else Err BadAddress
+-- four digits as they came, in the octets of this place and the next
+abbrev pub digits_at : ℕ → List ℕ → Digits
+digits_at place a = record { high = slice_index a place; low = slice_index a (place + 1) }
+
+-- a sale's number alone: it is one of the shift that is open
+abbrev pub sale_of_open_shift : List ℕ → SaleDigits
+sale_of_open_shift a = record { shift = None; seq = digits_at 2 a }
+
+-- a shift, and the sale's number in it
+abbrev pub sale_of_shift : List ℕ → SaleDigits
+sale_of_shift a = record { shift = Some (digits_at 2 a); seq = digits_at 4 a }
+
+-- a transaction of the fuelling point whose address begins so
+abbrev pub transaction_of : ℕ → SaleDigits → Result Database MapFault
+transaction_of a digits =
+    if is_point_octet a then Ok (Transaction (a - POINT_ADDRESS) digits) else Err BadAddress
 
 -- the database that an address names
 unfoldable pub database_at : List ℕ → Result Database MapFault
 database_at a =
     if length a == 1 then database_of_octet (slice_index a 0)
-    else if length a == 4
-    then transaction_at (slice_index a 0) (slice_index a 1) (slice_index a 2) (slice_index a 3)
+    else if length a == 4 && slice_index a 1 == TRANSACTION_FORM
+    then transaction_of (slice_index a 0) (sale_of_open_shift a)
+    else if length a == 6 && slice_index a 1 == SHIFT_FORM
+    then transaction_of (slice_index a 0) (sale_of_shift a)
     else Err BadAddress

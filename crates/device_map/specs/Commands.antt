@@ -1,20 +1,30 @@
--- The commands of the profile, line for line as its table of requests prints them: the kind of
--- message and the database where each stands, its identifier, the shape of its content, and the
+-- The requests of the profile, line for line as its table prints them: the kind of message and the
+-- database where each stands, the identifier of its command, the shape of what it carries, and the
 -- event that it makes.
-use Rattle.std.specs.Prelude.{ℕ, List, [], ◌∷◌}
+use Rattle.std.specs.Prelude.{ℕ, List, [], ◌∷◌, Option, Some, None}
 use Rattle.site_base.specs.declared.event.Event.{Event}
 use Rattle.site_base.specs.declared.event.Event.TheVariants as events
+use Rattle.site_base.specs.declared.sale.SaleId.{SaleId}
+use Rattle.site_base.specs.declared.state.Preset.{Preset}
 use Rattle.app_message.specs.declared.kind.Kind.{Kind}
 use Rattle.app_message.specs.declared.kind.Kind.TheVariants as kinds
 use Rattle.device_map.specs.declared.address.Database.{Database}
-use Rattle.device_map.specs.declared.address.Database.TheVariants.{Site, Point}
+use Rattle.device_map.specs.declared.address.Database.TheVariants.{Site, Point, Transaction}
+use Rattle.device_map.specs.declared.decimal.SaleDigits.{SaleDigits}
 use Rattle.device_map.specs.declared.ids.TheConstants as ids
 
--- the shape of a command: what its content is and which items stand behind it, and the event that
--- these make
+-- the shape of a request: what stands behind its command, and the event that this makes
 pub data Shape : Type 0 where
-  -- no content, and no item behind it
+  -- nothing
   bare : (event : Event) → Shape
+  -- a preset volume, or preset money, or nothing
+  limited : (event : Preset → Event) → Shape
+  -- preset money
+  prepaid : (event : ℕ → Event) → Shape
+  -- a nozzle and the reading of its meter
+  metered : (event : ℕ → ℕ → Event) → Shape
+  -- nothing, and the address names a sale by its digits
+  of_sale : (digits : SaleDigits) (event : SaleId → Event) → Shape
 
 -- a command: its identifier and its shape
 pub record Command : Type 0 where
@@ -33,7 +43,24 @@ commands kinds.Write Site =
 commands kinds.Write (Point p) =
     command ids.OPEN (bare (events.Open p)) ∷
     command ids.CLOSE (bare (events.Close p)) ∷
+    command ids.RELEASE (limited (events.Release p)) ∷
+    command ids.TERMINATE (bare (events.Terminate p)) ∷
+    command ids.SUSPEND (bare (events.Suspend p)) ∷
+    command ids.RESUME (bare (events.Resume p)) ∷
     command ids.ASSIGN (bare (events.Assign p)) ∷
     command ids.UNASSIGN (bare (events.Unassign p)) ∷
+    command ids.PREPAY (prepaid (events.Prepay p)) ∷
+    command ids.TEST_RELEASE (bare (events.TestRelease p)) ∷
+    command ids.REPLACE_METER (metered (events.ReplaceMeter p)) ∷
+    []
+commands kinds.Report (Point p) =
+    command ids.ONLINE (bare (events.Online p)) ∷
+    command ids.LIFT (metered (events.Lift p)) ∷
     []
 commands kind database = []
+
+-- a read has no command: its shape is that of its database, if that is read
+abbrev pub reading_of : Database → Option Shape
+reading_of (Point p) = Some (bare (events.ReadPoint p))
+reading_of (Transaction p digits) = Some (of_sale digits (events.ReadTransaction p))
+reading_of database = None

@@ -1,8 +1,10 @@
 pub mod Faults
 pub mod Stages
 pub mod Nodes
+pub mod Decimal
 pub mod Addresses
 pub mod Commands
+pub mod Further
 pub mod Requests
 pub mod Items
 pub mod Replies

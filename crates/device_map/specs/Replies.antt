@@ -1,6 +1,6 @@
 -- The message that tells a reply.
-use Rattle.std.specs.Prelude.{◌≡◌, ◌≤◌, ℕ, length, Bool, true, false, List, [], ◌∷◌, ◌++◌, ◌+◌}
-use Rattle.std.specs.Prelude.{◌*◌, ◌/◌, ◌%◌, Option, Some, None, Result, Ok, Err, unwrap_or}
+use Rattle.std.specs.Prelude.{◌≡◌, ◌≤◌, ℕ, length, Bool, true, false, List, [], ◌∷◌, ◌++◌}
+use Rattle.std.specs.Prelude.{Option, Some, None, Result, Ok, Err, unwrap_or}
 use Rattle.std.specs.List.{flat_map}
 use Rattle.site_base.specs.declared.answer.Answer.{Answer}
 use Rattle.site_base.specs.declared.answer.Answer.TheVariants as answers
@@ -21,6 +21,7 @@ use Rattle.app_message.specs.Parts.{do_rise}
 use Rattle.app_message.specs.Spelling.{item_text}
 use Rattle.app_message.specs.Telegram.{Entry, Telegram}
 use Rattle.device_map.specs.declared.ids.TheConstants as ids
+use Rattle.device_map.specs.Decimal.{packed}
 use Rattle.device_map.specs.Items.{octet, two_octets, four_octets, eight_octets}
 use Rattle.device_map.specs.Nodes.{site_node}
 
@@ -28,10 +29,6 @@ use Rattle.device_map.specs.Nodes.{site_node}
 abbrev pub flag : Bool → ℕ
 flag true = 1
 flag false = 0
-
--- four decimal digits, packed two to an octet, as a number of two octets
-abbrev pub packed : ℕ → ℕ
-packed n = n / 1000 % 10 * 4096 + n / 100 % 10 * 256 + n / 10 % 10 * 16 + n % 10
 
 -- the test mark, if the fuelling is a test
 abbrev pub test_items : Bool → List Entry

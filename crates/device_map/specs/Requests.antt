@@ -1,20 +1,21 @@
 -- The event that a message asks for.
-use Rattle.std.specs.Prelude.{ℕ, List, [], ◌∷◌, length, ◌==◌, Result, Ok, Err, if◌then◌else◌}
+use Rattle.std.specs.Prelude.{ℕ, List, [], ◌∷◌, length, ◌==◌, Option, Some, None, Result, Ok, Err}
+use Rattle.std.specs.Prelude.{if◌then◌else◌}
 use Rattle.site_base.specs.declared.actor.Actor.{Actor}
 use Rattle.site_base.specs.declared.event.Event.{Event}
-use Rattle.site_base.specs.declared.event.Event.TheVariants as events
 use Rattle.app_message.specs.declared.kind.Kind.{Kind}
 use Rattle.app_message.specs.declared.kind.Kind.TheVariants as kinds
 use Rattle.app_message.specs.Telegram.{Entry, Telegram}
 use Rattle.device_map.specs.declared.address.Database.{Database}
-use Rattle.device_map.specs.declared.address.Database.TheVariants.{Point}
 use Rattle.device_map.specs.declared.fault.MapFault.{MapFault}
 use Rattle.device_map.specs.declared.fault.MapFault.TheVariants.{BadAddress, UnknownItem}
 use Rattle.device_map.specs.declared.fault.MapFault.TheVariants.{ItemMissing, BadNumber}
 use Rattle.device_map.specs.Stages.{◌>>=◌}
 use Rattle.device_map.specs.Nodes.{for_us, actor_at, is_request}
 use Rattle.device_map.specs.Addresses.{database_at}
-use Rattle.device_map.specs.Commands.{Shape, bare, Command, commands}
+use Rattle.device_map.specs.Commands.{Shape, bare, limited, prepaid, metered, of_sale}
+use Rattle.device_map.specs.Commands.{Command, commands, reading_of}
+use Rattle.device_map.specs.Further.{items_end, preset_in, money_in, meter_in, sale_in}
 
 -- some command is known there
 abbrev pub some_known : List Command → Result (Unit {0}) MapFault
@@ -31,50 +32,51 @@ abbrev pub shape_of : ℕ → List Command → Result Shape MapFault
 shape_of id [] = Err UnknownItem
 shape_of id (row ∷ rows) = if id == row.id then Ok row.shape else shape_of id rows
 
--- no items are left
-abbrev pub items_end : List Entry → Result (Unit {0}) MapFault
-items_end items = if length items == 0 then Ok tt else Err UnknownItem
-
 -- there is no content
 abbrev pub empty_content : Entry → Result (Unit {0}) MapFault
 empty_content e = if length e.content == 0 then Ok tt else Err BadNumber
 
--- the event of a command of this shape with these items behind it: which items stand there is
--- judged first, then their widths
-abbrev pub event_by : Shape → Entry → List Entry → Result Event MapFault
-event_by (bare event) command others = do
-  _ ← items_end others
-  _ ← empty_content command
+-- the event of a request of this shape with these items behind its command
+abbrev pub event_by : Shape → List Entry → Result Event MapFault
+event_by (bare event) items = do
+  _ ← items_end items
   Ok event
+event_by (limited event) items = do
+  preset ← preset_in items
+  Ok (event preset)
+event_by (prepaid event) items = do
+  cents ← money_in items
+  Ok (event cents)
+event_by (metered event) items = do
+  meter ← meter_in items
+  Ok (event meter.0 meter.1)
+event_by (of_sale digits event) items = do
+  sale ← sale_in digits items
+  Ok (event sale)
 
--- the event of a command of these rows, and the items behind it
-abbrev pub event_among : List Command → Entry × List Entry → Result Event MapFault
-event_among rows items = do
-  shape ← shape_of items.0.id rows
-  event_by shape items.0 items.1
+-- the event of a command of these rows, by its identifier and the items behind it
+abbrev pub event_among : List Command → ℕ → List Entry → Result Event MapFault
+event_among rows id items = do
+  shape ← shape_of id rows
+  event_by shape items
 
--- a message with a command: of a database where some are known
+-- a message with a command: of a database where some are known; the command has no content
 unfoldable pub command_in : List Command → List Entry → Result Event MapFault
 command_in rows items = do
   _ ← some_known rows
   first ← first_item items
-  event_among rows first
-
--- a read of this database: of a fuelling point alone
-abbrev pub read_of : Database → Result Event MapFault
-read_of (Point p) = Ok (events.ReadPoint p)
-read_of database = Err BadAddress
-
--- a read: no items
-unfoldable pub read_at : Database → List Entry → Result Event MapFault
-read_at database items = do
-  event ← read_of database
-  _ ← items_end items
+  event ← event_among rows first.0.id first.1
+  _ ← empty_content first.0
   Ok event
+
+-- a read, if the database is read
+abbrev pub read_by : Option Shape → List Entry → Result Event MapFault
+read_by None items = Err BadAddress
+read_by (Some shape) items = event_by shape items
 
 -- what the kind of message asks of the database
 abbrev pub event_at : Kind → Database → List Entry → Result Event MapFault
-event_at kinds.Read database items = read_at database items
+event_at kinds.Read database items = read_by (reading_of database) items
 event_at kind database items = command_in (commands kind database) items
 
 -- the pair that a message means: a request, for this site, from one who may ask it, of a database

@@ -1,12 +1,13 @@
 //! The database that an address names.
 
-ghost use Rattle.std.specs.Prelude.{◌≡◌, ◌+◌, true, slice_index, IfSome, IsSome, ◌↔◌};
+ghost use Rattle.std.specs.Prelude.{◌≡◌, ◌+◌, true, IfSome, IsSome, ◌↔◌};
 ghost use Rattle.device_map.specs.Stages.{Gives};
-ghost use Rattle.device_map.specs.Addresses.{database_of_octet, transaction_at, is_point_octet};
+ghost use Rattle.device_map.specs.Addresses.{database_of_octet, transaction_of, is_point_octet};
 ghost use Rattle.device_map.specs.Addresses.{is_product_octet, database_at};
 
+use crate::decimal::{Digits, SaleDigits};
 use crate::fault::MapFault;
-use crate::ids::{POINT_ADDRESS, PRODUCT_ADDRESS, SITE_ADDRESS, TRANSACTION_FORM};
+use crate::ids::{POINT_ADDRESS, PRODUCT_ADDRESS, SHIFT_FORM, SITE_ADDRESS, TRANSACTION_FORM};
 use site_base::{FpNo, ProductNo};
 
 /// A database of the site.
@@ -16,9 +17,9 @@ pub enum Database {
     Site,
     /// A fuelling point's.
     Point(FpNo),
-    /// That of a transaction of a fuelling point: the two octets of its number as they came. Whether
-    /// they are digits is judged after the items of the request, and before the widths of these.
-    Transaction(FpNo, [u8; 2]),
+    /// That of a transaction of a fuelling point, by its digits as they came. Whether they are
+    /// decimal is judged after the items of the request, and before the widths of these.
+    Transaction(FpNo, SaleDigits),
     /// A product's.
     Product(ProductNo),
 }
@@ -31,7 +32,15 @@ impl Database {
     {
         match address {
             [octet] => Database::of_octet(*octet),
-            [point, form, high, low] => Database::of_transaction(*point, *form, [*high, *low]),
+            [octet, TRANSACTION_FORM, high, low] => {
+                let seq = Digits::new(*high, *low);
+                Database::of_transaction(*octet, SaleDigits { shift: None, seq })
+            }
+            [octet, SHIFT_FORM, shift_high, shift_low, high, low] => {
+                let shift = Some(Digits::new(*shift_high, *shift_low));
+                let seq = Digits::new(*high, *low);
+                Database::of_transaction(*octet, SaleDigits { shift, seq })
+            }
             _ => Err(MapFault::BadAddress),
         }
     }
@@ -51,13 +60,10 @@ impl Database {
         }
     }
 
-    fn of_transaction(point: u8, form: u8, digits: [u8; 2]) -> Result<Database, MapFault>
-        ensures { Gives result (transaction_at point form (slice_index digits 0) (slice_index digits 1)) }
+    fn of_transaction(octet: u8, digits: SaleDigits) -> Result<Database, MapFault>
+        ensures { Gives result (transaction_of octet digits) }
     {
-        if form != TRANSACTION_FORM {
-            return Err(MapFault::BadAddress);
-        }
-        match point_of(point) {
+        match point_of(octet) {
             Some(point) => Ok(Database::Transaction(point, digits)),
             None => Err(MapFault::BadAddress),
         }

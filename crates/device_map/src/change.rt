@@ -1,13 +1,17 @@
 //! Changes: what dispensers are told.
 
-ghost use Rattle.std.specs.Prelude.{◌≡◌, [], ◌∷◌, Some, None, IfOk, IfSome};
+ghost use Rattle.std.specs.Prelude.{◌≡◌, ◌<◌, [], ◌∷◌, Some, None, IfOk, IfSome};
 ghost use Rattle.app_message.specs.Telegram.{entry};
+ghost use Rattle.device_map.specs.declared.ids.TheConstants.{PRESET_VOLUME};
 ghost use Rattle.device_map.specs.Changes.{change_by, change_of, notice};
+ghost use Rattle.device_map.specs.Replies.{preset_items};
 
+use crate::put::put_command;
+use crate::reply::{begun, finished, put_preset};
 use crate::request::request_of;
 use crate::{ids, node};
 use app_message::{Draft, Kind, Message, MessageFault, Token};
-use site_base::{Event, FpNo, NoMemory, Row, TillNo};
+use site_base::{Event, FpNo, NoMemory, Preset, Row, TillNo};
 use std::alloc::Global;
 
 /// The message that tells the dispenser of a fuelling point of a change: a command that was accepted
@@ -29,8 +33,18 @@ fn change_by(alloc: Global, event: Event) -> Result<Option<Message>, NoMemory>
     match event {
         Event::Open(p) => Ok(Some(told(alloc, p, ids::OPEN)?)),
         Event::Close(p) => Ok(Some(told(alloc, p, ids::CLOSE)?)),
+        Event::Release(p, preset) => Ok(Some(told_within(alloc, p, ids::RELEASE, preset)?)),
+        Event::Prepay(p, cents) => {
+            Ok(Some(told_within(alloc, p, ids::PREPAY, Preset::Money(cents))?))
+        }
+        Event::TestRelease(p) => Ok(Some(told(alloc, p, ids::TEST_RELEASE)?)),
+        Event::Suspend(p) => Ok(Some(told(alloc, p, ids::SUSPEND)?)),
+        Event::Resume(p) => Ok(Some(told(alloc, p, ids::RESUME)?)),
+        Event::Terminate(p) => Ok(Some(told(alloc, p, ids::TERMINATE)?)),
         Event::SignOn | Event::SignOff => Ok(None),
-        Event::Assign(_) | Event::Unassign(_) | Event::ReadPoint(_) => Ok(None),
+        Event::Assign(_) | Event::Unassign(_) | Event::ReplaceMeter(_, _, _) => Ok(None),
+        Event::ReadPoint(_) | Event::ReadTransaction(_, _) => Ok(None),
+        Event::Online(_) | Event::Lift(_, _, _) => Ok(None),
     }
 }
 
@@ -81,26 +95,22 @@ fn commanded(alloc: Global, message: &Message) -> Result<Option<Event>, NoMemory
 
 /// The notice of a command without further items to the dispenser of this point.
 fn told(alloc: Global, point: FpNo, command: u8) -> Result<Message, NoMemory>
+    requires { command < PRESET_VOLUME }
     ensures { IfOk result (λ message. message ≡ notice point (entry command [] ∷ [])) }
+{
+    told_within(alloc, point, command, Preset::Unset)
+}
+
+/// The notice of a command with this preset to the dispenser of this point.
+fn told_within(alloc: Global, point: FpNo, command: u8, preset: Preset) -> Result<Message, NoMemory>
+    requires { command < PRESET_VOLUME }
+    ensures { IfOk result (λ message. message ≡ notice point (entry command [] ∷ preset_items preset)) }
 {
     let to = node::dispenser(point);
     let token = Token::new(0).unwrap();
     let address = [ids::POINT_ADDRESS + point.get()];
-    let content: &[u8] = &[];
-    let items = [(command, content)];
-    match Message::try_new(
-        alloc,
-        to,
-        node::site(),
-        Kind::Notice,
-        token,
-        &address,
-        &items,
-    ) {
-        Ok(message) => Ok(message),
-        Err(fault) => match fault {
-            MessageFault::NoMemory => Err(NoMemory),
-            _ => unreachable!(),
-        },
-    }
+    let mut draft = begun(alloc, to, Kind::Notice, token, &address)?;
+    put_command(&mut draft, command)?;
+    put_preset(&mut draft, preset)?;
+    Ok(finished(draft))
 }

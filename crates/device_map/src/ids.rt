@@ -17,8 +17,12 @@ pub const SITE_ADDRESS: u8 = 0x01;
 /// What is added to a fuelling point's number in its address.
 pub const POINT_ADDRESS: u8 = 0x20;
 
-/// What stands behind a fuelling point's address where one of its transactions is named.
+/// What stands behind a fuelling point's address where one of its transactions of the open shift is
+/// named.
 pub const TRANSACTION_FORM: u8 = 0x21;
+
+/// What stands there where a transaction is named with its shift.
+pub const SHIFT_FORM: u8 = 0x22;
 
 /// What is added to a product's number in its address.
 pub const PRODUCT_ADDRESS: u8 = 0x80;
@@ -32,11 +36,29 @@ pub const OPEN: u8 = 0x3C;
 
 pub const CLOSE: u8 = 0x3D;
 
+pub const RELEASE: u8 = 0x3E;
+
+pub const TERMINATE: u8 = 0x3F;
+
+pub const SUSPEND: u8 = 0x40;
+
+pub const RESUME: u8 = 0x41;
+
 pub const ASSIGN: u8 = 0x42;
 
 pub const UNASSIGN: u8 = 0x43;
 
-// What replies tell.
+pub const PREPAY: u8 = 0x44;
+
+pub const TEST_RELEASE: u8 = 0x45;
+
+pub const REPLACE_METER: u8 = 0x46;
+
+pub const ONLINE: u8 = 0x60;
+
+pub const LIFT: u8 = 0x62;
+
+// What stands behind commands, and what replies tell.
 pub const RESULT: u8 = 0x01;
 
 pub const DETAIL: u8 = 0x02;
@@ -56,6 +78,10 @@ pub const TEST: u8 = 0x14;
 pub const PRESET_VOLUME: u8 = 0x50;
 
 pub const PRESET_MONEY: u8 = 0x51;
+
+pub const NOZZLE: u8 = 0x70;
+
+pub const READING: u8 = 0x71;
 
 pub const PRICE: u8 = 0x72;
 

@@ -1,7 +1,7 @@
 //! What holds of requests and changes. The laws have no code: they are proved of the definitions that
 //! the contracts of `request_of` and `change_of` cite.
 
-ghost use Rattle.device_map.specs.Changes.{ChangesRepeatRequests};
+ghost use Rattle.device_map.specs.Changes.{ChangesAreTold, ChangesRepeatRequests};
 ghost use Rattle.device_map.specs.Laws.{IsOneRequest};
 
 /// For each token, each event with an actor of its own kind and numbers in range has one request: a
@@ -14,4 +14,9 @@ pub fn one_request()
 /// the event of the row.
 pub fn changes_repeat_requests()
     ensures { ChangesRepeatRequests }
+{}
+
+/// Of the accepted events a dispenser is told of just those that `Event::has_change` names.
+pub fn changes_are_told()
+    ensures { ChangesAreTold }
 {}

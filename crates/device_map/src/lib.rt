@@ -4,14 +4,17 @@
 //! `reply_of`, `refusal_of` and `stream_refusal` make the message that goes back, `change_of` the one
 //! that a dispenser is told.
 //!
-//! The commands stand in one table, `specs/Commands.antt`, each with the shape of its content, and
-//! `request.rt` has an arm for each. Worked messages, by their octets, are theorems of the
-//! definitions that the contracts cite: `proofs/WorkedRequests.antt` and `WorkedReplies.antt`.
+//! The requests stand in one table, `specs/Commands.antt`, each with the shape of what it carries:
+//! `request.rt` has an arm for each request, `further.rt` a function for each shape. Worked
+//! messages, by their octets, are theorems of the definitions that the contracts cite:
+//! `proofs/WorkedRequests.antt`, `WorkedReplies.antt` and `WorkedChanges.antt`.
 #![tactic(auto)]
 
 mod address;
 mod change;
+mod decimal;
 mod fault;
+mod further;
 mod ids;
 mod laws;
 mod node;
@@ -22,7 +25,7 @@ mod told;
 
 pub use change::{change_of, change_told};
 pub use fault::MapFault;
-pub use laws::{changes_repeat_requests, one_request};
+pub use laws::{changes_are_told, changes_repeat_requests, one_request};
 pub use reply::{refusal_in, refusal_of, reply_in, reply_of, stream_refusal};
 pub use request::request_of;
 pub use told::{number_told, reply_told};

@@ -1,12 +1,19 @@
-//! Items of numbers, put into a message.
+//! Items, put into a message.
 
-ghost use Rattle.std.specs.Prelude.{◌≡◌, ◌≤◌, length, OnOk};
+ghost use Rattle.std.specs.Prelude.{◌≡◌, ◌≤◌, [], ◌∷◌, length, OnOk};
 ghost use Rattle.app_message.specs.Telegram.{entry};
 ghost use Rattle.app_message.specs.Bodies.{with_item, with_items};
 ghost use Rattle.device_map.specs.Items.{octet, two_octets, four_octets, eight_octets};
 
 use app_message::{Draft, MessageFault};
 use site_base::NoMemory;
+
+/// Puts a command, which has no content.
+pub fn put_command(draft: &mut Draft, id: u8) -> Result<(), NoMemory>
+    ensures { OnOk result (draft.new ≡ with_items draft.old (entry id [] ∷ [])) }
+{
+    put(draft, id, &[])
+}
 
 /// Puts an item of one octet.
 #[tactic(auto, unfolding(crate::specs::Items::octet))]

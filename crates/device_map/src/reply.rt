@@ -8,15 +8,16 @@ ghost use Rattle.device_map.specs.Replies.{standing_items};
 ghost use Rattle.device_map.specs.Replies.{transaction_items, product_items, site_items, outcome};
 ghost use Rattle.device_map.specs.Replies.{answer_items, answer_kind, detail_items, refusal_items};
 ghost use Rattle.device_map.specs.Replies.{reply_items, reply_kind, reply_message, number_message};
-ghost use Rattle.device_map.specs.Replies.{fault_message, packed, AreShort, back, told_message, told_number};
+ghost use Rattle.device_map.specs.Replies.{fault_message, AreShort, back, told_message, told_number};
 ghost use Rattle.device_map.specs.Nodes.{site_node};
 
+use crate::decimal::packed_digits;
 use crate::put::{put_eight, put_four, put_octet, put_two};
 use crate::{ids, node};
 use app_message::{Draft, Kind, Message, MessageFault, StreamFault, Token};
 use site_base::{
-    Answer, Cents, GREATEST_SEQ, Mills, NoMemory, NozzleNo, PointView, Preset, ProductView,
-    Refusal, Reply, Seq, ShiftNo, SiteView, TillNo, TransactionView,
+    Answer, Cents, Mills, NoMemory, NozzleNo, PointView, Preset, ProductView, Refusal, Reply, Seq,
+    ShiftNo, SiteView, TillNo, TransactionView,
 };
 use std::alloc::Global;
 
@@ -109,7 +110,7 @@ fn back(buffer: Vec<u8>, request: &Message, kind: Kind) -> Result<Draft, NoMemor
 }
 
 /// A message from the site, without items yet.
-fn begun(
+pub fn begun(
     alloc: Global,
     to: [u8; 2],
     kind: Kind,
@@ -130,7 +131,7 @@ fn begun(
 }
 
 /// The message of a draft whose items are short.
-fn finished(draft: Draft) -> Message
+pub fn finished(draft: Draft) -> Message
     requires short { AreShort draft.items }
     requires least { 1 ≤ length draft.address }
     requires most { length draft.address ≤ 8 }
@@ -312,7 +313,8 @@ fn put_test(draft: &mut Draft, test: bool) -> Result<(), NoMemory>
     }
 }
 
-fn put_preset(draft: &mut Draft, preset: Preset) -> Result<(), NoMemory>
+/// Puts the preset, if one is set.
+pub fn put_preset(draft: &mut Draft, preset: Preset) -> Result<(), NoMemory>
     ensures { OnOk result (draft.new ≡ with_items draft.old (preset_items preset)) }
 {
     match preset {
@@ -349,12 +351,4 @@ fn till_number(till: Option<TillNo>) -> u8
         Some(till) => till.get(),
         None => 0,
     }
-}
-
-/// A sequence number as four decimal digits, packed two to an octet.
-fn packed_digits(number: u16) -> u16
-    requires { number ≤ GREATEST_SEQ }
-    ensures { result ≡ packed number }
-{
-    number / 1000 % 10 * 4096 + number / 100 % 10 * 256 + number / 10 % 10 * 16 + number % 10
 }

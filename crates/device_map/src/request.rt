@@ -1,14 +1,13 @@
 //! Messages to events.
 
-ghost use Rattle.std.specs.Prelude.{◌≡◌};
 ghost use Rattle.device_map.specs.Stages.{Gives};
-ghost use Rattle.device_map.specs.Commands.{bare, commands};
-ghost use Rattle.device_map.specs.Requests.{event_by, command_in, read_of, read_at, event_at};
-ghost use Rattle.device_map.specs.Requests.{request_at};
+ghost use Rattle.device_map.specs.Commands.{bare, commands, reading_of};
+ghost use Rattle.device_map.specs.Requests.{event_by, event_among, empty_content, command_in};
+ghost use Rattle.device_map.specs.Requests.{read_by, event_at, request_at};
 
 use crate::address::Database;
 use crate::fault::MapFault;
-use crate::{ids, node};
+use crate::{further, ids, node};
 use app_message::{Item, Items, Kind, Message};
 use site_base::{Actor, Event, FpNo};
 
@@ -35,26 +34,19 @@ fn event_of(kind: Kind, database: Database, items: Items<'_>) -> Result<Event, M
     match kind {
         Kind::Read => read_event(database, items),
         Kind::Write => write_event(database, items),
+        Kind::Report => report_event(database, items),
         _ => Err(MapFault::BadAddress),
     }
 }
 
-#[tactic(auto, unfolding(crate::specs::Requests::read_at))]
 fn read_event(database: Database, items: Items<'_>) -> Result<Event, MapFault>
-    ensures { Gives result (read_at database items.entry) }
-{
-    let event = read_of(database)?;
-    if !items.is_empty() {
-        return Err(MapFault::UnknownItem);
-    }
-    Ok(event)
-}
-
-fn read_of(database: Database) -> Result<Event, MapFault>
-    ensures { Gives result (read_of database) }
+    ensures { Gives result (read_by (reading_of database) items.entry) }
 {
     match database {
-        Database::Point(point) => Ok(Event::ReadPoint(point)),
+        Database::Point(point) => bare(Event::ReadPoint(point), items),
+        Database::Transaction(point, digits) => {
+            Ok(Event::ReadTransaction(point, further::sale(digits, items)?))
+        }
         _ => Err(MapFault::BadAddress),
     }
 }
@@ -70,47 +62,112 @@ fn write_event(database: Database, items: Items<'_>) -> Result<Event, MapFault>
     }
 }
 
-/// The commands of the site.
+#[tactic(auto, unfolding(crate::specs::Requests::command_in))]
+fn report_event(database: Database, items: Items<'_>) -> Result<Event, MapFault>
+    ensures { Gives result (command_in (commands Kind.Report database) items.entry) }
+{
+    match database {
+        Database::Point(point) => report(point, items),
+        _ => Err(MapFault::BadAddress),
+    }
+}
+
+/// A command to the site.
 #[tactic(auto, unfolding(crate::specs::Requests::command_in))]
 fn site_command(mut items: Items<'_>) -> Result<Event, MapFault>
     ensures { Gives result (command_in (commands Kind.Write Database.Site) items.entry) }
 {
-    let Some(command) = items.next() else {
-        return Err(MapFault::ItemMissing);
-    };
-    match command.id() {
-        ids::SIGN_ON => bare(Event::SignOn, &command, items),
-        ids::SIGN_OFF => bare(Event::SignOff, &command, items),
-        _ => Err(MapFault::UnknownItem),
-    }
+    let command = items.next().ok_or(MapFault::ItemMissing)?;
+    let event = site_event(command.id(), items)?;
+    no_content(&command)?;
+    Ok(event)
 }
 
-/// The commands of a fuelling point.
+/// A command to a fuelling point.
 #[tactic(auto, unfolding(crate::specs::Requests::command_in))]
 fn point_command(point: FpNo, mut items: Items<'_>) -> Result<Event, MapFault>
     ensures { Gives result (command_in (commands Kind.Write (Database.Point point)) items.entry) }
 {
-    let Some(command) = items.next() else {
-        return Err(MapFault::ItemMissing);
-    };
-    match command.id() {
-        ids::OPEN => bare(Event::Open(point), &command, items),
-        ids::CLOSE => bare(Event::Close(point), &command, items),
-        ids::ASSIGN => bare(Event::Assign(point), &command, items),
-        ids::UNASSIGN => bare(Event::Unassign(point), &command, items),
+    let command = items.next().ok_or(MapFault::ItemMissing)?;
+    let event = point_event(point, command.id(), items)?;
+    no_content(&command)?;
+    Ok(event)
+}
+
+/// A report of a fuelling point's dispenser.
+#[tactic(auto, unfolding(crate::specs::Requests::command_in))]
+fn report(point: FpNo, mut items: Items<'_>) -> Result<Event, MapFault>
+    ensures { Gives result (command_in (commands Kind.Report (Database.Point point)) items.entry) }
+{
+    let command = items.next().ok_or(MapFault::ItemMissing)?;
+    let event = reported_event(point, command.id(), items)?;
+    no_content(&command)?;
+    Ok(event)
+}
+
+/// What a till may ask of the site.
+fn site_event(id: u8, items: Items<'_>) -> Result<Event, MapFault>
+    ensures { Gives result (event_among (commands Kind.Write Database.Site) id items.entry) }
+{
+    match id {
+        ids::SIGN_ON => bare(Event::SignOn, items),
+        ids::SIGN_OFF => bare(Event::SignOff, items),
         _ => Err(MapFault::UnknownItem),
     }
 }
 
-/// The event of a command without content, and with no item behind it.
-fn bare(event: Event, command: &Item<'_>, others: Items<'_>) -> Result<Event, MapFault>
-    ensures { Gives result (event_by (bare event) command.now others.entry) }
+/// What a till may ask of a fuelling point.
+fn point_event(point: FpNo, id: u8, items: Items<'_>) -> Result<Event, MapFault>
+    ensures { Gives result (event_among (commands Kind.Write (Database.Point point)) id items.entry) }
 {
-    if !others.is_empty() {
-        return Err(MapFault::UnknownItem);
+    match id {
+        ids::OPEN => bare(Event::Open(point), items),
+        ids::CLOSE => bare(Event::Close(point), items),
+        ids::RELEASE => Ok(Event::Release(point, further::preset(items)?)),
+        ids::TERMINATE => bare(Event::Terminate(point), items),
+        ids::SUSPEND => bare(Event::Suspend(point), items),
+        ids::RESUME => bare(Event::Resume(point), items),
+        ids::ASSIGN => bare(Event::Assign(point), items),
+        ids::UNASSIGN => bare(Event::Unassign(point), items),
+        ids::PREPAY => Ok(Event::Prepay(point, further::money(items)?)),
+        ids::TEST_RELEASE => bare(Event::TestRelease(point), items),
+        ids::REPLACE_METER => {
+            let (nozzle, reading) = further::meter(items)?;
+            Ok(Event::ReplaceMeter(point, nozzle, reading))
+        }
+        _ => Err(MapFault::UnknownItem),
     }
-    if !command.content().is_empty() {
-        return Err(MapFault::BadNumber);
+}
+
+/// What the dispenser of a fuelling point may report.
+fn reported_event(point: FpNo, id: u8, items: Items<'_>) -> Result<Event, MapFault>
+    ensures { Gives result (event_among (commands Kind.Report (Database.Point point)) id items.entry) }
+{
+    match id {
+        ids::ONLINE => bare(Event::Online(point), items),
+        ids::LIFT => {
+            let (nozzle, reading) = further::meter(items)?;
+            Ok(Event::Lift(point, nozzle, reading))
+        }
+        _ => Err(MapFault::UnknownItem),
     }
+}
+
+/// The event of a request with nothing behind its command.
+fn bare(event: Event, items: Items<'_>) -> Result<Event, MapFault>
+    ensures { Gives result (event_by (bare event) items.entry) }
+{
+    further::nothing(items)?;
     Ok(event)
+}
+
+/// A command has no content.
+fn no_content(command: &Item<'_>) -> Result<(), MapFault>
+    ensures { Gives result (empty_content command.now) }
+{
+    if command.content().is_empty() {
+        Ok(())
+    } else {
+        Err(MapFault::BadNumber)
+    }
 }

@@ -3,13 +3,13 @@
 ghost use Rattle.std.specs.Prelude.{◌≡◌, IfOk, IfSome};
 ghost use Rattle.device_map.specs.Replies.{told_message, told_number};
 
+use crate::decimal::Digits;
 use crate::ids;
 use crate::reply::{number_like, reply_like};
 use app_message::{Kind, Message};
 use site_base::{
     Answer, Cents, Millilitres, Mills, NoMemory, NozzleNo, PointState, PointView, Preset,
-    ProductNo, ProductView, Refusal, Reply, Seq, ShiftNo, SiteView, Status, TillNo,
-    TransactionView,
+    ProductNo, ProductView, Refusal, Reply, ShiftNo, SiteView, Status, TillNo, TransactionView,
 };
 use std::alloc::Global;
 
@@ -86,12 +86,8 @@ fn start(message: &Message) -> Option<Answer> {
 
 fn sold(message: &Message) -> Option<Answer> {
     let growth = number(message, ids::VOLUME)?;
-    let digits = two_octets(message, ids::SEQUENCE)?;
-    let number = digits / 4096 % 16 * 1000
-        + digits / 256 % 16 * 100
-        + digits / 16 % 16 * 10
-        + digits % 16;
-    let seq = Seq::new(number)?;
+    let [high, low] = two_octets(message, ids::SEQUENCE)?.to_be_bytes();
+    let seq = Digits::new(high, low).seq().ok()?;
     Some(Answer::Sold { seq, growth })
 }
 

@@ -1,0 +1,96 @@
+-- What stands behind a command, or in a read: which items are there is judged first, then their
+-- widths and the ranges of their numbers.
+use Rattle.std.specs.Prelude.{ℕ, List, [], ◌∷◌, length, ◌==◌, ◌&&◌, nat_le, slice_index}
+use Rattle.std.specs.Prelude.{Option, Some, None, Result, Ok, Err, if◌then◌else◌}
+use Rattle.std.specs.Int.{w32, w64, from_be_bytes}
+use Rattle.site_base.specs.declared.limits.TheConstants.{NOZZLES, GREATEST_READING}
+use Rattle.site_base.specs.declared.sale.SaleId.{SaleId}
+use Rattle.site_base.specs.declared.state.Preset.{Preset}
+use Rattle.site_base.specs.declared.state.Preset.TheVariants.{Unset, Volume, Money}
+use Rattle.site_base.specs.Configured.{is_between}
+use Rattle.app_message.specs.Telegram.{Entry}
+use Rattle.device_map.specs.declared.decimal.SaleDigits.{SaleDigits}
+use Rattle.device_map.specs.declared.fault.MapFault.{MapFault}
+use Rattle.device_map.specs.declared.fault.MapFault.TheVariants.{UnknownItem, ItemMissing}
+use Rattle.device_map.specs.declared.fault.MapFault.TheVariants.{BadNumber}
+use Rattle.device_map.specs.declared.ids.TheConstants as ids
+use Rattle.device_map.specs.Stages.{◌>>=◌}
+use Rattle.device_map.specs.Decimal.{sale_named}
+
+-- no items are left
+abbrev pub items_end : List Entry → Result (Unit {0}) MapFault
+items_end items = if length items == 0 then Ok tt else Err UnknownItem
+
+-- the item with this identifier, if it stands next, and the items left. Identifiers rise: a listed
+-- item that isn't next isn't there
+abbrev pub taken : ℕ → List Entry → Option Entry × List Entry
+taken id [] = (None, [])
+taken id (e ∷ es) = if e.id == id then (Some e, es) else (None, e ∷ es)
+
+-- a listed item is there
+abbrev pub present : Option Entry → Result Entry MapFault
+present None = Err ItemMissing
+present (Some e) = Ok e
+
+-- the number of an item of four octets
+abbrev pub four_octets_in : Entry → Result ℕ MapFault
+four_octets_in e = if length e.content == 4 then Ok (from_be_bytes w32 e.content) else Err BadNumber
+
+-- a nozzle's number, an octet
+abbrev pub nozzle_in : Entry → Result ℕ MapFault
+nozzle_in e =
+    if length e.content == 1 && is_between 1 NOZZLES (slice_index e.content 0)
+    then Ok (slice_index e.content 0)
+    else Err BadNumber
+
+-- a meter's reading, eight octets
+abbrev pub reading_in : Entry → Result ℕ MapFault
+reading_in e =
+    if length e.content == 8 && nat_le (from_be_bytes w64 e.content) GREATEST_READING
+    then Ok (from_be_bytes w64 e.content)
+    else Err BadNumber
+
+-- the preset of a volume and of money that may be there: both are one item too many
+abbrev pub preset_of : Option Entry → Option Entry → Result Preset MapFault
+preset_of None None = Ok Unset
+preset_of (Some volume) None = do
+  millilitres ← four_octets_in volume
+  Ok (Volume millilitres)
+preset_of None (Some money) = do
+  cents ← four_octets_in money
+  Ok (Money cents)
+preset_of (Some volume) (Some money) = Err UnknownItem
+
+-- a volume, or money, or nothing
+unfoldable pub preset_in : List Entry → Result Preset MapFault
+preset_in items = do
+  let volume = taken ids.PRESET_VOLUME items
+  let money = taken ids.PRESET_MONEY volume.1
+  _ ← items_end money.1
+  preset_of volume.0 money.0
+
+-- money
+unfoldable pub money_in : List Entry → Result ℕ MapFault
+money_in items = do
+  let money = taken ids.PRESET_MONEY items
+  _ ← items_end money.1
+  item ← present money.0
+  four_octets_in item
+
+-- a nozzle and the reading of its meter
+unfoldable pub meter_in : List Entry → Result (ℕ × ℕ) MapFault
+meter_in items = do
+  let nozzle = taken ids.NOZZLE items
+  let reading = taken ids.READING nozzle.1
+  _ ← items_end reading.1
+  nozzle_item ← present nozzle.0
+  reading_item ← present reading.0
+  number ← nozzle_in nozzle_item
+  millilitres ← reading_in reading_item
+  Ok (number, millilitres)
+
+-- nothing, and a sale that the address names
+unfoldable pub sale_in : SaleDigits → List Entry → Result SaleId MapFault
+sale_in digits items = do
+  _ ← items_end items
+  sale_named digits
