@@ -73,7 +73,11 @@ way_to (events.ReplaceMeter p n r) =
 way_to (events.ReadPoint p) = reading (Point p)
 way_to (events.ReadTransaction p sale) = reading (Transaction p (sale_digits sale))
 way_to (events.Online p) = commanded kinds.Report (Point p) ids.ONLINE nothing
+way_to (events.ReadProduct q) = reading (Product q)
+way_to (events.Offline p) = commanded kinds.Report (Point p) ids.OFFLINE nothing
 way_to (events.Lift p n r) = commanded kinds.Report (Point p) ids.LIFT (meter n r)
+way_to (events.Flow p n r) = commanded kinds.Report (Point p) ids.FLOW (meter n r)
+way_to (events.HangUp p n r) = commanded kinds.Report (Point p) ids.HANG_UP (meter n r)
 
 abbrev pub items_of : Option ℕ → Content → List Entry
 items_of None content = content_items content
@@ -86,12 +90,14 @@ asked_there events.SignOn own = tt
 asked_there events.SignOff own = tt
 asked_there (events.ReadTransaction p sale) own =
     ((and_parts (is_between 1 POINTS p) (is_sale sale) own).0, sale_octets sale.shift sale.seq)
+asked_there (events.ReadProduct q) own = own
 asked_there event own =
     (and_parts (is_point_if_named (point_named event)) (is_carried event) own).0
 
 pub carried_there : (event : Event) → is_in_range event ≡ true
     → is_content (way_to event).content ≡ true
 carried_there (events.ReadTransaction p sale) own = refl
+carried_there (events.ReadProduct q) own = refl
 carried_there event own =
     (and_parts (is_point_if_named (point_named event)) (is_carried event) own).1
 
@@ -133,6 +139,10 @@ event_there (events.ReplaceMeter p n r) own =
     rw (meter_there n r (carried_there (events.ReplaceMeter p n r) own)) refl
 event_there (events.Lift p n r) own =
     rw (meter_there n r (carried_there (events.Lift p n r) own)) refl
+event_there (events.Flow p n r) own =
+    rw (meter_there n r (carried_there (events.Flow p n r) own)) refl
+event_there (events.HangUp p n r) own =
+    rw (meter_there n r (carried_there (events.HangUp p n r) own)) refl
 event_there (events.ReadTransaction p sale) own =
     rw (sale_there sale (and_parts (is_between 1 POINTS p) (is_sale sale) own).1) refl
 event_there event own = refl

@@ -9,7 +9,7 @@ use Rattle.site_base.specs.declared.state.Preset.{Preset}
 use Rattle.app_message.specs.declared.kind.Kind.{Kind}
 use Rattle.app_message.specs.declared.kind.Kind.TheVariants as kinds
 use Rattle.device_map.specs.declared.address.Database.{Database}
-use Rattle.device_map.specs.declared.address.Database.TheVariants.{Site, Point, Transaction}
+use Rattle.device_map.specs.declared.address.Database.TheVariants.{Site, Point, Transaction, Product}
 use Rattle.device_map.specs.declared.decimal.SaleDigits.{SaleDigits}
 use Rattle.device_map.specs.declared.ids.TheConstants as ids
 
@@ -55,7 +55,10 @@ commands kinds.Write (Point p) =
     []
 commands kinds.Report (Point p) =
     command ids.ONLINE (bare (events.Online p)) ∷
+    command ids.OFFLINE (bare (events.Offline p)) ∷
     command ids.LIFT (metered (events.Lift p)) ∷
+    command ids.FLOW (metered (events.Flow p)) ∷
+    command ids.HANG_UP (metered (events.HangUp p)) ∷
     []
 commands kind database = []
 
@@ -63,4 +66,5 @@ commands kind database = []
 abbrev pub reading_of : Database → Option Shape
 reading_of (Point p) = Some (bare (events.ReadPoint p))
 reading_of (Transaction p digits) = Some (of_sale digits (events.ReadTransaction p))
+reading_of (Product q) = Some (bare (events.ReadProduct q))
 reading_of database = None

@@ -43,8 +43,9 @@ fn change_by(alloc: Global, event: Event) -> Result<Option<Message>, NoMemory>
         Event::Terminate(p) => Ok(Some(told(alloc, p, ids::TERMINATE)?)),
         Event::SignOn | Event::SignOff => Ok(None),
         Event::Assign(_) | Event::Unassign(_) | Event::ReplaceMeter(_, _, _) => Ok(None),
-        Event::ReadPoint(_) | Event::ReadTransaction(_, _) => Ok(None),
-        Event::Online(_) | Event::Lift(_, _, _) => Ok(None),
+        Event::ReadPoint(_) | Event::ReadTransaction(_, _) | Event::ReadProduct(_) => Ok(None),
+        Event::Online(_) | Event::Offline(_) | Event::Lift(_, _, _) => Ok(None),
+        Event::Flow(_, _, _) | Event::HangUp(_, _, _) => Ok(None),
     }
 }
 

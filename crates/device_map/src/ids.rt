@@ -56,7 +56,13 @@ pub const REPLACE_METER: u8 = 0x46;
 
 pub const ONLINE: u8 = 0x60;
 
+pub const OFFLINE: u8 = 0x61;
+
 pub const LIFT: u8 = 0x62;
+
+pub const FLOW: u8 = 0x63;
+
+pub const HANG_UP: u8 = 0x64;
 
 // What stands behind commands, and what replies tell.
 pub const RESULT: u8 = 0x01;

@@ -47,6 +47,7 @@ fn read_event(database: Database, items: Items<'_>) -> Result<Event, MapFault>
         Database::Transaction(point, digits) => {
             Ok(Event::ReadTransaction(point, further::sale(digits, items)?))
         }
+        Database::Product(product) => bare(Event::ReadProduct(product), items),
         _ => Err(MapFault::BadAddress),
     }
 }
@@ -145,9 +146,18 @@ fn reported_event(point: FpNo, id: u8, items: Items<'_>) -> Result<Event, MapFau
 {
     match id {
         ids::ONLINE => bare(Event::Online(point), items),
+        ids::OFFLINE => bare(Event::Offline(point), items),
         ids::LIFT => {
             let (nozzle, reading) = further::meter(items)?;
             Ok(Event::Lift(point, nozzle, reading))
+        }
+        ids::FLOW => {
+            let (nozzle, reading) = further::meter(items)?;
+            Ok(Event::Flow(point, nozzle, reading))
+        }
+        ids::HANG_UP => {
+            let (nozzle, reading) = further::meter(items)?;
+            Ok(Event::HangUp(point, nozzle, reading))
         }
         _ => Err(MapFault::UnknownItem),
     }

@@ -38,6 +38,15 @@ pub fn event_of(words: &[&str]) -> Option<Event> {
             let (nozzle, reading) = meter_of(meter)?;
             Some(Event::Lift(point_of(p)?, nozzle, reading))
         }
+        ["Flow", p, meter] => {
+            let (nozzle, reading) = meter_of(meter)?;
+            Some(Event::Flow(point_of(p)?, nozzle, reading))
+        }
+        ["HangUp", p, meter] => {
+            let (nozzle, reading) = meter_of(meter)?;
+            Some(Event::HangUp(point_of(p)?, nozzle, reading))
+        }
+        ["ReadProduct", q] => Some(Event::ReadProduct(product_of(q)?)),
         ["ReadTransaction", sale] => {
             let (point, sale) = sale_of(sale)?;
             Some(Event::ReadTransaction(point, sale))
@@ -60,6 +69,7 @@ fn at_point(name: &str, p: FpNo) -> Option<Event> {
         "Terminate" => Some(Event::Terminate(p)),
         "ReadPoint" => Some(Event::ReadPoint(p)),
         "Online" => Some(Event::Online(p)),
+        "Offline" => Some(Event::Offline(p)),
         _ => None,
     }
 }
