@@ -1,8 +1,6 @@
 //! Actors and events, read from the words in which they are written.
 
-use site_base::{
-    Actor, Event, FpNo, Millilitres, NozzleNo, Preset, SaleId, Seq, ShiftNo, TillNo,
-};
+use site_base::{Actor, Event, FpNo, Millilitres, NozzleNo, Preset, SaleId, Seq, ShiftNo, TillNo};
 
 /// The till with this number.
 pub fn till_of(word: &str) -> Option<TillNo> {
@@ -97,14 +95,15 @@ fn sale_of(word: &str) -> Option<(FpNo, SaleId)> {
     let (point, sale) = word.split_once('/')?;
     let point = point_of(point)?;
     match sale.split_once('/') {
-        None => Some((point, SaleId { shift: None, seq: seq_of(sale)? })),
+        None => Some((point, sale_in(None, sale)?)),
         Some((shift, seq)) => {
-            let shift = Some(ShiftNo::new(shift.parse().ok()?)?);
-            Some((point, SaleId { shift, seq: seq_of(seq)? }))
+            let shift = ShiftNo::new(shift.parse().ok()?)?;
+            Some((point, sale_in(Some(shift), seq)?))
         }
     }
 }
 
-fn seq_of(word: &str) -> Option<Seq> {
-    Seq::new(word.parse().ok()?)
+fn sale_in(shift: Option<ShiftNo>, seq: &str) -> Option<SaleId> {
+    let seq = Seq::new(seq.parse().ok()?)?;
+    Some(SaleId { shift, seq })
 }
