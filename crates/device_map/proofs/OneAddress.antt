@@ -4,7 +4,7 @@ use Rattle.std.proofs.Common.{◌≡◌, ℕ, zero, suc, ◌+◌, ◌-◌, ◌<�
 use Rattle.std.proofs.Common.{List, [], ◌∷◌, length, Ok, Err, refl, ap, ◌∙◌, arith, lit≤}
 use Rattle.std.proofs.lemmas.Bool.{and_parts}
 use Rattle.std.proofs.lemmas.Bool.Decides.{nat_tests}
-use Rattle.site_base.specs.declared.limits.TheConstants.{POINTS}
+use Rattle.site_base.specs.declared.limits.TheConstants.{POINTS, PRODUCTS}
 use Rattle.site_base.specs.Configured.{is_between}
 use Rattle.app_message.specs.Telegram.{AreOctets}
 use Rattle.device_map.specs.declared.address.Database.{Database}
@@ -34,13 +34,14 @@ address_of (Product q) = (ids.PRODUCT_ADDRESS + q) ∷ []
 
 -- ---- the address is there
 
--- where events are asked for: the site, a fuelling point in range, a transaction of one
+-- where events are asked for: the site, a fuelling point in range, a transaction of one, a product in
+-- range
 abbrev pub IsAsked : Database → Type 0
 IsAsked Site = Unit {0}
 IsAsked (Point p) = is_between 1 POINTS p ≡ true
 IsAsked (Transaction p digits) =
     (is_between 1 POINTS p ≡ true) × AreOctets (digit_octets digits.shift digits.seq)
-IsAsked (Product q) = ⊥
+IsAsked (Product q) = is_between 1 PRODUCTS q ≡ true
 
 more_octets : (a : ℕ) (s : List ℕ) → a < 256 → AreOctets s → AreOctets (a ∷ s)
 more_octets a s small rest zero = small
@@ -74,6 +75,13 @@ within_points p own = grind (arith, nat_tests)
 point_number : (p : ℕ) → ids.POINT_ADDRESS + p - ids.POINT_ADDRESS ≡ p
 point_number p = omega arith
 
+within_products : (q : ℕ) → is_between 1 PRODUCTS q ≡ true
+    → is_product_octet (ids.PRODUCT_ADDRESS + q) ≡ true
+within_products q own = grind (arith, nat_tests)
+
+product_number : (q : ℕ) → ids.PRODUCT_ADDRESS + q - ids.PRODUCT_ADDRESS ≡ q
+product_number q = omega arith
+
 transaction_there : (p : ℕ) (shift : Option Digits) (seq : Digits) → is_between 1 POINTS p ≡ true
     → database_at ((ids.POINT_ADDRESS + p) ∷ digit_octets shift seq)
     ≡ Ok (Transaction p (record { shift = shift; seq = seq }))
@@ -88,7 +96,10 @@ database_there (Point p) own =
     let other : (ids.POINT_ADDRESS + p == ids.SITE_ADDRESS) ≡ false = grind (arith, nat_tests) in
     rw (other, within_points p own, point_number p) refl
 database_there (Transaction p digits) own = transaction_there p digits.shift digits.seq own.0
-database_there (Product q) own = absurd own
+database_there (Product q) own =
+    let other : (ids.PRODUCT_ADDRESS + q == ids.SITE_ADDRESS) ≡ false = grind (arith, nat_tests) in
+    let no_point : is_point_octet (ids.PRODUCT_ADDRESS + q) ≡ false = grind (arith, nat_tests) in
+    rw (other, no_point, within_products q own, product_number q) refl
 
 -- an address with its length, and octets
 pub record IsAddress (address : List ℕ) : Type 0 where
@@ -112,6 +123,9 @@ transaction_address a (Some shift) seq small octets = record {
 point_small : (p : ℕ) → is_between 1 POINTS p ≡ true → ids.POINT_ADDRESS + p < 256
 point_small p own = grind (arith, nat_tests)
 
+product_small : (q : ℕ) → is_between 1 PRODUCTS q ≡ true → ids.PRODUCT_ADDRESS + q < 256
+product_small q own = grind (arith, nat_tests)
+
 pub address_is : (d : Database) → IsAsked d → IsAddress (address_of d)
 address_is Site own = record {
   least = lit≤ tt;
@@ -125,7 +139,11 @@ address_is (Point p) own = record {
 }
 address_is (Transaction p digits) own =
     transaction_address (ids.POINT_ADDRESS + p) digits.shift digits.seq (point_small p own.0) own.1
-address_is (Product q) own = absurd own
+address_is (Product q) own = record {
+  least = lit≤ tt;
+  most = lit≤ tt;
+  octets = one_octet (ids.PRODUCT_ADDRESS + q) (product_small q own);
+}
 
 -- ---- there is no other
 

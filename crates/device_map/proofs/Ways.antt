@@ -16,7 +16,7 @@ use Rattle.app_message.specs.declared.kind.Kind.{Kind}
 use Rattle.app_message.specs.declared.kind.Kind.TheVariants as kinds
 use Rattle.app_message.specs.Telegram.{Entry, Rises, entry}
 use Rattle.device_map.specs.declared.address.Database.{Database}
-use Rattle.device_map.specs.declared.address.Database.TheVariants.{Site, Point, Transaction}
+use Rattle.device_map.specs.declared.address.Database.TheVariants.{Site, Point, Transaction, Product}
 use Rattle.device_map.specs.declared.decimal.SaleDigits.{SaleDigits}
 use Rattle.device_map.specs.declared.ids.TheConstants as ids
 use Rattle.device_map.specs.Commands.{Shape, bare, limited, prepaid, metered, of_sale}
@@ -180,6 +180,7 @@ pub reads_lead : (d : Database) → ReadLeadsBack d (reading_of d)
 reads_lead (Point p) = refl
 reads_lead (Transaction p digits) = λ sale same.
     ap (λ (x : SaleDigits). reading (Transaction p x)) (sym same)
+reads_lead (Product q) = refl
 reads_lead d = tt
 
 -- so is the row that is found

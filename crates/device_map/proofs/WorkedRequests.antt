@@ -93,6 +93,14 @@ carrying =
     -- the last nozzle, and the greatest reading
     asks "01 01 03 01 00 62 00 11 01 21 62 00 70 01 08 71 08 00 00 00 E8 D4 A5 0F FF"
     (Dispenser 1) (events.Lift 1 8 999999999999) ∷
+    asks "01 01 03 01 00 63 00 04 01 21 61 00" (Dispenser 1) (events.Offline 1) ∷
+    asks "01 01 03 01 00 63 00 11 01 21 63 00 70 01 01 71 08 00 00 00 00 00 00 13 88"
+    (Dispenser 1) (events.Flow 1 1 5000) ∷
+    asks "01 01 03 03 00 64 00 11 01 23 64 00 70 01 02 71 08 00 00 00 00 00 00 34 21"
+    (Dispenser 3) (events.HangUp 3 2 13345) ∷
+    -- products are read
+    asks "01 01 02 01 00 01 00 02 01 81" (Till 1) (events.ReadProduct 1) ∷
+    asks "01 01 02 01 00 01 00 02 01 88" (Till 1) (events.ReadProduct 8) ∷
     -- a dispenser that speaks of another point is the site's to refuse
     asks "01 01 03 02 00 61 00 04 01 21 60 00" (Dispenser 2) (events.Online 1) ∷
     []
@@ -175,9 +183,8 @@ no_requests =
     fails "01 01 02 01 00 01 00 07 06 21 21 00 01 00 01" BadAddress ∷
     fails "01 01 02 01 00 01 00 04 03 21 21 00" BadAddress ∷
     fails "01 01 02 01 00 01 00 06 05 21 21 00 01 00" BadAddress ∷
-    -- nothing is asked of products, and the site isn't read
+    -- nothing is written to products, and the site isn't read
     fails "01 01 02 01 00 41 00 02 01 81" BadAddress ∷
-    fails "01 01 02 01 00 01 00 02 01 88" BadAddress ∷
     fails "01 01 02 01 00 01 00 04 01 01 31 00" BadAddress ∷
     -- a dispenser reports nothing of the site, nor of a transaction
     fails "01 01 03 02 00 61 00 04 01 01 60 00" BadAddress ∷
@@ -196,6 +203,7 @@ no_requests =
     fails "01 01 02 01 00 41 00 07 01 22 42 01 00 43 00" UnknownItem ∷
     -- a read with an item
     fails "01 01 02 01 00 01 00 04 01 21 3C 00" UnknownItem ∷
+    fails "01 01 02 01 00 01 00 04 01 81 90 00" UnknownItem ∷
     -- no command, at a point and at the site
     fails "01 01 02 01 00 41 00 02 01 21" ItemMissing ∷
     fails "01 01 02 01 00 41 00 02 01 01" ItemMissing ∷

@@ -1,7 +1,7 @@
 -- What holds of requests by their definitions.
 use Rattle.std.specs.Prelude.{◌≡◌, ℕ, ◌<◌, ◌^◌, nat_lt, nat_le, Bool, true, false, ◌&&◌}
 use Rattle.std.specs.Prelude.{Option, Some, None, Ok}
-use Rattle.site_base.specs.declared.limits.TheConstants.{TILLS, POINTS, NOZZLES}
+use Rattle.site_base.specs.declared.limits.TheConstants.{TILLS, POINTS, NOZZLES, PRODUCTS}
 use Rattle.site_base.specs.declared.limits.TheConstants.{GREATEST_READING, GREATEST_SHIFT}
 use Rattle.site_base.specs.declared.limits.TheConstants.{GREATEST_SEQ}
 use Rattle.site_base.specs.declared.actor.Actor.{Actor}

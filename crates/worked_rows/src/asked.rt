@@ -1,6 +1,8 @@
 //! Actors and events, read from the words in which they are written.
 
-use site_base::{Actor, Event, FpNo, Millilitres, NozzleNo, Preset, SaleId, Seq, ShiftNo, TillNo};
+use site_base::{
+    Actor, Event, FpNo, Millilitres, NozzleNo, Preset, ProductNo, SaleId, Seq, ShiftNo, TillNo,
+};
 
 /// The till with this number.
 pub fn till_of(word: &str) -> Option<TillNo> {
@@ -10,6 +12,11 @@ pub fn till_of(word: &str) -> Option<TillNo> {
 /// The fuelling point with this number.
 pub fn point_of(word: &str) -> Option<FpNo> {
     FpNo::new(word.parse().ok()?)
+}
+
+/// The product with this number.
+fn product_of(word: &str) -> Option<ProductNo> {
+    ProductNo::new(word.parse().ok()?)
 }
 
 /// The actor that a word names: `t1`, `d3`.
