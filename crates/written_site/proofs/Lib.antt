@@ -19,3 +19,5 @@ pub mod SoundDrawn
 pub mod SoundVolumes
 pub mod Sound
 pub mod SoundOpening
+pub mod SoundSums
+pub mod SoundUses

@@ -203,7 +203,7 @@ sign_off_weighs w t sales =
     ∙ alike_sum (λ x. weight_of w (let_go t x)) (weight_of w) (let_go_weighs w t) sales
 
 -- a nozzle that is out delivers what it did
-product_out_after : (s : SiteState) (e : Event) (p : ℕ) (f : Facts)
+pub product_out_after : (s : SiteState) (e : Event) (p : ℕ) (f : Facts)
     → product_out (nozzles_after s e) p f ≡ product_out s.nozzles p f
 product_out_after s e p f =
     ap (λ (o : Option ℕ). unwrap_or o 0) (product_after s e p (nozzle_out f))
@@ -249,7 +249,7 @@ sold_moves w s a e sound taken =
 -- ---- drawn
 
 -- the product of a nozzle that is there has a number that a product may have
-product_supplied : (s : SiteState) (p n : ℕ) → Sound s → has_nozzle p n s.nozzles ≡ true
+pub product_supplied : (s : SiteState) (p n : ℕ) → Sound s → has_nozzle p n s.nozzles ≡ true
     → IsSupplied s (unwrap_or (product_of p n s.nozzles) 0)
 product_supplied s p n sound has =
     let x = there (nozzle_of p n s.nozzles) has in

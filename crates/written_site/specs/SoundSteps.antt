@@ -1,6 +1,6 @@
 -- What is promised of an event at a sound site: how it moves the volumes, that what grows fits, and what is
 -- true where its point sells or draws.
-use Rattle.std.specs.Prelude.{◌≡◌, ℕ, ◌+◌, ◌*◌, ◌^◌, ◌<◌, ◌≤◌, Bool, true, List, length, Option, Some, None, is_some, unwrap_or}
+use Rattle.std.specs.Prelude.{◌≡◌, ◌≢◌, ℕ, ◌+◌, ◌*◌, ◌^◌, ◌<◌, ◌≤◌, Bool, true, List, length, Option, Some, None, is_some, unwrap_or}
 use Rattle.site_base.specs.declared.actor.Actor.{Actor}
 use Rattle.site_base.specs.declared.event.Event.{Event}
 use Rattle.site_base.specs.declared.limits.TheConstants.{GREATEST_READING, PRODUCT_CELLS, UNPAID_LIMIT}
@@ -9,14 +9,14 @@ use Rattle.site_base.specs.Numbered.{numbered}
 use Rattle.fuelling_point.specs.declared.event.PointEvent.{PointEvent}
 use Rattle.fuelling_point.specs.Kept.{Facts, FitsGrowth, growth_of}
 use Rattle.fuelling_point.specs.Laws.{sold_in, drawn_in}
-use Rattle.meters.specs.Metered.{most_of_a_site, metered_by, product_total}
+use Rattle.meters.specs.Metered.{most_of_a_site, metered_by, product_alone, product_total}
 use Rattle.meters.specs.Nozzles.{product_of}
 use Rattle.transaction_buffer.specs.Sales.{HasNoneLater, next_number, unpaid_at}
 use Rattle.transaction_buffer.specs.Sums.{volume_of, volume_by}
 use Rattle.written_site.specs.SiteState.{SiteState, facts_of, holder_of, open_shift}
 use Rattle.written_site.specs.SiteChecks.{own_event, numbers, at_point, metering}
 use Rattle.written_site.specs.SiteStep.{step_at, nozzles_after, points_after, sales_after, drawn_after}
-use Rattle.written_site.specs.Sound.{InRange, IsPrice}
+use Rattle.written_site.specs.Sound.{InRange, IsPrice, IsSupplied}
 use Rattle.written_site.specs.Volumes.{nozzle_out, product_out, running_at, running_by, sold_by, drawn_by, running, adjusted}
 
 -- The event passes the checks on which points and volumes depend: what it names is there, its point takes
@@ -70,3 +70,62 @@ pub record MovesVolumes (w : ℕ → ℕ) (s : SiteState) (actor : Actor) (event
 abbrev pub FitsOwn : SiteState → Option (ℕ × PointEvent) → Type 0
 FitsOwn s None = Unit {0}
 FitsOwn s (Some e) = FitsGrowth e.1 (facts_of s e.0)
+
+-- What is true where the fuelling at point p is over with an event. The nozzle and the volume that the point
+-- tells are what the site reads of it; the volume is a millilitre at least, and one that a meter can show. The
+-- nozzle delivers the product that the event moves, of whose volume under way this is a part. A till holds
+-- the point.
+pub record IsDelivery (s : SiteState) (event : Event) (p nozzle volume : ℕ) : Type 0 where
+  pub out : nozzle ≡ nozzle_out (facts_of s p)
+  pub run : volume ≡ running_at (nozzles_after s event) p (facts_of s p)
+  pub something : 1 ≤ volume
+  pub within : volume ≤ GREATEST_READING
+  pub product : product_of p nozzle s.nozzles ≡ Some (product_at s event)
+  pub still : product_out (nozzles_after s event) p (facts_of s p) ≡ product_at s event
+  pub supplied : IsSupplied s (product_at s event)
+  pub leaves : volume ≤ running s (product_at s event) + growth_at s event
+  pub held : is_some (holder_of s p) ≡ true
+
+-- What is true where it is sold. The price is the one that the fuelling took, and in range. Fewer sales of the
+-- point are unpaid than may be, the open shift has a number left for it, and it has no sale of a later shift.
+-- With this one, the product's volume in all sales fits in 64 bits.
+pub record IsSaleFit (s : SiteState) (event : Event) (p nozzle volume price : ℕ) (prepaid : Option ℕ) : Type 0 where
+  pub delivery : IsDelivery s event p nozzle volume
+  pub taken : price ≡ (facts_of s p).price
+  pub paid : prepaid ≡ (facts_of s p).prepaid
+  pub in_range : IsPrice price
+  pub unpaid : unpaid_at p s.sales < UNPAID_LIMIT
+  pub number : is_some (next_number p (open_shift s) s.sales) ≡ true
+  pub order : HasNoneLater p (open_shift s) s.sales
+  pub sums : volume_of (product_at s event) s.sales + volume < 2 ^ 64
+
+-- What is true where it is drawn by a test. The open shift has its draws, with a figure for each product. With
+-- this one, the figure of the product and all draws of it fit in 64 bits.
+pub record IsDrawFit (s : SiteState) (event : Event) (p nozzle volume : ℕ) : Type 0 where
+  pub delivery : IsDelivery s event p nozzle volume
+  pub noted : is_some (numbered (open_shift s) s.drawn) ≡ true
+  pub cells : (row : List ℕ) → numbered (open_shift s) s.drawn ≡ Some row → length row ≡ PRODUCT_CELLS
+  pub figure : (row : List ℕ) → numbered (open_shift s) s.drawn ≡ Some row
+      → unwrap_or (numbered (product_at s event) row) 0 + volume < 2 ^ 64
+  pub total : adjusted s (product_at s event) + volume < 2 ^ 64
+
+-- How an event moves the volume of product q under way: by what flows in it, less what is sold or drawn, if it
+-- moves this product; else not at all.
+pub record MovesRunning (s : SiteState) (event : Event) (q : ℕ) : Type 0 where
+  pub own : product_at s event ≡ q
+      → running_by (product_alone q) (nozzles_after s event) (points_after s event)
+      + (sold_at s event + drawn_at s event)
+      ≡ running s q + growth_at s event
+  pub other : product_at s event ≢ q
+      → running_by (product_alone q) (nozzles_after s event) (points_after s event) ≡ running s q
+
+-- The volumes of product q: what its meters have counted is in the fuellings under way, in sales of each status
+-- and in draws, and it is no more than a site can meter, so that each of them fits in 64 bits.
+pub record AddUp (s : SiteState) (q : ℕ) : Type 0 where
+  pub whole : product_total q s.nozzles
+      ≡ running s q + volume_by q statuses.Payable s.sales + volume_by q statuses.Locked s.sales
+      + volume_by q statuses.Cleared s.sales + adjusted s q
+  pub sold : volume_by q statuses.Payable s.sales + volume_by q statuses.Locked s.sales
+      + volume_by q statuses.Cleared s.sales ≡ volume_of q s.sales
+  pub most : product_total q s.nozzles ≤ most_of_a_site
+  pub fits : product_total q s.nozzles < 2 ^ 64
