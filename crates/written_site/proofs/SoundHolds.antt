@@ -1,9 +1,8 @@
 -- A released point stays held.
-use Rattle.std.proofs.Common.{◌≡◌, ℕ, ◌==◌, not, ◌&&◌, Bool, true, false, cond, Option, Some, None, is_some, refl, sym, ap, subst, ◌∙◌, arith}
+use Rattle.std.proofs.Common.{◌≡◌, ℕ, ◌==◌, not, Bool, true, false, cond, Option, Some, None, is_some, refl, sym, ap, ◌∙◌, arith}
 use Rattle.std.proofs.lemmas.Bool.{false≢true}
-use Rattle.std.proofs.lemmas.Bool.Decides.{nat_tests}
 use Rattle.std.proofs.lemmas.Grind.{common_steps}
-use Rattle.std.specs.Ordering.{nat_cmp, eq_by_cmp}
+use Rattle.std.specs.Ordering.{nat_cmp}
 use Rattle.std.specs.Cmp.{nat_cmp_total, unsigned_tied}
 use Rattle.std.specs.FinMap as finite
 use Rattle.std.specs.FinMap.{FinMap, get-insert, get-remove, get-retain_keys, nat_cmp-IsAntisymmetric}
@@ -16,16 +15,14 @@ use Rattle.site_base.specs.declared.state.Preset.TheVariants.{Money}
 use Rattle.site_base.specs.Table.{row_of}
 use Rattle.fuelling_point.specs.declared.event.PointEvent.{PointEvent}
 use Rattle.fuelling_point.specs.declared.event.PointEvent.TheVariants as points
-use Rattle.fuelling_point.specs.declared.step.PointStep.{PointStep}
 use Rattle.fuelling_point.specs.Kept.{Facts}
 use Rattle.fuelling_point.specs.PointChecks.{refusal_of}
 use Rattle.fuelling_point.specs.Step.{step_of, after}
 use Rattle.fuelling_point.specs.Whole.{is_released}
-use Rattle.till_claims.specs.Holds.{is_held_by}
-use Rattle.written_site.specs.SiteState.{SiteState, facts_in, facts_of, holder_of, rests, is_resting}
+use Rattle.written_site.specs.SiteState.{SiteState, facts_of, holder_of, is_resting}
 use Rattle.written_site.specs.SiteChecks.{Passed, own_event, flowed, released, test_released}
 use Rattle.written_site.specs.SiteStep.{with_event, points_after, holds_after, holds_unless_over, ends_at_sign_off, holds_without, ends_release}
-use Rattle.written_site.proofs.SoundTables.{same, itself, told_once, facts_there, row_of-other, RowAfter, kept, done, row_after}
+use Rattle.written_site.proofs.SoundTables.{same, told_once, facts_there, row_of-other, RowAfter, kept, done, row_after}
 use Rattle.written_site.proofs.SoundMachine.{is_release, released_after}
 
 -- ---- one hold
@@ -153,9 +150,12 @@ signed_off s t held q f is released =
     let resting : is_resting f.state ≡ false = doesn't_rest f.state released in
     let stays_there : not (ends_at_sign_off s.points s.holds t q) ≡ true =
     rw is (rw resting refl) in
-    rw (get-retain_keys s.holds (λ p. not (ends_at_sign_off s.points s.holds t p)) q
-    (λ x tied. ap (λ (y : ℕ). not (ends_at_sign_off s.points s.holds t y))
-    (sym (nat_cmp-IsAntisymmetric q x tied))), stays_there) (held q f is released)
+    rw (
+      get-retain_keys s.holds (λ p. not (ends_at_sign_off s.points s.holds t p)) q
+          (λ x tied. ap (λ (y : ℕ). not (ends_at_sign_off s.points s.holds t y))
+          (sym (nat_cmp-IsAntisymmetric q x tied))),
+      stays_there,
+    ) (held q f is released)
 
 -- a point that is released after an accepted event is held
 pub held_after : (s : SiteState) (a : Actor) (e : Event) → Passed s a e → AreHeld s

@@ -1,15 +1,12 @@
 -- The opening site of a fit configuration is sound.
-use Rattle.std.proofs.Common.{◌≡◌, ℕ, suc, ◌+◌, ◌*◌, ◌≤◌, ◌<◌, ◌==◌, ◌&&◌, ◌||◌, not, nat_le, Bool, true, false, cond, List, [], ◌∷◌, ◌++◌, length, length-append, Option, option_map, Some, None, is_some, unwrap_or, refl, sym, ap, subst, ◌∙◌, arith}
+use Rattle.std.proofs.Common.{◌≡◌, ℕ, suc, ◌+◌, ◌*◌, ◌≤◌, ◌==◌, ◌&&◌, ◌||◌, not, nat_le, Bool, true, false, List, [], ◌∷◌, length, length-append, Option, Some, None, is_some, unwrap_or, refl, sym, ap, subst, ◌∙◌, arith}
 use Rattle.std.proofs.Math.Nat.{mul-zero}
 use Rattle.std.proofs.lemmas.Bool.{and_parts, and_from, leb-true, false≢true}
 use Rattle.std.proofs.lemmas.Bool.Decides.{nat_tests}
-use Rattle.std.proofs.lemmas.Grind.{common_steps}
 use Rattle.std.proofs.lemmas.List.Folds.{list_all-append}
-
 use Rattle.std.specs.List.{list_all, list_any}
 use Rattle.std.specs.Ordering.{nat_cmp}
 use Rattle.std.specs.Prelude.{nat_eq}
-use Rattle.std.specs.FinMap as finite
 use Rattle.std.specs.FinMap.{get-empty}
 use Rattle.site_base.specs.declared.config.NozzleEntry.{NozzleEntry}
 use Rattle.site_base.specs.declared.limits.TheConstants.{GREATEST_READING, GREATEST_ROWS, NOZZLES, POINTS, PRODUCTS}
@@ -20,13 +17,13 @@ use Rattle.site_base.specs.Table.{row_of}
 use Rattle.fuelling_point.specs.Kept.{Facts, fresh}
 use Rattle.fuelling_point.proofs.Whole.{stays_whole}
 use Rattle.meters.specs.Metered.{metered_by}
-use Rattle.meters.specs.Nozzles.{Nozzle, nozzle_of, product_of, is_nozzle, opened, numbered, nozzles_of_point, nozzles_of_points, opening_nozzles, IsMetered, EachMetered, AreNozzles}
+use Rattle.meters.specs.Nozzles.{Nozzle, product_of, is_nozzle, numbered, nozzles_of_point, nozzles_of_points, opening_nozzles, EachMetered, AreNozzles}
 use Rattle.meters.proofs.Bounded.{each_joined}
 use Rattle.meters.proofs.Weighed.{open_nothing}
 use Rattle.transaction_buffer.specs.Sales.{Key, Sale, no_sales, sales_at, sale_in, sale_of, made_in, made_at, unpaid_among, unpaid_at}
 use Rattle.transaction_buffer.proofs.OnShelves.{nothing_sold}
 use Rattle.written_site.specs.SiteState.{SiteState, opening, points_of, nothing_drawn}
-use Rattle.written_site.specs.Sound.{IsFit, IsPointSound, IsSaleSound, IsSupplied, Sound, numbers_of, is_draw_row}
+use Rattle.written_site.specs.Sound.{IsFit, IsPointSound, IsSupplied, Sound, numbers_of}
 use Rattle.written_site.specs.Volumes.{running_by, sold_by, drawn_by}
 use Rattle.written_site.proofs.SoundTables.{same, told_once}
 
@@ -146,10 +143,11 @@ opened_metered : (p n : ℕ) (es : List NozzleEntry)
 opened_metered p n [] all = tt
 opened_metered p n (e ∷ es) all =
     let parts = and_parts (nat_le e.reading GREATEST_READING)
-        (list_all (λ x. nat_le x.reading GREATEST_READING) es) all in
-    let high : e.reading ≤ GREATEST_READING = leb-true e.reading GREATEST_READING parts.0 in
-    (record { risen = omega arith; within = high; few = omega arith; earlier = omega arith },
-    opened_metered p (n + 1) es parts.1)
+    (list_all (λ x. nat_le x.reading GREATEST_READING) es) all in
+    let high : e.reading ≤ GREATEST_READING = leb-true e.reading GREATEST_READING parts.0 in (
+      record { risen = omega arith; within = high; few = omega arith; earlier = omega arith },
+      opened_metered p (n + 1) es parts.1,
+    )
 
 opening_metered : (ps : List ConfiguredPoint)
     → list_all (λ p. list_all (λ n. nat_le n.reading GREATEST_READING) p.nozzles) ps ≡ true
@@ -157,7 +155,7 @@ opening_metered : (ps : List ConfiguredPoint)
 opening_metered [] all = tt
 opening_metered (p ∷ ps) all =
     let parts = and_parts (list_all (λ n. nat_le n.reading GREATEST_READING) p.nozzles)
-        (list_all (λ q. list_all (λ n. nat_le n.reading GREATEST_READING) q.nozzles) ps) all in
+    (list_all (λ q. list_all (λ n. nat_le n.reading GREATEST_READING) q.nozzles) ps) all in
     each_joined (nozzles_of_point p) (nozzles_of_points ps)
     (opened_metered p.number 1 p.nozzles parts.0) (opening_metered ps parts.1)
 
@@ -177,9 +175,9 @@ opening_length : (products : List ConfiguredProduct) (ps : List ConfiguredPoint)
 opening_length products [] all = omega arith
 opening_length products (p ∷ ps) all =
     let parts = and_parts (are_nozzles products p.nozzles)
-        (list_all (λ q. are_nozzles products q.nozzles) ps) all in
+    (list_all (λ q. are_nozzles products q.nozzles) ps) all in
     let count = and_parts (is_between 1 NOZZLES (length p.nozzles))
-        (list_all (λ n. has_product products n.product) p.nozzles) parts.0 in
+    (list_all (λ n. has_product products n.product) p.nozzles) parts.0 in
     let few : length p.nozzles ≤ NOZZLES = between_high 1 NOZZLES (length p.nozzles) count.0 in
     let here = numbered_length p.number 1 p.nozzles in
     let rest = opening_length products ps parts.1 in
@@ -224,7 +222,7 @@ record FitPoints (c : Configured) : Type 0 where
 fit_points : (c : Configured) → is_site c ≡ true → FitPoints c
 fit_points c site =
     let points = and_parts (is_between 1 GREATEST_ROWS c.rows && none_alike nat_eq c.managers
-        && are_products c.products) (are_points c.products c.points) site in
+    && are_products c.products) (are_points c.products c.points) site in
     let counted : Bool = is_between 1 POINTS (length c.points) in
     let served : Bool = list_all (λ p. are_nozzles c.products p.nozzles) c.points in
     let parts = and_parts (counted && served) (none_alike same_point c.points) points.1 in

@@ -1,5 +1,5 @@
 -- Each point stays sound.
-use Rattle.std.proofs.Common.{◌≡◌, ℕ, ◌+◌, ◌-◌, ◌≤◌, ◌<◌, ◌==◌, Bool, true, false, cond, List, [], ◌∷◌, length, Option, option_and_then, Some, None, is_some, unwrap_or, ◌⊎◌, inl, inr, refl, sym, ap, subst, ◌∙◌, arith}
+use Rattle.std.proofs.Common.{◌≡◌, ℕ, ◌+◌, ◌-◌, ◌==◌, Bool, true, false, cond, List, [], ◌∷◌, length, Option, option_and_then, Some, None, is_some, unwrap_or, ◌⊎◌, inl, inr, refl, sym, ap, subst, ◌∙◌, arith}
 use Rattle.std.proofs.lemmas.Bool.{and_parts}
 use Rattle.std.proofs.lemmas.Bool.Decides.{nat_tests}
 use Rattle.std.proofs.lemmas.Grind.{common_steps}
@@ -10,11 +10,10 @@ use Rattle.site_base.specs.declared.limits.TheConstants.{GREATEST_PRICE}
 use Rattle.site_base.specs.declared.state.PointState.{PointState}
 use Rattle.site_base.specs.Configured.{is_between}
 use Rattle.site_base.specs.Prices.{are_in_range}
-use Rattle.site_base.specs.Table.{row_of, with_row}
+use Rattle.site_base.specs.Table.{row_of}
 use Rattle.fuelling_point.specs.declared.event.PointEvent.{PointEvent}
 use Rattle.fuelling_point.specs.Kept.{Facts, is_under_way, has_nozzle_out, volume_of}
 use Rattle.fuelling_point.specs.Laws.{lifted_by}
-use Rattle.fuelling_point.specs.PointChecks.{refusal_of}
 use Rattle.fuelling_point.specs.Step.{step_of, after}
 use Rattle.fuelling_point.specs.Whole.{IsWhole, is_released}
 use Rattle.fuelling_point.proofs.Whole.{whole_accepted}
@@ -130,6 +129,7 @@ flowed_own s e q event taken own point whole under_way =
         ≡ reading_of q (nozzle_out new) s.nozzles =
         ap (reading_of q (nozzle_out new)) (started_still s e q event own under_way was) in
         omega (arith, begins.volume, start, reads, still)
+
 -- a price of the table is in range
 price_found : (q m : ℕ) (prices : List (ℕ × ℕ)) → are_in_range prices ≡ true
     → row_of q prices ≡ Some m → IsPrice m

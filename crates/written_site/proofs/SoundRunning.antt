@@ -1,18 +1,13 @@
 -- The volume of the fuellings under way: that of the meters is that of the points, and an event moves that of
 -- its own point alone.
-use Rattle.std.proofs.Common.{◌≡◌, ℕ, ◌+◌, ◌-◌, ◌*◌, ◌≤◌, ◌==◌, ◌&&◌, not, Bool, true, false, cond, List, [], ◌∷◌, Option, Some, None, is_some, unwrap_or, refl, sym, ap, subst, ◌∙◌, ◌⊎◌, inl, inr, arith}
-use Rattle.std.proofs.Math.Nat.{mul-zero}
+use Rattle.std.proofs.Common.{◌≡◌, ℕ, ◌+◌, ◌*◌, ◌==◌, not, Bool, true, false, cond, List, [], ◌∷◌, Option, Some, unwrap_or, refl, sym, ap, ◌∙◌, arith}
 use Rattle.std.proofs.lemmas.Bool.{and_parts, false≢true}
-use Rattle.std.proofs.lemmas.Bool.Decides.{nat_tests}
-use Rattle.std.proofs.lemmas.Grind.{common_steps}
 use Rattle.std.specs.Prelude.{nat_eq}
 use Rattle.std.specs.List.{list_any}
 use Rattle.site_base.specs.Configured.{none_alike}
 use Rattle.site_base.specs.Table.{row_of, with_row}
-use Rattle.fuelling_point.specs.declared.event.PointEvent.{PointEvent}
-use Rattle.fuelling_point.specs.Kept.{Facts, is_under_way, volume_of}
-use Rattle.fuelling_point.specs.Step.{after}
-use Rattle.meters.specs.Nozzles.{Nozzle, product_of, reading_of}
+use Rattle.fuelling_point.specs.Kept.{Facts, volume_of}
+use Rattle.meters.specs.Nozzles.{Nozzle, product_of}
 use Rattle.written_site.specs.Sound.{numbers_of}
 use Rattle.written_site.specs.Volumes.{nozzle_out, product_out, running_at, running_by}
 use Rattle.written_site.proofs.SoundTables.{same, turned, itself, told_once}

@@ -1,5 +1,5 @@
 -- Where the point of an event sells or draws, at a sound site.
-use Rattle.std.proofs.Common.{◌≡◌, ℕ, ◌+◌, ◌-◌, ◌≤◌, ◌<◌, Bool, true, false, cond, List, Option, Some, None, is_some, refl, sym, ap, subst, ◌∙◌, arith}
+use Rattle.std.proofs.Common.{◌≡◌, ℕ, ◌+◌, ◌-◌, ◌≤◌, ◌<◌, true, Option, Some, None, refl, sym, subst, ◌∙◌, arith}
 use Rattle.std.proofs.lemmas.Grind.{common_steps}
 use Rattle.site_base.specs.declared.actor.Actor.{Actor}
 use Rattle.site_base.specs.declared.actor.Actor.TheVariants.{Till}
@@ -11,12 +11,12 @@ use Rattle.site_base.specs.Table.{row_of}
 use Rattle.fuelling_point.specs.declared.event.PointEvent.{PointEvent}
 use Rattle.fuelling_point.specs.declared.event.PointEvent.TheVariants as points
 use Rattle.fuelling_point.specs.declared.step.PointStep.{PointStep}
-use Rattle.fuelling_point.specs.declared.step.PointStep.TheVariants.{Sold, Drawn}
+use Rattle.fuelling_point.specs.declared.step.PointStep.TheVariants.{Sold}
 use Rattle.fuelling_point.specs.Kept.{Facts, is_under_way, growth_of}
 use Rattle.fuelling_point.specs.PointChecks.{refusal_of}
-use Rattle.fuelling_point.specs.Step.{step_of, after}
+use Rattle.fuelling_point.specs.Step.{step_of}
 use Rattle.fuelling_point.specs.Whole.{is_released}
-use Rattle.meters.specs.Nozzles.{Nozzle, reading_of}
+use Rattle.meters.specs.Nozzles.{reading_of}
 use Rattle.transaction_buffer.specs.Sales.{Key, Sale, sale_of, made_at, unpaid_at}
 use Rattle.written_site.specs.SiteState.{SiteState, facts_of, has_point, open_shift}
 use Rattle.written_site.specs.SiteChecks.{own_event, numbers, at_point, flowed}
@@ -25,7 +25,7 @@ use Rattle.written_site.specs.Sound.{IsPointSound, IsSaleSound, MaySell, Sound}
 use Rattle.written_site.specs.SoundSteps.{IsTaken}
 use Rattle.written_site.specs.Volumes.{nozzle_out, running_at}
 use Rattle.written_site.proofs.SoundTables.{row_there}
-use Rattle.written_site.proofs.SoundMachine.{SoldFrom, sold_from, DrawnFrom, drawn_from}
+use Rattle.written_site.proofs.SoundMachine.{sold_from}
 use Rattle.written_site.proofs.SoundReports.{reading_own}
 use Rattle.written_site.proofs.SoundSales.{sells, let_go_counts, unpaid_by, order_by, signed_off_sales, sales_by_step}
 

@@ -1,5 +1,5 @@
 -- The volumes of a sound site add up, and each of them fits in 64 bits.
-use Rattle.std.proofs.Common.{◌≡◌, ◌≢◌, ℕ, zero, suc, ◌+◌, ◌-◌, ◌*◌, ◌^◌, ◌≤◌, ◌<◌, ◌==◌, Bool, true, false, cond, List, [], ◌∷◌, length, get_or, Option, Some, None, is_some, unwrap_or, refl, sym, ap, subst, ◌∙◌, arith}
+use Rattle.std.proofs.Common.{◌≡◌, ◌≢◌, ℕ, zero, suc, ◌+◌, ◌-◌, ◌*◌, ◌^◌, ◌≤◌, ◌<◌, ◌==◌, Bool, true, false, cond, List, [], ◌∷◌, length, get_or, Option, Some, None, unwrap_or, refl, sym, ap, ◌∙◌, arith}
 use Rattle.std.proofs.Math.Nat.{mul-zero}
 use Rattle.std.proofs.lemmas.Bool.Decides.{nat_tests}
 use Rattle.std.specs.List.{slice_get}
@@ -8,10 +8,10 @@ use Rattle.site_base.specs.Numbered.{numbered}
 use Rattle.site_base.proofs.Numbering.{numbered_place, numbered_within}
 use Rattle.site_base.specs.Table.{row_of}
 use Rattle.fuelling_point.specs.Kept.{Facts}
-use Rattle.meters.specs.Metered.{most_of_a_site, metered_by, product_alone, product_total}
+use Rattle.meters.specs.Metered.{most_of_a_site, product_alone}
 use Rattle.meters.specs.Nozzles.{Nozzle}
 use Rattle.meters.proofs.Bounded.{total_bound}
-use Rattle.transaction_buffer.specs.Sales.{Sale, Sales}
+use Rattle.transaction_buffer.specs.Sales.{Sales}
 use Rattle.transaction_buffer.specs.Sums.{volume_in, volume_of}
 use Rattle.transaction_buffer.proofs.Summing.{alike_sum}
 use Rattle.transaction_buffer.proofs.Volumes.{add_up}

@@ -1,5 +1,5 @@
 -- What the code of the site uses of a sound site: what grows fits, and a sale or a draw finds what it needs.
-use Rattle.std.proofs.Common.{◌≡◌, ℕ, zero, suc, ◌+◌, ◌-◌, ◌*◌, ◌^◌, ◌≤◌, ◌<◌, ◌==◌, Bool, true, false, cond, List, [], ◌∷◌, length, Option, option_map, Some, None, is_some, unwrap_or, refl, sym, ap, subst, ◌∙◌, arith}
+use Rattle.std.proofs.Common.{◌≡◌, ℕ, zero, suc, ◌+◌, ◌-◌, ◌*◌, ◌^◌, ◌≤◌, ◌<◌, Bool, true, false, cond, List, [], ◌∷◌, length, Option, option_map, option_and_then, Some, None, is_some, unwrap_or, refl, sym, ap, subst, ◌∙◌, arith}
 use Rattle.std.proofs.lemmas.Bool.{and_parts}
 use Rattle.std.proofs.lemmas.Bool.Decides.{nat_tests}
 use Rattle.std.proofs.lemmas.Grind.{common_steps}
@@ -10,35 +10,37 @@ use Rattle.site_base.specs.declared.event.Event.{Event}
 use Rattle.site_base.specs.declared.event.Event.TheVariants.{Flow, HangUp}
 use Rattle.site_base.specs.declared.limits.TheConstants.{GREATEST_READING, PRODUCT_CELLS}
 use Rattle.site_base.specs.Numbered.{numbered}
+use Rattle.site_base.specs.Table.{row_of}
 use Rattle.site_base.proofs.Numbering.{numbered_place, numbered_within}
 use Rattle.fuelling_point.specs.declared.event.PointEvent.{PointEvent}
 use Rattle.fuelling_point.specs.declared.event.PointEvent.TheVariants as points
-use Rattle.fuelling_point.specs.declared.step.PointStep.{PointStep}
 use Rattle.fuelling_point.specs.declared.step.PointStep.TheVariants.{Sold, Drawn}
 use Rattle.fuelling_point.specs.Kept.{Facts, is_under_way, growth_of}
 use Rattle.fuelling_point.specs.Kept.{volume_of as flowed_of}
 use Rattle.fuelling_point.specs.Laws.{sold_in, drawn_in}
 use Rattle.fuelling_point.specs.Step.{step_of}
 use Rattle.meters.specs.declared.report.Report.TheVariants.{Growing}
-use Rattle.meters.specs.Metered.{most_of_a_site, metered_by, product_alone, product_total}
+use Rattle.meters.specs.Metered.{most_of_a_site, metered_by, every_product, product_alone}
 use Rattle.meters.specs.Nozzles.{Nozzle, AreNozzles, has_nozzle, nozzle_of, product_of, reading_of}
-use Rattle.meters.proofs.Bounded.{each_found, total_bound}
-use Rattle.meters.proofs.Looked.{there, reading_is}
+use Rattle.meters.proofs.Bounded.{each_found, bound, total_bound}
+use Rattle.meters.proofs.Looked.{there}
 use Rattle.meters.proofs.Weighed.{accepted_above}
 use Rattle.transaction_buffer.specs.Sales.{Sales, next_number}
 use Rattle.transaction_buffer.specs.Sums.{volume_of}
-use Rattle.written_site.specs.SiteState.{SiteState, facts_of, open_shift}
-use Rattle.written_site.specs.SiteChecks.{own_event, flowed, put_back_at}
+use Rattle.written_site.specs.SiteState.{SiteState, facts_of, open_shift, price_of, price_at_start}
+use Rattle.written_site.specs.SiteChecks.{own_event, first_refusal, flowed, put_back_at}
 use Rattle.written_site.specs.SiteStep.{nozzles_after, points_after, sales_after, drawn_after, step_at, step_by}
-use Rattle.written_site.specs.Sound.{IsPointSound, IsPrice, IsSupplied, MaySell, Sound, is_draw_row}
-use Rattle.written_site.specs.SoundSteps.{IsTaken, FitsOwn, IsDelivery, IsSaleFit, IsDrawFit, growth_at, product_at, product_by, sold_at, drawn_at}
+use Rattle.written_site.specs.Sound.{InRange, IsPointSound, IsPrice, IsSupplied, MaySell, Sound, is_draw_row}
+use Rattle.written_site.specs.SoundSteps.{IsTaken, FitsOwn, IsDelivery, IsSaleFit, IsDrawFit, DoVolumesAddUp, FindsRoom, ends_by, growth_at, product_at, product_by, sold_at, drawn_at}
 use Rattle.written_site.specs.Volumes.{nozzle_out, product_out, running_at, running_by, sold_by, drawn_by, running, adjusted}
+use Rattle.written_site.proofs.Passed.{passed}
+use Rattle.written_site.proofs.Sound.{taken_when_passed}
 use Rattle.written_site.proofs.SoundTables.{same, told_once}
-use Rattle.written_site.proofs.SoundMachine.{SoldFrom, sold_from, DrawnFrom, drawn_from}
-use Rattle.written_site.proofs.SoundReports.{flow_is_out, hung_up_is_out, own_growth, nozzles_stay}
+use Rattle.written_site.proofs.SoundMachine.{sold_from, drawn_from}
+use Rattle.written_site.proofs.SoundReports.{flow_is_out, hung_up_is_out, nozzles_stay}
 use Rattle.written_site.proofs.SoundSold.{own_point, run_own, under_way_released}
-use Rattle.written_site.proofs.SoundSums.{own_weight, sold_alone, moves_running, figure_drawn, most_fits}
-use Rattle.written_site.proofs.SoundVolumes.{nozzle_there, product_supplied, product_out_after, moves_volumes, conserved_after}
+use Rattle.written_site.proofs.SoundSums.{adds_up, run_within, own_weight, sold_alone, moves_running, figure_drawn, most_fits}
+use Rattle.written_site.proofs.SoundVolumes.{nozzle_there, product_supplied, product_out_after, none_sold, none_drawn, running_moves, moves_volumes, conserved_after}
 
 -- ---- readings and volumes
 
@@ -303,3 +305,71 @@ running_fits s e sound taken =
     grown_running (metered_by w (nozzles_after s e)) (metered_by w s.nozzles) (running s q)
     (sold_by w s.sales) (drawn_by w s.drawn) (w q) (growth_at s e) most (sound.conserved w)
     moves.metered (own_weight q)
+
+-- so do the volumes of all products together, whatever they are
+pub everything_within : (s : SiteState) → Sound s
+    → running_by every_product s.nozzles s.points + sold_by every_product s.sales
+    + drawn_by every_product s.drawn
+    ≤ most_of_a_site
+everything_within s sound =
+    let all = sound.conserved every_product in
+    let most = bound s.nozzles sound.meters in
+    omega (arith, all, most)
+
+-- the volume of the fuelling at a point is part of its product's
+pub run_of_point : (s : SiteState) (p : ℕ) (f : Facts) → row_of p s.points ≡ Some f
+    → running_at s.nozzles p f ≤ running s (product_out s.nozzles p f)
+run_of_point s p f there =
+    let q : ℕ = product_out s.nozzles p f in
+    let part = run_within (product_alone q) s.nozzles p f s.points there in
+    let weighed : product_alone q q * running_at s.nozzles p f ≡ 1 * running_at s.nozzles p f =
+    ap (λ (k : ℕ). k * running_at s.nozzles p f) (own_weight q) in
+    omega (arith, part, weighed)
+
+unmoved : (new old weight sold drawn growth : ℕ) → sold ≡ 0 → drawn ≡ 0 → growth ≡ 0
+    → new + weight * (sold + drawn) ≡ old + weight * growth → new ≡ old
+unmoved new old weight sold drawn growth s d g moves =
+    let left : weight * (sold + drawn) ≡ weight * 0 =
+    ap (λ (k : ℕ). weight * k) (let none : sold + drawn ≡ 0 = omega arith in none) in
+    let right : weight * growth ≡ weight * 0 = ap (λ (k : ℕ). weight * k) g in
+    omega arith
+
+-- an event in which nothing flows, and that ends no fuelling, leaves what is running
+pub running_still : (s : SiteState) (e : Event) (q : ℕ) → Sound s → IsTaken s e
+    → growth_at s e ≡ 0 → ends_by (own_event s e) ≡ false
+    → running_by (product_alone q) (nozzles_after s e) (points_after s e) ≡ running s q
+running_still s e q sound taken still goes_on =
+    let moves = running_moves (product_alone q) s e sound taken in
+    let sold : sold_at s e ≡ 0 = none_sold s (own_event s e) goes_on in
+    let drawn : drawn_at s e ≡ 0 = none_drawn s (own_event s e) goes_on in
+    unmoved (running_by (product_alone q) (nozzles_after s e) (points_after s e)) (running s q)
+    (product_alone q (product_at s e)) (sold_at s e) (drawn_at s e) (growth_at s e) sold drawn still moves
+
+-- ---- prices
+
+some_price : (o : Option ℕ) → is_some o ≡ true → o ≡ Some (unwrap_or o 1)
+some_price None there = cc
+some_price (Some m) there = refl
+
+-- each nozzle's product has a price
+pub price_there : (s : SiteState) (p n : ℕ) → Sound s → has_nozzle p n s.nozzles ≡ true
+    → price_of s.nozzles s.prices p n ≡ Some (price_at_start s p (Some n))
+price_there s p n sound has =
+    let q : ℕ = unwrap_or (product_of p n s.nozzles) 0 in
+    let product : product_of p n s.nozzles ≡ Some q = product_is s p n has in
+    let priced : is_some (row_of q s.prices) ≡ true = (product_supplied s p n sound has).priced in
+    let row : price_of s.nozzles s.prices p n ≡ row_of q s.prices =
+    ap (option_and_then (λ r. row_of r s.prices)) product in
+    some_price (price_of s.nozzles s.prices p n) (ap is_some row ∙ priced)
+
+-- ---- what an accepted event passes
+
+pub taken_when_accepted : (s : SiteState) (a : Actor) (e : Event) → InRange e
+    → first_refusal s a e ≡ None → IsTaken s e
+taken_when_accepted s a e range accepted = taken_when_passed s a e range (passed s a e accepted)
+
+pub volumes_add_up : DoVolumesAddUp
+volumes_add_up = record { adds_up = adds_up; moves = moves_volumes }
+
+pub finds_room : FindsRoom
+finds_room = record { grows = growth_fits; sells = sale_fits; draws = draw_fits }

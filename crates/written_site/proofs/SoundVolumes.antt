@@ -1,5 +1,5 @@
 -- How an event moves the volumes of a sound site.
-use Rattle.std.proofs.Common.{◌≡◌, ℕ, ◌+◌, ◌-◌, ◌*◌, ◌≤◌, ◌<◌, Bool, true, false, cond, List, length, Option, option_map, Some, None, is_some, unwrap_or, refl, sym, ap, subst, ◌∙◌, ◌⊎◌, inl, inr, arith}
+use Rattle.std.proofs.Common.{◌≡◌, ℕ, ◌+◌, ◌-◌, ◌*◌, ◌≤◌, Bool, true, false, cond, List, Option, option_map, Some, None, is_some, unwrap_or, refl, sym, ap, subst, ◌∙◌, ◌⊎◌, inl, inr, arith}
 use Rattle.std.proofs.Math.Nat.{mul-zero, mul-add}
 use Rattle.std.proofs.lemmas.Bool.{false≢true}
 use Rattle.std.proofs.lemmas.Bool.Decides.{nat_tests}
@@ -11,13 +11,13 @@ use Rattle.site_base.specs.declared.event.Event.TheVariants.{SignOff, ReplaceMet
 use Rattle.site_base.specs.declared.state.PointState.TheVariants as states
 use Rattle.std.specs.Prelude.{nat_eq}
 use Rattle.site_base.specs.Configured.{none_alike}
-use Rattle.site_base.specs.Table.{row_of, with_row}
+use Rattle.site_base.specs.Table.{with_row}
 use Rattle.fuelling_point.specs.declared.event.PointEvent.{PointEvent}
 use Rattle.fuelling_point.specs.declared.event.PointEvent.TheVariants as points
 use Rattle.fuelling_point.specs.declared.step.PointStep.{PointStep}
 use Rattle.fuelling_point.specs.declared.step.PointStep.TheVariants.{Sold, Drawn}
 use Rattle.fuelling_point.specs.Kept.{Facts, is_under_way, volume_of, growth_of}
-use Rattle.fuelling_point.specs.Laws.{sold_in, drawn_in, is_end}
+use Rattle.fuelling_point.specs.Laws.{sold_in, drawn_in}
 use Rattle.fuelling_point.specs.Step.{step_of, after}
 use Rattle.fuelling_point.proofs.Whole.{conserved}
 use Rattle.meters.specs.Metered.{metered_by}
@@ -30,10 +30,10 @@ use Rattle.transaction_buffer.specs.Sales.{Sale, Sales}
 use Rattle.transaction_buffer.specs.TransactionTable.{after_sign_off, let_go, is_locked_by}
 use Rattle.transaction_buffer.proofs.Summing.{sold_sum, changed_sum, alike_sum}
 use Rattle.written_site.specs.SiteState.{SiteState, facts_in, facts_of}
-use Rattle.written_site.specs.SiteChecks.{own_event, metering, flowed, put_back_at}
+use Rattle.written_site.specs.SiteChecks.{own_event, flowed, put_back_at}
 use Rattle.written_site.specs.SiteStep.{nozzles_after, points_after, sales_after, sales_by, sale_made, drawn_after, draws_by, step_at, step_by, with_event}
 use Rattle.written_site.specs.Sound.{IsPointSound, IsSupplied, Sound, numbers_of}
-use Rattle.written_site.specs.SoundSteps.{IsTaken, MovesVolumes, growth_at, growth_by, product_at, product_by, sold_at, drawn_at}
+use Rattle.written_site.specs.SoundSteps.{IsTaken, MovesVolumes, ends_by, growth_at, growth_by, product_at, product_by, sold_at, drawn_at}
 use Rattle.written_site.specs.Volumes.{nozzle_out, product_out, running_at, running_by, sold_by, drawn_by}
 use Rattle.written_site.proofs.SoundTables.{numbers_kept}
 use Rattle.written_site.proofs.SoundMachine.{same_nozzle, sold_from, drawn_from, nothing_sold, nothing_drawn}
@@ -42,7 +42,7 @@ use Rattle.written_site.proofs.SoundMeters.{product_after}
 use Rattle.written_site.proofs.SoundReports.{flow_nozzle, hung_up_nozzle, flow_is_out, hung_up_is_out}
 use Rattle.written_site.proofs.SoundRunning.{flowed_by, running_is, flowed_products, flowed_with}
 use Rattle.written_site.proofs.SoundSold.{own_point, run_own}
-use Rattle.written_site.proofs.SoundDrawn.{drawn_more}
+use Rattle.written_site.proofs.SoundDraws.{drawn_more}
 
 -- ---- metered
 
@@ -166,17 +166,12 @@ running_moves w s e sound taken =
 
 -- ---- sold
 
--- what an event is to its point ends a fuelling
-abbrev ends_by : Option (ℕ × PointEvent) → Bool
-ends_by None = false
-ends_by (Some x) = is_end x.1
-
-none_sold : (s : SiteState) (own : Option (ℕ × PointEvent)) → ends_by own ≡ false
+pub none_sold : (s : SiteState) (own : Option (ℕ × PointEvent)) → ends_by own ≡ false
     → sold_in (step_by s own) ≡ 0
 none_sold s None other = refl
 none_sold s (Some x) other = nothing_sold x.1 (facts_of s x.0) other
 
-none_drawn : (s : SiteState) (own : Option (ℕ × PointEvent)) → ends_by own ≡ false
+pub none_drawn : (s : SiteState) (own : Option (ℕ × PointEvent)) → ends_by own ≡ false
     → drawn_in (step_by s own) ≡ 0
 none_drawn s None other = refl
 none_drawn s (Some x) other = nothing_drawn x.1 (facts_of s x.0) other

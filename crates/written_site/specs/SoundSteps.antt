@@ -1,14 +1,16 @@
 -- What is promised of an event at a sound site: how it moves the volumes, that what grows fits, and what is
 -- true where its point sells or draws.
-use Rattle.std.specs.Prelude.{◌≡◌, ◌≢◌, ℕ, ◌+◌, ◌*◌, ◌^◌, ◌<◌, ◌≤◌, Bool, true, List, length, Option, Some, None, is_some, unwrap_or}
+use Rattle.std.specs.Prelude.{◌≡◌, ◌≢◌, ℕ, ◌+◌, ◌*◌, ◌^◌, ◌<◌, ◌≤◌, Bool, true, false, List, length, Option, Some, None, is_some, unwrap_or}
 use Rattle.site_base.specs.declared.actor.Actor.{Actor}
 use Rattle.site_base.specs.declared.event.Event.{Event}
 use Rattle.site_base.specs.declared.limits.TheConstants.{GREATEST_READING, PRODUCT_CELLS, UNPAID_LIMIT}
 use Rattle.site_base.specs.declared.state.Status.TheVariants as statuses
 use Rattle.site_base.specs.Numbered.{numbered}
 use Rattle.fuelling_point.specs.declared.event.PointEvent.{PointEvent}
-use Rattle.fuelling_point.specs.Kept.{Facts, FitsGrowth, growth_of}
-use Rattle.fuelling_point.specs.Laws.{sold_in, drawn_in}
+use Rattle.fuelling_point.specs.declared.step.PointStep.TheVariants.{Sold, Drawn}
+use Rattle.fuelling_point.specs.Kept.{FitsGrowth, growth_of}
+use Rattle.fuelling_point.specs.Laws.{sold_in, drawn_in, is_end}
+use Rattle.fuelling_point.specs.Step.{step_of}
 use Rattle.meters.specs.Metered.{most_of_a_site, metered_by, product_alone, product_total}
 use Rattle.meters.specs.Nozzles.{product_of}
 use Rattle.transaction_buffer.specs.Sales.{HasNoneLater, next_number, unpaid_at}
@@ -16,7 +18,7 @@ use Rattle.transaction_buffer.specs.Sums.{volume_of, volume_by}
 use Rattle.written_site.specs.SiteState.{SiteState, facts_of, holder_of, open_shift}
 use Rattle.written_site.specs.SiteChecks.{own_event, numbers, at_point, metering}
 use Rattle.written_site.specs.SiteStep.{step_at, nozzles_after, points_after, sales_after, drawn_after}
-use Rattle.written_site.specs.Sound.{InRange, IsPrice, IsSupplied}
+use Rattle.written_site.specs.Sound.{InRange, IsPrice, IsSupplied, Sound}
 use Rattle.written_site.specs.Volumes.{nozzle_out, product_out, running_at, running_by, sold_by, drawn_by, running, adjusted}
 
 -- The event passes the checks on which points and volumes depend: what it names is there, its point takes
@@ -51,6 +53,11 @@ sold_at s event = sold_in (step_at s event)
 
 abbrev pub drawn_at : SiteState → Event → ℕ
 drawn_at s event = drawn_in (step_at s event)
+
+-- what an event is to its point ends a fuelling: it is a hang up or an offline
+abbrev pub ends_by : Option (ℕ × PointEvent) → Bool
+ends_by None = false
+ends_by (Some e) = is_end e.1
 
 -- How an event moves the volumes, however the products are weighed. What flows in it is metered, and is in
 -- the fuelling under way; what is sold or drawn of it leaves the fuelling, and is in the sales or the draws.
@@ -129,3 +136,23 @@ pub record AddUp (s : SiteState) (q : ℕ) : Type 0 where
       + volume_by q statuses.Cleared s.sales ≡ volume_of q s.sales
   pub most : product_total q s.nozzles ≤ most_of_a_site
   pub fits : product_total q s.nozzles < 2 ^ 64
+
+-- A sound site's volumes add up, for each product, and an event that the site takes moves them as it is told.
+pub record DoVolumesAddUp : Type 0 where
+  pub adds_up : (s : SiteState) (q : ℕ) → Sound s → AddUp s q
+  pub moves : (w : ℕ → ℕ) (s : SiteState) (actor : Actor) (event : Event) → Sound s → IsTaken s event
+      → MovesVolumes w s actor event
+
+-- At a sound site what flows in an event that the site takes fits in its fuelling, and where the point of the
+-- event sells or draws, the sale or the draw fits.
+pub record FindsRoom : Type 0 where
+  pub grows : (s : SiteState) (event : Event) → Sound s → IsTaken s event
+      → FitsOwn s (own_event s event)
+  pub sells : (s : SiteState) (event : Event) (p : ℕ) (own : PointEvent)
+      (nozzle volume price : ℕ) (prepaid : Option ℕ)
+      → Sound s → IsTaken s event → own_event s event ≡ Some (p, own)
+      → step_of own (facts_of s p) ≡ Sold nozzle volume price prepaid
+      → IsSaleFit s event p nozzle volume price prepaid
+  pub draws : (s : SiteState) (event : Event) (p : ℕ) (own : PointEvent) (nozzle volume : ℕ)
+      → Sound s → IsTaken s event → own_event s event ≡ Some (p, own)
+      → step_of own (facts_of s p) ≡ Drawn nozzle volume → IsDrawFit s event p nozzle volume
