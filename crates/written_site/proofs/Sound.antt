@@ -18,7 +18,8 @@ use Rattle.written_site.proofs.SoundPoints.{point_after}
 use Rattle.written_site.proofs.SoundVolumes.{alone_after, conserved_after}
 
 -- an accepted event passes the checks on which points and volumes depend
-pub taken_when_passed : (s : SiteState) (a : Actor) (e : Event) → InRange e → Passed s a e → IsTaken s e
+pub taken_when_passed : (s : SiteState) (a : Actor) (e : Event) → InRange e → Passed s a e
+    → IsTaken s e
 taken_when_passed s a e range passes = record {
   names = passes.names;
   takes = passes.takes;

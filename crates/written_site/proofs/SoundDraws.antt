@@ -1,5 +1,5 @@
--- The draws by shift, once one is noted: the open shift stays open, each shift has its figures, and they weigh
--- what they did, with the draw.
+-- The draws by shift, once one is noted: the open shift stays open, each shift has its figures, and
+-- they weigh what they did, with the draw.
 use Rattle.std.proofs.Common.{◌≡◌, ℕ, suc, ◌==◌, true, List, [], ◌∷◌, length, refl, ap, ◌∙◌, zero, ◌+◌, ◌-◌, ◌*◌, ◌≤◌, ◌<◌, get_or, Some, unwrap_or, arith}
 use Rattle.std.proofs.lemmas.Bool.{and_parts, and_from}
 use Rattle.std.specs.List.{list_all}
@@ -22,7 +22,8 @@ use Rattle.written_site.proofs.SoundTables.{same}
 
 -- ---- one draw
 
-noted_length : (q volume : ℕ) (rows : List (List ℕ)) → length (draw_noted q volume rows) ≡ length rows
+noted_length : (q volume : ℕ) (rows : List (List ℕ))
+    → length (draw_noted q volume rows) ≡ length rows
 noted_length q volume [] = refl
 noted_length q volume (row ∷ []) = refl
 noted_length q volume (row ∷ next ∷ rows) = ap suc (noted_length q volume (next ∷ rows))
@@ -47,7 +48,8 @@ noted_rows q volume (row ∷ next ∷ rows) all =
 by_length : (s : SiteState) (nozzles : List Nozzle) (p : ℕ) (step : PointStep)
     → length (draws_by s nozzles p step) ≡ open_shift s
 by_length s nozzles p (Drawn nozzle volume) =
-    noted_length (product_out nozzles p (facts_of s p)) (running_at nozzles p (facts_of s p)) s.drawn
+    noted_length (product_out nozzles p (facts_of s p)) (running_at nozzles p (facts_of s p))
+    s.drawn
 by_length s nozzles p step = refl
 
 by_rows : (s : SiteState) (nozzles : List Nozzle) (p : ℕ) (step : PointStep)
@@ -105,7 +107,8 @@ weighed_more w q volume row low high =
     ∙ ap (λ (k : ℕ). weighed_from w 1 row + w k * volume) place
 
 -- a draw in the open shift
-pub drawn_more : (w : ℕ → ℕ) (q volume : ℕ) (rows : List (List ℕ)) → list_all is_draw_row rows ≡ true
+pub drawn_more : (w : ℕ → ℕ) (q volume : ℕ) (rows : List (List ℕ))
+    → list_all is_draw_row rows ≡ true
     → 1 ≤ length rows → 1 ≤ q → q ≤ PRODUCT_CELLS
     → drawn_by w (draw_noted q volume rows) ≡ drawn_by w rows + w q * volume
 drawn_more w q volume [] all some low high = absurd (omega arith)

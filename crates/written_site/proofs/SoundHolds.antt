@@ -101,7 +101,8 @@ here s p q event f at is = by_row (row_after s.points (Some (p, event)) q f is)
         let pair = told_once (p, event) (q, other) own in
         let event_is : other ≡ event = sym (ap (λ (x : ℕ × PointEvent). x.1) pair) in
         let point_is : p ≡ q = ap (λ (x : ℕ × PointEvent). x.0) pair in
-        let facts : facts_of s p ≡ old = ap (facts_of s) point_is ∙ facts_there s.points q old row in
+        let facts : facts_of s p ≡ old = ap (facts_of s) point_is
+        ∙ facts_there s.points q old row in
         made ∙ ap (λ (x : PointEvent). after x old) event_is ∙ ap (after event) (sym facts)
 
 takes : (s : SiteState) (p t : ℕ) (event : PointEvent) → AreHeld s → (q : ℕ) (f : Facts)
@@ -122,7 +123,8 @@ ends s p event rest held q f is released = rw (ended_hold s.holds p q) (by_test 
     by_test : (b : Bool) → (q == p) ≡ b → is_some (cond b None (holder_of s q)) ≡ true
     by_test true at =
         let made : f ≡ after event (facts_of s p) = here s p q event f at is in
-        absurd (false≢true (sym rest ∙ ap (λ (g : Facts). is_released g.state) (sym made) ∙ released))
+        absurd (false≢true
+        (sym rest ∙ ap (λ (g : Facts). is_released g.state) (sym made) ∙ released))
     by_test false other = held q f (elsewhere s p q event f other is) released
 
 unless_over : (s : SiteState) (p : ℕ) (event : PointEvent) → is_release event ≡ false → AreHeld s

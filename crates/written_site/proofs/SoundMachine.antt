@@ -67,9 +67,10 @@ starts event f is was = record {
   volume = grind (arith, common_steps);
 }
 
--- where a point sells: a fuelling that is no test was under way, and this is its volume, its nozzle and the
--- price that it took
-pub record SoldFrom (event : PointEvent) (f : Facts) (nozzle volume price : ℕ) (prepaid : Option ℕ) : Type 0 where
+-- where a point sells: a fuelling that is no test was under way, and this is its volume, its nozzle
+-- and the price that it took
+pub record SoldFrom (event : PointEvent) (f : Facts) (nozzle volume price : ℕ)
+    (prepaid : Option ℕ) : Type 0 where
   pub was : is_under_way f.state ≡ true
   pub over : is_released (after event f).state ≡ false
   pub sale : f.test ≡ false

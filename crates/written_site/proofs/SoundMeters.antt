@@ -1,5 +1,5 @@
--- The nozzles after an event: their names and products stay, and only the reading of the nozzle that is named
--- moves.
+-- The nozzles after an event: their names and products stay, and only the reading of the nozzle
+-- that is named moves.
 use Rattle.std.proofs.Common.{◌≡◌, ℕ, ◌&&◌, ◌==◌, Bool, true, false, List, Option, option_map, Some, None, is_some, unwrap_or, refl, sym, ap, ◌∙◌}
 use Rattle.std.proofs.lemmas.Bool.{and_parts}
 use Rattle.site_base.specs.declared.event.Event.{Event}
@@ -45,7 +45,8 @@ some_of f (Some x) = refl
 product_with : (p n q m : ℕ) (change : Nozzle → Nozzle) (xs : List Nozzle) → KeepsName change
     → ((x : Nozzle) → (change x).product ≡ x.product)
     → product_of q m (with_nozzle p n change xs) ≡ product_of q m xs
-product_with p n q m change xs keeps kept = figure_kept (λ x. x.product) p n q m change xs keeps kept
+product_with p n q m change xs keeps kept =
+    figure_kept (λ x. x.product) p n q m change xs keeps kept
 
 -- ---- after an event
 

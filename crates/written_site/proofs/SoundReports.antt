@@ -30,7 +30,8 @@ pub own_growth : (s : SiteState) (e : Event) (q : ℕ) (event : PointEvent)
 own_growth s e q event own = ap growth_by own
 
 -- the nozzle that flows, or is put back, is the one that is out
-pub flow_is_out : (n growth : ℕ) (f : Facts) → IsWhole f → refusal_of (points.Flow n growth) f ≡ None
+pub flow_is_out : (n growth : ℕ) (f : Facts) → IsWhole f
+    → refusal_of (points.Flow n growth) f ≡ None
     → nozzle_out f ≡ n
 flow_is_out n growth f w taken =
     let nozzle = w.nozzle in grind (arith, common_steps, nat_tests)
@@ -73,7 +74,8 @@ pub hung_up_grows : (s : SiteState) (p n reading : ℕ) → IsTaken s (HangUp p 
     ≡ reading_of p n s.nozzles + flowed s p n reading
 hung_up_grows s p n reading taken =
     grown s p n reading (hung_up_nozzle s p n reading taken.names)
-    (accepted_above (put_back_at (facts_of s p).state) (reading_of p n s.nozzles) reading taken.reads)
+    (accepted_above (put_back_at (facts_of s p).state) (reading_of p n s.nozzles) reading
+    taken.reads)
 
 -- ---- after any event
 
@@ -102,8 +104,8 @@ reading_elsewhere s (ReplaceMeter p n reading) q m away =
     (apart p q points.ReplaceMeter away) (replaced_keeps reading)
 reading_elsewhere s e q m away = refl
 
--- the nozzle that is out at a point, where a fuelling is under way, once the point's event has let so much
--- flow
+-- the nozzle that is out at a point, where a fuelling is under way, once the point's event has let
+-- so much flow
 abbrev ReadsOwn : SiteState → List Nozzle → Option (ℕ × PointEvent) → Type 0
 ReadsOwn s nozzles None = Unit {0}
 ReadsOwn s nozzles (Some x) =
@@ -172,7 +174,8 @@ nozzles_stay s (Flow p n reading) taken are =
     (accepted_above Growing (reading_of p n s.nozzles) reading taken.reads) taken.range
 nozzles_stay s (HangUp p n reading) taken are =
     read_nozzles p n reading s.nozzles are (hung_up_nozzle s p n reading taken.names)
-    (accepted_above (put_back_at (facts_of s p).state) (reading_of p n s.nozzles) reading taken.reads)
+    (accepted_above (put_back_at (facts_of s p).state) (reading_of p n s.nozzles) reading
+    taken.reads)
     taken.range
 nozzles_stay s (ReplaceMeter p n reading) taken are =
     changed_nozzles p n (replaced_at reading) s.nozzles are

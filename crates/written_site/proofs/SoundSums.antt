@@ -116,9 +116,11 @@ figure_within w k (suc i) (v ∷ vs) =
     let here : w (k + suc i) * get_or vs i 0 ≡ w ((k + 1) + i) * get_or vs i 0 =
     ap (λ (q : ℕ). w q * get_or vs i 0) place in
     let later = figure_within w (k + 1) i vs in
-    rest (w (k + suc i) * get_or vs i 0) (w k * v) (weighed_from w (k + 1) vs) (omega (arith, here, later))
+    rest (w (k + suc i) * get_or vs i 0) (w k * v) (weighed_from w (k + 1) vs)
+    (omega (arith, here, later))
 
-slice_within : (w : ℕ → ℕ) (i : ℕ) (row : List ℕ) (rows : List (List ℕ)) → slice_get rows i ≡ Some row
+slice_within : (w : ℕ → ℕ) (i : ℕ) (row : List ℕ) (rows : List (List ℕ))
+    → slice_get rows i ≡ Some row
     → weighed_from w 1 row ≤ drawn_by w rows
 slice_within w i row [] is = absurd (no_figures row is)
 slice_within w zero row (first ∷ rows) is =
@@ -175,6 +177,7 @@ moves_running s e q sound taken =
     record {
       own = λ is. moved_own weight new (sold_at s e + drawn_at s e) (running s q) (growth_at s e)
           (ap (product_alone q) is ∙ own_weight q) moves;
-      other = λ other. moved_other weight new (sold_at s e + drawn_at s e) (running s q) (growth_at s e)
+      other = λ other. moved_other weight new (sold_at s e + drawn_at s e) (running s q)
+          (growth_at s e)
           (other_weight q (product_at s e) other) moves;
     }

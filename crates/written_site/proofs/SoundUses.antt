@@ -1,4 +1,5 @@
--- What the code of the site uses of a sound site: what grows fits, and a sale or a draw finds what it needs.
+-- What the code of the site uses of a sound site: what grows fits, and a sale or a draw finds what
+-- it needs.
 use Rattle.std.proofs.Common.{◌≡◌, ℕ, zero, suc, ◌+◌, ◌-◌, ◌*◌, ◌^◌, ◌≤◌, ◌<◌, Bool, true, false, cond, List, [], ◌∷◌, length, Option, option_map, option_and_then, Some, None, is_some, unwrap_or, refl, sym, ap, subst, ◌∙◌, arith}
 use Rattle.std.proofs.lemmas.Bool.{and_parts}
 use Rattle.std.proofs.lemmas.Bool.Decides.{nat_tests}
@@ -31,7 +32,7 @@ use Rattle.written_site.specs.SiteState.{SiteState, facts_of, open_shift, price_
 use Rattle.written_site.specs.SiteChecks.{own_event, first_refusal, flowed, put_back_at}
 use Rattle.written_site.specs.SiteStep.{nozzles_after, points_after, sales_after, drawn_after, step_at, step_by}
 use Rattle.written_site.specs.Sound.{InRange, IsPointSound, IsPrice, IsSupplied, MaySell, Sound, is_draw_row}
-use Rattle.written_site.specs.SoundSteps.{IsTaken, FitsOwn, IsDelivery, IsSaleFit, IsDrawFit, DoVolumesAddUp, FindsRoom, ends_by, growth_at, product_at, product_by, sold_at, drawn_at}
+use Rattle.written_site.specs.SoundSteps.{IsTaken, FitsOwn, IsDelivery, IsSaleFit, IsDrawFit, DoVolumesAddUp, FindsRoom, ends_by, open_draws, growth_at, product_at, product_by, sold_at, drawn_at}
 use Rattle.written_site.specs.Volumes.{nozzle_out, product_out, running_at, running_by, sold_by, drawn_by, running, adjusted}
 use Rattle.written_site.proofs.Passed.{passed}
 use Rattle.written_site.proofs.Sound.{taken_when_passed}
@@ -45,7 +46,8 @@ use Rattle.written_site.proofs.SoundVolumes.{nozzle_there, product_supplied, pro
 -- ---- readings and volumes
 
 -- no nozzle reads more than a meter can
-pub reading_within : (p n : ℕ) (xs : List Nozzle) → AreNozzles xs → reading_of p n xs ≤ GREATEST_READING
+pub reading_within : (p n : ℕ) (xs : List Nozzle) → AreNozzles xs
+    → reading_of p n xs ≤ GREATEST_READING
 reading_within p n xs are = by_nozzle (nozzle_of p n xs) refl
   where
     by_nozzle : (o : Option Nozzle) → nozzle_of p n xs ≡ o
@@ -79,7 +81,8 @@ grown_within volume last reading low above high = omega arith
 -- the volume of a fuelling, with what flows in an event, is one that a meter can show
 pub growth_fits : (s : SiteState) (e : Event) → Sound s → IsTaken s e → FitsOwn s (own_event s e)
 growth_fits s (Flow p n reading) sound taken =
-    let own = own_point s (Flow p n reading) p (points.Flow n (flowed s p n reading)) sound taken refl in
+    let own =
+    own_point s (Flow p n reading) p (points.Flow n (flowed s p n reading)) sound taken refl in
     let out : nozzle_out (facts_of s p) ≡ n =
     flow_is_out n (flowed s p n reading) (facts_of s p) own.sound.whole own.taken in
     let low = volume_low s p (facts_of s p) own.sound in
@@ -87,20 +90,23 @@ growth_fits s (Flow p n reading) sound taken =
     (subst (λ (m : ℕ). flowed_of (facts_of s p) ≤ reading_of p m s.nozzles) out low)
     (accepted_above Growing (reading_of p n s.nozzles) reading taken.reads) taken.range
 growth_fits s (HangUp p n reading) sound taken =
-    let own = own_point s (HangUp p n reading) p (points.HangUp n (flowed s p n reading)) sound taken refl in
+    let own = own_point s (HangUp p n reading) p (points.HangUp n (flowed s p n reading)) sound
+    taken refl in
     let out : nozzle_out (facts_of s p) ≡ n =
     hung_up_is_out n (flowed s p n reading) (facts_of s p) own.sound.whole own.taken in
     let low = volume_low s p (facts_of s p) own.sound in
     grown_within (flowed_of (facts_of s p)) (reading_of p n s.nozzles) reading
     (subst (λ (m : ℕ). flowed_of (facts_of s p) ≤ reading_of p m s.nozzles) out low)
-    (accepted_above (put_back_at (facts_of s p).state) (reading_of p n s.nozzles) reading taken.reads)
+    (accepted_above (put_back_at (facts_of s p).state) (reading_of p n s.nozzles) reading
+    taken.reads)
     taken.range
 growth_fits s e sound taken = tt
 
 -- ---- a fuelling that is over
 
 -- what a step tells of a fuelling that is over
-record Over (s : SiteState) (e : Event) (p : ℕ) (event : PointEvent) (nozzle volume : ℕ) : Type 0 where
+record Over (s : SiteState) (e : Event) (p : ℕ) (event : PointEvent) (nozzle volume : ℕ)
+    : Type 0 where
   was : is_under_way (facts_of s p).state ≡ true
   out : nozzle ≡ nozzle_out (facts_of s p)
   flows : volume ≡ (facts_of s p).volume + growth_of event
@@ -131,7 +137,8 @@ delivery s e p event nozzle volume sound taken own over =
     let run = run_own s e p event taken own at.sound over.was in
     let has = nozzle_there s p f at.sound over.was in
     let product : product_at s e ≡ product_out s.nozzles p f = ap (product_by s) own in
-    let reading = reading_within p (nozzle_out f) (nozzles_after s e) (nozzles_stay s e taken sound.meters) in
+    let reading =
+    reading_within p (nozzle_out f) (nozzles_after s e) (nozzles_stay s e taken sound.meters) in
     let moves = (moves_running s e (product_at s e) sound taken).own refl in
     record {
       out = over.out;
@@ -144,7 +151,8 @@ delivery s e p event nozzle volume sound taken own over =
           ∙ product_is s p (nozzle_out f) has ∙ ap (λ (q : ℕ). Some q) (sym product);
       still = product_out_after s e p f ∙ sym product;
       supplied = subst (IsSupplied s) (sym product) (product_supplied s p (nozzle_out f) sound has);
-      leaves = part_of volume (running_by (product_alone (product_at s e)) (nozzles_after s e) (points_after s e))
+      leaves = part_of volume
+          (running_by (product_alone (product_at s e)) (nozzles_after s e) (points_after s e))
           (sold_at s e + drawn_at s e) (running s (product_at s e) + growth_at s e) moves over.told;
       held = at.sound.held (under_way_released f.state over.was);
     }
@@ -174,7 +182,8 @@ sold_fits s e volume sound taken told =
     (moves.sold ∙ ap (λ (v : ℕ). v + w q * sold_at s e) (sold_alone q s.sales)
     ∙ ap (λ (v : ℕ). volume_of q s.sales + w q * v) told)
 
-drawn_fits : (s : SiteState) (e : Event) (volume : ℕ) → Sound s → IsTaken s e → drawn_at s e ≡ volume
+drawn_fits : (s : SiteState) (e : Event) (volume : ℕ) → Sound s → IsTaken s e
+    → drawn_at s e ≡ volume
     → adjusted s (product_at s e) + volume < 2 ^ 64
 drawn_fits s e volume sound taken told =
     let q : ℕ = product_at s e in
@@ -183,8 +192,10 @@ drawn_fits s e volume sound taken told =
     let moves = moves_volumes w s (Dispenser 0) e sound taken in
     let all = conserved_after w s (Dispenser 0) e sound taken in
     within_most (metered_by w nozzles) (running_by w nozzles (points_after s e))
-    (adjusted s q) (drawn_by w (drawn_after s e)) 0 (sold_by w (sales_after s (Dispenser 0) e)) (w q) volume
-    (omega (arith, all)) (total_bound q nozzles (nozzles_stay s e taken sound.meters)) (own_weight q)
+    (adjusted s q) (drawn_by w (drawn_after s e)) 0 (sold_by w (sales_after s (Dispenser 0) e))
+    (w q) volume
+    (omega (arith, all)) (total_bound q nozzles (nozzles_stay s e taken sound.meters))
+    (own_weight q)
     (moves.drawn ∙ ap (λ (v : ℕ). adjusted s q + w q * v) told)
 
 -- ---- a sale
@@ -228,10 +239,11 @@ sale_fits s e p event nozzle volume price prepaid sound taken own is =
 -- ---- a draw
 
 -- the draws of the open shift are there
-pub open_draws : (s : SiteState) → Sound s → is_some (numbered (open_shift s) s.drawn) ≡ true
-open_draws s sound =
+pub draws_there : (s : SiteState) → Sound s → is_some (open_draws s) ≡ true
+draws_there s sound =
     let low = sound.shift.low in
-    ap is_some (numbered_within (open_shift s) s.drawn (open_shift s - 1) [] (omega arith) (omega arith))
+    ap is_some
+    (numbered_within (open_shift s) s.drawn (open_shift s - 1) [] (omega arith) (omega arith))
 
 row_at : (i : ℕ) (row : List ℕ) (rows : List (List ℕ)) → list_all is_draw_row rows ≡ true
     → slice_get rows i ≡ Some row → length row ≡ PRODUCT_CELLS
@@ -248,9 +260,11 @@ pub draw_cells : (s : SiteState) (h : ℕ) (row : List ℕ) → Sound s → numb
     → length row ≡ PRODUCT_CELLS
 draw_cells s zero row sound is = cc
 draw_cells s (suc h) row sound is =
-    row_at (suc h - 1) row s.drawn sound.draws (sym (numbered_place (suc h) s.drawn (omega arith)) ∙ is)
+    row_at (suc h - 1) row s.drawn sound.draws
+    (sym (numbered_place (suc h) s.drawn (omega arith)) ∙ is)
 
-less_than : (figure all volume : ℕ) → figure ≤ all → all + volume < 2 ^ 64 → figure + volume < 2 ^ 64
+less_than : (figure all volume : ℕ) → figure ≤ all → all + volume < 2 ^ 64
+    → figure + volume < 2 ^ 64
 less_than figure all volume low high = omega arith
 
 -- where the point of an event draws
@@ -275,12 +289,13 @@ draw_fits s e p event nozzle volume sound taken own is =
     let total = drawn_fits s e volume sound taken told in
     record {
       delivery = over;
-      noted = open_draws s sound;
+      noted = draws_there s sound;
       cells = λ row there. draw_cells s (open_shift s) row sound there;
       figure = λ row there.
           less_than (unwrap_or (numbered q row) 0) (adjusted s q) volume
           (figure_drawn s (open_shift s) q row over.supplied.low
-          (subst (λ (n : ℕ). q ≤ n) (sym (draw_cells s (open_shift s) row sound there)) over.supplied.high) there)
+          (subst (λ (n : ℕ). q ≤ n) (sym (draw_cells s (open_shift s) row sound there))
+          over.supplied.high) there)
           total;
       total = total;
     }
@@ -343,7 +358,8 @@ running_still s e q sound taken still goes_on =
     let sold : sold_at s e ≡ 0 = none_sold s (own_event s e) goes_on in
     let drawn : drawn_at s e ≡ 0 = none_drawn s (own_event s e) goes_on in
     unmoved (running_by (product_alone q) (nozzles_after s e) (points_after s e)) (running s q)
-    (product_alone q (product_at s e)) (sold_at s e) (drawn_at s e) (growth_at s e) sold drawn still moves
+    (product_alone q (product_at s e)) (sold_at s e) (drawn_at s e) (growth_at s e) sold drawn still
+    moves
 
 -- ---- prices
 

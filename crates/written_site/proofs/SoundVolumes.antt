@@ -62,21 +62,26 @@ metered_more w s p n reading f are has out above =
     ∙ ap (λ (o : Option Nozzle). unwrap_or (option_map (λ y. y.product) o) 0) x.is in
     read_raises w p n reading x.nozzle s.nozzles are.each x.is (omega arith)
     ∙ ap (λ (q : ℕ). metered_by w s.nozzles + w q * (reading - x.nozzle.last)) (sym product)
-    ∙ ap (λ (v : ℕ). metered_by w s.nozzles + w (product_out s.nozzles p f) * (reading - v)) (sym last)
+    ∙ ap (λ (v : ℕ). metered_by w s.nozzles + w (product_out s.nozzles p f) * (reading - v))
+    (sym last)
 
 pub metered_moves : (w : ℕ → ℕ) (s : SiteState) (e : Event) → Sound s → IsTaken s e
     → metered_by w (nozzles_after s e)
     ≡ metered_by w s.nozzles + w (product_at s e) * growth_at s e
 metered_moves w s (Flow p n reading) sound taken =
-    let own = own_point s (Flow p n reading) p (points.Flow n (flowed s p n reading)) sound taken refl in
+    let own =
+    own_point s (Flow p n reading) p (points.Flow n (flowed s p n reading)) sound taken refl in
     metered_more w s p n reading (facts_of s p) sound.meters (flow_nozzle s p n reading taken.names)
     (flow_is_out n (flowed s p n reading) (facts_of s p) own.sound.whole own.taken)
     (accepted_above Growing (reading_of p n s.nozzles) reading taken.reads)
 metered_moves w s (HangUp p n reading) sound taken =
-    let own = own_point s (HangUp p n reading) p (points.HangUp n (flowed s p n reading)) sound taken refl in
-    metered_more w s p n reading (facts_of s p) sound.meters (hung_up_nozzle s p n reading taken.names)
+    let own = own_point s (HangUp p n reading) p (points.HangUp n (flowed s p n reading)) sound
+    taken refl in
+    metered_more w s p n reading (facts_of s p) sound.meters
+    (hung_up_nozzle s p n reading taken.names)
     (hung_up_is_out n (flowed s p n reading) (facts_of s p) own.sound.whole own.taken)
-    (accepted_above (put_back_at (facts_of s p).state) (reading_of p n s.nozzles) reading taken.reads)
+    (accepted_above (put_back_at (facts_of s p).state) (reading_of p n s.nozzles) reading
+    taken.reads)
 metered_moves w s (ReplaceMeter p n reading) sound taken =
     meter_keeps w p n reading s.nozzles
     ∙ weighs_none (w (product_at s (ReplaceMeter p n reading))) (metered_by w s.nozzles)
@@ -108,7 +113,8 @@ same_weight w nozzles p old new (inl none) =
     ∙ mul-zero (w (product_out nozzles p new)) ∙ sym (mul-zero (w (product_out nozzles p old)))
     ∙ ap (λ (v : ℕ). w (product_out nozzles p old) * v) (sym none)
 same_weight w nozzles p old new (inr out) =
-    ap (λ (o : Option ℕ). w (unwrap_or (product_of p (unwrap_or o 0) nozzles) 0) * volume_of new) out
+    ap (λ (o : Option ℕ). w (unwrap_or (product_of p (unwrap_or o 0) nozzles) 0) * volume_of new)
+    out
 
 joined : (moved was all new kept over growth : ℕ) → moved + was ≡ all + new → new ≡ kept
     → was + growth ≡ kept + over → moved + over ≡ all + growth
@@ -126,12 +132,15 @@ flowed_moves w s e (Some x) sound taken is =
     let own = own_point s e x.0 x.1 sound taken is in
     let weight : ℕ = w (product_out s.nozzles x.0 f) in
     joined (flowed_by w s.nozzles (with_row x.0 (after x.1 f) s.points)) (weight * volume_of f)
-    (flowed_by w s.nozzles s.points) (w (product_out s.nozzles x.0 (after x.1 f)) * volume_of (after x.1 f))
-    (weight * volume_of (after x.1 f)) (weight * (sold_in (step_of x.1 f) + drawn_in (step_of x.1 f)))
+    (flowed_by w s.nozzles s.points)
+    (w (product_out s.nozzles x.0 (after x.1 f)) * volume_of (after x.1 f))
+    (weight * volume_of (after x.1 f))
+    (weight * (sold_in (step_of x.1 f) + drawn_in (step_of x.1 f)))
     (weight * growth_of x.1)
     (flowed_with w s.nozzles x.0 f (after x.1 f) s.points own.there)
     (same_weight w s.nozzles x.0 f (after x.1 f) (same_nozzle x.1 f own.taken))
-    (weighed weight (volume_of f) (growth_of x.1) (volume_of (after x.1 f)) (sold_in (step_of x.1 f))
+    (weighed weight (volume_of f) (growth_of x.1) (volume_of (after x.1 f))
+    (sold_in (step_of x.1 f))
     (drawn_in (step_of x.1 f))
     (conserved x.1 f own.sound.whole own.taken (calling_still s e x.0 x.1 taken is)))
 
@@ -157,10 +166,12 @@ pub running_moves : (w : ℕ → ℕ) (s : SiteState) (e : Event) → Sound s �
     ≡ running_by w s.nozzles s.points + w (product_at s e) * growth_at s e
 running_moves w s e sound taken =
     let over : ℕ = w (product_at s e) * (sold_at s e + drawn_at s e) in
-    let after_is = running_is w (nozzles_after s e) (points_after s e) (alone_after s e sound.numbers)
+    let after_is =
+    running_is w (nozzles_after s e) (points_after s e) (alone_after s e sound.numbers)
     (run_after s e sound taken) in
     ap (λ (v : ℕ). v + over)
-    (after_is ∙ flowed_products w s.nozzles (nozzles_after s e) (product_after s e) (points_after s e))
+    (after_is
+    ∙ flowed_products w s.nozzles (nozzles_after s e) (product_after s e) (points_after s e))
     ∙ flowed_moves w s e (own_event s e) sound taken refl
     ∙ ap (λ (v : ℕ). v + w (product_at s e) * growth_at s e) (sym (running_flowed w s sound))
 
@@ -235,7 +246,8 @@ sold_moves w s (Till t) SignOff sound taken =
 sold_moves w s a (Offline p) sound taken =
     sold_by_step w s (Offline p) p points.Offline sound taken refl (step_at s (Offline p)) refl
 sold_moves w s a (HangUp p n reading) sound taken =
-    sold_by_step w s (HangUp p n reading) p (points.HangUp n (flowed s p n reading)) sound taken refl
+    sold_by_step w s (HangUp p n reading) p (points.HangUp n (flowed s p n reading)) sound taken
+    refl
     (step_at s (HangUp p n reading)) refl
 sold_moves w s a e sound taken =
     stays_so (w (product_at s e)) (sold_by w s.sales) (sold_at s e)
@@ -276,11 +288,13 @@ drawn_by_step w s e p event sound taken own (Drawn nozzle volume) is =
     let from = drawn_from event f nozzle volume at.sound.whole at.taken is in
     let run : running_at (nozzles_after s e) p f ≡ volume =
     run_own s e p event taken own at.sound from.was ∙ sym from.its_volume in
-    let supplied = product_supplied s p (nozzle_out f) sound (nozzle_there s p f at.sound from.was) in
+    let supplied =
+    product_supplied s p (nozzle_out f) sound (nozzle_there s p f at.sound from.was) in
     let product : product_out (nozzles_after s e) p f ≡ product_out s.nozzles p f =
     product_out_after s e p f in
     drawn_more w (product_out (nozzles_after s e) p f) (running_at (nozzles_after s e) p f) s.drawn
-    sound.draws sound.shift.low (omega (arith, product, supplied.low)) (omega (arith, product, supplied.high))
+    sound.draws sound.shift.low (omega (arith, product, supplied.low))
+    (omega (arith, product, supplied.high))
     ∙ ap (λ (v : ℕ). drawn_by w s.drawn + v) (over_is w s e p volume f run)
 drawn_by_step w s e p event sound taken own step is =
     weighs_none (w (product_out s.nozzles p (facts_of s p))) (drawn_by w s.drawn)
@@ -290,7 +304,8 @@ pub drawn_moves : (w : ℕ → ℕ) (s : SiteState) (e : Event) → Sound s → 
 drawn_moves w s (Offline p) sound taken =
     drawn_by_step w s (Offline p) p points.Offline sound taken refl (step_at s (Offline p)) refl
 drawn_moves w s (HangUp p n reading) sound taken =
-    drawn_by_step w s (HangUp p n reading) p (points.HangUp n (flowed s p n reading)) sound taken refl
+    drawn_by_step w s (HangUp p n reading) p (points.HangUp n (flowed s p n reading)) sound taken
+    refl
     (step_at s (HangUp p n reading)) refl
 drawn_moves w s e sound taken =
     stays_so (w (product_at s e)) (drawn_by w s.drawn) (drawn_at s e)
