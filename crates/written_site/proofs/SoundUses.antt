@@ -38,7 +38,7 @@ use Rattle.written_site.proofs.Passed.{passed}
 use Rattle.written_site.proofs.Sound.{taken_when_passed}
 use Rattle.written_site.proofs.SoundTables.{same, told_once}
 use Rattle.written_site.proofs.SoundMachine.{sold_from, drawn_from}
-use Rattle.written_site.proofs.SoundReports.{flow_is_out, hung_up_is_out, nozzles_stay}
+use Rattle.written_site.proofs.SoundReports.{flow_nozzle, hung_up_nozzle, flow_is_out, hung_up_is_out, nozzles_stay}
 use Rattle.written_site.proofs.SoundSold.{own_point, run_own, under_way_released}
 use Rattle.written_site.proofs.SoundSums.{adds_up, run_within, own_weight, sold_alone, moves_running, figure_drawn, most_fits}
 use Rattle.written_site.proofs.SoundVolumes.{nozzle_there, product_supplied, product_out_after, none_sold, none_drawn, running_moves, moves_volumes, conserved_after}
@@ -102,6 +102,38 @@ growth_fits s (HangUp p n reading) sound taken =
     taken.range
 growth_fits s e sound taken = tt
 
+-- ---- the product that a report moves
+
+pub product_is : (s : SiteState) (p n : ℕ) → has_nozzle p n s.nozzles ≡ true
+    → product_of p n s.nozzles ≡ Some (unwrap_or (product_of p n s.nozzles) 0)
+product_is s p n has =
+    let x = there (nozzle_of p n s.nozzles) has in
+    let product : product_of p n s.nozzles ≡ Some x.nozzle.product =
+    ap (option_map (λ y. y.product)) x.is in
+    product ∙ ap (λ (o : Option ℕ). Some (unwrap_or o 0)) (sym product)
+
+-- a report moves the product of the nozzle that it names
+pub flow_product : (s : SiteState) (p n reading : ℕ) → Sound s → IsTaken s (Flow p n reading)
+    → product_of p n s.nozzles ≡ Some (product_at s (Flow p n reading))
+flow_product s p n reading sound taken =
+    let event : PointEvent = points.Flow n (flowed s p n reading) in
+    let own = own_point s (Flow p n reading) p event sound taken refl in
+    let out : nozzle_out (facts_of s p) ≡ n =
+    flow_is_out n (flowed s p n reading) (facts_of s p) own.sound.whole own.taken in
+    product_is s p n (flow_nozzle s p n reading taken.names)
+    ∙ ap (λ (m : ℕ). Some (unwrap_or (product_of p m s.nozzles) 0)) (sym out)
+
+pub hung_up_product : (s : SiteState) (p n reading : ℕ) → Sound s
+    → IsTaken s (HangUp p n reading)
+    → product_of p n s.nozzles ≡ Some (product_at s (HangUp p n reading))
+hung_up_product s p n reading sound taken =
+    let event : PointEvent = points.HangUp n (flowed s p n reading) in
+    let own = own_point s (HangUp p n reading) p event sound taken refl in
+    let out : nozzle_out (facts_of s p) ≡ n =
+    hung_up_is_out n (flowed s p n reading) (facts_of s p) own.sound.whole own.taken in
+    product_is s p n (hung_up_nozzle s p n reading taken.names)
+    ∙ ap (λ (m : ℕ). Some (unwrap_or (product_of p m s.nozzles) 0)) (sym out)
+
 -- ---- a fuelling that is over
 
 -- what a step tells of a fuelling that is over
@@ -119,14 +151,6 @@ at_most volume run reading is low high = omega arith
 
 part_of : (volume rest over all : ℕ) → rest + over ≡ all → over ≡ volume → volume ≤ all
 part_of volume rest over all moves told = omega arith
-
-product_is : (s : SiteState) (p n : ℕ) → has_nozzle p n s.nozzles ≡ true
-    → product_of p n s.nozzles ≡ Some (unwrap_or (product_of p n s.nozzles) 0)
-product_is s p n has =
-    let x = there (nozzle_of p n s.nozzles) has in
-    let product : product_of p n s.nozzles ≡ Some x.nozzle.product =
-    ap (option_map (λ y. y.product)) x.is in
-    product ∙ ap (λ (o : Option ℕ). Some (unwrap_or o 0)) (sym product)
 
 delivery : (s : SiteState) (e : Event) (p : ℕ) (event : PointEvent) (nozzle volume : ℕ) → Sound s
     → IsTaken s e → own_event s e ≡ Some (p, event) → Over s e p event nozzle volume
@@ -385,7 +409,12 @@ pub taken_when_accepted : (s : SiteState) (a : Actor) (e : Event) → InRange e
 taken_when_accepted s a e range accepted = taken_when_passed s a e range (passed s a e accepted)
 
 pub volumes_add_up : DoVolumesAddUp
-volumes_add_up = record { adds_up = adds_up; moves = moves_volumes }
+volumes_add_up = record { adds_up = adds_up; moves = moves_volumes; runs = moves_running }
 
 pub finds_room : FindsRoom
-finds_room = record { grows = growth_fits; sells = sale_fits; draws = draw_fits }
+finds_room = record {
+  grows = growth_fits;
+  runs = running_fits;
+  sells = sale_fits;
+  draws = draw_fits;
+}

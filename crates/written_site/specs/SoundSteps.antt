@@ -144,19 +144,23 @@ pub record AddUp (s : SiteState) (q : ℕ) : Type 0 where
   pub most : product_total q s.nozzles ≤ most_of_a_site
   pub fits : product_total q s.nozzles < 2 ^ 64
 
--- A sound site's volumes add up, for each product, and an event that the site takes moves them as
--- it is told.
+-- A sound site's volumes add up, for each product, and an event that the site takes moves them by
+-- what flows in it and what is sold or drawn.
 pub record DoVolumesAddUp : Type 0 where
   pub adds_up : (s : SiteState) (q : ℕ) → Sound s → AddUp s q
-  pub moves : (w : ℕ → ℕ) (s : SiteState) (actor : Actor) (event : Event) → Sound s
-      → IsTaken s event
-      → MovesVolumes w s actor event
+  pub moves : (w : ℕ → ℕ) (s : SiteState) (actor : Actor) (event : Event)
+      → Sound s → IsTaken s event → MovesVolumes w s actor event
+  pub runs : (s : SiteState) (event : Event) (q : ℕ)
+      → Sound s → IsTaken s event → MovesRunning s event q
 
--- At a sound site what flows in an event that the site takes fits in its fuelling, and where the
--- point of the event sells or draws, the sale or the draw fits.
+-- At a sound site what flows in an event that the site takes fits in its fuelling, and in 64 bits
+-- with all that is under way of its product; and where the point of the event sells or draws, the
+-- sale or the draw fits.
 pub record FindsRoom : Type 0 where
   pub grows : (s : SiteState) (event : Event) → Sound s → IsTaken s event
       → FitsOwn s (own_event s event)
+  pub runs : (s : SiteState) (event : Event) → Sound s → IsTaken s event
+      → running s (product_at s event) + growth_at s event < 2 ^ 64
   pub sells : (s : SiteState) (event : Event) (p : ℕ) (own : PointEvent)
       (nozzle volume price : ℕ) (prepaid : Option ℕ)
       → Sound s → IsTaken s event → own_event s event ≡ Some (p, own)
