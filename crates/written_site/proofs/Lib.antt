@@ -15,7 +15,9 @@ pub mod SoundDraws
 pub mod SoundSold
 pub mod SoundPoints
 pub mod SoundRunning
-pub mod SoundDrawn
 pub mod SoundVolumes
 pub mod Sound
 pub mod SoundOpening
+pub mod SoundSums
+pub mod SoundUses
+pub mod WorkedSound

@@ -1,13 +1,12 @@
 -- Every event leaves a sound site sound.
-use Rattle.std.proofs.Common.{◌≡◌, ℕ, ◌<◌, length, Option, Some, None, refl, sym, subst, ◌∙◌, arith}
+use Rattle.std.proofs.Common.{◌≡◌, length, Option, Some, None, refl, sym, subst, ◌∙◌, arith}
 use Rattle.site_base.specs.declared.actor.Actor.{Actor}
 use Rattle.site_base.specs.declared.event.Event.{Event}
 use Rattle.site_base.specs.declared.refusal.Refusal.{Refusal}
-use Rattle.meters.specs.Nozzles.{product_of}
 use Rattle.written_site.specs.SiteState.{SiteState, open_shift}
 use Rattle.written_site.specs.SiteChecks.{Passed, first_refusal}
-use Rattle.written_site.specs.SiteStep.{accepted_site, site_after, nozzles_after, drawn_after}
-use Rattle.written_site.specs.Sound.{InRange, IsShift, IsSupplied, Sound, StaysSound}
+use Rattle.written_site.specs.SiteStep.{accepted_site, site_after, drawn_after}
+use Rattle.written_site.specs.Sound.{InRange, IsShift, Sound, StaysSound}
 use Rattle.written_site.specs.SoundSteps.{IsTaken}
 use Rattle.written_site.proofs.Passed.{passed}
 use Rattle.written_site.proofs.SoundDraws.{drawn_length, drawn_rows}
@@ -19,7 +18,8 @@ use Rattle.written_site.proofs.SoundPoints.{point_after}
 use Rattle.written_site.proofs.SoundVolumes.{alone_after, conserved_after}
 
 -- an accepted event passes the checks on which points and volumes depend
-pub taken_when_passed : (s : SiteState) (a : Actor) (e : Event) → InRange e → Passed s a e → IsTaken s e
+pub taken_when_passed : (s : SiteState) (a : Actor) (e : Event) → InRange e → Passed s a e
+    → IsTaken s e
 taken_when_passed s a e range passes = record {
   names = passes.names;
   takes = passes.takes;

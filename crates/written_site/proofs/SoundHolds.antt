@@ -1,9 +1,8 @@
 -- A released point stays held.
-use Rattle.std.proofs.Common.{◌≡◌, ℕ, ◌==◌, not, ◌&&◌, Bool, true, false, cond, Option, Some, None, is_some, refl, sym, ap, subst, ◌∙◌, arith}
+use Rattle.std.proofs.Common.{◌≡◌, ℕ, ◌==◌, not, Bool, true, false, cond, Option, Some, None, is_some, refl, sym, ap, ◌∙◌, arith}
 use Rattle.std.proofs.lemmas.Bool.{false≢true}
-use Rattle.std.proofs.lemmas.Bool.Decides.{nat_tests}
 use Rattle.std.proofs.lemmas.Grind.{common_steps}
-use Rattle.std.specs.Ordering.{nat_cmp, eq_by_cmp}
+use Rattle.std.specs.Ordering.{nat_cmp}
 use Rattle.std.specs.Cmp.{nat_cmp_total, unsigned_tied}
 use Rattle.std.specs.FinMap as finite
 use Rattle.std.specs.FinMap.{FinMap, get-insert, get-remove, get-retain_keys, nat_cmp-IsAntisymmetric}
@@ -16,16 +15,14 @@ use Rattle.site_base.specs.declared.state.Preset.TheVariants.{Money}
 use Rattle.site_base.specs.Table.{row_of}
 use Rattle.fuelling_point.specs.declared.event.PointEvent.{PointEvent}
 use Rattle.fuelling_point.specs.declared.event.PointEvent.TheVariants as points
-use Rattle.fuelling_point.specs.declared.step.PointStep.{PointStep}
 use Rattle.fuelling_point.specs.Kept.{Facts}
 use Rattle.fuelling_point.specs.PointChecks.{refusal_of}
 use Rattle.fuelling_point.specs.Step.{step_of, after}
 use Rattle.fuelling_point.specs.Whole.{is_released}
-use Rattle.till_claims.specs.Holds.{is_held_by}
-use Rattle.written_site.specs.SiteState.{SiteState, facts_in, facts_of, holder_of, rests, is_resting}
+use Rattle.written_site.specs.SiteState.{SiteState, facts_of, holder_of, is_resting}
 use Rattle.written_site.specs.SiteChecks.{Passed, own_event, flowed, released, test_released}
 use Rattle.written_site.specs.SiteStep.{with_event, points_after, holds_after, holds_unless_over, ends_at_sign_off, holds_without, ends_release}
-use Rattle.written_site.proofs.SoundTables.{same, itself, told_once, facts_there, row_of-other, RowAfter, kept, done, row_after}
+use Rattle.written_site.proofs.SoundTables.{same, told_once, facts_there, row_of-other, RowAfter, kept, done, row_after}
 use Rattle.written_site.proofs.SoundMachine.{is_release, released_after}
 
 -- ---- one hold
@@ -104,7 +101,8 @@ here s p q event f at is = by_row (row_after s.points (Some (p, event)) q f is)
         let pair = told_once (p, event) (q, other) own in
         let event_is : other ≡ event = sym (ap (λ (x : ℕ × PointEvent). x.1) pair) in
         let point_is : p ≡ q = ap (λ (x : ℕ × PointEvent). x.0) pair in
-        let facts : facts_of s p ≡ old = ap (facts_of s) point_is ∙ facts_there s.points q old row in
+        let facts : facts_of s p ≡ old = ap (facts_of s) point_is
+        ∙ facts_there s.points q old row in
         made ∙ ap (λ (x : PointEvent). after x old) event_is ∙ ap (after event) (sym facts)
 
 takes : (s : SiteState) (p t : ℕ) (event : PointEvent) → AreHeld s → (q : ℕ) (f : Facts)
@@ -125,7 +123,8 @@ ends s p event rest held q f is released = rw (ended_hold s.holds p q) (by_test 
     by_test : (b : Bool) → (q == p) ≡ b → is_some (cond b None (holder_of s q)) ≡ true
     by_test true at =
         let made : f ≡ after event (facts_of s p) = here s p q event f at is in
-        absurd (false≢true (sym rest ∙ ap (λ (g : Facts). is_released g.state) (sym made) ∙ released))
+        absurd (false≢true
+        (sym rest ∙ ap (λ (g : Facts). is_released g.state) (sym made) ∙ released))
     by_test false other = held q f (elsewhere s p q event f other is) released
 
 unless_over : (s : SiteState) (p : ℕ) (event : PointEvent) → is_release event ≡ false → AreHeld s
@@ -153,9 +152,12 @@ signed_off s t held q f is released =
     let resting : is_resting f.state ≡ false = doesn't_rest f.state released in
     let stays_there : not (ends_at_sign_off s.points s.holds t q) ≡ true =
     rw is (rw resting refl) in
-    rw (get-retain_keys s.holds (λ p. not (ends_at_sign_off s.points s.holds t p)) q
-    (λ x tied. ap (λ (y : ℕ). not (ends_at_sign_off s.points s.holds t y))
-    (sym (nat_cmp-IsAntisymmetric q x tied))), stays_there) (held q f is released)
+    rw (
+      get-retain_keys s.holds (λ p. not (ends_at_sign_off s.points s.holds t p)) q
+          (λ x tied. ap (λ (y : ℕ). not (ends_at_sign_off s.points s.holds t y))
+          (sym (nat_cmp-IsAntisymmetric q x tied))),
+      stays_there,
+    ) (held q f is released)
 
 -- a point that is released after an accepted event is held
 pub held_after : (s : SiteState) (a : Actor) (e : Event) → Passed s a e → AreHeld s

@@ -1,17 +1,15 @@
 -- What an accepted event changes of a point that is whole.
-use Rattle.std.proofs.Common.{◌≡◌, ℕ, ◌+◌, ◌≤◌, ◌<◌, Bool, true, false, Option, Some, None, is_some, unwrap_or, ◌⊎◌, inl, inr, refl, arith}
+use Rattle.std.proofs.Common.{◌≡◌, ℕ, ◌+◌, ◌≤◌, Bool, true, false, Option, Some, None, ◌⊎◌, arith}
 use Rattle.std.proofs.lemmas.Grind.{common_steps}
-use Rattle.site_base.specs.declared.state.PointState.{PointState}
-use Rattle.site_base.specs.declared.state.PointState.TheVariants as states
 use Rattle.fuelling_point.specs.declared.event.PointEvent.{PointEvent}
-use Rattle.fuelling_point.specs.declared.event.PointEvent.TheVariants.{Lift, Release, TestRelease, Flow, HangUp, Offline}
+use Rattle.fuelling_point.specs.declared.event.PointEvent.TheVariants.{Release, TestRelease}
 use Rattle.fuelling_point.specs.declared.step.PointStep.TheVariants.{Sold, Drawn}
 use Rattle.fuelling_point.specs.Kept.{Facts, is_under_way, volume_of, growth_of}
 use Rattle.fuelling_point.specs.Whole.{IsWhole, is_released}
 use Rattle.fuelling_point.specs.PointChecks.{refusal_of}
 use Rattle.fuelling_point.specs.Step.{step_of, after}
 use Rattle.written_site.specs.Volumes.{nozzle_out}
-use Rattle.fuelling_point.specs.Laws.{delivered_in, sold_in, drawn_in, is_end, handed_in, lifted_by}
+use Rattle.fuelling_point.specs.Laws.{sold_in, drawn_in, is_end, handed_in, lifted_by}
 
 -- the nozzle that is out was out, or it is the one lifted
 pub out_after : (event : PointEvent) (f : Facts) (n : ℕ) → (after event f).out ≡ Some n
@@ -69,9 +67,10 @@ starts event f is was = record {
   volume = grind (arith, common_steps);
 }
 
--- where a point sells: a fuelling that is no test was under way, and this is its volume, its nozzle and the
--- price that it took
-pub record SoldFrom (event : PointEvent) (f : Facts) (nozzle volume price : ℕ) (prepaid : Option ℕ) : Type 0 where
+-- where a point sells: a fuelling that is no test was under way, and this is its volume, its nozzle
+-- and the price that it took
+pub record SoldFrom (event : PointEvent) (f : Facts) (nozzle volume price : ℕ)
+    (prepaid : Option ℕ) : Type 0 where
   pub was : is_under_way f.state ≡ true
   pub over : is_released (after event f).state ≡ false
   pub sale : f.test ≡ false

@@ -1,15 +1,14 @@
--- The nozzles after an event: their names and products stay, and only the reading of the nozzle that is named
--- moves.
-use Rattle.std.proofs.Common.{◌≡◌, ℕ, ◌≤◌, ◌&&◌, ◌==◌, Bool, true, false, List, Option, option_map, Some, None, is_some, unwrap_or, refl, sym, ap, ◌∙◌, arith}
+-- The nozzles after an event: their names and products stay, and only the reading of the nozzle
+-- that is named moves.
+use Rattle.std.proofs.Common.{◌≡◌, ℕ, ◌&&◌, ◌==◌, Bool, true, false, List, Option, option_map, Some, None, is_some, unwrap_or, refl, sym, ap, ◌∙◌}
 use Rattle.std.proofs.lemmas.Bool.{and_parts}
-use Rattle.std.proofs.lemmas.Bool.Decides.{nat_tests}
 use Rattle.site_base.specs.declared.event.Event.{Event}
 use Rattle.site_base.specs.declared.event.Event.TheVariants.{ReplaceMeter, Flow, HangUp}
-use Rattle.meters.specs.Nozzles.{Nozzle, nozzle_of, has_nozzle, product_of, last_of, reading_of, with_nozzle, with_last, with_meter, read_at, replaced_at}
+use Rattle.meters.specs.Nozzles.{Nozzle, nozzle_of, has_nozzle, product_of, reading_of, with_nozzle, with_last, read_at, replaced_at}
 use Rattle.meters.proofs.Looked.{KeepsName, nozzle_of-here, nozzle_of-other, there, reading_is}
 use Rattle.written_site.specs.SiteState.{SiteState}
 use Rattle.written_site.specs.SiteStep.{nozzles_after}
-use Rattle.written_site.proofs.SoundTables.{same, itself}
+use Rattle.written_site.proofs.SoundTables.{same}
 
 pub read_keeps : (reading : ℕ) → KeepsName (read_at reading)
 read_keeps reading = record { point = λ x. refl; number = λ x. refl }
@@ -46,7 +45,8 @@ some_of f (Some x) = refl
 product_with : (p n q m : ℕ) (change : Nozzle → Nozzle) (xs : List Nozzle) → KeepsName change
     → ((x : Nozzle) → (change x).product ≡ x.product)
     → product_of q m (with_nozzle p n change xs) ≡ product_of q m xs
-product_with p n q m change xs keeps kept = figure_kept (λ x. x.product) p n q m change xs keeps kept
+product_with p n q m change xs keeps kept =
+    figure_kept (λ x. x.product) p n q m change xs keeps kept
 
 -- ---- after an event
 

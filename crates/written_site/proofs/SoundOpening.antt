@@ -1,15 +1,12 @@
 -- The opening site of a fit configuration is sound.
-use Rattle.std.proofs.Common.{◌≡◌, ℕ, suc, ◌+◌, ◌*◌, ◌≤◌, ◌<◌, ◌==◌, ◌&&◌, ◌||◌, not, nat_le, Bool, true, false, cond, List, [], ◌∷◌, ◌++◌, length, length-append, Option, option_map, Some, None, is_some, unwrap_or, refl, sym, ap, subst, ◌∙◌, arith}
+use Rattle.std.proofs.Common.{◌++◌, ◌≡◌, ℕ, suc, ◌+◌, ◌*◌, ◌≤◌, ◌==◌, ◌&&◌, ◌||◌, not, nat_le, Bool, true, false, List, [], ◌∷◌, length, length-append, Option, Some, None, is_some, unwrap_or, refl, sym, ap, subst, ◌∙◌, arith}
 use Rattle.std.proofs.Math.Nat.{mul-zero}
-use Rattle.std.proofs.lemmas.Bool.{and_parts, and_from, leb-true, false≢true}
+use Rattle.std.proofs.lemmas.Bool.{and_parts, and_from, leb-true, le-leb, false≢true}
 use Rattle.std.proofs.lemmas.Bool.Decides.{nat_tests}
-use Rattle.std.proofs.lemmas.Grind.{common_steps}
 use Rattle.std.proofs.lemmas.List.Folds.{list_all-append}
-
 use Rattle.std.specs.List.{list_all, list_any}
 use Rattle.std.specs.Ordering.{nat_cmp}
 use Rattle.std.specs.Prelude.{nat_eq}
-use Rattle.std.specs.FinMap as finite
 use Rattle.std.specs.FinMap.{get-empty}
 use Rattle.site_base.specs.declared.config.NozzleEntry.{NozzleEntry}
 use Rattle.site_base.specs.declared.limits.TheConstants.{GREATEST_READING, GREATEST_ROWS, NOZZLES, POINTS, PRODUCTS}
@@ -20,13 +17,13 @@ use Rattle.site_base.specs.Table.{row_of}
 use Rattle.fuelling_point.specs.Kept.{Facts, fresh}
 use Rattle.fuelling_point.proofs.Whole.{stays_whole}
 use Rattle.meters.specs.Metered.{metered_by}
-use Rattle.meters.specs.Nozzles.{Nozzle, nozzle_of, product_of, is_nozzle, opened, numbered, nozzles_of_point, nozzles_of_points, opening_nozzles, IsMetered, EachMetered, AreNozzles}
+use Rattle.meters.specs.Nozzles.{Nozzle, product_of, is_nozzle, numbered, nozzles_of_point, nozzles_of_points, opening_nozzles, EachMetered, AreNozzles}
 use Rattle.meters.proofs.Bounded.{each_joined}
 use Rattle.meters.proofs.Weighed.{open_nothing}
 use Rattle.transaction_buffer.specs.Sales.{Key, Sale, no_sales, sales_at, sale_in, sale_of, made_in, made_at, unpaid_among, unpaid_at}
 use Rattle.transaction_buffer.proofs.OnShelves.{nothing_sold}
 use Rattle.written_site.specs.SiteState.{SiteState, opening, points_of, nothing_drawn}
-use Rattle.written_site.specs.Sound.{IsFit, IsPointSound, IsSaleSound, IsSupplied, Sound, numbers_of, is_draw_row}
+use Rattle.written_site.specs.Sound.{IsFit, are_numbered, are_readable, IsPointSound, IsSupplied, Sound, numbers_of}
 use Rattle.written_site.specs.Volumes.{running_by, sold_by, drawn_by}
 use Rattle.written_site.proofs.SoundTables.{same, told_once}
 
@@ -50,7 +47,8 @@ closed_rows : (p : ℕ) (f : Facts) (ps : List ConfiguredPoint) → row_of p (po
 closed_rows p f [] is = cc
 closed_rows p f (q ∷ qs) is = by_test (q.number == p) refl (closed_rows p f qs)
   where
-    by_test : (b : Bool) → (q.number == p) ≡ b → (row_of p (points_of qs) ≡ Some f → fresh Closed ≡ f)
+    by_test : (b : Bool) → (q.number == p) ≡ b
+        → (row_of p (points_of qs) ≡ Some f → fresh Closed ≡ f)
         → fresh Closed ≡ f
     by_test true at behind =
         let first : row_of p (points_of (q ∷ qs)) ≡ Some (fresh Closed) = rw at refl in
@@ -109,9 +107,12 @@ opening_products : (products : List ConfiguredProduct) (ps : List ConfiguredPoin
     → each_product (has_product products) (nozzles_of_points ps) ≡ true
 opening_products products [] all = refl
 opening_products products (p ∷ ps) all =
-    let parts = and_parts (are_nozzles products p.nozzles) (list_all (λ q. are_nozzles products q.nozzles) ps) all in
-    let nozzles = and_parts (is_between 1 NOZZLES (length p.nozzles)) (list_all (λ n. has_product products n.product) p.nozzles) parts.0 in
-    list_all-append (λ (x : Nozzle). has_product products x.product) (nozzles_of_point p) (nozzles_of_points ps)
+    let parts = and_parts (are_nozzles products p.nozzles)
+    (list_all (λ q. are_nozzles products q.nozzles) ps) all in
+    let nozzles = and_parts (is_between 1 NOZZLES (length p.nozzles))
+    (list_all (λ n. has_product products n.product) p.nozzles) parts.0 in
+    list_all-append (λ (x : Nozzle). has_product products x.product) (nozzles_of_point p)
+    (nozzles_of_points ps)
     ∙ and_from (each_product (has_product products) (nozzles_of_point p))
     (each_product (has_product products) (nozzles_of_points ps))
     (numbered_products (has_product products) p.number 1 p.nozzles nozzles.1)
@@ -119,18 +120,18 @@ opening_products products (p ∷ ps) all =
 
 -- a product that is there has a price, and a number that a product may have
 product_there : (q : ℕ) (ps : List ConfiguredProduct) → has_product ps q ≡ true
-    → list_all (λ p. is_between 1 PRODUCTS p.number) ps ≡ true
+    → are_numbered ps ≡ true
     → (is_some (row_of q (prices_of ps)) ≡ true) × (is_between 1 PRODUCTS q ≡ true)
 product_there q [] has all = cc
 product_there q (p ∷ ps) has all = by_test (p.number == q) refl (product_there q ps)
   where
     parts : (is_between 1 PRODUCTS p.number ≡ true)
-        × (list_all (λ r. is_between 1 PRODUCTS r.number) ps ≡ true)
+        × (are_numbered ps ≡ true)
     parts = and_parts (is_between 1 PRODUCTS p.number)
-        (list_all (λ r. is_between 1 PRODUCTS r.number) ps) all
+        (are_numbered ps) all
 
     by_test : (b : Bool) → (p.number == q) ≡ b
-        → (has_product ps q ≡ true → list_all (λ r. is_between 1 PRODUCTS r.number) ps ≡ true
+        → (has_product ps q ≡ true → are_numbered ps ≡ true
         → (is_some (row_of q (prices_of ps)) ≡ true) × (is_between 1 PRODUCTS q ≡ true))
         → (is_some (row_of q (prices_of (p ∷ ps))) ≡ true) × (is_between 1 PRODUCTS q ≡ true)
     by_test true at behind =
@@ -142,24 +143,47 @@ product_there q (p ∷ ps) has all = by_test (p.number == q) refl (product_there
 -- ---- the meters
 
 opened_metered : (p n : ℕ) (es : List NozzleEntry)
-    → list_all (λ e. nat_le e.reading GREATEST_READING) es ≡ true → EachMetered (numbered p n es)
+    → are_readable es ≡ true → EachMetered (numbered p n es)
 opened_metered p n [] all = tt
 opened_metered p n (e ∷ es) all =
     let parts = and_parts (nat_le e.reading GREATEST_READING)
-        (list_all (λ x. nat_le x.reading GREATEST_READING) es) all in
-    let high : e.reading ≤ GREATEST_READING = leb-true e.reading GREATEST_READING parts.0 in
-    (record { risen = omega arith; within = high; few = omega arith; earlier = omega arith },
-    opened_metered p (n + 1) es parts.1)
+    (are_readable es) all in
+    let high : e.reading ≤ GREATEST_READING = leb-true e.reading GREATEST_READING parts.0 in (
+      record { risen = omega arith; within = high; few = omega arith; earlier = omega arith },
+      opened_metered p (n + 1) es parts.1,
+    )
 
 opening_metered : (ps : List ConfiguredPoint)
-    → list_all (λ p. list_all (λ n. nat_le n.reading GREATEST_READING) p.nozzles) ps ≡ true
+    → list_all (λ p. are_readable p.nozzles) ps ≡ true
     → EachMetered (nozzles_of_points ps)
 opening_metered [] all = tt
 opening_metered (p ∷ ps) all =
-    let parts = and_parts (list_all (λ n. nat_le n.reading GREATEST_READING) p.nozzles)
-        (list_all (λ q. list_all (λ n. nat_le n.reading GREATEST_READING) q.nozzles) ps) all in
+    let parts = and_parts (are_readable p.nozzles)
+    (list_all (λ q. are_readable q.nozzles) ps) all in
     each_joined (nozzles_of_point p) (nozzles_of_points ps)
     (opened_metered p.number 1 p.nozzles parts.0) (opening_metered ps parts.1)
+
+-- what the meters' bounds say of the readings that they opened with
+each_parts : (xs ys : List Nozzle) → EachMetered (xs ++ ys) → EachMetered xs × EachMetered ys
+each_parts [] ys each = (tt, each)
+each_parts (x ∷ xs) ys each =
+    let parts = each_parts xs ys each.1 in
+    ((each.0, parts.0), parts.1)
+
+metered_readable : (p n : ℕ) (es : List NozzleEntry) → EachMetered (numbered p n es)
+    → are_readable es ≡ true
+metered_readable p n [] each = refl
+metered_readable p n (e ∷ es) each =
+    and_from (nat_le e.reading GREATEST_READING) (are_readable es)
+    (le-leb e.reading GREATEST_READING each.0.within) (metered_readable p (n + 1) es each.1)
+
+pub readable_when_metered : (ps : List ConfiguredPoint) → EachMetered (nozzles_of_points ps)
+    → list_all (λ p. are_readable p.nozzles) ps ≡ true
+readable_when_metered [] each = refl
+readable_when_metered (p ∷ ps) each =
+    let parts = each_parts (nozzles_of_point p) (nozzles_of_points ps) each in
+    and_from (are_readable p.nozzles) (list_all (λ q. are_readable q.nozzles) ps)
+    (metered_readable p.number 1 p.nozzles parts.0) (readable_when_metered ps parts.1)
 
 numbered_length : (p n : ℕ) (es : List NozzleEntry) → length (numbered p n es) ≡ length es
 numbered_length p n [] = refl
@@ -177,9 +201,9 @@ opening_length : (products : List ConfiguredProduct) (ps : List ConfiguredPoint)
 opening_length products [] all = omega arith
 opening_length products (p ∷ ps) all =
     let parts = and_parts (are_nozzles products p.nozzles)
-        (list_all (λ q. are_nozzles products q.nozzles) ps) all in
+    (list_all (λ q. are_nozzles products q.nozzles) ps) all in
     let count = and_parts (is_between 1 NOZZLES (length p.nozzles))
-        (list_all (λ n. has_product products n.product) p.nozzles) parts.0 in
+    (list_all (λ n. has_product products n.product) p.nozzles) parts.0 in
     let few : length p.nozzles ≤ NOZZLES = between_high 1 NOZZLES (length p.nozzles) count.0 in
     let here = numbered_length p.number 1 p.nozzles in
     let rest = opening_length products ps parts.1 in
@@ -224,7 +248,7 @@ record FitPoints (c : Configured) : Type 0 where
 fit_points : (c : Configured) → is_site c ≡ true → FitPoints c
 fit_points c site =
     let points = and_parts (is_between 1 GREATEST_ROWS c.rows && none_alike nat_eq c.managers
-        && are_products c.products) (are_points c.products c.points) site in
+    && are_products c.products) (are_points c.products c.points) site in
     let counted : Bool = is_between 1 POINTS (length c.points) in
     let served : Bool = list_all (λ p. are_nozzles c.products p.nozzles) c.points in
     let parts = and_parts (counted && served) (none_alike same_point c.points) points.1 in

@@ -1,5 +1,5 @@
 -- Each point stays sound.
-use Rattle.std.proofs.Common.{◌≡◌, ℕ, ◌+◌, ◌-◌, ◌≤◌, ◌<◌, ◌==◌, Bool, true, false, cond, List, [], ◌∷◌, length, Option, option_and_then, Some, None, is_some, unwrap_or, ◌⊎◌, inl, inr, refl, sym, ap, subst, ◌∙◌, arith}
+use Rattle.std.proofs.Common.{◌≡◌, ℕ, ◌+◌, ◌-◌, ◌==◌, Bool, true, false, cond, List, [], ◌∷◌, length, Option, option_and_then, Some, None, is_some, unwrap_or, ◌⊎◌, inl, inr, refl, sym, ap, subst, ◌∙◌, arith}
 use Rattle.std.proofs.lemmas.Bool.{and_parts}
 use Rattle.std.proofs.lemmas.Bool.Decides.{nat_tests}
 use Rattle.std.proofs.lemmas.Grind.{common_steps}
@@ -10,11 +10,10 @@ use Rattle.site_base.specs.declared.limits.TheConstants.{GREATEST_PRICE}
 use Rattle.site_base.specs.declared.state.PointState.{PointState}
 use Rattle.site_base.specs.Configured.{is_between}
 use Rattle.site_base.specs.Prices.{are_in_range}
-use Rattle.site_base.specs.Table.{row_of, with_row}
+use Rattle.site_base.specs.Table.{row_of}
 use Rattle.fuelling_point.specs.declared.event.PointEvent.{PointEvent}
 use Rattle.fuelling_point.specs.Kept.{Facts, is_under_way, has_nozzle_out, volume_of}
 use Rattle.fuelling_point.specs.Laws.{lifted_by}
-use Rattle.fuelling_point.specs.PointChecks.{refusal_of}
 use Rattle.fuelling_point.specs.Step.{step_of, after}
 use Rattle.fuelling_point.specs.Whole.{IsWhole, is_released}
 use Rattle.fuelling_point.proofs.Whole.{whole_accepted}
@@ -36,12 +35,14 @@ use Rattle.written_site.proofs.SoundSales.{sells, SameCounts, counts_after}
 use Rattle.written_site.proofs.SoundSold.{own_point}
 
 -- a nozzle that is lifted is one of the point's
-lifts : (s : SiteState) (e : Event) (q n : ℕ) (event : PointEvent) (old : Facts) → numbers s e ≡ None
+lifts : (s : SiteState) (e : Event) (q n : ℕ) (event : PointEvent) (old : Facts)
+    → numbers s e ≡ None
     → own_event s e ≡ Some (q, event) → lifted_by event old.state ≡ Some n
     → has_nozzle q n s.nozzles ≡ true
 lifts s e q n event old names own is = grind (arith, common_steps)
 
--- a fuelling that starts takes the last reading of the nozzle that is out, and today's price of its product
+-- a fuelling that starts takes the last reading of the nozzle that is out, and today's price of its
+-- product
 start_own : (s : SiteState) (e : Event) (q : ℕ) (event : PointEvent) (old : Facts)
     → own_event s e ≡ Some (q, event) → facts_of s q ≡ old
     → is_under_way (after event old).state ≡ true → is_under_way old.state ≡ false
@@ -73,9 +74,13 @@ room_kept : (s : SiteState) (a : Actor) (e : Event) (q : ℕ)
     → SameCounts q s.sales (sales_after s a e) → MaySell s q → MaySell (accepted_site s a e) q
 room_kept s a e q counts may =
     let shift : length (drawn_after s e) ≡ open_shift s = drawn_length s e in
-    let made : made_at q (length (drawn_after s e)) (sales_after s a e) ≡ made_at q (open_shift s) s.sales =
+    let made : made_at q (length (drawn_after s e)) (sales_after s a e)
+    ≡ made_at q (open_shift s) s.sales =
     counts.made (length (drawn_after s e)) ∙ ap (λ (h : ℕ). made_at q h s.sales) shift in
-    record { unpaid = omega (arith, counts.unpaid, may.unpaid); number = omega (arith, made, may.number) }
+    record {
+      unpaid = omega (arith, counts.unpaid, may.unpaid);
+      number = omega (arith, made, may.number);
+    }
 
 -- a nozzle that is out after the event is one of the point's
 nozzle_own : (s : SiteState) (e : Event) (q n : ℕ) (event : PointEvent) → IsTaken s e
@@ -130,6 +135,7 @@ flowed_own s e q event taken own point whole under_way =
         ≡ reading_of q (nozzle_out new) s.nozzles =
         ap (reading_of q (nozzle_out new)) (started_still s e q event own under_way was) in
         omega (arith, begins.volume, start, reads, still)
+
 -- a price of the table is in range
 price_found : (q m : ℕ) (prices : List (ℕ × ℕ)) → are_in_range prices ≡ true
     → row_of q prices ≡ Some m → IsPrice m
@@ -201,7 +207,8 @@ room_own s a e q event passed own point released sale =
   where
     counts : SameCounts q s.sales (sales_after s a e)
     counts = counts_after s a e q (λ other again.
-        ap (λ (x : PointEvent). sells (step_of x (facts_of s q))) (sym (one_event s e q event other own again))
+        ap (λ (x : PointEvent). sells (step_of x (facts_of s q)))
+        (sym (one_event s e q event other own again))
         ∙ released_unsold event (facts_of s q) released)
 
     by_test : (b : Bool) → is_sale_release event ≡ b → MaySell s q

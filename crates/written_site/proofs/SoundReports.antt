@@ -1,6 +1,5 @@
 -- The meter of the nozzle that is out, and the point that its reports are of.
-use Rattle.std.proofs.Common.{◌≡◌, ℕ, ◌+◌, ◌-◌, ◌≤◌, ◌<◌, ◌==◌, Bool, true, false, List, Option, Some, None, is_some, unwrap_or, refl, sym, ap, subst, ◌∙◌, arith}
-use Rattle.std.proofs.lemmas.Bool.{false≢true}
+use Rattle.std.proofs.Common.{◌≡◌, ℕ, ◌+◌, ◌≤◌, ◌<◌, ◌==◌, Bool, true, false, List, Option, Some, None, refl, ap, subst, arith}
 use Rattle.std.proofs.lemmas.Bool.Decides.{nat_tests}
 use Rattle.std.proofs.lemmas.Grind.{common_steps}
 use Rattle.site_base.specs.declared.event.Event.{Event}
@@ -8,21 +7,20 @@ use Rattle.site_base.specs.declared.event.Event.TheVariants.{SignOn, SignOff, Re
 use Rattle.site_base.specs.declared.limits.TheConstants.{GREATEST_READING, REPLACEMENT_LIMIT}
 use Rattle.fuelling_point.specs.declared.event.PointEvent.{PointEvent}
 use Rattle.fuelling_point.specs.declared.event.PointEvent.TheVariants as points
-use Rattle.fuelling_point.specs.Kept.{Facts, growth_of, is_under_way, FitsGrowth}
+use Rattle.fuelling_point.specs.Kept.{Facts, growth_of, is_under_way}
 use Rattle.fuelling_point.specs.PointChecks.{refusal_of}
 use Rattle.fuelling_point.specs.Whole.{IsWhole}
 use Rattle.meters.specs.Nozzles.{Nozzle, reading_of, has_nozzle, times_replaced, with_nozzle, with_last, read_at, replaced_at, AreNozzles, EachMetered}
-use Rattle.meters.specs.Reports.{report_refusal}
-use Rattle.meters.specs.declared.report.Report.TheVariants.{Still, Growing}
+use Rattle.meters.specs.declared.report.Report.TheVariants.{Growing}
 use Rattle.meters.proofs.Bounded.{reads, replaces}
 use Rattle.meters.proofs.Looked.{length-with_nozzle, read_there}
 use Rattle.meters.proofs.Weighed.{accepted_above}
 use Rattle.written_site.specs.SiteState.{SiteState, facts_of}
-use Rattle.written_site.specs.SiteChecks.{own_event, at_point, numbers, metering, flowed, put_back_at}
+use Rattle.written_site.specs.SiteChecks.{own_event, numbers, metering, flowed, put_back_at}
 use Rattle.written_site.specs.SiteStep.{nozzles_after}
 use Rattle.written_site.specs.SoundSteps.{IsTaken, growth_at, growth_by}
 use Rattle.written_site.specs.Volumes.{nozzle_out}
-use Rattle.written_site.proofs.SoundTables.{same, itself, told_once}
+use Rattle.written_site.proofs.SoundTables.{same}
 use Rattle.written_site.proofs.SoundMeters.{read_keeps, replaced_keeps, reading_taken, reading_other}
 
 -- ---- the event that an event is to a point
@@ -32,7 +30,8 @@ pub own_growth : (s : SiteState) (e : Event) (q : ℕ) (event : PointEvent)
 own_growth s e q event own = ap growth_by own
 
 -- the nozzle that flows, or is put back, is the one that is out
-pub flow_is_out : (n growth : ℕ) (f : Facts) → IsWhole f → refusal_of (points.Flow n growth) f ≡ None
+pub flow_is_out : (n growth : ℕ) (f : Facts) → IsWhole f
+    → refusal_of (points.Flow n growth) f ≡ None
     → nozzle_out f ≡ n
 flow_is_out n growth f w taken =
     let nozzle = w.nozzle in grind (arith, common_steps, nat_tests)
@@ -75,7 +74,8 @@ pub hung_up_grows : (s : SiteState) (p n reading : ℕ) → IsTaken s (HangUp p 
     ≡ reading_of p n s.nozzles + flowed s p n reading
 hung_up_grows s p n reading taken =
     grown s p n reading (hung_up_nozzle s p n reading taken.names)
-    (accepted_above (put_back_at (facts_of s p).state) (reading_of p n s.nozzles) reading taken.reads)
+    (accepted_above (put_back_at (facts_of s p).state) (reading_of p n s.nozzles) reading
+    taken.reads)
 
 -- ---- after any event
 
@@ -104,8 +104,8 @@ reading_elsewhere s (ReplaceMeter p n reading) q m away =
     (apart p q points.ReplaceMeter away) (replaced_keeps reading)
 reading_elsewhere s e q m away = refl
 
--- the nozzle that is out at a point, where a fuelling is under way, once the point's event has let so much
--- flow
+-- the nozzle that is out at a point, where a fuelling is under way, once the point's event has let
+-- so much flow
 abbrev ReadsOwn : SiteState → List Nozzle → Option (ℕ × PointEvent) → Type 0
 ReadsOwn s nozzles None = Unit {0}
 ReadsOwn s nozzles (Some x) =
@@ -174,7 +174,8 @@ nozzles_stay s (Flow p n reading) taken are =
     (accepted_above Growing (reading_of p n s.nozzles) reading taken.reads) taken.range
 nozzles_stay s (HangUp p n reading) taken are =
     read_nozzles p n reading s.nozzles are (hung_up_nozzle s p n reading taken.names)
-    (accepted_above (put_back_at (facts_of s p).state) (reading_of p n s.nozzles) reading taken.reads)
+    (accepted_above (put_back_at (facts_of s p).state) (reading_of p n s.nozzles) reading
+    taken.reads)
     taken.range
 nozzles_stay s (ReplaceMeter p n reading) taken are =
     changed_nozzles p n (replaced_at reading) s.nozzles are

@@ -1,18 +1,13 @@
--- The volume of the fuellings under way: that of the meters is that of the points, and an event moves that of
--- its own point alone.
-use Rattle.std.proofs.Common.{◌≡◌, ℕ, ◌+◌, ◌-◌, ◌*◌, ◌≤◌, ◌==◌, ◌&&◌, not, Bool, true, false, cond, List, [], ◌∷◌, Option, Some, None, is_some, unwrap_or, refl, sym, ap, subst, ◌∙◌, ◌⊎◌, inl, inr, arith}
-use Rattle.std.proofs.Math.Nat.{mul-zero}
+-- The volume of the fuellings under way: that of the meters is that of the points, and an event
+-- moves that of its own point alone.
+use Rattle.std.proofs.Common.{◌≡◌, ℕ, ◌+◌, ◌*◌, ◌==◌, not, Bool, true, false, cond, List, [], ◌∷◌, Option, Some, unwrap_or, refl, sym, ap, ◌∙◌, arith}
 use Rattle.std.proofs.lemmas.Bool.{and_parts, false≢true}
-use Rattle.std.proofs.lemmas.Bool.Decides.{nat_tests}
-use Rattle.std.proofs.lemmas.Grind.{common_steps}
 use Rattle.std.specs.Prelude.{nat_eq}
 use Rattle.std.specs.List.{list_any}
 use Rattle.site_base.specs.Configured.{none_alike}
 use Rattle.site_base.specs.Table.{row_of, with_row}
-use Rattle.fuelling_point.specs.declared.event.PointEvent.{PointEvent}
-use Rattle.fuelling_point.specs.Kept.{Facts, is_under_way, volume_of}
-use Rattle.fuelling_point.specs.Step.{after}
-use Rattle.meters.specs.Nozzles.{Nozzle, product_of, reading_of}
+use Rattle.fuelling_point.specs.Kept.{Facts, volume_of}
+use Rattle.meters.specs.Nozzles.{Nozzle, product_of}
 use Rattle.written_site.specs.Sound.{numbers_of}
 use Rattle.written_site.specs.Volumes.{nozzle_out, product_out, running_at, running_by}
 use Rattle.written_site.proofs.SoundTables.{same, turned, itself, told_once}
@@ -64,11 +59,13 @@ pub running_is : (w : ℕ → ℕ) (nozzles : List Nozzle) (es : List (ℕ × Fa
     → running_by w nozzles es ≡ flowed_by w nozzles es
 running_is w nozzles [] alone each = refl
 running_is w nozzles (e ∷ es) alone each =
-    let parts = and_parts (not (list_any (λ q. nat_eq e.0 q) (numbers_of es))) (none_alike nat_eq (numbers_of es)) alone in
+    let parts = and_parts (not (list_any (λ q. nat_eq e.0 q) (numbers_of es)))
+    (none_alike nat_eq (numbers_of es)) alone in
     let first : row_of e.0 (e ∷ es) ≡ Some e.1 = rw (itself e.0) refl in
     let rest : running_by w nozzles es ≡ flowed_by w nozzles es =
     running_is w nozzles es parts.1 (λ q g is. each q g (later_row e.0 q e.1 g es alone is)) in
-    ap (λ (v : ℕ). w (product_out nozzles e.0 e.1) * v + running_by w nozzles es) (each e.0 e.1 first)
+    ap (λ (v : ℕ). w (product_out nozzles e.0 e.1) * v + running_by w nozzles es)
+    (each e.0 e.1 first)
     ∙ ap (λ (v : ℕ). w (product_out nozzles e.0 e.1) * volume_of e.1 + v) rest
 
 -- ---- the points' volumes
@@ -79,8 +76,10 @@ pub flowed_products : (w : ℕ → ℕ) (nozzles others : List Nozzle)
     → flowed_by w others es ≡ flowed_by w nozzles es
 flowed_products w nozzles others same_ones [] = refl
 flowed_products w nozzles others same_ones (e ∷ es) =
-    ap (λ (o : Option ℕ). w (unwrap_or o 0) * volume_of e.1 + flowed_by w others es) (same_ones e.0 (nozzle_out e.1))
-    ∙ ap (λ (v : ℕ). w (product_out nozzles e.0 e.1) * volume_of e.1 + v) (flowed_products w nozzles others same_ones es)
+    ap (λ (o : Option ℕ). w (unwrap_or o 0) * volume_of e.1 + flowed_by w others es)
+    (same_ones e.0 (nozzle_out e.1))
+    ∙ ap (λ (v : ℕ). w (product_out nozzles e.0 e.1) * volume_of e.1 + v)
+    (flowed_products w nozzles others same_ones es)
 
 swapped : (new' new stood old rest : ℕ) → new' ≡ new → stood ≡ old
     → (new' + rest) + old ≡ (stood + rest) + new
@@ -103,7 +102,8 @@ flowed_with w nozzles p old new (e ∷ es) is =
         → (row_of p es ≡ Some old
         → flowed_by w nozzles (with_row p new es) + w (product_out nozzles p old) * volume_of old
         ≡ flowed_by w nozzles es + w (product_out nozzles p new) * volume_of new)
-        → flowed_by w nozzles (with_row p new (e ∷ es)) + w (product_out nozzles p old) * volume_of old
+        → flowed_by w nozzles (with_row p new (e ∷ es)) + w (product_out nozzles p old)
+        * volume_of old
         ≡ flowed_by w nozzles (e ∷ es) + w (product_out nozzles p new) * volume_of new
     by_test true at behind =
         let first : row_of p (e ∷ es) ≡ Some e.1 = rw at refl in

@@ -1,21 +1,16 @@
 -- What holds of sales and draws stays so.
-use Rattle.std.proofs.Common.{◌≡◌, ℕ, suc, ◌+◌, ◌≤◌, ◌<◌, ◌==◌, ◌&&◌, Bool, true, false, cond, List, [], ◌∷◌, length, map, Option, option_map, Some, None, is_some, unwrap_or, refl, sym, ap, subst, ◌∙◌, arith}
+use Rattle.std.proofs.Common.{◌≡◌, ℕ, ◌+◌, ◌≤◌, ◌<◌, ◌==◌, ◌&&◌, Bool, true, false, cond, List, Option, option_map, Some, None, refl, sym, ap, subst, ◌∙◌, arith}
 use Rattle.std.proofs.lemmas.Bool.{and_right, true≢false}
 use Rattle.std.proofs.lemmas.Bool.Decides.{nat_tests}
-use Rattle.std.proofs.lemmas.Grind.{common_steps}
-use Rattle.std.specs.List.{list_all}
 use Rattle.site_base.specs.declared.actor.Actor.{Actor}
 use Rattle.site_base.specs.declared.actor.Actor.TheVariants.{Till}
 use Rattle.site_base.specs.declared.event.Event.{Event}
 use Rattle.site_base.specs.declared.event.Event.TheVariants.{SignOff, Offline, HangUp}
-use Rattle.site_base.specs.Numbered.{with_numbered}
-use Rattle.site_base.proofs.Numbering.{length-with_numbered}
 use Rattle.fuelling_point.specs.declared.event.PointEvent.{PointEvent}
 use Rattle.fuelling_point.specs.declared.event.PointEvent.TheVariants as points
 use Rattle.fuelling_point.specs.declared.step.PointStep.{PointStep}
-use Rattle.fuelling_point.specs.declared.step.PointStep.TheVariants.{Sold, Drawn}
-use Rattle.fuelling_point.specs.Laws.{sold_in, drawn_in, delivered_in}
-use Rattle.fuelling_point.specs.Step.{step_of, after}
+use Rattle.fuelling_point.specs.declared.step.PointStep.TheVariants.{Sold}
+use Rattle.fuelling_point.specs.Step.{step_of}
 use Rattle.meters.specs.Nozzles.{Nozzle}
 use Rattle.transaction_buffer.specs.declared.standing.Standing.TheVariants.{Payable}
 use Rattle.site_base.specs.declared.limits.TheConstants.{UNPAID_LIMIT}
@@ -25,7 +20,7 @@ use Rattle.transaction_buffer.proofs.Counting.{counted_after}
 use Rattle.transaction_buffer.proofs.Reading.{read_after}
 use Rattle.written_site.specs.SiteState.{SiteState, facts_of, open_shift}
 use Rattle.written_site.specs.SiteChecks.{own_event, flowed}
-use Rattle.written_site.specs.SiteStep.{step_at, nozzles_after, sales_after, sales_by, sale_made, drawn_after, draws_by, draw_noted, one_more_drawn}
+use Rattle.written_site.specs.SiteStep.{step_at, nozzles_after, sales_after, sales_by, sale_made}
 use Rattle.written_site.specs.Sound.{IsSaleSound, MaySell}
 use Rattle.written_site.proofs.SoundTables.{same, told_once}
 

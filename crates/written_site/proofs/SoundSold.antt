@@ -1,5 +1,5 @@
 -- Where the point of an event sells or draws, at a sound site.
-use Rattle.std.proofs.Common.{◌≡◌, ℕ, ◌+◌, ◌-◌, ◌≤◌, ◌<◌, Bool, true, false, cond, List, Option, Some, None, is_some, refl, sym, ap, subst, ◌∙◌, arith}
+use Rattle.std.proofs.Common.{◌≡◌, ℕ, ◌+◌, ◌-◌, ◌≤◌, ◌<◌, true, Option, Some, None, refl, sym, subst, ◌∙◌, arith}
 use Rattle.std.proofs.lemmas.Grind.{common_steps}
 use Rattle.site_base.specs.declared.actor.Actor.{Actor}
 use Rattle.site_base.specs.declared.actor.Actor.TheVariants.{Till}
@@ -11,12 +11,12 @@ use Rattle.site_base.specs.Table.{row_of}
 use Rattle.fuelling_point.specs.declared.event.PointEvent.{PointEvent}
 use Rattle.fuelling_point.specs.declared.event.PointEvent.TheVariants as points
 use Rattle.fuelling_point.specs.declared.step.PointStep.{PointStep}
-use Rattle.fuelling_point.specs.declared.step.PointStep.TheVariants.{Sold, Drawn}
+use Rattle.fuelling_point.specs.declared.step.PointStep.TheVariants.{Sold}
 use Rattle.fuelling_point.specs.Kept.{Facts, is_under_way, growth_of}
 use Rattle.fuelling_point.specs.PointChecks.{refusal_of}
-use Rattle.fuelling_point.specs.Step.{step_of, after}
+use Rattle.fuelling_point.specs.Step.{step_of}
 use Rattle.fuelling_point.specs.Whole.{is_released}
-use Rattle.meters.specs.Nozzles.{Nozzle, reading_of}
+use Rattle.meters.specs.Nozzles.{reading_of}
 use Rattle.transaction_buffer.specs.Sales.{Key, Sale, sale_of, made_at, unpaid_at}
 use Rattle.written_site.specs.SiteState.{SiteState, facts_of, has_point, open_shift}
 use Rattle.written_site.specs.SiteChecks.{own_event, numbers, at_point, flowed}
@@ -25,7 +25,7 @@ use Rattle.written_site.specs.Sound.{IsPointSound, IsSaleSound, MaySell, Sound}
 use Rattle.written_site.specs.SoundSteps.{IsTaken}
 use Rattle.written_site.specs.Volumes.{nozzle_out, running_at}
 use Rattle.written_site.proofs.SoundTables.{row_there}
-use Rattle.written_site.proofs.SoundMachine.{SoldFrom, sold_from, DrawnFrom, drawn_from}
+use Rattle.written_site.proofs.SoundMachine.{sold_from}
 use Rattle.written_site.proofs.SoundReports.{reading_own}
 use Rattle.written_site.proofs.SoundSales.{sells, let_go_counts, unpaid_by, order_by, signed_off_sales, sales_by_step}
 
@@ -52,8 +52,8 @@ own_point s e p event sound taken own =
       taken = rw own at takes;
     }
 
--- what has flowed in the fuelling under way, the event's own growth with it, is what its meter has grown
--- since the start
+-- what has flowed in the fuelling under way, the event's own growth with it, is what its meter has
+-- grown since the start
 pub run_own : (s : SiteState) (e : Event) (p : ℕ) (event : PointEvent) → IsTaken s e
     → own_event s e ≡ Some (p, event) → IsPointSound s p (facts_of s p)
     → is_under_way (facts_of s p).state ≡ true
@@ -62,7 +62,8 @@ run_own s e p event taken own point under_way =
     let f : Facts = facts_of s p in
     let reads = reading_own s e p event taken own point.whole under_way in
     let start = point.flowed under_way in
-    let since : reading_of p (nozzle_out f) (nozzles_after s e) - f.start ≡ f.volume + growth_of event =
+    let since : reading_of p (nozzle_out f) (nozzles_after s e) - f.start
+    ≡ f.volume + growth_of event =
     omega (arith, reads, start) in
     rw under_way since
 
@@ -84,13 +85,15 @@ pub under_way_released : (state : PointState) → is_under_way state ≡ true �
 under_way_released state is = grind (arith, common_steps)
 
 -- a point that sells may sell, and what it sells is a sound sale
-pub may_sell_there : (s : SiteState) (e : Event) (p : ℕ) (event : PointEvent) → Sound s → IsTaken s e
+pub may_sell_there : (s : SiteState) (e : Event) (p : ℕ) (event : PointEvent) → Sound s
+    → IsTaken s e
     → own_event s e ≡ Some (p, event) → sells (step_of event (facts_of s p)) ≡ true → MaySell s p
 may_sell_there s e p event sound taken own is =
     let f : Facts = facts_of s p in
     let own_is = own_point s e p event sound taken own in
     let sale = sale_of_step (step_of event f) is in
-    let from = sold_from event f sale.nozzle sale.volume sale.price sale.prepaid own_is.sound.whole own_is.taken sale.is in
+    let from = sold_from event f sale.nozzle sale.volume sale.price sale.prepaid own_is.sound.whole
+    own_is.taken sale.is in
     own_is.sound.room (under_way_released f.state from.was) from.sale
 
 pub sale_is_sound : (s : SiteState) (e : Event) (p : ℕ) (event : PointEvent) → Sound s → IsTaken s e
@@ -100,7 +103,8 @@ sale_is_sound s e p event sound taken own is =
     let f : Facts = facts_of s p in
     let own_is = own_point s e p event sound taken own in
     let sale = sale_of_step (step_of event f) is in
-    let from = sold_from event f sale.nozzle sale.volume sale.price sale.prepaid own_is.sound.whole own_is.taken sale.is in
+    let from = sold_from event f sale.nozzle sale.volume sale.price sale.prepaid own_is.sound.whole
+    own_is.taken sale.is in
     let run = run_own s e p event taken own own_is.sound from.was in
     record {
       something = omega (arith, run, from.its_volume, from.something);
@@ -119,7 +123,8 @@ unpaid_after s a (Offline p) sound taken =
     (may_sell_there s (Offline p) p points.Offline sound taken refl) sound.unpaid
 unpaid_after s a (HangUp p n reading) sound taken =
     unpaid_by s (nozzles_after s (HangUp p n reading)) p (step_at s (HangUp p n reading))
-    (may_sell_there s (HangUp p n reading) p (points.HangUp n (flowed s p n reading)) sound taken refl)
+    (may_sell_there s (HangUp p n reading) p (points.HangUp n (flowed s p n reading)) sound taken
+    refl)
     sound.unpaid
 unpaid_after s a e sound taken = sound.unpaid
 
@@ -133,7 +138,8 @@ order_after s a (HangUp p n reading) sound =
     order_by s (nozzles_after s (HangUp p n reading)) p (step_at s (HangUp p n reading)) sound.order
 order_after s a e sound = sound.order
 
-pub sale_after : (s : SiteState) (a : Actor) (e : Event) → Sound s → IsTaken s e → (k : Key) (x : Sale)
+pub sale_after : (s : SiteState) (a : Actor) (e : Event) → Sound s → IsTaken s e
+    → (k : Key) (x : Sale)
     → sale_of k (sales_after s a e) ≡ Some x → IsSaleSound x
 sale_after s (Till t) SignOff sound taken = signed_off_sales t s.sales sound.sales
 sale_after s a (Offline p) sound taken =
@@ -141,6 +147,7 @@ sale_after s a (Offline p) sound taken =
     (sale_is_sound s (Offline p) p points.Offline sound taken refl) sound.sales
 sale_after s a (HangUp p n reading) sound taken =
     sales_by_step s (nozzles_after s (HangUp p n reading)) p (step_at s (HangUp p n reading))
-    (sale_is_sound s (HangUp p n reading) p (points.HangUp n (flowed s p n reading)) sound taken refl)
+    (sale_is_sound s (HangUp p n reading) p (points.HangUp n (flowed s p n reading)) sound taken
+    refl)
     sound.sales
 sale_after s a e sound taken = sound.sales

@@ -1,5 +1,5 @@
 -- Rows found by a number, once one of them is replaced.
-use Rattle.std.proofs.Common.{◌≡◌, ℕ, ◌==◌, Bool, true, false, cond, List, [], ◌∷◌, map, Option, Some, None, is_some, refl, sym, ap, ◌∙◌, arith}
+use Rattle.std.proofs.Common.{◌≡◌, ℕ, ◌==◌, Bool, true, false, List, [], ◌∷◌, Option, Some, None, is_some, refl, sym, ap, ◌∙◌, arith}
 use Rattle.std.proofs.lemmas.Bool.Decides.{nat_tests}
 use Rattle.std.proofs.lemmas.Bool.{false≢true}
 use Rattle.site_base.specs.Table.{row_of, with_row}
@@ -81,10 +81,12 @@ row_there points p there = by_row (row_of p points) refl there
     by_row None is there = cc
     by_row (Some f) is there = is ∙ ap (λ (g : Facts). Some g) (sym (facts_there points p f is))
 
--- What a row is after an event: as it was, where the event isn't its point's own; else what the point makes
--- of the event.
-pub data RowAfter (points : List (ℕ × Facts)) (own : Option (ℕ × PointEvent)) (q : ℕ) (f : Facts) : Type 0 where
-  kept : row_of q points ≡ Some f → ((event : PointEvent) → own ≡ Some (q, event) → ⊥) → RowAfter points own q f
+-- What a row is after an event: as it was, where the event isn't its point's own; else what the
+-- point makes of the event.
+pub data RowAfter (points : List (ℕ × Facts)) (own : Option (ℕ × PointEvent)) (q : ℕ)
+    (f : Facts) : Type 0 where
+  kept : row_of q points ≡ Some f → ((event : PointEvent) → own ≡ Some (q, event) → ⊥)
+      → RowAfter points own q f
   done : (event : PointEvent) (old : Facts) → own ≡ Some (q, event) → row_of q points ≡ Some old
       → f ≡ after event old → RowAfter points own q f
 
@@ -93,7 +95,8 @@ pub row_after : (points : List (ℕ × Facts)) (own : Option (ℕ × PointEvent)
 row_after points None q f is = kept is (λ event own. cc)
 row_after points (Some (p, event)) q f is = by_test (q == p) refl
   where
-    no_one : row_of p points ≡ None → row_of p (with_row p (after event (facts_in points p)) points) ≡ None
+    no_one : row_of p points ≡ None
+        → row_of p (with_row p (after event (facts_in points p)) points) ≡ None
     no_one none = rw (row_of-absent p (after event (facts_in points p)) points none) none
 
     by_row : (o : Option Facts) → row_of p points ≡ o → q ≡ p
@@ -117,7 +120,8 @@ row_after points (Some (p, event)) q f is = by_test (q == p) refl
 
     by_test : (b : Bool) → (q == p) ≡ b → RowAfter points (Some (p, event)) q f
     by_test true at = by_row (row_of p points) refl (same q p at)
-    by_test false at = kept (sym (row_of-other p q (after event (facts_in points p)) points at) ∙ is)
+    by_test false at =
+        kept (sym (row_of-other p q (after event (facts_in points p)) points at) ∙ is)
         (λ other own.
         let name : p ≡ q = ap (λ (x : ℕ × PointEvent). x.0) (told_once (p, event) (q, other) own) in
         let one : (q == p) ≡ true = ap (λ (r : ℕ). q == r) name ∙ itself q in

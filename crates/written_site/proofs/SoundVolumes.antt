@@ -1,5 +1,5 @@
 -- How an event moves the volumes of a sound site.
-use Rattle.std.proofs.Common.{◌≡◌, ℕ, ◌+◌, ◌-◌, ◌*◌, ◌≤◌, ◌<◌, Bool, true, false, cond, List, length, Option, option_map, Some, None, is_some, unwrap_or, refl, sym, ap, subst, ◌∙◌, ◌⊎◌, inl, inr, arith}
+use Rattle.std.proofs.Common.{◌≡◌, ℕ, ◌+◌, ◌-◌, ◌*◌, ◌≤◌, Bool, true, false, cond, List, Option, option_map, Some, None, is_some, unwrap_or, refl, sym, ap, subst, ◌∙◌, ◌⊎◌, inl, inr, arith}
 use Rattle.std.proofs.Math.Nat.{mul-zero, mul-add}
 use Rattle.std.proofs.lemmas.Bool.{false≢true}
 use Rattle.std.proofs.lemmas.Bool.Decides.{nat_tests}
@@ -11,13 +11,13 @@ use Rattle.site_base.specs.declared.event.Event.TheVariants.{SignOff, ReplaceMet
 use Rattle.site_base.specs.declared.state.PointState.TheVariants as states
 use Rattle.std.specs.Prelude.{nat_eq}
 use Rattle.site_base.specs.Configured.{none_alike}
-use Rattle.site_base.specs.Table.{row_of, with_row}
+use Rattle.site_base.specs.Table.{with_row}
 use Rattle.fuelling_point.specs.declared.event.PointEvent.{PointEvent}
 use Rattle.fuelling_point.specs.declared.event.PointEvent.TheVariants as points
 use Rattle.fuelling_point.specs.declared.step.PointStep.{PointStep}
 use Rattle.fuelling_point.specs.declared.step.PointStep.TheVariants.{Sold, Drawn}
 use Rattle.fuelling_point.specs.Kept.{Facts, is_under_way, volume_of, growth_of}
-use Rattle.fuelling_point.specs.Laws.{sold_in, drawn_in, is_end}
+use Rattle.fuelling_point.specs.Laws.{sold_in, drawn_in}
 use Rattle.fuelling_point.specs.Step.{step_of, after}
 use Rattle.fuelling_point.proofs.Whole.{conserved}
 use Rattle.meters.specs.Metered.{metered_by}
@@ -30,10 +30,10 @@ use Rattle.transaction_buffer.specs.Sales.{Sale, Sales}
 use Rattle.transaction_buffer.specs.TransactionTable.{after_sign_off, let_go, is_locked_by}
 use Rattle.transaction_buffer.proofs.Summing.{sold_sum, changed_sum, alike_sum}
 use Rattle.written_site.specs.SiteState.{SiteState, facts_in, facts_of}
-use Rattle.written_site.specs.SiteChecks.{own_event, metering, flowed, put_back_at}
+use Rattle.written_site.specs.SiteChecks.{own_event, flowed, put_back_at}
 use Rattle.written_site.specs.SiteStep.{nozzles_after, points_after, sales_after, sales_by, sale_made, drawn_after, draws_by, step_at, step_by, with_event}
 use Rattle.written_site.specs.Sound.{IsPointSound, IsSupplied, Sound, numbers_of}
-use Rattle.written_site.specs.SoundSteps.{IsTaken, MovesVolumes, growth_at, growth_by, product_at, product_by, sold_at, drawn_at}
+use Rattle.written_site.specs.SoundSteps.{IsTaken, MovesVolumes, ends_by, growth_at, growth_by, product_at, product_by, sold_at, drawn_at}
 use Rattle.written_site.specs.Volumes.{nozzle_out, product_out, running_at, running_by, sold_by, drawn_by}
 use Rattle.written_site.proofs.SoundTables.{numbers_kept}
 use Rattle.written_site.proofs.SoundMachine.{same_nozzle, sold_from, drawn_from, nothing_sold, nothing_drawn}
@@ -42,7 +42,7 @@ use Rattle.written_site.proofs.SoundMeters.{product_after}
 use Rattle.written_site.proofs.SoundReports.{flow_nozzle, hung_up_nozzle, flow_is_out, hung_up_is_out}
 use Rattle.written_site.proofs.SoundRunning.{flowed_by, running_is, flowed_products, flowed_with}
 use Rattle.written_site.proofs.SoundSold.{own_point, run_own}
-use Rattle.written_site.proofs.SoundDrawn.{drawn_more}
+use Rattle.written_site.proofs.SoundDraws.{drawn_more}
 
 -- ---- metered
 
@@ -62,21 +62,26 @@ metered_more w s p n reading f are has out above =
     ∙ ap (λ (o : Option Nozzle). unwrap_or (option_map (λ y. y.product) o) 0) x.is in
     read_raises w p n reading x.nozzle s.nozzles are.each x.is (omega arith)
     ∙ ap (λ (q : ℕ). metered_by w s.nozzles + w q * (reading - x.nozzle.last)) (sym product)
-    ∙ ap (λ (v : ℕ). metered_by w s.nozzles + w (product_out s.nozzles p f) * (reading - v)) (sym last)
+    ∙ ap (λ (v : ℕ). metered_by w s.nozzles + w (product_out s.nozzles p f) * (reading - v))
+    (sym last)
 
 pub metered_moves : (w : ℕ → ℕ) (s : SiteState) (e : Event) → Sound s → IsTaken s e
     → metered_by w (nozzles_after s e)
     ≡ metered_by w s.nozzles + w (product_at s e) * growth_at s e
 metered_moves w s (Flow p n reading) sound taken =
-    let own = own_point s (Flow p n reading) p (points.Flow n (flowed s p n reading)) sound taken refl in
+    let own =
+    own_point s (Flow p n reading) p (points.Flow n (flowed s p n reading)) sound taken refl in
     metered_more w s p n reading (facts_of s p) sound.meters (flow_nozzle s p n reading taken.names)
     (flow_is_out n (flowed s p n reading) (facts_of s p) own.sound.whole own.taken)
     (accepted_above Growing (reading_of p n s.nozzles) reading taken.reads)
 metered_moves w s (HangUp p n reading) sound taken =
-    let own = own_point s (HangUp p n reading) p (points.HangUp n (flowed s p n reading)) sound taken refl in
-    metered_more w s p n reading (facts_of s p) sound.meters (hung_up_nozzle s p n reading taken.names)
+    let own = own_point s (HangUp p n reading) p (points.HangUp n (flowed s p n reading)) sound
+    taken refl in
+    metered_more w s p n reading (facts_of s p) sound.meters
+    (hung_up_nozzle s p n reading taken.names)
     (hung_up_is_out n (flowed s p n reading) (facts_of s p) own.sound.whole own.taken)
-    (accepted_above (put_back_at (facts_of s p).state) (reading_of p n s.nozzles) reading taken.reads)
+    (accepted_above (put_back_at (facts_of s p).state) (reading_of p n s.nozzles) reading
+    taken.reads)
 metered_moves w s (ReplaceMeter p n reading) sound taken =
     meter_keeps w p n reading s.nozzles
     ∙ weighs_none (w (product_at s (ReplaceMeter p n reading))) (metered_by w s.nozzles)
@@ -108,7 +113,8 @@ same_weight w nozzles p old new (inl none) =
     ∙ mul-zero (w (product_out nozzles p new)) ∙ sym (mul-zero (w (product_out nozzles p old)))
     ∙ ap (λ (v : ℕ). w (product_out nozzles p old) * v) (sym none)
 same_weight w nozzles p old new (inr out) =
-    ap (λ (o : Option ℕ). w (unwrap_or (product_of p (unwrap_or o 0) nozzles) 0) * volume_of new) out
+    ap (λ (o : Option ℕ). w (unwrap_or (product_of p (unwrap_or o 0) nozzles) 0) * volume_of new)
+    out
 
 joined : (moved was all new kept over growth : ℕ) → moved + was ≡ all + new → new ≡ kept
     → was + growth ≡ kept + over → moved + over ≡ all + growth
@@ -126,12 +132,15 @@ flowed_moves w s e (Some x) sound taken is =
     let own = own_point s e x.0 x.1 sound taken is in
     let weight : ℕ = w (product_out s.nozzles x.0 f) in
     joined (flowed_by w s.nozzles (with_row x.0 (after x.1 f) s.points)) (weight * volume_of f)
-    (flowed_by w s.nozzles s.points) (w (product_out s.nozzles x.0 (after x.1 f)) * volume_of (after x.1 f))
-    (weight * volume_of (after x.1 f)) (weight * (sold_in (step_of x.1 f) + drawn_in (step_of x.1 f)))
+    (flowed_by w s.nozzles s.points)
+    (w (product_out s.nozzles x.0 (after x.1 f)) * volume_of (after x.1 f))
+    (weight * volume_of (after x.1 f))
+    (weight * (sold_in (step_of x.1 f) + drawn_in (step_of x.1 f)))
     (weight * growth_of x.1)
     (flowed_with w s.nozzles x.0 f (after x.1 f) s.points own.there)
     (same_weight w s.nozzles x.0 f (after x.1 f) (same_nozzle x.1 f own.taken))
-    (weighed weight (volume_of f) (growth_of x.1) (volume_of (after x.1 f)) (sold_in (step_of x.1 f))
+    (weighed weight (volume_of f) (growth_of x.1) (volume_of (after x.1 f))
+    (sold_in (step_of x.1 f))
     (drawn_in (step_of x.1 f))
     (conserved x.1 f own.sound.whole own.taken (calling_still s e x.0 x.1 taken is)))
 
@@ -157,26 +166,23 @@ pub running_moves : (w : ℕ → ℕ) (s : SiteState) (e : Event) → Sound s �
     ≡ running_by w s.nozzles s.points + w (product_at s e) * growth_at s e
 running_moves w s e sound taken =
     let over : ℕ = w (product_at s e) * (sold_at s e + drawn_at s e) in
-    let after_is = running_is w (nozzles_after s e) (points_after s e) (alone_after s e sound.numbers)
+    let after_is =
+    running_is w (nozzles_after s e) (points_after s e) (alone_after s e sound.numbers)
     (run_after s e sound taken) in
     ap (λ (v : ℕ). v + over)
-    (after_is ∙ flowed_products w s.nozzles (nozzles_after s e) (product_after s e) (points_after s e))
+    (after_is
+    ∙ flowed_products w s.nozzles (nozzles_after s e) (product_after s e) (points_after s e))
     ∙ flowed_moves w s e (own_event s e) sound taken refl
     ∙ ap (λ (v : ℕ). v + w (product_at s e) * growth_at s e) (sym (running_flowed w s sound))
 
 -- ---- sold
 
--- what an event is to its point ends a fuelling
-abbrev ends_by : Option (ℕ × PointEvent) → Bool
-ends_by None = false
-ends_by (Some x) = is_end x.1
-
-none_sold : (s : SiteState) (own : Option (ℕ × PointEvent)) → ends_by own ≡ false
+pub none_sold : (s : SiteState) (own : Option (ℕ × PointEvent)) → ends_by own ≡ false
     → sold_in (step_by s own) ≡ 0
 none_sold s None other = refl
 none_sold s (Some x) other = nothing_sold x.1 (facts_of s x.0) other
 
-none_drawn : (s : SiteState) (own : Option (ℕ × PointEvent)) → ends_by own ≡ false
+pub none_drawn : (s : SiteState) (own : Option (ℕ × PointEvent)) → ends_by own ≡ false
     → drawn_in (step_by s own) ≡ 0
 none_drawn s None other = refl
 none_drawn s (Some x) other = nothing_drawn x.1 (facts_of s x.0) other
@@ -203,7 +209,7 @@ sign_off_weighs w t sales =
     ∙ alike_sum (λ x. weight_of w (let_go t x)) (weight_of w) (let_go_weighs w t) sales
 
 -- a nozzle that is out delivers what it did
-product_out_after : (s : SiteState) (e : Event) (p : ℕ) (f : Facts)
+pub product_out_after : (s : SiteState) (e : Event) (p : ℕ) (f : Facts)
     → product_out (nozzles_after s e) p f ≡ product_out s.nozzles p f
 product_out_after s e p f =
     ap (λ (o : Option ℕ). unwrap_or o 0) (product_after s e p (nozzle_out f))
@@ -240,7 +246,8 @@ sold_moves w s (Till t) SignOff sound taken =
 sold_moves w s a (Offline p) sound taken =
     sold_by_step w s (Offline p) p points.Offline sound taken refl (step_at s (Offline p)) refl
 sold_moves w s a (HangUp p n reading) sound taken =
-    sold_by_step w s (HangUp p n reading) p (points.HangUp n (flowed s p n reading)) sound taken refl
+    sold_by_step w s (HangUp p n reading) p (points.HangUp n (flowed s p n reading)) sound taken
+    refl
     (step_at s (HangUp p n reading)) refl
 sold_moves w s a e sound taken =
     stays_so (w (product_at s e)) (sold_by w s.sales) (sold_at s e)
@@ -249,7 +256,7 @@ sold_moves w s a e sound taken =
 -- ---- drawn
 
 -- the product of a nozzle that is there has a number that a product may have
-product_supplied : (s : SiteState) (p n : ℕ) → Sound s → has_nozzle p n s.nozzles ≡ true
+pub product_supplied : (s : SiteState) (p n : ℕ) → Sound s → has_nozzle p n s.nozzles ≡ true
     → IsSupplied s (unwrap_or (product_of p n s.nozzles) 0)
 product_supplied s p n sound has =
     let x = there (nozzle_of p n s.nozzles) has in
@@ -281,11 +288,13 @@ drawn_by_step w s e p event sound taken own (Drawn nozzle volume) is =
     let from = drawn_from event f nozzle volume at.sound.whole at.taken is in
     let run : running_at (nozzles_after s e) p f ≡ volume =
     run_own s e p event taken own at.sound from.was ∙ sym from.its_volume in
-    let supplied = product_supplied s p (nozzle_out f) sound (nozzle_there s p f at.sound from.was) in
+    let supplied =
+    product_supplied s p (nozzle_out f) sound (nozzle_there s p f at.sound from.was) in
     let product : product_out (nozzles_after s e) p f ≡ product_out s.nozzles p f =
     product_out_after s e p f in
     drawn_more w (product_out (nozzles_after s e) p f) (running_at (nozzles_after s e) p f) s.drawn
-    sound.draws sound.shift.low (omega (arith, product, supplied.low)) (omega (arith, product, supplied.high))
+    sound.draws sound.shift.low (omega (arith, product, supplied.low))
+    (omega (arith, product, supplied.high))
     ∙ ap (λ (v : ℕ). drawn_by w s.drawn + v) (over_is w s e p volume f run)
 drawn_by_step w s e p event sound taken own step is =
     weighs_none (w (product_out s.nozzles p (facts_of s p))) (drawn_by w s.drawn)
@@ -295,7 +304,8 @@ pub drawn_moves : (w : ℕ → ℕ) (s : SiteState) (e : Event) → Sound s → 
 drawn_moves w s (Offline p) sound taken =
     drawn_by_step w s (Offline p) p points.Offline sound taken refl (step_at s (Offline p)) refl
 drawn_moves w s (HangUp p n reading) sound taken =
-    drawn_by_step w s (HangUp p n reading) p (points.HangUp n (flowed s p n reading)) sound taken refl
+    drawn_by_step w s (HangUp p n reading) p (points.HangUp n (flowed s p n reading)) sound taken
+    refl
     (step_at s (HangUp p n reading)) refl
 drawn_moves w s e sound taken =
     stays_so (w (product_at s e)) (drawn_by w s.drawn) (drawn_at s e)

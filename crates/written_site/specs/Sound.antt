@@ -1,12 +1,13 @@
--- What a site always keeps: the facts on which the code of the site and its laws rely. An opening site has
--- them, and every event leaves them.
+-- What a site always keeps: the facts on which the code of the site and its laws rely. An opening
+-- site has them, and every event leaves them.
 use Rattle.std.specs.Prelude.{◌≡◌, ℕ, ◌+◌, ◌<◌, ◌≤◌, Bool, true, false, List, map, length, Some, is_some, IfSome, ◌==◌, nat_eq, nat_le}
 use Rattle.std.specs.List.{list_all}
 use Rattle.site_base.specs.declared.actor.Actor.{Actor}
+use Rattle.site_base.specs.declared.config.NozzleEntry.{NozzleEntry}
 use Rattle.site_base.specs.declared.event.Event.{Event}
 use Rattle.site_base.specs.declared.limits.TheConstants.{GREATEST_PRICE, GREATEST_READING, GREATEST_SEQ, GREATEST_SHIFT, PRODUCT_CELLS, PRODUCTS, UNPAID_LIMIT}
 use Rattle.site_base.specs.Amounts.{amount}
-use Rattle.site_base.specs.Configured.{Configured, is_between, none_alike, is_site}
+use Rattle.site_base.specs.Configured.{Configured, ConfiguredProduct, is_between, none_alike, is_site}
 use Rattle.site_base.specs.Events.{reading_carried}
 use Rattle.site_base.specs.Prices.{prices_of, are_in_range}
 use Rattle.site_base.specs.Table.{row_of}
@@ -24,16 +25,16 @@ pub record IsPrice (price : ℕ) : Type 0 where
   pub low : 1 ≤ price
   pub high : price ≤ GREATEST_PRICE
 
--- the point may make one more sale: fewer of its sales are unpaid than may be, and the open shift has a
--- number left for it
+-- the point may make one more sale: fewer of its sales are unpaid than may be, and the open shift
+-- has a number left for it
 pub record MaySell (s : SiteState) (p : ℕ) : Type 0 where
   pub unpaid : unpaid_at p s.sales < UNPAID_LIMIT
   pub number : made_at p (open_shift s) s.sales < GREATEST_SEQ
 
--- What a point of the site always is. It is whole. A nozzle that is out is one of its own. Where it is
--- released, a till holds it. Where a fuelling is under way, the volume since its start is what the nozzle's
--- meter has grown, and the price that it took is one that a product may have. Where it is released for a
--- sale, it may make one.
+-- What a point of the site always is. It is whole. A nozzle that is out is one of its own. Where it
+-- is released, a till holds it. Where a fuelling is under way, the volume since its start is what
+-- the nozzle's meter has grown, and the price that it took is one that a product may have. Where it
+-- is released for a sale, it may make one.
 pub record IsPointSound (s : SiteState) (p : ℕ) (f : Facts) : Type 0 where
   pub whole : IsWhole f
   pub nozzle : (n : ℕ) → f.out ≡ Some n → has_nozzle p n s.nozzles ≡ true
@@ -49,8 +50,8 @@ pub record IsSupplied (s : SiteState) (q : ℕ) : Type 0 where
   pub high : q ≤ PRODUCT_CELLS
   pub priced : is_some (row_of q s.prices) ≡ true
 
--- what a sale always is: of a millilitre at least, at a price that a product may have, and of the amount of
--- its volume at its price
+-- what a sale always is: of a millilitre at least, at a price that a product may have, and of the
+-- amount of its volume at its price
 pub record IsSaleSound (x : Sale) : Type 0 where
   pub something : 1 ≤ x.volume
   pub price : IsPrice x.price
@@ -69,11 +70,12 @@ numbers_of points = map (λ e. e.0) points
 abbrev pub is_draw_row : List ℕ → Bool
 is_draw_row row = length row == PRODUCT_CELLS
 
--- What a site always is. No point number stands twice, and each point, product and sale is as it always is;
--- so is each nozzle, and there are no more of them than a site can have. At every point, released or not, no
--- more sales are unpaid than may be. No sale is of a shift after the open one. The number of the open shift
--- is one that a shift may have, and each shift has a figure of draws for each product. And however the
--- products are weighed: what the meters have counted is in the fuellings under way, in sales and in draws.
+-- What a site always is. No point number stands twice, and each point, product and sale is as it
+-- always is; so is each nozzle, and there are no more of them than a site can have. At every point,
+-- released or not, no more sales are unpaid than may be. No sale is of a shift after the open one.
+-- The number of the open shift is one that a shift may have, and each shift has a figure of draws
+-- for each product. And however the products are weighed: what the meters have counted is in the
+-- fuellings under way, in sales and in draws.
 pub record Sound (s : SiteState) : Type 0 where
   pub numbers : none_alike nat_eq (numbers_of s.points) ≡ true
   pub points : (p : ℕ) (f : Facts) → row_of p s.points ≡ Some f → IsPointSound s p f
@@ -92,13 +94,21 @@ pub record Sound (s : SiteState) : Type 0 where
 abbrev pub InRange : Event → Type 0
 InRange event = IfSome (reading_carried event) (λ reading. reading ≤ GREATEST_READING)
 
--- a configuration that a site can open from: it is fit, and each product's number, each price and each
--- nozzle's reading is in its range
+-- each product's number is one that a product may have
+abbrev pub are_numbered : List ConfiguredProduct → Bool
+are_numbered products = list_all (λ p. is_between 1 PRODUCTS p.number) products
+
+-- each of these nozzles has an opening reading that a meter can show
+abbrev pub are_readable : List NozzleEntry → Bool
+are_readable nozzles = list_all (λ n. nat_le n.reading GREATEST_READING) nozzles
+
+-- a configuration that a site can open from: it is fit, and each product's number, each price and
+-- each nozzle's reading is in its range
 pub record IsFit (c : Configured) : Type 0 where
   pub site : is_site c ≡ true
-  pub products : list_all (λ p. is_between 1 PRODUCTS p.number) c.products ≡ true
+  pub products : are_numbered c.products ≡ true
   pub prices : are_in_range (prices_of c.products) ≡ true
-  pub readings : list_all (λ p. list_all (λ n. nat_le n.reading GREATEST_READING) p.nozzles) c.points ≡ true
+  pub readings : list_all (λ p. are_readable p.nozzles) c.points ≡ true
 
 -- the opening site of each such configuration is sound, and each event leaves a sound site sound
 pub record StaysSound : Type 0 where

@@ -4,6 +4,7 @@ ghost use Rattle.written_site.specs.Bridge.{AreLegalHistoriesRuns};
 ghost use Rattle.written_site.specs.Holders.{IsHeldByOne, AreUnendedTakes, AreBooksHeldByOne};
 ghost use Rattle.written_site.specs.SiteChecks.{PassesEachCheck};
 ghost use Rattle.written_site.specs.Sound.{StaysSound};
+ghost use Rattle.written_site.specs.SoundSteps.{DoVolumesAddUp, FindsRoom};
 
 /// An event that isn't refused has passed each of the checks.
 pub fn passes_each_check()
@@ -34,11 +35,26 @@ pub fn books_held_by_one()
     ensures { AreBooksHeldByOne }
 {}
 
-/// The opening site of each fit configuration is sound, and each event leaves a sound site sound: no point
-/// number stands twice; each point is whole, and held where it is released; the volume of a fuelling is what
-/// its meter has grown; a point that is released for a sale has room and a number for it; prices, readings,
-/// shifts and sales are in range; and however the products are weighed, what the meters have counted is in the
-/// fuellings under way, in sales and in draws.
+/// The opening site of each fit configuration is sound, and each event leaves a sound site sound: no
+/// point number stands twice; each point is whole, and held where it is released; the volume of a
+/// fuelling is what its meter has grown; a point that is released for a sale has room and a number
+/// for it; prices, readings, shifts and sales are in range; and however the products are weighed,
+/// what the meters have counted is in the fuellings under way, in sales and in draws.
 pub fn stays_sound()
     ensures { StaysSound }
+{}
+
+/// At a sound site, what the meters of a product have counted is in the fuellings under way, in sales
+/// that are payable, locked or cleared, and in draws, and fits in 64 bits. What flows in an event is
+/// metered and is in the fuelling; what is sold or drawn leaves the fuelling, and nothing else moves.
+pub fn volumes_add_up()
+    ensures { DoVolumesAddUp }
+{}
+
+/// At a sound site, what flows fits in its fuelling. Where a point sells, the sale is what the site
+/// reads of the fuelling: its nozzle, its volume and the price that it took; fewer of the point's
+/// sales are unpaid than may be, the open shift has a number left for it, and the sums fit in 64 bits
+/// with it. So do those of a draw.
+pub fn finds_room()
+    ensures { FindsRoom }
 {}

@@ -1,12 +1,13 @@
 //! The written one-thread site: the site's rules, without code. Whoever audits them reads this crate's
-//! `specs/`: the site state, the checks in their order, what an accepted event changes, runs over lists of
-//! events, and what rows say of holds. The laws that they obey are the contracts of the functions here, which
-//! are empty. The code that does what the rules say is the crate site_core.
+//! `specs/`: the site state, the checks in their order, what an accepted event changes, runs over
+//! lists of events, what rows say of holds, and what a site always keeps. The laws that they obey are
+//! the contracts of the functions here, which are empty. The code that does what the rules say is the
+//! crate site_core.
 #![tactic(auto)]
 
 mod laws;
 
 pub use laws::{
-    books_held_by_one, held_by_one, holds_are_unended_takes, legal_histories_are_runs,
-    passes_each_check, stays_sound,
+    books_held_by_one, finds_room, held_by_one, holds_are_unended_takes, legal_histories_are_runs,
+    passes_each_check, stays_sound, volumes_add_up,
 };
