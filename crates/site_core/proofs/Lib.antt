@@ -1,5 +1,5 @@
 pub mod NotedDraws
 pub mod Reports
-pub mod TillSets
+pub mod MarkedTills
 pub mod SignOffs
 pub mod RunSteps

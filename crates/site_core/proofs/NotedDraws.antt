@@ -16,7 +16,7 @@ use Rattle.meters.specs.Metered.{product_alone}
 use Rattle.written_site.specs.SiteStep.{draw_noted}
 use Rattle.written_site.specs.Sound.{is_draw_row}
 use Rattle.written_site.specs.Volumes.{weighed_from, drawn_by, drawn_of}
-use Rattle.written_site.proofs.SoundDrawn.{drawn_more}
+use Rattle.written_site.proofs.SoundDraws.{drawn_more}
 use Rattle.written_site.proofs.SoundDraws.{noted_rows}
 use Rattle.written_site.proofs.SoundTables.{same}
 use Rattle.site_core.specs.Draws.{draws_of, AreDrawn}

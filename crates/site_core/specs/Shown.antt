@@ -1,13 +1,12 @@
 -- What contracts see of a site: its state, and the room that is reserved.
 use Rattle.std.specs.Prelude.{ℕ, ◌<◌, List}
 use Rattle.site_base.specs.declared.event.Event.{Event}
-use Rattle.site_base.specs.declared.event.Event.TheVariants.{SignOn, Offline, HangUp}
+use Rattle.site_base.specs.declared.event.Event.TheVariants.{Offline, HangUp}
 use Rattle.transaction_buffer.specs.Rooms.{room_at}
 use Rattle.written_site.specs.SiteState.{SiteState}
 
--- how many more tills may sign on, and how many more sales of each point, from 1 on, there is room for
+-- how many more sales of each point, from 1 on, there is room for
 pub record Room : Type 0 where
-  pub tills : ℕ
   pub sales : List ℕ
 
 -- a site and its room
@@ -17,7 +16,6 @@ pub record Seen : Type 0 where
 
 -- there is room for what the event adds: the sale of a fuelling that it ends
 abbrev pub HasRoom : Room → Event → Type 0
-HasRoom room SignOn = 0 < room.tills
 HasRoom room (Offline p) = 0 < room_at p room.sales
 HasRoom room (HangUp p n reading) = 0 < room_at p room.sales
 HasRoom room event = Unit {0}

@@ -10,10 +10,10 @@ site_of parts = record {
   holds = parts.claims;
   sales = parts.sales.sales;
   prices = parts.prices;
-  managers = parts.managers.tills;
-  signed_on = parts.signed_on.tills;
+  managers = parts.managers;
+  signed_on = parts.signed_on;
   drawn = parts.draws;
 }
 
 abbrev pub room_of : SiteParts → Room
-room_of parts = record { tills = parts.signed_on.room; sales = parts.sales.rooms }
+room_of parts = record { sales = parts.sales.rooms }

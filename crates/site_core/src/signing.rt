@@ -5,8 +5,7 @@ ghost use Rattle.std.specs.FinMap as finite;
 ghost use Rattle.site_base.specs.declared.actor.Actor.TheVariants.{Till};
 ghost use Rattle.site_base.specs.declared.event.Event.TheVariants.{SignOn, SignOff};
 ghost use Rattle.written_site.specs.SiteStep.{Steps, accepted_site, ends_at_sign_off, holds_without};
-ghost use Rattle.site_core.specs.SiteParts.{site_of, room_of};
-ghost use Rattle.site_core.specs.Shown.{HasRoom};
+ghost use Rattle.site_core.specs.SiteParts.{site_of};
 
 use crate::points::Points;
 use crate::site_parts::SiteParts;
@@ -16,7 +15,6 @@ use till_claims::Claims;
 impl SiteParts {
     /// The till signs on, if it isn't.
     pub(crate) fn sign_on(&mut self, t: TillNo) -> Reply
-        requires { HasRoom (room_of self.old) SignOn }
         ensures { Steps (site_of self.old) (Till t) SignOn (site_of self.new) result }
     {
         if self.signed_on.contains(t) {

@@ -41,15 +41,14 @@ impl SiteParts {
         let points = Points::try_new(alloc, config.points())?;
         let meters = Meters::try_new(alloc, config)?;
         let prices = PriceBook::try_new(alloc, config)?;
-        let managers = Tills::try_from_list(alloc, config.managers())?;
         Ok(SiteParts {
             points,
             meters,
             claims: Claims::new(),
             sales: Buffer::new(alloc),
             prices,
-            managers,
-            signed_on: Tills::new(alloc),
+            managers: Tills::from_list(config.managers()),
+            signed_on: Tills::new(),
             draws: Draws::new(alloc),
         })
     }
@@ -60,7 +59,6 @@ impl SiteParts {
         ensures room { OnOk result (HasRoom (room_of self.new) event.now) }
     {
         match event {
-            Event::SignOn => self.signed_on.reserve(),
             Event::Offline(p) => self.sales.reserve(*p),
             Event::HangUp(p, _, _) => self.sales.reserve(*p),
             _ => Ok(()),
@@ -80,8 +78,7 @@ impl SiteParts {
     }
 
     fn till_step(&mut self, t: TillNo, event: &Event) -> Reply
-        requires sound { Sound (site_of self.old) }
-        requires room { HasRoom (room_of self.old) event.now }
+        requires { Sound (site_of self.old) }
         ensures { Steps (site_of self.old) (Actor.Till t) event.now (site_of self.new) result }
     {
         match event {

@@ -1,8 +1,7 @@
-use Rattle.std.proofs.Common.{ap, sym, ◌∙◌, nat_eq}
-use Rattle.std.specs.List.{list_any}
-use Rattle.std.specs.FinSet.{contains-from_list_nat}
+use Rattle.std.proofs.Common.{ap, sym, ◌∙◌}
+use Rattle.std.specs.FinSet as set
+use Rattle.site_core.proofs.MarkedTills.{at_cell}
 use Rattle.site_core.proofs.tills.Tills.contains.Goals as goal
 
 pub returns : goal.returns
-returns c =
-    rw (← c.self.view_is) (c.is_among.ensures ∙ ap (list_any (λ till. nat_eq till c.args.t)) c.deref.ensures.value ∙ sym (contains-from_list_nat c.self.inside.tills.items c.args.t))
+returns c = rw (← c.self.view_is) (sym (at_cell c.self.inside.cells c.args.t c.cell.result c.cell.ensures.place))

@@ -1,7 +1,6 @@
-use Rattle.std.proofs.Common.{ap, ◌∙◌, nat_cmp}
-use Rattle.std.specs.FinSet.{from_list, from_list_push, nat_cmp-IsAntisymmetric}
-use Rattle.std.specs.Cmp.{nat_cmp_total}
+use Rattle.std.proofs.Common.{arith}
+use Rattle.site_core.proofs.MarkedTills.{marked}
 use Rattle.site_core.proofs.tills.Tills.insert.Goals as goal
 
 pub returns : goal.returns
-returns c = rw (← c.self.view_is) (ap (from_list {R = nat_cmp}) c.push_reserved.ensures.items ∙ from_list_push nat_cmp_total nat_cmp-IsAntisymmetric _ _)
+returns c = rw (← c.self.view_is) (marked c.self.inside.cells c.args.t c.cell.result c.cell.ensures.place (omega (arith, c.cell.ensures.within, c.self.told)))
