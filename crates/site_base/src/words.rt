@@ -54,11 +54,7 @@ impl fmt::Display for Event {
 }
 
 /// A release, with its preset where it has one: `Release 3`, `Release 3 Money(2000)`.
-fn write_release<W: fmt::Write>(
-    f: &mut fmt::Formatter<W>,
-    p: FpNo,
-    preset: Preset,
-) -> fmt::Result {
+fn write_release<W: fmt::Write>(f: &mut fmt::Formatter<W>, p: FpNo, preset: Preset) -> fmt::Result {
     write!(f, "Release {}", p.get())?;
     match preset {
         Preset::Unset => Ok(()),

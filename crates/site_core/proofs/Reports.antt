@@ -222,9 +222,11 @@ ended s rows nozzles p event sound there taken flowed = by_step (step_of event (
         let from = sold_from event (facts_of s p) nozzle volume price prepaid point.whole taken is in
         let its = volume_is s nozzles p event volume point flowed from.was from.its_volume in
         record {
-          place = (rw from.its_nozzle (product_there s nozzles p event point flowed from.was),
+          place = (
+            rw from.its_nozzle (product_there s nozzles p event point flowed from.was),
             has_place s (record s { points = rows; nozzles = nozzles }) nozzles p event _ volume sound point flowed
-            from.was from.sale from.its_volume refl refl);
+                from.was from.sale from.its_volume refl refl,
+          );
           sales = rw (from.its_nozzle, from.its_price, from.its_prepaid, its) refl;
           draws = refl;
         }
@@ -233,8 +235,10 @@ ended s rows nozzles p event sound there taken flowed = by_step (step_of event (
         let its = volume_is s nozzles p event volume point flowed from.was from.its_volume in
         let within = volume_fits s nozzles p event volume flowed from.was from.its_volume in
         record {
-          place = (rw from.its_nozzle (product_there s nozzles p event point flowed from.was),
-            omega (arith, within, drawn_bound s (unwrap_or (product_of p nozzle nozzles) 0) sound));
+          place = (
+            rw from.its_nozzle (product_there s nozzles p event point flowed from.was),
+            omega (arith, within, drawn_bound s (unwrap_or (product_of p nozzle nozzles) 0) sound),
+          );
           sales = refl;
           draws = rw (from.its_nozzle, its) refl;
         }

@@ -180,7 +180,11 @@ fn limits(event: &Event) -> Result<(), Refusal>
         Event::Prepay(_, cents) => is_preset(Preset::Money(*cents)),
         _ => true,
     };
-    if fits { Ok(()) } else { Err(Refusal::BadPreset) }
+    if fits {
+        Ok(())
+    } else {
+        Err(Refusal::BadPreset)
+    }
 }
 
 /// Is this a volume or a sum of money that a release may be limited to?

@@ -26,8 +26,8 @@ impl SiteParts {
         requires place { MayEnd (site_of self.old) p step.now }
         ensures told { result ≡ step_told (site_of self.old) p growth step.now }
         ensures site { site_of self.new ≡ record (site_of self.old) {
-            sales = sales_with (site_of self.old) p step.now;
-            drawn = draws_with (site_of self.old) p step.now;
+          sales = sales_with (site_of self.old) p step.now;
+          drawn = draws_with (site_of self.old) p step.now;
         } }
     {
         match step {
@@ -116,10 +116,7 @@ pub fn give_back(claims: &mut Claims, p: FpNo, step: &PointStep)
 {
     let over = matches!(
         step,
-        PointStep::Stopped
-            | PointStep::NoSale
-            | PointStep::Sold { .. }
-            | PointStep::Drawn { .. }
+        PointStep::Stopped | PointStep::NoSale | PointStep::Sold { .. } | PointStep::Drawn { .. }
     );
     if over {
         claims.free(p);

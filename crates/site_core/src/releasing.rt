@@ -11,8 +11,7 @@ ghost use Rattle.site_core.specs.SiteParts.{site_of};
 use crate::site_parts::SiteParts;
 use fuelling_point::PointEvent;
 use site_base::{
-    Answer, Event, FpNo, Millilitres, Mills, NozzleNo, Preset, Refusal, Reply, TillNo,
-    UNPAID_LIMIT,
+    Answer, Event, FpNo, Millilitres, Mills, NozzleNo, Preset, Refusal, Reply, TillNo, UNPAID_LIMIT,
 };
 
 impl SiteParts {

@@ -87,7 +87,8 @@ impl SiteParts {
         let growth = self.growth(p, n, reading);
         let own = PointEvent::HangUp { nozzle: n, growth };
         self.points.judge(p, &own)?;
-        self.meters.check(p, n, reading, put_back_at(self.points.state(p)))?;
+        self.meters
+            .check(p, n, reading, put_back_at(self.points.state(p)))?;
         let step = &self.points.on(p, own)?;
         self.meters.advance(p, n, reading);
         let answer = self.end(p, growth, step);

@@ -27,5 +27,11 @@ overflow_sub-result-4 c = let whole = (rest c).whole in omega (arith, whole)
 
 pub returns : goal.returns
 returns c =
-    rw ((rest c).rest, c.product_total-metered.ensures.total, c.sum-payable.ensures.value,
-    c.sum-locked.ensures.value, c.sum-cleared.ensures.value, c.total-adjusted.ensures) refl
+    rw (
+      (rest c).rest,
+      c.product_total-metered.ensures.total,
+      c.sum-payable.ensures.value,
+      c.sum-locked.ensures.value,
+      c.sum-cleared.ensures.value,
+      c.total-adjusted.ensures,
+    ) refl
