@@ -1,5 +1,5 @@
 -- One more draw: the shifts' figures and the kept totals tell it alike.
-use Rattle.std.proofs.Common.{◌≡◌, ◌≢◌, ℕ, zero, suc, ◌+◌, ◌-◌, ◌*◌, ◌<◌, ◌≤◌, ◌==◌, Bool, true, false, cond, List, [], ◌∷◌, ◌++◌, map, length, get_or, Option, Some, inl, inr, unwrap_or, refl, sym, ap, subst, ◌∙◌, arith}
+use Rattle.std.proofs.Common.{◌≡◌, ◌≢◌, ℕ, zero, suc, ◌+◌, ◌-◌, ◌*◌, ◌<◌, ◌≤◌, ◌==◌, Bool, true, false, List, [], ◌∷◌, ◌++◌, map, length, get_or, Option, inl, inr, unwrap_or, refl, sym, ap, ◌∙◌, arith}
 use Rattle.std.proofs.Math.ListN.{set}
 use Rattle.std.proofs.lemmas.Bool.{and_parts, cases_eq}
 use Rattle.std.proofs.lemmas.Bool.Decides.{nat_tests}
@@ -7,7 +7,6 @@ use Rattle.std.proofs.lemmas.Grind.{get_or-set_at}
 use Rattle.std.proofs.lemmas.List.{get_or-set_other}
 use Rattle.std.specs.List.{list_all}
 use Rattle.site_base.specs.declared.limits.TheConstants.{PRODUCT_CELLS}
-use Rattle.site_base.specs.Numbered.{numbered}
 use Rattle.site_base.proofs.Numbering.{numbered_within}
 use Rattle.shift_ledger.specs.declared.row.ShiftRow.{ShiftRow}
 use Rattle.shift_ledger.specs.Figures.{adjusted_figure, with_draw}
@@ -15,7 +14,7 @@ use Rattle.shift_ledger.specs.Shifts.{Shifts, after_draw}
 use Rattle.meters.specs.Metered.{product_alone}
 use Rattle.written_site.specs.SiteStep.{draw_noted}
 use Rattle.written_site.specs.Sound.{is_draw_row}
-use Rattle.written_site.specs.Volumes.{weighed_from, drawn_by, drawn_of}
+use Rattle.written_site.specs.Volumes.{weighed_from, drawn_of}
 use Rattle.written_site.proofs.SoundDraws.{drawn_more}
 use Rattle.written_site.proofs.SoundDraws.{noted_rows}
 use Rattle.written_site.proofs.SoundTables.{same}

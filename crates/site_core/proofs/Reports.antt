@@ -1,5 +1,5 @@
 -- What a sound site gives to a report: what flows fits, and what it ends has its place.
-use Rattle.std.proofs.Common.{◌≡◌, ℕ, ◌+◌, ◌-◌, ◌*◌, ◌^◌, ◌<◌, ◌≤◌, ◌==◌, nat_lt, Bool, true, false, cond, List, Option, Some, None, Ok, is_some, unwrap_or, if◌then◌else◌, refl, sym, ap, subst, ◌∙◌, arith}
+use Rattle.std.proofs.Common.{◌≡◌, ℕ, ◌+◌, ◌-◌, ◌*◌, ◌<◌, ◌≤◌, ◌==◌, nat_lt, Bool, true, false, List, Option, Some, None, Ok, is_some, unwrap_or, refl, sym, ap, subst, ◌∙◌, arith}
 use Rattle.std.proofs.lemmas.Bool.Decides.{nat_tests}
 use Rattle.std.proofs.lemmas.Grind.{common_steps}
 use Rattle.std.specs.FinMap.{FinMap}
@@ -13,34 +13,34 @@ use Rattle.fuelling_point.specs.declared.event.PointEvent.{PointEvent}
 use Rattle.fuelling_point.specs.declared.event.PointEvent.TheVariants as points
 use Rattle.fuelling_point.specs.declared.step.PointStep.{PointStep}
 use Rattle.fuelling_point.specs.declared.step.PointStep.TheVariants.{Sold, Drawn}
-use Rattle.fuelling_point.specs.Kept.{Facts, growth_of, is_under_way, has_nozzle_out, volume_of}
+use Rattle.fuelling_point.specs.Kept.{Facts, growth_of, is_under_way, volume_of}
 use Rattle.fuelling_point.specs.PointChecks.{refusal_of}
 use Rattle.fuelling_point.specs.Step.{step_of, after}
 use Rattle.site_base.specs.Table.{with_row}
 use Rattle.fuelling_point.specs.Whole.{IsWhole, is_released}
 use Rattle.meters.specs.Metered.{most_of_a_site, product_alone, product_total}
-use Rattle.meters.specs.Nozzles.{Nozzle, product_of, reading_of, has_nozzle, nozzle_of, with_last}
+use Rattle.meters.specs.Nozzles.{Nozzle, product_of, reading_of, nozzle_of, with_last}
 use Rattle.meters.specs.Reports.{report_refusal}
 use Rattle.meters.specs.declared.report.Report.{Report}
 use Rattle.meters.specs.declared.report.Report.TheVariants.{Growing}
 use Rattle.meters.proofs.Bounded.{total_bound, each_found}
 use Rattle.meters.proofs.Weighed.{accepted_above}
-use Rattle.transaction_buffer.specs.Sales.{Sale, next_after, with_new}
+use Rattle.transaction_buffer.specs.Sales.{Sale, next_after}
 use Rattle.transaction_buffer.specs.Sums as sums
 use Rattle.transaction_buffer.proofs.Summing.{alike_sum}
 use Rattle.transaction_buffer.proofs.Volumes.{add_up}
 use Rattle.site_base.specs.declared.state.Status.TheVariants as statuses
-use Rattle.written_site.specs.SiteState.{SiteState, facts_of, has_point, open_shift}
+use Rattle.written_site.specs.SiteState.{SiteState, facts_of, has_point}
 use Rattle.written_site.specs.SiteChecks.{own_event, numbers, flowed, put_back_at, may_ask, first_refusal}
 use Rattle.written_site.specs.SiteStep.{Steps, sales_by, draws_by, nozzles_after, step_told, holds_unless_over}
 use Rattle.written_site.specs.SoundSteps.{IsTaken}
 use Rattle.written_site.specs.Sound.{Sound, IsPointSound, MaySell}
-use Rattle.written_site.specs.Volumes.{nozzle_out, product_out, running, running_at, sold_by, drawn_of}
+use Rattle.written_site.specs.Volumes.{nozzle_out, running, running_at, sold_by, drawn_of}
 use Rattle.written_site.proofs.SoundTables.{row_there}
 use Rattle.written_site.proofs.SoundMeters.{some_of, product_after}
 use Rattle.written_site.proofs.SoundReports.{reading_own}
 use Rattle.written_site.proofs.SoundMachine.{sold_from, drawn_from}
-use Rattle.site_core.specs.Endings.{sales_with, draws_with, sale_told, HasPlace, MayEnd}
+use Rattle.site_core.specs.Endings.{sales_with, draws_with, HasPlace, MayEnd}
 
 -- ---- the point of a report
 

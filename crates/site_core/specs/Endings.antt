@@ -1,5 +1,5 @@
 -- What the end of a fuelling leaves: its sale, or its draw, from what the point tells of it.
-use Rattle.std.specs.Prelude.{◌≡◌, ℕ, ◌+◌, ◌^◌, ◌<◌, List, Option, Some, unwrap_or, true, is_some}
+use Rattle.std.specs.Prelude.{◌≡◌, ℕ, ◌+◌, ◌^◌, ◌<◌, List, Option, unwrap_or, true, is_some}
 use Rattle.site_base.specs.declared.limits.TheConstants.{UNPAID_LIMIT}
 use Rattle.site_base.specs.Amounts.{amount}
 use Rattle.fuelling_point.specs.declared.step.PointStep.{PointStep}

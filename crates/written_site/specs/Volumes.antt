@@ -1,13 +1,12 @@
 -- The volumes of a site, each product's weighed: what its meters have counted, what is in fuellings under
 -- way, in sales, and drawn by tests.
-use Rattle.std.specs.Prelude.{ℕ, ◌+◌, ◌-◌, ◌*◌, List, [], ◌∷◌, Option, Some, None, unwrap_or, if◌then◌else◌}
+use Rattle.std.specs.Prelude.{ℕ, ◌+◌, ◌-◌, ◌*◌, List, [], ◌∷◌, unwrap_or, if◌then◌else◌}
 use Rattle.site_base.specs.declared.state.Status.TheVariants.{Payable, Locked, Cleared}
 use Rattle.site_base.specs.declared.view.ProductView.{ProductView}
-use Rattle.site_base.specs.Table.{row_of}
 use Rattle.fuelling_point.specs.Kept.{Facts, is_under_way}
-use Rattle.meters.specs.Metered.{metered_by, product_alone, product_total}
+use Rattle.meters.specs.Metered.{product_alone, product_total}
 use Rattle.meters.specs.Nozzles.{Nozzle, product_of, reading_of}
-use Rattle.transaction_buffer.specs.Sales.{Sale, Sales}
+use Rattle.transaction_buffer.specs.Sales.{Sales}
 use Rattle.transaction_buffer.specs.Sums.{sum_of, volume_by}
 use Rattle.written_site.specs.SiteState.{SiteState}
 

@@ -1,8 +1,7 @@
-use Rattle.std.proofs.Common.{◌≡◌, ◌+◌, ◌<◌, ◌^◌, ap, subst, sym, ◌∙◌, arith}
-use Rattle.shift_ledger.specs.Shifts.{after_draw}
+use Rattle.std.proofs.Common.{◌+◌, ◌<◌, ◌^◌, ap, subst, sym, ◌∙◌, arith}
 use Rattle.written_site.specs.SiteStep.{draw_noted}
 use Rattle.written_site.specs.Volumes.{drawn_of}
-use Rattle.site_core.specs.Draws.{draws_of, AreDrawn}
+use Rattle.site_core.specs.Draws.{draws_of}
 use Rattle.site_core.proofs.NotedDraws.{draws-noted, figure_bound, kept_noted}
 use Rattle.site_core.proofs.draws.Draws.note.Goals as goal
 

@@ -1,7 +1,7 @@
 use Rattle.std.proofs.Common.{refl, arith}
 use Rattle.written_site.specs.Volumes.{running}
 use Rattle.site_core.specs.SiteParts.{site_of}
-use Rattle.site_core.proofs.Reports.{IsRest, rest_of, rest_told}
+use Rattle.site_core.proofs.Reports.{IsRest, rest_told}
 use Rattle.site_core.proofs.site_parts.SiteParts.product_view.Goals as goal
 
 -- the figures that were read, as the site's rules have them

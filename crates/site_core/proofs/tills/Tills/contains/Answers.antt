@@ -1,5 +1,4 @@
-use Rattle.std.proofs.Common.{ap, sym, ◌∙◌}
-use Rattle.std.specs.FinSet as set
+use Rattle.std.proofs.Common.{sym}
 use Rattle.site_core.proofs.MarkedTills.{at_cell}
 use Rattle.site_core.proofs.tills.Tills.contains.Goals as goal
 

@@ -1,4 +1,4 @@
-use Rattle.std.proofs.Common.{◌+◌, ◌∷◌, [], ◌++◌, take, sym, ap, ◌∙◌, nat_cmp}
+use Rattle.std.proofs.Common.{◌∷◌, [], ◌++◌, take, sym, ap, ◌∙◌, nat_cmp}
 use Rattle.std.proofs.lemmas.List.{take_more}
 use Rattle.std.specs.FinSet.{from_list, from_list_push, insert, nat_cmp-IsAntisymmetric}
 use Rattle.std.specs.Cmp.{nat_cmp_total}
