@@ -26,8 +26,9 @@ pub enum MapFault {
     /// An item of the request isn't there.
     #[error("an item is missing")]
     ItemMissing,
-    /// A sequence number isn't four decimal digits, or is 0000.
-    #[error("a sequence number isn't decimal")]
+    /// In a transaction's address a digit is above 9, the number is 0000, or the shift is 0000 or
+    /// above 0999.
+    #[error("the address of a transaction isn't decimal")]
     BadDecimal,
     /// A content of another width, or a number out of its range.
     #[error("a content has a wrong width or range")]
