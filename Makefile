@@ -35,5 +35,6 @@ audit:
 bench: build
 	@scripts/bench $(PROGRAM)
 	@scripts/instructions $(PROGRAM)
+	@scripts/bench-fuellings $(PROGRAM)
 	@cd crates/parts_cost && rt run > /dev/null
 	@scripts/parts-cost $(COSTS)
