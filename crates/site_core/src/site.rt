@@ -1,8 +1,10 @@
 //! The site, as its callers see it.
 
-ghost use Rattle.std.specs.Prelude.{◌≡◌, true, Ok, OnOk, IfOk};
+ghost use Rattle.std.specs.Prelude.{◌≡◌, ℕ, ◌≤◌, true, Ok, OnOk, OnErr, IfOk};
+ghost use Rattle.transaction_buffer.specs.Rooms.{room_at};
 ghost use Rattle.written_site.specs.SiteState.{opening, is_signed_on, point_shown};
 ghost use Rattle.written_site.specs.SiteStep.{Steps};
+ghost use Rattle.written_site.specs.Sound.{Sound};
 ghost use Rattle.site_core.specs.Shown.{HasRoom};
 
 use crate::ranges::are_fit;
@@ -49,10 +51,18 @@ impl Site {
         Ok(Site { parts })
     }
 
-    /// Makes the room that this event needs, so that its step takes no memory. The site stays.
+    /// What a site always keeps holds of this one: see `Sound`.
+    pub fn is_sound(&self)
+        ensures { Sound self.now.site }
+    {}
+
+    /// Makes the room that this event needs, so that its step takes no memory. The site stays, and so
+    /// does all room that was made before. After `NoMemory` nothing has changed.
     pub fn prepare(&mut self, actor: Actor, event: &Event) -> Result<(), NoMemory>
         ensures site { self.new.site ≡ self.old.site }
         ensures room { OnOk result (HasRoom self.new.room event.now) }
+        ensures kept { (p : ℕ) → room_at p self.old.room.sales ≤ room_at p self.new.room.sales }
+        ensures err { OnErr result (self.new ≡ self.old) }
     {
         let _ = actor;
         self.parts.prepare(event)

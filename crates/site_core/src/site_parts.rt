@@ -1,7 +1,8 @@
 //! What the site keeps, and which event is whose: the events themselves stand in `signing`, `commanding`,
 //! `holding`, `releasing`, `reporting`, `managing` and `figures`.
 
-ghost use Rattle.std.specs.Prelude.{◌≡◌, IfOk, OnOk};
+ghost use Rattle.std.specs.Prelude.{◌≡◌, ℕ, ◌≤◌, IfOk, OnOk, OnErr};
+ghost use Rattle.transaction_buffer.specs.Rooms.{room_at};
 ghost use Rattle.written_site.specs.SiteState.{opening, is_signed_on};
 ghost use Rattle.written_site.specs.SiteStep.{Steps};
 ghost use Rattle.written_site.specs.Sound.{Sound};
@@ -57,6 +58,9 @@ impl SiteParts {
     pub fn prepare(&mut self, event: &Event) -> Result<(), NoMemory>
         ensures site { site_of self.new ≡ site_of self.old }
         ensures room { OnOk result (HasRoom (room_of self.new) event.now) }
+        ensures kept { (p : ℕ)
+            → room_at p (room_of self.old).sales ≤ room_at p (room_of self.new).sales }
+        ensures err { OnErr result (room_of self.new ≡ room_of self.old) }
     {
         match event {
             Event::Offline(p) => self.sales.reserve(*p),

@@ -35,7 +35,7 @@ found_alike : (p : ConfiguredPoint) (ps : List ConfiguredPoint)
 found_alike p [] = refl
 found_alike p (q ∷ qs) = ap (λ (b : Bool). (p.number == q.number) || b) (found_alike p qs)
 
-numbers_alone : (ps : List ConfiguredPoint)
+pub numbers_alone : (ps : List ConfiguredPoint)
     → none_alike nat_eq (numbers_of (points_of ps)) ≡ none_alike same_point ps
 numbers_alone [] = refl
 numbers_alone (p ∷ ps) =
