@@ -3,3 +3,4 @@ pub mod Reports
 pub mod MarkedTills
 pub mod SignOffs
 pub mod RunSteps
+mod PointPlaces

@@ -57,22 +57,19 @@ pub alone_place : (p : ℕ) (es : List (ℕ × Facts)) (i : ℕ) (d : ℕ × Fac
 alone_place p [] i d alone within is = absurd (omega (arith, within))
 alone_place p (x ∷ xs) zero d alone within is = here x xs p is
 alone_place p (x ∷ xs) (suc i) d alone within is =
-    by_test (x.0 == p) refl
+    by_test (x.0 == p) refl (alone_place p xs i d parts.1 (omega (arith, within)) is)
   where
     parts : (not (list_any (λ q. nat_eq x.0 q) (numbers_of xs)) ≡ true)
         × (none_alike nat_eq (numbers_of xs) ≡ true)
     parts = and_parts (not (list_any (λ q. nat_eq x.0 q) (numbers_of xs)))
         (none_alike nat_eq (numbers_of xs)) alone
 
-    behind : IsPlace (λ n. n) p xs i
-    behind = alone_place p xs i d parts.1 (omega (arith, within)) is
-
-    by_test : (b : Bool) → (x.0 == p) ≡ b → IsPlace (λ n. n) p (x ∷ xs) (suc i)
-    by_test true at =
+    by_test : (b : Bool) → (x.0 == p) ≡ b → IsPlace (λ n. n) p xs i
+        → IsPlace (λ n. n) p (x ∷ xs) (suc i)
+    by_test true at behind =
         let same : x.0 ≡ p = grind (arith, nat_tests) in
         let twice : list_any (λ q. nat_eq x.0 q) (numbers_of xs) ≡ true =
         among x.0 xs i d (omega (arith, within)) (is ∙ sym same) in
         let no : not true ≡ true = sym (ap not twice) ∙ parts.0 in
         absurd (false≢true no)
-    by_test false at = later x xs p i at behind
-
+    by_test false at behind = later x xs p i at behind

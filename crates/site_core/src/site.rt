@@ -54,7 +54,9 @@ impl Site {
     /// What a site always keeps holds of this one: see `Sound`.
     pub fn is_sound(&self)
         ensures { Sound self.now.site }
-    {}
+    {
+        let _ = &self.parts;
+    }
 
     /// Makes the room that this event needs, so that its step takes no memory. The site stays, and so
     /// does all room that was made before. After `NoMemory` nothing has changed.
