@@ -4,7 +4,7 @@ use Rattle.std.specs.Prelude.{ℕ, Bool, true, false, Option, Some, None, Result
 use Rattle.site_base.specs.declared.answer.Answer.{Answer}
 use Rattle.site_base.specs.declared.answer.Answer.TheVariants.{Flowed, Sold, Drawn, Cleared}
 use Rattle.site_base.specs.declared.event.Event.{Event}
-use Rattle.site_base.specs.declared.event.Event.TheVariants.{SignOn, SignOff, Open, Close, Assign, Unassign, Release, Prepay, TestRelease, Suspend, Resume, Terminate, ReplaceMeter, ReadPoint, ReadTransaction, ReadProduct, Online, Offline, Lift, Flow, HangUp}
+use Rattle.site_base.specs.declared.event.Event.TheVariants.{SignOn, SignOff, Open, Close, Assign, Unassign, Release, Prepay, TestRelease, Suspend, Resume, Terminate, ReplaceMeter, ReadPoint, Lock, Unlock, Clear, ReadTransaction, SetPrice, ReadProduct, CloseShift, ReadSite, Online, Offline, Lift, Flow, HangUp}
 use Rattle.site_base.specs.declared.refusal.Refusal.{Refusal}
 use Rattle.site_base.specs.declared.sale.SaleId.{SaleId}
 
@@ -24,8 +24,14 @@ point_named (Resume p) = Some p
 point_named (Terminate p) = Some p
 point_named (ReplaceMeter p n reading) = Some p
 point_named (ReadPoint p) = Some p
+point_named (Lock p s) = Some p
+point_named (Unlock p s) = Some p
+point_named (Clear p s) = Some p
 point_named (ReadTransaction p s) = Some p
+point_named (SetPrice q price) = None
 point_named (ReadProduct q) = None
+point_named CloseShift = None
+point_named ReadSite = None
 point_named (Online p) = Some p
 point_named (Offline p) = Some p
 point_named (Lift p n reading) = Some p
@@ -42,11 +48,15 @@ nozzle_named event = None
 
 -- the transaction of that point that an event names
 abbrev pub sale_named : Event → Option SaleId
+sale_named (Lock p s) = Some s
+sale_named (Unlock p s) = Some s
+sale_named (Clear p s) = Some s
 sale_named (ReadTransaction p s) = Some s
 sale_named event = None
 
 -- the product that an event names
 abbrev pub product_named : Event → Option ℕ
+product_named (SetPrice q price) = Some q
 product_named (ReadProduct q) = Some q
 product_named event = None
 
@@ -84,15 +94,9 @@ needs_free_point event = false
 abbrev pub needs_manager : Event → Bool
 needs_manager (TestRelease p) = true
 needs_manager (ReplaceMeter p n reading) = true
+needs_manager (SetPrice q price) = true
+needs_manager CloseShift = true
 needs_manager event = false
-
--- the till that asks for the event takes the hold of its point
-abbrev pub takes_point : Event → Bool
-takes_point (Assign p) = true
-takes_point (Release p preset) = true
-takes_point (Prepay p cents) = true
-takes_point (TestRelease p) = true
-takes_point event = false
 
 -- the event, once accepted, is a change that the dispenser of its point is told of
 abbrev pub has_change : Event → Bool

@@ -4,7 +4,7 @@ ghost use Rattle.std.specs.Prelude.{◌≡◌, ◌≤◌, IfSome};
 ghost use Rattle.site_base.specs.declared.limits.TheConstants.{GREATEST_READING};
 ghost use Rattle.site_base.specs.Events.{point_named, nozzle_named, sale_named, product_named};
 ghost use Rattle.site_base.specs.Events.{reading_carried};
-ghost use Rattle.site_base.specs.Events.{reported_by, needs_free_point, needs_manager, takes_point, has_change};
+ghost use Rattle.site_base.specs.Events.{reported_by, needs_free_point, needs_manager, has_change};
 
 use crate::amounts::Millilitres;
 use crate::numbers::{FpNo, NozzleNo, ProductNo};
@@ -47,10 +47,23 @@ pub enum Event {
     ReplaceMeter(FpNo, NozzleNo, Millilitres),
     /// Reads a fuelling point; changes nothing.
     ReadPoint(FpNo),
+    /// The till locks a transaction of a fuelling point, so that no other till can clear it.
+    Lock(FpNo, SaleId),
+    /// The till makes a transaction that it has locked payable again.
+    Unlock(FpNo, SaleId),
+    /// The till clears a transaction that it has locked: it is paid, and counts in the open shift.
+    Clear(FpNo, SaleId),
     /// Reads a transaction of a fuelling point; changes nothing.
     ReadTransaction(FpNo, SaleId),
+    /// A manager gives a product this price, in mills per litre. A fuelling under way keeps the price
+    /// that it took.
+    SetPrice(ProductNo, u32),
     /// Reads a product; changes nothing.
     ReadProduct(ProductNo),
+    /// A manager closes the open shift; the next one is open then.
+    CloseShift,
+    /// Reads the site; changes nothing.
+    ReadSite,
     /// The dispenser of the point is reached.
     Online(FpNo),
     /// The dispenser of the point isn't reached any more. A fuelling under way is over.
@@ -69,7 +82,7 @@ impl Event {
         ensures { result ≡ point_named self.now }
     {
         match self {
-            Event::SignOn | Event::SignOff => None,
+            Event::SignOn | Event::SignOff | Event::CloseShift | Event::ReadSite => None,
             Event::Open(p) => Some(*p),
             Event::Close(p) => Some(*p),
             Event::Assign(p) => Some(*p),
@@ -82,7 +95,11 @@ impl Event {
             Event::Terminate(p) => Some(*p),
             Event::ReplaceMeter(p, _, _) => Some(*p),
             Event::ReadPoint(p) => Some(*p),
+            Event::Lock(p, _) => Some(*p),
+            Event::Unlock(p, _) => Some(*p),
+            Event::Clear(p, _) => Some(*p),
             Event::ReadTransaction(p, _) => Some(*p),
+            Event::SetPrice(_, _) => None,
             Event::ReadProduct(_) => None,
             Event::Online(p) => Some(*p),
             Event::Offline(p) => Some(*p),
@@ -110,6 +127,9 @@ impl Event {
         ensures { result ≡ sale_named self.now }
     {
         match self {
+            Event::Lock(_, s) => Some(*s),
+            Event::Unlock(_, s) => Some(*s),
+            Event::Clear(_, s) => Some(*s),
             Event::ReadTransaction(_, s) => Some(*s),
             _ => None,
         }
@@ -120,6 +140,7 @@ impl Event {
         ensures { result ≡ product_named self.now }
     {
         match self {
+            Event::SetPrice(q, _) => Some(*q),
             Event::ReadProduct(q) => Some(*q),
             _ => None,
         }
@@ -177,16 +198,12 @@ impl Event {
     pub fn needs_manager(&self) -> bool
         ensures { result ≡ needs_manager self.now }
     {
-        matches!(self, Event::TestRelease(_) | Event::ReplaceMeter(_, _, _))
-    }
-
-    /// Does the till that asks for the event take the hold of its point?
-    pub fn takes_point(&self) -> bool
-        ensures { result ≡ takes_point self.now }
-    {
         matches!(
             self,
-            Event::Assign(_) | Event::Release(_, _) | Event::Prepay(_, _) | Event::TestRelease(_)
+            Event::TestRelease(_)
+                | Event::ReplaceMeter(_, _, _)
+                | Event::SetPrice(_, _)
+                | Event::CloseShift
         )
     }
 

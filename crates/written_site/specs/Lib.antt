@@ -1,5 +1,6 @@
 pub mod SiteState
 pub mod Volumes
+pub mod ShiftFigures
 pub mod SiteChecks
 pub mod SiteStep
 pub mod SiteRun
@@ -9,3 +10,4 @@ pub mod Slots
 pub mod Holders
 pub mod Sound
 pub mod SoundSteps
+pub mod FigureSteps

@@ -3,10 +3,10 @@ use Rattle.std.specs.Prelude.{◌≡◌, ℕ, Bool, true, false, not, ◌&&◌, 
 use Rattle.site_base.specs.declared.actor.Actor.{Actor}
 use Rattle.site_base.specs.declared.actor.Actor.TheVariants.{Till, Dispenser}
 use Rattle.site_base.specs.declared.event.Event.{Event}
-use Rattle.site_base.specs.declared.event.Event.TheVariants.{SignOn, SignOff, Open, Close, Assign, Unassign, Release, Prepay, TestRelease, Suspend, Resume, Terminate, ReplaceMeter, ReadPoint, ReadTransaction, ReadProduct, Online, Offline, Lift, Flow, HangUp}
-use Rattle.site_base.specs.declared.limits.TheConstants.{GREATEST_PRESET, REPLACEMENT_LIMIT, UNPAID_LIMIT}
+use Rattle.site_base.specs.declared.event.Event.TheVariants.{SignOn, SignOff, Open, Close, Assign, Unassign, Release, Prepay, TestRelease, Suspend, Resume, Terminate, ReplaceMeter, ReadPoint, Lock, Unlock, Clear, ReadTransaction, SetPrice, ReadProduct, CloseShift, ReadSite, Online, Offline, Lift, Flow, HangUp}
+use Rattle.site_base.specs.declared.limits.TheConstants.{GREATEST_PRESET, GREATEST_PRICE, GREATEST_SHIFT, REPLACEMENT_LIMIT, UNPAID_LIMIT}
 use Rattle.site_base.specs.declared.refusal.Refusal.{Refusal}
-use Rattle.site_base.specs.declared.refusal.Refusal.TheVariants.{NotSignedOn, SignedOn, NoSuchPoint, NoSuchNozzle, NoSuchProduct, NoSuchTransaction, NotManager, BadPreset, AssignedToOther, NotYours, NotYourPoint, BufferFull, SequenceSpent, MeterSpent}
+use Rattle.site_base.specs.declared.refusal.Refusal.TheVariants.{NotSignedOn, SignedOn, NoSuchPoint, NoSuchNozzle, NoSuchProduct, NoSuchTransaction, NotManager, BadPrice, BadPreset, AssignedToOther, NotYours, NotYourPoint, BufferFull, SequenceSpent, ShiftsSpent, MeterSpent}
 use Rattle.site_base.specs.declared.sale.SaleId.{SaleId}
 use Rattle.site_base.specs.declared.state.PointState.{PointState}
 use Rattle.site_base.specs.declared.state.PointState.TheVariants.{Calling}
@@ -23,7 +23,10 @@ use Rattle.meters.specs.declared.report.Report.{Report}
 use Rattle.meters.specs.declared.report.Report.TheVariants.{Still, Growing}
 use Rattle.meters.specs.Nozzles.{has_nozzle, reading_of, times_replaced}
 use Rattle.meters.specs.Reports.{report_refusal, growth_of}
-use Rattle.transaction_buffer.specs.Sales.{has_sale, next_number, unpaid_at}
+use Rattle.transaction_buffer.specs.declared.request.Request.{Request}
+use Rattle.transaction_buffer.specs.declared.request.Request.TheVariants as requests
+use Rattle.transaction_buffer.specs.Sales.{Key, has_sale, next_number, unpaid_at}
+use Rattle.transaction_buffer.specs.TransactionTable as transactions
 use Rattle.written_site.specs.SiteState.{SiteState, is_signed_on, is_manager, has_point, facts_of, holder_of, open_shift, key_named, price_at_start, reading_at_start}
 
 -- a release of point p within this preset, which may be prepaid: a fuelling that it starts is of the
@@ -60,8 +63,14 @@ own_event s (Resume p) = Some (p, points.Resume)
 own_event s (Terminate p) = Some (p, points.Terminate)
 own_event s (ReplaceMeter p n reading) = Some (p, points.ReplaceMeter)
 own_event s (ReadPoint p) = None
+own_event s (Lock p id) = None
+own_event s (Unlock p id) = None
+own_event s (Clear p id) = None
 own_event s (ReadTransaction p id) = None
+own_event s (SetPrice q price) = None
 own_event s (ReadProduct q) = None
+own_event s CloseShift = None
+own_event s ReadSite = None
 own_event s (Online p) = Some (p, points.Online)
 own_event s (Offline p) = Some (p, points.Offline)
 own_event s (Lift p n reading) = Some (p, lifted s p n)
@@ -116,6 +125,11 @@ own_kind (Dispenser d) event = unless (is_point d (reported_by event)) NotYourPo
 abbrev pub managed : SiteState → Actor → Event → Option Refusal
 managed s (Till t) event = if needs_manager event then unless (is_manager s t) NotManager else None
 managed s (Dispenser d) event = None
+
+-- a price that a product is given is in range
+abbrev pub pricing : Event → Option Refusal
+pricing (SetPrice q price) = unless (is_between 1 GREATEST_PRICE price) BadPrice
+pricing event = None
 
 -- a volume or a sum of money that a release may be limited to
 abbrev pub is_preset : Preset → Bool
@@ -196,30 +210,55 @@ metering s (ReplaceMeter p n reading) =
     unless (nat_lt (times_replaced p n s.nozzles) REPLACEMENT_LIMIT) MeterSpent
 metering s event = None
 
+-- what an event asks of a transaction, and the name of that transaction; a clear is made in the open shift
+abbrev pub sale_request : SiteState → Event → Option (Request × Key)
+sale_request s (Lock p id) = Some (requests.Lock, key_named s p id)
+sale_request s (Unlock p id) = Some (requests.Unlock, key_named s p id)
+sale_request s (Clear p id) = Some (requests.Clear (open_shift s), key_named s p id)
+sale_request s event = None
+
+-- why the transaction refuses what till t asks of it
+abbrev pub sale_refusal : SiteState → ℕ → Option (Request × Key) → Option Refusal
+sale_refusal s t None = None
+sale_refusal s t (Some asked) = transactions.refusal_of asked.0 t asked.1 s.sales
+
+-- the transaction takes what the till asks of it
+abbrev pub at_sale : SiteState → Actor → Event → Option Refusal
+at_sale s (Till t) event = sale_refusal s t (sale_request s event)
+at_sale s (Dispenser d) event = None
+
+-- a shift that is closed isn't the last one
+abbrev pub closing : SiteState → Event → Option Refusal
+closing s CloseShift = unless (not (open_shift s == GREATEST_SHIFT)) ShiftsSpent
+closing s event = None
+
 -- the checks of who asks: it is signed on, what the event names is there, the event is the actor's to ask,
--- a manager asks what is for managers alone, a preset is in range, and no other till holds the point where
--- the event is for one that no other holds
+-- a manager asks what is for managers alone, a price and a preset are in range, and no other till holds the
+-- point where the event is for one that no other holds
 abbrev pub may_ask : SiteState → Actor → Event → Option Refusal
 may_ask s actor event =
     signing s actor event
     or_else numbers s event
     or_else own_kind actor event
     or_else managed s actor event
+    or_else pricing event
     or_else presets event
     or_else not_held s actor event
 
--- the checks of what is asked: the point takes the event, what is given back is held, a sale has room, and
--- the meter agrees
-abbrev pub can_do : SiteState → Event → Option Refusal
-can_do s event =
+-- the checks of what is asked: the point takes the event, what is given back is held, a sale has room, the
+-- meter agrees, the transaction takes what is asked of it, and there is a next shift
+abbrev pub can_do : SiteState → Actor → Event → Option Refusal
+can_do s actor event =
     at_point s event
     or_else is_held s event
     or_else sale_room s event
     or_else metering s event
+    or_else at_sale s actor event
+    or_else closing s event
 
 -- the first check that fails
 abbrev pub first_refusal : SiteState → Actor → Event → Option Refusal
-first_refusal s actor event = may_ask s actor event or_else can_do s event
+first_refusal s actor event = may_ask s actor event or_else can_do s actor event
 
 -- what is known of an accepted event: it has passed each check
 pub record Passed (s : SiteState) (actor : Actor) (event : Event) : Type 0 where
@@ -227,12 +266,15 @@ pub record Passed (s : SiteState) (actor : Actor) (event : Event) : Type 0 where
   pub names : numbers s event ≡ None
   pub asks : own_kind actor event ≡ None
   pub manages : managed s actor event ≡ None
+  pub prices : pricing event ≡ None
   pub limits : presets event ≡ None
   pub free : not_held s actor event ≡ None
   pub takes : at_point s event ≡ None
   pub holds : is_held s event ≡ None
   pub sells : sale_room s event ≡ None
   pub reads : metering s event ≡ None
+  pub pays : at_sale s actor event ≡ None
+  pub closes : closing s event ≡ None
 
 -- an event that isn't refused has passed each check
 abbrev pub PassesEachCheck : Type 0

@@ -1,5 +1,5 @@
 -- The written step: what the one-thread site answers to an event, and the site that it leads to.
-use Rattle.std.specs.Prelude.{◌≡◌, ℕ, ◌+◌, Bool, true, false, not, ◌&&◌, List, [], ◌∷◌, Option, Some, None, Result, unwrap_or, if◌then◌else◌}
+use Rattle.std.specs.Prelude.{◌≡◌, ℕ, ◌+◌, Bool, true, false, not, ◌&&◌, List, [], ◌∷◌, ◌++◌, Option, Some, None, Result, unwrap_or, if◌then◌else◌}
 use Rattle.std.specs.Ordering.{nat_cmp}
 use Rattle.std.specs.FinMap as finite
 use Rattle.std.specs.FinSet as set
@@ -8,7 +8,7 @@ use Rattle.site_base.specs.declared.actor.Actor.TheVariants.{Till}
 use Rattle.site_base.specs.declared.answer.Answer.{Answer}
 use Rattle.site_base.specs.declared.answer.Answer.TheVariants as answers
 use Rattle.site_base.specs.declared.event.Event.{Event}
-use Rattle.site_base.specs.declared.event.Event.TheVariants.{SignOn, SignOff, Open, Close, Assign, Unassign, Release, Prepay, TestRelease, Suspend, Resume, Terminate, ReplaceMeter, ReadPoint, ReadTransaction, ReadProduct, Online, Offline, Lift, Flow, HangUp}
+use Rattle.site_base.specs.declared.event.Event.TheVariants.{SignOn, SignOff, Open, Close, Assign, Unassign, Release, Prepay, TestRelease, Suspend, Resume, Terminate, ReplaceMeter, ReadPoint, Lock, Unlock, Clear, ReadTransaction, SetPrice, ReadProduct, CloseShift, ReadSite, Online, Offline, Lift, Flow, HangUp}
 use Rattle.site_base.specs.declared.refusal.Refusal.{Refusal}
 use Rattle.site_base.specs.declared.view.TransactionView.{TransactionView}
 use Rattle.site_base.specs.Checks.{reply_or, value_or}
@@ -22,10 +22,12 @@ use Rattle.fuelling_point.specs.Kept.{Facts, growth_of, point_view}
 use Rattle.fuelling_point.specs.Step as machine
 use Rattle.meters.specs.Nozzles.{Nozzle, with_last, with_meter}
 use Rattle.till_claims.specs.Holds.{is_held_by}
-use Rattle.transaction_buffer.specs.Sales.{Sale, Sales, made_at, new_standing, with_new}
-use Rattle.transaction_buffer.specs.TransactionTable.{after_sign_off}
-use Rattle.written_site.specs.SiteState.{SiteState, facts_in, facts_of, holder_of, is_signed_on, open_shift, rests, sale_shown}
+use Rattle.transaction_buffer.specs.declared.request.Request.TheVariants as requests
+use Rattle.transaction_buffer.specs.Sales.{Sale, Sales, sale_of, made_at, new_standing, with_new}
+use Rattle.transaction_buffer.specs.TransactionTable.{after_request, after_sign_off}
+use Rattle.written_site.specs.SiteState.{SiteState, facts_in, facts_of, holder_of, is_signed_on, key_named, nothing_drawn, open_shift, rests, sale_shown}
 use Rattle.written_site.specs.Volumes.{product_out, running_at, product_view}
+use Rattle.written_site.specs.ShiftFigures.{site_view}
 use Rattle.written_site.specs.SiteChecks.{own_event, first_refusal}
 
 -- what the point does of what the event is to it; of an event that is nothing to a point, nothing
@@ -61,6 +63,11 @@ abbrev pub sale_told : Option TransactionView → Answer
 sale_told None = answers.Done
 sale_told (Some view) = answers.TransactionIs view
 
+-- a transaction that is there, as its clear is answered: with its cents
+abbrev pub clear_told : Option Sale → Answer
+clear_told None = answers.Done
+clear_told (Some x) = answers.Cleared x.cents
+
 -- a product at today's price, if it has one, as a read is answered
 abbrev pub product_told : SiteState → ℕ → Option ℕ → Answer
 product_told s q None = answers.Done
@@ -82,8 +89,14 @@ site_answer s (Resume p) = answers.Done
 site_answer s (Terminate p) = told_by s (own_event s (Terminate p))
 site_answer s (ReplaceMeter p n reading) = answers.Done
 site_answer s (ReadPoint p) = answers.PointIs (point_view (facts_of s p) (holder_of s p))
+site_answer s (Lock p id) = answers.Locked
+site_answer s (Unlock p id) = answers.Unlocked
+site_answer s (Clear p id) = clear_told (sale_of (key_named s p id) s.sales)
 site_answer s (ReadTransaction p id) = sale_told (sale_shown s p id)
+site_answer s (SetPrice q price) = answers.Done
 site_answer s (ReadProduct q) = product_told s q (row_of q s.prices)
+site_answer s CloseShift = answers.ShiftClosed (open_shift s)
+site_answer s ReadSite = answers.SiteIs (site_view s)
 site_answer s (Online p) = answers.Done
 site_answer s (Offline p) = told_by s (own_event s (Offline p))
 site_answer s (Lift p n reading) = told_by s (own_event s (Lift p n reading))
@@ -172,10 +185,19 @@ sales_by s nozzles p step = s.sales
 -- the sales after an accepted event; one without a line leaves them
 abbrev pub sales_after : SiteState → Actor → Event → Sales
 sales_after s (Till t) SignOff = after_sign_off t s.sales
+sales_after s (Till t) (Lock p id) = after_request requests.Lock t (key_named s p id) s.sales
+sales_after s (Till t) (Unlock p id) = after_request requests.Unlock t (key_named s p id) s.sales
+sales_after s (Till t) (Clear p id) =
+    after_request (requests.Clear (open_shift s)) t (key_named s p id) s.sales
 sales_after s actor (Offline p) = sales_by s s.nozzles p (step_at s (Offline p))
 sales_after s actor (HangUp p n reading) =
     sales_by s (nozzles_after s (HangUp p n reading)) p (step_at s (HangUp p n reading))
 sales_after s actor event = s.sales
+
+-- the prices after an accepted event; one without a line leaves them
+abbrev pub prices_after : SiteState → Event → List (ℕ × ℕ)
+prices_after s (SetPrice q price) = with_row q price s.prices
+prices_after s event = s.prices
 
 -- the draws of a shift, with one more of product q
 abbrev pub one_more_drawn : ℕ → ℕ → List ℕ → List ℕ
@@ -193,11 +215,13 @@ draws_by s nozzles p (Drawn nozzle volume) =
     draw_noted (product_out nozzles p (facts_of s p)) (running_at nozzles p (facts_of s p)) s.drawn
 draws_by s nozzles p step = s.drawn
 
--- the draws after an accepted event; one without a line leaves them
+-- the draws after an accepted event: a close opens a shift in which nothing is drawn. One without a line
+-- leaves them.
 abbrev pub drawn_after : SiteState → Event → List (List ℕ)
 drawn_after s (Offline p) = draws_by s s.nozzles p (step_at s (Offline p))
 drawn_after s (HangUp p n reading) =
     draws_by s (nozzles_after s (HangUp p n reading)) p (step_at s (HangUp p n reading))
+drawn_after s CloseShift = s.drawn ++ nothing_drawn ∷ []
 drawn_after s event = s.drawn
 
 -- the tills signed on after an accepted event; one without a line leaves them
@@ -213,7 +237,7 @@ accepted_site s actor event = record {
   nozzles = nozzles_after s event;
   holds = holds_after s actor event;
   sales = sales_after s actor event;
-  prices = s.prices;
+  prices = prices_after s event;
   managers = s.managers;
   signed_on = signed_on_after s actor event;
   drawn = drawn_after s event;

@@ -15,8 +15,10 @@ use Rattle.fuelling_point.specs.Kept.{Facts, is_under_way}
 use Rattle.fuelling_point.specs.Whole.{IsWhole, is_released}
 use Rattle.meters.specs.Metered.{metered_by}
 use Rattle.meters.specs.Nozzles.{AreNozzles, has_nozzle, product_of, reading_of}
+use Rattle.transaction_buffer.specs.declared.standing.Standing.{Standing}
+use Rattle.transaction_buffer.specs.declared.standing.Standing.TheVariants.{Payable, LockedBy, ClearedBy}
 use Rattle.transaction_buffer.specs.Sales.{Key, Sale, sale_of, made_at, unpaid_at}
-use Rattle.written_site.specs.SiteState.{SiteState, opening, holder_of, open_shift}
+use Rattle.written_site.specs.SiteState.{SiteState, opening, holder_of, is_signed_on, open_shift}
 use Rattle.written_site.specs.SiteStep.{site_after}
 use Rattle.written_site.specs.Volumes.{nozzle_out, running_by, sold_by, drawn_by}
 
@@ -57,6 +59,12 @@ pub record IsSaleSound (x : Sale) : Type 0 where
   pub price : IsPrice x.price
   pub cents : x.cents ≡ amount x.volume x.price
 
+-- how a sale may stand: its locker is signed on; it wasn't cleared in a shift to come
+abbrev pub IsStanding : SiteState → Standing → Type 0
+IsStanding s Payable = Unit {0}
+IsStanding s (LockedBy t) = is_signed_on s t ≡ true
+IsStanding s (ClearedBy t h) = h ≤ open_shift s
+
 -- a number that a shift may have
 pub record IsShift (h : ℕ) : Type 0 where
   pub low : 1 ≤ h
@@ -72,7 +80,8 @@ is_draw_row row = length row == PRODUCT_CELLS
 
 -- What a site always is. No point number stands twice, and each point, product and sale is as it
 -- always is; so is each nozzle, and there are no more of them than a site can have. At every point,
--- released or not, no more sales are unpaid than may be. No sale is of a shift after the open one.
+-- released or not, no more sales are unpaid than may be. No sale is of a shift after the open one, or
+-- cleared in one; the locker of a sale is signed on.
 -- The number of the open shift is one that a shift may have, and each shift has a figure of draws
 -- for each product. And however the products are weighed: what the meters have counted is in the
 -- fuellings under way, in sales and in draws.
@@ -85,6 +94,7 @@ pub record Sound (s : SiteState) : Type 0 where
   pub unpaid : (p : ℕ) → unpaid_at p s.sales ≤ UNPAID_LIMIT
   pub order : (p h : ℕ) → open_shift s < h → made_at p h s.sales ≡ 0
   pub sales : (k : Key) (x : Sale) → sale_of k s.sales ≡ Some x → IsSaleSound x
+  pub standings : (k : Key) (x : Sale) → sale_of k s.sales ≡ Some x → IsStanding s x.standing
   pub shift : IsShift (open_shift s)
   pub draws : list_all is_draw_row s.drawn ≡ true
   pub conserved : (w : ℕ → ℕ) → metered_by w s.nozzles

@@ -2,8 +2,10 @@
 -- what is true where its point sells or draws.
 use Rattle.std.specs.Prelude.{◌≡◌, ◌≢◌, ℕ, ◌+◌, ◌*◌, ◌^◌, ◌<◌, ◌≤◌, Bool, true, false, List, length, Option, Some, None, is_some, unwrap_or}
 use Rattle.site_base.specs.declared.actor.Actor.{Actor}
+use Rattle.site_base.specs.declared.actor.Actor.TheVariants.{Till}
 use Rattle.site_base.specs.declared.event.Event.{Event}
 use Rattle.site_base.specs.declared.limits.TheConstants.{GREATEST_READING, PRODUCT_CELLS, UNPAID_LIMIT}
+use Rattle.site_base.specs.declared.state.Status.{Status}
 use Rattle.site_base.specs.declared.state.Status.TheVariants as statuses
 use Rattle.site_base.specs.Numbered.{numbered}
 use Rattle.fuelling_point.specs.declared.event.PointEvent.{PointEvent}
@@ -13,10 +15,12 @@ use Rattle.fuelling_point.specs.Laws.{sold_in, drawn_in, is_end}
 use Rattle.fuelling_point.specs.Step.{step_of}
 use Rattle.meters.specs.Metered.{most_of_a_site, metered_by, product_alone, product_total}
 use Rattle.meters.specs.Nozzles.{product_of}
-use Rattle.transaction_buffer.specs.Sales.{HasNoneLater, next_number, unpaid_at}
-use Rattle.transaction_buffer.specs.Sums.{volume_of, volume_by}
+use Rattle.transaction_buffer.specs.declared.request.Request.{Request}
+use Rattle.transaction_buffer.specs.Sales.{Key, Sale, HasNoneLater, next_number, sale_of, unpaid_at}
+use Rattle.transaction_buffer.specs.Sums.{volume_of, volume_by, volume_with}
+use Rattle.transaction_buffer.specs.TransactionTable.{sale_after_request}
 use Rattle.written_site.specs.SiteState.{SiteState, facts_of, holder_of, open_shift}
-use Rattle.written_site.specs.SiteChecks.{own_event, numbers, at_point, metering}
+use Rattle.written_site.specs.SiteChecks.{own_event, numbers, at_point, metering, sale_request}
 use Rattle.written_site.specs.SiteStep.{step_at, nozzles_after, points_after, sales_after, drawn_after}
 use Rattle.written_site.specs.Sound.{InRange, IsPrice, IsSupplied, Sound}
 use Rattle.written_site.specs.Volumes.{nozzle_out, product_out, running_at, running_by, sold_by, drawn_by, running, adjusted}
@@ -144,14 +148,28 @@ pub record AddUp (s : SiteState) (q : ℕ) : Type 0 where
   pub most : product_total q s.nozzles ≤ most_of_a_site
   pub fits : product_total q s.nozzles < 2 ^ 64
 
+-- How what a till asks of transaction x moves the volumes by status: the transaction's own leaves the
+-- status that it had and joins the one that it has then. Nothing else moves, and the volume of all
+-- sales stays.
+pub record MovesStatus (s : SiteState) (t : ℕ) (event : Event) (request : Request) (x : Sale)
+    : Type 0 where
+  pub by_status : (q : ℕ) (status : Status)
+      → volume_by q status (sales_after s (Till t) event) + volume_with q status x
+      ≡ volume_by q status s.sales + volume_with q status (sale_after_request request t x)
+  pub whole : (q : ℕ) → volume_of q (sales_after s (Till t) event) ≡ volume_of q s.sales
+
 -- A sound site's volumes add up, for each product, and an event that the site takes moves them by
--- what flows in it and what is sold or drawn.
+-- what flows in it and what is sold or drawn; what a till asks of a transaction moves its volume from
+-- status to status.
 pub record DoVolumesAddUp : Type 0 where
   pub adds_up : (s : SiteState) (q : ℕ) → Sound s → AddUp s q
   pub moves : (w : ℕ → ℕ) (s : SiteState) (actor : Actor) (event : Event)
       → Sound s → IsTaken s event → MovesVolumes w s actor event
   pub runs : (s : SiteState) (event : Event) (q : ℕ)
       → Sound s → IsTaken s event → MovesRunning s event q
+  pub asks : (s : SiteState) (t : ℕ) (event : Event) (request : Request) (k : Key) (x : Sale)
+      → sale_request s event ≡ Some (request, k) → sale_of k s.sales ≡ Some x
+      → MovesStatus s t event request x
 
 -- At a sound site what flows in an event that the site takes fits in its fuelling, and in 64 bits
 -- with all that is under way of its product; and where the point of the event sells or draws, the

@@ -1,6 +1,7 @@
 //! What is true of the written site. The laws have no code: each is proved of the definitions.
 
 ghost use Rattle.written_site.specs.Bridge.{AreLegalHistoriesRuns};
+ghost use Rattle.written_site.specs.FigureSteps.{DoFiguresFit, DoFiguresMove};
 ghost use Rattle.written_site.specs.Holders.{IsHeldByOne, AreUnendedTakes, AreBooksHeldByOne};
 ghost use Rattle.written_site.specs.SiteChecks.{PassesEachCheck};
 ghost use Rattle.written_site.specs.Sound.{StaysSound};
@@ -47,6 +48,7 @@ pub fn stays_sound()
 /// At a sound site, what the meters of a product have counted is in the fuellings under way, in sales
 /// that are payable, locked or cleared, and in draws, and fits in 64 bits. What flows in an event is
 /// metered and is in the fuelling; what is sold or drawn leaves the fuelling, and nothing else moves.
+/// A lock, an unlock and a clear move the volume of their transaction from one status to another.
 pub fn volumes_add_up()
     ensures { DoVolumesAddUp }
 {}
@@ -57,4 +59,18 @@ pub fn volumes_add_up()
 /// with it. So do those of a draw.
 pub fn finds_room()
     ensures { FindsRoom }
+{}
+
+/// A clear counts once, in the open shift: for its till, with its sale's cents, and for its sale's
+/// product, with its millilitres. Every other event leaves what was cleared in each shift and in all. A
+/// draw counts for its product in the open shift, and nothing else changes what was drawn. A shift that
+/// isn't open yet is empty.
+pub fn figures_move()
+    ensures { DoFiguresMove }
+{}
+
+/// At a sound site every figure of a shift and of all shifts fits in 64 bits, summed over the tills too,
+/// and so does each with one clear more of a sale that isn't cleared.
+pub fn figures_fit()
+    ensures { DoFiguresFit }
 {}

@@ -1,0 +1,73 @@
+-- The figures of a site, from its sales and draws alone: of each shift and of all together, what each till
+-- cleared, and what of each product was cleared and drawn by tests.
+use Rattle.std.specs.Prelude.{ℕ, Bool, true, false, ◌&&◌, ◌==◌, if◌then◌else◌, List, map, sum_by, unwrap_or}
+use Rattle.std.specs.List.{range_with_len}
+use Rattle.site_base.specs.declared.limits.TheConstants.{TILLS}
+use Rattle.site_base.specs.declared.view.ProductView.{ProductView}
+use Rattle.site_base.specs.declared.view.SiteView.{SiteView}
+use Rattle.site_base.specs.Numbered.{numbered}
+use Rattle.transaction_buffer.specs.declared.standing.Standing.{Standing}
+use Rattle.transaction_buffer.specs.declared.standing.Standing.TheVariants.{ClearedBy}
+use Rattle.transaction_buffer.specs.Sales.{Sale}
+use Rattle.transaction_buffer.specs.Sums.{sum_of, volume_in}
+use Rattle.written_site.specs.SiteState.{SiteState, nothing_drawn, open_shift}
+use Rattle.written_site.specs.Volumes.{product_view}
+
+-- a sale that stands so is cleared by till t
+abbrev pub is_cleared_by : ℕ → Standing → Bool
+is_cleared_by t (ClearedBy till shift) = till == t
+is_cleared_by t standing = false
+
+-- a sale that stands so is cleared in shift h
+abbrev pub is_cleared_in : ℕ → Standing → Bool
+is_cleared_in h (ClearedBy till shift) = shift == h
+is_cleared_in h standing = false
+
+-- the sale is cleared in shift h by till t
+abbrev pub is_clear_of : ℕ → ℕ → Sale → Bool
+is_clear_of h t x = is_cleared_in h x.standing && is_cleared_by t x.standing
+
+-- how many sales till t cleared in shift h, and their cents
+abbrev pub shift_clears : SiteState → ℕ → ℕ → ℕ
+shift_clears s h t = sum_of (λ x. if is_clear_of h t x then 1 else 0) s.sales
+
+abbrev pub shift_cents : SiteState → ℕ → ℕ → ℕ
+shift_cents s h t = sum_of (λ x. if is_clear_of h t x then x.cents else 0) s.sales
+
+-- the millilitres of product q that were cleared in shift h
+abbrev pub shift_cleared : SiteState → ℕ → ℕ → ℕ
+shift_cleared s h q = sum_of (λ x. if is_cleared_in h x.standing then volume_in q x else 0) s.sales
+
+-- the millilitres of each product, from product 1 on, that tests drew in shift h
+abbrev pub shift_draws : SiteState → ℕ → List ℕ
+shift_draws s h = unwrap_or (numbered h s.drawn) nothing_drawn
+
+-- the millilitres of product q that tests drew in shift h
+abbrev pub shift_drawn : SiteState → ℕ → ℕ → ℕ
+shift_drawn s h q = unwrap_or (numbered q (shift_draws s h)) 0
+
+-- the tills that a site may have
+abbrev pub tills : List ℕ
+tills = range_with_len 1 TILLS
+
+-- the cents that all tills cleared in shift h
+abbrev pub shift_takings : SiteState → ℕ → ℕ
+shift_takings s h = sum_by (shift_cents s h) tills
+
+-- the site as a read shows it: the open shift, and what was cleared in it
+abbrev pub site_view : SiteState → SiteView
+site_view s = record { cents = shift_takings s (open_shift s); shift = open_shift s }
+
+-- how many sales till t cleared in all shifts, and their cents
+abbrev pub clears_of : SiteState → ℕ → ℕ
+clears_of s t = sum_of (λ x. if is_cleared_by t x.standing then 1 else 0) s.sales
+
+abbrev pub cents_of : SiteState → ℕ → ℕ
+cents_of s t = sum_of (λ x. if is_cleared_by t x.standing then x.cents else 0) s.sales
+
+-- the totals of the site: each till with its clears and their cents, and each product, in configured order
+abbrev pub till_totals : SiteState → List (ℕ × ℕ × ℕ)
+till_totals s = map (λ t. (t, clears_of s t, cents_of s t)) tills
+
+abbrev pub product_totals : SiteState → List ProductView
+product_totals s = map (λ e. product_view s e.0 e.1) s.prices
