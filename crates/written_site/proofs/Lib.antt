@@ -21,3 +21,6 @@ pub mod SoundOpening
 pub mod SoundSums
 pub mod SoundUses
 pub mod WorkedSound
+pub mod WorkedRows
+pub mod WorkedTills
+pub mod WorkedSales
