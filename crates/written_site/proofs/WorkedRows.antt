@@ -1,6 +1,6 @@
 -- The words of the worked rows: the known site, and rows of who asks what and is told what. Rows are
 -- worked one after another; where each is told what the site replies, they are a legal history.
-use Rattle.std.proofs.Common.{◌≡◌, ℕ, List, [], ◌∷◌, Bool, cond, not, Option, Some, None, Result, Ok, Err, refl, sym, ap, subst, ◌∙◌, length, arith}
+use Rattle.std.proofs.Common.{◌≡◌, ℕ, List, [], ◌∷◌, Bool, false, cond, not, Option, Some, None, Result, Ok, Err, refl, sym, ap, subst, ◌∙◌, length, arith}
 use Rattle.std.specs.Ordering.{nat_cmp}
 use Rattle.std.specs.Cmp.{nat_cmp_total}
 use Rattle.std.specs.FinMap as finite
@@ -12,6 +12,13 @@ use Rattle.site_base.specs.declared.answer.Answer.{Answer}
 use Rattle.site_base.specs.declared.event.Event.{Event}
 use Rattle.site_base.specs.declared.refusal.Refusal.{Refusal}
 use Rattle.site_base.specs.declared.row.Row.{Row}
+use Rattle.site_base.specs.declared.sale.SaleId.{SaleId}
+use Rattle.site_base.specs.declared.state.PointState.{PointState}
+use Rattle.site_base.specs.declared.state.Preset.TheVariants.{Unset}
+use Rattle.site_base.specs.declared.state.Status.TheVariants.{Payable}
+use Rattle.site_base.specs.declared.view.PointView.{PointView}
+use Rattle.site_base.specs.declared.view.ProductView.{ProductView}
+use Rattle.site_base.specs.declared.view.TransactionView.{TransactionView}
 use Rattle.site_base.specs.Checks.{reply_or, value_or}
 use Rattle.site_base.specs.Configured.{Configured, ConfiguredPoint}
 use Rattle.written_site.specs.SiteState.{SiteState, opening}
@@ -57,8 +64,53 @@ t2 event reply = told (Till 2) event reply
 abbrev pub d1 : Event → Result Answer Refusal → Row
 d1 event reply = told (Dispenser 1) event reply
 
+abbrev pub d2 : Event → Result Answer Refusal → Row
+d2 event reply = told (Dispenser 2) event reply
+
 abbrev pub d3 : Event → Result Answer Refusal → Row
 d3 event reply = told (Dispenser 3) event reply
+
+-- a point in this state with this holder, and nothing else to show
+abbrev pub point : PointState → Option ℕ → PointView
+point state holder = record {
+  state = state;
+  out = None;
+  holder = holder;
+  ending = false;
+  test = false;
+  preset = Unset;
+  prepaid = None;
+  price = 0;
+  volume = 0;
+}
+
+-- the sale with this number in the open shift
+abbrev pub sale : ℕ → SaleId
+sale n = record { shift = None; seq = n }
+
+-- a payable sale of this price, volume, amount and product, which wasn't prepaid
+abbrev pub payable : ℕ → ℕ → ℕ → ℕ → TransactionView
+payable price volume cents product = record {
+  price = price;
+  volume = volume;
+  cents = cents;
+  prepaid = None;
+  status = Payable;
+  till = None;
+  product = product;
+}
+
+-- a product at this price, of which this was metered, and all of its volumes are 0
+abbrev pub product : ℕ → ℕ → ProductView
+product price metered = record {
+  price = price;
+  metered = metered;
+  running = 0;
+  payable = 0;
+  locked = 0;
+  cleared = 0;
+  adjusted = 0;
+}
 
 -- the site after an event that was told so: a refusal leaves it
 abbrev pub site_told : SiteState → Actor → Event → Result Answer Refusal → SiteState

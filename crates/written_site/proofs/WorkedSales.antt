@@ -1,60 +1,106 @@
--- Worked rows of fuellings that end in a sale, or in none.
-use Rattle.std.proofs.Common.{◌≡◌, ℕ, [], ◌∷◌, Option, Some, None, Result, Ok, Err, false, true, refl}
-use Rattle.site_base.specs.declared.answer.Answer.{Answer}
-use Rattle.site_base.specs.declared.answer.Answer.TheVariants.{Done, Calling, Start, Flowed, HungUp, NoSale, Sold, PointIs, TransactionIs, ProductIs}
-use Rattle.site_base.specs.declared.event.Event.TheVariants.{SignOn, Open, Release, ReadPoint, ReadTransaction, ReadProduct, Offline, Online, Lift, Flow, HangUp}
-use Rattle.site_base.specs.declared.refusal.Refusal.{Refusal}
-use Rattle.site_base.specs.declared.refusal.Refusal.TheVariants.{NoSuchTransaction, MeterGap}
+-- Worked rows of fuellings that end in a sale, and of one without fuel.
+use Rattle.std.proofs.Common.{◌≡◌, ℕ, ◌≤◌, [], ◌∷◌, Some, None, Ok, Err, refl, arith}
+use Rattle.site_base.specs.declared.answer.Answer.TheVariants.{Done, Calling, Start, Flowed, NoSale, Sold, PointIs, TransactionIs, ProductIs}
+use Rattle.site_base.specs.declared.event.Event.TheVariants.{SignOn, Open, Close, Release, Prepay, ReadPoint, ReadTransaction, ReadProduct, Lift, Flow, HangUp}
+use Rattle.site_base.specs.declared.refusal.Refusal.TheVariants.{NoSuchTransaction, BadPreset, WrongState, BufferFull}
 use Rattle.site_base.specs.declared.sale.SaleId.{SaleId}
 use Rattle.site_base.specs.declared.state.PointState.TheVariants as states
-use Rattle.site_base.specs.declared.state.Preset.TheVariants.{Unset}
-use Rattle.site_base.specs.declared.state.Status.TheVariants.{Payable}
-use Rattle.written_site.proofs.WorkedRows.{known_site, t1, d1, d3, AreAnswered, answered, kit}
+use Rattle.site_base.specs.declared.state.Preset.TheVariants.{Unset, Volume}
+use Rattle.site_base.specs.Amounts.{amount, IsGreatestVolume}
+use Rattle.site_base.specs.Configured.{Configured}
+use Rattle.written_site.proofs.WorkedRows.{known_site, t1, d1, d3, point, sale, payable, product, AreAnswered, answered, kit}
 
--- the sale with this number in the open shift; in this shift
-abbrev sale : ℕ → SaleId
-sale n = record { shift = None; seq = n }
-
+-- the sale with this number in shift h
 abbrev sale_of_shift : ℕ → ℕ → SaleId
 sale_of_shift h n = record { shift = Some h; seq = n }
 
--- a payable sale of this price, volume, amount and product that wasn't prepaid
-abbrev payable : ℕ → ℕ → ℕ → ℕ → Result Answer Refusal
-payable price volume cents product = Ok (TransactionIs (record {
-  price = price;
-  volume = volume;
-  cents = cents;
-  prepaid = None;
-  status = Payable;
-  till = None;
-  product = product;
-}))
-
--- a product's price, and its metered, running and payable volumes; none is locked, cleared or adjusted
-abbrev product : ℕ → ℕ → ℕ → ℕ → Result Answer Refusal
-product price metered running payable = Ok (ProductIs (record {
-  price = price;
-  metered = metered;
-  running = running;
-  payable = payable;
-  locked = 0;
-  cleared = 0;
-  adjusted = 0;
-}))
-
 -- a calling point is released, and petrol flows: a sale of 12,345 ml and 2,221 cents
-sold_petrol : AreAnswered known_site
+petrol_sold : AreAnswered known_site
     (t1 SignOn (Ok Done)
     ∷ t1 (Open 3) (Ok Done)
     ∷ d3 (Lift 3 2 1000) (Ok Calling)
     ∷ t1 (Release 3 Unset) (Ok Done)
     ∷ d3 (Flow 3 2 13345) (Ok (Flowed 12345))
-    ∷ t1 (ReadProduct 2) (product 1799 12345 12345 0)
+    ∷ t1 (ReadPoint 3) (Ok (PointIs (record (point states.Fuelling (Some 1)) { out = Some 2; price = 1799; volume = 12345 })))
+    ∷ t1 (ReadProduct 2) (Ok (ProductIs (record (product 1799 12345) { running = 12345 })))
     ∷ d3 (HangUp 3 2 13345) (Ok (Sold 1 0))
-    ∷ t1 (ReadTransaction 3 (sale 1)) (payable 1799 12345 2221 2)
-    ∷ t1 (ReadTransaction 3 (sale_of_shift 1 1)) (payable 1799 12345 2221 2)
+    ∷ t1 (ReadTransaction 3 (sale 1)) (Ok (TransactionIs (payable 1799 12345 2221 2)))
+    ∷ t1 (ReadTransaction 3 (sale_of_shift 1 1)) (Ok (TransactionIs (payable 1799 12345 2221 2)))
     ∷ t1 (ReadTransaction 3 (sale_of_shift 2 1)) (Err NoSuchTransaction)
-    ∷ t1 (ReadProduct 2) (product 1799 12345 0 12345)
-    ∷ t1 (ReadProduct 1) (product 1500 0 0 0)
+    ∷ t1 (ReadProduct 2) (Ok (ProductIs (record (product 1799 12345) { payable = 12345 })))
+    ∷ t1 (ReadProduct 1) (Ok (ProductIs (product 1500 0)))
+    ∷ t1 (ReadPoint 3) (Ok (PointIs (point states.Idle None)))
     ∷ [])
-sold_petrol = answered (simp kit)
+petrol_sold = answered (simp kit)
+
+-- what volumes cost: 5,000 ml at 1,799 mills are 900 cents, and 1 ml at 1 mill is 0
+cents_of_5_litres : amount 5000 1799 ≡ 900
+cents_of_5_litres = refl
+
+cents_of_a_millilitre : amount 1 1 ≡ 0
+cents_of_a_millilitre = refl
+
+-- what money buys: 2,000 cents at 1,500 mills
+bought : IsGreatestVolume 2000 1500 13336
+bought = record { affordable = omega arith; greatest = λ n within. omega arith }
+
+-- point 1 of the known site, and diesel at 1 mill
+abbrev cheap_site : Configured
+cheap_site = record {
+  rows = 1000;
+  managers = [];
+  products =
+      record { number = 1; name = 100 ∷ 105 ∷ 101 ∷ 115 ∷ 101 ∷ 108 ∷ []; price = 1 }
+      ∷ record { number = 2; name = 112 ∷ 101 ∷ 116 ∷ 114 ∷ 111 ∷ 108 ∷ []; price = 1799 }
+      ∷ [];
+  points = record {
+    number = 1;
+    nozzles = record { product = 1; reading = 0 } ∷ record { product = 2; reading = 1000 } ∷ [];
+  } ∷ [];
+}
+
+-- a millilitre at 1 mill is sold for 0 cents, and 5,000 ml at 1,799 mills for 900
+cheap_sold : AreAnswered cheap_site
+    (t1 SignOn (Ok Done)
+    ∷ t1 (Open 1) (Ok Done)
+    ∷ t1 (Release 1 Unset) (Ok Done)
+    ∷ d1 (Lift 1 1 0) (Ok (Start Unset 1))
+    ∷ d1 (HangUp 1 1 1) (Ok (Sold 1 1))
+    ∷ t1 (ReadTransaction 1 (sale 1)) (Ok (TransactionIs (payable 1 1 0 1)))
+    ∷ t1 (Release 1 Unset) (Ok Done)
+    ∷ d1 (Lift 1 2 1000) (Ok (Start Unset 1799))
+    ∷ d1 (HangUp 1 2 6000) (Ok (Sold 2 5000))
+    ∷ t1 (ReadTransaction 1 (sale 2)) (Ok (TransactionIs (payable 1799 5000 900 2)))
+    ∷ [])
+cheap_sold = answered (simp kit)
+
+-- no fuel, no sale: the hold ends, and there is no transaction
+nothing_sold : AreAnswered known_site
+    (t1 SignOn (Ok Done)
+    ∷ t1 (Open 1) (Ok Done)
+    ∷ t1 (Release 1 Unset) (Ok Done)
+    ∷ d1 (Lift 1 1 0) (Ok (Start Unset 1500))
+    ∷ d1 (HangUp 1 1 0) (Ok NoSale)
+    ∷ t1 (ReadPoint 1) (Ok (PointIs (point states.Idle None)))
+    ∷ t1 (ReadTransaction 1 (sale 1)) (Err NoSuchTransaction)
+    ∷ [])
+nothing_sold = answered (simp kit)
+
+-- with two unpaid sales a point isn't released; a preset and its state are looked at first
+two_unpaid : AreAnswered known_site
+    (t1 SignOn (Ok Done)
+    ∷ t1 (Open 1) (Ok Done)
+    ∷ t1 (Release 1 Unset) (Ok Done)
+    ∷ d1 (Lift 1 1 0) (Ok (Start Unset 1500))
+    ∷ d1 (HangUp 1 1 1000) (Ok (Sold 1 1000))
+    ∷ t1 (Release 1 Unset) (Ok Done)
+    ∷ d1 (Lift 1 1 1000) (Ok (Start Unset 1500))
+    ∷ d1 (HangUp 1 1 3000) (Ok (Sold 2 2000))
+    ∷ t1 (Release 1 Unset) (Err BufferFull)
+    ∷ t1 (Prepay 1 1) (Err BufferFull)
+    ∷ t1 (Release 1 (Volume 0)) (Err BadPreset)
+    ∷ t1 (Close 1) (Ok Done)
+    ∷ t1 (Release 1 Unset) (Err (WrongState states.Closed))
+    ∷ t1 (Prepay 1 1) (Err (WrongState states.Closed))
+    ∷ [])
+two_unpaid = answered (simp kit)

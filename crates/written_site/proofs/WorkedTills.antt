@@ -1,19 +1,49 @@
--- Worked rows of holds
-use Rattle.std.proofs.Common.{[], ◌∷◌, Ok, Err, refl}
-use Rattle.site_base.specs.declared.answer.Answer.TheVariants.{Done}
-use Rattle.site_base.specs.declared.event.Event.TheVariants.{SignOn, Open, Release}
-use Rattle.site_base.specs.declared.refusal.Refusal.TheVariants.{AssignedToOther, WrongState}
-use Rattle.site_base.specs.declared.state.PointState.TheVariants.{Authorised}
+-- Worked rows of two tills at one point.
+use Rattle.std.proofs.Common.{[], ◌∷◌, Some, None, Ok, Err}
+use Rattle.site_base.specs.declared.answer.Answer.TheVariants.{Done, Stopped, PointIs}
+use Rattle.site_base.specs.declared.event.Event.TheVariants.{SignOn, SignOff, Open, Assign, Release, Terminate, ReadPoint}
+use Rattle.site_base.specs.declared.refusal.Refusal.TheVariants.{NotSignedOn, AssignedToOther, WrongState}
+use Rattle.site_base.specs.declared.state.PointState.TheVariants.{Idle, Authorised}
 use Rattle.site_base.specs.declared.state.Preset.TheVariants.{Unset}
-use Rattle.written_site.proofs.WorkedRows.{known_site, t1, t2, AreAnswered, answered, kit}
+use Rattle.written_site.proofs.WorkedRows.{known_site, t1, t2, point, AreAnswered, answered, kit}
 
 -- a released point is held by the till that released it; another till is told who holds it
-released_by_one : AreAnswered known_site
+released_by_till_1 : AreAnswered known_site
     (t1 SignOn (Ok Done)
     ∷ t1 (Open 3) (Ok Done)
+    ∷ t1 (ReadPoint 3) (Ok (PointIs (point Idle None)))
     ∷ t1 (Release 3 Unset) (Ok Done)
+    ∷ t1 (ReadPoint 3) (Ok (PointIs (point Authorised (Some 1))))
     ∷ t2 SignOn (Ok Done)
     ∷ t2 (Release 3 Unset) (Err (AssignedToOther 1))
     ∷ t1 (Release 3 Unset) (Err (WrongState Authorised))
     ∷ [])
-released_by_one = answered (simp kit)
+released_by_till_1 = answered (simp kit)
+
+-- a till that isn't signed on doesn't release
+not_signed_on : AreAnswered known_site (t1 (Release 3 Unset) (Err NotSignedOn) ∷ [])
+not_signed_on = answered (simp kit)
+
+-- with till 2 first, till 1 is told that it holds the point
+released_by_till_2 : AreAnswered known_site
+    (t1 SignOn (Ok Done)
+    ∷ t1 (Open 3) (Ok Done)
+    ∷ t2 SignOn (Ok Done)
+    ∷ t2 (Release 3 Unset) (Ok Done)
+    ∷ t1 (Release 3 Unset) (Err (AssignedToOther 2))
+    ∷ [])
+released_by_till_2 = answered (simp kit)
+
+-- a point is held by a till that signed off while it was released, until a manager terminates that
+held_after_sign_off : AreAnswered known_site
+    (t1 SignOn (Ok Done)
+    ∷ t2 SignOn (Ok Done)
+    ∷ t2 (Open 1) (Ok Done)
+    ∷ t2 (Release 1 Unset) (Ok Done)
+    ∷ t2 SignOff (Ok Done)
+    ∷ t1 (Assign 1) (Err (AssignedToOther 2))
+    ∷ t1 (ReadPoint 1) (Ok (PointIs (point Authorised (Some 2))))
+    ∷ t1 (Terminate 1) (Ok Stopped)
+    ∷ t1 (ReadPoint 1) (Ok (PointIs (point Idle None)))
+    ∷ [])
+held_after_sign_off = answered (simp kit)
