@@ -24,3 +24,6 @@ pub mod WorkedSound
 pub mod WorkedRows
 pub mod WorkedTills
 pub mod WorkedSales
+pub mod WorkedFuelling
+pub mod WorkedPrepaid
+pub mod WorkedDraws
