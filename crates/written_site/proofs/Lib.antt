@@ -27,3 +27,4 @@ pub mod WorkedSales
 pub mod WorkedFuelling
 pub mod WorkedPrepaid
 pub mod WorkedDraws
+pub mod WorkedMeters

@@ -1,9 +1,8 @@
--- Worked rows of test draws and replaced meters.
-use Rattle.std.proofs.Common.{◌++◌, [], ◌∷◌, true, Some, None, Ok, Err}
-use Rattle.std.specs.Prelude.{replicate}
+-- Worked rows of test draws, and of a meter that was replaced.
+use Rattle.std.proofs.Common.{[], ◌∷◌, true, Some, None, Ok, Err}
 use Rattle.site_base.specs.declared.answer.Answer.TheVariants.{Done, Calling, Start, Flowed, NoSale, Sold, Drawn, PointIs, ProductIs}
 use Rattle.site_base.specs.declared.event.Event.TheVariants.{SignOn, Open, Close, Release, TestRelease, ReplaceMeter, ReadPoint, ReadTransaction, ReadProduct, Offline, Lift, Flow, HangUp}
-use Rattle.site_base.specs.declared.refusal.Refusal.TheVariants.{NoSuchTransaction, NotManager, WrongState, BufferFull, MeterGap, MeterSpent}
+use Rattle.site_base.specs.declared.refusal.Refusal.TheVariants.{NoSuchTransaction, NotManager, WrongState, BufferFull, MeterGap}
 use Rattle.site_base.specs.declared.state.PointState.TheVariants.{Idle, Authorised}
 use Rattle.site_base.specs.declared.state.Preset.TheVariants.{Unset}
 use Rattle.written_site.proofs.WorkedRows.{known_site, t1, t2, d1, point, sale, product, AreAnswered, answered, kit}
@@ -64,14 +63,3 @@ drawn_offline : AreAnswered known_site
     ∷ t1 (ReplaceMeter 1 1 0) (Ok Done)
     ∷ [])
 drawn_offline = answered (simp kit)
-
--- a nozzle's meter is replaced 99 times, no more; its neighbour's is its own
-replaced_99_times : AreAnswered known_site
-    (t1 SignOn (Ok Done)
-    ∷ replicate 99 (t1 (ReplaceMeter 1 1 7) (Ok Done))
-    ++ t1 (ReplaceMeter 1 1 7) (Err MeterSpent)
-    ∷ t1 (ReplaceMeter 1 2 7) (Ok Done)
-    ∷ t1 (Open 1) (Ok Done)
-    ∷ t1 (ReplaceMeter 1 1 7) (Err (WrongState Idle))
-    ∷ [])
-replaced_99_times = answered (simp kit)

@@ -135,7 +135,7 @@ leads s r is =
     by_refusal (Some refusal) = refl
 
 -- rows that are told these replies are a legal history
-legal : (s : SiteState) (rows : List Row) → replies_on s rows ≡ replies_of rows → IsLegal s rows
+pub legal : (s : SiteState) (rows : List Row) → replies_on s rows ≡ replies_of rows → IsLegal s rows
 legal s [] all = tt
 legal s (r ∷ rs) all =
     let here : r.reply ≡ reply_to s r.actor r.event = cc in
