@@ -20,6 +20,7 @@ pub mod Sound
 pub mod SoundOpening
 pub mod SoundSums
 pub mod SoundUses
+pub mod SoundRuns
 pub mod WorkedSound
 pub mod WorkedRows
 pub mod WorkedTills
