@@ -20,8 +20,9 @@ pub fn legal_histories_are_runs()
 
 /// For every list of events from the opening site of any configuration: between takes of a fuelling point
 /// by two different tills stands an end of the first one's hold. A take is an accepted Assign,
-/// Release, Prepay or TestRelease; an end is an accepted Unassign, an answer that tells that the release is
-/// taken back or the fuelling over, or the holder's sign-off while the point is closed, idle or calling.
+/// Release, Prepay or TestRelease; an end is an accepted Unassign, the dispenser going Offline, an
+/// answer that tells that the release is taken back or the fuelling over, or the holder's sign-off
+/// while the point is closed, idle or calling.
 pub fn held_by_one()
     ensures { IsHeldByOne }
 {}
