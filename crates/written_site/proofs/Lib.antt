@@ -29,3 +29,4 @@ pub mod WorkedFuelling
 pub mod WorkedPrepaid
 pub mod WorkedDraws
 pub mod WorkedMeters
+pub mod WorkedRoom

@@ -24,7 +24,7 @@ use Rattle.site_base.specs.Configured.{Configured, ConfiguredPoint}
 use Rattle.written_site.specs.SiteState.{SiteState, opening}
 use Rattle.written_site.specs.SiteChecks.{first_refusal}
 use Rattle.written_site.specs.SiteStep.{accepted_site, site_answer, reply_to, site_after}
-use Rattle.written_site.specs.SiteRun.{IsLegal, replies_of}
+use Rattle.written_site.specs.SiteRun.{site_at_end, IsLegal, events_of, replies_of}
 
 -- a point with nozzle 1 of diesel, from reading 0, and nozzle 2 of petrol, from reading 1000
 abbrev point_with_two : ℕ → ConfiguredPoint
@@ -142,6 +142,21 @@ legal s (r ∷ rs) all =
     let rest : replies_on (site_told s r.actor r.event r.reply) rs ≡ replies_of rs = cc in
     (here, subst (λ x. IsLegal x rs) (leads s r here)
     (legal (site_told s r.actor r.event r.reply) rs rest))
+
+-- the site that rows tell of, one after another
+abbrev pub site_on : SiteState → List Row → SiteState
+site_on s [] = s
+site_on s (r ∷ rs) = site_on (site_told s r.actor r.event r.reply) rs
+
+-- rows that are told the site's replies tell of the site that their events lead to
+pub leads_on : (s : SiteState) (rows : List Row) → replies_on s rows ≡ replies_of rows
+    → site_at_end s (events_of rows) ≡ site_on s rows
+leads_on s [] all = refl
+leads_on s (r ∷ rs) all =
+    let here : r.reply ≡ reply_to s r.actor r.event = cc in
+    let rest : replies_on (site_told s r.actor r.event r.reply) rs ≡ replies_of rs = cc in
+    ap (λ x. site_at_end x (events_of rs)) (sym (leads s r here))
+    ∙ leads_on (site_told s r.actor r.event r.reply) rs rest
 
 -- from the opening site of this configuration, each of these events is answered with its reply
 pub record AreAnswered (c : Configured) (rows : List Row) : Type 0 where
