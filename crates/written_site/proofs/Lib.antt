@@ -30,3 +30,4 @@ pub mod WorkedPrepaid
 pub mod WorkedDraws
 pub mod WorkedMeters
 pub mod WorkedRoom
+pub mod WorkedEnds

@@ -123,7 +123,7 @@ replies_on s [] = []
 replies_on s (r ∷ rs) =
     reply_to s r.actor r.event ∷ replies_on (site_told s r.actor r.event r.reply) rs
 
-leads : (s : SiteState) (r : Row) → r.reply ≡ reply_to s r.actor r.event
+pub leads : (s : SiteState) (r : Row) → r.reply ≡ reply_to s r.actor r.event
     → site_told s r.actor r.event r.reply ≡ site_after s r.actor r.event
 leads s r is =
     ap (site_told s r.actor r.event) is ∙ by_refusal (first_refusal s r.actor r.event)
