@@ -8,10 +8,10 @@ use Rattle.site_base.specs.declared.state.Preset.TheVariants.{Unset, Money}
 use Rattle.site_base.specs.Configured.{Configured}
 use Rattle.written_site.specs.SiteState.{SiteState, opening, holder_of}
 use Rattle.written_site.specs.SiteStep.{reply_to, site_after}
-use Rattle.written_site.specs.SiteRun.{replies_of, IsLegal}
+use Rattle.written_site.specs.SiteRun.{replies_of}
 use Rattle.written_site.specs.Histories.{Moment, moments_after, moments_of}
 use Rattle.written_site.specs.Holders.{takes_hold, ends_hold}
-use Rattle.written_site.proofs.WorkedRows.{known_site, t1, t2, d1, site_told, replies_on, leads, legal, kit}
+use Rattle.written_site.proofs.WorkedRows.{known_site, t1, t2, d1, site_told, replies_on, leads, AreAnswered, answered, kit}
 
 -- what a row is to the hold of a point: the till that takes it, whether it ends the hold of the till
 -- that is looked at, and the till that holds the point then
@@ -66,10 +66,10 @@ effects_are p t earlier s (r ∷ rs) all =
       holder = holder_of (site_told s r.actor r.event r.reply) p;
     } ∷ es) (effects_are p t (earlier ++ r ∷ []) (site_told s r.actor r.event r.reply) rs rest)
 
--- from the opening site of this configuration these rows are legal, and each is this to the hold that
--- till t may have of point p
+-- from the opening site of this configuration these are the replies, and each row is this to the hold
+-- that till t may have of point p
 record AreHolds (c : Configured) (p t : ℕ) (rows : List (Row × Effect)) : Type 0 where
-  legal : IsLegal (opening c) (map (λ r. r.0) rows)
+  answered : AreAnswered c (map (λ r. r.0) rows)
   effects : map (effect p t) (moments_of c (map (λ r. r.0) rows)) ≡ map (λ r. r.1) rows
 
 held : {c : Configured} {p t : ℕ} {rows : List (Row × Effect)}
@@ -77,7 +77,7 @@ held : {c : Configured} {p t : ℕ} {rows : List (Row × Effect)}
     → effects_on p t (opening c) (map (λ r. r.0) rows) ≡ map (λ r. r.1) rows
     → AreHolds c p t rows
 held {c} {p} {t} {rows} told effects = record {
-  legal = legal (opening c) (map (λ r. r.0) rows) told;
+  answered = answered told;
   effects = effects_are p t [] (opening c) (map (λ r. r.0) rows) told ∙ effects;
 }
 

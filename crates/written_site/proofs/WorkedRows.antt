@@ -24,7 +24,8 @@ use Rattle.site_base.specs.Configured.{Configured, ConfiguredPoint}
 use Rattle.written_site.specs.SiteState.{SiteState, opening}
 use Rattle.written_site.specs.SiteChecks.{first_refusal}
 use Rattle.written_site.specs.SiteStep.{accepted_site, site_answer, reply_to, site_after}
-use Rattle.written_site.specs.SiteRun.{site_at_end, IsLegal, events_of, replies_of}
+use Rattle.written_site.specs.SiteRun.{replies_to, site_at_end, IsLegal, events_of, replies_of}
+use Rattle.written_site.proofs.Bridge.{legal_histories_are_runs}
 
 -- a point with nozzle 1 of diesel, from reading 0, and nozzle 2 of petrol, from reading 1000
 abbrev point_with_two : ℕ → ConfiguredPoint
@@ -158,13 +159,18 @@ leads_on s (r ∷ rs) all =
     ap (λ x. site_at_end x (events_of rs)) (sym (leads s r here))
     ∙ leads_on (site_told s r.actor r.event r.reply) rs rest
 
--- from the opening site of this configuration, each of these events is answered with its reply
+-- these are the site's replies to the events of these rows, one after another, from its opening on
 pub record AreAnswered (c : Configured) (rows : List Row) : Type 0 where
-  pub legal : IsLegal (opening c) rows
+  pub replies : replies_to (opening c) (events_of rows) ≡ replies_of rows
+
+pub answered_when_legal : {c : Configured} {rows : List Row} → IsLegal (opening c) rows
+    → AreAnswered c rows
+answered_when_legal {c} {rows} legal =
+    record { replies = sym (legal_histories_are_runs.run (opening c) rows legal).replies }
 
 pub answered : {c : Configured} {rows : List Row} → replies_on (opening c) rows ≡ replies_of rows
     → AreAnswered c rows
-answered {c} {rows} all = record { legal = legal (opening c) rows all }
+answered {c} {rows} all = answered_when_legal (legal (opening c) rows all)
 
 -- what outlives a sign-off
 pub get_kept : {X : Type 0} (m : FinMap nat_cmp X) (keeps : ℕ → Bool) (q : ℕ)
