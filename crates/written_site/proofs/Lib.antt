@@ -31,3 +31,5 @@ pub mod WorkedDraws
 pub mod WorkedMeters
 pub mod WorkedRoom
 pub mod WorkedEnds
+pub mod WorkedChecks
+pub mod WorkedReports

@@ -1,8 +1,8 @@
 -- Worked takes and ends of the hold of a point, by every event that takes it and every reply that
 -- tells an end.
-use Rattle.std.proofs.Common.{◌≡◌, ℕ, Bool, false, true, List, [], ◌∷◌, ◌++◌, map, Option, Some, None, Ok, refl, sym, ap, subst, ◌∙◌}
+use Rattle.std.proofs.Common.{◌≡◌, ℕ, Bool, false, true, List, [], ◌∷◌, ◌++◌, map, Option, Some, None, Ok, refl, sym, ap, ◌∙◌}
 use Rattle.site_base.specs.declared.answer.Answer.TheVariants.{Done, Start, Flowed, NoSale, Sold, Stopped, Drawn, Ending}
-use Rattle.site_base.specs.declared.event.Event.TheVariants.{SignOn, SignOff, Open, Assign, Unassign, Release, Prepay, TestRelease, Terminate, Online, Offline, Lift, Flow, HangUp}
+use Rattle.site_base.specs.declared.event.Event.TheVariants.{SignOn, SignOff, Open, Assign, Release, Prepay, TestRelease, Terminate, Online, Offline, Lift, Flow, HangUp}
 use Rattle.site_base.specs.declared.row.Row.{Row}
 use Rattle.site_base.specs.declared.state.Preset.TheVariants.{Unset, Money}
 use Rattle.site_base.specs.Configured.{Configured}
@@ -11,7 +11,7 @@ use Rattle.written_site.specs.SiteStep.{reply_to, site_after}
 use Rattle.written_site.specs.SiteRun.{replies_of}
 use Rattle.written_site.specs.Histories.{Moment, moments_after, moments_of}
 use Rattle.written_site.specs.Holders.{takes_hold, ends_hold}
-use Rattle.written_site.proofs.WorkedRows.{known_site, t1, t2, d1, site_told, replies_on, leads, AreAnswered, answered, kit}
+use Rattle.written_site.proofs.WorkedRows.{known_site, t1, d1, site_told, replies_on, leads, AreAnswered, answered, kit}
 
 -- what a row is to the hold of a point: the till that takes it, whether it ends the hold of the till
 -- that is looked at, and the till that holds the point then

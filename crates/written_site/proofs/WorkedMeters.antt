@@ -1,5 +1,5 @@
 -- Worked rows of a meter that is replaced as often as it may be.
-use Rattle.std.proofs.Common.{◌≡◌, ℕ, zero, suc, ◌+◌, ◌<◌, ◌≤◌, List, [], ◌∷◌, ◌++◌, true, Ok, Err, refl, sym, ap, subst, arith}
+use Rattle.std.proofs.Common.{◌≡◌, ℕ, zero, suc, ◌+◌, ◌<◌, ◌≤◌, List, [], ◌∷◌, ◌++◌, true, Ok, Err, sym, subst, arith}
 use Rattle.std.proofs.lemmas.Bool.Decides.{nat_tests}
 use Rattle.std.specs.Prelude.{replicate, nat_lt}
 use Rattle.std.specs.FinSet as set
@@ -52,8 +52,8 @@ again zero k rest few later = subst (λ (i : ℕ). IsLegal (after i) rest) (omeg
 again (suc n) k rest few later = (
   sym (is_done k (omega arith)),
   subst (λ x. IsLegal x (replicate n replaced ++ rest)) (sym (leads k (omega arith)))
-  (again n (k + 1) rest (omega arith)
-  (subst (λ (i : ℕ). IsLegal (after i) rest) (omega arith) later)),
+      (again n (k + 1) rest (omega arith)
+      (subst (λ (i : ℕ). IsLegal (after i) rest) (omega arith) later)),
 )
 
 -- till 1 signs on, and replaces it for the first time

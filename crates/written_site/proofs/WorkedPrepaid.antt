@@ -1,5 +1,5 @@
 -- Worked rows of prepaid fuellings: whose their sale is.
-use Rattle.std.proofs.Common.{[], ◌∷◌, Some, None, Ok, Err}
+use Rattle.std.proofs.Common.{[], ◌∷◌, Some, Ok, Err}
 use Rattle.site_base.specs.declared.answer.Answer.TheVariants.{Done, Start, Sold, PointIs, TransactionIs, ProductIs}
 use Rattle.site_base.specs.declared.event.Event.TheVariants.{SignOn, SignOff, Open, Release, Prepay, Suspend, ReadPoint, ReadTransaction, ReadProduct, Lift, HangUp}
 use Rattle.site_base.specs.declared.refusal.Refusal.TheVariants.{AssignedToOther}

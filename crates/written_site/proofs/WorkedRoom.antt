@@ -1,17 +1,14 @@
 -- A sound site at which a point sells, and one at which it draws: there the laws of volumes and of room
 -- have their premises met, and speak of these figures.
-use Rattle.std.proofs.Common.{◌≡◌, ℕ, ◌+◌, ◌^◌, ◌<◌, List, [], ◌∷◌, Some, None, Ok, refl, subst, arith}
+use Rattle.std.proofs.Common.{◌≡◌, ℕ, ◌+◌, ◌^◌, ◌<◌, List, [], ◌∷◌, None, Ok, refl, subst, arith}
 use Rattle.site_base.specs.declared.actor.Actor.TheVariants.{Dispenser}
 use Rattle.site_base.specs.declared.answer.Answer.TheVariants.{Done, Start, Flowed}
 use Rattle.site_base.specs.declared.event.Event.{Event}
 use Rattle.site_base.specs.declared.event.Event.TheVariants.{SignOn, Open, Release, TestRelease, Lift, Flow, HangUp, Offline}
 use Rattle.site_base.specs.declared.row.Row.{Row}
 use Rattle.site_base.specs.declared.state.Preset.TheVariants.{Unset}
-use Rattle.fuelling_point.specs.declared.event.PointEvent.{PointEvent}
 use Rattle.fuelling_point.specs.declared.event.PointEvent.TheVariants as points
-use Rattle.fuelling_point.specs.declared.step.PointStep.TheVariants.{Sold, Drawn}
-use Rattle.fuelling_point.specs.Step.{step_of}
-use Rattle.written_site.specs.SiteState.{SiteState, opening, facts_of}
+use Rattle.written_site.specs.SiteState.{SiteState, opening}
 use Rattle.written_site.specs.SiteChecks.{own_event}
 use Rattle.written_site.specs.SiteRun.{events_of, replies_of}
 use Rattle.written_site.specs.Sound.{IsFit, Sound}

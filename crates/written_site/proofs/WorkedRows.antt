@@ -1,15 +1,16 @@
 -- The words of the worked rows: the known site, and rows of who asks what and is told what. Rows are
 -- worked one after another; where each is told what the site replies, they are a legal history.
-use Rattle.std.proofs.Common.{◌≡◌, ℕ, List, [], ◌∷◌, Bool, false, cond, not, Option, Some, None, Result, Ok, Err, refl, sym, ap, subst, ◌∙◌, length, arith}
+use Rattle.std.proofs.Common.{◌≡◌, ℕ, List, [], ◌∷◌, Bool, false, cond, Option, Some, None, Result, Ok, Err, refl, sym, ap, subst, ◌∙◌, length, arith}
 use Rattle.std.specs.Ordering.{nat_cmp}
-use Rattle.std.specs.Cmp.{nat_cmp_total}
 use Rattle.std.specs.FinMap as finite
 use Rattle.std.specs.FinMap.{FinMap, entries, entries-insert, len-entries, len-empty, get-retain_keys, nat_cmp-IsAntisymmetric, gets}
 use Rattle.std.specs.FinSet.{members}
 use Rattle.site_base.specs.declared.actor.Actor.{Actor}
 use Rattle.site_base.specs.declared.actor.Actor.TheVariants.{Till, Dispenser}
 use Rattle.site_base.specs.declared.answer.Answer.{Answer}
+use Rattle.site_base.specs.declared.answer.Answer.TheVariants.{Done}
 use Rattle.site_base.specs.declared.event.Event.{Event}
+use Rattle.site_base.specs.declared.event.Event.TheVariants.{SignOn, Open, Assign}
 use Rattle.site_base.specs.declared.refusal.Refusal.{Refusal}
 use Rattle.site_base.specs.declared.row.Row.{Row}
 use Rattle.site_base.specs.declared.sale.SaleId.{SaleId}
@@ -62,6 +63,9 @@ t1 event reply = told (Till 1) event reply
 abbrev pub t2 : Event → Result Answer Refusal → Row
 t2 event reply = told (Till 2) event reply
 
+abbrev pub t3 : Event → Result Answer Refusal → Row
+t3 event reply = told (Till 3) event reply
+
 abbrev pub d1 : Event → Result Answer Refusal → Row
 d1 event reply = told (Dispenser 1) event reply
 
@@ -113,6 +117,16 @@ product price metered = record {
   adjusted = 0;
 }
 
+-- the tills 1 and 2 sign on and take a point each, and point 3 is opened
+abbrev pub at_work : List Row
+at_work =
+    t1 SignOn (Ok Done)
+    ∷ t2 SignOn (Ok Done)
+    ∷ t1 (Assign 1) (Ok Done)
+    ∷ t2 (Assign 2) (Ok Done)
+    ∷ t1 (Open 3) (Ok Done)
+    ∷ []
+
 -- the site after an event that was told so: a refusal leaves it
 abbrev pub site_told : SiteState → Actor → Event → Result Answer Refusal → SiteState
 site_told s actor event (Ok answer) = accepted_site s actor event
@@ -140,9 +154,11 @@ pub legal : (s : SiteState) (rows : List Row) → replies_on s rows ≡ replies_
 legal s [] all = tt
 legal s (r ∷ rs) all =
     let here : r.reply ≡ reply_to s r.actor r.event = cc in
-    let rest : replies_on (site_told s r.actor r.event r.reply) rs ≡ replies_of rs = cc in
-    (here, subst (λ x. IsLegal x rs) (leads s r here)
-    (legal (site_told s r.actor r.event r.reply) rs rest))
+    let rest : replies_on (site_told s r.actor r.event r.reply) rs ≡ replies_of rs = cc in (
+      here,
+      subst (λ x. IsLegal x rs) (leads s r here)
+          (legal (site_told s r.actor r.event r.reply) rs rest),
+    )
 
 -- the site that rows tell of, one after another
 abbrev pub site_on : SiteState → List Row → SiteState

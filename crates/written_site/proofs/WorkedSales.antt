@@ -1,5 +1,6 @@
 -- Worked rows of fuellings that end in a sale, and of one without fuel.
-use Rattle.std.proofs.Common.{◌≡◌, ℕ, ◌≤◌, [], ◌∷◌, Some, None, Ok, Err, refl, arith}
+use Rattle.std.proofs.Common.{◌≡◌, ℕ, [], ◌∷◌, Some, None, Ok, Err, refl, arith}
+use Rattle.site_base.specs.declared.actor.Actor.TheVariants.{Till, Dispenser}
 use Rattle.site_base.specs.declared.answer.Answer.TheVariants.{Done, Calling, Start, Flowed, NoSale, Sold, PointIs, TransactionIs, ProductIs}
 use Rattle.site_base.specs.declared.event.Event.TheVariants.{SignOn, Open, Close, Release, Prepay, ReadPoint, ReadTransaction, ReadProduct, Lift, Flow, HangUp}
 use Rattle.site_base.specs.declared.refusal.Refusal.TheVariants.{NoSuchTransaction, BadPreset, WrongState, BufferFull}
@@ -8,7 +9,7 @@ use Rattle.site_base.specs.declared.state.PointState.TheVariants as states
 use Rattle.site_base.specs.declared.state.Preset.TheVariants.{Unset, Volume}
 use Rattle.site_base.specs.Amounts.{amount, IsGreatestVolume}
 use Rattle.site_base.specs.Configured.{Configured}
-use Rattle.written_site.proofs.WorkedRows.{known_site, t1, d1, d3, point, sale, payable, product, AreAnswered, answered, kit}
+use Rattle.written_site.proofs.WorkedRows.{known_site, told, t1, d1, d3, point, sale, payable, product, AreAnswered, answered, kit}
 
 -- the sale with this number in shift h
 abbrev sale_of_shift : ℕ → ℕ → SaleId
@@ -104,3 +105,27 @@ two_unpaid : AreAnswered known_site
     ∷ t1 (Prepay 1 1) (Err (WrongState states.Closed))
     ∷ [])
 two_unpaid = answered (simp kit)
+
+-- the last point alone, with a nozzle of diesel
+abbrev last_point : Configured
+last_point = record {
+  rows = 1000;
+  managers = 1 ∷ [];
+  products = record {
+    number = 1;
+    name = 100 ∷ 105 ∷ 101 ∷ 115 ∷ 101 ∷ 108 ∷ [];
+    price = 1500;
+  } ∷ [];
+  points = record { number = 64; nozzles = record { product = 1; reading = 0 } ∷ [] } ∷ [];
+}
+
+-- the last point sells, and the last till asks for it
+last_point_sold : AreAnswered last_point
+    (told (Till 32) SignOn (Ok Done)
+    ∷ told (Till 32) (Open 64) (Ok Done)
+    ∷ told (Till 32) (Release 64 Unset) (Ok Done)
+    ∷ told (Dispenser 64) (Lift 64 1 0) (Ok (Start Unset 1500))
+    ∷ told (Dispenser 64) (HangUp 64 1 10) (Ok (Sold 1 10))
+    ∷ told (Till 32) (ReadTransaction 64 (sale 1)) (Ok (TransactionIs (payable 1500 10 2 1)))
+    ∷ [])
+last_point_sold = answered (simp kit)

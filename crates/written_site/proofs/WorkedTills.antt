@@ -1,9 +1,9 @@
 -- Worked rows of two tills at one point.
 use Rattle.std.proofs.Common.{[], ◌∷◌, Some, None, Ok, Err}
 use Rattle.site_base.specs.declared.answer.Answer.TheVariants.{Done, Stopped, PointIs}
-use Rattle.site_base.specs.declared.event.Event.TheVariants.{SignOn, SignOff, Open, Assign, Release, Terminate, ReadPoint}
-use Rattle.site_base.specs.declared.refusal.Refusal.TheVariants.{NotSignedOn, AssignedToOther, WrongState}
-use Rattle.site_base.specs.declared.state.PointState.TheVariants.{Idle, Authorised}
+use Rattle.site_base.specs.declared.event.Event.TheVariants.{SignOn, SignOff, Open, Assign, Unassign, Release, Terminate, ReadPoint}
+use Rattle.site_base.specs.declared.refusal.Refusal.TheVariants.{NotSignedOn, SignedOn, AssignedToOther, NotYours, WrongState}
+use Rattle.site_base.specs.declared.state.PointState.TheVariants.{Closed, Idle, Authorised}
 use Rattle.site_base.specs.declared.state.Preset.TheVariants.{Unset}
 use Rattle.written_site.proofs.WorkedRows.{known_site, t1, t2, point, AreAnswered, answered, kit}
 
@@ -47,3 +47,16 @@ held_after_sign_off : AreAnswered known_site
     ∷ t1 (ReadPoint 1) (Ok (PointIs (point Idle None)))
     ∷ [])
 held_after_sign_off = answered (simp kit)
+
+-- a till signs on once; another till is refused what it holds, and it is given back once
+given_back_once : AreAnswered known_site
+    (t1 SignOn (Ok Done)
+    ∷ t1 SignOn (Err SignedOn)
+    ∷ t2 SignOn (Ok Done)
+    ∷ t1 (Assign 2) (Ok Done)
+    ∷ t2 (Assign 2) (Err (AssignedToOther 1))
+    ∷ t2 (ReadPoint 2) (Ok (PointIs (point Closed (Some 1))))
+    ∷ t1 (Unassign 2) (Ok Done)
+    ∷ t1 (Unassign 2) (Err NotYours)
+    ∷ [])
+given_back_once = answered (simp kit)
