@@ -23,6 +23,7 @@ pub mod SoundUses
 pub mod SoundRuns
 pub mod WorkedSound
 pub mod WorkedRows
+pub mod WorkedReplies
 pub mod WorkedTills
 pub mod WorkedSales
 pub mod WorkedFuelling

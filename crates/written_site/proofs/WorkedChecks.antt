@@ -1,11 +1,12 @@
--- Worked rows of the order of the checks of what tills ask: of two that fail the earlier one decides.
+-- Worked rows of the order of the checks of what tills ask: of two that fail the earlier decides.
 use Rattle.std.proofs.Common.{[], ◌∷◌, ◌++◌, Ok, Err}
 use Rattle.site_base.specs.declared.answer.Answer.TheVariants.{Done, Start, Stopped}
 use Rattle.site_base.specs.declared.event.Event.TheVariants.{SignOn, Open, Assign, Release, Prepay, TestRelease, Suspend, Resume, Terminate, ReplaceMeter, ReadTransaction, ReadProduct, Lift}
 use Rattle.site_base.specs.declared.refusal.Refusal.TheVariants.{NotSignedOn, NoSuchPoint, NoSuchNozzle, NoSuchProduct, NoSuchTransaction, NotManager, BadPreset, AssignedToOther, NotYourPoint, WrongState}
 use Rattle.site_base.specs.declared.state.PointState.TheVariants.{Closed, Idle}
 use Rattle.site_base.specs.declared.state.Preset.TheVariants.{Unset, Volume, Money}
-use Rattle.written_site.proofs.WorkedRows.{known_site, t1, t2, t3, d1, at_work, sale, AreAnswered, answered, kit}
+use Rattle.written_site.proofs.WorkedRows.{known_site, t1, t2, t3, d1, at_work, sale, AreAnswered}
+use Rattle.written_site.proofs.WorkedReplies.{answered, kit}
 
 -- Release and Prepay: signed on, point, range, holder, state
 released : AreAnswered known_site

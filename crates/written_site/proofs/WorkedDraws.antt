@@ -5,9 +5,11 @@ use Rattle.site_base.specs.declared.event.Event.TheVariants.{SignOn, Open, Close
 use Rattle.site_base.specs.declared.refusal.Refusal.TheVariants.{NoSuchTransaction, NotManager, WrongState, BufferFull, MeterGap}
 use Rattle.site_base.specs.declared.state.PointState.TheVariants.{Idle, Authorised}
 use Rattle.site_base.specs.declared.state.Preset.TheVariants.{Unset}
-use Rattle.written_site.proofs.WorkedRows.{known_site, t1, t2, d1, point, sale, product, AreAnswered, answered, kit}
+use Rattle.written_site.proofs.WorkedRows.{known_site, t1, t2, d1, point, sale, product, AreAnswered}
+use Rattle.written_site.proofs.WorkedReplies.{answered, kit}
 
--- a test draw: managers alone, no sale, and the fuel is adjusted; a replaced meter keeps what was metered
+-- a test draw: managers alone, no sale, and the fuel is adjusted; a replaced meter keeps what was
+-- metered
 drawn : AreAnswered known_site
     (t1 SignOn (Ok Done)
     ∷ t1 (Open 1) (Ok Done)

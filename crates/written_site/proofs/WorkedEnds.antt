@@ -11,10 +11,11 @@ use Rattle.written_site.specs.SiteStep.{reply_to, site_after}
 use Rattle.written_site.specs.SiteRun.{replies_of}
 use Rattle.written_site.specs.Histories.{Moment, moments_after, moments_of}
 use Rattle.written_site.specs.Holders.{takes_hold, ends_hold}
-use Rattle.written_site.proofs.WorkedRows.{known_site, t1, d1, site_told, replies_on, leads, AreAnswered, answered, kit}
+use Rattle.written_site.proofs.WorkedRows.{known_site, t1, d1, AreAnswered}
+use Rattle.written_site.proofs.WorkedReplies.{site_told, replies_on, leads, answered, kit}
 
--- what a row is to the hold of a point: the till that takes it, whether it ends the hold of the till
--- that is looked at, and the till that holds the point then
+-- what a row is to the hold of a point: the till that takes it, whether it ends the hold of the
+-- till that is looked at, and the till that holds the point then
 record Effect : Type 0 where
   take : Option ℕ
   ends : Bool
@@ -66,8 +67,8 @@ effects_are p t earlier s (r ∷ rs) all =
       holder = holder_of (site_told s r.actor r.event r.reply) p;
     } ∷ es) (effects_are p t (earlier ++ r ∷ []) (site_told s r.actor r.event r.reply) rs rest)
 
--- from the opening site of this configuration these are the replies, and each row is this to the hold
--- that till t may have of point p
+-- from the opening site of this configuration these are the replies, and each row is this to the
+-- hold that till t may have of point p
 record AreHolds (c : Configured) (p t : ℕ) (rows : List (Row × Effect)) : Type 0 where
   answered : AreAnswered c (map (λ r. r.0) rows)
   effects : map (effect p t) (moments_of c (map (λ r. r.0) rows)) ≡ map (λ r. r.1) rows
@@ -114,8 +115,7 @@ hung_up : AreHolds known_site 1 1
     ∷ [])
 hung_up = held (simp kit) (simp kit)
 
--- a dispenser that goes offline ends the hold, whatever the point does: of a point that no fuelling is
--- under way at, in a fuelling, and in a test
+-- a dispenser that goes offline ends the hold: of a closed point, in a fuelling, and in a test
 gone : AreHolds known_site 1 1
     ((t1 SignOn (Ok Done), holder_stays None)
     ∷ (t1 (Assign 1) (Ok Done), taken_by 1)

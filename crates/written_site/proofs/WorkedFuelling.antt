@@ -1,5 +1,5 @@
--- Worked rows of fuellings under way: one whose dispenser goes offline, one that is terminated, one that
--- is suspended, and what a meter may say meanwhile.
+-- Worked rows of fuellings under way: one whose dispenser goes offline, one that is terminated, one
+-- that is suspended, and what a meter may say meanwhile.
 use Rattle.std.proofs.Common.{[], ◌∷◌, true, Some, None, Ok, Err}
 use Rattle.site_base.specs.declared.answer.Answer.TheVariants as answers
 use Rattle.site_base.specs.declared.answer.Answer.TheVariants.{Done, Calling, Start, Flowed, HungUp, Sold, PointIs, TransactionIs}
@@ -8,10 +8,11 @@ use Rattle.site_base.specs.declared.refusal.Refusal.TheVariants.{NoSuchPoint, No
 use Rattle.site_base.specs.declared.state.PointState.TheVariants.{Inoperative, Started, SuspendedStarted, Fuelling, SuspendedFuelling}
 use Rattle.site_base.specs.declared.state.Preset.TheVariants.{Unset}
 use Rattle.site_base.specs.Configured.{Configured}
-use Rattle.written_site.proofs.WorkedRows.{known_site, t1, t2, d1, d2, point, sale, payable, AreAnswered, answered, kit}
+use Rattle.written_site.proofs.WorkedRows.{diesel, known_site, t1, t2, d1, d2, point, sale, payable, AreAnswered}
+use Rattle.written_site.proofs.WorkedReplies.{answered, kit}
 
--- a dispenser goes offline in the middle of a fuelling: sold as far as it was metered; the next lift
--- needs the last reading
+-- a dispenser goes offline in the middle of a fuelling: sold as far as it was metered; the next
+-- lift needs the last reading
 offline : AreAnswered known_site
     (t1 SignOn (Ok Done)
     ∷ t1 (Open 1) (Ok Done)
@@ -111,11 +112,7 @@ abbrev full_meter : Configured
 full_meter = record {
   rows = 1000;
   managers = [];
-  products = record {
-    number = 1;
-    name = 100 ∷ 105 ∷ 101 ∷ 115 ∷ 101 ∷ 108 ∷ [];
-    price = 1500;
-  } ∷ [];
+  products = diesel 1500 ∷ [];
   points = record {
     number = 1;
     nozzles = record { product = 1; reading = 999999999990 } ∷ [];

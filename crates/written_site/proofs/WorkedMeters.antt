@@ -13,7 +13,8 @@ use Rattle.meters.specs.Nozzles.{with_nozzle}
 use Rattle.written_site.specs.SiteState.{SiteState, opening}
 use Rattle.written_site.specs.SiteStep.{reply_to, site_after}
 use Rattle.written_site.specs.SiteRun.{IsLegal}
-use Rattle.written_site.proofs.WorkedRows.{known_site, t1, AreAnswered, answered_when_legal, legal, kit}
+use Rattle.written_site.proofs.WorkedRows.{known_site, t1, AreAnswered}
+use Rattle.written_site.proofs.WorkedReplies.{answered_when_legal, legal, kit}
 
 -- a nozzle's meter is replaced by one that reads 7 ml
 abbrev replaced : Row
@@ -74,4 +75,5 @@ is_spent = legal (after 99) spent (simp kit)
 replaced_99_times : AreAnswered known_site
     (t1 SignOn (Ok Done) ∷ replicate 99 replaced ++ spent)
 replaced_99_times =
-    answered_when_legal (first (replicate 98 replaced ++ spent) (again 98 1 spent (omega arith) is_spent))
+    answered_when_legal
+    (first (replicate 98 replaced ++ spent) (again 98 1 spent (omega arith) is_spent))

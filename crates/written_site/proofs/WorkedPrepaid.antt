@@ -7,7 +7,8 @@ use Rattle.site_base.specs.declared.state.PointState.TheVariants.{Authorised}
 use Rattle.site_base.specs.declared.state.Preset.TheVariants.{Unset, Money}
 use Rattle.site_base.specs.declared.state.Status.TheVariants.{Locked}
 use Rattle.site_base.specs.declared.view.TransactionView.{TransactionView}
-use Rattle.written_site.proofs.WorkedRows.{known_site, t1, t2, d1, point, sale, payable, product, AreAnswered, answered, kit}
+use Rattle.written_site.proofs.WorkedRows.{known_site, t1, t2, d1, point, sale, payable, product, AreAnswered}
+use Rattle.written_site.proofs.WorkedReplies.{answered, kit}
 
 -- 10,000 ml of diesel for which 2,000 cents were prepaid: payable, and locked by till 2
 abbrev prepaid : TransactionView
@@ -16,7 +17,7 @@ prepaid = record (payable 1500 10000 1500 1) { prepaid = Some 2000 }
 abbrev locked_by_2 : TransactionView
 locked_by_2 = record prepaid { status = Locked; till = Some 2 }
 
--- a till that has signed off keeps the hold of what it has released, and the prepaid sale is payable
+-- a till that has signed off keeps the hold of what it has released; the prepaid sale is payable
 signed_off : AreAnswered known_site
     (t1 SignOn (Ok Done)
     ∷ t2 SignOn (Ok Done)

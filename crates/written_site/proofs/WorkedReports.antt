@@ -1,4 +1,4 @@
--- Worked rows of the order of the checks of what dispensers report: of two that fail the earlier one
+-- Worked rows of the order of the checks of what dispensers report: of two that fail the earlier
 -- decides.
 use Rattle.std.proofs.Common.{[], ◌∷◌, ◌++◌, Ok, Err}
 use Rattle.site_base.specs.declared.answer.Answer.TheVariants.{Done, Calling, HungUp}
@@ -6,7 +6,8 @@ use Rattle.site_base.specs.declared.event.Event.TheVariants.{Assign, Online, Off
 use Rattle.site_base.specs.declared.refusal.Refusal.TheVariants.{NotSignedOn, NoSuchPoint, NoSuchNozzle, NotYourPoint, WrongState, WrongNozzle, MeterGap}
 use Rattle.site_base.specs.declared.state.PointState.TheVariants as states
 use Rattle.site_base.specs.declared.state.PointState.TheVariants.{Inoperative, Closed, Idle}
-use Rattle.written_site.proofs.WorkedRows.{known_site, t1, t2, t3, d1, d2, d3, at_work, AreAnswered, answered, kit}
+use Rattle.written_site.proofs.WorkedRows.{known_site, t1, t2, t3, d1, d2, d3, at_work, AreAnswered}
+use Rattle.written_site.proofs.WorkedReplies.{answered, kit}
 
 -- Online and Offline: point, whose point, state
 online : AreAnswered known_site

@@ -1,5 +1,5 @@
--- A sound site at which a point sells, and one at which it draws: there the laws of volumes and of room
--- have their premises met, and speak of these figures.
+-- A sound site at which a point sells, and one at which it draws: there the laws of volumes and of
+-- room have their premises met, and speak of these figures.
 use Rattle.std.proofs.Common.{◌≡◌, ℕ, ◌+◌, ◌^◌, ◌<◌, List, [], ◌∷◌, None, Ok, refl, subst, arith}
 use Rattle.site_base.specs.declared.actor.Actor.TheVariants.{Dispenser}
 use Rattle.site_base.specs.declared.answer.Answer.TheVariants.{Done, Start, Flowed}
@@ -17,7 +17,8 @@ use Rattle.written_site.specs.SoundSteps.{IsTaken, FitsOwn, IsSaleFit, IsDrawFit
 use Rattle.written_site.specs.Volumes.{running}
 use Rattle.written_site.proofs.SoundRuns.{runs_stay_sound}
 use Rattle.written_site.proofs.SoundUses.{volumes_add_up, finds_room}
-use Rattle.written_site.proofs.WorkedRows.{known_site, t1, d1, replies_on, site_on, leads_on, kit}
+use Rattle.written_site.proofs.WorkedRows.{known_site, t1, d1}
+use Rattle.written_site.proofs.WorkedReplies.{replies_on, site_on, leads_on, kit}
 
 known_is_fit : IsFit known_site
 known_is_fit = record { site = refl; products = refl; prices = refl; readings = refl }

@@ -9,7 +9,8 @@ use Rattle.site_base.specs.declared.state.PointState.TheVariants as states
 use Rattle.site_base.specs.declared.state.Preset.TheVariants.{Unset, Volume}
 use Rattle.site_base.specs.Amounts.{amount, IsGreatestVolume}
 use Rattle.site_base.specs.Configured.{Configured}
-use Rattle.written_site.proofs.WorkedRows.{known_site, told, t1, d1, d3, point, sale, payable, product, AreAnswered, answered, kit}
+use Rattle.written_site.proofs.WorkedRows.{diesel, petrol, point_with_two, known_site, told, t1, d1, d3, point, sale, payable, product, AreAnswered}
+use Rattle.written_site.proofs.WorkedReplies.{answered, kit}
 
 -- the sale with this number in shift h
 abbrev sale_of_shift : ℕ → ℕ → SaleId
@@ -22,7 +23,11 @@ petrol_sold : AreAnswered known_site
     ∷ d3 (Lift 3 2 1000) (Ok Calling)
     ∷ t1 (Release 3 Unset) (Ok Done)
     ∷ d3 (Flow 3 2 13345) (Ok (Flowed 12345))
-    ∷ t1 (ReadPoint 3) (Ok (PointIs (record (point states.Fuelling (Some 1)) { out = Some 2; price = 1799; volume = 12345 })))
+    ∷ t1 (ReadPoint 3) (Ok (PointIs (record (point states.Fuelling (Some 1)) {
+      out = Some 2;
+      price = 1799;
+      volume = 12345;
+    })))
     ∷ t1 (ReadProduct 2) (Ok (ProductIs (record (product 1799 12345) { running = 12345 })))
     ∷ d3 (HangUp 3 2 13345) (Ok (Sold 1 0))
     ∷ t1 (ReadTransaction 3 (sale 1)) (Ok (TransactionIs (payable 1799 12345 2221 2)))
@@ -50,14 +55,8 @@ abbrev cheap_site : Configured
 cheap_site = record {
   rows = 1000;
   managers = [];
-  products =
-      record { number = 1; name = 100 ∷ 105 ∷ 101 ∷ 115 ∷ 101 ∷ 108 ∷ []; price = 1 }
-      ∷ record { number = 2; name = 112 ∷ 101 ∷ 116 ∷ 114 ∷ 111 ∷ 108 ∷ []; price = 1799 }
-      ∷ [];
-  points = record {
-    number = 1;
-    nozzles = record { product = 1; reading = 0 } ∷ record { product = 2; reading = 1000 } ∷ [];
-  } ∷ [];
+  products = diesel 1 ∷ petrol 1799 ∷ [];
+  points = point_with_two 1 ∷ [];
 }
 
 -- a millilitre at 1 mill is sold for 0 cents, and 5,000 ml at 1,799 mills for 900
@@ -111,11 +110,7 @@ abbrev last_point : Configured
 last_point = record {
   rows = 1000;
   managers = 1 ∷ [];
-  products = record {
-    number = 1;
-    name = 100 ∷ 105 ∷ 101 ∷ 115 ∷ 101 ∷ 108 ∷ [];
-    price = 1500;
-  } ∷ [];
+  products = diesel 1500 ∷ [];
   points = record { number = 64; nozzles = record { product = 1; reading = 0 } ∷ [] } ∷ [];
 }
 

@@ -5,7 +5,8 @@ use Rattle.site_base.specs.declared.event.Event.TheVariants.{SignOn, SignOff, Op
 use Rattle.site_base.specs.declared.refusal.Refusal.TheVariants.{NotSignedOn, SignedOn, AssignedToOther, NotYours, WrongState}
 use Rattle.site_base.specs.declared.state.PointState.TheVariants.{Closed, Idle, Authorised}
 use Rattle.site_base.specs.declared.state.Preset.TheVariants.{Unset}
-use Rattle.written_site.proofs.WorkedRows.{known_site, t1, t2, point, AreAnswered, answered, kit}
+use Rattle.written_site.proofs.WorkedRows.{known_site, t1, t2, point, AreAnswered}
+use Rattle.written_site.proofs.WorkedReplies.{answered, kit}
 
 -- a released point is held by the till that released it; another till is told who holds it
 released_by_till_1 : AreAnswered known_site
