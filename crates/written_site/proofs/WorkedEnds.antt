@@ -1,9 +1,11 @@
 -- Worked takes and ends of the hold of a point, by every event that takes it and every reply that
 -- tells an end.
-use Rattle.std.proofs.Common.{◌≡◌, ℕ, Bool, false, true, List, [], ◌∷◌, ◌++◌, map, Option, Some, None, Ok, refl, sym, ap, ◌∙◌}
+use Rattle.std.proofs.Common.{◌≡◌, ℕ, Bool, false, true, List, [], ◌∷◌, ◌++◌, map, Option, Some, None, Ok, Err, refl, sym, ap, ◌∙◌}
 use Rattle.site_base.specs.declared.answer.Answer.TheVariants.{Done, Start, Flowed, NoSale, Sold, Stopped, Drawn, Ending}
-use Rattle.site_base.specs.declared.event.Event.TheVariants.{SignOn, SignOff, Open, Assign, Release, Prepay, TestRelease, Terminate, Online, Offline, Lift, Flow, HangUp}
+use Rattle.site_base.specs.declared.event.Event.TheVariants.{SignOn, SignOff, Open, Assign, Unassign, Release, Prepay, TestRelease, Terminate, Online, Offline, Lift, Flow, HangUp}
+use Rattle.site_base.specs.declared.refusal.Refusal.TheVariants.{AssignedToOther, WrongState}
 use Rattle.site_base.specs.declared.row.Row.{Row}
+use Rattle.site_base.specs.declared.state.PointState.TheVariants.{Closed}
 use Rattle.site_base.specs.declared.state.Preset.TheVariants.{Unset, Money}
 use Rattle.site_base.specs.Configured.{Configured}
 use Rattle.written_site.specs.SiteState.{SiteState, opening, holder_of}
@@ -11,7 +13,7 @@ use Rattle.written_site.specs.SiteStep.{reply_to, site_after}
 use Rattle.written_site.specs.SiteRun.{replies_of}
 use Rattle.written_site.specs.Histories.{Moment, moments_after, moments_of}
 use Rattle.written_site.specs.Holders.{takes_hold, ends_hold}
-use Rattle.written_site.proofs.WorkedRows.{known_site, t1, d1, AreAnswered}
+use Rattle.written_site.proofs.WorkedRows.{known_site, t1, t2, d1, d2, AreAnswered}
 use Rattle.written_site.proofs.WorkedReplies.{site_told, replies_on, leads, answered, kit}
 
 -- what a row is to the hold of a point: the till that takes it, whether it ends the hold of the
@@ -25,9 +27,11 @@ record Effect : Type 0 where
 abbrev holder_stays : Option ℕ → Effect
 holder_stays holder = record { take = None; ends = false; holder = holder }
 
+-- till t takes the hold
 abbrev taken_by : ℕ → Effect
 taken_by t = record { take = Some t; ends = false; holder = Some t }
 
+-- the hold ends
 abbrev ended : Effect
 ended = record { take = None; ends = true; holder = None }
 
@@ -48,6 +52,7 @@ effects_on p t s (r ∷ rs) = record {
   holder = holder_of (site_told s r.actor r.event r.reply) p;
 } ∷ effects_on p t (site_told s r.actor r.event r.reply) rs
 
+-- rows that are told the site's replies are this to the hold
 effects_are : (p t : ℕ) (earlier : List Row) (s : SiteState) (rows : List Row)
     → replies_on s rows ≡ replies_of rows
     → map (effect p t) (moments_after earlier s rows) ≡ effects_on p t s rows
@@ -73,6 +78,7 @@ record AreHolds (c : Configured) (p t : ℕ) (rows : List (Row × Effect)) : Typ
   answered : AreAnswered c (map (λ r. r.0) rows)
   effects : map (effect p t) (moments_of c (map (λ r. r.0) rows)) ≡ map (λ r. r.1) rows
 
+-- both are computed
 held : {c : Configured} {p t : ℕ} {rows : List (Row × Effect)}
     → replies_on (opening c) (map (λ r. r.0) rows) ≡ replies_of (map (λ r. r.0) rows)
     → effects_on p t (opening c) (map (λ r. r.0) rows) ≡ map (λ r. r.1) rows
@@ -134,3 +140,19 @@ gone : AreHolds known_site 1 1
     ∷ (d1 (Offline 1) (Ok (Drawn 0)), ended)
     ∷ [])
 gone = held (simp kit) (simp kit)
+
+-- what is refused is nothing to the hold; nor is what befalls another point, or another till's sign-off
+untouched : AreHolds known_site 1 1
+    ((t1 SignOn (Ok Done), holder_stays None)
+    ∷ (t2 SignOn (Ok Done), holder_stays None)
+    ∷ (t1 (Assign 1) (Ok Done), taken_by 1)
+    ∷ (t2 (Assign 1) (Err (AssignedToOther 1)), holder_stays (Some 1))
+    ∷ (t2 (Unassign 1) (Err (AssignedToOther 1)), holder_stays (Some 1))
+    ∷ (t1 (Release 1 Unset) (Err (WrongState Closed)), holder_stays (Some 1))
+    ∷ (t2 (Assign 2) (Ok Done), holder_stays (Some 1))
+    ∷ (t2 (Unassign 2) (Ok Done), holder_stays (Some 1))
+    ∷ (d2 (Offline 2) (Ok Done), holder_stays (Some 1))
+    ∷ (t2 SignOff (Ok Done), holder_stays (Some 1))
+    ∷ (t1 SignOff (Ok Done), ended)
+    ∷ [])
+untouched = held (simp kit) (simp kit)

@@ -16,11 +16,11 @@ use Rattle.written_site.specs.SiteRun.{IsLegal}
 use Rattle.written_site.proofs.WorkedRows.{known_site, t1, AreAnswered}
 use Rattle.written_site.proofs.WorkedReplies.{answered_when_legal, legal, kit}
 
--- a nozzle's meter is replaced by one that reads 7 ml
+-- the meter of nozzle 1 of point 1 is replaced by one that reads 7 ml
 abbrev replaced : Row
 replaced = t1 (ReplaceMeter 1 1 7) (Ok Done)
 
--- once it was replaced as often as it may be
+-- the rows once it was replaced as often as it may be
 abbrev spent : List Row
 spent =
     t1 (ReplaceMeter 1 1 7) (Err MeterSpent)
@@ -37,6 +37,7 @@ after k = record (opening known_site) {
       (opening known_site).nozzles;
 }
 
+-- below 99 replacements one more is answered Done, and leads on
 is_fewer : (k n : ℕ) → k < n → nat_lt k n ≡ true
 is_fewer k n few = grind (arith, nat_tests)
 

@@ -1,5 +1,5 @@
--- How worked rows are computed: each at the site that the rows before it tell of, by the lemmas of the
--- maps and sets in which a site has its holds, its sales and its tills.
+-- How worked rows are computed: each at the site that the rows before it tell of, by the lemmas of
+-- the maps and sets in which a site has its holds, its sales and its tills.
 use Rattle.std.proofs.Common.{◌≡◌, ℕ, List, [], ◌∷◌, Bool, cond, Option, Some, None, Result, Ok, Err, refl, sym, ap, subst, ◌∙◌, length, arith}
 use Rattle.std.specs.Ordering.{nat_cmp}
 use Rattle.std.specs.FinMap as finite
@@ -30,6 +30,7 @@ replies_on s [] = []
 replies_on s (r ∷ rs) =
     reply_to s r.actor r.event ∷ replies_on (site_told s r.actor r.event r.reply) rs
 
+-- a row that is told the site's reply tells of the site that its event leads to
 pub leads : (s : SiteState) (r : Row) → r.reply ≡ reply_to s r.actor r.event
     → site_told s r.actor r.event r.reply ≡ site_after s r.actor r.event
 leads s r is =
@@ -67,21 +68,24 @@ leads_on s (r ∷ rs) all =
     ap (λ x. site_at_end x (events_of rs)) (sym (leads s r here))
     ∙ leads_on (site_told s r.actor r.event r.reply) rs rest
 
+-- rows from the opening site on that are a legal history are told the site's replies
 pub answered_when_legal : {c : Configured} {rows : List Row} → IsLegal (opening c) rows
     → AreAnswered c rows
 answered_when_legal {c} {rows} legal =
     record { replies = sym (legal_histories_are_runs.run (opening c) rows legal).replies }
 
+-- so are rows that are computed
 pub answered : {c : Configured} {rows : List Row} → replies_on (opening c) rows ≡ replies_of rows
     → AreAnswered c rows
 answered {c} {rows} all = answered_when_legal (legal (opening c) rows all)
 
--- what outlives a sign-off
+-- what is found under a number in what outlives a sign-off
 pub get_kept : {X : Type 0} (m : FinMap nat_cmp X) (keeps : ℕ → Bool) (q : ℕ)
     → finite.get (finite.retain_keys m keeps) q ≡ cond (keeps q) (finite.get m q) None
 get_kept m keeps q =
     get-retain_keys m keeps q (λ x tied. ap keeps (sym (nat_cmp-IsAntisymmetric q x tied)))
 
+-- a map without entries has an empty list of them
 nothing : {A : Type 0} (xs : List A) → length xs ≡ 0 → xs ≡ []
 nothing [] none = refl
 nothing (x ∷ xs) none = absurd (omega arith)
