@@ -1,11 +1,11 @@
 -- Worked rows of test draws, and of a meter that was replaced.
-use Rattle.std.proofs.Common.{[], ◌∷◌, true, Some, None, Ok, Err}
-use Rattle.site_base.specs.declared.answer.Answer.TheVariants.{Done, Calling, Start, Flowed, NoSale, Sold, Drawn, PointIs, ProductIs}
+use Rattle.std.proofs.Common.{◌++◌, [], ◌∷◌, true, Some, None, Ok, Err}
+use Rattle.site_base.specs.declared.answer.Answer.TheVariants.{Done, Calling, Start, Flowed, NoSale, Drawn, PointIs, ProductIs}
 use Rattle.site_base.specs.declared.event.Event.TheVariants.{SignOn, Open, Close, Release, TestRelease, ReplaceMeter, ReadPoint, ReadTransaction, ReadProduct, Offline, Lift, Flow, HangUp}
 use Rattle.site_base.specs.declared.refusal.Refusal.TheVariants.{NoSuchTransaction, NotManager, WrongState, BufferFull, MeterGap}
 use Rattle.site_base.specs.declared.state.PointState.TheVariants.{Idle, Authorised}
 use Rattle.site_base.specs.declared.state.Preset.TheVariants.{Unset}
-use Rattle.written_site.proofs.WorkedRows.{known_site, t1, t2, d1, point, sale, product, AreAnswered}
+use Rattle.written_site.proofs.WorkedRows.{known_site, sold_twice, t1, t2, d1, point, sale, product, AreAnswered}
 use Rattle.written_site.proofs.WorkedReplies.{answered, kit}
 
 -- a test draw: managers alone, no sale, and the fuel is adjusted; a replaced meter keeps what was
@@ -37,15 +37,8 @@ drawn = answered (simp kit)
 
 -- with two unpaid sales a point isn't released for a sale, and it is for a test
 tested_when_full : AreAnswered known_site
-    (t1 SignOn (Ok Done)
-    ∷ t1 (Open 1) (Ok Done)
-    ∷ t1 (Release 1 Unset) (Ok Done)
-    ∷ d1 (Lift 1 1 0) (Ok (Start Unset 1500))
-    ∷ d1 (HangUp 1 1 1000) (Ok (Sold 1 1000))
-    ∷ t1 (Release 1 Unset) (Ok Done)
-    ∷ d1 (Lift 1 1 1000) (Ok (Start Unset 1500))
-    ∷ d1 (HangUp 1 1 3000) (Ok (Sold 2 2000))
-    ∷ t1 (Release 1 Unset) (Err BufferFull)
+    (sold_twice ++
+    t1 (Release 1 Unset) (Err BufferFull)
     ∷ t1 (TestRelease 1) (Ok Done)
     ∷ t1 (ReadProduct 1) (Ok (ProductIs (record (product 1500 3000) { payable = 3000 })))
     ∷ [])

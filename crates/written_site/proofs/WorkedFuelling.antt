@@ -1,6 +1,6 @@
 -- Worked rows of fuellings under way: one whose dispenser goes offline, one that is terminated, one
 -- that is suspended, and what a meter may say meanwhile.
-use Rattle.std.proofs.Common.{[], ◌∷◌, true, Some, None, Ok, Err}
+use Rattle.std.proofs.Common.{◌++◌, [], ◌∷◌, true, Some, None, Ok, Err}
 use Rattle.site_base.specs.declared.answer.Answer.TheVariants as answers
 use Rattle.site_base.specs.declared.answer.Answer.TheVariants.{Done, Calling, Start, Flowed, HungUp, Sold, PointIs, TransactionIs}
 use Rattle.site_base.specs.declared.event.Event.TheVariants.{SignOn, Open, Release, Suspend, Resume, Terminate, ReadPoint, ReadTransaction, Online, Offline, Lift, Flow, HangUp}
@@ -8,18 +8,14 @@ use Rattle.site_base.specs.declared.refusal.Refusal.TheVariants.{NoSuchPoint, No
 use Rattle.site_base.specs.declared.state.PointState.TheVariants.{Inoperative, Started, SuspendedStarted, Fuelling, SuspendedFuelling}
 use Rattle.site_base.specs.declared.state.Preset.TheVariants.{Unset}
 use Rattle.site_base.specs.Configured.{Configured}
-use Rattle.written_site.proofs.WorkedRows.{diesel, known_site, t1, t2, d1, d2, point, sale, payable, AreAnswered}
+use Rattle.written_site.proofs.WorkedRows.{diesel, known_site, flowing, t1, t2, d1, d2, point, sale, payable, AreAnswered}
 use Rattle.written_site.proofs.WorkedReplies.{answered, kit}
 
 -- a dispenser goes offline in the middle of a fuelling: sold as far as it was metered; the next
 -- lift needs the last reading
 offline : AreAnswered known_site
-    (t1 SignOn (Ok Done)
-    ∷ t1 (Open 1) (Ok Done)
-    ∷ t1 (Release 1 Unset) (Ok Done)
-    ∷ d1 (Lift 1 1 0) (Ok (Start Unset 1500))
-    ∷ d1 (Flow 1 1 5000) (Ok (Flowed 5000))
-    ∷ d1 (Offline 1) (Ok (Sold 1 0))
+    (flowing ++
+    d1 (Offline 1) (Ok (Sold 1 0))
     ∷ t1 (ReadTransaction 1 (sale 1)) (Ok (TransactionIs (payable 1500 5000 750 1)))
     ∷ t1 (ReadPoint 1) (Ok (PointIs (point Inoperative None)))
     ∷ d1 (Online 1) (Ok Done)
@@ -33,12 +29,8 @@ offline = answered (simp kit)
 
 -- a terminated fuelling takes the flow that still comes, and can't be resumed
 terminated : AreAnswered known_site
-    (t1 SignOn (Ok Done)
-    ∷ t2 SignOn (Ok Done)
-    ∷ t1 (Open 1) (Ok Done)
-    ∷ t1 (Release 1 Unset) (Ok Done)
-    ∷ d1 (Lift 1 1 0) (Ok (Start Unset 1500))
-    ∷ d1 (Flow 1 1 5000) (Ok (Flowed 5000))
+    (flowing ++
+    t2 SignOn (Ok Done)
     ∷ t1 (Terminate 1) (Ok answers.Ending)
     ∷ t1 (ReadPoint 1) (Ok (PointIs (record (point SuspendedFuelling (Some 1)) {
       out = Some 1;
@@ -85,12 +77,8 @@ suspended = answered (simp kit)
 
 -- what a meter may say while fuel flows, and what it may not
 metered : AreAnswered known_site
-    (t1 SignOn (Ok Done)
-    ∷ t1 (Open 1) (Ok Done)
-    ∷ t1 (Release 1 Unset) (Ok Done)
-    ∷ d1 (Lift 1 1 0) (Ok (Start Unset 1500))
-    ∷ d1 (Flow 1 1 5000) (Ok (Flowed 5000))
-    ∷ d1 (Flow 1 1 4999) (Err (MeterBack 5000))
+    (flowing ++
+    d1 (Flow 1 1 4999) (Err (MeterBack 5000))
     ∷ d1 (Flow 1 1 1005001) (Err MeterJump)
     ∷ d1 (HangUp 1 1 4999) (Err (MeterBack 5000))
     ∷ d1 (HangUp 1 1 1005001) (Err MeterJump)

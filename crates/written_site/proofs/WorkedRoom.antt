@@ -4,7 +4,7 @@ use Rattle.std.proofs.Common.{◌≡◌, ℕ, ◌+◌, ◌^◌, ◌<◌, List, [
 use Rattle.site_base.specs.declared.actor.Actor.TheVariants.{Dispenser}
 use Rattle.site_base.specs.declared.answer.Answer.TheVariants.{Done, Start, Flowed}
 use Rattle.site_base.specs.declared.event.Event.{Event}
-use Rattle.site_base.specs.declared.event.Event.TheVariants.{SignOn, Open, Release, TestRelease, Lift, Flow, HangUp, Offline}
+use Rattle.site_base.specs.declared.event.Event.TheVariants.{SignOn, Open, TestRelease, Lift, Flow, HangUp, Offline}
 use Rattle.site_base.specs.declared.row.Row.{Row}
 use Rattle.site_base.specs.declared.state.Preset.TheVariants.{Unset}
 use Rattle.fuelling_point.specs.declared.event.PointEvent.TheVariants as points
@@ -17,7 +17,7 @@ use Rattle.written_site.specs.SoundSteps.{IsTaken, FitsOwn, IsSaleFit, IsDrawFit
 use Rattle.written_site.specs.Volumes.{running}
 use Rattle.written_site.proofs.SoundRuns.{runs_stay_sound}
 use Rattle.written_site.proofs.SoundUses.{volumes_add_up, finds_room}
-use Rattle.written_site.proofs.WorkedRows.{known_site, t1, d1}
+use Rattle.written_site.proofs.WorkedRows.{known_site, flowing, t1, d1}
 use Rattle.written_site.proofs.WorkedReplies.{replies_on, site_on, leads_on, kit}
 
 known_is_fit : IsFit known_site
@@ -31,21 +31,12 @@ sound_on rows told range =
     (runs_stay_sound known_site (events_of rows) known_is_fit range)
 
 -- 5,000 ml of diesel have flowed at point 1
-abbrev fuelling : List Row
-fuelling =
-    t1 SignOn (Ok Done)
-    ∷ t1 (Open 1) (Ok Done)
-    ∷ t1 (Release 1 Unset) (Ok Done)
-    ∷ d1 (Lift 1 1 0) (Ok (Start Unset 1500))
-    ∷ d1 (Flow 1 1 5000) (Ok (Flowed 5000))
-    ∷ []
-
 abbrev under_way : SiteState
-under_way = site_on (opening known_site) fuelling
+under_way = site_on (opening known_site) flowing
 
 under_way_sound : Sound under_way
 under_way_sound =
-    sound_on fuelling (simp kit) (tt, (tt, (tt, (omega arith, (omega arith, tt)))))
+    sound_on flowing (simp kit) (tt, (tt, (tt, (omega arith, (omega arith, tt)))))
 
 -- the nozzle is hung up at 5,040 ml
 abbrev hung_up : Event

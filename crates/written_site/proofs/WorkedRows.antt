@@ -4,9 +4,9 @@ use Rattle.std.proofs.Common.{◌≡◌, ℕ, List, [], ◌∷◌, false, Option
 use Rattle.site_base.specs.declared.actor.Actor.{Actor}
 use Rattle.site_base.specs.declared.actor.Actor.TheVariants.{Till, Dispenser}
 use Rattle.site_base.specs.declared.answer.Answer.{Answer}
-use Rattle.site_base.specs.declared.answer.Answer.TheVariants.{Done}
+use Rattle.site_base.specs.declared.answer.Answer.TheVariants.{Done, Start, Flowed, Sold}
 use Rattle.site_base.specs.declared.event.Event.{Event}
-use Rattle.site_base.specs.declared.event.Event.TheVariants.{SignOn, Open, Assign}
+use Rattle.site_base.specs.declared.event.Event.TheVariants.{SignOn, Open, Assign, Release, Lift, Flow, HangUp}
 use Rattle.site_base.specs.declared.refusal.Refusal.{Refusal}
 use Rattle.site_base.specs.declared.row.Row.{Row}
 use Rattle.site_base.specs.declared.sale.SaleId.{SaleId}
@@ -127,6 +127,29 @@ product price metered = record {
   cleared = 0;
   adjusted = 0;
 }
+
+-- 5,000 ml of diesel flow at point 1
+abbrev pub flowing : List Row
+flowing =
+    t1 SignOn (Ok Done)
+    ∷ t1 (Open 1) (Ok Done)
+    ∷ t1 (Release 1 Unset) (Ok Done)
+    ∷ d1 (Lift 1 1 0) (Ok (Start Unset 1500))
+    ∷ d1 (Flow 1 1 5000) (Ok (Flowed 5000))
+    ∷ []
+
+-- diesel is sold twice at point 1, and both sales are unpaid
+abbrev pub sold_twice : List Row
+sold_twice =
+    t1 SignOn (Ok Done)
+    ∷ t1 (Open 1) (Ok Done)
+    ∷ t1 (Release 1 Unset) (Ok Done)
+    ∷ d1 (Lift 1 1 0) (Ok (Start Unset 1500))
+    ∷ d1 (HangUp 1 1 1000) (Ok (Sold 1 1000))
+    ∷ t1 (Release 1 Unset) (Ok Done)
+    ∷ d1 (Lift 1 1 1000) (Ok (Start Unset 1500))
+    ∷ d1 (HangUp 1 1 3000) (Ok (Sold 2 2000))
+    ∷ []
 
 -- the tills 1 and 2 sign on and take a point each, and point 3 is opened
 abbrev pub at_work : List Row

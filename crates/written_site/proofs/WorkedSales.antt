@@ -1,5 +1,5 @@
 -- Worked rows of fuellings that end in a sale, and of one without fuel.
-use Rattle.std.proofs.Common.{◌≡◌, ℕ, [], ◌∷◌, Some, None, Ok, Err, refl, arith}
+use Rattle.std.proofs.Common.{◌≡◌, ℕ, ◌++◌, [], ◌∷◌, Some, None, Ok, Err, refl, arith}
 use Rattle.site_base.specs.declared.actor.Actor.TheVariants.{Till, Dispenser}
 use Rattle.site_base.specs.declared.answer.Answer.TheVariants.{Done, Calling, Start, Flowed, NoSale, Sold, PointIs, TransactionIs, ProductIs}
 use Rattle.site_base.specs.declared.event.Event.TheVariants.{SignOn, Open, Close, Release, Prepay, ReadPoint, ReadTransaction, ReadProduct, Lift, Flow, HangUp}
@@ -9,7 +9,7 @@ use Rattle.site_base.specs.declared.state.PointState.TheVariants as states
 use Rattle.site_base.specs.declared.state.Preset.TheVariants.{Unset, Volume}
 use Rattle.site_base.specs.Amounts.{amount, IsGreatestVolume}
 use Rattle.site_base.specs.Configured.{Configured}
-use Rattle.written_site.proofs.WorkedRows.{diesel, petrol, point_with_two, known_site, told, t1, d1, d3, point, sale, payable, product, AreAnswered}
+use Rattle.written_site.proofs.WorkedRows.{diesel, petrol, point_with_two, known_site, sold_twice, told, t1, d1, d3, point, sale, payable, product, AreAnswered}
 use Rattle.written_site.proofs.WorkedReplies.{answered, kit}
 
 -- the sale with this number in shift h
@@ -87,23 +87,16 @@ nothing_sold : AreAnswered known_site
 nothing_sold = answered (simp kit)
 
 -- with two unpaid sales a point isn't released; a preset and its state are looked at first
-two_unpaid : AreAnswered known_site
-    (t1 SignOn (Ok Done)
-    ∷ t1 (Open 1) (Ok Done)
-    ∷ t1 (Release 1 Unset) (Ok Done)
-    ∷ d1 (Lift 1 1 0) (Ok (Start Unset 1500))
-    ∷ d1 (HangUp 1 1 1000) (Ok (Sold 1 1000))
-    ∷ t1 (Release 1 Unset) (Ok Done)
-    ∷ d1 (Lift 1 1 1000) (Ok (Start Unset 1500))
-    ∷ d1 (HangUp 1 1 3000) (Ok (Sold 2 2000))
-    ∷ t1 (Release 1 Unset) (Err BufferFull)
+buffer_full : AreAnswered known_site
+    (sold_twice ++
+    t1 (Release 1 Unset) (Err BufferFull)
     ∷ t1 (Prepay 1 1) (Err BufferFull)
     ∷ t1 (Release 1 (Volume 0)) (Err BadPreset)
     ∷ t1 (Close 1) (Ok Done)
     ∷ t1 (Release 1 Unset) (Err (WrongState states.Closed))
     ∷ t1 (Prepay 1 1) (Err (WrongState states.Closed))
     ∷ [])
-two_unpaid = answered (simp kit)
+buffer_full = answered (simp kit)
 
 -- the last point alone, with a nozzle of diesel
 abbrev last_point : Configured
