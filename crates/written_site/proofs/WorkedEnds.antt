@@ -141,7 +141,8 @@ gone : AreHolds known_site 1 1
     ∷ [])
 gone = held (simp kit) (simp kit)
 
--- what is refused is nothing to the hold; nor is what befalls another point, or another till's sign-off
+-- what is refused is nothing to the hold; nor is what befalls another point, or the sign-off of
+-- another till
 untouched : AreHolds known_site 1 1
     ((t1 SignOn (Ok Done), holder_stays None)
     ∷ (t2 SignOn (Ok Done), holder_stays None)
