@@ -9,3 +9,4 @@ pub mod Slots
 pub mod Holders
 pub mod Sound
 pub mod SoundSteps
+pub mod SoundRuns
