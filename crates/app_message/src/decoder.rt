@@ -111,7 +111,11 @@ impl Decoder {
         ensures err { OnErr result (self.new ≡ self.old) }
     {
         let (fed, rest) = walk(self.alloc, octets, messages)?;
-        self.rest = Vec::from_slice(self.alloc, rest)?;
+        if rest.is_empty() {
+            self.rest.clear();
+        } else {
+            self.rest = Vec::from_slice(self.alloc, rest)?;
+        }
         self.fault = fed.fault;
         Ok(fed)
     }

@@ -17,6 +17,7 @@ pub fn put_command(draft: &mut Draft, id: u8) -> Result<(), NoMemory>
 
 /// Puts an item of one octet.
 #[tactic(auto, unfolding(crate::specs::Items::octet))]
+#[inline(always)]
 pub fn put_octet(draft: &mut Draft, id: u8, number: u8) -> Result<(), NoMemory>
     ensures { OnOk result (draft.new ≡ with_items draft.old (octet id number)) }
 {

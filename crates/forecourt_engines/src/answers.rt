@@ -1,6 +1,6 @@
 //! Messages answered over a book.
 
-ghost use Rattle.std.specs.Prelude.{◌≡◌, ◌≤◌, ◌++◌, length, IfOk, OnOk};
+ghost use Rattle.std.specs.Prelude.{◌≡◌, ◌≤◌, ◌+◌, ◌++◌, ◌∷◌, [], ◌*◌, length, replicate, IfOk, OnOk};
 ghost use Rattle.hex.specs.Hex.{encode_lower};
 ghost use Rattle.forecourt_engines.specs.Answers.{line_of, change_line, lines_for, after_message};
 ghost use Rattle.forecourt_engines.specs.Answers.{answers_to, after_messages};
@@ -124,21 +124,40 @@ pub fn put_line(out: &mut Vec<u8>, message: &Message) -> Result<(), NoMemory>
     ensures { OnOk result (out.new.items ≡ out.old.items ++ line_of message.now) }
 {
     let (head, body) = (message.head(), message.body());
-    put_hexadecimal(out, &head)?;
-    put_hexadecimal(out, body)?;
-    out.push(b'\n')?;
+    put_spelling(out, &head, body)
+}
+
+/// Appends the octets of two parts as a line of hexadecimal. It takes one growth at most.
+fn put_spelling(out: &mut Vec<u8>, head: &[u8], body: &[u8]) -> Result<(), NoMemory>
+    requires head { length head.now ≤ 8 }
+    requires body { length body.now ≤ 1024 }
+    ensures { OnOk result (out.new.items
+        ≡ out.old.items ++ (encode_lower (head.now ++ body.now) ++ 10 ∷ [])) }
+{
+    let size = out.len();
+    out.resize(size + 2 * (head.len() + body.len()) + 1, b'\n')?;
+    spell(head, body, &mut out[size..]);
     Ok(())
 }
 
-/// Appends octets as hexadecimal.
-fn put_hexadecimal(out: &mut Vec<u8>, octets: &[u8]) -> Result<(), NoMemory>
-    requires { length octets.now ≤ 1024 }
-    ensures { OnOk result (out.new.items ≡ out.old.items ++ encode_lower octets.now) }
+/// Writes the octets of two parts as hexadecimal over line feeds, of which the last one stays.
+fn spell(head: &[u8], body: &[u8], place: &mut [u8])
+    requires { place.old ≡ replicate (2 * (length head.now + length body.now) + 1) 10 }
+    ensures { place.new ≡ encode_lower (head.now ++ body.now) ++ 10 ∷ [] }
 {
-    let size = out.len();
-    out.resize(size + 2 * octets.len(), 0)?;
-    match hex::encode_to_slice(octets, &mut out[size..]) {
-        Ok(()) => Ok(()),
+    let (first, rest) = place.split_at_mut(2 * head.len());
+    let (second, _) = rest.split_at_mut(2 * body.len());
+    put_digits(head, first);
+    put_digits(body, second);
+}
+
+/// Writes octets as hexadecimal, where there is just the place for them.
+fn put_digits(octets: &[u8], place: &mut [u8])
+    requires { length place.old ≡ 2 * length octets.now }
+    ensures { place.new ≡ encode_lower octets.now }
+{
+    match hex::encode_to_slice(octets, place) {
+        Ok(()) => {}
         Err(_) => unreachable!(),
     }
 }

@@ -20,4 +20,17 @@ pub mod Sound
 pub mod SoundOpening
 pub mod SoundSums
 pub mod SoundUses
+pub mod SoundRuns
 pub mod WorkedSound
+pub mod WorkedRows
+pub mod WorkedReplies
+pub mod WorkedTills
+pub mod WorkedSales
+pub mod WorkedFuelling
+pub mod WorkedPrepaid
+pub mod WorkedDraws
+pub mod WorkedMeters
+pub mod WorkedRoom
+pub mod WorkedEnds
+pub mod WorkedChecks
+pub mod WorkedReports

@@ -11,3 +11,4 @@ pub mod Holders
 pub mod Sound
 pub mod SoundSteps
 pub mod FigureSteps
+pub mod SoundRuns

@@ -73,7 +73,8 @@ facts_of s p = facts_in s.points p
 abbrev pub holder_of : SiteState → ℕ → Option ℕ
 holder_of s p = finite.get s.holds p
 
--- a point in this state doesn't deliver, and isn't released to
+-- a point in this state rests: it is closed, idle or calling; in any other it is inoperative,
+-- released, or has a fuelling under way
 abbrev pub is_resting : PointState → Bool
 is_resting Closed = true
 is_resting Idle = true

@@ -112,8 +112,8 @@ with_event points (Some e) = with_row e.0 (machine.after e.1 (facts_in points e.
 abbrev pub points_after : SiteState → Event → List (ℕ × Facts)
 points_after s event = with_event s.points (own_event s event)
 
--- the nozzles after an accepted event: the reading reported is a nozzle's last one. One without a line
--- leaves them.
+-- the nozzles after an accepted event: the reading that a flow or a hang up reports is the nozzle's
+-- last one; a meter that replaces another begins with its own. An event without a line leaves them.
 abbrev pub nozzles_after : SiteState → Event → List Nozzle
 nozzles_after s (Flow p n reading) = with_last p n reading s.nozzles
 nozzles_after s (HangUp p n reading) = with_last p n reading s.nozzles

@@ -5,6 +5,7 @@ ghost use Rattle.written_site.specs.FigureSteps.{DoFiguresFit, DoFiguresMove};
 ghost use Rattle.written_site.specs.Holders.{IsHeldByOne, AreUnendedTakes, AreBooksHeldByOne};
 ghost use Rattle.written_site.specs.SiteChecks.{PassesEachCheck};
 ghost use Rattle.written_site.specs.Sound.{StaysSound};
+ghost use Rattle.written_site.specs.SoundRuns.{RunsStaySound};
 ghost use Rattle.written_site.specs.SoundSteps.{DoVolumesAddUp, FindsRoom};
 
 /// An event that isn't refused has passed each of the checks.
@@ -20,8 +21,9 @@ pub fn legal_histories_are_runs()
 
 /// For every list of events from the opening site of any configuration: between takes of a fuelling point
 /// by two different tills stands an end of the first one's hold. A take is an accepted Assign,
-/// Release, Prepay or TestRelease; an end is an accepted Unassign, an answer that tells that the release is
-/// taken back or the fuelling over, or the holder's sign-off while the point is closed, idle or calling.
+/// Release, Prepay or TestRelease; an end is an accepted Unassign, the dispenser going Offline, an
+/// answer that tells that the release is taken back or the fuelling over, or the holder's sign-off
+/// while the point is closed, idle or calling.
 pub fn held_by_one()
     ensures { IsHeldByOne }
 {}
@@ -43,6 +45,12 @@ pub fn books_held_by_one()
 /// what the meters have counted is in the fuellings under way, in sales and in draws.
 pub fn stays_sound()
     ensures { StaysSound }
+{}
+
+/// From the opening site of each fit configuration, every list of events whose readings are in range
+/// leads to a sound site, whether they are accepted or refused.
+pub fn runs_stay_sound()
+    ensures { RunsStaySound }
 {}
 
 /// At a sound site, what the meters of a product have counted is in the fuellings under way, in sales
