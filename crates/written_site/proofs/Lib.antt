@@ -6,12 +6,16 @@ pub mod Holders
 pub mod Worked
 pub mod WorkedHolds
 pub mod SoundTables
+pub mod EachSale
+pub mod AskedSums
 pub mod SoundMachine
 pub mod SoundMeters
 pub mod SoundReports
 pub mod SoundHolds
 pub mod SoundSales
 pub mod SoundDraws
+pub mod SoundPrices
+pub mod SoundStandings
 pub mod SoundSold
 pub mod SoundPoints
 pub mod SoundRunning
