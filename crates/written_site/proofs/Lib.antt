@@ -24,4 +24,5 @@ pub mod Sound
 pub mod SoundOpening
 pub mod SoundSums
 pub mod SoundUses
+pub mod FigureMoves
 pub mod WorkedSound

@@ -27,13 +27,14 @@ is_clear event = false
 -- cents and its millilitres. Every other figure stays, and so do all draws.
 pub record HasClear (old new : SiteState) (t h : ℕ) (x : Sale) : Type 0 where
   pub clears : (g u : ℕ)
-      → shift_clears new g u ≡ shift_clears old g u + (if g == h && u == t then 1 else 0)
+      → shift_clears new g u ≡ shift_clears old g u + (if h == g && t == u then 1 else 0)
   pub cents : (g u : ℕ)
-      → shift_cents new g u ≡ shift_cents old g u + (if g == h && u == t then x.cents else 0)
+      → shift_cents new g u ≡ shift_cents old g u + (if h == g && t == u then x.cents else 0)
   pub cleared : (g q : ℕ)
-      → shift_cleared new g q ≡ shift_cleared old g q + (if g == h && q == x.product then x.volume else 0)
-  pub all_clears : (u : ℕ) → clears_of new u ≡ clears_of old u + (if u == t then 1 else 0)
-  pub all_cents : (u : ℕ) → cents_of new u ≡ cents_of old u + (if u == t then x.cents else 0)
+      → shift_cleared new g q
+      ≡ shift_cleared old g q + (if h == g && x.product == q then x.volume else 0)
+  pub all_clears : (u : ℕ) → clears_of new u ≡ clears_of old u + (if t == u then 1 else 0)
+  pub all_cents : (u : ℕ) → cents_of new u ≡ cents_of old u + (if t == u then x.cents else 0)
   pub draws : (g : ℕ) → shift_draws new g ≡ shift_draws old g
 
 -- nothing is cleared: the figures of what tills cleared stay
@@ -79,7 +80,8 @@ pub record DoFiguresMove : Type 0 where
       → KeepsClears s (accepted_site s actor event)
   pub draws : (s : SiteState) (actor : Actor) (event : Event) (g q : ℕ) → Sound s → IsTaken s event
       → shift_drawn (accepted_site s actor event) g q
-      ≡ shift_drawn s g q + (if g == open_shift s && q == product_at s event then drawn_at s event else 0)
+      ≡ shift_drawn s g q
+      + (if open_shift s == g && product_at s event == q then drawn_at s event else 0)
   pub opens : (s : SiteState) (h : ℕ) → Sound s → open_shift s < h → IsEmptyShift s h
 
 -- At a sound site every figure fits in 64 bits, and so does a clear more of a sale that isn't cleared.
