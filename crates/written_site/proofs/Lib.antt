@@ -24,5 +24,6 @@ pub mod Sound
 pub mod SoundOpening
 pub mod SoundSums
 pub mod SoundUses
+pub mod ClearFigures
 pub mod FigureMoves
 pub mod WorkedSound
