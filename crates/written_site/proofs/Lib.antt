@@ -26,4 +26,7 @@ pub mod SoundSums
 pub mod SoundUses
 pub mod ClearFigures
 pub mod FigureMoves
+pub mod FigureDraws
+pub mod BoundedSums
+pub mod FigureOpens
 pub mod WorkedSound
