@@ -152,11 +152,14 @@ none_over : (es : List (ℕ × List Sale)) → sum_over (λ x. 0) es ≡ 0
 none_over [] = refl
 none_over (e ∷ es) = omega (arith, none_among e.1, none_over es)
 
+pub none_sum : (sales : Sales) → sum_of (λ x. 0) sales ≡ 0
+none_sum sales = none_over (entries sales)
+
 -- a figure that is nothing at each sale sums to nothing
 pub empty_sum : (f : Sale → ℕ) (sales : Sales) → Each (λ x. f x ≡ 0) sales → sum_of f sales ≡ 0
 empty_sum f sales all =
     let bound = bounded_sum f (λ x. 0) sales (λ k x is. omega (arith, all k x is)) in
-    omega (arith, bound, none_over (entries sales))
+    omega (arith, bound, none_sum sales)
 
 -- a figure so many times
 times_among : (n : ℕ) (f : Sale → ℕ) (xs : List Sale)

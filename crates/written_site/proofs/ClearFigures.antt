@@ -121,7 +121,7 @@ let_go_alike test value t of_cleared x = by_standing x.standing refl
     by_standing (ClearedBy u h) is = refl
 
 -- a new sale isn't cleared
-unpaid_fails : (test : Standing → Bool) (value : Sale → ℕ) (y : Standing)
+pub unpaid_fails : (test : Standing → Bool) (value : Sale → ℕ) (y : Standing)
     → IsOfCleared test value → is_unpaid y ≡ true → test y ≡ false
 unpaid_fails test value Payable of_cleared unpaid = of_cleared.free
 unpaid_fails test value (LockedBy t) of_cleared unpaid = of_cleared.locked t

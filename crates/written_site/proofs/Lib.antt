@@ -29,4 +29,5 @@ pub mod FigureMoves
 pub mod FigureDraws
 pub mod BoundedSums
 pub mod FigureOpens
+pub mod FigureBounds
 pub mod WorkedSound

@@ -47,7 +47,7 @@ pub record IsEmptyShift (s : SiteState) (h : ℕ) : Type 0 where
   pub draws : shift_draws s h ≡ nothing_drawn
 
 -- what all tills cleared fits in 64 bits: its cents in shift h, and in all its count and its cents
-pub record FitFigures (s : SiteState) (h : ℕ) : Type 0 where
+pub record FitsTakings (s : SiteState) (h : ℕ) : Type 0 where
   pub takings : takings_in h s.sales < 2 ^ 64
   pub all_clears : sum_by (λ t. clears_by t s.sales) tills < 2 ^ 64
   pub all_cents : sum_by (λ t. cents_by t s.sales) tills < 2 ^ 64
@@ -80,6 +80,6 @@ pub record DoFiguresMove : Type 0 where
 -- At a sound site what all tills cleared fits in 64 bits, and each figure does with one more clear of a
 -- sale that isn't cleared.
 pub record DoFiguresFit : Type 0 where
-  pub fit : (s : SiteState) (h : ℕ) → Sound s → FitFigures s h
+  pub fit : (s : SiteState) (h : ℕ) → Sound s → FitsTakings s h
   pub clears : (s : SiteState) (t h : ℕ) (k : Key) (x : Sale) → Sound s → sale_of k s.sales ≡ Some x
       → is_unpaid x.standing ≡ true → FitsFigures s t h x
