@@ -8,7 +8,7 @@ use Rattle.std.specs.FinMap.{FinMap, get-empty, get-insert, get-remove, get-reta
 use Rattle.site_base.specs.declared.actor.Actor.{Actor}
 use Rattle.site_base.specs.declared.actor.Actor.TheVariants.{Till}
 use Rattle.site_base.specs.declared.event.Event.{Event}
-use Rattle.site_base.specs.declared.event.Event.TheVariants.{SignOff, Assign, Unassign, Release, Prepay, TestRelease, Terminate, ReadTransaction, ReadProduct, Lift, Offline, Flow, HangUp}
+use Rattle.site_base.specs.declared.event.Event.TheVariants.{SignOff, Assign, Unassign, Release, Prepay, TestRelease, Terminate, Clear, ReadTransaction, ReadProduct, Lift, Offline, Flow, HangUp}
 use Rattle.site_base.specs.declared.refusal.Refusal.{Refusal}
 use Rattle.site_base.specs.declared.refusal.Refusal.TheVariants.{AssignedToOther}
 use Rattle.site_base.specs.declared.row.Row.{Row}
@@ -24,9 +24,10 @@ use Rattle.fuelling_point.specs.Step as machine
 use Rattle.fuelling_point.specs.Table.{line_of, line, Growth, zero, above_zero, Flow as flow, growth_in}
 use Rattle.site_base.specs.Table.{row_of}
 use Rattle.till_claims.specs.Holds.{is_held_by}
-use Rattle.written_site.specs.SiteState.{SiteState, opening, facts_of, holder_of, rests, sale_shown, price_at_start, reading_at_start}
+use Rattle.transaction_buffer.specs.Sales.{Sale, sale_of}
+use Rattle.written_site.specs.SiteState.{SiteState, opening, facts_of, holder_of, key_named, rests, sale_shown, price_at_start, reading_at_start}
 use Rattle.written_site.specs.SiteChecks.{first_refusal, free_for, flowed}
-use Rattle.written_site.specs.SiteStep.{accepted_site, site_after, site_answer, step_told, sale_told, product_told, ends_at_sign_off, holds_without, holds_unless_over}
+use Rattle.written_site.specs.SiteStep.{accepted_site, site_after, site_answer, step_told, sale_told, clear_told, product_told, ends_at_sign_off, holds_without, holds_unless_over}
 use Rattle.written_site.specs.SiteRun.{row_to, rows_of, events_of, site_at_end, site_of_rows}
 use Rattle.written_site.specs.Histories.{Moment, moments_after, moments_of}
 use Rattle.written_site.specs.Holders.{takes_hold, ends_hold, hold_taker, is_end, tells_end, AreHeldByOne, AreHoldsOf, IsHeldByOne, AreUnendedTakes, AreBooksHeldByOne}
@@ -134,10 +135,14 @@ flows s q n growth f above_zero Fuelling = refl
 flows s q n growth f above_zero SuspendedFuelling = refl
 flows s q n growth f size state = refl
 
--- nor does a read
+-- nor does a clear, or a read
 shows_sale : (view : Option TransactionView) → tells_end (Ok (sale_told view)) ≡ false
 shows_sale None = refl
 shows_sale (Some view) = refl
+
+clears_sale : (sale : Option Sale) → tells_end (Ok (clear_told sale)) ≡ false
+clears_sale None = refl
+clears_sale (Some x) = refl
 
 shows_product : (s : SiteState) (q : ℕ) (price : Option ℕ) → tells_end (Ok (product_told s q price)) ≡ false
 shows_product s q None = refl
@@ -160,6 +165,8 @@ accepted s a (Lift q n reading) p ok =
 accepted s a (Flow q n reading) p ok =
     rw (flows s q n (flowed s q n reading) (facts_of s q) (growth_in (flowed s q n reading)) (facts_of s q).state) (idle (holder_of s p))
 accepted s a (ReadProduct q) p ok = rw (shows_product s q (row_of q s.prices)) (idle (holder_of s p))
+accepted s a (Clear q id) p ok =
+    rw (clears_sale (sale_of (key_named s q id) s.sales)) (idle (holder_of s p))
 accepted s a (ReadTransaction q id) p ok = rw (shows_sale (sale_shown s q id)) (idle (holder_of s p))
 accepted s a e p ok = idle (holder_of s p)
 

@@ -6,12 +6,16 @@ pub mod Holders
 pub mod Worked
 pub mod WorkedHolds
 pub mod SoundTables
+pub mod EachSale
+pub mod AskedSums
 pub mod SoundMachine
 pub mod SoundMeters
 pub mod SoundReports
 pub mod SoundHolds
 pub mod SoundSales
 pub mod SoundDraws
+pub mod SoundPrices
+pub mod SoundStandings
 pub mod SoundSold
 pub mod SoundPoints
 pub mod SoundRunning
@@ -21,6 +25,12 @@ pub mod SoundOpening
 pub mod SoundSums
 pub mod SoundUses
 pub mod SoundRuns
+pub mod ClearFigures
+pub mod FigureMoves
+pub mod FigureDraws
+pub mod BoundedSums
+pub mod FigureOpens
+pub mod FigureBounds
 pub mod WorkedSound
 pub mod WorkedRows
 pub mod WorkedReplies
@@ -34,3 +44,4 @@ pub mod WorkedRoom
 pub mod WorkedEnds
 pub mod WorkedChecks
 pub mod WorkedReports
+pub mod WorkedPayments

@@ -9,10 +9,12 @@ use Rattle.written_site.specs.SiteStep.{accepted_site, site_after, drawn_after}
 use Rattle.written_site.specs.Sound.{InRange, IsShift, Sound, StaysSound}
 use Rattle.written_site.specs.SoundSteps.{IsTaken}
 use Rattle.written_site.proofs.Passed.{passed}
-use Rattle.written_site.proofs.SoundDraws.{drawn_length, drawn_rows}
+use Rattle.written_site.proofs.SoundDraws.{shifts_kept, shift_after, drawn_rows}
 use Rattle.written_site.proofs.SoundMeters.{product_after}
+use Rattle.written_site.proofs.SoundPrices.{in_range_after, priced_after}
 use Rattle.written_site.proofs.SoundReports.{nozzles_stay}
 use Rattle.written_site.proofs.SoundSold.{unpaid_after, order_after, sale_after}
+use Rattle.written_site.proofs.SoundStandings.{standing_after}
 use Rattle.written_site.proofs.SoundOpening.{opening_sound}
 use Rattle.written_site.proofs.SoundPoints.{point_after}
 use Rattle.written_site.proofs.SoundVolumes.{alone_after, conserved_after}
@@ -33,19 +35,24 @@ sound_accepted : (s : SiteState) (a : Actor) (e : Event) → InRange e → Sound
 sound_accepted s a e range sound accepted =
     let passes = passed s a e accepted in
     let taken = taken_when_passed s a e range passes in
-    let shift : length (drawn_after s e) ≡ open_shift s = drawn_length s e in
+    let shifts = shifts_kept s e in
     record {
       numbers = alone_after s e sound.numbers;
       points = point_after s a e sound passes taken;
       products = λ p n q is.
           let supplied = sound.products p n q (sym (product_after s e p n) ∙ is) in
-          record { low = supplied.low; high = supplied.high; priced = supplied.priced };
-      prices = sound.prices;
+          record {
+            low = supplied.low;
+            high = supplied.high;
+            priced = priced_after s e q supplied.priced;
+          };
+      prices = in_range_after s e passes.prices sound.prices;
       meters = nozzles_stay s e taken sound.meters;
       unpaid = unpaid_after s a e sound taken;
-      order = λ p h later. order_after s a e sound p h (omega (arith, shift, later));
+      order = λ p h later. order_after s a e sound p h (omega (arith, shifts, later));
       sales = sale_after s a e sound taken;
-      shift = subst IsShift (sym shift) sound.shift;
+      standings = standing_after s a e sound passes;
+      shift = shift_after s e passes.closes sound.shift;
       draws = drawn_rows s e sound.draws;
       conserved = λ w. conserved_after w s a e sound taken;
     }

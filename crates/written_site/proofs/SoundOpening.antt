@@ -289,6 +289,7 @@ opening_sound c fit =
       unpaid = λ p. omega (arith, no_unpaid p);
       order = λ p h later. none_made p h;
       sales = λ k x is. absurd (none_named k x is);
+      standings = λ k x is. absurd (none_named k x is);
       shift = record { low = omega arith; high = omega arith };
       draws = refl;
       conserved = λ w. balanced (metered_by w (opening_nozzles c))

@@ -1,12 +1,12 @@
 -- Each point stays sound.
-use Rattle.std.proofs.Common.{◌≡◌, ℕ, ◌+◌, ◌-◌, ◌==◌, Bool, true, false, cond, List, [], ◌∷◌, length, Option, option_and_then, Some, None, is_some, unwrap_or, ◌⊎◌, inl, inr, refl, sym, ap, subst, ◌∙◌, arith}
+use Rattle.std.proofs.Common.{◌≡◌, ℕ, ◌+◌, ◌-◌, ◌<◌, ◌==◌, Bool, true, false, cond, List, [], ◌∷◌, length, Option, option_and_then, Some, None, is_some, unwrap_or, ◌⊎◌, inl, inr, refl, sym, ap, subst, ◌∙◌, arith}
 use Rattle.std.proofs.lemmas.Bool.{and_parts}
 use Rattle.std.proofs.lemmas.Bool.Decides.{nat_tests}
 use Rattle.std.proofs.lemmas.Grind.{common_steps}
 use Rattle.std.specs.FinMap as finite
 use Rattle.site_base.specs.declared.actor.Actor.{Actor}
 use Rattle.site_base.specs.declared.event.Event.{Event}
-use Rattle.site_base.specs.declared.limits.TheConstants.{GREATEST_PRICE}
+use Rattle.site_base.specs.declared.limits.TheConstants.{GREATEST_PRICE, GREATEST_SEQ}
 use Rattle.site_base.specs.declared.state.PointState.{PointState}
 use Rattle.site_base.specs.Configured.{is_between}
 use Rattle.site_base.specs.Prices.{are_in_range}
@@ -31,7 +31,7 @@ use Rattle.written_site.proofs.SoundMeters.{nozzle_after}
 use Rattle.written_site.proofs.SoundReports.{reading_elsewhere, reading_own}
 use Rattle.written_site.proofs.SoundHolds.{held_after}
 use Rattle.written_site.proofs.SoundDraws.{drawn_length}
-use Rattle.written_site.proofs.SoundSales.{sells, SameCounts, counts_after}
+use Rattle.written_site.proofs.SoundSales.{sells, SellsNoMore, counts_after}
 use Rattle.written_site.proofs.SoundSold.{own_point}
 
 -- a nozzle that is lifted is one of the point's
@@ -69,18 +69,32 @@ may_sell_is s q may = record {
 
 -- ---- what the site's other facts say of a point
 
--- a point keeps its room where it makes no sale
-room_kept : (s : SiteState) (a : Actor) (e : Event) (q : ℕ)
-    → SameCounts q s.sales (sales_after s a e) → MaySell s q → MaySell (accepted_site s a e) q
-room_kept s a e q counts may =
-    let shift : length (drawn_after s e) ≡ open_shift s = drawn_length s e in
-    let made : made_at q (length (drawn_after s e)) (sales_after s a e)
-    ≡ made_at q (open_shift s) s.sales =
-    counts.made (length (drawn_after s e)) ∙ ap (λ (h : ℕ). made_at q h s.sales) shift in
+-- no sale is of a shift after the open one
+abbrev NoneLater : SiteState → Type 0
+NoneLater s = (q h : ℕ) → open_shift s < h → made_at q h s.sales ≡ 0
+
+-- a point keeps its room where it makes no sale; a shift that a close opens has every number left
+room_kept : (s : SiteState) (a : Actor) (e : Event) (q : ℕ) → NoneLater s
+    → SellsNoMore q s.sales (sales_after s a e) → MaySell s q → MaySell (accepted_site s a e) q
+room_kept s a e q order counts may =
     record {
       unpaid = omega (arith, counts.unpaid, may.unpaid);
-      number = omega (arith, made, may.number);
+      number = by_shift (drawn_length s e);
     }
+  where
+    open_then : ℕ
+    open_then = length (drawn_after s e)
+
+    by_shift : (open_then ≡ open_shift s) ⊎ (open_then ≡ open_shift s + 1)
+        → made_at q open_then (sales_after s a e) < GREATEST_SEQ
+    by_shift (inl still) =
+        let made : made_at q open_then (sales_after s a e) ≡ made_at q (open_shift s) s.sales =
+        counts.made open_then ∙ ap (λ (h : ℕ). made_at q h s.sales) still in
+        omega (arith, made, may.number)
+    by_shift (inr next) =
+        let none : made_at q open_then (sales_after s a e) ≡ 0 =
+        counts.made open_then ∙ order q open_then (omega (arith, next)) in
+        omega (arith, none)
 
 -- a nozzle that is out after the event is one of the point's
 nozzle_own : (s : SiteState) (e : Event) (q n : ℕ) (event : PointEvent) → IsTaken s e
@@ -198,14 +212,14 @@ one_event s e q event other own again =
     ap (λ (x : ℕ × PointEvent). x.1) (told_once (q, event) (q, other) (sym own ∙ again))
 
 -- a point that is released for a sale may make one
-room_own : (s : SiteState) (a : Actor) (e : Event) (q : ℕ) (event : PointEvent) → Passed s a e
-    → own_event s e ≡ Some (q, event) → IsPointSound s q (facts_of s q)
+room_own : (s : SiteState) (a : Actor) (e : Event) (q : ℕ) (event : PointEvent) → NoneLater s
+    → Passed s a e → own_event s e ≡ Some (q, event) → IsPointSound s q (facts_of s q)
     → is_released (after event (facts_of s q)).state ≡ true
     → (after event (facts_of s q)).test ≡ false → MaySell (accepted_site s a e) q
-room_own s a e q event passed own point released sale =
-    room_kept s a e q counts (by_test (is_sale_release event) refl)
+room_own s a e q event order passed own point released sale =
+    room_kept s a e q order counts (by_test (is_sale_release event) refl)
   where
-    counts : SameCounts q s.sales (sales_after s a e)
+    counts : SellsNoMore q s.sales (sales_after s a e)
     counts = counts_after s a e q (λ other again.
         ap (λ (x : PointEvent). sells (step_of x (facts_of s q)))
         (sym (one_event s e q event other own again))
@@ -220,11 +234,11 @@ room_own s a e q event passed own point released sale =
 -- ---- a point that the event isn't of
 
 -- nothing that it keeps changes, nor anything of the site that its facts speak of
-kept_point : (s : SiteState) (a : Actor) (e : Event) (q : ℕ) (f : Facts) → IsPointSound s q f
-    → ((event : PointEvent) → own_event s e ≡ Some (q, event) → ⊥)
+kept_point : (s : SiteState) (a : Actor) (e : Event) (q : ℕ) (f : Facts) → NoneLater s
+    → IsPointSound s q f → ((event : PointEvent) → own_event s e ≡ Some (q, event) → ⊥)
     → (is_released f.state ≡ true → is_some (finite.get (holds_after s a e) q) ≡ true)
     → IsPointSound (accepted_site s a e) q f
-kept_point s a e q f point away held =
+kept_point s a e q f order point away held =
     let counts = counts_after s a e q (λ event own. absurd (away event own)) in
     record {
       whole = point.whole;
@@ -233,7 +247,7 @@ kept_point s a e q f point away held =
       flowed = λ under_way. point.flowed under_way
           ∙ sym (reading_elsewhere s e q (nozzle_out f) away);
       price = point.price;
-      room = λ released sale. room_kept s a e q counts (point.room released sale);
+      room = λ released sale. room_kept s a e q order counts (point.room released sale);
     }
 
 -- ---- the event's own point
@@ -255,7 +269,8 @@ done_point s a e q event sound passed taken own held =
       held = held;
       flowed = λ under_way. flowed_own s e q event taken own point whole under_way;
       price = λ under_way. price_own s e q event sound own point under_way;
-      room = λ released sale. room_own s a e q event passed own point released sale;
+      room = λ released sale. room_own s a e q event sound.order passed own point released
+          sale;
     }
 
 -- ---- every point
@@ -269,7 +284,7 @@ point_after s a e sound passed taken q f is = by_row (row_after s.points (own_ev
     held = held_after s a e passed (λ p g row. (sound.points p g row).held) q f is
 
     by_row : RowAfter s.points (own_event s e) q f → IsPointSound (accepted_site s a e) q f
-    by_row (kept row away) = kept_point s a e q f (sound.points q f row) away held
+    by_row (kept row away) = kept_point s a e q f sound.order (sound.points q f row) away held
     by_row (done event old own row made) =
         let facts : after event (facts_of s q) ≡ f =
         ap (after event) (facts_there s.points q old row) ∙ sym made in

@@ -3,7 +3,7 @@ use Rattle.std.proofs.Common.{◌≡◌, ℕ, ◌+◌, ◌≤◌, ◌<◌, ◌==
 use Rattle.std.proofs.lemmas.Bool.Decides.{nat_tests}
 use Rattle.std.proofs.lemmas.Grind.{common_steps}
 use Rattle.site_base.specs.declared.event.Event.{Event}
-use Rattle.site_base.specs.declared.event.Event.TheVariants.{SignOn, SignOff, ReplaceMeter, ReadPoint, ReadTransaction, ReadProduct, Flow, HangUp}
+use Rattle.site_base.specs.declared.event.Event.TheVariants.{SignOn, SignOff, ReplaceMeter, ReadPoint, Lock, Unlock, Clear, ReadTransaction, SetPrice, ReadProduct, CloseShift, ReadSite, Flow, HangUp}
 use Rattle.site_base.specs.declared.limits.TheConstants.{GREATEST_READING, REPLACEMENT_LIMIT}
 use Rattle.fuelling_point.specs.declared.event.PointEvent.{PointEvent}
 use Rattle.fuelling_point.specs.declared.event.PointEvent.TheVariants as points
@@ -136,8 +136,14 @@ reads_own s (ReplaceMeter p n reading) taken = λ w under_way.
 reads_own s SignOn taken = tt
 reads_own s SignOff taken = tt
 reads_own s (ReadPoint p) taken = tt
+reads_own s (Lock p id) taken = tt
+reads_own s (Unlock p id) taken = tt
+reads_own s (Clear p id) taken = tt
 reads_own s (ReadTransaction p id) taken = tt
+reads_own s (SetPrice q price) taken = tt
 reads_own s (ReadProduct q) taken = tt
+reads_own s CloseShift taken = tt
+reads_own s ReadSite taken = tt
 reads_own s e taken = λ w under_way. none_flows _
 
 -- the fuelling under way at the event's point: its nozzle reads what flowed above what it read

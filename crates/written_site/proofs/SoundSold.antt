@@ -4,7 +4,7 @@ use Rattle.std.proofs.lemmas.Grind.{common_steps}
 use Rattle.site_base.specs.declared.actor.Actor.{Actor}
 use Rattle.site_base.specs.declared.actor.Actor.TheVariants.{Till}
 use Rattle.site_base.specs.declared.event.Event.{Event}
-use Rattle.site_base.specs.declared.event.Event.TheVariants.{SignOff, Offline, HangUp}
+use Rattle.site_base.specs.declared.event.Event.TheVariants.{SignOff, Lock, Unlock, Clear, Offline, HangUp}
 use Rattle.site_base.specs.declared.limits.TheConstants.{UNPAID_LIMIT}
 use Rattle.site_base.specs.declared.state.PointState.{PointState}
 use Rattle.site_base.specs.Table.{row_of}
@@ -17,17 +17,19 @@ use Rattle.fuelling_point.specs.PointChecks.{refusal_of}
 use Rattle.fuelling_point.specs.Step.{step_of}
 use Rattle.fuelling_point.specs.Whole.{is_released}
 use Rattle.meters.specs.Nozzles.{reading_of}
-use Rattle.transaction_buffer.specs.Sales.{Key, Sale, sale_of, made_at, unpaid_at}
-use Rattle.written_site.specs.SiteState.{SiteState, facts_of, has_point, open_shift}
+use Rattle.transaction_buffer.specs.declared.request.Request.TheVariants as requests
+use Rattle.transaction_buffer.specs.Sales.{made_at, unpaid_at}
+use Rattle.written_site.specs.SiteState.{SiteState, facts_of, has_point, key_named, open_shift}
 use Rattle.written_site.specs.SiteChecks.{own_event, numbers, at_point, flowed}
 use Rattle.written_site.specs.SiteStep.{step_at, nozzles_after, sales_after, sale_made}
 use Rattle.written_site.specs.Sound.{IsPointSound, IsSaleSound, MaySell, Sound}
 use Rattle.written_site.specs.SoundSteps.{IsTaken}
 use Rattle.written_site.specs.Volumes.{nozzle_out, running_at}
+use Rattle.written_site.proofs.EachSale.{Each}
 use Rattle.written_site.proofs.SoundTables.{row_there}
 use Rattle.written_site.proofs.SoundMachine.{sold_from}
 use Rattle.written_site.proofs.SoundReports.{reading_own}
-use Rattle.written_site.proofs.SoundSales.{sells, let_go_counts, unpaid_by, order_by, signed_off_sales, sales_by_step}
+use Rattle.written_site.proofs.SoundSales.{sells, let_go_counts, asked_counts, unpaid_by, order_by, signed_off_sales, asked_sales, sales_by_step}
 
 -- ---- the event's own point
 
@@ -117,7 +119,16 @@ sale_is_sound s e p event sound taken own is =
 pub unpaid_after : (s : SiteState) (a : Actor) (e : Event) → Sound s → IsTaken s e → (q : ℕ)
     → unpaid_at q (sales_after s a e) ≤ UNPAID_LIMIT
 unpaid_after s (Till t) SignOff sound taken = λ q.
-    subst (λ (n : ℕ). n ≤ UNPAID_LIMIT) (sym (let_go_counts t q s.sales).unpaid) (sound.unpaid q)
+    omega (arith, (let_go_counts t q s.sales).unpaid, sound.unpaid q)
+unpaid_after s (Till t) (Lock p id) sound taken = λ q.
+    omega (arith, (asked_counts requests.Lock t (key_named s p id) q s.sales).unpaid, sound.unpaid q)
+unpaid_after s (Till t) (Unlock p id) sound taken = λ q.
+    omega (arith, (asked_counts requests.Unlock t (key_named s p id) q s.sales).unpaid,
+    sound.unpaid q)
+unpaid_after s (Till t) (Clear p id) sound taken = λ q.
+    omega (arith,
+    (asked_counts (requests.Clear (open_shift s)) t (key_named s p id) q s.sales).unpaid,
+    sound.unpaid q)
 unpaid_after s a (Offline p) sound taken =
     unpaid_by s s.nozzles p (step_at s (Offline p))
     (may_sell_there s (Offline p) p points.Offline sound taken refl) sound.unpaid
@@ -132,6 +143,13 @@ pub order_after : (s : SiteState) (a : Actor) (e : Event) → Sound s → (q h :
     → open_shift s < h → made_at q h (sales_after s a e) ≡ 0
 order_after s (Till t) SignOff sound = λ q h later.
     (let_go_counts t q s.sales).made h ∙ sound.order q h later
+order_after s (Till t) (Lock p id) sound = λ q h later.
+    (asked_counts requests.Lock t (key_named s p id) q s.sales).made h ∙ sound.order q h later
+order_after s (Till t) (Unlock p id) sound = λ q h later.
+    (asked_counts requests.Unlock t (key_named s p id) q s.sales).made h ∙ sound.order q h later
+order_after s (Till t) (Clear p id) sound = λ q h later.
+    (asked_counts (requests.Clear (open_shift s)) t (key_named s p id) q s.sales).made h
+    ∙ sound.order q h later
 order_after s a (Offline p) sound =
     order_by s s.nozzles p (step_at s (Offline p)) sound.order
 order_after s a (HangUp p n reading) sound =
@@ -139,9 +157,14 @@ order_after s a (HangUp p n reading) sound =
 order_after s a e sound = sound.order
 
 pub sale_after : (s : SiteState) (a : Actor) (e : Event) → Sound s → IsTaken s e
-    → (k : Key) (x : Sale)
-    → sale_of k (sales_after s a e) ≡ Some x → IsSaleSound x
+    → Each IsSaleSound (sales_after s a e)
 sale_after s (Till t) SignOff sound taken = signed_off_sales t s.sales sound.sales
+sale_after s (Till t) (Lock p id) sound taken =
+    asked_sales requests.Lock t (key_named s p id) s.sales sound.sales
+sale_after s (Till t) (Unlock p id) sound taken =
+    asked_sales requests.Unlock t (key_named s p id) s.sales sound.sales
+sale_after s (Till t) (Clear p id) sound taken =
+    asked_sales (requests.Clear (open_shift s)) t (key_named s p id) s.sales sound.sales
 sale_after s a (Offline p) sound taken =
     sales_by_step s s.nozzles p (step_at s (Offline p))
     (sale_is_sound s (Offline p) p points.Offline sound taken refl) sound.sales

@@ -6,9 +6,9 @@ use Rattle.std.proofs.lemmas.Bool.Decides.{nat_tests}
 use Rattle.std.proofs.lemmas.Grind.{common_steps}
 use Rattle.std.specs.List.{list_all, slice_get}
 use Rattle.site_base.specs.declared.actor.Actor.{Actor}
-use Rattle.site_base.specs.declared.actor.Actor.TheVariants.{Dispenser}
+use Rattle.site_base.specs.declared.actor.Actor.TheVariants.{Till, Dispenser}
 use Rattle.site_base.specs.declared.event.Event.{Event}
-use Rattle.site_base.specs.declared.event.Event.TheVariants.{Flow, HangUp}
+use Rattle.site_base.specs.declared.event.Event.TheVariants.{Lock, Unlock, Clear, Flow, HangUp}
 use Rattle.site_base.specs.declared.limits.TheConstants.{GREATEST_READING, PRODUCT_CELLS}
 use Rattle.site_base.specs.Numbered.{numbered}
 use Rattle.site_base.specs.Table.{row_of}
@@ -26,13 +26,16 @@ use Rattle.meters.specs.Nozzles.{Nozzle, AreNozzles, has_nozzle, nozzle_of, prod
 use Rattle.meters.proofs.Bounded.{each_found, bound, total_bound}
 use Rattle.meters.proofs.Looked.{there}
 use Rattle.meters.proofs.Weighed.{accepted_above}
-use Rattle.transaction_buffer.specs.Sales.{Sales, next_number}
-use Rattle.transaction_buffer.specs.Sums.{volume_of}
+use Rattle.transaction_buffer.specs.declared.request.Request.{Request}
+use Rattle.transaction_buffer.specs.Sales.{Key, Sale, Sales, next_number, sale_of}
+use Rattle.transaction_buffer.specs.Sums.{volume_of, volume_by, volume_with}
+use Rattle.transaction_buffer.specs.TransactionTable.{after_request}
+use Rattle.transaction_buffer.proofs.Volumes.{move}
 use Rattle.written_site.specs.SiteState.{SiteState, facts_of, open_shift, price_of, price_at_start}
-use Rattle.written_site.specs.SiteChecks.{own_event, first_refusal, flowed, put_back_at}
+use Rattle.written_site.specs.SiteChecks.{own_event, first_refusal, flowed, put_back_at, sale_request}
 use Rattle.written_site.specs.SiteStep.{nozzles_after, points_after, sales_after, drawn_after, step_at, step_by}
 use Rattle.written_site.specs.Sound.{InRange, IsPointSound, IsPrice, IsSupplied, MaySell, Sound, is_draw_row}
-use Rattle.written_site.specs.SoundSteps.{IsTaken, FitsOwn, IsDelivery, IsSaleFit, IsDrawFit, DoVolumesAddUp, FindsRoom, ends_by, open_draws, growth_at, product_at, product_by, sold_at, drawn_at}
+use Rattle.written_site.specs.SoundSteps.{IsTaken, FitsOwn, IsDelivery, IsSaleFit, IsDrawFit, MovesStatus, DoVolumesAddUp, FindsRoom, ends_by, open_draws, growth_at, product_at, product_by, sold_at, drawn_at}
 use Rattle.written_site.specs.Volumes.{nozzle_out, product_out, running_at, running_by, sold_by, drawn_by, running, adjusted}
 use Rattle.written_site.proofs.Passed.{passed}
 use Rattle.written_site.proofs.Sound.{taken_when_passed}
@@ -408,8 +411,44 @@ pub taken_when_accepted : (s : SiteState) (a : Actor) (e : Event) → InRange e
     → first_refusal s a e ≡ None → IsTaken s e
 taken_when_accepted s a e range accepted = taken_when_passed s a e range (passed s a e accepted)
 
+-- ---- what a till asks of a transaction
+
+moves_asked : (s : SiteState) (t : ℕ) (event : Event) (request : Request) (k : Key) (x : Sale)
+    → sales_after s (Till t) event ≡ after_request request t k s.sales → sale_of k s.sales ≡ Some x
+    → MovesStatus s t event request x
+moves_asked s t event request k x leads is = record {
+  by_status = λ q status.
+      ap (λ (sales : Sales). volume_by q status sales + volume_with q status x) leads
+      ∙ move.by_request q status t request k x s.sales is;
+  whole = λ q. ap (volume_of q) leads ∙ move.whole_by_request q t request k s.sales;
+}
+
+asked_once : (s : SiteState) (t : ℕ) {asked other : Request × Key} → asked ≡ other
+    → after_request asked.0 t asked.1 s.sales ≡ after_request other.0 t other.1 s.sales
+asked_once s t is = ap (λ (a : Request × Key). after_request a.0 t a.1 s.sales) is
+
+-- the event leads to the sales that its request leads to
+leads_asked : (s : SiteState) (t : ℕ) (event : Event) (request : Request) (k : Key)
+    → sale_request s event ≡ Some (request, k)
+    → sales_after s (Till t) event ≡ after_request request t k s.sales
+leads_asked s t (Lock p id) request k is = asked_once s t (told_once _ _ is)
+leads_asked s t (Unlock p id) request k is = asked_once s t (told_once _ _ is)
+leads_asked s t (Clear p id) request k is = asked_once s t (told_once _ _ is)
+leads_asked s t event request k is = cc
+
+moves_status : (s : SiteState) (t : ℕ) (event : Event) (request : Request) (k : Key) (x : Sale)
+    → sale_request s event ≡ Some (request, k) → sale_of k s.sales ≡ Some x
+    → MovesStatus s t event request x
+moves_status s t event request k x asked =
+    moves_asked s t event request k x (leads_asked s t event request k asked)
+
 pub volumes_add_up : DoVolumesAddUp
-volumes_add_up = record { adds_up = adds_up; moves = moves_volumes; runs = moves_running }
+volumes_add_up = record {
+  adds_up = adds_up;
+  moves = moves_volumes;
+  runs = moves_running;
+  asks = moves_status;
+}
 
 pub finds_room : FindsRoom
 finds_room = record {

@@ -7,7 +7,7 @@ use Rattle.std.proofs.lemmas.Grind.{common_steps}
 use Rattle.site_base.specs.declared.actor.Actor.{Actor}
 use Rattle.site_base.specs.declared.actor.Actor.TheVariants.{Till}
 use Rattle.site_base.specs.declared.event.Event.{Event}
-use Rattle.site_base.specs.declared.event.Event.TheVariants.{SignOff, ReplaceMeter, Offline, Flow, HangUp}
+use Rattle.site_base.specs.declared.event.Event.TheVariants.{SignOff, ReplaceMeter, Lock, Unlock, Clear, CloseShift, Offline, Flow, HangUp}
 use Rattle.site_base.specs.declared.state.PointState.TheVariants as states
 use Rattle.std.specs.Prelude.{nat_eq}
 use Rattle.site_base.specs.Configured.{none_alike}
@@ -26,10 +26,12 @@ use Rattle.meters.proofs.Looked.{there, reading_is}
 use Rattle.meters.proofs.Weighed.{read_raises, meter_keeps, accepted_above}
 use Rattle.meters.specs.declared.report.Report.TheVariants.{Growing}
 use Rattle.transaction_buffer.specs.declared.standing.Standing.TheVariants.{Payable}
-use Rattle.transaction_buffer.specs.Sales.{Sale, Sales}
-use Rattle.transaction_buffer.specs.TransactionTable.{after_sign_off, let_go, is_locked_by}
+use Rattle.transaction_buffer.specs.declared.request.Request.{Request}
+use Rattle.transaction_buffer.specs.declared.request.Request.TheVariants as requests
+use Rattle.transaction_buffer.specs.Sales.{Key, Sale, Sales}
+use Rattle.transaction_buffer.specs.TransactionTable.{after_request, after_sign_off, let_go, is_locked_by}
 use Rattle.transaction_buffer.proofs.Summing.{sold_sum, changed_sum, alike_sum}
-use Rattle.written_site.specs.SiteState.{SiteState, facts_in, facts_of}
+use Rattle.written_site.specs.SiteState.{SiteState, facts_in, facts_of, key_named, open_shift}
 use Rattle.written_site.specs.SiteChecks.{own_event, flowed, put_back_at}
 use Rattle.written_site.specs.SiteStep.{nozzles_after, points_after, sales_after, sales_by, sale_made, drawn_after, draws_by, step_at, step_by, with_event}
 use Rattle.written_site.specs.Sound.{IsPointSound, IsSupplied, Sound, numbers_of}
@@ -42,7 +44,8 @@ use Rattle.written_site.proofs.SoundMeters.{product_after}
 use Rattle.written_site.proofs.SoundReports.{flow_nozzle, hung_up_nozzle, flow_is_out, hung_up_is_out}
 use Rattle.written_site.proofs.SoundRunning.{flowed_by, running_is, flowed_products, flowed_with}
 use Rattle.written_site.proofs.SoundSold.{own_point, run_own}
-use Rattle.written_site.proofs.SoundDraws.{drawn_more}
+use Rattle.written_site.proofs.SoundDraws.{drawn_more, opened_weighs}
+use Rattle.written_site.proofs.AskedSums.{asked_keeps}
 
 -- ---- metered
 
@@ -208,6 +211,12 @@ sign_off_weighs w t sales =
     changed_sum (weight_of w) (let_go t) sales
     ∙ alike_sum (λ x. weight_of w (let_go t x)) (weight_of w) (let_go_weighs w t) sales
 
+-- what a till asks of a sale doesn't change its product or its volume
+asked_weighs : (w : ℕ → ℕ) (request : Request) (t : ℕ) (k : Key) (sales : Sales)
+    → sold_by w (after_request request t k sales) ≡ sold_by w sales
+asked_weighs w request t k sales =
+    asked_keeps (weight_of w) request t k sales (λ x y. refl)
+
 -- a nozzle that is out delivers what it did
 pub product_out_after : (s : SiteState) (e : Event) (p : ℕ) (f : Facts)
     → product_out (nozzles_after s e) p f ≡ product_out s.nozzles p f
@@ -243,6 +252,13 @@ pub sold_moves : (w : ℕ → ℕ) (s : SiteState) (a : Actor) (e : Event) → S
     → sold_by w (sales_after s a e) ≡ sold_by w s.sales + w (product_at s e) * sold_at s e
 sold_moves w s (Till t) SignOff sound taken =
     sign_off_weighs w t s.sales ∙ weighs_none (w 0) (sold_by w s.sales)
+sold_moves w s (Till t) (Lock p id) sound taken =
+    asked_weighs w requests.Lock t (key_named s p id) s.sales ∙ weighs_none (w 0) (sold_by w s.sales)
+sold_moves w s (Till t) (Unlock p id) sound taken =
+    asked_weighs w requests.Unlock t (key_named s p id) s.sales ∙ weighs_none (w 0) (sold_by w s.sales)
+sold_moves w s (Till t) (Clear p id) sound taken =
+    asked_weighs w (requests.Clear (open_shift s)) t (key_named s p id) s.sales
+    ∙ weighs_none (w 0) (sold_by w s.sales)
 sold_moves w s a (Offline p) sound taken =
     sold_by_step w s (Offline p) p points.Offline sound taken refl (step_at s (Offline p)) refl
 sold_moves w s a (HangUp p n reading) sound taken =
@@ -307,6 +323,8 @@ drawn_moves w s (HangUp p n reading) sound taken =
     drawn_by_step w s (HangUp p n reading) p (points.HangUp n (flowed s p n reading)) sound taken
     refl
     (step_at s (HangUp p n reading)) refl
+drawn_moves w s CloseShift sound taken =
+    opened_weighs w s.drawn ∙ weighs_none (w 0) (drawn_by w s.drawn)
 drawn_moves w s e sound taken =
     stays_so (w (product_at s e)) (drawn_by w s.drawn) (drawn_at s e)
     (none_drawn s (own_event s e) refl)

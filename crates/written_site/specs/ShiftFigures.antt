@@ -8,7 +8,7 @@ use Rattle.site_base.specs.declared.view.SiteView.{SiteView}
 use Rattle.site_base.specs.Numbered.{numbered}
 use Rattle.transaction_buffer.specs.declared.standing.Standing.{Standing}
 use Rattle.transaction_buffer.specs.declared.standing.Standing.TheVariants.{ClearedBy}
-use Rattle.transaction_buffer.specs.Sales.{Sale}
+use Rattle.transaction_buffer.specs.Sales.{Sale, Sales}
 use Rattle.transaction_buffer.specs.Sums.{sum_of, volume_in}
 use Rattle.written_site.specs.SiteState.{SiteState, nothing_drawn, open_shift}
 use Rattle.written_site.specs.Volumes.{product_view}
@@ -28,15 +28,22 @@ abbrev pub is_clear_of : ℕ → ℕ → Sale → Bool
 is_clear_of h t x = is_cleared_in h x.standing && is_cleared_by t x.standing
 
 -- how many sales till t cleared in shift h, and their cents
-abbrev pub shift_clears : SiteState → ℕ → ℕ → ℕ
-shift_clears s h t = sum_of (λ x. if is_clear_of h t x then 1 else 0) s.sales
+abbrev pub clears_in : ℕ → ℕ → Sales → ℕ
+clears_in h t sales = sum_of (λ x. if is_clear_of h t x then 1 else 0) sales
 
-abbrev pub shift_cents : SiteState → ℕ → ℕ → ℕ
-shift_cents s h t = sum_of (λ x. if is_clear_of h t x then x.cents else 0) s.sales
+abbrev pub cents_in : ℕ → ℕ → Sales → ℕ
+cents_in h t sales = sum_of (λ x. if is_clear_of h t x then x.cents else 0) sales
 
 -- the millilitres of product q that were cleared in shift h
-abbrev pub shift_cleared : SiteState → ℕ → ℕ → ℕ
-shift_cleared s h q = sum_of (λ x. if is_cleared_in h x.standing then volume_in q x else 0) s.sales
+abbrev pub cleared_in : ℕ → ℕ → Sales → ℕ
+cleared_in h q sales = sum_of (λ x. if is_cleared_in h x.standing then volume_in q x else 0) sales
+
+-- how many sales till t cleared in all shifts, and their cents
+abbrev pub clears_by : ℕ → Sales → ℕ
+clears_by t sales = sum_of (λ x. if is_cleared_by t x.standing then 1 else 0) sales
+
+abbrev pub cents_by : ℕ → Sales → ℕ
+cents_by t sales = sum_of (λ x. if is_cleared_by t x.standing then x.cents else 0) sales
 
 -- the millilitres of each product, from product 1 on, that tests drew in shift h
 abbrev pub shift_draws : SiteState → ℕ → List ℕ
@@ -51,23 +58,16 @@ abbrev pub tills : List ℕ
 tills = range_with_len 1 TILLS
 
 -- the cents that all tills cleared in shift h
-abbrev pub shift_takings : SiteState → ℕ → ℕ
-shift_takings s h = sum_by (shift_cents s h) tills
+abbrev pub takings_in : ℕ → Sales → ℕ
+takings_in h sales = sum_by (λ t. cents_in h t sales) tills
 
 -- the site as a read shows it: the open shift, and what was cleared in it
 abbrev pub site_view : SiteState → SiteView
-site_view s = record { cents = shift_takings s (open_shift s); shift = open_shift s }
-
--- how many sales till t cleared in all shifts, and their cents
-abbrev pub clears_of : SiteState → ℕ → ℕ
-clears_of s t = sum_of (λ x. if is_cleared_by t x.standing then 1 else 0) s.sales
-
-abbrev pub cents_of : SiteState → ℕ → ℕ
-cents_of s t = sum_of (λ x. if is_cleared_by t x.standing then x.cents else 0) s.sales
+site_view s = record { cents = takings_in (open_shift s) s.sales; shift = open_shift s }
 
 -- the totals of the site: each till with its clears and their cents, and each product, in configured order
 abbrev pub till_totals : SiteState → List (ℕ × ℕ × ℕ)
-till_totals s = map (λ t. (t, clears_of s t, cents_of s t)) tills
+till_totals s = map (λ t. (t, clears_by t s.sales, cents_by t s.sales)) tills
 
 abbrev pub product_totals : SiteState → List ProductView
 product_totals s = map (λ e. product_view s e.0 e.1) s.prices
