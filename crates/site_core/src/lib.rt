@@ -3,12 +3,13 @@
 //! it was.
 #![tactic(auto)]
 
+mod accounts;
 mod asking;
 mod commanding;
-mod draws;
 mod ending;
 mod figures;
 mod holding;
+mod ledger;
 mod managing;
 mod points;
 mod ranges;

@@ -1,0 +1,57 @@
+-- The sales of a site with the figures of its shifts, as contracts see them and as they are kept.
+use Rattle.std.specs.Prelude.{◌≡◌, ℕ, ◌+◌, ◌^◌, ◌<◌, ◌≤◌, List, map, Option, option_map, Some, None, unwrap_or}
+use Rattle.std.specs.List.{range_with_len}
+use Rattle.site_base.specs.declared.limits.TheConstants.{PRODUCTS, TILLS}
+use Rattle.site_base.specs.Numbered.{numbered}
+use Rattle.shift_ledger.specs.declared.row.ShiftRow.{ShiftRow}
+use Rattle.shift_ledger.specs.Figures.{empty_figures, till_figures, product_figure}
+use Rattle.shift_ledger.specs.Shifts.{Shifts, figures_of}
+use Rattle.transaction_buffer.specs.Sales.{Sale, Sales}
+use Rattle.written_site.specs.ShiftFigures.{cents_by, cents_in, cleared_in, clears_by, clears_in, tills}
+use Rattle.site_core.specs.Ledger.{total_of}
+
+-- the sales; how many more of each point there is room for; for each shift, the open one last, the
+-- millilitres that tests drew of each product; and how many more shifts there is room to close
+pub record Account : Type 0 where
+  pub sales : Sales
+  pub rooms : List ℕ
+  pub drawn : List (List ℕ)
+  pub closes : ℕ
+
+-- the products that a site may have
+abbrev pub products : List ℕ
+products = range_with_len 1 PRODUCTS
+
+-- the figures of shift h: of each till its clears and their cents, of each product the millilitres cleared
+-- and those drawn by tests
+abbrev pub figures_in : ℕ → Sales → List ℕ → ShiftRow
+figures_in h sales draws = record {
+  tills = map (λ t. (clears_in h t sales, cents_in h t sales)) tills;
+  products = map (λ q. cleared_in h q sales) products;
+  adjusted = draws;
+}
+
+-- the figures of shift h, if it is open or closed
+abbrev pub shift_row : ℕ → Sales → List (List ℕ) → Option ShiftRow
+shift_row h sales drawn = option_map (figures_in h sales) (numbered h drawn)
+
+-- the figures with one more clear, of sale x by till t in shift h, stay in 64 bits
+pub record FitsOneClear (h t : ℕ) (x : Sale) (sales : Sales) : Type 0 where
+  pub clears : clears_in h t sales + 1 < 2 ^ 64
+  pub cents : cents_in h t sales + x.cents < 2 ^ 64
+  pub cleared : cleared_in h x.product sales + x.volume < 2 ^ 64
+  pub all_clears : clears_by t sales + 1 < 2 ^ 64
+  pub all_cents : cents_by t sales + x.cents < 2 ^ 64
+
+-- the row of shift h; of no such shift, an empty one
+abbrev pub row_in : ℕ → Shifts → ShiftRow
+row_in h shifts = unwrap_or (figures_of h shifts) empty_figures
+
+-- Every shift's row has the figures of the sales that were cleared in it, and the tills' totals those of
+-- all that each cleared. In a shift to come nothing is cleared, and a till's number is one that it may have.
+pub record AreFigures (sales : Sales) (shifts : Shifts) (totals : List (ℕ × ℕ)) : Type 0 where
+  pub clears : (h t : ℕ) → 1 ≤ t → t ≤ TILLS
+      → till_figures t (row_in h shifts) ≡ (clears_in h t sales, cents_in h t sales)
+  pub cleared : (h q : ℕ) → 1 ≤ q → q ≤ PRODUCTS
+      → product_figure q (row_in h shifts) ≡ cleared_in h q sales
+  pub all : (t : ℕ) → 1 ≤ t → t ≤ TILLS → total_of t totals ≡ (clears_by t sales, cents_by t sales)
