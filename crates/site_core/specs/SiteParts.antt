@@ -8,12 +8,12 @@ site_of parts = record {
   points = parts.points;
   nozzles = parts.meters;
   holds = parts.claims;
-  sales = parts.sales.sales;
+  sales = parts.accounts.sales;
   prices = parts.prices;
   managers = parts.managers;
   signed_on = parts.signed_on;
-  drawn = parts.draws;
+  drawn = parts.accounts.drawn;
 }
 
 abbrev pub room_of : SiteParts → Room
-room_of parts = record { sales = parts.sales.rooms }
+room_of parts = record { sales = parts.accounts.rooms; closes = parts.accounts.closes }

@@ -7,16 +7,16 @@ ghost use Rattle.site_base.specs.Checks.{unless, ◌or_else◌};
 ghost use Rattle.site_base.specs.Events.{reported_by};
 ghost use Rattle.written_site.specs.SiteState.{is_signed_on};
 ghost use Rattle.written_site.specs.SiteChecks.{asks_free_point, free_for, is_preset, managed, may_ask};
-ghost use Rattle.written_site.specs.SiteChecks.{not_held, numbers, presets, signing};
+ghost use Rattle.written_site.specs.SiteChecks.{not_held, numbers, presets, pricing, signing};
 ghost use Rattle.site_core.specs.SiteParts.{site_of};
 
 use crate::site_parts::SiteParts;
-use site_base::{Event, FpNo, GREATEST_PRESET, Preset, Refusal, TillNo};
+use site_base::{Event, FpNo, GREATEST_PRESET, GREATEST_PRICE, Preset, Refusal, TillNo};
 
 impl SiteParts {
     /// The till is signed on, what its event names is there, the event is a till's to ask, a manager
-    /// asks what is for managers alone, a preset is in range, and no other till holds the point where
-    /// the event is for one that no other holds.
+    /// asks what is for managers alone, a price and a preset are in range, and no other till holds the
+    /// point where the event is for one that no other holds.
     pub(crate) fn may_ask(&self, t: TillNo, event: &Event) -> Result<(), Refusal>
         requires { signing (site_of self.now) (Till t) event.now
             ≡ unless (is_signed_on (site_of self.now) t) NotSignedOn }
@@ -32,13 +32,15 @@ impl SiteParts {
             return Err(Refusal::NotYourPoint);
         }
         self.manages(t, event)?;
+        prices(event)?;
         limits(event)?;
         self.finds_free(t, event)
     }
 
     /// What the report names is there, and it is of the dispenser's own point.
     pub(crate) fn may_report(&self, d: FpNo, event: &Event) -> Result<(), Refusal>
-        requires { presets event.now ≡ None }
+        requires prices { pricing event.now ≡ None }
+        requires limits { presets event.now ≡ None }
         ensures checks { MatchResult result
             (λ _. may_ask (site_of self.now) (Dispenser d) event.now ≡ None)
             (λ r. may_ask (site_of self.now) (Dispenser d) event.now ≡ Some r) }
@@ -166,6 +168,20 @@ impl SiteParts {
             Event::Terminate(_) => !self.managers.contains(t),
             _ => event.needs_free_point(),
         }
+    }
+}
+
+/// A price that a product is given is in range.
+fn prices(event: &Event) -> Result<(), Refusal>
+    ensures { MatchResult result
+        (λ _. pricing event.now ≡ None)
+        (λ r. pricing event.now ≡ Some r) }
+{
+    match event {
+        Event::SetPrice(_, price) if *price < 1 || *price > GREATEST_PRICE => {
+            Err(Refusal::BadPrice)
+        }
+        _ => Ok(()),
     }
 }
 

@@ -22,7 +22,7 @@ impl SiteParts {
     /// Tells a step of the point, which took this growth. Where it ends a fuelling, its sale or its draw
     /// is noted; the hold is looked at for the sale's locker, and stays.
     pub(crate) fn end(&mut self, p: FpNo, growth: u64, step: &PointStep) -> Answer
-        requires room { 0 < room_at p self.old.sales.rooms }
+        requires room { 0 < room_at p self.old.accounts.rooms }
         requires place { MayEnd (site_of self.old) p step.now }
         ensures told { result ≡ step_told (site_of self.old) p growth step.now }
         ensures site { site_of self.new ≡ record (site_of self.old) {
@@ -39,13 +39,12 @@ impl SiteParts {
             } => {
                 let product = self.product(p, *nozzle);
                 let view = self.sale_view(p, product, *volume, *price, *prepaid);
-                let shift = self.open_shift();
-                let seq = self.sales.add(p, shift, view);
+                let seq = self.accounts.add(p, view);
                 Answer::Sold { seq, growth }
             }
             PointStep::Drawn { nozzle, volume } => {
                 let product = self.product(p, *nozzle);
-                self.draws.note(product, volume.get());
+                self.accounts.note_drawn(product, volume.get());
                 Answer::Drawn { growth }
             }
             _ => told(step),

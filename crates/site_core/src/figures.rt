@@ -11,7 +11,7 @@ ghost use Rattle.site_core.specs.SiteParts.{site_of};
 use crate::site_parts::SiteParts;
 use site_base::{
     Answer, Event, FpNo, Mills, NozzleNo, PointView, ProductNo, ProductView, Reply, SaleId,
-    ShiftNo, Status, TillNo, TransactionView,
+    ShiftNo, SiteView, Status, TillNo, TransactionView,
 };
 
 impl SiteParts {
@@ -47,6 +47,17 @@ impl SiteParts {
         }
     }
 
+    pub(crate) fn read_site(&self, t: TillNo) -> Reply
+        requires { Sound (site_of self.now) }
+        ensures { Steps (site_of self.now) (Till t) Event.ReadSite (site_of self.now) result }
+    {
+        self.may_ask(t, &Event::ReadSite)?;
+        Ok(Answer::SiteIs(SiteView {
+            cents: self.accounts.takings(),
+            shift: self.open_shift(),
+        }))
+    }
+
     /// The product at this price, as a read shows it. What is in fuellings under way is what the meters
     /// have counted and no sale or draw has.
     fn product_view(&self, q: ProductNo, price: Mills) -> ProductView
@@ -54,10 +65,10 @@ impl SiteParts {
         ensures { result ≡ product_view (site_of self.now) q price }
     {
         let metered = self.meters.product_total(q);
-        let payable = self.sales.sum(q, Status::Payable);
-        let locked = self.sales.sum(q, Status::Locked);
-        let cleared = self.sales.sum(q, Status::Cleared);
-        let adjusted = self.draws.total(q);
+        let payable = self.accounts.sum(q, Status::Payable);
+        let locked = self.accounts.sum(q, Status::Locked);
+        let cleared = self.accounts.sum(q, Status::Cleared);
+        let adjusted = self.accounts.drawn(q);
         ProductView {
             price,
             metered,
@@ -87,11 +98,11 @@ impl SiteParts {
         ensures { result ≡ sale_shown (site_of self.now) p id.now }
     {
         let shift = self.shift_named(id);
-        self.sales.row(p, shift, id.seq)
+        self.accounts.row(p, shift, id.seq)
     }
 
     /// The shift of a transaction that a till names: the open one, where it names none.
-    fn shift_named(&self, id: &SaleId) -> ShiftNo
+    pub(crate) fn shift_named(&self, id: &SaleId) -> ShiftNo
         ensures { result ≡ shift_named (site_of self.now) id.now }
     {
         match id.shift {
@@ -104,7 +115,7 @@ impl SiteParts {
     pub(crate) fn open_shift(&self) -> ShiftNo
         ensures { result ≡ open_shift (site_of self.now) }
     {
-        self.draws.open_shift()
+        self.accounts.open_shift()
     }
 
     /// Today's price of the nozzle's product.

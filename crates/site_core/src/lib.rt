@@ -11,6 +11,7 @@ mod figures;
 mod holding;
 mod ledger;
 mod managing;
+mod paying;
 mod points;
 mod ranges;
 mod releasing;

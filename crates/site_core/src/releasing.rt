@@ -90,10 +90,10 @@ impl SiteParts {
             (λ _. may_sell (site_of self.now) p ≡ None)
             (λ r. may_sell (site_of self.now) p ≡ Some r) }
     {
-        if self.sales.unpaid(p) >= UNPAID_LIMIT {
+        if self.accounts.unpaid(p) >= UNPAID_LIMIT {
             return Err(Refusal::BufferFull);
         }
-        if self.sales.next_seq(p, self.open_shift()).is_none() {
+        if self.accounts.next_seq(p).is_none() {
             return Err(Refusal::SequenceSpent);
         }
         Ok(())

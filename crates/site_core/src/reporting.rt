@@ -49,7 +49,7 @@ impl SiteParts {
     /// The dispenser isn't reached any more: a fuelling under way is over, and the hold of the point ends.
     pub(crate) fn offline(&mut self, d: FpNo, p: FpNo) -> Reply
         requires sound { Sound (site_of self.old) }
-        requires room { 0 < room_at p self.old.sales.rooms }
+        requires room { 0 < room_at p self.old.accounts.rooms }
         ensures { Steps (site_of self.old) (Dispenser d) (Event.Offline p) (site_of self.new) result }
     {
         self.may_report(d, &Event::Offline(p))?;
@@ -79,7 +79,7 @@ impl SiteParts {
     /// reading. Where the point only calls, the meter hasn't grown.
     pub(crate) fn hang_up(&mut self, d: FpNo, p: FpNo, n: NozzleNo, reading: Millilitres) -> Reply
         requires sound { Sound (site_of self.old) }
-        requires room { 0 < room_at p self.old.sales.rooms }
+        requires room { 0 < room_at p self.old.accounts.rooms }
         ensures { Steps (site_of self.old) (Dispenser d) (Event.HangUp p n reading) (site_of self.new)
             result }
     {

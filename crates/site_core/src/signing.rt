@@ -40,7 +40,7 @@ impl SiteParts {
     pub(crate) fn leave(&mut self, t: TillNo)
         ensures { site_of self.new ≡ accepted_site (site_of self.old) (Till t) SignOff }
     {
-        self.sales.release_all(t);
+        self.accounts.release_all(t);
         let_go(&self.points, &mut self.claims, t);
         self.signed_on.remove(t);
     }

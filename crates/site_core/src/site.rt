@@ -64,6 +64,7 @@ impl Site {
         ensures site { self.new.site ≡ self.old.site }
         ensures room { OnOk result (HasRoom self.new.room event.now) }
         ensures kept { (p : ℕ) → room_at p self.old.room.sales ≤ room_at p self.new.room.sales }
+        ensures kept_close { self.old.room.closes ≤ self.new.room.closes }
         ensures err { OnErr result (self.new ≡ self.old) }
     {
         let _ = actor;

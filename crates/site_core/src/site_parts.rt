@@ -10,7 +10,7 @@ ghost use Rattle.site_core.specs.SiteParts.{site_of, room_of};
 ghost use Rattle.site_core.specs.Shown.{HasRoom};
 ghost use Rattle.std.specs.FinSet as set;
 
-use crate::draws::Draws;
+use crate::accounts::Accounts;
 use crate::points::Points;
 use crate::tills::Tills;
 use fuelling_point::PointEvent;
@@ -18,20 +18,18 @@ use meters::Meters;
 use site_base::{Actor, Event, FpNo, NoMemory, PriceBook, Refusal, Reply, SiteConfig, TillNo};
 use std::alloc::Global;
 use till_claims::Claims;
-use transaction_buffer::Buffer;
 
-/// The points, their nozzles' meters, which till holds which point, the sales, the prices, the tills that
-/// are managers and those that are signed on, and what tests drew in each shift.
+/// The points, their nozzles' meters, which till holds which point, the prices, the tills that are managers
+/// and those that are signed on, and the sales with the figures of the shifts.
 #[derive(Drop)]
 pub struct SiteParts {
     pub(crate) points: Points,
     pub(crate) meters: Meters,
     pub(crate) claims: Claims,
-    pub(crate) sales: Buffer,
     pub(crate) prices: PriceBook,
     pub(crate) managers: Tills,
     pub(crate) signed_on: Tills,
-    pub(crate) draws: Draws,
+    pub(crate) accounts: Accounts,
 }
 
 impl SiteParts {
@@ -46,11 +44,10 @@ impl SiteParts {
             points,
             meters,
             claims: Claims::new(),
-            sales: Buffer::new(alloc),
             prices,
             managers: Tills::from_list(config.managers()),
             signed_on: Tills::new(),
-            draws: Draws::new(alloc),
+            accounts: Accounts::new(alloc),
         })
     }
 
@@ -60,11 +57,13 @@ impl SiteParts {
         ensures room { OnOk result (HasRoom (room_of self.new) event.now) }
         ensures kept { (p : ℕ)
             → room_at p (room_of self.old).sales ≤ room_at p (room_of self.new).sales }
+        ensures kept_close { (room_of self.old).closes ≤ (room_of self.new).closes }
         ensures err { OnErr result (room_of self.new ≡ room_of self.old) }
     {
         match event {
-            Event::Offline(p) => self.sales.reserve(*p),
-            Event::HangUp(p, _, _) => self.sales.reserve(*p),
+            Event::CloseShift => self.accounts.reserve_close(),
+            Event::Offline(p) => self.accounts.reserve(*p),
+            Event::HangUp(p, _, _) => self.accounts.reserve(*p),
             _ => Ok(()),
         }
     }
@@ -82,7 +81,8 @@ impl SiteParts {
     }
 
     fn till_step(&mut self, t: TillNo, event: &Event) -> Reply
-        requires { Sound (site_of self.old) }
+        requires sound { Sound (site_of self.old) }
+        requires room { HasRoom (room_of self.old) event.now }
         ensures { Steps (site_of self.old) (Actor.Till t) event.now (site_of self.new) result }
     {
         match event {
@@ -100,8 +100,14 @@ impl SiteParts {
             Event::Terminate(p) => self.terminate(t, *p),
             Event::ReplaceMeter(p, n, reading) => self.replace_meter(t, *p, *n, *reading),
             Event::ReadPoint(p) => self.read_point(t, *p),
+            Event::Lock(p, id) => self.lock(t, *p, id),
+            Event::Unlock(p, id) => self.unlock(t, *p, id),
+            Event::Clear(p, id) => self.clear(t, *p, id),
             Event::ReadTransaction(p, id) => self.read_sale(t, *p, *id),
+            Event::SetPrice(q, price) => self.set_price(t, *q, *price),
             Event::ReadProduct(q) => self.read_product(t, *q),
+            Event::CloseShift => self.close_shift(t),
+            Event::ReadSite => self.read_site(t),
             Event::Online(_) => Err(self.not_a_tills(t, event)),
             Event::Offline(_) => Err(self.not_a_tills(t, event)),
             Event::Lift(_, _, _) => Err(self.not_a_tills(t, event)),
