@@ -174,7 +174,7 @@ once_among b u v a (suc n) = by_test (u == a) refl (once_among b u v (a + 1) n)
         omega (arith, first, nothing, rest)
 
 -- figures summed over tills, then over sales
-swapped : (f : ℕ → Sale → ℕ) (ts : List ℕ) (sales : Sales)
+pub swapped : (f : ℕ → Sale → ℕ) (ts : List ℕ) (sales : Sales)
     → sum_by (λ t. sum_of (f t) sales) ts ≡ sum_of (λ x. sum_by (λ t. f t x) ts) sales
 swapped f [] sales = sym (none_sum sales)
 swapped f (t ∷ ts) sales =

@@ -30,4 +30,6 @@ pub mod FigureDraws
 pub mod BoundedSums
 pub mod FigureOpens
 pub mod FigureBounds
+pub mod AskedAnswers
+pub mod WorkedPay
 pub mod WorkedSound
