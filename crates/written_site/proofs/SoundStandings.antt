@@ -16,11 +16,11 @@ use Rattle.transaction_buffer.specs.declared.request.Request.{Request}
 use Rattle.transaction_buffer.specs.declared.request.Request.TheVariants as requests
 use Rattle.transaction_buffer.specs.declared.standing.Standing.{Standing}
 use Rattle.transaction_buffer.specs.declared.standing.Standing.TheVariants.{Payable, LockedBy, ClearedBy}
-use Rattle.transaction_buffer.specs.Sales.{Sale, Sales, new_standing}
+use Rattle.transaction_buffer.specs.Sales.{Sale, new_standing}
 use Rattle.transaction_buffer.specs.TransactionTable.{Seen, payable, locked_by_it, locked_by_other, cleared_by, line, seen_by, sale_after, sale_after_request, is_locked_by, let_go}
 use Rattle.written_site.specs.SiteState.{SiteState, facts_of, holder_of, is_signed_on, key_named, open_shift}
 use Rattle.written_site.specs.SiteChecks.{Passed}
-use Rattle.written_site.specs.SiteStep.{accepted_site, step_at, nozzles_after, sales_after, drawn_after, sales_by, sale_made, first_locker, if_signed_on}
+use Rattle.written_site.specs.SiteStep.{accepted_site, step_at, nozzles_after, sales_after, sales_by, sale_made, first_locker, if_signed_on}
 use Rattle.written_site.specs.Sound.{IsStanding, Sound}
 use Rattle.written_site.proofs.EachSale.{Each, each_let_go, each_asked, each_sold}
 use Rattle.written_site.proofs.SoundDraws.{shifts_kept}

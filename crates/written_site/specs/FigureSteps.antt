@@ -46,11 +46,18 @@ pub record IsEmptyShift (s : SiteState) (h : ℕ) : Type 0 where
   pub cleared : (q : ℕ) → cleared_in h q s.sales ≡ 0
   pub draws : shift_draws s h ≡ nothing_drawn
 
--- what all tills cleared fits in 64 bits: its cents in shift h, and in all its count and its cents
-pub record FitsTakings (s : SiteState) (h : ℕ) : Type 0 where
+-- Every figure of shift h fits in 64 bits: of each till, of each product, and the cents of all tills
+-- together. So do the clears and the cents of all tills in all shifts, and of each till.
+pub record AreFiguresInRange (s : SiteState) (h : ℕ) : Type 0 where
+  pub clears : (t : ℕ) → clears_in h t s.sales < 2 ^ 64
+  pub cents : (t : ℕ) → cents_in h t s.sales < 2 ^ 64
+  pub cleared : (q : ℕ) → cleared_in h q s.sales < 2 ^ 64
+  pub drawn : (q : ℕ) → shift_drawn s h q < 2 ^ 64
   pub takings : takings_in h s.sales < 2 ^ 64
-  pub all_clears : sum_by (λ t. clears_by t s.sales) tills < 2 ^ 64
-  pub all_cents : sum_by (λ t. cents_by t s.sales) tills < 2 ^ 64
+  pub all_clears : (t : ℕ) → clears_by t s.sales < 2 ^ 64
+  pub all_cents : (t : ℕ) → cents_by t s.sales < 2 ^ 64
+  pub clears_together : sum_by (λ t. clears_by t s.sales) tills < 2 ^ 64
+  pub cents_together : sum_by (λ t. cents_by t s.sales) tills < 2 ^ 64
 
 -- one more clear, of sale x, fits in 64 bits: in the figures of shift h, of till t and of its product,
 -- and in all that the till cleared
@@ -77,9 +84,9 @@ pub record DoFiguresMove : Type 0 where
       + (if g == open_shift s && q == product_at s event then drawn_at s event else 0)
   pub opens : (s : SiteState) (h : ℕ) → Sound s → open_shift s < h → IsEmptyShift s h
 
--- At a sound site what all tills cleared fits in 64 bits, and each figure does with one more clear of a
--- sale that isn't cleared.
+-- At a sound site every figure fits in 64 bits, and so does each with one more clear of a sale that isn't
+-- cleared.
 pub record DoFiguresFit : Type 0 where
-  pub fit : (s : SiteState) (h : ℕ) → Sound s → FitsTakings s h
+  pub fit : (s : SiteState) (h : ℕ) → Sound s → AreFiguresInRange s h
   pub clears : (s : SiteState) (t h : ℕ) (k : Key) (x : Sale) → Sound s → sale_of k s.sales ≡ Some x
       → is_unpaid x.standing ≡ true → FitsFigures s t h x

@@ -1,6 +1,6 @@
 -- The figures of a site, from its sales and draws alone: of each shift and of all together, what each till
 -- cleared, and what of each product was cleared and drawn by tests.
-use Rattle.std.specs.Prelude.{ℕ, Bool, true, false, ◌&&◌, ◌==◌, if◌then◌else◌, List, map, sum_by, unwrap_or}
+use Rattle.std.specs.Prelude.{ℕ, Bool, false, ◌&&◌, ◌==◌, if◌then◌else◌, List, map, sum_by, unwrap_or}
 use Rattle.std.specs.List.{range_with_len}
 use Rattle.site_base.specs.declared.limits.TheConstants.{TILLS}
 use Rattle.site_base.specs.declared.view.ProductView.{ProductView}
