@@ -46,9 +46,10 @@ answer_told : (request : Request) (t : ℕ) (sale : Option Sale)
 answer_told request t None accepted = cc
 answer_told request t (Some x) accepted = line_answer request t x (seen_by t x.standing) accepted
 
--- The event of till t, which may ask for it, is its request for the sale of this name: it is told what
--- the request is told, and leads to the site with the sales that the request leads to.
-pub record IsAsked (s : SiteState) (t : ℕ) (event : Event) (request : Request) (k : Key) : Type 0 where
+-- The event of till t, which may ask for it, is its request for the sale of this name: it is told
+-- what the request is told, and leads to the site with the sales that the request leads to.
+pub record IsAsked (s : SiteState) (t : ℕ) (event : Event) (request : Request) (k : Key)
+    : Type 0 where
   pub replies : reply_to s (Till t) event ≡ reply_of request t k s.sales
   pub leads : site_after s (Till t) event
       ≡ record s { sales = after_request request t k s.sales }

@@ -118,7 +118,8 @@ clear_fits s t h k x sound there unpaid =
     (record { free = refl; locked = λ u. refl; fixed = λ y z. refl }) in_shift there unpaid in
     let its_cents = one_more_within by_till_in cents (ClearedBy t h) k x s.sales
     (record { free = refl; locked = λ u. refl; fixed = λ y z. refl }) in_shift there unpaid in
-    let cleared = one_more_within (is_cleared_in h) (volume_in x.product) (ClearedBy t h) k x s.sales
+    let cleared = one_more_within (is_cleared_in h) (volume_in x.product) (ClearedBy t h) k x
+    s.sales
     (record { free = refl; locked = λ u. refl; fixed = λ y z. refl }) (itself h) there unpaid in
     let clears_of_till = one_more_within (is_cleared_by t) one (ClearedBy t h) k x s.sales
     (record { free = refl; locked = λ u. refl; fixed = λ y z. refl }) (itself t) there unpaid in
@@ -141,7 +142,12 @@ apart_from b u v a zero less = refl
 apart_from b u v a (suc n) less =
     let other : cond (b && u == a) v 0 ≡ 0 = none b (u == a) (below u a less) in
     let rest = apart_from b u v (a + 1) n (omega (arith, less)) in
-    omega (arith, sum_by-cons (λ t. cond (b && u == t) v 0) a (range_with_len (a + 1) n), other, rest)
+    omega (
+      arith,
+      sum_by-cons (λ t. cond (b && u == t) v 0) a (range_with_len (a + 1) n),
+      other,
+      rest,
+    )
   where
     below : (m k : ℕ) → m < k → (m == k) ≡ false
     below m k under = grind (arith, nat_tests)
@@ -223,7 +229,8 @@ nothing_there (suc q) =
 figure_within : (test : Standing → Bool) (value : Sale → ℕ) (sales : Sales)
     → sum_of (figure_where test value) sales ≤ sum_of value sales
 figure_within test value sales =
-    bounded_sum (figure_where test value) value sales (λ k x is. part_of (test x.standing) (value x))
+    bounded_sum (figure_where test value) value sales
+    (λ k x is. part_of (test x.standing) (value x))
 
 product_within : (q : ℕ) (sales : Sales) → sum_of (volume_in q) sales ≤ sum_of volume sales
 product_within q sales =
@@ -255,7 +262,8 @@ figures_in_range s h sound =
     let count = count_within s sound in
     let volumes = volumes_within s sound in
     let takings = bounded_sum
-    (λ x. sum_by (λ t. cond (is_cleared_in h x.standing && is_cleared_by t x.standing) x.cents 0) tills)
+    (λ x. sum_by (λ t. cond (is_cleared_in h x.standing && is_cleared_by t x.standing) x.cents 0)
+    tills)
     cents s.sales (λ k x is. by_one_in h x.cents x.standing) in
     let clears = bounded_sum (λ x. sum_by (λ t. cond (is_cleared_by t x.standing) 1 0) tills)
     one s.sales (λ k x is. by_one 1 x.standing) in
@@ -289,7 +297,8 @@ figures_in_range s h sound =
         all_cents,
         cents_fit,
         swapped (λ t x.
-            cond (is_cleared_in h x.standing && is_cleared_by t x.standing) x.cents 0) tills s.sales,
+            cond (is_cleared_in h x.standing && is_cleared_by t x.standing) x.cents 0) tills
+            s.sales,
       );
       all_clears = λ t. omega (
         arith,
@@ -315,7 +324,8 @@ figures_in_range s h sound =
         cents_of_tills,
         all_cents,
         cents_fit,
-        swapped (λ t x. cond (is_cleared_by t x.standing) x.cents 0) tills s.sales,
+        swapped (λ t x. cond (is_cleared_by t x.standing) x.cents 0) tills
+            s.sales,
       );
     }
 

@@ -26,7 +26,8 @@ not_cleared s h later (ClearedBy t g) is = apart (omega (arith, later, is))
 no_draws : (s : SiteState) (h : ℕ) → open_shift s < h → shift_draws s h ≡ nothing_drawn
 no_draws s h later = by_row (numbered h s.drawn) refl
   where
-    by_row : (o : Option (List ℕ)) → numbered h s.drawn ≡ o → unwrap_or o nothing_drawn ≡ nothing_drawn
+    by_row : (o : Option (List ℕ)) → numbered h s.drawn ≡ o
+        → unwrap_or o nothing_drawn ≡ nothing_drawn
     by_row None is = refl
     by_row (Some row) is =
         let within = numbered_there h s.drawn (omega (arith, later)) (ap is_some is) in

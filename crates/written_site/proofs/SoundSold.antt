@@ -121,7 +121,11 @@ pub unpaid_after : (s : SiteState) (a : Actor) (e : Event) → Sound s → IsTak
 unpaid_after s (Till t) SignOff sound taken = λ q.
     omega (arith, (let_go_counts t q s.sales).unpaid, sound.unpaid q)
 unpaid_after s (Till t) (Lock p id) sound taken = λ q.
-    omega (arith, (asked_counts requests.Lock t (key_named s p id) q s.sales).unpaid, sound.unpaid q)
+    omega (
+      arith,
+      (asked_counts requests.Lock t (key_named s p id) q s.sales).unpaid,
+      sound.unpaid q,
+    )
 unpaid_after s (Till t) (Unlock p id) sound taken = λ q.
     omega (
       arith,

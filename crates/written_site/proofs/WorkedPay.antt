@@ -1,6 +1,6 @@
--- Worked locks, clears, prices and shifts, by computing the definitions on a site of which one sale is made:
--- at point 2 in shift 1, 10,000 millilitres of product 1 for 1,500 cents. Tills 1 and 2 are signed on, and
--- till 1 is a manager.
+-- Worked locks, clears, prices and shifts, by computing the definitions on a site of which one sale
+-- is made: at point 2 in shift 1, 10,000 millilitres of product 1 for 1,500 cents. Tills 1 and 2
+-- are signed on, and till 1 is a manager.
 use Rattle.std.proofs.Common.{◌≡◌, ℕ, ◌+◌, [], ◌∷◌, Some, None, Ok, Err, if◌then◌else◌, refl, ap, ◌∙◌, nat_cmp, arith}
 use Rattle.std.specs.List.{sum_by}
 use Rattle.std.specs.FinMap.{get-empty}
@@ -74,7 +74,8 @@ locks_again = rw (two_of_two, found (LockedBy 2)) refl
 locked_by_another : reply_to (selling (LockedBy 1)) (Till 2) (Lock 2 open_1) ≡ Err (LockedByOther 1)
 locked_by_another = rw (two_of_two, found (LockedBy 1)) refl
 
-cleared_by_another : reply_to (selling (LockedBy 1)) (Till 2) (Clear 2 open_1) ≡ Err (LockedByOther 1)
+cleared_by_another : reply_to (selling (LockedBy 1)) (Till 2) (Clear 2 open_1)
+    ≡ Err (LockedByOther 1)
 cleared_by_another = rw (two_of_two, found (LockedBy 1)) refl
 
 unlocks : reply_to (selling (LockedBy 2)) (Till 2) (Unlock 2 open_1) ≡ Ok Unlocked
@@ -90,10 +91,12 @@ clears_twice : reply_to (selling (ClearedBy 2 1)) (Till 2) (Clear 2 open_1) ≡ 
 clears_twice = rw (two_of_two, found (ClearedBy 2 1)) refl
 
 -- a sale without a shift is one of the open shift; an earlier shift's is named with it
-not_in_this_shift : reply_to (next_shift (LockedBy 2)) (Till 2) (Clear 2 open_1) ≡ Err NoSuchTransaction
+not_in_this_shift : reply_to (next_shift (LockedBy 2)) (Till 2) (Clear 2 open_1)
+    ≡ Err NoSuchTransaction
 not_in_this_shift = rw (two_of_two, not_found (LockedBy 2)) refl
 
-of_an_earlier_shift : reply_to (next_shift (LockedBy 2)) (Till 2) (Clear 2 first_1) ≡ Ok (Cleared 1500)
+of_an_earlier_shift : reply_to (next_shift (LockedBy 2)) (Till 2) (Clear 2 first_1)
+    ≡ Ok (Cleared 1500)
 of_an_earlier_shift = rw (two_of_two, found (LockedBy 2)) refl
 
 -- a transaction that isn't there comes before the kind of actor
