@@ -55,8 +55,8 @@ pub enum Event {
     Clear(FpNo, SaleId),
     /// Reads a transaction of a fuelling point; changes nothing.
     ReadTransaction(FpNo, SaleId),
-    /// A manager gives a product this price, in mills per litre. A fuelling under way keeps the price
-    /// that it took.
+    /// A manager gives a product this price, in mills per litre. A fuelling under way keeps the
+    /// price that it took.
     SetPrice(ProductNo, u32),
     /// Reads a product; changes nothing.
     ReadProduct(ProductNo),

@@ -1,5 +1,5 @@
 -- Figures that are bounded at each sale have bounded sums.
-use Rattle.std.proofs.Common.{◌≡◌, ℕ, suc, ◌+◌, ◌-◌, ◌*◌, ◌≤◌, ◌<◌, ◌==◌, T, Bool, true, false, cond, List, [], ◌∷◌, Option, Some, None, unwrap_or, refl, sym, ap, ◌∙◌, arith}
+use Rattle.std.proofs.Common.{◌≡◌, ℕ, suc, ◌-◌, ◌*◌, ◌≤◌, ◌<◌, ◌==◌, T, Bool, true, false, cond, List, [], ◌∷◌, Option, Some, None, unwrap_or, refl, sym, ap, ◌∙◌, arith}
 use Rattle.std.proofs.lemmas.Bool.Decides.{nat_tests}
 use Rattle.std.specs.declared.cmp.Ordering.{Ordering}
 use Rattle.std.specs.declared.cmp.Ordering.TheVariants.{Less, Equal, Greater}
@@ -7,12 +7,11 @@ use Rattle.std.specs.Ordering.{nat_cmp, eq_by_cmp, is_lt}
 use Rattle.std.specs.Cmp.{unsigned_tied}
 use Rattle.std.proofs.lemmas.Cmp.{ranked}
 use Rattle.std.proofs.Math.Nat.{mul-zero, mul-add}
-use Rattle.std.specs.FinMap as finite
 use Rattle.std.specs.FinMap.{find, entries, entries_sorted, get-entries, is_sorted}
 use Rattle.std.specs.FinMap.Entries.{below_all}
-use Rattle.transaction_buffer.specs.Sales.{Key, key, Sale, Sales, sale_in, sales_at, sale_of}
+use Rattle.transaction_buffer.specs.Sales.{key, Sale, Sales, sale_in}
 use Rattle.transaction_buffer.specs.Sums.{sum_among, sum_over, sum_of}
-use Rattle.transaction_buffer.proofs.Maps.{first_half, second_half, find_before}
+use Rattle.transaction_buffer.proofs.Maps.{first_half, second_half}
 use Rattle.written_site.proofs.EachSale.{Each}
 use Rattle.written_site.proofs.SoundTables.{itself}
 
@@ -171,8 +170,12 @@ times_over : (n : ℕ) (f : Sale → ℕ) (es : List (ℕ × List Sale))
     → sum_over (λ x. n * f x) es ≡ n * sum_over f es
 times_over n f [] = sym (mul-zero n)
 times_over n f (e ∷ es) =
-    omega (arith, times_among n f e.1, times_over n f es,
-    mul-add n (sum_among f e.1) (sum_over f es))
+    omega (
+      arith,
+      times_among n f e.1,
+      times_over n f es,
+      mul-add n (sum_among f e.1) (sum_over f es),
+    )
 
 pub times_sum : (n : ℕ) (f : Sale → ℕ) (sales : Sales)
     → sum_of (λ x. n * f x) sales ≡ n * sum_of f sales

@@ -1,4 +1,5 @@
--- The figures of what tills cleared, over sales alone: how a clear moves them, and what leaves them.
+-- The figures of what tills cleared, over sales alone: how a clear moves them, and what leaves
+-- them.
 use Rattle.std.proofs.Common.{◌≡◌, ℕ, ◌+◌, ◌==◌, ◌&&◌, Bool, true, false, cond, Option, Some, None, Result, Ok, Err, refl, sym, ap, ◌∙◌, arith}
 use Rattle.site_base.specs.declared.refusal.Refusal.{Refusal}
 use Rattle.transaction_buffer.specs.declared.request.Request.{Request}

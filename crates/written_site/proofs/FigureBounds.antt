@@ -1,26 +1,29 @@
--- Every figure of what tills cleared fits in 64 bits: the cents of a sale are at most 11 times its
+-- Every figure fits in 64 bits: the cents of a sale are at most 11 times its
 -- millilitres, and all sales are within what the meters have counted.
-use Rattle.std.proofs.Common.{◌≡◌, ℕ, zero, suc, ◌+◌, ◌*◌, ◌/◌, ◌^◌, ◌≤◌, ◌<◌, ◌==◌, ◌&&◌, Bool, true, false, cond, List, [], ◌∷◌, Some, refl, sym, ap, subst, ◌∙◌, arith}
+use Rattle.std.proofs.Common.{◌≡◌, ℕ, zero, suc, ◌+◌, ◌-◌, ◌*◌, ◌^◌, ◌≤◌, ◌<◌, ◌==◌, ◌&&◌, Bool, true, false, cond, List, [], ◌∷◌, replicate, Option, Some, None, is_some, unwrap_or, refl, sym, ap, subst, ◌∙◌, arith}
 use Rattle.std.proofs.Math.Nat.{div-le_of_le-mul, mul-le-mul_left}
 use Rattle.std.proofs.lemmas.Bool.Decides.{nat_tests}
 use Rattle.std.proofs.lemmas.List.Sums.{sum_by-cons}
-use Rattle.std.specs.List.{range_with_len, sum_by}
-use Rattle.site_base.specs.declared.limits.TheConstants.{GREATEST_PRICE, TILLS}
+use Rattle.std.specs.List.{range_with_len, slice_get, sum_by}
+use Rattle.site_base.specs.declared.limits.TheConstants.{GREATEST_PRICE, PRODUCT_CELLS, TILLS}
 use Rattle.site_base.specs.Amounts.{amount}
+use Rattle.site_base.specs.Numbered.{numbered}
+use Rattle.site_base.proofs.Numbering.{numbered_place, numbered_there}
 use Rattle.meters.specs.Metered.{every_product, most_of_a_site}
 use Rattle.transaction_buffer.specs.declared.standing.Standing.{Standing}
 use Rattle.transaction_buffer.specs.declared.standing.Standing.TheVariants.{Payable, LockedBy, ClearedBy}
 use Rattle.transaction_buffer.specs.Sales.{Key, Sale, Sales, sale_of, is_unpaid, with_sale}
 use Rattle.transaction_buffer.specs.Sums.{sum_of, volume_in}
 use Rattle.transaction_buffer.proofs.Summing.{added_sum, alike_sum, replaced_sum}
-use Rattle.written_site.specs.FigureSteps.{DoFiguresFit, FitsTakings, FitsFigures}
-use Rattle.written_site.specs.ShiftFigures.{is_cleared_by, is_cleared_in, clears_by, cents_by, cents_in, takings_in, tills}
-use Rattle.written_site.specs.SiteState.{SiteState}
+use Rattle.written_site.specs.FigureSteps.{DoFiguresFit, AreFiguresInRange, FitsFigures}
+use Rattle.written_site.specs.ShiftFigures.{shift_drawn, is_cleared_by, is_cleared_in, tills}
+use Rattle.written_site.specs.SiteState.{SiteState, nothing_drawn}
 use Rattle.written_site.specs.Sound.{IsPrice, IsSaleSound, Sound}
 use Rattle.written_site.specs.Volumes.{sold_by}
 use Rattle.written_site.proofs.BoundedSums.{bounded_sum, none_sum, times_sum}
 use Rattle.written_site.proofs.ClearFigures.{IsOfCleared, figure_where, unpaid_fails}
 use Rattle.written_site.proofs.SoundTables.{itself}
+use Rattle.written_site.proofs.SoundSums.{adds_up, figure_drawn}
 use Rattle.written_site.proofs.SoundUses.{everything_within}
 
 -- ---- one sale
@@ -115,7 +118,8 @@ clear_fits s t h k x sound there unpaid =
     (record { free = refl; locked = λ u. refl; fixed = λ y z. refl }) in_shift there unpaid in
     let its_cents = one_more_within by_till_in cents (ClearedBy t h) k x s.sales
     (record { free = refl; locked = λ u. refl; fixed = λ y z. refl }) in_shift there unpaid in
-    let cleared = one_more_within (is_cleared_in h) (volume_in x.product) (ClearedBy t h) k x s.sales
+    let cleared = one_more_within (is_cleared_in h) (volume_in x.product) (ClearedBy t h) k x
+    s.sales
     (record { free = refl; locked = λ u. refl; fixed = λ y z. refl }) (itself h) there unpaid in
     let clears_of_till = one_more_within (is_cleared_by t) one (ClearedBy t h) k x s.sales
     (record { free = refl; locked = λ u. refl; fixed = λ y z. refl }) (itself t) there unpaid in
@@ -138,7 +142,12 @@ apart_from b u v a zero less = refl
 apart_from b u v a (suc n) less =
     let other : cond (b && u == a) v 0 ≡ 0 = none b (u == a) (below u a less) in
     let rest = apart_from b u v (a + 1) n (omega (arith, less)) in
-    omega (arith, sum_by-cons (λ t. cond (b && u == t) v 0) a (range_with_len (a + 1) n), other, rest)
+    omega (
+      arith,
+      sum_by-cons (λ t. cond (b && u == t) v 0) a (range_with_len (a + 1) n),
+      other,
+      rest,
+    )
   where
     below : (m k : ℕ) → m < k → (m == k) ≡ false
     below m k under = grind (arith, nat_tests)
@@ -174,7 +183,7 @@ once_among b u v a (suc n) = by_test (u == a) refl (once_among b u v (a + 1) n)
         omega (arith, first, nothing, rest)
 
 -- figures summed over tills, then over sales
-swapped : (f : ℕ → Sale → ℕ) (ts : List ℕ) (sales : Sales)
+pub swapped : (f : ℕ → Sale → ℕ) (ts : List ℕ) (sales : Sales)
     → sum_by (λ t. sum_of (f t) sales) ts ≡ sum_of (λ x. sum_by (λ t. f t x) ts) sales
 swapped f [] sales = sym (none_sum sales)
 swapped f (t ∷ ts) sales =
@@ -195,12 +204,66 @@ by_one v Payable = once_among false 0 v 1 TILLS
 by_one v (LockedBy u) = once_among false 0 v 1 TILLS
 by_one v (ClearedBy u g) = once_among true u v 1 TILLS
 
-pub figures_within : (s : SiteState) (h : ℕ) → Sound s → FitsTakings s h
-figures_within s h sound =
+-- ---- each figure
+
+-- a number that has a member is 1 at least
+number_low : (q : ℕ) (row : List ℕ) (v : ℕ) → numbered q row ≡ Some v → 1 ≤ q
+number_low zero row v is = cc
+number_low (suc q) row v is = omega arith
+
+-- where nothing is drawn, no product has a figure
+zeros : (n i : ℕ) → unwrap_or (slice_get (replicate {A = ℕ} n 0) i) 0 ≡ 0
+zeros zero i = refl
+zeros (suc n) zero = refl
+zeros (suc n) (suc i) = zeros n i
+
+nothing_there : (q : ℕ) → unwrap_or (numbered q nothing_drawn) 0 < 2 ^ 64
+nothing_there zero = omega arith
+nothing_there (suc q) =
+    let none : unwrap_or (numbered (suc q) nothing_drawn) 0 ≡ 0 =
+    ap (λ (o : Option ℕ). unwrap_or o 0) (numbered_place (suc q) nothing_drawn (omega arith))
+    ∙ zeros PRODUCT_CELLS (suc q - 1) in
+    omega (arith, none)
+
+-- a figure of the sales that stand so is within all sales
+figure_within : (test : Standing → Bool) (value : Sale → ℕ) (sales : Sales)
+    → sum_of (figure_where test value) sales ≤ sum_of value sales
+figure_within test value sales =
+    bounded_sum (figure_where test value) value sales
+    (λ k x is. part_of (test x.standing) (value x))
+
+product_within : (q : ℕ) (sales : Sales) → sum_of (volume_in q) sales ≤ sum_of volume sales
+product_within q sales =
+    bounded_sum (volume_in q) volume sales (λ k x is. part_of (x.product == q) x.volume)
+
+-- what tests drew of a product in a shift is within what they drew of it
+draw_within : (s : SiteState) (h q : ℕ) → Sound s → shift_drawn s h q < 2 ^ 64
+draw_within s h q sound = by_row (numbered h s.drawn) refl
+  where
+    in_row : (row : List ℕ) → numbered h s.drawn ≡ Some row → (o : Option ℕ) → numbered q row ≡ o
+        → unwrap_or o 0 < 2 ^ 64
+    in_row row is None none = omega arith
+    in_row row is (Some v) there =
+        let low : 1 ≤ q = number_low q row v there in
+        let place = numbered_there q row low (ap is_some there) in
+        let figure = figure_drawn s h q row low (omega (arith, place)) is in
+        let same : unwrap_or (numbered q row) 0 ≡ v = ap (λ (o : Option ℕ). unwrap_or o 0) there in
+        let sums = adds_up s q sound in
+        omega (arith, figure, same, sums.whole, sums.fits)
+
+    by_row : (o : Option (List ℕ)) → numbered h s.drawn ≡ o
+        → unwrap_or (numbered q (unwrap_or o nothing_drawn)) 0 < 2 ^ 64
+    by_row None is = nothing_there q
+    by_row (Some row) is = in_row row is (numbered q row) refl
+
+pub figures_in_range : (s : SiteState) (h : ℕ) → Sound s → AreFiguresInRange s h
+figures_in_range s h sound =
     let all_cents = all_cents_within s sound in
     let count = count_within s sound in
+    let volumes = volumes_within s sound in
     let takings = bounded_sum
-    (λ x. sum_by (λ t. cond (is_cleared_in h x.standing && is_cleared_by t x.standing) x.cents 0) tills)
+    (λ x. sum_by (λ t. cond (is_cleared_in h x.standing && is_cleared_by t x.standing) x.cents 0)
+    tills)
     cents s.sales (λ k x is. by_one_in h x.cents x.standing) in
     let clears = bounded_sum (λ x. sum_by (λ t. cond (is_cleared_by t x.standing) 1 0) tills)
     one s.sales (λ k x is. by_one 1 x.standing) in
@@ -208,13 +271,63 @@ figures_within s h sound =
     bounded_sum (λ x. sum_by (λ t. cond (is_cleared_by t x.standing) x.cents 0) tills)
     cents s.sales (λ k x is. by_one x.cents x.standing) in
     record {
-      takings = omega (arith, takings, all_cents, cents_fit, swapped (λ t x.
-          cond (is_cleared_in h x.standing && is_cleared_by t x.standing) x.cents 0) tills s.sales);
-      all_clears = omega (arith, clears, count, cents_fit,
-          swapped (λ t x. cond (is_cleared_by t x.standing) 1 0) tills s.sales);
-      all_cents = omega (arith, cents_of_tills, all_cents, cents_fit,
-          swapped (λ t x. cond (is_cleared_by t x.standing) x.cents 0) tills s.sales);
+      clears = λ t. omega (
+        arith,
+        count,
+        cents_fit,
+        figure_within (λ y. is_cleared_in h y && is_cleared_by t y) one s.sales,
+      );
+      cents = λ t. omega (
+        arith,
+        all_cents,
+        cents_fit,
+        figure_within (λ y. is_cleared_in h y && is_cleared_by t y) cents s.sales,
+      );
+      cleared = λ q. omega (
+        arith,
+        volumes,
+        cents_fit,
+        product_within q s.sales,
+        figure_within (is_cleared_in h) (volume_in q) s.sales,
+      );
+      drawn = λ q. draw_within s h q sound;
+      takings = omega (
+        arith,
+        takings,
+        all_cents,
+        cents_fit,
+        swapped (λ t x.
+            cond (is_cleared_in h x.standing && is_cleared_by t x.standing) x.cents 0) tills
+            s.sales,
+      );
+      all_clears = λ t. omega (
+        arith,
+        count,
+        cents_fit,
+        figure_within (is_cleared_by t) one s.sales,
+      );
+      all_cents = λ t. omega (
+        arith,
+        all_cents,
+        cents_fit,
+        figure_within (is_cleared_by t) cents s.sales,
+      );
+      clears_together = omega (
+        arith,
+        clears,
+        count,
+        cents_fit,
+        swapped (λ t x. cond (is_cleared_by t x.standing) 1 0) tills s.sales,
+      );
+      cents_together = omega (
+        arith,
+        cents_of_tills,
+        all_cents,
+        cents_fit,
+        swapped (λ t x. cond (is_cleared_by t x.standing) x.cents 0) tills
+            s.sales,
+      );
     }
 
 pub figures_fit : DoFiguresFit
-figures_fit = record { fit = figures_within; clears = clear_fits }
+figures_fit = record { fit = figures_in_range; clears = clear_fits }

@@ -1,12 +1,12 @@
 -- How an event moves what tests drew in a shift.
-use Rattle.std.proofs.Common.{◌≡◌, ◌≢◌, ℕ, zero, suc, ◌+◌, ◌-◌, ◌≤◌, ◌<◌, ◌==◌, ◌&&◌, Bool, true, false, cond, List, [], ◌∷◌, ◌++◌, length, get_or, Option, option_map, Some, None, unwrap_or, refl, sym, ap, ◌∙◌, arith}
+use Rattle.std.proofs.Common.{◌≡◌, ◌≢◌, ℕ, zero, suc, ◌+◌, ◌-◌, ◌≤◌, ◌==◌, ◌&&◌, Bool, true, false, cond, List, [], ◌∷◌, ◌++◌, length, get_or, Option, option_map, Some, None, unwrap_or, refl, sym, ap, ◌∙◌, arith}
 use Rattle.std.proofs.lemmas.Bool.Decides.{nat_tests}
 use Rattle.std.specs.List.{slice_get}
 use Rattle.site_base.specs.declared.actor.Actor.{Actor}
 use Rattle.site_base.specs.declared.event.Event.{Event}
 use Rattle.site_base.specs.declared.event.Event.TheVariants.{CloseShift, Offline, HangUp}
 use Rattle.site_base.specs.declared.limits.TheConstants.{PRODUCT_CELLS}
-use Rattle.site_base.specs.Numbered.{numbered, with_numbered}
+use Rattle.site_base.specs.Numbered.{numbered}
 use Rattle.site_base.proofs.Numbering.{numbered_place, numbered_within, numbered_with_same, numbered_with_other, numbered_push_here, numbered_push_other, numbered_next}
 use Rattle.fuelling_point.specs.declared.event.PointEvent.{PointEvent}
 use Rattle.fuelling_point.specs.declared.event.PointEvent.TheVariants as points
@@ -18,13 +18,13 @@ use Rattle.fuelling_point.specs.Step.{step_of}
 use Rattle.written_site.specs.ShiftFigures.{shift_drawn}
 use Rattle.written_site.specs.SiteChecks.{own_event, flowed}
 use Rattle.written_site.specs.SiteState.{SiteState, facts_of, nothing_drawn, open_shift}
-use Rattle.written_site.specs.SiteStep.{accepted_site, draw_noted, draws_by, drawn_after, nozzles_after, one_more_drawn, step_at}
+use Rattle.written_site.specs.SiteStep.{accepted_site, draw_noted, draws_by, nozzles_after, one_more_drawn, step_at}
 use Rattle.written_site.specs.Sound.{Sound}
 use Rattle.written_site.specs.SoundSteps.{IsTaken, drawn_at, product_at}
 use Rattle.written_site.specs.Volumes.{nozzle_out, product_out, running_at}
 use Rattle.written_site.proofs.SoundMachine.{drawn_from}
 use Rattle.written_site.proofs.SoundSold.{own_point, run_own}
-use Rattle.written_site.proofs.SoundTables.{same, told_once, turned}
+use Rattle.written_site.proofs.SoundTables.{same}
 use Rattle.written_site.proofs.SoundUses.{draw_cells}
 use Rattle.written_site.proofs.SoundVolumes.{none_drawn, nozzle_there, product_out_after, product_supplied}
 

@@ -1,5 +1,5 @@
 -- A shift that isn't open yet is empty.
-use Rattle.std.proofs.Common.{◌≡◌, ℕ, ◌+◌, ◌-◌, ◌≤◌, ◌<◌, ◌==◌, ◌&&◌, Bool, true, false, cond, List, [], ◌∷◌, length, Option, Some, None, is_some, unwrap_or, refl, sym, ap, ◌∙◌, arith}
+use Rattle.std.proofs.Common.{◌≡◌, ℕ, ◌<◌, ◌==◌, ◌&&◌, Bool, false, cond, List, Option, Some, None, is_some, unwrap_or, refl, ap, arith}
 use Rattle.std.proofs.lemmas.Bool.Decides.{nat_tests}
 use Rattle.site_base.specs.Numbered.{numbered}
 use Rattle.site_base.proofs.Numbering.{numbered_there}
@@ -26,7 +26,8 @@ not_cleared s h later (ClearedBy t g) is = apart (omega (arith, later, is))
 no_draws : (s : SiteState) (h : ℕ) → open_shift s < h → shift_draws s h ≡ nothing_drawn
 no_draws s h later = by_row (numbered h s.drawn) refl
   where
-    by_row : (o : Option (List ℕ)) → numbered h s.drawn ≡ o → unwrap_or o nothing_drawn ≡ nothing_drawn
+    by_row : (o : Option (List ℕ)) → numbered h s.drawn ≡ o
+        → unwrap_or o nothing_drawn ≡ nothing_drawn
     by_row None is = refl
     by_row (Some row) is =
         let within = numbered_there h s.drawn (omega (arith, later)) (ap is_some is) in

@@ -31,6 +31,8 @@ pub mod FigureDraws
 pub mod BoundedSums
 pub mod FigureOpens
 pub mod FigureBounds
+pub mod AskedAnswers
+pub mod WorkedPay
 pub mod WorkedSound
 pub mod WorkedRows
 pub mod WorkedReplies

@@ -1,12 +1,12 @@
 -- Every event leaves a sound site sound.
-use Rattle.std.proofs.Common.{◌≡◌, length, Option, Some, None, refl, sym, subst, ◌∙◌, arith}
+use Rattle.std.proofs.Common.{◌≡◌, Option, Some, None, refl, sym, ◌∙◌, arith}
 use Rattle.site_base.specs.declared.actor.Actor.{Actor}
 use Rattle.site_base.specs.declared.event.Event.{Event}
 use Rattle.site_base.specs.declared.refusal.Refusal.{Refusal}
-use Rattle.written_site.specs.SiteState.{SiteState, open_shift}
+use Rattle.written_site.specs.SiteState.{SiteState}
 use Rattle.written_site.specs.SiteChecks.{Passed, first_refusal}
-use Rattle.written_site.specs.SiteStep.{accepted_site, site_after, drawn_after}
-use Rattle.written_site.specs.Sound.{InRange, IsShift, Sound, StaysSound}
+use Rattle.written_site.specs.SiteStep.{accepted_site, site_after}
+use Rattle.written_site.specs.Sound.{InRange, Sound, StaysSound}
 use Rattle.written_site.specs.SoundSteps.{IsTaken}
 use Rattle.written_site.proofs.Passed.{passed}
 use Rattle.written_site.proofs.SoundDraws.{shifts_kept, shift_after, drawn_rows}

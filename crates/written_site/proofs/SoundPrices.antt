@@ -40,7 +40,8 @@ in_range_with q m (e ∷ es) fits all = by_test (e.0 == q) refl (in_range_with q
 pub in_range_after : (s : SiteState) (e : Event) → pricing e ≡ None → are_in_range s.prices ≡ true
     → are_in_range (prices_after s e) ≡ true
 in_range_after s (SetPrice q price) passes all =
-    in_range_with q price s.prices (holds_unless (is_between 1 GREATEST_PRICE price) BadPrice passes)
+    in_range_with q price s.prices
+    (holds_unless (is_between 1 GREATEST_PRICE price) BadPrice passes)
     all
 in_range_after s e passes all = all
 

@@ -1,5 +1,5 @@
 -- Where the point of an event sells or draws, at a sound site.
-use Rattle.std.proofs.Common.{◌≡◌, ℕ, ◌+◌, ◌-◌, ◌≤◌, ◌<◌, true, Option, Some, None, refl, sym, subst, ◌∙◌, arith}
+use Rattle.std.proofs.Common.{◌≡◌, ℕ, ◌+◌, ◌-◌, ◌≤◌, ◌<◌, true, Option, Some, None, refl, ◌∙◌, arith}
 use Rattle.std.proofs.lemmas.Grind.{common_steps}
 use Rattle.site_base.specs.declared.actor.Actor.{Actor}
 use Rattle.site_base.specs.declared.actor.Actor.TheVariants.{Till}
@@ -121,14 +121,23 @@ pub unpaid_after : (s : SiteState) (a : Actor) (e : Event) → Sound s → IsTak
 unpaid_after s (Till t) SignOff sound taken = λ q.
     omega (arith, (let_go_counts t q s.sales).unpaid, sound.unpaid q)
 unpaid_after s (Till t) (Lock p id) sound taken = λ q.
-    omega (arith, (asked_counts requests.Lock t (key_named s p id) q s.sales).unpaid, sound.unpaid q)
+    omega (
+      arith,
+      (asked_counts requests.Lock t (key_named s p id) q s.sales).unpaid,
+      sound.unpaid q,
+    )
 unpaid_after s (Till t) (Unlock p id) sound taken = λ q.
-    omega (arith, (asked_counts requests.Unlock t (key_named s p id) q s.sales).unpaid,
-    sound.unpaid q)
+    omega (
+      arith,
+      (asked_counts requests.Unlock t (key_named s p id) q s.sales).unpaid,
+      sound.unpaid q,
+    )
 unpaid_after s (Till t) (Clear p id) sound taken = λ q.
-    omega (arith,
-    (asked_counts (requests.Clear (open_shift s)) t (key_named s p id) q s.sales).unpaid,
-    sound.unpaid q)
+    omega (
+      arith,
+      (asked_counts (requests.Clear (open_shift s)) t (key_named s p id) q s.sales).unpaid,
+      sound.unpaid q,
+    )
 unpaid_after s a (Offline p) sound taken =
     unpaid_by s s.nozzles p (step_at s (Offline p))
     (may_sell_there s (Offline p) p points.Offline sound taken refl) sound.unpaid

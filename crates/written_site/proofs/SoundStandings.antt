@@ -16,11 +16,11 @@ use Rattle.transaction_buffer.specs.declared.request.Request.{Request}
 use Rattle.transaction_buffer.specs.declared.request.Request.TheVariants as requests
 use Rattle.transaction_buffer.specs.declared.standing.Standing.{Standing}
 use Rattle.transaction_buffer.specs.declared.standing.Standing.TheVariants.{Payable, LockedBy, ClearedBy}
-use Rattle.transaction_buffer.specs.Sales.{Sale, Sales, new_standing}
+use Rattle.transaction_buffer.specs.Sales.{Sale, new_standing}
 use Rattle.transaction_buffer.specs.TransactionTable.{Seen, payable, locked_by_it, locked_by_other, cleared_by, line, seen_by, sale_after, sale_after_request, is_locked_by, let_go}
 use Rattle.written_site.specs.SiteState.{SiteState, facts_of, holder_of, is_signed_on, key_named, open_shift}
 use Rattle.written_site.specs.SiteChecks.{Passed}
-use Rattle.written_site.specs.SiteStep.{accepted_site, step_at, nozzles_after, sales_after, drawn_after, sales_by, sale_made, first_locker, if_signed_on}
+use Rattle.written_site.specs.SiteStep.{accepted_site, step_at, nozzles_after, sales_after, sales_by, sale_made, first_locker, if_signed_on}
 use Rattle.written_site.specs.Sound.{IsStanding, Sound}
 use Rattle.written_site.proofs.EachSale.{Each, each_let_go, each_asked, each_sold}
 use Rattle.written_site.proofs.SoundDraws.{shifts_kept}
@@ -42,7 +42,8 @@ stands_later old new later (ClearedBy t h) is = omega (arith, later.shifts, is)
 
 -- ---- what a till asks
 
--- how a request leaves a sale: as it was, payable, locked by its till, or cleared by it in its shift
+-- how a request leaves a sale: as it was, payable, locked by its till, or cleared by it in its
+-- shift
 leaves : (P : Standing → Type 0) (request : Request) (t cents : ℕ) (v : Seen) (x : Sale)
     → P x.standing → P Payable → P (LockedBy t)
     → ((h : ℕ) → request ≡ requests.Clear h → P (ClearedBy t h))
@@ -124,7 +125,8 @@ sold_stands s new nozzles p (Sold nozzle volume price prepaid) later =
     (λ x. stands_later s new later x.standing)
     (stands_later s new later (sale_made s nozzles p).standing
     (first_stands s p (facts_of s p).prepaid))
-sold_stands s new nozzles p step later = λ all k x is. stands_later s new later x.standing (all k x is)
+sold_stands s new nozzles p step later = λ all k x is.
+    stands_later s new later x.standing (all k x is)
 
 -- ---- every event
 
@@ -149,7 +151,8 @@ same_tills s new shifts tills = record {
 pub standing_after : (s : SiteState) (a : Actor) (e : Event) → Sound s → Passed s a e
     → Each (StandsIn (accepted_site s a e)) (sales_after s a e)
 standing_after s (Till t) SignOn sound passes = λ k x is.
-    stands_later s (accepted_site s (Till t) SignOn) (signs_on s t) x.standing (sound.standings k x is)
+    stands_later s (accepted_site s (Till t) SignOn) (signs_on s t) x.standing
+    (sound.standings k x is)
 standing_after s (Till t) SignOff sound passes =
     each_let_go (StandsIn s) (StandsIn (accepted_site s (Till t) SignOff)) t s.sales
     (let_go_stands s t) sound.standings
@@ -164,7 +167,8 @@ standing_after s (Till t) (Unlock p id) sound passes =
     (λ h. unlock_isn't_clear h (open_shift s)))
     sound.standings
 standing_after s (Till t) (Clear p id) sound passes =
-    each_asked (StandsIn s) (StandsIn s) (requests.Clear (open_shift s)) t (key_named s p id) s.sales
+    each_asked (StandsIn s) (StandsIn s) (requests.Clear (open_shift s)) t (key_named s p id)
+    s.sales
     (λ x is. is)
     (asked_stands s (requests.Clear (open_shift s)) t
     (holds_unless (is_signed_on s t) NotSignedOn passes.signs) (λ h. clear_in h (open_shift s)))

@@ -253,9 +253,11 @@ pub sold_moves : (w : ℕ → ℕ) (s : SiteState) (a : Actor) (e : Event) → S
 sold_moves w s (Till t) SignOff sound taken =
     sign_off_weighs w t s.sales ∙ weighs_none (w 0) (sold_by w s.sales)
 sold_moves w s (Till t) (Lock p id) sound taken =
-    asked_weighs w requests.Lock t (key_named s p id) s.sales ∙ weighs_none (w 0) (sold_by w s.sales)
+    asked_weighs w requests.Lock t (key_named s p id) s.sales
+    ∙ weighs_none (w 0) (sold_by w s.sales)
 sold_moves w s (Till t) (Unlock p id) sound taken =
-    asked_weighs w requests.Unlock t (key_named s p id) s.sales ∙ weighs_none (w 0) (sold_by w s.sales)
+    asked_weighs w requests.Unlock t (key_named s p id) s.sales
+    ∙ weighs_none (w 0) (sold_by w s.sales)
 sold_moves w s (Till t) (Clear p id) sound taken =
     asked_weighs w (requests.Clear (open_shift s)) t (key_named s p id) s.sales
     ∙ weighs_none (w 0) (sold_by w s.sales)

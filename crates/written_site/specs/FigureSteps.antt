@@ -18,8 +18,8 @@ abbrev pub is_clear : Event → Bool
 is_clear (Clear p id) = true
 is_clear event = false
 
--- One clear more, of sale x by till t in shift h: it counts for this till, shift and product, with its
--- cents and its millilitres. Every other figure stays.
+-- One clear more, of sale x by till t in shift h: it counts for this till, shift and product, with
+-- its cents and its millilitres. Every other figure stays.
 pub record HasClear (old new : Sales) (t h : ℕ) (x : Sale) : Type 0 where
   pub clears : (g u : ℕ)
       → clears_in g u new ≡ clears_in g u old + (if g == h && u == t then 1 else 0)
@@ -46,14 +46,21 @@ pub record IsEmptyShift (s : SiteState) (h : ℕ) : Type 0 where
   pub cleared : (q : ℕ) → cleared_in h q s.sales ≡ 0
   pub draws : shift_draws s h ≡ nothing_drawn
 
--- what all tills cleared fits in 64 bits: its cents in shift h, and in all its count and its cents
-pub record FitsTakings (s : SiteState) (h : ℕ) : Type 0 where
+-- Every figure of shift h fits in 64 bits: of each till, of each product, and the cents of all
+-- tills together. So do the clears and the cents of all tills in all shifts, and of each till.
+pub record AreFiguresInRange (s : SiteState) (h : ℕ) : Type 0 where
+  pub clears : (t : ℕ) → clears_in h t s.sales < 2 ^ 64
+  pub cents : (t : ℕ) → cents_in h t s.sales < 2 ^ 64
+  pub cleared : (q : ℕ) → cleared_in h q s.sales < 2 ^ 64
+  pub drawn : (q : ℕ) → shift_drawn s h q < 2 ^ 64
   pub takings : takings_in h s.sales < 2 ^ 64
-  pub all_clears : sum_by (λ t. clears_by t s.sales) tills < 2 ^ 64
-  pub all_cents : sum_by (λ t. cents_by t s.sales) tills < 2 ^ 64
+  pub all_clears : (t : ℕ) → clears_by t s.sales < 2 ^ 64
+  pub all_cents : (t : ℕ) → cents_by t s.sales < 2 ^ 64
+  pub clears_together : sum_by (λ t. clears_by t s.sales) tills < 2 ^ 64
+  pub cents_together : sum_by (λ t. cents_by t s.sales) tills < 2 ^ 64
 
--- one more clear, of sale x, fits in 64 bits: in the figures of shift h, of till t and of its product,
--- and in all that the till cleared
+-- one more clear, of sale x, fits in 64 bits: in the figures of shift h, of till t and of its
+-- product, and in all that the till cleared
 pub record FitsFigures (s : SiteState) (t h : ℕ) (x : Sale) : Type 0 where
   pub clears : clears_in h t s.sales + 1 < 2 ^ 64
   pub cents : cents_in h t s.sales + x.cents < 2 ^ 64
@@ -61,10 +68,10 @@ pub record FitsFigures (s : SiteState) (t h : ℕ) (x : Sale) : Type 0 where
   pub all_clears : clears_by t s.sales + 1 < 2 ^ 64
   pub all_cents : cents_by t s.sales + x.cents < 2 ^ 64
 
--- How an accepted event moves the figures. A clear by till t counts once in the open shift, with the
--- sale that it names. Every other event leaves what was cleared. A draw adds its volume to its product
--- in the open shift; every other event leaves what was drawn. In a shift that isn't open yet nothing is
--- cleared or drawn.
+-- How an accepted event moves the figures. A clear by till t counts once in the open shift, with
+-- the sale that it names. Every other event leaves what was cleared. A draw adds its volume to its
+-- product in the open shift; every other event leaves what was drawn. In a shift that isn't open
+-- yet nothing is cleared or drawn.
 pub record DoFiguresMove : Type 0 where
   pub clears : (s : SiteState) (t p : ℕ) (id : SaleId) (x : Sale)
       → sale_of (key_named s p id) s.sales ≡ Some x → at_sale s (Till t) (Clear p id) ≡ None
@@ -77,9 +84,9 @@ pub record DoFiguresMove : Type 0 where
       + (if g == open_shift s && q == product_at s event then drawn_at s event else 0)
   pub opens : (s : SiteState) (h : ℕ) → Sound s → open_shift s < h → IsEmptyShift s h
 
--- At a sound site what all tills cleared fits in 64 bits, and each figure does with one more clear of a
--- sale that isn't cleared.
+-- At a sound site every figure fits in 64 bits, and so does each with one more clear of a sale that
+-- isn't cleared.
 pub record DoFiguresFit : Type 0 where
-  pub fit : (s : SiteState) (h : ℕ) → Sound s → FitsTakings s h
+  pub fit : (s : SiteState) (h : ℕ) → Sound s → AreFiguresInRange s h
   pub clears : (s : SiteState) (t h : ℕ) (k : Key) (x : Sale) → Sound s → sale_of k s.sales ≡ Some x
       → is_unpaid x.standing ≡ true → FitsFigures s t h x

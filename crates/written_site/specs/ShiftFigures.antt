@@ -1,6 +1,6 @@
--- The figures of a site, from its sales and draws alone: of each shift and of all together, what each till
--- cleared, and what of each product was cleared and drawn by tests.
-use Rattle.std.specs.Prelude.{ℕ, Bool, true, false, ◌&&◌, ◌==◌, if◌then◌else◌, List, map, sum_by, unwrap_or}
+-- The figures of a site, from its sales and draws alone: of each shift and of all together, what
+-- each till cleared, and what of each product was cleared and drawn by tests.
+use Rattle.std.specs.Prelude.{ℕ, Bool, false, ◌&&◌, ◌==◌, if◌then◌else◌, List, map, sum_by, unwrap_or}
 use Rattle.std.specs.List.{range_with_len}
 use Rattle.site_base.specs.declared.limits.TheConstants.{TILLS}
 use Rattle.site_base.specs.declared.view.ProductView.{ProductView}
@@ -65,7 +65,8 @@ takings_in h sales = sum_by (λ t. cents_in h t sales) tills
 abbrev pub site_view : SiteState → SiteView
 site_view s = record { cents = takings_in (open_shift s) s.sales; shift = open_shift s }
 
--- the totals of the site: each till with its clears and their cents, and each product, in configured order
+-- the totals of the site: each till with its clears and their cents, and each product, in
+-- configured order
 abbrev pub till_totals : SiteState → List (ℕ × ℕ × ℕ)
 till_totals s = map (λ t. (t, clears_by t s.sales, cents_by t s.sales)) tills
 

@@ -210,7 +210,8 @@ metering s (ReplaceMeter p n reading) =
     unless (nat_lt (times_replaced p n s.nozzles) REPLACEMENT_LIMIT) MeterSpent
 metering s event = None
 
--- what an event asks of a transaction, and the name of that transaction; a clear is made in the open shift
+-- what an event asks of a transaction, and the name of that transaction; a clear is made in the
+-- open shift
 abbrev pub sale_request : SiteState → Event → Option (Request × Key)
 sale_request s (Lock p id) = Some (requests.Lock, key_named s p id)
 sale_request s (Unlock p id) = Some (requests.Unlock, key_named s p id)
@@ -232,9 +233,9 @@ abbrev pub closing : SiteState → Event → Option Refusal
 closing s CloseShift = unless (not (open_shift s == GREATEST_SHIFT)) ShiftsSpent
 closing s event = None
 
--- the checks of who asks: it is signed on, what the event names is there, the event is the actor's to ask,
--- a manager asks what is for managers alone, a price and a preset are in range, and no other till holds the
--- point where the event is for one that no other holds
+-- the checks of who asks: it is signed on, what the event names is there, the event is the actor's
+-- to ask, a manager asks what is for managers alone, a price and a preset are in range, and no
+-- other till holds the point where the event is for one that no other holds
 abbrev pub may_ask : SiteState → Actor → Event → Option Refusal
 may_ask s actor event =
     signing s actor event
@@ -245,8 +246,8 @@ may_ask s actor event =
     or_else presets event
     or_else not_held s actor event
 
--- the checks of what is asked: the point takes the event, what is given back is held, a sale has room, the
--- meter agrees, the transaction takes what is asked of it, and there is a next shift
+-- the checks of what is asked: the point takes the event, what is given back is held, a sale has
+-- room, the meter agrees, the transaction takes what is asked of it, and there is a next shift
 abbrev pub can_do : SiteState → Actor → Event → Option Refusal
 can_do s actor event =
     at_point s event

@@ -215,8 +215,8 @@ draws_by s nozzles p (Drawn nozzle volume) =
     draw_noted (product_out nozzles p (facts_of s p)) (running_at nozzles p (facts_of s p)) s.drawn
 draws_by s nozzles p step = s.drawn
 
--- the draws after an accepted event: a close opens a shift in which nothing is drawn. One without a line
--- leaves them.
+-- the draws after an accepted event: a close opens a shift in which nothing is drawn. One without a
+-- line leaves them.
 abbrev pub drawn_after : SiteState → Event → List (List ℕ)
 drawn_after s (Offline p) = draws_by s s.nozzles p (step_at s (Offline p))
 drawn_after s (HangUp p n reading) =

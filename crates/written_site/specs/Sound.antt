@@ -80,11 +80,11 @@ is_draw_row row = length row == PRODUCT_CELLS
 
 -- What a site always is. No point number stands twice, and each point, product and sale is as it
 -- always is; so is each nozzle, and there are no more of them than a site can have. At every point,
--- released or not, no more sales are unpaid than may be. No sale is of a shift after the open one, or
--- cleared in one; the locker of a sale is signed on.
--- The number of the open shift is one that a shift may have, and each shift has a figure of draws
--- for each product. And however the products are weighed: what the meters have counted is in the
--- fuellings under way, in sales and in draws.
+-- released or not, no more sales are unpaid than may be. No sale is of a shift after the open one,
+-- or cleared in one, and the locker of a sale is signed on. The number of the open shift is one
+-- that a shift may have, and each shift has a figure of draws for each product. And however the
+-- products are weighed: what the meters have counted is in the fuellings under way, in sales and in
+-- draws.
 pub record Sound (s : SiteState) : Type 0 where
   pub numbers : none_alike nat_eq (numbers_of s.points) ≡ true
   pub points : (p : ℕ) (f : Facts) → row_of p s.points ≡ Some f → IsPointSound s p f

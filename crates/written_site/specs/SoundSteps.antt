@@ -148,9 +148,9 @@ pub record AddUp (s : SiteState) (q : ℕ) : Type 0 where
   pub most : product_total q s.nozzles ≤ most_of_a_site
   pub fits : product_total q s.nozzles < 2 ^ 64
 
--- How what a till asks of transaction x moves the volumes by status: the transaction's own leaves the
--- status that it had and joins the one that it has then. Nothing else moves, and the volume of all
--- sales stays.
+-- How what a till asks of transaction x moves the volumes by status: the transaction's own leaves
+-- the status that it had and joins the one that it has then. Nothing else moves, and the volume of
+-- all sales stays.
 pub record MovesStatus (s : SiteState) (t : ℕ) (event : Event) (request : Request) (x : Sale)
     : Type 0 where
   pub by_status : (q : ℕ) (status : Status)
@@ -159,8 +159,8 @@ pub record MovesStatus (s : SiteState) (t : ℕ) (event : Event) (request : Requ
   pub whole : (q : ℕ) → volume_of q (sales_after s (Till t) event) ≡ volume_of q s.sales
 
 -- A sound site's volumes add up, for each product, and an event that the site takes moves them by
--- what flows in it and what is sold or drawn; what a till asks of a transaction moves its volume from
--- status to status.
+-- what flows in it and what is sold or drawn; what a till asks of a transaction moves its volume
+-- from status to status.
 pub record DoVolumesAddUp : Type 0 where
   pub adds_up : (s : SiteState) (q : ℕ) → Sound s → AddUp s q
   pub moves : (w : ℕ → ℕ) (s : SiteState) (actor : Actor) (event : Event)

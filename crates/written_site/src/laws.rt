@@ -38,11 +38,12 @@ pub fn books_held_by_one()
     ensures { AreBooksHeldByOne }
 {}
 
-/// The opening site of each fit configuration is sound, and each event leaves a sound site sound: no
-/// point number stands twice; each point is whole, and held where it is released; the volume of a
-/// fuelling is what its meter has grown; a point that is released for a sale has room and a number
-/// for it; prices, readings, shifts and sales are in range; and however the products are weighed,
-/// what the meters have counted is in the fuellings under way, in sales and in draws.
+/// The opening site of each fit configuration is sound, and each event leaves a sound site sound:
+/// no point number stands twice; each point is whole, and held where it is released; the volume of
+/// a fuelling is what its meter has grown; a point that is released for a sale has room and a
+/// number for it; prices, readings, shifts and sales are in range; the locker of a sale is signed
+/// on, and no sale is cleared in a shift to come; and however the products are weighed, what the
+/// meters have counted is in the fuellings under way, in sales and in draws.
 pub fn stays_sound()
     ensures { StaysSound }
 {}
@@ -70,15 +71,16 @@ pub fn finds_room()
 {}
 
 /// A clear counts once, in the open shift: for its till, with its sale's cents, and for its sale's
-/// product, with its millilitres. Every other event leaves what was cleared in each shift and in all. A
-/// draw counts for its product in the open shift, and nothing else changes what was drawn. A shift that
-/// isn't open yet is empty.
+/// product, with its millilitres. Every other event leaves what was cleared in each shift and in
+/// all. A draw counts for its product in the open shift, and nothing else changes what was drawn. A
+/// shift that isn't open yet is empty.
 pub fn figures_move()
     ensures { DoFiguresMove }
 {}
 
-/// At a sound site every figure of a shift and of all shifts fits in 64 bits, summed over the tills too,
-/// and so does each with one clear more of a sale that isn't cleared.
+/// At a sound site every figure of a shift fits in 64 bits: of a till, of a product, and the cents
+/// of all tills together. So do the clears and cents in all shifts, of a till and of all tills
+/// together. What tills cleared fits with one clear more, too, of a sale that isn't cleared.
 pub fn figures_fit()
     ensures { DoFiguresFit }
 {}

@@ -4,4 +4,9 @@ use Rattle.written_site.proofs.FigureOpens.{opens_empty}
 use Rattle.written_site.proofs.laws.figures_move.Goals as goal
 
 pub returns : goal.returns
-returns c = record { clears = has_clear; keeps = keeps_clears; draws = draws_move; opens = opens_empty }
+returns c = record {
+  clears = has_clear;
+  keeps = keeps_clears;
+  draws = draws_move;
+  opens = opens_empty;
+}
