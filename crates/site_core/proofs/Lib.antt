@@ -3,4 +3,5 @@ pub mod Reports
 pub mod MarkedTills
 pub mod SignOffs
 pub mod RunSteps
+pub mod Payments
 mod PointPlaces
