@@ -57,6 +57,13 @@ impl PriceBook {
         }
     }
 
+    /// Each product with its price, in configured order.
+    pub fn rows(&self) -> &[(ProductNo, Mills)]
+        ensures { result.now ≡ self.now }
+    {
+        &self.rows
+    }
+
     /// Gives product q this price; every other price stays. False where q isn't there, and then nothing
     /// changes.
     pub fn set(&mut self, q: ProductNo, price: Mills) -> bool

@@ -22,6 +22,7 @@ mod site;
 mod site_parts;
 mod telling;
 mod tills;
+mod totalling;
 
 pub use runs::{RunStopped, run};
 pub use site::Site;

@@ -2,14 +2,20 @@
 
 ghost use Rattle.std.specs.Prelude.{◌≡◌, ℕ, ◌≤◌, true, Ok, OnOk, OnErr, IfOk};
 ghost use Rattle.transaction_buffer.specs.Rooms.{room_at};
-ghost use Rattle.written_site.specs.SiteState.{opening, is_signed_on, point_shown};
+ghost use Rattle.written_site.specs.SiteState.{opening, is_signed_on, point_shown, sale_shown};
+ghost use Rattle.written_site.specs.ShiftFigures.{product_totals, till_totals};
+ghost use Rattle.site_core.specs.Accounts.{shift_row};
 ghost use Rattle.written_site.specs.SiteStep.{Steps};
 ghost use Rattle.written_site.specs.Sound.{Sound};
 ghost use Rattle.site_core.specs.Shown.{HasRoom};
 
 use crate::ranges::are_fit;
 use crate::site_parts::SiteParts;
-use site_base::{Actor, Answer, Event, FpNo, NoMemory, PointView, Reply, SiteConfig, TillNo};
+use shift_ledger::ShiftRow;
+use site_base::{
+    Actor, Answer, Event, FpNo, NoMemory, PointView, Reply, SaleId, ShiftNo, SiteConfig, TillNo,
+    Totals, TransactionView,
+};
 use std::alloc::Global;
 use std::marker::Model;
 
@@ -95,6 +101,35 @@ impl Site {
         ensures { result ≡ is_signed_on self.now.site t }
     {
         self.parts.is_signed_on(t)
+    }
+
+    /// The transaction that a till calls so, as a read shows it. None where it isn't there.
+    pub fn transaction(&self, p: FpNo, id: SaleId) -> Option<TransactionView>
+        ensures { result ≡ sale_shown self.now.site p id }
+    {
+        self.parts.sale_shown(p, &id)
+    }
+
+    /// The figures of shift n, the open one's too: of each till its clears and their cents, of each
+    /// product the millilitres that were cleared and those that tests drew. None for shifts to come.
+    pub fn shift(&self, n: ShiftNo) -> Option<ShiftRow>
+        ensures { result ≡ shift_row n self.now.site.sales self.now.site.drawn }
+    {
+        self.parts.accounts.shift(n)
+    }
+
+    /// The totals of the site, with this number of rows. They are kept: nothing is counted anew.
+    pub fn totals(&self, alloc: Global, rows: u64) -> Result<Totals, NoMemory>
+        ensures rows { IfOk result (λ totals. totals.rows ≡ rows) }
+        ensures products { IfOk result (λ totals.
+            totals.products.items ≡ product_totals self.now.site) }
+        ensures tills { IfOk result (λ totals. totals.tills.items ≡ till_totals self.now.site) }
+    {
+        Ok(Totals {
+            rows,
+            products: self.parts.product_totals(alloc)?,
+            tills: self.parts.till_totals(alloc)?,
+        })
     }
 
     /// The point as a read shows it. None where the site has no such point.

@@ -1,0 +1,15 @@
+//! The totals of a site.
+
+use crate::numbers::TillNo;
+use crate::view::ProductView;
+
+/// What a site has sold and cleared since it opened.
+#[derive(Drop)]
+pub struct Totals {
+    /// How many rows the history has.
+    pub rows: u64,
+    /// Each product as a read shows it, in configured order.
+    pub products: Vec<ProductView>,
+    /// Each till that a site may have, from 1 on: how many transactions it cleared, and their cents.
+    pub tills: Vec<(TillNo, u64, u64)>,
+}
