@@ -27,10 +27,11 @@ is_cleared_in h standing = false
 abbrev pub is_clear_of : ℕ → ℕ → Sale → Bool
 is_clear_of h t x = is_cleared_in h x.standing && is_cleared_by t x.standing
 
--- how many sales till t cleared in shift h, and their cents
+-- how many sales till t cleared in shift h
 abbrev pub clears_in : ℕ → ℕ → Sales → ℕ
 clears_in h t sales = sum_of (λ x. if is_clear_of h t x then 1 else 0) sales
 
+-- the cents of the sales that till t cleared in shift h
 abbrev pub cents_in : ℕ → ℕ → Sales → ℕ
 cents_in h t sales = sum_of (λ x. if is_clear_of h t x then x.cents else 0) sales
 
@@ -38,10 +39,11 @@ cents_in h t sales = sum_of (λ x. if is_clear_of h t x then x.cents else 0) sal
 abbrev pub cleared_in : ℕ → ℕ → Sales → ℕ
 cleared_in h q sales = sum_of (λ x. if is_cleared_in h x.standing then volume_in q x else 0) sales
 
--- how many sales till t cleared in all shifts, and their cents
+-- how many sales till t cleared in all shifts
 abbrev pub clears_by : ℕ → Sales → ℕ
 clears_by t sales = sum_of (λ x. if is_cleared_by t x.standing then 1 else 0) sales
 
+-- the cents of the sales that till t cleared in all shifts
 abbrev pub cents_by : ℕ → Sales → ℕ
 cents_by t sales = sum_of (λ x. if is_cleared_by t x.standing then x.cents else 0) sales
 
@@ -65,10 +67,10 @@ takings_in h sales = sum_by (λ t. cents_in h t sales) tills
 abbrev pub site_view : SiteState → SiteView
 site_view s = record { cents = takings_in (open_shift s) s.sales; shift = open_shift s }
 
--- the totals of the site: each till with its clears and their cents, and each product, in
--- configured order
+-- each till with how many sales it cleared in all, and their cents
 abbrev pub till_totals : SiteState → List (ℕ × ℕ × ℕ)
 till_totals s = map (λ t. (t, clears_by t s.sales, cents_by t s.sales)) tills
 
+-- each product as a read shows it, in configured order
 abbrev pub product_totals : SiteState → List ProductView
 product_totals s = map (λ e. product_view s e.0 e.1) s.prices
