@@ -1,7 +1,7 @@
 -- The requests of the profile, line for line as its table prints them: the kind of message and the
 -- database where each stands, the identifier of its command, the shape of what it carries, and the
 -- event that it makes.
-use Rattle.std.specs.Prelude.{ℕ, List, [], ◌∷◌, Option, Some, None}
+use Rattle.std.specs.Prelude.{ℕ, List, [], ◌∷◌}
 use Rattle.site_base.specs.declared.event.Event.{Event}
 use Rattle.site_base.specs.declared.event.Event.TheVariants as events
 use Rattle.site_base.specs.declared.sale.SaleId.{SaleId}
@@ -13,7 +13,8 @@ use Rattle.device_map.specs.declared.address.Database.TheVariants.{Site, Point, 
 use Rattle.device_map.specs.declared.decimal.SaleDigits.{SaleDigits}
 use Rattle.device_map.specs.declared.ids.TheConstants as ids
 
--- the shape of a request: what stands behind its command, and the event that this makes
+-- the shape of a request: what stands behind its command and in it, and the event that this makes.
+-- Where nothing is said of the command, it has no content
 pub data Shape : Type 0 where
   -- nothing
   bare : (event : Event) → Shape
@@ -25,6 +26,8 @@ pub data Shape : Type 0 where
   metered : (event : ℕ → ℕ → Event) → Shape
   -- nothing, and the address names a sale by its digits
   of_sale : (digits : SaleDigits) (event : SaleId → Event) → Shape
+  -- nothing, and the command's own content is a price
+  priced : (event : ℕ → Event) → Shape
 
 -- a command: its identifier and its shape
 pub record Command : Type 0 where
@@ -39,6 +42,7 @@ abbrev pub commands : Kind → Database → List Command
 commands kinds.Write Site =
     command ids.SIGN_ON (bare events.SignOn) ∷
     command ids.SIGN_OFF (bare events.SignOff) ∷
+    command ids.CLOSE_SHIFT (bare events.CloseShift) ∷
     []
 commands kinds.Write (Point p) =
     command ids.OPEN (bare (events.Open p)) ∷
@@ -53,6 +57,14 @@ commands kinds.Write (Point p) =
     command ids.TEST_RELEASE (bare (events.TestRelease p)) ∷
     command ids.REPLACE_METER (metered (events.ReplaceMeter p)) ∷
     []
+commands kinds.Write (Transaction p digits) =
+    command ids.LOCK (of_sale digits (events.Lock p)) ∷
+    command ids.UNLOCK (of_sale digits (events.Unlock p)) ∷
+    command ids.CLEAR (of_sale digits (events.Clear p)) ∷
+    []
+commands kinds.Write (Product q) =
+    command ids.SET_PRICE (priced (events.SetPrice q)) ∷
+    []
 commands kinds.Report (Point p) =
     command ids.ONLINE (bare (events.Online p)) ∷
     command ids.OFFLINE (bare (events.Offline p)) ∷
@@ -62,9 +74,9 @@ commands kinds.Report (Point p) =
     []
 commands kind database = []
 
--- a read has no command: its shape is that of its database, if that is read
-abbrev pub reading_of : Database → Option Shape
-reading_of (Point p) = Some (bare (events.ReadPoint p))
-reading_of (Transaction p digits) = Some (of_sale digits (events.ReadTransaction p))
-reading_of (Product q) = Some (bare (events.ReadProduct q))
-reading_of database = None
+-- each database is read. A read has no command: its shape is that of its database
+abbrev pub reading_of : Database → Shape
+reading_of Site = bare events.ReadSite
+reading_of (Point p) = bare (events.ReadPoint p)
+reading_of (Transaction p digits) = of_sale digits (events.ReadTransaction p)
+reading_of (Product q) = bare (events.ReadProduct q)

@@ -32,9 +32,10 @@ abbrev pub present : Option Entry → Result Entry MapFault
 present None = Err ItemMissing
 present (Some e) = Ok e
 
--- the number of an item of four octets
-abbrev pub four_octets_in : Entry → Result ℕ MapFault
-four_octets_in e = if length e.content == 4 then Ok (from_be_bytes w32 e.content) else Err BadNumber
+-- the number of a content of four octets
+abbrev pub four_octets_in : List ℕ → Result ℕ MapFault
+four_octets_in content =
+    if length content == 4 then Ok (from_be_bytes w32 content) else Err BadNumber
 
 -- a nozzle's number, an octet
 abbrev pub nozzle_in : Entry → Result ℕ MapFault
@@ -54,10 +55,10 @@ reading_in e =
 abbrev pub preset_of : Option Entry → Option Entry → Result Preset MapFault
 preset_of None None = Ok Unset
 preset_of (Some volume) None = do
-  millilitres ← four_octets_in volume
+  millilitres ← four_octets_in volume.content
   Ok (Volume millilitres)
 preset_of None (Some money) = do
-  cents ← four_octets_in money
+  cents ← four_octets_in money.content
   Ok (Money cents)
 preset_of (Some volume) (Some money) = Err UnknownItem
 
@@ -75,7 +76,7 @@ money_in items = do
   let money = taken ids.PRESET_MONEY items
   _ ← items_end money.1
   item ← present money.0
-  four_octets_in item
+  four_octets_in item.content
 
 -- a nozzle and the reading of its meter
 unfoldable pub meter_in : List Entry → Result (ℕ × ℕ) MapFault

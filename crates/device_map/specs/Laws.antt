@@ -52,7 +52,11 @@ abbrev pub is_carried : Event → Bool
 is_carried (events.Release p preset) = is_preset preset
 is_carried (events.Prepay p cents) = nat_lt cents (2 ^ 32)
 is_carried (events.ReplaceMeter p n reading) = is_meter n reading
+is_carried (events.Lock p sale) = is_sale sale
+is_carried (events.Unlock p sale) = is_sale sale
+is_carried (events.Clear p sale) = is_sale sale
 is_carried (events.ReadTransaction p sale) = is_sale sale
+is_carried (events.SetPrice q price) = is_between 1 PRODUCTS q && nat_lt price (2 ^ 32)
 is_carried (events.ReadProduct q) = is_between 1 PRODUCTS q
 is_carried (events.Lift p n reading) = is_meter n reading
 is_carried (events.Flow p n reading) = is_meter n reading

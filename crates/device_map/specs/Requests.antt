@@ -1,5 +1,5 @@
 -- The event that a message asks for.
-use Rattle.std.specs.Prelude.{ℕ, List, [], ◌∷◌, length, ◌==◌, Option, Some, None, Result, Ok, Err}
+use Rattle.std.specs.Prelude.{ℕ, List, [], ◌∷◌, length, ◌==◌, Result, Ok, Err}
 use Rattle.std.specs.Prelude.{if◌then◌else◌}
 use Rattle.site_base.specs.declared.actor.Actor.{Actor}
 use Rattle.site_base.specs.declared.event.Event.{Event}
@@ -13,9 +13,10 @@ use Rattle.device_map.specs.declared.fault.MapFault.TheVariants.{ItemMissing, Ba
 use Rattle.device_map.specs.Stages.{◌>>=◌}
 use Rattle.device_map.specs.Nodes.{for_us, actor_at, is_request}
 use Rattle.device_map.specs.Addresses.{database_at}
-use Rattle.device_map.specs.Commands.{Shape, bare, limited, prepaid, metered, of_sale}
+use Rattle.device_map.specs.Commands.{Shape, bare, limited, prepaid, metered, of_sale, priced}
 use Rattle.device_map.specs.Commands.{Command, commands, reading_of}
 use Rattle.device_map.specs.Further.{items_end, preset_in, money_in, meter_in, sale_in}
+use Rattle.device_map.specs.Further.{four_octets_in}
 
 -- some command is known there
 abbrev pub some_known : List Command → Result (Unit {0}) MapFault
@@ -32,47 +33,49 @@ abbrev pub shape_of : ℕ → List Command → Result Shape MapFault
 shape_of id [] = Err UnknownItem
 shape_of id (row ∷ rows) = if id == row.id then Ok row.shape else shape_of id rows
 
--- there is no content
-abbrev pub empty_content : Entry → Result (Unit {0}) MapFault
-empty_content e = if length e.content == 0 then Ok tt else Err BadNumber
+-- the event of a command without content
+abbrev pub plain : List ℕ → Event → Result Event MapFault
+plain content event = if length content == 0 then Ok event else Err BadNumber
 
--- the event of a request of this shape with these items behind its command
-abbrev pub event_by : Shape → List Entry → Result Event MapFault
-event_by (bare event) items = do
+-- the event of a request of this shape, by its command's content and the items behind the command,
+-- which are judged first
+abbrev pub event_by : Shape → List ℕ → List Entry → Result Event MapFault
+event_by (bare event) content items = do
   _ ← items_end items
-  Ok event
-event_by (limited event) items = do
+  plain content event
+event_by (limited event) content items = do
   preset ← preset_in items
-  Ok (event preset)
-event_by (prepaid event) items = do
+  plain content (event preset)
+event_by (prepaid event) content items = do
   cents ← money_in items
-  Ok (event cents)
-event_by (metered event) items = do
+  plain content (event cents)
+event_by (metered event) content items = do
   meter ← meter_in items
-  Ok (event meter.0 meter.1)
-event_by (of_sale digits event) items = do
+  plain content (event meter.0 meter.1)
+event_by (of_sale digits event) content items = do
   sale ← sale_in digits items
-  Ok (event sale)
+  plain content (event sale)
+event_by (priced event) content items = do
+  _ ← items_end items
+  price ← four_octets_in content
+  Ok (event price)
 
--- the event of a command of these rows, by its identifier and the items behind it
-abbrev pub event_among : List Command → ℕ → List Entry → Result Event MapFault
-event_among rows id items = do
-  shape ← shape_of id rows
-  event_by shape items
+-- the event of a command of these rows, with the items behind it
+abbrev pub event_among : List Command → Entry → List Entry → Result Event MapFault
+event_among rows command items = do
+  shape ← shape_of command.id rows
+  event_by shape command.content items
 
--- a message with a command: of a database where some are known; the command has no content
+-- a message with a command, of a database where some are known
 unfoldable pub command_in : List Command → List Entry → Result Event MapFault
 command_in rows items = do
   _ ← some_known rows
   first ← first_item items
-  event ← event_among rows first.0.id first.1
-  _ ← empty_content first.0
-  Ok event
+  event_among rows first.0 first.1
 
--- a read, if the database is read
-abbrev pub read_by : Option Shape → List Entry → Result Event MapFault
-read_by None items = Err BadAddress
-read_by (Some shape) items = event_by shape items
+-- a read: without a command there is no content
+abbrev pub read_by : Shape → List Entry → Result Event MapFault
+read_by shape items = event_by shape [] items
 
 -- what the kind of message asks of the database
 abbrev pub event_at : Kind → Database → List Entry → Result Event MapFault

@@ -41,9 +41,11 @@ fn change_by(alloc: Global, event: Event) -> Result<Option<Message>, NoMemory>
         Event::Suspend(p) => Ok(Some(told(alloc, p, ids::SUSPEND)?)),
         Event::Resume(p) => Ok(Some(told(alloc, p, ids::RESUME)?)),
         Event::Terminate(p) => Ok(Some(told(alloc, p, ids::TERMINATE)?)),
-        Event::SignOn | Event::SignOff => Ok(None),
+        Event::SignOn | Event::SignOff | Event::CloseShift => Ok(None),
         Event::Assign(_) | Event::Unassign(_) | Event::ReplaceMeter(_, _, _) => Ok(None),
-        Event::ReadPoint(_) | Event::ReadTransaction(_, _) | Event::ReadProduct(_) => Ok(None),
+        Event::Lock(_, _) | Event::Unlock(_, _) | Event::Clear(_, _) => Ok(None),
+        Event::SetPrice(_, _) | Event::ReadSite | Event::ReadPoint(_) => Ok(None),
+        Event::ReadTransaction(_, _) | Event::ReadProduct(_) => Ok(None),
         Event::Online(_) | Event::Offline(_) | Event::Lift(_, _, _) => Ok(None),
         Event::Flow(_, _, _) | Event::HangUp(_, _, _) => Ok(None),
     }

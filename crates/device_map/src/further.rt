@@ -35,8 +35,8 @@ pub fn preset(mut items: Items<'_>) -> Result<Preset, MapFault>
         return Err(MapFault::UnknownItem);
     }
     match item.id() {
-        ids::PRESET_VOLUME => Ok(Preset::Volume(four_octets(&item)?)),
-        ids::PRESET_MONEY => Ok(Preset::Money(four_octets(&item)?)),
+        ids::PRESET_VOLUME => Ok(Preset::Volume(four_octets(item.content())?)),
+        ids::PRESET_MONEY => Ok(Preset::Money(four_octets(item.content())?)),
         _ => Err(MapFault::UnknownItem),
     }
 }
@@ -50,7 +50,7 @@ pub fn money(mut items: Items<'_>) -> Result<u32, MapFault>
     if money.id() != ids::PRESET_MONEY || !items.is_empty() {
         return Err(MapFault::UnknownItem);
     }
-    four_octets(&money)
+    four_octets(money.content())
 }
 
 /// A nozzle and the reading of its meter.
@@ -82,10 +82,11 @@ pub fn sale(digits: SaleDigits, items: Items<'_>) -> Result<SaleId, MapFault>
     digits.sale()
 }
 
-fn four_octets(item: &Item<'_>) -> Result<u32, MapFault>
-    ensures { Gives result (four_octets_in item.now) }
+/// The number of a content of four octets.
+pub fn four_octets(content: &[u8]) -> Result<u32, MapFault>
+    ensures { Gives result (four_octets_in content.now) }
 {
-    match item.content() {
+    match content {
         [a, b, c, d] => Ok(u32::from_be_bytes([*a, *b, *c, *d])),
         _ => Err(MapFault::BadNumber),
     }

@@ -32,6 +32,8 @@ pub const SIGN_ON: u8 = 0x31;
 
 pub const SIGN_OFF: u8 = 0x32;
 
+pub const CLOSE_SHIFT: u8 = 0x33;
+
 pub const OPEN: u8 = 0x3C;
 
 pub const CLOSE: u8 = 0x3D;
@@ -63,6 +65,14 @@ pub const LIFT: u8 = 0x62;
 pub const FLOW: u8 = 0x63;
 
 pub const HANG_UP: u8 = 0x64;
+
+pub const LOCK: u8 = 0x80;
+
+pub const UNLOCK: u8 = 0x81;
+
+pub const CLEAR: u8 = 0x82;
+
+pub const SET_PRICE: u8 = 0x90;
 
 // What stands behind commands, and what replies tell.
 pub const RESULT: u8 = 0x01;

@@ -2,14 +2,15 @@
 
 ghost use Rattle.device_map.specs.Stages.{Gives};
 ghost use Rattle.device_map.specs.Commands.{bare, commands, reading_of};
-ghost use Rattle.device_map.specs.Requests.{event_by, event_among, empty_content, command_in};
+ghost use Rattle.device_map.specs.Requests.{first_item, plain, event_by, event_among, command_in};
 ghost use Rattle.device_map.specs.Requests.{read_by, event_at, request_at};
 
 use crate::address::Database;
+use crate::decimal::SaleDigits;
 use crate::fault::MapFault;
 use crate::{further, ids, node};
 use app_message::{Item, Items, Kind, Message};
-use site_base::{Actor, Event, FpNo};
+use site_base::{Actor, Event, FpNo, ProductNo};
 
 /// The actor and the event that the message means, or its first fault, in the order of `MapFault`'s
 /// variants: it is a request, for this site, from one who may ask it, of a database that has
@@ -43,12 +44,12 @@ fn read_event(database: Database, items: Items<'_>) -> Result<Event, MapFault>
     ensures { Gives result (read_by (reading_of database) items.entry) }
 {
     match database {
-        Database::Point(point) => bare(Event::ReadPoint(point), items),
+        Database::Site => bare(Event::ReadSite, &[], items),
+        Database::Point(point) => bare(Event::ReadPoint(point), &[], items),
         Database::Transaction(point, digits) => {
             Ok(Event::ReadTransaction(point, further::sale(digits, items)?))
         }
-        Database::Product(product) => bare(Event::ReadProduct(product), items),
-        _ => Err(MapFault::BadAddress),
+        Database::Product(product) => bare(Event::ReadProduct(product), &[], items),
     }
 }
 
@@ -56,10 +57,12 @@ fn read_event(database: Database, items: Items<'_>) -> Result<Event, MapFault>
 fn write_event(database: Database, items: Items<'_>) -> Result<Event, MapFault>
     ensures { Gives result (command_in (commands Kind.Write database) items.entry) }
 {
+    let (command, behind) = first_of(items)?;
     match database {
-        Database::Site => site_command(items),
-        Database::Point(point) => point_command(point, items),
-        _ => Err(MapFault::BadAddress),
+        Database::Site => site_event(&command, behind),
+        Database::Point(point) => point_event(point, &command, behind),
+        Database::Transaction(point, digits) => sale_event(point, digits, &command, behind),
+        Database::Product(product) => product_event(product, &command, behind),
     }
 }
 
@@ -68,115 +71,138 @@ fn report_event(database: Database, items: Items<'_>) -> Result<Event, MapFault>
     ensures { Gives result (command_in (commands Kind.Report database) items.entry) }
 {
     match database {
-        Database::Point(point) => report(point, items),
+        Database::Point(point) => {
+            let (command, behind) = first_of(items)?;
+            reported_event(point, &command, behind)
+        }
         _ => Err(MapFault::BadAddress),
     }
 }
 
-/// A command to the site.
-#[tactic(auto, unfolding(crate::specs::Requests::command_in))]
-fn site_command(mut items: Items<'_>) -> Result<Event, MapFault>
-    ensures { Gives result (command_in (commands Kind.Write Database.Site) items.entry) }
+/// The command, which stands first, and the items behind it.
+fn first_of(mut items: Items<'_>) -> Result<(Item<'_>, Items<'_>), MapFault>
+    ensures { Gives result (first_item items.entry) }
 {
     let command = items.next().ok_or(MapFault::ItemMissing)?;
-    let event = site_event(command.id(), items)?;
-    no_content(&command)?;
-    Ok(event)
-}
-
-/// A command to a fuelling point.
-#[tactic(auto, unfolding(crate::specs::Requests::command_in))]
-fn point_command(point: FpNo, mut items: Items<'_>) -> Result<Event, MapFault>
-    ensures { Gives result (command_in (commands Kind.Write (Database.Point point)) items.entry) }
-{
-    let command = items.next().ok_or(MapFault::ItemMissing)?;
-    let event = point_event(point, command.id(), items)?;
-    no_content(&command)?;
-    Ok(event)
-}
-
-/// A report of a fuelling point's dispenser.
-#[tactic(auto, unfolding(crate::specs::Requests::command_in))]
-fn report(point: FpNo, mut items: Items<'_>) -> Result<Event, MapFault>
-    ensures { Gives result (command_in (commands Kind.Report (Database.Point point)) items.entry) }
-{
-    let command = items.next().ok_or(MapFault::ItemMissing)?;
-    let event = reported_event(point, command.id(), items)?;
-    no_content(&command)?;
-    Ok(event)
+    Ok((command, items))
 }
 
 /// What a till may ask of the site.
-fn site_event(id: u8, items: Items<'_>) -> Result<Event, MapFault>
-    ensures { Gives result (event_among (commands Kind.Write Database.Site) id items.entry) }
+fn site_event(command: &Item<'_>, items: Items<'_>) -> Result<Event, MapFault>
+    ensures { Gives result (event_among (commands Kind.Write Database.Site) command.now items.entry) }
 {
-    match id {
-        ids::SIGN_ON => bare(Event::SignOn, items),
-        ids::SIGN_OFF => bare(Event::SignOff, items),
+    let content = command.content();
+    match command.id() {
+        ids::SIGN_ON => bare(Event::SignOn, content, items),
+        ids::SIGN_OFF => bare(Event::SignOff, content, items),
+        ids::CLOSE_SHIFT => bare(Event::CloseShift, content, items),
         _ => Err(MapFault::UnknownItem),
     }
 }
 
 /// What a till may ask of a fuelling point.
-fn point_event(point: FpNo, id: u8, items: Items<'_>) -> Result<Event, MapFault>
-    ensures { Gives result (event_among (commands Kind.Write (Database.Point point)) id items.entry) }
+fn point_event(point: FpNo, command: &Item<'_>, items: Items<'_>) -> Result<Event, MapFault>
+    ensures { Gives result
+        (event_among (commands Kind.Write (Database.Point point)) command.now items.entry) }
 {
-    match id {
-        ids::OPEN => bare(Event::Open(point), items),
-        ids::CLOSE => bare(Event::Close(point), items),
-        ids::RELEASE => Ok(Event::Release(point, further::preset(items)?)),
-        ids::TERMINATE => bare(Event::Terminate(point), items),
-        ids::SUSPEND => bare(Event::Suspend(point), items),
-        ids::RESUME => bare(Event::Resume(point), items),
-        ids::ASSIGN => bare(Event::Assign(point), items),
-        ids::UNASSIGN => bare(Event::Unassign(point), items),
-        ids::PREPAY => Ok(Event::Prepay(point, further::money(items)?)),
-        ids::TEST_RELEASE => bare(Event::TestRelease(point), items),
+    let content = command.content();
+    match command.id() {
+        ids::OPEN => bare(Event::Open(point), content, items),
+        ids::CLOSE => bare(Event::Close(point), content, items),
+        ids::RELEASE => plain(Event::Release(point, further::preset(items)?), content),
+        ids::TERMINATE => bare(Event::Terminate(point), content, items),
+        ids::SUSPEND => bare(Event::Suspend(point), content, items),
+        ids::RESUME => bare(Event::Resume(point), content, items),
+        ids::ASSIGN => bare(Event::Assign(point), content, items),
+        ids::UNASSIGN => bare(Event::Unassign(point), content, items),
+        ids::PREPAY => plain(Event::Prepay(point, further::money(items)?), content),
+        ids::TEST_RELEASE => bare(Event::TestRelease(point), content, items),
         ids::REPLACE_METER => {
             let (nozzle, reading) = further::meter(items)?;
-            Ok(Event::ReplaceMeter(point, nozzle, reading))
+            plain(Event::ReplaceMeter(point, nozzle, reading), content)
+        }
+        _ => Err(MapFault::UnknownItem),
+    }
+}
+
+/// What a till may ask of a transaction of a fuelling point.
+fn sale_event(
+    point: FpNo,
+    digits: SaleDigits,
+    command: &Item<'_>,
+    items: Items<'_>,
+) -> Result<Event, MapFault>
+    ensures { Gives result
+        (event_among (commands Kind.Write (Database.Transaction point digits)) command.now
+            items.entry) }
+{
+    let content = command.content();
+    match command.id() {
+        ids::LOCK => plain(Event::Lock(point, further::sale(digits, items)?), content),
+        ids::UNLOCK => plain(Event::Unlock(point, further::sale(digits, items)?), content),
+        ids::CLEAR => plain(Event::Clear(point, further::sale(digits, items)?), content),
+        _ => Err(MapFault::UnknownItem),
+    }
+}
+
+/// What a till may ask of a product.
+fn product_event(
+    product: ProductNo,
+    command: &Item<'_>,
+    items: Items<'_>,
+) -> Result<Event, MapFault>
+    ensures { Gives result
+        (event_among (commands Kind.Write (Database.Product product)) command.now items.entry) }
+{
+    match command.id() {
+        ids::SET_PRICE => {
+            further::nothing(items)?;
+            let price = further::four_octets(command.content())?;
+            Ok(Event::SetPrice(product, price))
         }
         _ => Err(MapFault::UnknownItem),
     }
 }
 
 /// What the dispenser of a fuelling point may report.
-fn reported_event(point: FpNo, id: u8, items: Items<'_>) -> Result<Event, MapFault>
-    ensures { Gives result (event_among (commands Kind.Report (Database.Point point)) id items.entry) }
+fn reported_event(point: FpNo, command: &Item<'_>, items: Items<'_>) -> Result<Event, MapFault>
+    ensures { Gives result
+        (event_among (commands Kind.Report (Database.Point point)) command.now items.entry) }
 {
-    match id {
-        ids::ONLINE => bare(Event::Online(point), items),
-        ids::OFFLINE => bare(Event::Offline(point), items),
+    let content = command.content();
+    match command.id() {
+        ids::ONLINE => bare(Event::Online(point), content, items),
+        ids::OFFLINE => bare(Event::Offline(point), content, items),
         ids::LIFT => {
             let (nozzle, reading) = further::meter(items)?;
-            Ok(Event::Lift(point, nozzle, reading))
+            plain(Event::Lift(point, nozzle, reading), content)
         }
         ids::FLOW => {
             let (nozzle, reading) = further::meter(items)?;
-            Ok(Event::Flow(point, nozzle, reading))
+            plain(Event::Flow(point, nozzle, reading), content)
         }
         ids::HANG_UP => {
             let (nozzle, reading) = further::meter(items)?;
-            Ok(Event::HangUp(point, nozzle, reading))
+            plain(Event::HangUp(point, nozzle, reading), content)
         }
         _ => Err(MapFault::UnknownItem),
     }
 }
 
-/// The event of a request with nothing behind its command.
-fn bare(event: Event, items: Items<'_>) -> Result<Event, MapFault>
-    ensures { Gives result (event_by (bare event) items.entry) }
+/// The event of a request with nothing behind its command and no content in it.
+fn bare(event: Event, content: &[u8], items: Items<'_>) -> Result<Event, MapFault>
+    ensures { Gives result (event_by (bare event) content.now items.entry) }
 {
     further::nothing(items)?;
-    Ok(event)
+    plain(event, content)
 }
 
-/// A command has no content.
-fn no_content(command: &Item<'_>) -> Result<(), MapFault>
-    ensures { Gives result (empty_content command.now) }
+/// The event of a command without content.
+fn plain(event: Event, content: &[u8]) -> Result<Event, MapFault>
+    ensures { Gives result (plain content.now event) }
 {
-    if command.content().is_empty() {
-        Ok(())
+    if content.is_empty() {
+        Ok(event)
     } else {
         Err(MapFault::BadNumber)
     }
