@@ -1,4 +1,5 @@
--- What stands behind a command is spelled by one list of items, and read from no other.
+-- What a command carries, in it and behind it, is spelled by one list of items, and read from no
+-- other.
 use Rattle.std.specs.Prelude.{◌&&◌, ◌≤◌, ◌^◌, ◌/◌, nat_lt, nat_le, slice_index, Option, Some, None}
 use Rattle.std.specs.Int.{w32, w64, byte_at, bytes_high_first, to_be_bytes, from_be_bytes}
 use Rattle.std.specs.List.{flat_map}
@@ -12,7 +13,7 @@ use Rattle.site_base.specs.declared.limits.TheConstants.{NOZZLES, GREATEST_READI
 use Rattle.site_base.specs.declared.state.Preset.{Preset}
 use Rattle.site_base.specs.declared.state.Preset.TheVariants.{Unset, Volume, Money}
 use Rattle.site_base.specs.Configured.{is_between}
-use Rattle.app_message.specs.Telegram.{Entry, entry, IsEntry, Rises}
+use Rattle.app_message.specs.Telegram.{Entry, entry, IsEntry, Rises, AreOctets}
 use Rattle.app_message.specs.Spelling.{item_text}
 use Rattle.device_map.specs.declared.fault.MapFault.{MapFault}
 use Rattle.device_map.specs.declared.fault.MapFault.TheVariants.{UnknownItem, BadNumber}
@@ -26,19 +27,26 @@ use Rattle.device_map.specs.Replies.{preset_items}
 use Rattle.device_map.proofs.Results.{bind_ok, went, ok_is, passed, equal, none_of, one_is}
 use Rattle.device_map.proofs.Results.{one_octet}
 
--- what stands behind a command, a line for each shape
+-- what a command carries, a line for each shape
 pub data Content : Type 0 where
   nothing : Content
   limit : (preset : Preset) → Content
   payment : (cents : ℕ) → Content
   meter : (nozzle reading : ℕ) → Content
+  price : (mills : ℕ) → Content
 
--- its items
+-- the content of the command
+abbrev pub content_inside : Content → List ℕ
+content_inside (price mills) = to_be_bytes w32 mills
+content_inside content = []
+
+-- the items behind it
 abbrev pub content_items : Content → List Entry
 content_items nothing = []
 content_items (limit preset) = preset_items preset
 content_items (payment cents) = four_octets ids.PRESET_MONEY cents
 content_items (meter nozzle reading) = octet ids.NOZZLE nozzle ++ eight_octets ids.READING reading
+content_items (price mills) = []
 
 -- each number is in its range
 abbrev pub is_content : Content → Bool
@@ -46,12 +54,12 @@ is_content nothing = true
 is_content (limit preset) = is_preset preset
 is_content (payment cents) = nat_lt cents (2 ^ 32)
 is_content (meter nozzle reading) = is_meter nozzle reading
+is_content (price mills) = nat_lt mills (2 ^ 32)
 
 -- ---- what was spelled is read
 
-four_there : (id n : ℕ) → nat_lt n (2 ^ 32) ≡ true
-    → four_octets_in (entry id (to_be_bytes w32 n)) ≡ Ok n
-four_there id n small =
+pub four_there : (n : ℕ) → nat_lt n (2 ^ 32) ≡ true → four_octets_in (to_be_bytes w32 n) ≡ Ok n
+four_there n small =
     let below : n < 2 ^ 32 = grind (arith, nat_tests) in
     ap (λ (x : ℕ). Ok x) (from_be_bytes-to_be_bytes_4 n below)
 
@@ -60,14 +68,14 @@ pub preset_there : (preset : Preset) → is_preset preset ≡ true
 unfolding preset_in four_octets
 preset_there Unset own = refl
 preset_there (Volume n) own =
-    ap (λ (r : Result ℕ MapFault). r >>= λ x. Ok (Volume x)) (four_there ids.PRESET_VOLUME n own)
+    ap (λ (r : Result ℕ MapFault). r >>= λ x. Ok (Volume x)) (four_there n own)
 preset_there (Money n) own =
-    ap (λ (r : Result ℕ MapFault). r >>= λ x. Ok (Money x)) (four_there ids.PRESET_MONEY n own)
+    ap (λ (r : Result ℕ MapFault). r >>= λ x. Ok (Money x)) (four_there n own)
 
 pub money_there : (cents : ℕ) → nat_lt cents (2 ^ 32) ≡ true
     → money_in (content_items (payment cents)) ≡ Ok cents
 unfolding money_in four_octets
-money_there cents own = four_there ids.PRESET_MONEY cents own
+money_there cents own = four_there cents own
 
 pub meter_there : (n reading : ℕ) → is_meter n reading ≡ true
     → meter_in (content_items (meter n reading)) ≡ Ok (n, reading)
@@ -98,17 +106,36 @@ is_eight id n small = record { id = small; size = lit≤ tt; octets = octet_belo
 is_one : (id n : ℕ) → id < 256 → n < 256 → IsEntry (entry id (n ∷ []))
 is_one id n small octet = record { id = small; size = lit≤ tt; octets = one_octet n octet }
 
+pub no_octets : AreOctets []
+no_octets i = omega arith
+
+pub inside_octets : (content : Content) → AreOctets (content_inside content)
+inside_octets (price mills) = octet_below 4 mills
+inside_octets nothing = no_octets
+inside_octets (limit preset) = no_octets
+inside_octets (payment cents) = no_octets
+inside_octets (meter nozzle reading) = no_octets
+
+pub inside_short : (content : Content) → length (content_inside content) ≤ 4
+inside_short (price mills) = lit≤ tt
+inside_short nothing = lit≤ tt
+inside_short (limit preset) = lit≤ tt
+inside_short (payment cents) = lit≤ tt
+inside_short (meter nozzle reading) = lit≤ tt
+
 -- below the identifiers of its items
 abbrev pub is_below : ℕ → Content → Bool
 is_below id nothing = nat_lt id 256
 is_below id (limit preset) = nat_lt id ids.PRESET_VOLUME
 is_below id (payment cents) = nat_lt id ids.PRESET_MONEY
 is_below id (meter nozzle reading) = nat_lt id ids.NOZZLE
+is_below id (price mills) = nat_lt id 256
 
 pub contents_rise : (id : ℕ) (content : Content) → is_content content ≡ true
     → is_below id content ≡ true → Rises (id + 1) (content_items content)
 unfolding octet four_octets eight_octets
 contents_rise id nothing own below = tt
+contents_rise id (price mills) own below = tt
 contents_rise id (limit Unset) own below = tt
 contents_rise id (limit (Volume n)) own below =
     (grind (arith, nat_tests), is_four ids.PRESET_VOLUME n (omega arith), tt)
@@ -128,6 +155,7 @@ contents_rise id (meter n r) own below =
 pub contents_short : (content : Content) → length (flat_map item_text (content_items content)) ≤ 100
 unfolding octet four_octets eight_octets
 contents_short nothing = lit≤ tt
+contents_short (price mills) = lit≤ tt
 contents_short (limit Unset) = lit≤ tt
 contents_short (limit (Volume n)) = lit≤ tt
 contents_short (limit (Money n)) = lit≤ tt
@@ -136,18 +164,21 @@ contents_short (meter n r) = lit≤ tt
 
 -- ---- what is read was spelled
 
-four_back : (e : Entry) (id n : ℕ) → (e.id == id) ≡ true → IsEntry e → four_octets_in e ≡ Ok n
-    → e ∷ [] ≡ four_octets id n
+-- four octets are the spelling of their number
+pub inside_back : (content : List ℕ) (n : ℕ) → AreOctets content → four_octets_in content ≡ Ok n
+    → content ≡ to_be_bytes w32 n
+inside_back content n octets is =
+    let test = passed (length content == 4) BadNumber (Ok (from_be_bytes w32 content)) n is in
+    let number : n ≡ from_be_bytes w32 content =
+    sym (ok_is (from_be_bytes w32 content) n test.1) in
+    sym (be_bytes_4 content n (equal _ _ test.0) octets number)
+
+four_back : (e : Entry) (id n : ℕ) → (e.id == id) ≡ true → IsEntry e
+    → four_octets_in e.content ≡ Ok n → e ∷ [] ≡ four_octets id n
 unfolding four_octets
 four_back e id n named entry_is is =
-    let test =
-    passed (length e.content == 4) BadNumber (Ok (from_be_bytes w32 e.content)) n is in
-    let number : n ≡ from_be_bytes w32 e.content =
-    sym (ok_is (from_be_bytes w32 e.content) n test.1) in
-    let content : to_be_bytes w32 n ≡ e.content =
-    be_bytes_4 e.content n (equal _ _ test.0) entry_is.octets number in
     ap (λ (x : ℕ). entry x e.content ∷ []) (equal e.id id named)
-    ∙ ap (λ (x : List ℕ). entry id x ∷ []) (sym content)
+    ∙ ap (λ (x : List ℕ). entry id x ∷ []) (inside_back e.content n entry_is.octets is)
 
 nozzle_back : (e : Entry) (n : ℕ) → (e.id == ids.NOZZLE) ≡ true → nozzle_in e ≡ Ok n
     → e ∷ [] ≡ octet ids.NOZZLE n
@@ -211,11 +242,11 @@ preset_told : (low : ℕ) (volume money : Option Entry) (preset : Preset)
     → with_item volume (with_item money []) ≡ preset_items preset
 preset_told low None None preset first second rise is = ap preset_items (ok_is Unset preset is)
 preset_told low (Some e) None preset first second rise is =
-    let number = bind_ok (four_octets_in e) _ preset is in
+    let number = bind_ok (four_octets_in e.content) _ preset is in
     four_back e ids.PRESET_VOLUME number.0 first rise.1 number.1
     ∙ ap preset_items (ok_is (Volume number.0) preset number.2)
 preset_told low None (Some e) preset first second rise is =
-    let number = bind_ok (four_octets_in e) _ preset is in
+    let number = bind_ok (four_octets_in e.content) _ preset is in
     four_back e ids.PRESET_MONEY number.0 second rise.1 number.1
     ∙ ap preset_items (ok_is (Money number.0) preset number.2)
 preset_told low (Some v) (Some e) preset first second rise is = absurd cc
@@ -241,11 +272,11 @@ preset_back low items preset rise is =
 
 money_told : (low : ℕ) (found : Option Entry) (money : Entry) (cents : ℕ)
     → IsNamed ids.PRESET_MONEY found → Rises low (with_item found []) → present found ≡ Ok money
-    → four_octets_in money ≡ Ok cents → with_item found [] ≡ content_items (payment cents)
+    → four_octets_in money.content ≡ Ok cents → with_item found [] ≡ content_items (payment cents)
 money_told low None money cents named rise there is = absurd cc
 money_told low (Some e) money cents named rise there is =
     four_back e ids.PRESET_MONEY cents named rise.1
-    (ap four_octets_in (ok_is e money there) ∙ is)
+    (ap (λ (x : Entry). four_octets_in x.content) (ok_is e money there) ∙ is)
 
 pub money_back : (low : ℕ) (items : List Entry) (cents : ℕ) → Rises low items
     → money_in items ≡ Ok cents → items ≡ content_items (payment cents)

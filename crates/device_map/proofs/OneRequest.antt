@@ -17,17 +17,18 @@ use Rattle.app_message.specs.declared.kind.Kind.TheVariants as kinds
 use Rattle.app_message.specs.Telegram.{Entry, Telegram, AreOctets, Rises, entry, telegram}
 use Rattle.app_message.specs.Spelling.{IsMessage, item_text}
 use Rattle.device_map.specs.declared.address.Database.{Database}
-use Rattle.device_map.specs.declared.fault.MapFault.TheVariants.{BadOriginator, BadNumber}
+use Rattle.device_map.specs.declared.fault.MapFault.TheVariants.{BadOriginator}
 use Rattle.device_map.specs.declared.ids.TheConstants as ids
 use Rattle.device_map.specs.Nodes.{site_node, is_request, for_us, till_at, dispenser_at, actor_at}
 use Rattle.device_map.specs.Addresses.{database_at}
 use Rattle.device_map.specs.Commands.{Shape, commands, reading_of}
-use Rattle.device_map.specs.Requests.{some_known, shape_of, event_among}
-use Rattle.device_map.specs.Requests.{empty_content, command_in, read_by, event_at, request_at}
+use Rattle.device_map.specs.Requests.{some_known, shape_of}
+use Rattle.device_map.specs.Requests.{command_in, read_by, event_at, request_at}
 use Rattle.device_map.specs.Laws.{may_ask, is_in_range, Asks, IsOneRequest}
-use Rattle.device_map.proofs.Contents.{Content, nothing, limit, payment, meter}
-use Rattle.device_map.proofs.Contents.{is_content, is_below}
-use Rattle.device_map.proofs.Contents.{contents_rise, contents_short}
+use Rattle.device_map.proofs.Contents.{Content, nothing, limit, payment, meter, price}
+use Rattle.device_map.proofs.Contents.{content_inside, is_content, is_below}
+use Rattle.device_map.proofs.Contents.{inside_octets, inside_short, contents_rise, contents_short}
+use Rattle.device_map.proofs.Contents.{content_items, no_octets}
 use Rattle.device_map.proofs.OneAddress.{address_of, IsAsked, database_there, address_is, names}
 use Rattle.device_map.proofs.Results.{bind_ok, went, ok_is, passed, equal, none_of, one_octet}
 use Rattle.device_map.proofs.Ways.{Way, way_at, way_to, items_of, may_send, is_spelled}
@@ -100,24 +101,33 @@ command_small id nothing below = grind (arith, nat_tests)
 command_small id (limit preset) below = grind (arith, nat_tests)
 command_small id (payment cents) below = grind (arith, nat_tests)
 command_small id (meter n r) below = grind (arith, nat_tests)
-
-no_octets : AreOctets []
-no_octets i = omega arith
+command_small id (price mills) below = grind (arith, nat_tests)
 
 items_rise : (command : Option ℕ) (content : Content) → is_content content ≡ true
     → is_spelled command content ≡ true → Rises 0 (items_of command content)
 items_rise (Some id) content own spelled =
     let small = command_small id content spelled in (
       omega arith,
-      record { id = small; size = omega arith; octets = no_octets },
+      record {
+        id = small;
+        size = omega (arith, inside_short content);
+        octets = inside_octets content;
+      },
       contents_rise id content own spelled,
     )
 items_rise None nothing own spelled = tt
 items_rise None content own spelled = absurd cc
 
 items_short : (command : Option ℕ) (content : Content)
-    → length (flat_map item_text (items_of command content)) ≤ 102
-items_short (Some id) content = omega (arith, contents_short content)
+    → length (flat_map item_text (items_of command content)) ≤ 106
+items_short (Some id) content =
+    let inside = content_inside content in
+    omega (
+      arith,
+      inside_short content,
+      contents_short content,
+      length-append inside (flat_map item_text (content_items content)),
+    )
 items_short None content = omega (arith, contents_short content)
 
 can_be_spelled : (token : ℕ) (actor : Actor) (way : Way) → token < 32
@@ -229,29 +239,23 @@ command_told kind d [] event rise is =
     let known = bind_ok (some_known (commands kind d)) _ event is in absurd (cc known.2)
 command_told kind d (e ∷ es) event rise is =
     let known = bind_ok (some_known (commands kind d)) _ event is in
-    let made = bind_ok (event_among (commands kind d) e.id es) _ event known.2 in
-    let shape = bind_ok (shape_of e.id (commands kind d)) _ made.0 made.1 in
-    let empty = bind_ok (empty_content e) _ event made.2 in
-    let same : made.0 ≡ event = ok_is made.0 event empty.2 in
+    let shape = bind_ok (shape_of e.id (commands kind d)) _ event known.2 in
     let by =
-    shaped kind d (Some e.id) shape.0 (e.id + 1) es event
-    (command_leads kind d e.id shape.0 shape.1) rise.2 (shape.2 ∙ ap went same) in
-    let no_content : e.content ≡ [] =
-    none_of e.content (passed (length e.content == 0) BadNumber (Ok tt) empty.0 empty.1).0 in
+    shaped kind d (Some e.id) shape.0 (e.id + 1) e.content es event
+    (command_leads kind d e.id shape.0 shape.1) rise.1.octets rise.2 shape.2 in
     record {
       command = Some e.id;
       content = by.content;
       way = by.way;
-      items_are = ap (λ (x : List ℕ). entry e.id x ∷ es) no_content
-          ∙ ap (λ (x : List Entry). entry e.id [] ∷ x) by.is;
+      items_are = ap (λ (x : List ℕ). entry e.id x ∷ es) by.inside_is
+          ∙ ap (λ (x : List Entry). entry e.id (content_inside by.content) ∷ x) by.is;
     }
 
-read_told : (d : Database) (shape : Option Shape) (items : List Entry) (event : Event)
+read_told : (d : Database) (shape : Shape) (items : List Entry) (event : Event)
     → Rises 0 items → ReadLeadsBack d shape → read_by shape items ≡ Ok event
     → IsFor kinds.Read d items event
-read_told d None items event rise lead is = absurd cc
-read_told d (Some shape) items event rise lead is =
-    let by = shaped kinds.Read d None shape 0 items event lead rise is in
+read_told d shape items event rise lead is =
+    let by = shaped kinds.Read d None shape 0 [] items event lead no_octets rise is in
     record { command = None; content = by.content; way = by.way; items_are = by.is }
 
 asked : (kind : Kind) (d : Database) (items : List Entry) (event : Event) → Rises 0 items

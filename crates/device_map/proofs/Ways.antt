@@ -1,9 +1,10 @@
--- The way to each event: the kind of message, the database, the command and what stands behind it.
-use Rattle.std.specs.Prelude.{Option, Some, None}
-use Rattle.std.proofs.Common.{◌≡◌, ℕ, Bool, true, false, List, [], ◌∷◌, Ok, refl, sym}
+-- The way to each event: the kind of message, the database, the command and what it carries.
+use Rattle.std.specs.Prelude.{Option, Some, None, length, ◌^◌, ◌&&◌, nat_lt}
+use Rattle.std.specs.Int.{w32, to_be_bytes}
+use Rattle.std.proofs.Common.{◌≡◌, ℕ, Bool, true, false, List, [], ◌∷◌, Result, Ok, refl, sym}
 use Rattle.std.proofs.Common.{◌==◌, ap, subst, ◌∙◌, rules}
 use Rattle.std.proofs.lemmas.Bool.{and_parts}
-use Rattle.site_base.specs.declared.limits.TheConstants.{TILLS, POINTS}
+use Rattle.site_base.specs.declared.limits.TheConstants.{TILLS, POINTS, PRODUCTS}
 use Rattle.site_base.specs.declared.actor.Actor.{Actor}
 use Rattle.site_base.specs.declared.actor.Actor.TheVariants.{Till, Dispenser}
 use Rattle.site_base.specs.declared.event.Event.{Event}
@@ -14,27 +15,32 @@ use Rattle.site_base.specs.Configured.{is_between}
 use Rattle.site_base.specs.Events.{point_named, reported_by}
 use Rattle.app_message.specs.declared.kind.Kind.{Kind}
 use Rattle.app_message.specs.declared.kind.Kind.TheVariants as kinds
-use Rattle.app_message.specs.Telegram.{Entry, Rises, entry}
+use Rattle.app_message.specs.Telegram.{Entry, Rises, AreOctets, entry}
 use Rattle.device_map.specs.declared.address.Database.{Database}
 use Rattle.device_map.specs.declared.address.Database.TheVariants.{Site, Point, Transaction, Product}
 use Rattle.device_map.specs.declared.decimal.SaleDigits.{SaleDigits}
 use Rattle.device_map.specs.declared.ids.TheConstants as ids
-use Rattle.device_map.specs.Commands.{Shape, bare, limited, prepaid, metered, of_sale}
+use Rattle.device_map.specs.declared.fault.MapFault.{MapFault}
+use Rattle.device_map.specs.declared.fault.MapFault.TheVariants.{BadNumber}
+use Rattle.device_map.specs.Stages.{◌>>=◌}
+use Rattle.device_map.specs.Commands.{Shape, bare, limited, prepaid, metered, of_sale, priced}
 use Rattle.device_map.specs.Commands.{Command, commands, reading_of}
 use Rattle.device_map.specs.Further.{items_end, preset_in, money_in, meter_in, sale_in}
-use Rattle.device_map.specs.Requests.{shape_of, event_by, command_in, event_at}
+use Rattle.device_map.specs.Further.{four_octets_in}
+use Rattle.device_map.specs.Requests.{shape_of, plain, event_by, command_in, event_at}
 use Rattle.device_map.specs.Laws.{may_ask, is_point_if_named, is_carried, is_in_range, is_sale}
-use Rattle.device_map.proofs.Contents.{Content, nothing, limit, payment, meter, content_items}
-use Rattle.device_map.proofs.Contents.{is_content, is_below, preset_there, money_there}
-use Rattle.device_map.proofs.Contents.{meter_there, nothing_back, preset_back, money_back}
+use Rattle.device_map.proofs.Contents.{Content, nothing, limit, payment, meter, price}
+use Rattle.device_map.proofs.Contents.{content_inside, content_items, is_content, is_below}
+use Rattle.device_map.proofs.Contents.{four_there, preset_there, money_there, meter_there}
+use Rattle.device_map.proofs.Contents.{inside_back, nothing_back, preset_back, money_back}
 use Rattle.device_map.proofs.Contents.{meter_back}
 use Rattle.device_map.proofs.DecimalDigits.{sale_digits, sale_there, sale_back}
 use Rattle.device_map.proofs.OneAddress.{IsAsked, sale_octets}
-use Rattle.device_map.proofs.Results.{bind_ok, ok_is, first_that, equal}
+use Rattle.device_map.proofs.Results.{bind_ok, ok_is, passed, first_that, equal, none_of}
 
 -- ---- a line for each event
 
--- a kind of message to a database, with a command or without, and what stands behind it
+-- a kind of message to a database, with a command or without, and what this carries
 pub record Way : Type 0 where
   pub kind : Kind
   pub database : Database
@@ -51,6 +57,10 @@ way_at kind database command content = record {
 
 abbrev commanded : Kind → Database → ℕ → Content → Way
 commanded kind database id content = way_at kind database (Some id) content
+
+-- what a till asks of a transaction
+abbrev asking : ℕ → SaleId → ℕ → Way
+asking p sale id = commanded kinds.Write (Transaction p (sale_digits sale)) id nothing
 
 abbrev reading : Database → Way
 reading database = way_at kinds.Read database None nothing
@@ -71,9 +81,15 @@ way_to (events.Terminate p) = commanded kinds.Write (Point p) ids.TERMINATE noth
 way_to (events.ReplaceMeter p n r) =
     commanded kinds.Write (Point p) ids.REPLACE_METER (meter n r)
 way_to (events.ReadPoint p) = reading (Point p)
+way_to (events.Lock p sale) = asking p sale ids.LOCK
+way_to (events.Unlock p sale) = asking p sale ids.UNLOCK
+way_to (events.Clear p sale) = asking p sale ids.CLEAR
 way_to (events.ReadTransaction p sale) = reading (Transaction p (sale_digits sale))
-way_to (events.Online p) = commanded kinds.Report (Point p) ids.ONLINE nothing
+way_to (events.SetPrice q mills) = commanded kinds.Write (Product q) ids.SET_PRICE (price mills)
 way_to (events.ReadProduct q) = reading (Product q)
+way_to events.CloseShift = commanded kinds.Write Site ids.CLOSE_SHIFT nothing
+way_to events.ReadSite = reading Site
+way_to (events.Online p) = commanded kinds.Report (Point p) ids.ONLINE nothing
 way_to (events.Offline p) = commanded kinds.Report (Point p) ids.OFFLINE nothing
 way_to (events.Lift p n r) = commanded kinds.Report (Point p) ids.LIFT (meter n r)
 way_to (events.Flow p n r) = commanded kinds.Report (Point p) ids.FLOW (meter n r)
@@ -81,27 +97,43 @@ way_to (events.HangUp p n r) = commanded kinds.Report (Point p) ids.HANG_UP (met
 
 abbrev pub items_of : Option ℕ → Content → List Entry
 items_of None content = content_items content
-items_of (Some id) content = entry id [] ∷ content_items content
+items_of (Some id) content = entry id (content_inside content) ∷ content_items content
 
 -- ---- what is so of each event's way: of most events the same, by computing
+
+sale_asked : (p : ℕ) (sale : SaleId) → (is_between 1 POINTS p && is_sale sale) ≡ true
+    → IsAsked (Transaction p (sale_digits sale))
+sale_asked p sale own =
+    ((and_parts (is_between 1 POINTS p) (is_sale sale) own).0, sale_octets sale.shift sale.seq)
 
 pub asked_there : (event : Event) → is_in_range event ≡ true → IsAsked (way_to event).database
 asked_there events.SignOn own = tt
 asked_there events.SignOff own = tt
-asked_there (events.ReadTransaction p sale) own =
-    ((and_parts (is_between 1 POINTS p) (is_sale sale) own).0, sale_octets sale.shift sale.seq)
+asked_there events.CloseShift own = tt
+asked_there events.ReadSite own = tt
+asked_there (events.Lock p sale) own = sale_asked p sale own
+asked_there (events.Unlock p sale) own = sale_asked p sale own
+asked_there (events.Clear p sale) own = sale_asked p sale own
+asked_there (events.ReadTransaction p sale) own = sale_asked p sale own
+asked_there (events.SetPrice q mills) own =
+    (and_parts (is_between 1 PRODUCTS q) (nat_lt mills (2 ^ 32)) own).0
 asked_there (events.ReadProduct q) own = own
 asked_there event own =
     (and_parts (is_point_if_named (point_named event)) (is_carried event) own).0
 
 pub carried_there : (event : Event) → is_in_range event ≡ true
     → is_content (way_to event).content ≡ true
+carried_there (events.Lock p sale) own = refl
+carried_there (events.Unlock p sale) own = refl
+carried_there (events.Clear p sale) own = refl
 carried_there (events.ReadTransaction p sale) own = refl
+carried_there (events.SetPrice q mills) own =
+    (and_parts (is_between 1 PRODUCTS q) (nat_lt mills (2 ^ 32)) own).1
 carried_there (events.ReadProduct q) own = refl
 carried_there event own =
     (and_parts (is_point_if_named (point_named event)) (is_carried event) own).1
 
--- the command's identifier is below those behind it; nothing stands in a read
+-- the command's identifier is below those behind it; nothing is carried in a read
 abbrev pub is_spelled : Option ℕ → Content → Bool
 is_spelled (Some id) content = is_below id content
 is_spelled None nothing = true
@@ -143,8 +175,17 @@ event_there (events.Flow p n r) own =
     rw (meter_there n r (carried_there (events.Flow p n r) own)) refl
 event_there (events.HangUp p n r) own =
     rw (meter_there n r (carried_there (events.HangUp p n r) own)) refl
+event_there (events.Lock p sale) own =
+    rw (sale_there sale (and_parts (is_between 1 POINTS p) (is_sale sale) own).1) refl
+event_there (events.Unlock p sale) own =
+    rw (sale_there sale (and_parts (is_between 1 POINTS p) (is_sale sale) own).1) refl
+event_there (events.Clear p sale) own =
+    rw (sale_there sale (and_parts (is_between 1 POINTS p) (is_sale sale) own).1) refl
 event_there (events.ReadTransaction p sale) own =
     rw (sale_there sale (and_parts (is_between 1 POINTS p) (is_sale sale) own).1) refl
+event_there (events.SetPrice q mills) own =
+    ap (λ (r : Result ℕ MapFault). r >>= λ x. Ok (events.SetPrice q x))
+    (four_there mills (carried_there (events.SetPrice q mills) own))
 event_there event own = refl
 
 -- ---- the tables lead back: each row is the way to its events
@@ -160,28 +201,40 @@ LeadsBack kind d command (metered event) =
 LeadsBack kind d command (of_sale digits event) =
     (sale : SaleId) → digits ≡ sale_digits sale
     → way_to (event sale) ≡ way_at kind d command nothing
+LeadsBack kind d command (priced event) =
+    (mills : ℕ) → way_to (event mills) ≡ way_at kind d command (price mills)
 
 abbrev RowsLeadBack : Kind → Database → List Command → Type 0
 RowsLeadBack kind d [] = Unit {0}
 RowsLeadBack kind d (row ∷ rows) =
     LeadsBack kind d (Some row.id) row.shape × RowsLeadBack kind d rows
 
-abbrev pub ReadLeadsBack : Database → Option Shape → Type 0
-ReadLeadsBack d None = Unit {0}
-ReadLeadsBack d (Some shape) = LeadsBack kinds.Read d None shape
+abbrev pub ReadLeadsBack : Database → Shape → Type 0
+ReadLeadsBack d shape = LeadsBack kinds.Read d None shape
+
+-- a sale's digits, as they came, lead back where they are those of the sale
+asked_leads : (p id : ℕ) (digits : SaleDigits) (sale : SaleId) → digits ≡ sale_digits sale
+    → asking p sale id ≡ way_at kinds.Write (Transaction p digits) (Some id) nothing
+asked_leads p id digits sale same =
+    ap (λ (x : SaleDigits). commanded kinds.Write (Transaction p x) id nothing) (sym same)
 
 commands_lead : (kind : Kind) (d : Database) → RowsLeadBack kind d (commands kind d)
 commands_lead kinds.Write Site = search rules
 commands_lead kinds.Write (Point p) = search rules
+commands_lead kinds.Write (Transaction p digits) = (
+  asked_leads p ids.LOCK digits,
+  (asked_leads p ids.UNLOCK digits, (asked_leads p ids.CLEAR digits, tt)),
+)
+commands_lead kinds.Write (Product q) = search rules
 commands_lead kinds.Report (Point p) = search rules
 commands_lead kind d = tt
 
 pub reads_lead : (d : Database) → ReadLeadsBack d (reading_of d)
+reads_lead Site = refl
 reads_lead (Point p) = refl
 reads_lead (Transaction p digits) = λ sale same.
     ap (λ (x : SaleDigits). reading (Transaction p x)) (sym same)
 reads_lead (Product q) = refl
-reads_lead d = tt
 
 -- so is the row that is found
 found_leads : (kind : Kind) (d : Database) (id : ℕ) (shape : Shape) (rows : List Command)
@@ -199,52 +252,78 @@ pub command_leads : (kind : Kind) (d : Database) (id : ℕ) (shape : Shape)
 command_leads kind d id shape found =
     found_leads kind d id shape (commands kind d) (commands_lead kind d) found
 
--- what stands behind the command, and the event's way
-pub record IsBy (kind : Kind) (d : Database) (command : Option ℕ)
+-- what the command carries, and the event's way
+pub record IsBy (kind : Kind) (d : Database) (command : Option ℕ) (inside : List ℕ)
     (items : List Entry) (event : Event) : Type 0 where
   pub content : Content
   pub way : way_to event ≡ way_at kind d command content
+  pub inside_is : inside ≡ content_inside content
   pub is : items ≡ content_items content
+
+plain_is : (inside : List ℕ) (made event : Event) → plain inside made ≡ Ok event
+    → (inside ≡ []) × (made ≡ event)
+plain_is inside made event is =
+    let test = passed (length inside == 0) BadNumber (Ok made) event is in
+    (none_of inside test.0, ok_is made event test.1)
 
 -- a request of a shape that leads back tells the way to its event
 pub shaped : (kind : Kind) (d : Database) (command : Option ℕ) (shape : Shape) (low : ℕ)
-    (items : List Entry) (event : Event) → LeadsBack kind d command shape → Rises low items
-    → event_by shape items ≡ Ok event → IsBy kind d command items event
+    (inside : List ℕ) (items : List Entry) (event : Event) → LeadsBack kind d command shape
+    → AreOctets inside → Rises low items → event_by shape inside items ≡ Ok event
+    → IsBy kind d command inside items event
 unfolding sale_in
-shaped kind d command (bare made) low items event lead rise is =
+shaped kind d command (bare made) low inside items event lead octets rise is =
     let ended = bind_ok (items_end items) _ event is in
+    let same = plain_is inside made event ended.2 in
     record {
       content = nothing;
-      way = ap way_to (sym (ok_is made event ended.2)) ∙ lead;
+      way = ap way_to (sym same.1) ∙ lead;
+      inside_is = same.0;
       is = nothing_back items ended.0 ended.1;
     }
-shaped kind d command (limited made) low items event lead rise is =
+shaped kind d command (limited made) low inside items event lead octets rise is =
     let preset = bind_ok (preset_in items) _ event is in
+    let same = plain_is inside (made preset.0) event preset.2 in
     record {
       content = limit preset.0;
-      way = ap way_to (sym (ok_is (made preset.0) event preset.2)) ∙ lead preset.0;
+      way = ap way_to (sym same.1) ∙ lead preset.0;
+      inside_is = same.0;
       is = preset_back low items preset.0 rise preset.1;
     }
-shaped kind d command (prepaid made) low items event lead rise is =
+shaped kind d command (prepaid made) low inside items event lead octets rise is =
     let cents = bind_ok (money_in items) _ event is in
+    let same = plain_is inside (made cents.0) event cents.2 in
     record {
       content = payment cents.0;
-      way = ap way_to (sym (ok_is (made cents.0) event cents.2)) ∙ lead cents.0;
+      way = ap way_to (sym same.1) ∙ lead cents.0;
+      inside_is = same.0;
       is = money_back low items cents.0 rise cents.1;
     }
-shaped kind d command (metered made) low items event lead rise is =
+shaped kind d command (metered made) low inside items event lead octets rise is =
     let read = bind_ok (meter_in items) _ event is in
+    let same = plain_is inside (made read.0.0 read.0.1) event read.2 in
     record {
       content = meter read.0.0 read.0.1;
-      way = ap way_to (sym (ok_is (made read.0.0 read.0.1) event read.2)) ∙ lead read.0.0 read.0.1;
+      way = ap way_to (sym same.1) ∙ lead read.0.0 read.0.1;
+      inside_is = same.0;
       is = meter_back low items read.0.0 read.0.1 rise read.1;
     }
-shaped kind d command (of_sale digits made) low items event lead rise is =
+shaped kind d command (of_sale digits made) low inside items event lead octets rise is =
     let sale = bind_ok (sale_in digits items) _ event is in
     let ended = bind_ok (items_end items) _ sale.0 sale.1 in
+    let same = plain_is inside (made sale.0) event sale.2 in
     record {
       content = nothing;
-      way = ap way_to (sym (ok_is (made sale.0) event sale.2))
-          ∙ lead sale.0 (sale_back digits sale.0 ended.2);
+      way = ap way_to (sym same.1) ∙ lead sale.0 (sale_back digits sale.0 ended.2);
+      inside_is = same.0;
+      is = nothing_back items ended.0 ended.1;
+    }
+shaped kind d command (priced made) low inside items event lead octets rise is =
+    let ended = bind_ok (items_end items) _ event is in
+    let mills = bind_ok (four_octets_in inside) _ event ended.2 in
+    record {
+      content = price mills.0;
+      way = ap way_to (sym (ok_is (made mills.0) event mills.2)) ∙ lead mills.0;
+      inside_is = inside_back inside mills.0 octets mills.1;
       is = nothing_back items ended.0 ended.1;
     }
