@@ -315,6 +315,16 @@ way_rows =
     "02 20 01 01 00 E0 000B 04 21 21 00 01" "010100 030109" ∷
     told "01 01 02 01 00 4A 00 09 06 21 22 00 01 00 01 80 00" (Ok answers.Locked)
     "02 01 01 01 00 EA 000D 06 21 22 00 01 00 01" "010100 030109" ∷
+    -- a sale of an earlier shift, by the form without a shift
+    told "01 01 02 01 00 4B 00 07 04 21 21 00 01 80 00" (Err refusals.NoSuchTransaction)
+    "02 01 01 01 00 EB 0008 04 21 21 00 01" "010106" ∷
+    told "01 01 02 01 00 49 00 08 01 81 90 04 00 00 06 40" (Ok answers.Done)
+    "02 01 01 01 00 E9 0008 01 81" "010100 030100" ∷
+    told "01 01 02 01 00 48 00 04 01 01 33 00" (Ok (answers.ShiftClosed 1))
+    "02 01 01 01 00 E8 000C 01 01" "010100 03010C 76020001" ∷
+    told "01 01 02 01 00 0A 00 02 01 01"
+    (Ok (answers.SiteIs (record { cents = 1500; shift = 2 })))
+    "02 01 01 01 00 2A 0010 01 01" "75080000000000 0005DC 76020002" ∷
     []
 
 ways_back : map tells way_rows ≡ map (λ row. row.text ∷ []) way_rows
@@ -323,11 +333,18 @@ ways_back = refl
 
 -- ---- numbers in place of replies, and faults of a stream
 
-abbrev asked : List ℕ
-asked = octets "01 01 02 01 00 42 00 04 01 23 3C 00"
+abbrev numbered_to : String → ℕ → List (List ℕ)
+numbered_to text number =
+    map (λ m. spelling (number_message m number)) (stream_of (octets text)).messages
 
 abbrev numbered : ℕ → List (List ℕ)
-numbered number = map (λ m. spelling (number_message m number)) (stream_of asked).messages
+numbered number = numbered_to "01 01 02 01 00 42 00 04 01 23 3C 00" number
+
+-- the address stands as it came, also where its digits are none
+digits_are_refused : numbered_to "01 01 02 01 00 47 00 07 04 21 21 00 0A 80 00" 55
+    ≡ octets "02 01 01 01 00 E7 0008 04 21 21 00 0A 010137" ∷ []
+unfolding walk front_at header_at item_at items_at address_at body_at octet two_octets four_octets eight_octets
+digits_are_refused = refl
 
 numbers_are_told : map numbered (30 ∷ 31 ∷ 50 ∷ 58 ∷ [])
     ≡ (octets "02 01 01 01 00 E2 0005 01 23 01011E" ∷ []) ∷

@@ -138,9 +138,6 @@ transactions =
     fails "01 01 02 01 00 01 00 07 06 21 22 00 01 00 00" BadDecimal ∷
     -- an item in a read comes before the digits
     fails "01 01 02 01 00 01 00 07 04 21 21 00 0A 80 00" UnknownItem ∷
-    -- no transaction is written yet, whatever its digits
-    fails "01 01 02 01 00 47 00 07 04 21 21 00 0A 80 00" BadAddress ∷
-    fails "01 01 02 01 00 4A 00 09 06 21 22 00 01 00 01 80 00" BadAddress ∷
     []
 
 transactions_ask :
@@ -148,6 +145,77 @@ transactions_ask :
 unfolding request_at for_us till_at database_at command_in sale_in sale_named decimal_in
     walk front_at header_at item_at items_at address_at body_at
 transactions_ask = refl
+
+-- what tills ask of transactions: no shift is the open one
+abbrev payments : List Row
+payments =
+    asks "01 01 02 01 00 4B 00 07 04 21 21 00 01 80 00" (Till 1) (events.Lock 1 (sale None 1)) ∷
+    asks "01 01 02 01 00 4A 00 09 06 21 22 00 01 00 01 80 00"
+    (Till 1) (events.Lock 1 (sale (Some 1) 1)) ∷
+    asks "01 01 02 02 00 41 00 07 04 23 21 00 02 81 00" (Till 2) (events.Unlock 3 (sale None 2)) ∷
+    asks "01 01 02 02 00 41 00 09 06 23 22 00 02 00 02 81 00"
+    (Till 2) (events.Unlock 3 (sale (Some 2) 2)) ∷
+    asks "01 01 02 20 00 41 00 07 04 60 21 99 99 82 00"
+    (Till 32) (events.Clear 64 (sale None 9999)) ∷
+    asks "01 01 02 20 00 41 00 09 06 60 22 09 99 99 99 82 00"
+    (Till 32) (events.Clear 64 (sale (Some 999) 9999)) ∷
+    -- a digit above 9, 0000, shift 0000 and 1000
+    fails "01 01 02 01 00 47 00 07 04 21 21 00 0A 80 00" BadDecimal ∷
+    fails "01 01 02 01 00 47 00 07 04 21 21 00 00 81 00" BadDecimal ∷
+    fails "01 01 02 01 00 47 00 09 06 21 22 00 00 00 01 82 00" BadDecimal ∷
+    fails "01 01 02 01 00 47 00 09 06 21 22 10 00 00 01 80 00" BadDecimal ∷
+    -- a command that is none of a transaction's, one behind another, and none: before the digits
+    fails "01 01 02 01 00 47 00 07 04 21 21 00 0A 83 00" UnknownItem ∷
+    fails "01 01 02 01 00 47 00 07 04 21 21 00 0A 3C 00" UnknownItem ∷
+    fails "01 01 02 01 00 47 00 09 04 21 21 00 0A 80 00 81 00" UnknownItem ∷
+    fails "01 01 02 01 00 47 00 05 04 21 21 00 0A" ItemMissing ∷
+    -- content: behind the digits
+    fails "01 01 02 01 00 47 00 08 04 21 21 00 0A 80 01 00" BadDecimal ∷
+    fails "01 01 02 01 00 47 00 08 04 21 21 00 01 80 01 00" BadNumber ∷
+    -- till 33
+    fails "01 01 02 21 00 47 00 07 04 21 21 00 01 80 00" BadOriginator ∷
+    []
+
+payments_ask : map (λ row. read_in row.text) payments ≡ map (λ row. row.pair ∷ []) payments
+unfolding request_at for_us till_at database_at command_in sale_in sale_named decimal_in
+    walk front_at header_at item_at items_at address_at body_at
+payments_ask = refl
+
+-- ---- prices, shifts and the site
+
+abbrev managing : List Row
+managing =
+    asks "01 01 02 01 00 49 00 08 01 81 90 04 00 00 06 40" (Till 1) (events.SetPrice 1 1600) ∷
+    asks "01 01 02 20 00 49 00 08 01 88 90 04 00 01 86 9F" (Till 32) (events.SetPrice 8 99999) ∷
+    -- a price out of range is the site's to refuse, and so is a till that is no manager
+    asks "01 01 02 01 00 49 00 08 01 81 90 04 00 00 00 00" (Till 1) (events.SetPrice 1 0) ∷
+    asks "01 01 02 02 00 49 00 08 01 81 90 04 00 01 86 A0" (Till 2) (events.SetPrice 1 100000) ∷
+    asks "01 01 02 01 00 49 00 08 01 81 90 04 FF FF FF FF" (Till 1) (events.SetPrice 1 4294967295) ∷
+    asks "01 01 02 01 00 48 00 04 01 01 33 00" (Till 1) events.CloseShift ∷
+    asks "01 01 02 01 00 0A 00 02 01 01" (Till 1) events.ReadSite ∷
+    -- an item behind a price, even of a wrong width, and one behind a close
+    fails "01 01 02 01 00 49 00 0A 01 81 90 04 00 00 06 40 91 00" UnknownItem ∷
+    fails "01 01 02 01 00 49 00 06 01 81 90 00 91 00" UnknownItem ∷
+    fails "01 01 02 01 00 48 00 06 01 01 33 00 34 00" UnknownItem ∷
+    -- a site's command to a product, a product's to the site and to a point, the site read with one
+    fails "01 01 02 01 00 49 00 04 01 81 33 00" UnknownItem ∷
+    fails "01 01 02 01 00 49 00 08 01 01 90 04 00 00 06 40" UnknownItem ∷
+    fails "01 01 02 01 00 49 00 08 01 21 90 04 00 00 06 40" UnknownItem ∷
+    fails "01 01 02 01 00 01 00 04 01 01 31 00" UnknownItem ∷
+    -- no command to a product
+    fails "01 01 02 01 00 41 00 02 01 81" ItemMissing ∷
+    -- a price of none, of two, three and five octets, and a close with content
+    fails "01 01 02 01 00 49 00 04 01 81 90 00" BadNumber ∷
+    fails "01 01 02 01 00 49 00 06 01 81 90 02 06 40" BadNumber ∷
+    fails "01 01 02 01 00 49 00 07 01 81 90 03 00 06 40" BadNumber ∷
+    fails "01 01 02 01 00 49 00 09 01 81 90 05 00 00 00 06 40" BadNumber ∷
+    fails "01 01 02 01 00 48 00 05 01 01 33 01 00" BadNumber ∷
+    []
+
+managing_asks : map (λ row. read_in row.text) managing ≡ map (λ row. row.pair ∷ []) managing
+unfolding request_at for_us till_at database_at command_in
+    walk front_at header_at item_at items_at address_at body_at
+managing_asks = refl
 
 -- ---- messages that ask for nothing
 
@@ -183,11 +251,9 @@ no_requests =
     fails "01 01 02 01 00 01 00 07 06 21 21 00 01 00 01" BadAddress ∷
     fails "01 01 02 01 00 01 00 04 03 21 21 00" BadAddress ∷
     fails "01 01 02 01 00 01 00 06 05 21 21 00 01 00" BadAddress ∷
-    -- nothing is written to products, and the site isn't read
-    fails "01 01 02 01 00 41 00 02 01 81" BadAddress ∷
-    fails "01 01 02 01 00 01 00 04 01 01 31 00" BadAddress ∷
-    -- a dispenser reports nothing of the site, nor of a transaction
+    -- a dispenser reports nothing of the site, of a product, nor of a transaction
     fails "01 01 03 02 00 61 00 04 01 01 60 00" BadAddress ∷
+    fails "01 01 03 01 00 61 00 04 01 81 60 00" BadAddress ∷
     fails "01 01 03 01 00 61 00 07 04 21 21 00 01 60 00" BadAddress ∷
     -- a first item that is no command, with content
     fails "01 01 02 01 00 41 00 05 01 21 31 01 00" UnknownItem ∷
