@@ -30,7 +30,7 @@ use Rattle.device_map.proofs.Contents.{content_inside, is_content, is_below}
 use Rattle.device_map.proofs.Contents.{inside_octets, inside_short, contents_rise, contents_short}
 use Rattle.device_map.proofs.Contents.{content_items, no_octets}
 use Rattle.device_map.proofs.OneAddress.{address_of, IsAsked, database_there, address_is, names}
-use Rattle.device_map.proofs.Results.{bind_ok, went, ok_is, passed, equal, none_of, one_octet}
+use Rattle.device_map.proofs.Results.{bind_ok, went, ok_is, passed, equal, one_octet}
 use Rattle.device_map.proofs.Ways.{Way, way_at, way_to, items_of, may_send, is_spelled}
 use Rattle.device_map.proofs.Ways.{asked_there, carried_there, spelled_there, sender_there}
 use Rattle.device_map.proofs.Ways.{event_there, shaped, command_leads, ReadLeadsBack}

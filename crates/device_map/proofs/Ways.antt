@@ -1,6 +1,5 @@
 -- The way to each event: the kind of message, the database, the command and what it carries.
 use Rattle.std.specs.Prelude.{Option, Some, None, length, ◌^◌, ◌&&◌, nat_lt}
-use Rattle.std.specs.Int.{w32, to_be_bytes}
 use Rattle.std.proofs.Common.{◌≡◌, ℕ, Bool, true, false, List, [], ◌∷◌, Result, Ok, refl, sym}
 use Rattle.std.proofs.Common.{◌==◌, ap, subst, ◌∙◌, rules}
 use Rattle.std.proofs.lemmas.Bool.{and_parts}
@@ -17,7 +16,8 @@ use Rattle.app_message.specs.declared.kind.Kind.{Kind}
 use Rattle.app_message.specs.declared.kind.Kind.TheVariants as kinds
 use Rattle.app_message.specs.Telegram.{Entry, Rises, AreOctets, entry}
 use Rattle.device_map.specs.declared.address.Database.{Database}
-use Rattle.device_map.specs.declared.address.Database.TheVariants.{Site, Point, Transaction, Product}
+use Rattle.device_map.specs.declared.address.Database.TheVariants.{Site, Point, Transaction}
+use Rattle.device_map.specs.declared.address.Database.TheVariants.{Product}
 use Rattle.device_map.specs.declared.decimal.SaleDigits.{SaleDigits}
 use Rattle.device_map.specs.declared.ids.TheConstants as ids
 use Rattle.device_map.specs.declared.fault.MapFault.{MapFault}

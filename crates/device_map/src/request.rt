@@ -89,7 +89,8 @@ fn first_of(mut items: Items<'_>) -> Result<(Item<'_>, Items<'_>), MapFault>
 
 /// What a till may ask of the site.
 fn site_event(command: &Item<'_>, items: Items<'_>) -> Result<Event, MapFault>
-    ensures { Gives result (event_among (commands Kind.Write Database.Site) command.now items.entry) }
+    ensures { Gives result
+        (event_among (commands Kind.Write Database.Site) command.now items.entry) }
 {
     let content = command.content();
     match command.id() {
@@ -134,7 +135,7 @@ fn sale_event(
 ) -> Result<Event, MapFault>
     ensures { Gives result
         (event_among (commands Kind.Write (Database.Transaction point digits)) command.now
-            items.entry) }
+        items.entry) }
 {
     let content = command.content();
     match command.id() {
