@@ -34,14 +34,12 @@ pub struct Accounts {
 }
 
 impl Model for Accounts {
-    ghost use Rattle.std.specs.Coded.{codes};
-    ghost use Rattle.transaction_buffer.specs.Codes.{sales_code};
-    ghost use Rattle.site_core.specs.Accounts.{Account, AreFigures};
+    ghost use Rattle.site_core.specs.Accounts.{Account, AreFigures, account_code};
     ghost use Rattle.site_core.specs.Ledger.{draws_of};
 
     ghost Value = { Account };
 
-    ghost coded = { Prim.hlevel (codes, sales_code) };
+    ghost coded = { account_code };
 
     ghost view = { λ a. record {
       sales = a.sales.sales;
