@@ -32,7 +32,7 @@ row_open h shifts is =
     ∙ ap (λ o. unwrap_or o empty_figures) (numbered_push_here shifts.closed shifts.current)
 
 -- every other shift's row, whatever the open one's is
-row_other : (h : ℕ) (closed : List ShiftRow) (old new : ShiftRow) → h ≢ length closed + 1
+pub row_other : (h : ℕ) (closed : List ShiftRow) (old new : ShiftRow) → h ≢ length closed + 1
     → row_in h (record { closed = closed; current = new })
     ≡ row_in h (record { closed = closed; current = old })
 row_other h closed old new other =

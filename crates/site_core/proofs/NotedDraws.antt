@@ -11,7 +11,7 @@ use Rattle.site_base.specs.declared.limits.TheConstants.{PRODUCT_CELLS}
 use Rattle.site_base.proofs.Numbering.{numbered_within}
 use Rattle.shift_ledger.specs.declared.row.ShiftRow.{ShiftRow}
 use Rattle.shift_ledger.specs.Figures.{adjusted_figure, empty_figures, with_draw}
-use Rattle.shift_ledger.specs.Shifts.{Book, Shifts, after_close, after_draw}
+use Rattle.shift_ledger.specs.Shifts.{Book, Shifts, after_close, after_draw, open_number}
 use Rattle.meters.specs.Metered.{product_alone}
 use Rattle.written_site.specs.SiteState.{nothing_drawn}
 use Rattle.written_site.specs.SiteStep.{draw_noted}
@@ -121,6 +121,15 @@ kept_noted shifts cells q k volume kept place within size = record {
             ∙ sym (more ∙ ap (λ v. drawn_of (j + 1) (draws_of shifts) + v) none ∙ omega arith)
       ];
 }
+
+-- the open shift's draws are the last
+told-length : (closed : List ShiftRow) (current : ShiftRow)
+    → length (told closed current) ≡ length closed + 1
+told-length [] current = refl
+told-length (row ∷ rows) current = omega (arith, told-length rows current)
+
+pub draws-open : (shifts : Shifts) → length (draws_of shifts) ≡ open_number shifts
+draws-open shifts = told-length shifts.closed shifts.current
 
 -- ---- a close
 

@@ -97,3 +97,17 @@ row_shown n sales shifts totals kept =
           adjusted = row.adjusted;
         }) (product_cells n sales shifts totals row kept shown) in
         rw shown (ap Some is)
+
+-- ---- the cents of all tills
+
+fold_map : {X Y : Type 0} (f : X → Y) (g : Y → ℕ) (xs : List X) (n : ℕ)
+    → fold (λ a y. a + g y) n (map f xs) ≡ fold (λ a x. a + g (f x)) n xs
+fold_map f g [] n = refl
+fold_map f g (x ∷ xs) n = fold_map f g xs (n + g (f x))
+
+pub takings_shown : (n : ℕ) (sales : Sales) (shifts : Shifts) (totals : List (ℕ × ℕ))
+    (row : ShiftRow) → AreFigures sales shifts totals → figures_of n shifts ≡ Some row
+    → sum_by (λ (e : ℕ × ℕ). e.1) row.tills ≡ sum_by (λ t. cents_in n t sales) tills
+takings_shown n sales shifts totals row kept shown =
+    ap (sum_by (λ (e : ℕ × ℕ). e.1)) (till_cells n sales shifts totals row kept shown)
+    ∙ fold_map (λ t. (clears_in n t sales, cents_in n t sales)) (λ (e : ℕ × ℕ). e.1) tills 0

@@ -242,19 +242,19 @@ impl Accounts {
         ensures { result ≡ sum_by (λ t. cents_in (length self.now.drawn) t self.now.sales) tills }
     {
         match self.ledger.row(self.ledger.open_shift()) {
-            Some(row) => takings_of(&row),
+            Some(row) => sum_of_cents(&row.tills),
             None => unreachable!(),
         }
     }
 }
 
-/// The cents that all tills cleared in a shift, which fit in 64 bits.
-fn takings_of(row: &ShiftRow) -> u64
-    requires { sum_by (λ e. e.1) row.now.tills < 2 ^ 64 }
-    ensures { result ≡ sum_by (λ e. e.1) row.now.tills }
+/// The cents of all these, of each a count and its cents. They fit in 64 bits.
+fn sum_of_cents(tills: &[(u64, u64)]) -> u64
+    requires { sum_by (λ e. e.1) tills.now < 2 ^ 64 }
+    ensures { result ≡ sum_by (λ e. e.1) tills.now }
 {
     let mut sum = 0;
-    for (_, cents) in &row.tills {
+    for (_, cents) in tills {
         sum += *cents;
     }
     sum

@@ -1,6 +1,0 @@
-use Rattle.std.specs.Prelude.{◌≡◌, take, sum_by}
-use Rattle.site_core.proofs.accounts.takings_of.Loops as goal
-
-abbrev pub invariant-loop-cents : goal.invariant-loop-cents
-invariant-loop-cents l =
-    l.sum ≡ sum_by (λ (e : ℕ × ℕ). e.1) (take l.cents-index l.row.tills)
