@@ -34,14 +34,12 @@ pub struct Accounts {
 }
 
 impl Model for Accounts {
-    ghost use Rattle.std.specs.Coded.{codes};
-    ghost use Rattle.transaction_buffer.specs.Codes.{sales_code};
-    ghost use Rattle.site_core.specs.Accounts.{Account, AreFigures};
+    ghost use Rattle.site_core.specs.Accounts.{Account, AreFigures, account_code};
     ghost use Rattle.site_core.specs.Ledger.{draws_of};
 
     ghost Value = { Account };
 
-    ghost coded = { Prim.hlevel (codes, sales_code) };
+    ghost coded = { account_code };
 
     ghost view = { λ a. record {
       sales = a.sales.sales;
@@ -244,19 +242,19 @@ impl Accounts {
         ensures { result ≡ sum_by (λ t. cents_in (length self.now.drawn) t self.now.sales) tills }
     {
         match self.ledger.row(self.ledger.open_shift()) {
-            Some(row) => takings_of(&row),
+            Some(row) => sum_of_cents(&row.tills),
             None => unreachable!(),
         }
     }
 }
 
-/// The cents that all tills cleared in a shift, which fit in 64 bits.
-fn takings_of(row: &ShiftRow) -> u64
-    requires { sum_by (λ e. e.1) row.now.tills < 2 ^ 64 }
-    ensures { result ≡ sum_by (λ e. e.1) row.now.tills }
+/// The cents of all these, of each a count and its cents. They fit in 64 bits.
+fn sum_of_cents(tills: &[(u64, u64)]) -> u64
+    requires { sum_by (λ e. e.1) tills.now < 2 ^ 64 }
+    ensures { result ≡ sum_by (λ e. e.1) tills.now }
 {
     let mut sum = 0;
-    for (_, cents) in &row.tills {
+    for (_, cents) in tills {
         sum += *cents;
     }
     sum

@@ -52,12 +52,13 @@ impl Ledger {
         }
     }
 
-    /// Makes the room that the next close needs. The figures stay.
+    /// Makes the room that the next close needs. The figures stay. After `NoMemory` nothing has changed.
     pub fn reserve(&mut self) -> Result<(), NoMemory>
         ensures shifts { self.new.shifts ≡ self.old.shifts }
         ensures tills { self.new.tills ≡ self.old.tills }
         ensures room { OnOk result (0 < self.new.room) }
         ensures kept { self.old.room ≤ self.new.room }
+        ensures err { OnErr result (self.new ≡ self.old) }
     {
         self.shifts.reserve()
     }
