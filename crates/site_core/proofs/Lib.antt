@@ -5,3 +5,8 @@ pub mod SignOffs
 pub mod RunSteps
 pub mod Payments
 mod PointPlaces
+mod NumberedCells
+mod AccountFigures
+mod AskedClears
+mod ClearedOnce
+mod ShownFigures
