@@ -1,5 +1,5 @@
 -- What a look-up of a shift shows, by the sales and the draws.
-use Rattle.std.proofs.Common.{◌≡◌, ℕ, zero, suc, ◌+◌, ◌-◌, ◌<◌, ◌≤◌, List, [], ◌∷◌, ◌++◌, map, length, get_or, Option, Some, None, option_map, unwrap_or, refl, sym, ap, subst, ◌∙◌, arith}
+use Rattle.std.proofs.Common.{◌≡◌, ℕ, zero, suc, ◌+◌, ◌-◌, ◌≤◌, List, [], ◌∷◌, ◌++◌, map, length, Option, Some, None, option_map, unwrap_or, refl, sym, ap, subst, ◌∙◌, arith}
 use Rattle.std.specs.List.{All, fold, range_with_len, slice_get, sum_by}
 use Rattle.std.proofs.lemmas.List.{ext_get_or}
 use Rattle.std.proofs.lemmas.List.Elements.{All-append}
@@ -11,8 +11,7 @@ use Rattle.site_base.proofs.Numbering.{numbered_map, numbered_place}
 use Rattle.shift_ledger.specs.declared.row.ShiftRow.{ShiftRow}
 use Rattle.shift_ledger.specs.Figures.{empty_figures, product_figure, till_figures}
 use Rattle.shift_ledger.specs.Laws.{HaveRows, IsRow}
-use Rattle.shift_ledger.specs.Shifts.{Shifts, figures_of, open_number}
-use Rattle.shift_ledger.proofs.Standing.{do_stay}
+use Rattle.shift_ledger.specs.Shifts.{Shifts, figures_of}
 use Rattle.transaction_buffer.specs.Sales.{Sales}
 use Rattle.written_site.specs.ShiftFigures.{cents_in, cleared_in, clears_in, tills}
 use Rattle.site_core.specs.Accounts.{AreFigures, figures_in, products, row_in, shift_row}
@@ -51,10 +50,10 @@ known d f count xs size figures =
     ext_get_or d xs (map f (range_with_len 1 count))
     (size ∙ sym (length-map-range_with_len f 1 count))
     (λ i within.
-        sym (member_at (i + 1) i xs d refl)
-        ∙ figures (i + 1) (omega arith) (omega (arith, size, within))
-        ∙ sym (get_or-map-range_with_len f 1 count i (i + 1) d (omega (arith, size, within))
-        (omega arith)))
+    sym (member_at (i + 1) i xs d refl)
+    ∙ figures (i + 1) (omega arith) (omega (arith, size, within))
+    ∙ sym (get_or-map-range_with_len f 1 count i (i + 1) d (omega (arith, size, within))
+    (omega arith)))
 
 -- ---- the row of a shift
 
