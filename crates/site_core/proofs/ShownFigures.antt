@@ -13,7 +13,7 @@ use Rattle.shift_ledger.specs.Figures.{empty_figures, product_figure, till_figur
 use Rattle.shift_ledger.specs.Laws.{HaveRows, IsRow}
 use Rattle.shift_ledger.specs.Shifts.{Shifts, figures_of}
 use Rattle.transaction_buffer.specs.Sales.{Sales}
-use Rattle.written_site.specs.ShiftFigures.{cents_in, cleared_in, clears_in, tills}
+use Rattle.written_site.specs.ShiftFigures.{cents_in, cleared_in, clears_in, takings_in, tills}
 use Rattle.site_core.specs.Accounts.{AreFigures, figures_in, products, row_in, shift_row}
 use Rattle.site_core.specs.Ledger.{draws_of}
 use Rattle.site_core.proofs.NumberedCells.{member_at}
@@ -106,7 +106,7 @@ fold_map f g (x ∷ xs) n = fold_map f g xs (n + g (f x))
 
 pub takings_shown : (n : ℕ) (sales : Sales) (shifts : Shifts) (totals : List (ℕ × ℕ))
     (row : ShiftRow) → AreFigures sales shifts totals → figures_of n shifts ≡ Some row
-    → sum_by (λ (e : ℕ × ℕ). e.1) row.tills ≡ sum_by (λ t. cents_in n t sales) tills
+    → sum_by (λ (e : ℕ × ℕ). e.1) row.tills ≡ takings_in n sales
 takings_shown n sales shifts totals row kept shown =
     ap (sum_by (λ (e : ℕ × ℕ). e.1)) (till_cells n sales shifts totals row kept shown)
     ∙ fold_map (λ t. (clears_in n t sales, cents_in n t sales)) (λ (e : ℕ × ℕ). e.1) tills 0

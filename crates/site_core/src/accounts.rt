@@ -1,6 +1,6 @@
 //! The sales of a site, with the figures of its shifts.
 
-ghost use Rattle.std.specs.Prelude.{◌≡◌, ◌≢◌, ℕ, ◌+◌, ◌^◌, ◌<◌, ◌≤◌, ◌==◌, [], ◌∷◌, ◌++◌, Some, true, false, is_some, length, sum_by, OnOk, OnErr, IfOk, IfErr, IfSome};
+ghost use Rattle.std.specs.Prelude.{◌≡◌, ℕ, ◌+◌, ◌^◌, ◌<◌, ◌≤◌, ◌==◌, [], ◌∷◌, ◌++◌, Some, true, false, is_some, length, sum_by, OnOk, OnErr, IfOk, IfErr};
 ghost use Rattle.site_base.specs.declared.limits.TheConstants.{GREATEST_SHIFT, UNPAID_LIMIT};
 ghost use Rattle.site_base.specs.declared.refusal.Refusal.TheVariants.{ShiftsSpent};
 ghost use Rattle.transaction_buffer.specs.declared.request.Request.{Request};
@@ -11,15 +11,14 @@ ghost use Rattle.transaction_buffer.specs.Sums.{volume_by, volume_of};
 ghost use Rattle.transaction_buffer.specs.TransactionTable.{after_sign_off};
 ghost use Rattle.written_site.specs.SiteState.{nothing_drawn};
 ghost use Rattle.written_site.specs.SiteStep.{draw_noted};
-ghost use Rattle.written_site.specs.ShiftFigures.{cents_by, cents_in, clears_by, tills};
+ghost use Rattle.written_site.specs.ShiftFigures.{cents_by, clears_by, takings_in};
 ghost use Rattle.written_site.specs.Volumes.{drawn_of};
 ghost use Rattle.site_core.specs.Accounts.{FitsOneClear, shift_row};
 
 use crate::ledger::Ledger;
 use shift_ledger::ShiftRow;
 use site_base::{
-    Answer, FpNo, NoMemory, ProductNo, Refusal, SaleId, Seq, ShiftNo, Status, TillNo,
-    TransactionView,
+    Answer, FpNo, NoMemory, ProductNo, Refusal, Seq, ShiftNo, Status, TillNo, TransactionView,
 };
 use std::alloc::Global;
 use std::marker::Model;
@@ -238,8 +237,8 @@ impl Accounts {
 
     /// The cents that all tills cleared in the open shift. They fit in 64 bits.
     pub fn takings(&self) -> u64
-        requires { sum_by (λ t. cents_in (length self.now.drawn) t self.now.sales) tills < 2 ^ 64 }
-        ensures { result ≡ sum_by (λ t. cents_in (length self.now.drawn) t self.now.sales) tills }
+        requires { takings_in (length self.now.drawn) self.now.sales < 2 ^ 64 }
+        ensures { result ≡ takings_in (length self.now.drawn) self.now.sales }
     {
         match self.ledger.row(self.ledger.open_shift()) {
             Some(row) => sum_of_cents(&row.tills),

@@ -1,9 +1,8 @@
 //! The figures of the shifts, and those of all shifts together.
 
-ghost use Rattle.std.specs.Prelude.{◌≡◌, ◌+◌, ◌^◌, ◌<◌, ◌≤◌, true, false, length, OnOk, OnErr, IfOk, IfErr};
-ghost use Rattle.site_base.specs.declared.limits.TheConstants.{TILL_CELLS};
+ghost use Rattle.std.specs.Prelude.{◌≡◌, ◌+◌, ◌^◌, ◌<◌, ◌≤◌, true, false, OnOk, OnErr, IfOk, IfErr};
 ghost use Rattle.site_base.specs.declared.refusal.Refusal.TheVariants.{ShiftsSpent};
-ghost use Rattle.shift_ledger.specs.Figures.{FitsClear, one_clear_more};
+ghost use Rattle.shift_ledger.specs.Figures.{FitsClear};
 ghost use Rattle.shift_ledger.specs.Shifts.{first_shift, open_number, is_last, figures_of};
 ghost use Rattle.shift_ledger.specs.Shifts.{after_close, after_clear, after_draw};
 ghost use Rattle.written_site.specs.Volumes.{drawn_of};
