@@ -1,22 +1,20 @@
--- The ledger has the figures of the sales: whatever is sold, locked, cleared and drawn, and over a close.
-use Rattle.std.proofs.Common.{◌≡◌, ◌≢◌, ℕ, zero, suc, ◌+◌, ◌-◌, ◌≤◌, ◌==◌, ◌&&◌, Bool, true, false, cond, List, [], ◌∷◌, ◌++◌, length, Option, Some, None, unwrap_or, inl, inr, refl, sym, ap, subst, ◌∙◌, arith, Result, Ok, Err, OnOk, OnErr}
+-- The ledger has the figures of the sales, whatever is sold, locked and drawn, and over a close.
+use Rattle.std.proofs.Common.{◌≡◌, ◌≢◌, ℕ, zero, suc, ◌+◌, true, List, [], ◌∷◌, ◌++◌, length, Option, Some, None, unwrap_or, inl, inr, refl, sym, ap, subst, ◌∙◌, arith, Result, Ok, Err, OnOk, OnErr}
 use Rattle.std.proofs.lemmas.Bool.{cases_eq}
-use Rattle.std.proofs.lemmas.Bool.Decides.{nat_tests}
-use Rattle.site_base.specs.declared.limits.TheConstants.{PRODUCTS, TILLS, TILL_CELLS}
 use Rattle.site_base.specs.declared.view.TransactionView.{TransactionView}
-use Rattle.site_base.specs.Numbered.{numbered, with_numbered}
-use Rattle.site_base.proofs.Numbering.{length-with_numbered, numbered_next, numbered_place, numbered_push_here, numbered_push_other, numbered_with_other, numbered_with_same, numbered_within}
+use Rattle.site_base.specs.Numbered.{numbered}
+use Rattle.site_base.proofs.Numbering.{numbered_next, numbered_place, numbered_push_here, numbered_push_other}
 use Rattle.shift_ledger.specs.declared.row.ShiftRow.{ShiftRow}
-use Rattle.shift_ledger.specs.Figures.{empty_figures, one_clear_more, product_figure, till_figures, with_clear, with_draw}
-use Rattle.shift_ledger.specs.Laws.{HaveRows, clears, closes, draws}
-use Rattle.shift_ledger.specs.Shifts.{Shifts, after_clear, after_close, after_draw, figures_of, first_shift, open_number}
-use Rattle.shift_ledger.proofs.Counting.{has_every_figure, is_counted}
+use Rattle.shift_ledger.specs.Figures.{empty_figures, product_figure, till_figures, with_draw}
+use Rattle.shift_ledger.specs.Laws.{closes, draws}
+use Rattle.shift_ledger.specs.Shifts.{Shifts, after_close, after_draw, first_shift, open_number}
+use Rattle.shift_ledger.proofs.Counting.{has_every_figure}
 use Rattle.shift_ledger.proofs.Standing.{is_opened_empty}
-use Rattle.transaction_buffer.specs.Sales.{Sale, Sales, is_unpaid, new_sale, new_standing, no_sales, with_new}
-use Rattle.written_site.specs.FigureSteps.{HasClear, HasSameClears}
+use Rattle.transaction_buffer.specs.Sales.{Sales, is_unpaid, new_sale, new_standing, no_sales, with_new}
+use Rattle.written_site.specs.FigureSteps.{HasSameClears}
 use Rattle.written_site.proofs.ClearFigures.{none_by, none_cleared_in, none_in, sale_keeps}
 use Rattle.site_core.specs.Accounts.{AreFigures, row_in}
-use Rattle.site_core.specs.Ledger.{Figures, no_clears, total_of, with_one_more}
+use Rattle.site_core.specs.Ledger.{Figures, no_clears}
 
 pub both : {A B : Type 0} (a b : A) (c d : B) → a ≡ b → c ≡ d
     → ◌≡◌ {A = A × B} (a, c) (b, d)
@@ -120,11 +118,13 @@ draw_leaves : (h q volume : ℕ) (shifts : Shifts)
 draw_leaves h q volume shifts = elim (cases_eq h (open_number shifts)) [
   | inl is ↦
       let old = row_open h shifts is in
-      let new = row_open h (after_draw q volume shifts) is in
-      (λ t. ap (till_figures t) new ∙ sym (ap (till_figures t) old),
-      λ r. ap (product_figure r) new ∙ sym (ap (product_figure r) old))
+      let new = row_open h (after_draw q volume shifts) is in (
+        λ t. ap (till_figures t) new ∙ sym (ap (till_figures t) old),
+        λ r. ap (product_figure r) new ∙ sym (ap (product_figure r) old),
+      )
   | inr other ↦
-      let same = row_other h shifts.closed shifts.current (with_draw q volume shifts.current) other in
+      let same =
+      row_other h shifts.closed shifts.current (with_draw q volume shifts.current) other in
       (λ t. ap (till_figures t) same, λ r. ap (product_figure r) same)
 ]
 

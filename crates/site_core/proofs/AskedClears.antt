@@ -51,10 +51,12 @@ accepted_clear h t k old new reply answer view asked is told =
     (sym asked.replies ∙ is) in
     let clear = cleared_by_its_locker t h k old accepted in
     let seen : Some (view_of clear.0) ≡ Some view =
-    sym (ap (option_map view_of) clear.1.there) ∙ told in
-    (clear.0, record {
-      there = clear.1.there;
-      shows = ap (λ o. unwrap_or o view) seen;
-      unpaid = ap (λ standing. is_unpaid standing) clear.1.locked;
-      counts = rw asked.leads (clear_counts t h k clear.0 old clear.1.there accepted);
-    })
+    sym (ap (option_map view_of) clear.1.there) ∙ told in (
+      clear.0,
+      record {
+        there = clear.1.there;
+        shows = ap (λ o. unwrap_or o view) seen;
+        unpaid = ap (λ standing. is_unpaid standing) clear.1.locked;
+        counts = rw asked.leads (clear_counts t h k clear.0 old clear.1.there accepted);
+      },
+    )

@@ -1,5 +1,6 @@
 -- A clear that is noted in the ledger: the ledger keeps the figures of the sales.
-use Rattle.std.proofs.Common.{◌≡◌, ℕ, ◌+◌, ◌-◌, ◌≤◌, ◌==◌, ◌&&◌, Bool, true, false, cond, List, length, nat_lt, get_or, Some, unwrap_or, refl, sym, ap, subst, ◌∙◌, arith, ◌^◌, ◌<◌, zero, suc, ◌⊎◌, inl, inr}
+use Rattle.std.proofs.Common.{◌≡◌, ℕ, ◌+◌, ◌-◌, ◌≤◌, ◌==◌, ◌&&◌, Bool, true, false, cond, List, length, get_or, Some, unwrap_or, refl, sym, ap, subst, ◌∙◌, arith, ◌^◌, ◌<◌, zero, suc, inl, inr}
+use Rattle.std.proofs.lemmas.Bool.{cases_lt}
 use Rattle.std.proofs.lemmas.Bool.Decides.{nat_tests}
 use Rattle.std.proofs.lemmas.Option.{slice_get_past}
 use Rattle.site_base.specs.declared.limits.TheConstants.{PRODUCTS, TILLS}
@@ -38,14 +39,16 @@ changed n m xs change d low high = by_test (m == n) refl
         (change (unwrap_or (numbered n xs) d)) there)
         ∙ ap (λ (k : ℕ). change (unwrap_or (numbered k xs) d)) (sym same)
     by_test false is = ap (λ o. unwrap_or o d)
-        (numbered_with_other n m xs (change (unwrap_or (numbered n xs) d)) (grind (arith, nat_tests)))
+        (numbered_with_other n m xs (change (unwrap_or (numbered n xs) d))
+        (grind (arith, nat_tests)))
 
 -- what the open shift's row changes, its number shows; every other shift's figure stays
 shown_in : {A : Type 0} (g : ℕ) (shifts : Shifts) (new : ShiftRow) (figure : ShiftRow → A)
     (change : A → A) (b : Bool)
     → figure new ≡ cond b (change (figure shifts.current)) (figure shifts.current)
     → figure (row_in g (record { closed = shifts.closed; current = new }))
-    ≡ cond (g == open_number shifts && b) (change (figure (row_in g shifts))) (figure (row_in g shifts))
+    ≡ cond (g == open_number shifts && b) (change (figure (row_in g shifts)))
+    (figure (row_in g shifts))
 shown_in g shifts new figure change b current = by_shift (g == open_number shifts) refl
   where
     by_shift : (here : Bool) → (g == open_number shifts) ≡ here
@@ -94,7 +97,8 @@ product_after g r t q volume cents shifts row low high =
 
 pub cleared_once : (old new : Sales) (shifts : Shifts) (totals : List (ℕ × ℕ)) (t : ℕ) (x : Sale)
     → HasClear old new t (open_number shifts) x → AreFigures old shifts totals
-    → AreFigures new (after_clear t x.product x.volume x.cents shifts) (with_one_more t x.cents totals)
+    → AreFigures new (after_clear t x.product x.volume x.cents shifts)
+    (with_one_more t x.cents totals)
 cleared_once old new shifts totals t x clear kept = record {
   rows = has_every_figure.after (clears t x.product x.volume x.cents) shifts kept.rows;
   cells = length-with_numbered t _ totals ∙ kept.cells;
@@ -125,12 +129,12 @@ told_or : {A : Type 0} (Holds : A → Type 0) (f : ℕ → A) (d : A) (n count :
     → ((m : ℕ) → 1 ≤ m → m ≤ count → unwrap_or (numbered m xs) d ≡ f m)
     → Holds (f n) → Holds d → Holds (unwrap_or (numbered n xs) d)
 told_or Holds f d zero count xs size told there none = none
-told_or Holds f d (suc n) count xs size told there none = by_size (nat_lt n count) refl
-  where
-    by_size : (b : Bool) → nat_lt n count ≡ b → Holds (unwrap_or (numbered (suc n) xs) d)
-    by_size true is = subst Holds (sym (told (suc n) (omega arith) (grind (arith, nat_tests)))) there
-    by_size false is = subst Holds (sym (ap (λ o. unwrap_or o d) (numbered_place (suc n) xs (omega arith)
-        ∙ slice_get_past xs (suc n - 1) (grind (arith, nat_tests))))) none
+told_or Holds f d (suc n) count xs size told there none = elim (cases_lt n count) [
+  | inl within ↦ subst Holds (sym (told (suc n) (omega arith) (omega arith))) there
+  | inr beyond ↦ subst Holds
+      (sym (ap (λ o. unwrap_or o d) (numbered_place (suc n) xs (omega arith)
+      ∙ slice_get_past xs (suc n - 1) (omega (arith, size))))) none
+]
 
 -- the open shift's sums of a till and a product, and that till's of all shifts, stay in 64 bits
 pub clear_fits : (sales : Sales) (shifts : Shifts) (totals : List (ℕ × ℕ)) (t : ℕ) (x : Sale)
@@ -146,18 +150,19 @@ clear_fits sales shifts totals t x kept fits =
     let product : (m : ℕ) → 1 ≤ m → m ≤ PRODUCTS
     → product_figure m shifts.current ≡ cleared_in h m sales =
     λ m low high. sym (ap (product_figure m) row) ∙ kept.cleared h m low high in
-    let small : 0 + 1 < 2 ^ 64 = omega arith in
-    (record {
-      clears = told_or (λ f. f.0 + 1 < 2 ^ 64) (λ m. (clears_in h m sales, cents_in h m sales)) (0, 0)
-          t TILLS shifts.current.tills kept.rows.current.tills till fits.clears small;
-      cents_sum = told_or (λ f. f.1 + x.cents < 2 ^ 64)
-          (λ m. (clears_in h m sales, cents_in h m sales)) (0, 0) t TILLS shifts.current.tills
-          kept.rows.current.tills till fits.cents (omega (arith, fits.cents));
-      millilitres = told_or (λ f. f + x.volume < 2 ^ 64) (λ m. cleared_in h m sales) 0 x.product
-          PRODUCTS shifts.current.products kept.rows.current.products product fits.cleared
-          (omega (arith, fits.cleared));
-    },
-    told_or (λ f. f.0 + 1 < 2 ^ 64) (λ m. (clears_by m sales, cents_by m sales)) (0, 0) t TILLS
-    totals kept.cells kept.all fits.all_clears small,
-    told_or (λ f. f.1 + x.cents < 2 ^ 64) (λ m. (clears_by m sales, cents_by m sales)) (0, 0) t
-    TILLS totals kept.cells kept.all fits.all_cents (omega (arith, fits.all_cents)))
+    let small : 0 + 1 < 2 ^ 64 = omega arith in (
+      record {
+        clears = told_or (λ f. f.0 + 1 < 2 ^ 64) (λ m. (clears_in h m sales, cents_in h m sales))
+            (0, 0) t TILLS shifts.current.tills kept.rows.current.tills till fits.clears small;
+        cents_sum = told_or (λ f. f.1 + x.cents < 2 ^ 64)
+            (λ m. (clears_in h m sales, cents_in h m sales)) (0, 0) t TILLS shifts.current.tills
+            kept.rows.current.tills till fits.cents (omega (arith, fits.cents));
+        millilitres = told_or (λ f. f + x.volume < 2 ^ 64) (λ m. cleared_in h m sales) 0 x.product
+            PRODUCTS shifts.current.products kept.rows.current.products product fits.cleared
+            (omega (arith, fits.cleared));
+      },
+      told_or (λ f. f.0 + 1 < 2 ^ 64) (λ m. (clears_by m sales, cents_by m sales)) (0, 0) t TILLS
+          totals kept.cells kept.all fits.all_clears small,
+      told_or (λ f. f.1 + x.cents < 2 ^ 64) (λ m. (clears_by m sales, cents_by m sales)) (0, 0) t
+          TILLS totals kept.cells kept.all fits.all_cents (omega (arith, fits.all_cents)),
+    )

@@ -1,4 +1,4 @@
--- One more draw, and a close: the shifts' figures and the kept totals tell them alike.
+-- A draw, and a close: the shifts' figures and the kept totals of draws tell them alike.
 use Rattle.std.proofs.Common.{◌≡◌, ◌≢◌, ℕ, zero, suc, ◌+◌, ◌-◌, ◌*◌, ◌<◌, ◌≤◌, ◌==◌, Bool, true, false, List, [], ◌∷◌, ◌++◌, map, length, get_or, Option, inl, inr, unwrap_or, refl, sym, subst, ap, ◌∙◌, arith, Result, Ok, Err, OnOk, OnErr}
 use Rattle.std.proofs.Math.ListN.{set}
 use Rattle.std.proofs.lemmas.Bool.{and_from, and_parts, cases_eq}
@@ -60,23 +60,28 @@ figure_within : (closed : List ShiftRow) (current : ShiftRow) (q : ℕ) → 1 �
 figure_within [] current q low high =
     let within : q - 1 < length current.adjusted = omega arith in
     let figure : adjusted_figure q current ≡ get_or current.adjusted (q - 1) 0 =
-    ap (λ (o : Option ℕ). unwrap_or o 0) (numbered_within q current.adjusted (q - 1) 0 (omega arith) within) in
+    ap (λ (o : Option ℕ). unwrap_or o 0)
+    (numbered_within q current.adjusted (q - 1) 0 (omega arith) within) in
     let place : 1 + (q - 1) ≡ q = omega arith in
     let weight : product_alone q (1 + (q - 1)) ≡ 1 =
     ap (product_alone q) place ∙ alone_itself q in
     let has = weighed_has (product_alone q) 1 (q - 1) current.adjusted within in
-    let one : product_alone q (1 + (q - 1)) * get_or current.adjusted (q - 1) 0 ≡ get_or current.adjusted (q - 1) 0 =
+    let one : product_alone q (1 + (q - 1)) * get_or current.adjusted (q - 1) 0
+    ≡ get_or current.adjusted (q - 1) 0 =
     ap (λ (k : ℕ). k * get_or current.adjusted (q - 1) 0) weight ∙ omega arith in
     omega (arith, figure, has, one)
 figure_within (row ∷ rows) current q low high =
     let rest = figure_within rows current q low high in omega (arith, rest)
 
 -- the open shift has a figure for each product
-current_has : (closed : List ShiftRow) (current : ShiftRow) → list_all is_draw_row (told closed current) ≡ true
-    → length current.adjusted ≡ PRODUCT_CELLS
-current_has [] current all = same (length current.adjusted) PRODUCT_CELLS (and_parts (is_draw_row current.adjusted) true all).0
+current_has : (closed : List ShiftRow) (current : ShiftRow)
+    → list_all is_draw_row (told closed current) ≡ true → length current.adjusted ≡ PRODUCT_CELLS
+current_has [] current all =
+    same (length current.adjusted) PRODUCT_CELLS
+    (and_parts (is_draw_row current.adjusted) true all).0
 current_has (row ∷ rows) current all =
-    current_has rows current (and_parts (is_draw_row row.adjusted) (list_all is_draw_row (told rows current)) all).1
+    current_has rows current
+    (and_parts (is_draw_row row.adjusted) (list_all is_draw_row (told rows current)) all).1
 
 -- the open shift's figure of a product is within what tests drew of it
 pub figure_bound : (shifts : Shifts) (cells : List ℕ) (q : ℕ) → AreDrawn shifts cells → 1 ≤ q
@@ -93,11 +98,13 @@ other_alone j q apart = by_test (q == j) refl
     by_test true is = absurd (apart (sym (same q j is)))
     by_test false is = rw is refl
 
+-- a draw is in the kept total of its product
 pub kept_noted : (shifts : Shifts) (cells : List ℕ) (q k volume : ℕ) → AreDrawn shifts cells
     → k + 1 ≡ q → k < PRODUCT_CELLS → length cells ≡ PRODUCT_CELLS
     → AreDrawn (after_draw q volume shifts) (set cells k (get_or cells k 0 + volume))
 kept_noted shifts cells q k volume kept place within size = record {
-  rows = ap (list_all is_draw_row) (draws-noted shifts q volume) ∙ noted_rows q volume (draws_of shifts) kept.rows;
+  rows = ap (list_all is_draw_row) (draws-noted shifts q volume)
+      ∙ noted_rows q volume (draws_of shifts) kept.rows;
   totals = λ j product.
       let more : drawn_of (j + 1) (draws_of (after_draw q volume shifts))
       ≡ drawn_of (j + 1) (draws_of shifts) + product_alone (j + 1) q * volume =
@@ -106,8 +113,10 @@ kept_noted shifts cells q k volume kept place within size = record {
       (told-some shifts.closed shifts.current) (omega arith) (omega arith) in
       elim (cases_eq j k) [
         | inl is ↦
+            let own : q ≡ j + 1 = omega arith in
             let one : product_alone (j + 1) q * volume ≡ volume =
-            ap (λ (w : ℕ). w * volume) (ap (product_alone (j + 1)) (let there : q ≡ j + 1 = omega arith in there) ∙ alone_itself (j + 1)) ∙ omega arith in
+            ap (λ (w : ℕ). w * volume) (ap (product_alone (j + 1)) own ∙ alone_itself (j + 1))
+            ∙ omega arith in
             get_or-set_at cells k j (get_or cells k 0 + volume) 0 is (omega arith)
             ∙ ap (λ v. v + volume) (kept.totals k within)
             ∙ ap (λ (i : ℕ). drawn_of (i + 1) (draws_of shifts) + volume) (sym is)
@@ -115,7 +124,8 @@ kept_noted shifts cells q k volume kept place within size = record {
             ∙ sym more
         | inr other ↦
             let none : product_alone (j + 1) q * volume ≡ 0 =
-            ap (λ (w : ℕ). w * volume) (other_alone (j + 1) q (λ is. other (omega arith))) ∙ omega arith in
+            ap (λ (w : ℕ). w * volume) (other_alone (j + 1) q (λ is. other (omega arith)))
+            ∙ omega arith in
             get_or-set_other cells k j (get_or cells k 0 + volume) 0 other
             ∙ kept.totals j product
             ∙ sym (more ∙ ap (λ v. drawn_of (j + 1) (draws_of shifts) + v) none ∙ omega arith)

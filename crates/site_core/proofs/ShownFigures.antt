@@ -1,5 +1,5 @@
 -- What a look-up of a shift shows, by the sales and the draws.
-use Rattle.std.proofs.Common.{◌≡◌, ℕ, zero, suc, ◌+◌, ◌-◌, ◌<◌, ◌≤◌, List, [], ◌∷◌, ◌++◌, map, length, get_or, Option, Some, None, option_map, unwrap_or, refl, sym, ap, subst, ◌∙◌, arith}
+use Rattle.std.proofs.Common.{◌≡◌, ℕ, zero, suc, ◌+◌, ◌-◌, ◌≤◌, List, [], ◌∷◌, ◌++◌, map, length, Option, Some, None, option_map, unwrap_or, refl, sym, ap, subst, ◌∙◌, arith}
 use Rattle.std.specs.List.{All, fold, range_with_len, slice_get, sum_by}
 use Rattle.std.proofs.lemmas.List.{ext_get_or}
 use Rattle.std.proofs.lemmas.List.Elements.{All-append}
@@ -11,10 +11,9 @@ use Rattle.site_base.proofs.Numbering.{numbered_map, numbered_place}
 use Rattle.shift_ledger.specs.declared.row.ShiftRow.{ShiftRow}
 use Rattle.shift_ledger.specs.Figures.{empty_figures, product_figure, till_figures}
 use Rattle.shift_ledger.specs.Laws.{HaveRows, IsRow}
-use Rattle.shift_ledger.specs.Shifts.{Shifts, figures_of, open_number}
-use Rattle.shift_ledger.proofs.Standing.{do_stay}
+use Rattle.shift_ledger.specs.Shifts.{Shifts, figures_of}
 use Rattle.transaction_buffer.specs.Sales.{Sales}
-use Rattle.written_site.specs.ShiftFigures.{cents_in, cleared_in, clears_in, tills}
+use Rattle.written_site.specs.ShiftFigures.{cents_in, cleared_in, clears_in, takings_in, tills}
 use Rattle.site_core.specs.Accounts.{AreFigures, figures_in, products, row_in, shift_row}
 use Rattle.site_core.specs.Ledger.{draws_of}
 use Rattle.site_core.proofs.NumberedCells.{member_at}
@@ -51,10 +50,10 @@ known d f count xs size figures =
     ext_get_or d xs (map f (range_with_len 1 count))
     (size ∙ sym (length-map-range_with_len f 1 count))
     (λ i within.
-        sym (member_at (i + 1) i xs d refl)
-        ∙ figures (i + 1) (omega arith) (omega (arith, size, within))
-        ∙ sym (get_or-map-range_with_len f 1 count i (i + 1) d (omega (arith, size, within))
-        (omega arith)))
+    sym (member_at (i + 1) i xs d refl)
+    ∙ figures (i + 1) (omega arith) (omega (arith, size, within))
+    ∙ sym (get_or-map-range_with_len f 1 count i (i + 1) d (omega (arith, size, within))
+    (omega arith)))
 
 -- ---- the row of a shift
 
@@ -107,7 +106,7 @@ fold_map f g (x ∷ xs) n = fold_map f g xs (n + g (f x))
 
 pub takings_shown : (n : ℕ) (sales : Sales) (shifts : Shifts) (totals : List (ℕ × ℕ))
     (row : ShiftRow) → AreFigures sales shifts totals → figures_of n shifts ≡ Some row
-    → sum_by (λ (e : ℕ × ℕ). e.1) row.tills ≡ sum_by (λ t. cents_in n t sales) tills
+    → sum_by (λ (e : ℕ × ℕ). e.1) row.tills ≡ takings_in n sales
 takings_shown n sales shifts totals row kept shown =
     ap (sum_by (λ (e : ℕ × ℕ). e.1)) (till_cells n sales shifts totals row kept shown)
     ∙ fold_map (λ t. (clears_in n t sales, cents_in n t sales)) (λ (e : ℕ × ℕ). e.1) tills 0

@@ -25,7 +25,8 @@ pub record Account : Type 0 where
 abbrev pub account_code : Coded Account
 account_code =
     code_by (Sales × (List ℕ × (List (List ℕ) × ℕ)))
-    (coded× sales_code (coded× (coded_list coded_ℕ) (coded× (coded_list (coded_list coded_ℕ)) coded_ℕ)))
+    (coded× sales_code (coded× (coded_list coded_ℕ)
+    (coded× (coded_list (coded_list coded_ℕ)) coded_ℕ)))
     (λ a. (a.sales, (a.rooms, (a.drawn, a.closes))))
     (λ p. record { sales = p.0; rooms = p.1.0; drawn = p.1.1.0; closes = p.1.1.1 })
     (λ _. refl)
@@ -34,8 +35,8 @@ account_code =
 abbrev pub products : List ℕ
 products = range_with_len 1 PRODUCTS
 
--- the figures of shift h: of each till its clears and their cents, of each product the millilitres cleared
--- and those drawn by tests
+-- the figures of shift h: of each till its clears and their cents, of each product the millilitres
+-- cleared and those drawn by tests
 abbrev pub figures_in : ℕ → Sales → List ℕ → ShiftRow
 figures_in h sales draws = record {
   tills = map (λ t. (clears_in h t sales, cents_in h t sales)) tills;
@@ -59,8 +60,9 @@ pub record FitsOneClear (h t : ℕ) (x : Sale) (sales : Sales) : Type 0 where
 abbrev pub row_in : ℕ → Shifts → ShiftRow
 row_in h shifts = unwrap_or (figures_of h shifts) empty_figures
 
--- Every shift's row has the figures of the sales that were cleared in it, for each till and each product,
--- and the tills' totals those of all that each cleared. In a shift to come nothing is cleared.
+-- Every shift's row has the figures of the sales that were cleared in it, for each till and each
+-- product, and the tills' totals those of all that each cleared. In a shift to come nothing is
+-- cleared.
 pub record AreFigures (sales : Sales) (shifts : Shifts) (totals : List (ℕ × ℕ)) : Type 0 where
   pub rows : HaveRows shifts
   pub cells : length totals ≡ TILL_CELLS

@@ -1,4 +1,4 @@
-use Rattle.std.proofs.Common.{◌≡◌, ◌+◌, ◌<◌, ◌^◌, ℕ, Some, Ok, Err, true, length, sym, ap, subst, ◌∙◌}
+use Rattle.std.proofs.Common.{◌≡◌, ◌+◌, ◌<◌, ◌^◌, Some, Err, true, length, sym, ap, subst, ◌∙◌}
 use Rattle.std.proofs.lemmas.Result.{err_from_is_err_and}
 use Rattle.shift_ledger.specs.Figures.{FitsClear}
 use Rattle.shift_ledger.specs.Shifts.{after_clear, open_number}
@@ -66,8 +66,12 @@ invariant_of-self-in-Some c =
     let x = cleared (goal.at.invariant_of-self-in-Some c).In-Some in
     let counts : HasClear sales new c.args.t (open_number ledger.shifts) x.0 =
     subst (λ h. HasClear sales new c.args.t h x.0) c.open_shift.ensures x.1.counts in
-    rw (c.note_cleared.ensures.shifts, c.note_cleared.ensures.tills, c.get.ensures.value,
-    c.get-in-Some.ensures.value)
+    rw (
+      c.note_cleared.ensures.shifts,
+      c.note_cleared.ensures.tills,
+      c.get.ensures.value,
+      c.get-in-Some.ensures.value,
+    )
     (subst (λ view. AreFigures new
     (after_clear c.args.t view.product view.volume view.cents ledger.shifts)
     (with_one_more c.args.t view.cents ledger.tills)) x.1.shows

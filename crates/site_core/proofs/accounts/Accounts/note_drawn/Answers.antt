@@ -2,7 +2,6 @@ use Rattle.std.proofs.Common.{ap, ◌∙◌}
 use Rattle.written_site.specs.SiteStep.{draw_noted}
 use Rattle.site_core.specs.Ledger.{draws_of}
 use Rattle.site_core.proofs.NotedDraws.{draws-noted}
-use Rattle.site_core.proofs.AccountFigures.{draw_kept}
 use Rattle.site_core.proofs.accounts.Accounts.note_drawn.Goals as goal
 
 pub returns-clause-drawn : goal.returns-clause-drawn

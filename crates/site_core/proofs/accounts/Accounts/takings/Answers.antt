@@ -1,8 +1,8 @@
-use Rattle.std.proofs.Common.{◌≡◌, ◌<◌, ◌^◌, ℕ, Some, None, length, sym, ap, subst, ◌∙◌}
+use Rattle.std.proofs.Common.{◌≡◌, ◌<◌, ◌^◌, ℕ, length, sym, ap, subst, ◌∙◌}
 use Rattle.std.specs.List.{sum_by}
 use Rattle.shift_ledger.specs.Shifts.{figures_of}
 use Rattle.shift_ledger.proofs.Standing.{do_stay}
-use Rattle.written_site.specs.ShiftFigures.{cents_in, tills}
+use Rattle.written_site.specs.ShiftFigures.{takings_in}
 use Rattle.site_core.proofs.NotedDraws.{draws-open}
 use Rattle.site_core.proofs.ShownFigures.{takings_shown}
 use Rattle.site_core.proofs.accounts.Accounts.takings.Goals as goal
@@ -10,14 +10,14 @@ use Rattle.site_core.proofs.accounts.Accounts.takings.Goals.{In-Some}
 
 -- the row's cents are those that were cleared in the open shift
 told : (c : In-Some) → sum_by (λ (e : ℕ × ℕ). e.1) c.in-Some.row.tills
-    ≡ sum_by (λ t. cents_in (length c.args.self.now.drawn) t c.args.self.now.sales) tills
+    ≡ takings_in (length c.args.self.now.drawn) c.args.self.now.sales
 told c =
     let inside = c.self.inside in
     takings_shown c.open_shift.result inside.sales.sales inside.ledger.shifts inside.ledger.tills
     c.in-Some.row c.self.invariant (sym c.row.ensures ∙ c.in-Some.is)
-    ∙ ap (λ h. sum_by (λ t. cents_in h t inside.sales.sales) tills)
+    ∙ ap (λ h. takings_in h inside.sales.sales)
     (c.open_shift.ensures ∙ sym (draws-open inside.ledger.shifts))
-    ∙ ap (λ a. sum_by (λ t. cents_in (length a.drawn) t a.sales) tills) c.self.view_is
+    ∙ ap (λ a. takings_in (length a.drawn) a.sales) c.self.view_is
 
 pub sum_of_cents-requires : goal.sum_of_cents-requires
 sum_of_cents-requires c =
