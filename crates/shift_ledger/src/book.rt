@@ -46,11 +46,13 @@ impl ShiftBook {
         }
     }
 
-    /// Makes the room that the next close needs. The shifts stay.
+    /// Makes the room that the next close needs. The shifts stay. Where there is no memory, nothing
+    /// changes.
     pub fn reserve(&mut self) -> Result<(), NoMemory>
         ensures shifts { self.new.shifts ≡ self.old.shifts }
         ensures room { OnOk result (0 < self.new.room) }
         ensures kept { self.old.room ≤ self.new.room }
+        ensures err { OnErr result (self.new ≡ self.old) }
     {
         self.closed.reserve(1)?;
         Ok(())

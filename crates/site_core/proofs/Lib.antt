@@ -4,4 +4,9 @@ pub mod MarkedTills
 pub mod SignOffs
 pub mod RunSteps
 pub mod Payments
-mod PointPlaces
+pub mod PointPlaces
+pub mod NumberedCells
+pub mod AccountFigures
+pub mod AskedClears
+pub mod ClearedOnce
+pub mod ShownFigures

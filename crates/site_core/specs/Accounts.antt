@@ -1,11 +1,14 @@
 -- The sales of a site with the figures of its shifts, as contracts see them and as they are kept.
-use Rattle.std.specs.Prelude.{◌≡◌, ℕ, ◌+◌, ◌^◌, ◌<◌, ◌≤◌, List, map, Option, option_map, Some, None, unwrap_or}
+use Rattle.std.specs.Prelude.{◌≡◌, ℕ, ◌+◌, ◌^◌, ◌<◌, ◌≤◌, List, length, map, Option, option_map, unwrap_or, refl}
+use Rattle.std.specs.Coded.{Coded, code_by, coded_ℕ, coded×, coded_list}
 use Rattle.std.specs.List.{range_with_len}
-use Rattle.site_base.specs.declared.limits.TheConstants.{PRODUCTS, TILLS}
+use Rattle.site_base.specs.declared.limits.TheConstants.{PRODUCTS, TILLS, TILL_CELLS}
 use Rattle.site_base.specs.Numbered.{numbered}
 use Rattle.shift_ledger.specs.declared.row.ShiftRow.{ShiftRow}
 use Rattle.shift_ledger.specs.Figures.{empty_figures, till_figures, product_figure}
+use Rattle.shift_ledger.specs.Laws.{HaveRows}
 use Rattle.shift_ledger.specs.Shifts.{Shifts, figures_of}
+use Rattle.transaction_buffer.specs.Codes.{sales_code}
 use Rattle.transaction_buffer.specs.Sales.{Sale, Sales}
 use Rattle.written_site.specs.ShiftFigures.{cents_by, cents_in, cleared_in, clears_by, clears_in, tills}
 use Rattle.site_core.specs.Ledger.{total_of}
@@ -18,12 +21,22 @@ pub record Account : Type 0 where
   pub drawn : List (List ℕ)
   pub closes : ℕ
 
+-- their code, by which a model tells them apart
+abbrev pub account_code : Coded Account
+account_code =
+    code_by (Sales × (List ℕ × (List (List ℕ) × ℕ)))
+    (coded× sales_code (coded× (coded_list coded_ℕ)
+    (coded× (coded_list (coded_list coded_ℕ)) coded_ℕ)))
+    (λ a. (a.sales, (a.rooms, (a.drawn, a.closes))))
+    (λ p. record { sales = p.0; rooms = p.1.0; drawn = p.1.1.0; closes = p.1.1.1 })
+    (λ _. refl)
+
 -- the products that a site may have
 abbrev pub products : List ℕ
 products = range_with_len 1 PRODUCTS
 
--- the figures of shift h: of each till its clears and their cents, of each product the millilitres cleared
--- and those drawn by tests
+-- the figures of shift h: of each till its clears and their cents, of each product the millilitres
+-- cleared and those drawn by tests
 abbrev pub figures_in : ℕ → Sales → List ℕ → ShiftRow
 figures_in h sales draws = record {
   tills = map (λ t. (clears_in h t sales, cents_in h t sales)) tills;
@@ -47,9 +60,12 @@ pub record FitsOneClear (h t : ℕ) (x : Sale) (sales : Sales) : Type 0 where
 abbrev pub row_in : ℕ → Shifts → ShiftRow
 row_in h shifts = unwrap_or (figures_of h shifts) empty_figures
 
--- Every shift's row has the figures of the sales that were cleared in it, and the tills' totals those of
--- all that each cleared. In a shift to come nothing is cleared, and a till's number is one that it may have.
+-- Every shift's row has the figures of the sales that were cleared in it, for each till and each
+-- product, and the tills' totals those of all that each cleared. In a shift to come nothing is
+-- cleared.
 pub record AreFigures (sales : Sales) (shifts : Shifts) (totals : List (ℕ × ℕ)) : Type 0 where
+  pub rows : HaveRows shifts
+  pub cells : length totals ≡ TILL_CELLS
   pub clears : (h t : ℕ) → 1 ≤ t → t ≤ TILLS
       → till_figures t (row_in h shifts) ≡ (clears_in h t sales, cents_in h t sales)
   pub cleared : (h q : ℕ) → 1 ≤ q → q ≤ PRODUCTS

@@ -8,8 +8,8 @@ use Rattle.shift_ledger.specs.Shifts.{Shifts}
 use Rattle.written_site.specs.Sound.{is_draw_row}
 use Rattle.written_site.specs.Volumes.{drawn_of}
 
--- the figures of the shifts, how many more closed ones there is room for, and of each till, from 1 on, its
--- clears in all shifts and their cents
+-- the figures of the shifts, how many more closed ones there is room for, and of each till, from 1
+-- on, its clears in all shifts and their cents
 pub record Figures : Type 0 where
   pub shifts : Shifts
   pub room : ℕ
@@ -31,7 +31,9 @@ with_one_more t cents tills = with_numbered t (one_clear_more cents (total_of t 
 abbrev pub draws_of : Shifts → List (List ℕ)
 draws_of shifts = map (λ row. row.adjusted) (shifts.closed ++ shifts.current ∷ [])
 
--- each shift has a figure for each product, and each product's cell holds what tests drew of it in all
+-- each shift has a figure for each product, and each product's cell holds what tests drew of it in
+-- all
 pub record AreDrawn (shifts : Shifts) (cells : List ℕ) : Type 0 where
   pub rows : list_all is_draw_row (draws_of shifts) ≡ true
-  pub totals : (k : ℕ) → k < PRODUCT_CELLS → slice_index cells k ≡ drawn_of (k + 1) (draws_of shifts)
+  pub totals : (k : ℕ) → k < PRODUCT_CELLS
+      → slice_index cells k ≡ drawn_of (k + 1) (draws_of shifts)

@@ -1,6 +1,6 @@
 //! The sales of a site, with the figures of its shifts.
 
-ghost use Rattle.std.specs.Prelude.{◌≡◌, ◌≢◌, ℕ, ◌+◌, ◌^◌, ◌<◌, ◌≤◌, ◌==◌, [], ◌∷◌, ◌++◌, Some, true, false, is_some, length, sum_by, OnOk, OnErr, IfOk, IfErr, IfSome};
+ghost use Rattle.std.specs.Prelude.{◌≡◌, ℕ, ◌+◌, ◌^◌, ◌<◌, ◌≤◌, ◌==◌, [], ◌∷◌, ◌++◌, Some, true, false, is_some, length, sum_by, OnOk, OnErr, IfOk, IfErr};
 ghost use Rattle.site_base.specs.declared.limits.TheConstants.{GREATEST_SHIFT, UNPAID_LIMIT};
 ghost use Rattle.site_base.specs.declared.refusal.Refusal.TheVariants.{ShiftsSpent};
 ghost use Rattle.transaction_buffer.specs.declared.request.Request.{Request};
@@ -11,15 +11,14 @@ ghost use Rattle.transaction_buffer.specs.Sums.{volume_by, volume_of};
 ghost use Rattle.transaction_buffer.specs.TransactionTable.{after_sign_off};
 ghost use Rattle.written_site.specs.SiteState.{nothing_drawn};
 ghost use Rattle.written_site.specs.SiteStep.{draw_noted};
-ghost use Rattle.written_site.specs.ShiftFigures.{cents_by, cents_in, clears_by, tills};
+ghost use Rattle.written_site.specs.ShiftFigures.{cents_by, clears_by, takings_in};
 ghost use Rattle.written_site.specs.Volumes.{drawn_of};
 ghost use Rattle.site_core.specs.Accounts.{FitsOneClear, shift_row};
 
 use crate::ledger::Ledger;
 use shift_ledger::ShiftRow;
 use site_base::{
-    Answer, FpNo, NoMemory, ProductNo, Refusal, SaleId, Seq, ShiftNo, Status, TillNo,
-    TransactionView,
+    Answer, FpNo, NoMemory, ProductNo, Refusal, Seq, ShiftNo, Status, TillNo, TransactionView,
 };
 use std::alloc::Global;
 use std::marker::Model;
@@ -34,14 +33,12 @@ pub struct Accounts {
 }
 
 impl Model for Accounts {
-    ghost use Rattle.std.specs.Coded.{codes};
-    ghost use Rattle.transaction_buffer.specs.Codes.{sales_code};
-    ghost use Rattle.site_core.specs.Accounts.{Account, AreFigures};
+    ghost use Rattle.site_core.specs.Accounts.{Account, AreFigures, account_code};
     ghost use Rattle.site_core.specs.Ledger.{draws_of};
 
     ghost Value = { Account };
 
-    ghost coded = { Prim.hlevel (codes, sales_code) };
+    ghost coded = { account_code };
 
     ghost view = { λ a. record {
       sales = a.sales.sales;
@@ -77,7 +74,7 @@ impl Accounts {
         self.sales.reserve(p)
     }
 
-    /// Makes the room that the close of the open shift needs.
+    /// Makes the room that the close of the open shift needs. After `NoMemory` nothing has changed.
     pub fn reserve_close(&mut self) -> Result<(), NoMemory>
         ensures sales { self.new.sales ≡ self.old.sales }
         ensures drawn { self.new.drawn ≡ self.old.drawn }
@@ -117,8 +114,8 @@ impl Accounts {
         self.sales.row(p, shift, s)
     }
 
-    /// The millilitres of product q in the transactions of this status. Those of all transactions fit in
-    /// 64 bits.
+    /// The millilitres of product q in the transactions of this status. Those of all transactions fit
+    /// in 64 bits.
     pub fn sum(&self, q: ProductNo, status: Status) -> u64
         ensures value { result ≡ volume_by q status self.now.sales }
         ensures fits { volume_of q self.now.sales < 2 ^ 64 }
@@ -133,8 +130,8 @@ impl Accounts {
         self.ledger.drawn(q)
     }
 
-    /// Adds a sale of point p in the open shift, and answers its number there. The conditions are those
-    /// of the buffer.
+    /// Adds a sale of point p in the open shift, and answers its number there. The conditions are
+    /// those of the buffer.
     pub fn add(&mut self, p: FpNo, view: TransactionView) -> Seq
         requires room { 0 < room_at p self.old.rooms }
         requires unpaid { unpaid_at p self.old.sales < UNPAID_LIMIT }
@@ -168,28 +165,28 @@ impl Accounts {
         self.sales.lock(p, shift, s, t)
     }
 
-    /// The till makes a transaction that it has locked payable again, as the transaction table says.
+    /// The till makes a transaction that it has locked payable again, as the transaction table
+    /// says.
     pub fn unlock(&mut self, p: FpNo, shift: ShiftNo, s: Seq, t: TillNo) -> Result<Answer, Refusal>
-        ensures asked { Asked Request.Unlock t (key shift p s) self.old.sales self.new.sales result }
+        ensures asked { Asked Request.Unlock t (key shift p s) self.old.sales self.new.sales
+            result }
         ensures drawn { self.new.drawn ≡ self.old.drawn }
     {
         self.sales.unlock(p, shift, s, t)
     }
 
-    /// The till clears a transaction that it has locked, as the transaction table says, and the clear
-    /// counts in the open shift. The figures with it fit in 64 bits.
+    /// The till clears a transaction that it has locked, as the transaction table says, and the
+    /// clear counts in the open shift. The figures with it fit in 64 bits.
     pub fn clear(&mut self, p: FpNo, shift: ShiftNo, s: Seq, t: TillNo) -> Result<Answer, Refusal>
         requires { (x : Sale) → sale_of (key shift p s) self.old.sales ≡ Some x
             → is_unpaid x.standing ≡ true
             → FitsOneClear (length self.old.drawn) t x self.old.sales }
-        ensures asked { Asked (Request.Clear (length self.old.drawn)) t (key shift p s) self.old.sales
-            self.new.sales result }
+        ensures asked { Asked (Request.Clear (length self.old.drawn)) t (key shift p s)
+            self.old.sales self.new.sales result }
         ensures drawn { self.new.drawn ≡ self.old.drawn }
     {
         let shown = self.sales.row(p, shift, s);
-        let answer = self
-            .sales
-            .clear(p, shift, s, t, self.ledger.open_shift())?;
+        let answer = self.sales.clear(p, shift, s, t, self.ledger.open_shift())?;
         match shown {
             Some(view) => {
                 self.ledger
@@ -208,8 +205,8 @@ impl Accounts {
         self.sales.release_all(t);
     }
 
-    /// Closes the open shift and opens the next, with nothing in it; the answer is the number of the
-    /// shift that was closed. The last shift that may be isn't closed: it is refused with
+    /// Closes the open shift and opens the next, with nothing in it; the answer is the number of
+    /// the shift that was closed. The last shift that may be isn't closed: it is refused with
     /// `ShiftsSpent`, and nothing changes. The room for it is reserved; it takes no memory.
     pub fn close(&mut self) -> Result<ShiftNo, Refusal>
         requires { 0 < self.old.closes }
@@ -240,23 +237,23 @@ impl Accounts {
 
     /// The cents that all tills cleared in the open shift. They fit in 64 bits.
     pub fn takings(&self) -> u64
-        requires { sum_by (λ t. cents_in (length self.now.drawn) t self.now.sales) tills < 2 ^ 64 }
-        ensures { result ≡ sum_by (λ t. cents_in (length self.now.drawn) t self.now.sales) tills }
+        requires { takings_in (length self.now.drawn) self.now.sales < 2 ^ 64 }
+        ensures { result ≡ takings_in (length self.now.drawn) self.now.sales }
     {
         match self.ledger.row(self.ledger.open_shift()) {
-            Some(row) => takings_of(&row),
+            Some(row) => sum_of_cents(&row.tills),
             None => unreachable!(),
         }
     }
 }
 
-/// The cents that all tills cleared in a shift, which fit in 64 bits.
-fn takings_of(row: &ShiftRow) -> u64
-    requires { sum_by (λ e. e.1) row.now.tills < 2 ^ 64 }
-    ensures { result ≡ sum_by (λ e. e.1) row.now.tills }
+/// The cents of all these, of each a count and its cents. They fit in 64 bits.
+fn sum_of_cents(tills: &[(u64, u64)]) -> u64
+    requires { sum_by (λ e. e.1) tills.now < 2 ^ 64 }
+    ensures { result ≡ sum_by (λ e. e.1) tills.now }
 {
     let mut sum = 0;
-    for (_, cents) in &row.tills {
+    for (_, cents) in tills {
         sum += *cents;
     }
     sum

@@ -1,9 +1,8 @@
 //! The figures of the shifts, and those of all shifts together.
 
-ghost use Rattle.std.specs.Prelude.{◌≡◌, ◌+◌, ◌^◌, ◌<◌, ◌≤◌, true, false, length, OnOk, OnErr, IfOk, IfErr};
-ghost use Rattle.site_base.specs.declared.limits.TheConstants.{TILL_CELLS};
+ghost use Rattle.std.specs.Prelude.{◌≡◌, ◌+◌, ◌^◌, ◌<◌, ◌≤◌, true, false, OnOk, OnErr, IfOk, IfErr};
 ghost use Rattle.site_base.specs.declared.refusal.Refusal.TheVariants.{ShiftsSpent};
-ghost use Rattle.shift_ledger.specs.Figures.{FitsClear, one_clear_more};
+ghost use Rattle.shift_ledger.specs.Figures.{FitsClear};
 ghost use Rattle.shift_ledger.specs.Shifts.{first_shift, open_number, is_last, figures_of};
 ghost use Rattle.shift_ledger.specs.Shifts.{after_close, after_clear, after_draw};
 ghost use Rattle.written_site.specs.Volumes.{drawn_of};
@@ -14,8 +13,8 @@ use site_base::{NoMemory, PRODUCT_CELLS, ProductNo, Refusal, ShiftNo, TILL_CELLS
 use std::alloc::Global;
 use std::marker::Model;
 
-/// The figures of the shifts, and beside them those of all shifts: for each till its clears and their
-/// cents, and for each product what tests drew of it.
+/// The figures of the shifts, and beside them those of all shifts: for each till its clears and
+/// their cents, and for each product what tests drew of it.
 #[derive(Drop)]
 pub struct Ledger {
     shifts: ShiftBook,
@@ -52,12 +51,14 @@ impl Ledger {
         }
     }
 
-    /// Makes the room that the next close needs. The figures stay.
+    /// Makes the room that the next close needs. The figures stay. After `NoMemory` nothing has
+    /// changed.
     pub fn reserve(&mut self) -> Result<(), NoMemory>
         ensures shifts { self.new.shifts ≡ self.old.shifts }
         ensures tills { self.new.tills ≡ self.old.tills }
         ensures room { OnOk result (0 < self.new.room) }
         ensures kept { self.old.room ≤ self.new.room }
+        ensures err { OnErr result (self.new ≡ self.old) }
     {
         self.shifts.reserve()
     }
@@ -90,8 +91,8 @@ impl Ledger {
         self.drawn[q.cell()]
     }
 
-    /// Adds a clear by a till to the open shift: of this product, so many millilitres and cents. The sums
-    /// with it stay in u64.
+    /// Adds a clear by a till to the open shift: of this product, so many millilitres and cents. The
+    /// sums with it stay in u64.
     pub fn note_cleared(&mut self, t: TillNo, q: ProductNo, volume: u64, cents: u64)
         requires row { FitsClear t q volume cents self.old.shifts.current }
         requires clears { (total_of t self.old.tills).0 + 1 < 2 ^ 64 }
@@ -106,8 +107,8 @@ impl Ledger {
         self.tills[cell] = (clears + 1, sum + cents);
     }
 
-    /// Adds a draw of a test to the open shift: of this product, so many millilitres. The sums with it
-    /// stay in u64.
+    /// Adds a draw of a test to the open shift: of this product, so many millilitres. The sums with
+    /// it stay in u64.
     pub fn note_drawn(&mut self, q: ProductNo, volume: u64)
         requires { drawn_of q (draws_of self.old.shifts) + volume < 2 ^ 64 }
         ensures shifts { self.new.shifts ≡ after_draw q volume self.old.shifts }
@@ -119,8 +120,8 @@ impl Ledger {
         self.drawn[cell] += volume;
     }
 
-    /// Closes the open shift and opens the next, with nothing in it; the answer is the number of the
-    /// shift that was closed. While the last shift that may be is open it is refused with
+    /// Closes the open shift and opens the next, with nothing in it; the answer is the number of
+    /// the shift that was closed. While the last shift that may be is open it is refused with
     /// `ShiftsSpent`, and nothing changes. The room for it is reserved; it takes no memory.
     pub fn close(&mut self) -> Result<ShiftNo, Refusal>
         requires { 0 < self.old.room }

@@ -1,0 +1,12 @@
+use Rattle.transaction_buffer.specs.Sales.{key}
+use Rattle.written_site.proofs.ClearFigures.{unlock_keeps}
+use Rattle.site_core.proofs.AccountFigures.{sales_kept}
+use Rattle.site_core.proofs.accounts.Accounts.unlock.Goals as goal
+
+pub invariant_of-self : goal.invariant_of-self
+invariant_of-self c =
+    let inside = c.self.inside in
+    rw c.unlock.ensures.leads (sales_kept inside.sales.sales _ inside.ledger.shifts
+    inside.ledger.tills
+    (unlock_keeps c.args.t (key c.args.shift c.args.p c.args.s) inside.sales.sales)
+    c.self.invariant)
