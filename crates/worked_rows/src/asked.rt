@@ -1,8 +1,44 @@
 //! Actors and events, read from the words in which they are written.
 
+use anyhow::bail;
 use site_base::{
     Actor, Event, FpNo, Millilitres, NozzleNo, Preset, ProductNo, SaleId, Seq, ShiftNo, TillNo,
 };
+
+/// The reading and the number of a sale that events named last. A number behind a `+` is counted from
+/// there, so that a repeated paragraph goes on where it ended.
+#[derive(Clone, Copy)]
+pub struct Counted {
+    reading: u64,
+    seq: u16,
+}
+
+impl Counted {
+    /// Nothing is named yet.
+    pub fn new() -> Counted {
+        Counted { reading: 0, seq: 0 }
+    }
+
+    /// `1000`, or `+5`: 5 more than the reading named before.
+    fn reading(&mut self, word: &str) -> Option<Millilitres> {
+        let reading: u64 = match word.strip_prefix('+') {
+            Some(more) => self.reading.checked_add(more.parse().ok()?)?,
+            None => word.parse().ok()?,
+        };
+        self.reading = reading;
+        Millilitres::new(reading)
+    }
+
+    /// `12`, or `+1`: 1 more than the sale named before.
+    fn seq(&mut self, word: &str) -> Option<Seq> {
+        let seq: u16 = match word.strip_prefix('+') {
+            Some(more) => self.seq.checked_add(more.parse().ok()?)?,
+            None => word.parse().ok()?,
+        };
+        self.seq = seq;
+        Seq::new(seq)
+    }
+}
 
 /// The till with this number.
 pub fn till_of(word: &str) -> Option<TillNo> {
@@ -20,40 +56,66 @@ fn product_of(word: &str) -> Option<ProductNo> {
 }
 
 /// The actor that a word names: `t1`, `d3`.
-pub fn actor_of(word: &str) -> Option<Actor> {
+fn actor_of(word: &str) -> Option<Actor> {
     if let Some(till) = word.strip_prefix('t') {
         return Some(Actor::Till(till_of(till)?));
     }
     Some(Actor::Dispenser(point_of(word.strip_prefix('d')?)?))
 }
 
+/// The actor and the event that the words of a line name.
+pub fn asked_of(words: &[&str], counted: &mut Counted) -> anyhow::Result<(Actor, Event)> {
+    let [actor, ref event @ ..] = *words else {
+        bail!("no such line");
+    };
+    match (actor_of(actor), event_of(event, counted)) {
+        (Some(actor), Some(event)) => Ok((actor, event)),
+        _ => bail!("no such line: {actor} {}", event.first().unwrap_or(&"")),
+    }
+}
+
 /// The event that these words name: its own, and what it carries behind it.
-pub fn event_of(words: &[&str]) -> Option<Event> {
+fn event_of(words: &[&str], counted: &mut Counted) -> Option<Event> {
     match *words {
         ["SignOn"] => Some(Event::SignOn),
         ["SignOff"] => Some(Event::SignOff),
+        ["CloseShift"] => Some(Event::CloseShift),
+        ["ReadSite"] => Some(Event::ReadSite),
         ["Release", p] => Some(Event::Release(point_of(p)?, Preset::Unset)),
         ["Release", p, preset] => Some(Event::Release(point_of(p)?, preset_of(preset)?)),
         ["Prepay", p, cents] => Some(Event::Prepay(point_of(p)?, cents.parse().ok()?)),
         ["ReplaceMeter", p, meter] => {
-            let (nozzle, reading) = meter_of(meter)?;
+            let (nozzle, reading) = meter_of(meter, counted)?;
             Some(Event::ReplaceMeter(point_of(p)?, nozzle, reading))
         }
         ["Lift", p, meter] => {
-            let (nozzle, reading) = meter_of(meter)?;
+            let (nozzle, reading) = meter_of(meter, counted)?;
             Some(Event::Lift(point_of(p)?, nozzle, reading))
         }
         ["Flow", p, meter] => {
-            let (nozzle, reading) = meter_of(meter)?;
+            let (nozzle, reading) = meter_of(meter, counted)?;
             Some(Event::Flow(point_of(p)?, nozzle, reading))
         }
         ["HangUp", p, meter] => {
-            let (nozzle, reading) = meter_of(meter)?;
+            let (nozzle, reading) = meter_of(meter, counted)?;
             Some(Event::HangUp(point_of(p)?, nozzle, reading))
         }
+        ["SetPrice", q, price] => Some(Event::SetPrice(product_of(q)?, price.parse().ok()?)),
         ["ReadProduct", q] => Some(Event::ReadProduct(product_of(q)?)),
+        ["Lock", sale] => {
+            let (point, sale) = sale_of(sale, counted)?;
+            Some(Event::Lock(point, sale))
+        }
+        ["Unlock", sale] => {
+            let (point, sale) = sale_of(sale, counted)?;
+            Some(Event::Unlock(point, sale))
+        }
+        ["Clear", sale] => {
+            let (point, sale) = sale_of(sale, counted)?;
+            Some(Event::Clear(point, sale))
+        }
         ["ReadTransaction", sale] => {
-            let (point, sale) = sale_of(sale)?;
+            let (point, sale) = sale_of(sale, counted)?;
             Some(Event::ReadTransaction(point, sale))
         }
         [name, p] => at_point(name, point_of(p)?),
@@ -89,28 +151,22 @@ fn preset_of(word: &str) -> Option<Preset> {
     }
 }
 
-/// `2@1000`: nozzle 2, whose meter reads 1000.
-fn meter_of(word: &str) -> Option<(NozzleNo, Millilitres)> {
+/// `2@1000`: nozzle 2, whose meter reads 1000; `2@+5`: whose meter reads 5 more than was named before.
+fn meter_of(word: &str, counted: &mut Counted) -> Option<(NozzleNo, Millilitres)> {
     let (nozzle, reading) = word.split_once('@')?;
     let nozzle = NozzleNo::new(nozzle.parse().ok()?)?;
-    let reading = Millilitres::new(reading.parse().ok()?)?;
-    Some((nozzle, reading))
+    Some((nozzle, counted.reading(reading)?))
 }
 
-/// `3/1`: sale 1 of point 3 in the open shift; `3/2/1`: that of shift 2.
-fn sale_of(word: &str) -> Option<(FpNo, SaleId)> {
+/// `3/1`: sale 1 of point 3 in the open shift; `3/2/1`: that of shift 2; `3/+1`: the sale behind the one
+/// that was named before.
+fn sale_of(word: &str, counted: &mut Counted) -> Option<(FpNo, SaleId)> {
     let (point, sale) = word.split_once('/')?;
     let point = point_of(point)?;
-    match sale.split_once('/') {
-        None => Some((point, sale_in(None, sale)?)),
-        Some((shift, seq)) => {
-            let shift = ShiftNo::new(shift.parse().ok()?)?;
-            Some((point, sale_in(Some(shift), seq)?))
-        }
-    }
-}
-
-fn sale_in(shift: Option<ShiftNo>, seq: &str) -> Option<SaleId> {
-    let seq = Seq::new(seq.parse().ok()?)?;
-    Some(SaleId { shift, seq })
+    let (shift, seq) = match sale.split_once('/') {
+        None => (None, sale),
+        Some((shift, seq)) => (Some(ShiftNo::new(shift.parse().ok()?)?), seq),
+    };
+    let seq = counted.seq(seq)?;
+    Some((point, SaleId { shift, seq }))
 }

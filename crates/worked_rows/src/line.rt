@@ -1,10 +1,9 @@
 //! What a line of a table says.
 
-use crate::asked::{actor_of, event_of, point_of, till_of};
-use anyhow::{Context, bail};
+use crate::asked::{point_of, till_of};
+use anyhow::Context;
 use site_base::{
-    Actor, Event, FpNo, Millilitres, Mills, NozzleEntry, PointEntry, ProductEntry, ProductNo,
-    TillNo,
+    FpNo, Millilitres, Mills, NozzleEntry, PointEntry, ProductEntry, ProductNo, TillNo,
 };
 use std::alloc::Global;
 
@@ -28,8 +27,8 @@ pub enum Line {
     Show(FpNo),
     /// `leave 1`: the till is signed off, if it is signed on.
     Leave(TillNo),
-    /// `t1 Open 3`
-    Asked(Actor, Event),
+    /// `t1 Open 3`: an event of a paragraph, in its words. Any line that isn't one of the others.
+    Asked(String),
 }
 
 impl Line {
@@ -45,14 +44,11 @@ impl Line {
             ["repeat", times] => Ok(Line::Repeat(times.parse()?)),
             ["show", p] => Ok(Line::Show(point_of(p).context("no point")?)),
             ["leave", t] => Ok(Line::Leave(till_of(t).context("no till")?)),
-            [first, ref rest @ ..] => {
+            [first, ..] => {
                 if first.starts_with('#') {
                     return Ok(Line::Text(String::from_str(alloc, text)?));
                 }
-                match (actor_of(first), event_of(rest)) {
-                    (Some(actor), Some(event)) => Ok(Line::Asked(actor, event)),
-                    _ => bail!("no such line: {text}"),
-                }
+                Ok(Line::Asked(String::from_str(alloc, text)?))
             }
         }
     }

@@ -1,5 +1,6 @@
 //! A table, as it is run and printed.
 
+use crate::asked::{Counted, asked_of};
 use crate::draft::Draft;
 use crate::line::Line;
 use anyhow::{Context, ensure};
@@ -8,14 +9,15 @@ use site_core::{RunStopped, Site, run};
 use std::alloc::Global;
 use std::mem;
 
-/// The site that is written or run, and the events of the paragraph so far.
+/// The site that is written or run, and the paragraph of events so far.
 #[derive(Drop)]
 pub struct Table {
     alloc: Global,
     draft: Draft,
     site: Option<Site>,
-    events: Vec<(Actor, Event)>,
+    paragraph: Vec<String>,
     times: u32,
+    counted: Counted,
 }
 
 impl Table {
@@ -25,17 +27,21 @@ impl Table {
             alloc,
             draft: Draft::new(alloc, 0),
             site: None,
-            events: Vec::new(alloc),
+            paragraph: Vec::new(alloc),
             times: 1,
+            counted: Counted::new(),
         }
     }
 
     /// Takes a line. An event joins its paragraph; every other line ends one.
     pub fn take(&mut self, rt: &(impl Print + Eprint), line: Line) -> anyhow::Result<()> {
-        if let Line::Asked(actor, event) = line {
-            self.events.push((actor, event))?;
-            return Ok(());
-        }
+        let line = match line {
+            Line::Asked(text) => {
+                self.paragraph.push(text)?;
+                return Ok(());
+            }
+            line => line,
+        };
         self.end(rt)?;
         let describes = matches!(line, Line::Manager(_) | Line::Product(_) | Line::Point(_));
         ensure!(self.site.is_none() || !describes, "the site stands already");
@@ -43,6 +49,7 @@ impl Table {
             Line::Text(text) => println!(rt; "{text}")?,
             Line::Rows(rows) => {
                 self.site = None;
+                self.counted = Counted::new();
                 self.draft = Draft::new(self.alloc, rows);
             }
             Line::Manager(till) => self.draft.managers.push(till)?,
@@ -56,13 +63,13 @@ impl Table {
 
     /// Ends the paragraph: its events are run, in one run as often as it says, and the last rows printed.
     pub fn end(&mut self, rt: &(impl Print + Eprint)) -> anyhow::Result<()> {
-        if self.events.is_empty() {
+        if self.paragraph.is_empty() {
             return Ok(());
         }
         let alloc = self.alloc;
-        let paragraph = mem::replace(&mut self.events, Vec::new(alloc));
+        let paragraph = mem::replace(&mut self.paragraph, Vec::new(alloc));
         let times = mem::replace(&mut self.times, 1);
-        let events = repeated(alloc, &paragraph, times)?;
+        let events = events_of(alloc, &paragraph, times, &mut self.counted)?;
         let replies = replies_to(rt, alloc, self.opened(rt)?, &events)?;
         print_rows(rt, &events, &replies, paragraph.len())
     }
@@ -99,16 +106,35 @@ impl Table {
 }
 
 /// The events of a paragraph, so often.
-fn repeated(
+fn events_of(
     alloc: Global,
-    paragraph: &[(Actor, Event)],
+    paragraph: &[String],
     times: u32,
-) -> Result<Vec<(Actor, Event)>, NoMemory> {
+    counted: &mut Counted,
+) -> anyhow::Result<Vec<(Actor, Event)>> {
+    let mut lines = Vec::new(alloc);
+    for text in paragraph {
+        let words: Vec<&str> = text.split_whitespace().collect(alloc)?;
+        lines.push(words)?;
+    }
     let mut events = Vec::new(alloc);
     for _ in 0..times {
-        events.extend_from_slice(paragraph)?;
+        for words in &lines {
+            add_event(&mut events, words, counted)?;
+        }
     }
     Ok(events)
+}
+
+/// Adds the event of the words of a line.
+fn add_event(
+    events: &mut Vec<(Actor, Event)>,
+    words: &[&str],
+    counted: &mut Counted,
+) -> anyhow::Result<()> {
+    let (actor, event) = asked_of(words, counted)?;
+    events.push((actor, event))?;
+    Ok(())
 }
 
 /// Opens a site. After a refused growth it is opened again.
