@@ -35,17 +35,13 @@ impl Table {
 
     /// Takes a line. An event joins its paragraph; every other line ends one.
     pub fn take(&mut self, rt: &(impl Print + Eprint), line: Line) -> anyhow::Result<()> {
-        let line = match line {
-            Line::Asked(text) => {
-                self.paragraph.push(text)?;
-                return Ok(());
-            }
-            line => line,
-        };
-        self.end(rt)?;
+        if !matches!(line, Line::Asked(_)) {
+            self.end(rt)?;
+        }
         let describes = matches!(line, Line::Manager(_) | Line::Product(_) | Line::Point(_));
         ensure!(self.site.is_none() || !describes, "the site stands already");
         match line {
+            Line::Asked(text) => self.paragraph.push(text)?,
             Line::Text(text) => println!(rt; "{text}")?,
             Line::Rows(rows) => {
                 self.site = None;
