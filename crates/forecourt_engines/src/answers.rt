@@ -64,6 +64,7 @@ impl Answerer {
     }
 
     /// Appends the lines for a message. The answer is made in the buffer, which comes back.
+    #[inline(always)]
     fn answer(
         &mut self,
         alloc: Global,
