@@ -200,7 +200,6 @@ fn put_answer(draft: &mut Draft, answer: &Answer) -> Result<(), NoMemory>
     }
 }
 
-#[inline(always)]
 fn put_outcome(draft: &mut Draft, number: u8) -> Result<(), NoMemory>
     ensures { OnOk result (draft.new ≡ with_items draft.old (outcome number)) }
 {
