@@ -19,7 +19,9 @@ pub fn site() -> [u8; 2]
 }
 
 /// Subnet and node of a till.
-pub fn till(till: TillNo) -> [u8; 2] {
+pub fn till(till: TillNo) -> [u8; 2]
+    ensures { result ≡ TILL_SUBNET ∷ till ∷ [] }
+{
     [TILL_SUBNET, till.get()]
 }
 

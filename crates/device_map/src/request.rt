@@ -29,6 +29,7 @@ pub fn request_of(message: &Message) -> Result<(Actor, Event), MapFault>
 }
 
 #[tactic(auto, unfolding(crate::specs::Requests::command_in))]
+#[inline(always)]
 fn event_of(kind: Kind, database: Database, items: Items<'_>) -> Result<Event, MapFault>
     ensures { Gives result (event_at kind database items.entry) }
 {

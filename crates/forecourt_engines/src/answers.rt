@@ -46,6 +46,7 @@ impl Answerer {
 
     /// Appends the lines for messages, in order: for each its answer, and, where changes are told, the
     /// change of its row. Each answer is made in the buffer.
+    #[inline(always)]
     pub fn answer_all(
         &mut self,
         alloc: Global,
@@ -64,6 +65,7 @@ impl Answerer {
     }
 
     /// Appends the lines for a message. The answer is made in the buffer, which comes back.
+    #[inline(always)]
     fn answer(
         &mut self,
         alloc: Global,

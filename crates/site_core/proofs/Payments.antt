@@ -1,5 +1,5 @@
 -- What the accounts do as they are asked is what the written step does.
-use Rattle.std.proofs.Common.{◌≡◌, ℕ, Result, Option, Some, true, length, sym, ap, subst, ◌∙◌}
+use Rattle.std.proofs.Common.{◌≡◌, ℕ, Result, Some, true, sym, ap, subst, ◌∙◌}
 use Rattle.site_base.specs.declared.actor.Actor.TheVariants.{Till}
 use Rattle.site_base.specs.declared.answer.Answer.{Answer}
 use Rattle.site_base.specs.declared.event.Event.{Event}

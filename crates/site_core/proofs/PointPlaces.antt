@@ -1,17 +1,13 @@
 -- Where the row of a point stands among rows of which no number stands twice.
-use Rattle.std.proofs.Common.{◌≡◌, ℕ, zero, suc, ◌+◌, ◌<◌, ◌==◌, ◌||◌, not, ◌&&◌, Bool, true, false, List, [], ◌∷◌, length, get_or, Option, Some, None, unwrap_or, refl, sym, ap, ◌∙◌, arith}
-use Rattle.std.proofs.Math.ListN.{set}
+use Rattle.std.proofs.Common.{◌≡◌, ℕ, zero, suc, ◌<◌, ◌==◌, not, Bool, true, false, List, [], ◌∷◌, length, get_or, refl, sym, ap, ◌∙◌, arith}
 use Rattle.std.proofs.lemmas.Bool.{and_parts, false≢true}
 use Rattle.std.proofs.lemmas.Bool.Decides.{nat_tests}
-use Rattle.std.proofs.lemmas.Grind.{common_steps}
 use Rattle.std.specs.List.{list_any}
 use Rattle.std.specs.Prelude.{nat_eq}
 use Rattle.site_base.specs.Configured.{none_alike}
-use Rattle.site_base.specs.Table.{IsPlace, row_of, with_row}
-use Rattle.fuelling_point.specs.Kept.{Facts, fresh}
-use Rattle.written_site.specs.SiteState.{facts_in}
+use Rattle.site_base.specs.Table.{IsPlace}
+use Rattle.fuelling_point.specs.Kept.{Facts}
 use Rattle.written_site.specs.Sound.{numbers_of}
-use Rattle.written_site.proofs.SoundTables.{facts_there}
 
 -- the row of point p stands first, or one further on than in the rest
 here : (x : ℕ × Facts) (xs : List (ℕ × Facts)) (p : ℕ) → x.0 ≡ p → IsPlace (λ n. n) p (x ∷ xs) 0

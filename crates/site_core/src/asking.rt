@@ -172,6 +172,7 @@ impl SiteParts {
 }
 
 /// A price that a product is given is in range.
+#[inline(always)]
 fn prices(event: &Event) -> Result<(), Refusal>
     ensures { MatchResult result
         (λ _. pricing event.now ≡ None)
@@ -186,6 +187,7 @@ fn prices(event: &Event) -> Result<(), Refusal>
 }
 
 /// A preset or a prepayment is in range.
+#[inline(always)]
 fn limits(event: &Event) -> Result<(), Refusal>
     ensures { MatchResult result
         (λ _. presets event.now ≡ None)

@@ -8,8 +8,8 @@ ghost use Rattle.site_core.specs.SiteParts.{site_of};
 use crate::site_parts::SiteParts;
 use fuelling_point::PointEvent;
 use site_base::{
-    Answer, Event, FpNo, Millilitres, Mills, NozzleNo, ProductNo, REPLACEMENT_LIMIT, Refusal, Reply,
-    TillNo,
+    Answer, Event, FpNo, Millilitres, Mills, NozzleNo, ProductNo, REPLACEMENT_LIMIT, Refusal,
+    Reply, TillNo,
 };
 
 impl SiteParts {

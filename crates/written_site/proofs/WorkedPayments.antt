@@ -1,10 +1,9 @@
 -- Worked rows of payments: who locks and clears a sale, and what a price or a shift that changes leaves.
-use Rattle.std.proofs.Common.{[], ◌∷◌, Some, None, Ok, Err}
-use Rattle.site_base.specs.declared.answer.Answer.TheVariants.{Done, Start, Flowed, Sold, Locked, Unlocked, Cleared, ShiftClosed, TransactionIs, ProductIs, SiteIs}
-use Rattle.site_base.specs.declared.event.Event.TheVariants.{SignOn, SignOff, Open, Release, Lock, Unlock, Clear, Prepay, SetPrice, CloseShift, Suspend, Resume, ReadTransaction, ReadProduct, ReadSite, Lift, Flow, HangUp}
-use Rattle.site_base.specs.declared.refusal.Refusal.TheVariants.{NotSignedOn, NoSuchProduct, NoSuchTransaction, NotManager, BadPrice, BadPreset, BufferFull, AssignedToOther, LockedByOther, NotLocked, AlreadyCleared}
-use Rattle.site_base.specs.declared.state.Preset.TheVariants.{Unset, Volume, Money}
-use Rattle.site_base.specs.declared.state.Status.TheVariants as statuses
+use Rattle.std.proofs.Common.{[], ◌∷◌, Some, Ok, Err}
+use Rattle.site_base.specs.declared.answer.Answer.TheVariants.{Done, Start, Sold, Locked, Unlocked, Cleared, ShiftClosed, TransactionIs, ProductIs, SiteIs}
+use Rattle.site_base.specs.declared.event.Event.TheVariants.{SignOn, SignOff, Open, Release, Lock, Unlock, Clear, Prepay, SetPrice, CloseShift, Suspend, Resume, ReadTransaction, ReadProduct, ReadSite, Lift, HangUp}
+use Rattle.site_base.specs.declared.refusal.Refusal.TheVariants.{NotSignedOn, NoSuchProduct, NoSuchTransaction, NotManager, BadPrice, BufferFull, AssignedToOther, LockedByOther, NotLocked, AlreadyCleared}
+use Rattle.site_base.specs.declared.state.Preset.TheVariants.{Unset, Money}
 use Rattle.written_site.proofs.WorkedRows.{known_site, t1, t2, d1, sale, payable, product, AreAnswered}
 use Rattle.written_site.proofs.WorkedReplies.{answered, kit}
 

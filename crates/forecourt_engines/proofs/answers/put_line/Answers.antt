@@ -1,4 +1,3 @@
-use Rattle.std.proofs.Common.{◌≡◌, ◌++◌}
 use Rattle.forecourt_engines.proofs.answers.put_line.Goals as goal
 
 pub returns : goal.returns

@@ -1,4 +1,4 @@
-use Rattle.std.proofs.Common.{◌≡◌, true, ℕ, List, Some, get_or, ap, sym, ◌∙◌}
+use Rattle.std.proofs.Common.{◌≡◌, ℕ, List, Some, get_or, ap, sym, ◌∙◌}
 use Rattle.fuelling_point.specs.Kept.{Facts}
 use Rattle.written_site.specs.SiteState.{facts_in}
 use Rattle.written_site.proofs.SoundTables.{facts_there}

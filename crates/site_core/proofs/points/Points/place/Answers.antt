@@ -1,5 +1,5 @@
-use Rattle.std.proofs.Common.{◌≡◌, ◌<◌, true, List, ℕ, length, get_or, is_some, refl, sym, ap, ◌∙◌, arith, rules}
-use Rattle.site_base.specs.Table.{IsPlace, row_of}
+use Rattle.std.proofs.Common.{◌≡◌, List, ℕ, get_or, is_some, sym, ap, ◌∙◌, arith}
+use Rattle.site_base.specs.Table.{IsPlace}
 use Rattle.fuelling_point.specs.Kept.{Facts}
 use Rattle.written_site.proofs.SoundTables.{same}
 use Rattle.site_core.proofs.PointPlaces.{alone_place}

@@ -1,4 +1,3 @@
-use Rattle.std.proofs.Common.{◌≡◌}
 use Rattle.site_base.specs.declared.event.Event.TheVariants as events
 use Rattle.transaction_buffer.specs.declared.request.Request.TheVariants as requests
 use Rattle.written_site.proofs.AskedAnswers.{asks_clear}

@@ -1,10 +1,9 @@
-use Rattle.std.proofs.Common.{◌≡◌}
 use Rattle.site_base.specs.declared.event.Event.TheVariants as events
 use Rattle.transaction_buffer.specs.declared.request.Request.TheVariants as requests
 use Rattle.written_site.proofs.AskedAnswers.{asks_lock}
-use Rattle.written_site.specs.SiteState.{open_shift, shift_named}
+use Rattle.written_site.specs.SiteState.{shift_named}
 use Rattle.site_core.specs.SiteParts.{site_of}
-use Rattle.site_core.proofs.Payments.{paid, clear_fits}
+use Rattle.site_core.proofs.Payments.{paid}
 use Rattle.site_core.proofs.site_parts.SiteParts.lock.Goals as goal
 
 pub returns : goal.returns

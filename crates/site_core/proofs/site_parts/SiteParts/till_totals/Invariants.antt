@@ -1,4 +1,4 @@
-use Rattle.std.proofs.Common.{◌≡◌, ◌+◌, take, map}
+use Rattle.std.proofs.Common.{◌≡◌, map}
 use Rattle.std.specs.List.{range_with_len}
 use Rattle.written_site.specs.ShiftFigures.{clears_by, cents_by}
 use Rattle.site_core.specs.SiteParts.{site_of}
