@@ -25,6 +25,8 @@ pub enum Line {
     Repeat(u32),
     /// `show 3`: the point as the site shows it.
     Show(FpNo),
+    /// `totals`: what each till has cleared in all shifts, and its cents, and each product.
+    Totals,
     /// `leave 1`: the till is signed off, if it is signed on.
     Leave(TillNo),
     /// `t1 Open 3`: an event of a paragraph, in its words. Any line that isn't one of the others.
@@ -43,6 +45,7 @@ impl Line {
             ["point", p, ref nozzles @ ..] => Ok(Line::Point(entry_of(alloc, p, nozzles)?)),
             ["repeat", times] => Ok(Line::Repeat(times.parse()?)),
             ["show", p] => Ok(Line::Show(point_of(p).context("no point")?)),
+            ["totals"] => Ok(Line::Totals),
             ["leave", t] => Ok(Line::Leave(till_of(t).context("no till")?)),
             [first, ..] => {
                 if first.starts_with('#') {

@@ -4,7 +4,7 @@ use crate::asked::{Counted, asked_of};
 use crate::draft::Draft;
 use crate::line::Line;
 use anyhow::{Context, ensure};
-use site_base::{Actor, Event, NoMemory, Reply, Row, SiteConfig};
+use site_base::{Actor, Event, NoMemory, Reply, Row, SiteConfig, Totals};
 use site_core::{RunStopped, Site, run};
 use std::alloc::Global;
 use std::mem;
@@ -82,8 +82,10 @@ impl Table {
 
     /// Prints what a line asks of the site itself.
     fn show(&mut self, rt: &(impl Print + Eprint), line: &Line) -> anyhow::Result<()> {
+        let alloc = self.alloc;
         let site = self.opened(rt)?;
         match line {
+            Line::Totals => print_totals(rt, &site.totals(alloc, 0)?)?,
             Line::Show(p) => match site.point(*p) {
                 Some(view) => println!(rt; "show {}: {view}", p.get())?,
                 None => println!(rt; "show {}: none", p.get())?,
@@ -171,6 +173,19 @@ fn replies_to(
             }
         }
     }
+}
+
+/// Prints what each till has cleared, if it has, and each product.
+fn print_totals(rt: &impl Print, totals: &Totals) -> anyhow::Result<()> {
+    for (till, clears, cents) in &totals.tills {
+        if *clears > 0 {
+            println!(rt; "totals t{}: clears {clears}, cents {cents}", till.get())?;
+        }
+    }
+    for view in &totals.products {
+        println!(rt; "totals: {view}")?;
+    }
+    Ok(())
 }
 
 /// The row of the event at a place, if its reply isn't lost.
