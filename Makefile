@@ -1,6 +1,7 @@
 # The forecourt site controller. `make` alone says what there is.
 
 PROGRAM := crates/forecourt/out/forecourt
+ROWS := crates/worked_rows/out/worked_rows
 COSTS := crates/parts_cost/out/parts_cost
 CRATES := $(patsubst crates/%/wrong-bodies,%,$(wildcard crates/*/wrong-bodies))
 
@@ -27,6 +28,7 @@ check:
 test:
 	rt ci
 	scripts/test-program $(PROGRAM)
+	scripts/test-rows $(ROWS)
 	scripts/test-faults
 
 audit:

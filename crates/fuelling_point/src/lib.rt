@@ -9,8 +9,6 @@ mod laws;
 mod point;
 mod step;
 mod table;
-#[cfg(test)]
-mod tests;
 
 pub use event::PointEvent;
 pub use laws::{

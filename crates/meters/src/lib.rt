@@ -8,8 +8,6 @@ mod meter;
 mod meters;
 mod place;
 mod report;
-#[cfg(test)]
-mod tests;
 
 pub use laws::{
     growth_raises_one_total, reports_are_metered, stays_within_bounds, totals_are_metered,

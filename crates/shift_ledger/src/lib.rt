@@ -5,8 +5,6 @@
 mod book;
 mod laws;
 mod row;
-#[cfg(test)]
-mod tests;
 
 pub use book::ShiftBook;
 pub use laws::{

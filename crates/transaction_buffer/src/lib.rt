@@ -12,8 +12,6 @@ mod shelf;
 mod span;
 mod standing;
 mod sums;
-#[cfg(test)]
-mod tests;
 mod unpaid_places;
 
 pub use buffer::Buffer;

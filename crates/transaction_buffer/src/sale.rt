@@ -13,6 +13,10 @@ use site_base::{
     Answer, Cents, Millilitres, Mills, ProductNo, Refusal, ShiftNo, Status, TillNo, TransactionView,
 };
 use std::marker::Model;
+use std::mem::size_of;
+
+// A site that sells for years keeps every sale.
+const _: () = prove!(size_of::<Sale>() <= 48);
 
 /// A sale, and how it stands.
 #[derive(Clone, Copy, Drop)]

@@ -50,6 +50,11 @@ pub fn point_of(word: &str) -> Option<FpNo> {
     FpNo::new(word.parse().ok()?)
 }
 
+/// The shift with this number.
+pub fn shift_of(word: &str) -> Option<ShiftNo> {
+    ShiftNo::new(word.parse().ok()?)
+}
+
 /// The product with this number.
 fn product_of(word: &str) -> Option<ProductNo> {
     ProductNo::new(word.parse().ok()?)
@@ -158,6 +163,11 @@ fn meter_of(word: &str, counted: &mut Counted) -> Option<(NozzleNo, Millilitres)
     Some((nozzle, counted.reading(reading)?))
 }
 
+/// `3/1`, `3/2/1`: the sale that is called so, whatever was named before.
+pub fn sale_named(word: &str) -> Option<(FpNo, SaleId)> {
+    sale_of(word, &mut Counted::new())
+}
+
 /// `3/1`: sale 1 of point 3 in the open shift; `3/2/1`: that of shift 2; `3/+1`: the sale behind the one
 /// that was named before.
 fn sale_of(word: &str, counted: &mut Counted) -> Option<(FpNo, SaleId)> {
@@ -165,7 +175,7 @@ fn sale_of(word: &str, counted: &mut Counted) -> Option<(FpNo, SaleId)> {
     let point = point_of(point)?;
     let (shift, seq) = match sale.split_once('/') {
         None => (None, sale),
-        Some((shift, seq)) => (Some(ShiftNo::new(shift.parse().ok()?)?), seq),
+        Some((shift, seq)) => (Some(shift_of(shift)?), seq),
     };
     let seq = counted.seq(seq)?;
     Some((point, SaleId { shift, seq }))

@@ -1,9 +1,10 @@
 //! What a line of a table says.
 
-use crate::asked::{point_of, till_of};
+use crate::asked::{point_of, sale_named, shift_of, till_of};
 use anyhow::Context;
 use site_base::{
-    FpNo, Millilitres, Mills, NozzleEntry, PointEntry, ProductEntry, ProductNo, TillNo,
+    FpNo, Millilitres, Mills, NozzleEntry, PointEntry, ProductEntry, ProductNo, SaleId, ShiftNo,
+    TillNo,
 };
 use std::alloc::Global;
 
@@ -27,6 +28,10 @@ pub enum Line {
     Show(FpNo),
     /// `totals`: what each till has cleared in all shifts, and its cents, and each product.
     Totals,
+    /// `shift 2`: what was cleared and drawn in the shift, as the site shows it.
+    Shift(ShiftNo),
+    /// `sale 3/1`, `sale 3/2/1`: the sale as the site shows it.
+    Sale(FpNo, SaleId),
     /// `leave 1`: the till is signed off, if it is signed on.
     Leave(TillNo),
     /// `t1 Open 3`: an event of a paragraph, in its words. Any line that isn't one of the others.
@@ -46,6 +51,11 @@ impl Line {
             ["repeat", times] => Ok(Line::Repeat(times.parse()?)),
             ["show", p] => Ok(Line::Show(point_of(p).context("no point")?)),
             ["totals"] => Ok(Line::Totals),
+            ["shift", n] => Ok(Line::Shift(shift_of(n).context("no shift")?)),
+            ["sale", sale] => {
+                let (p, id) = sale_named(sale).context("no sale")?;
+                Ok(Line::Sale(p, id))
+            }
             ["leave", t] => Ok(Line::Leave(till_of(t).context("no till")?)),
             [first, ..] => {
                 if first.starts_with('#') {

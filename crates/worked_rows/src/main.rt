@@ -5,6 +5,7 @@
 mod asked;
 mod draft;
 mod line;
+mod shown;
 mod table;
 
 use crate::line::Line;

@@ -3,8 +3,9 @@
 use crate::asked::{Counted, asked_of};
 use crate::draft::Draft;
 use crate::line::Line;
+use crate::shown::{print_point, print_sale, print_shift, print_totals};
 use anyhow::{Context, ensure};
-use site_base::{Actor, Event, NoMemory, Reply, Row, SiteConfig, Totals};
+use site_base::{Actor, Event, NoMemory, Reply, Row, SiteConfig};
 use site_core::{RunStopped, Site, run};
 use std::alloc::Global;
 use std::mem;
@@ -85,21 +86,20 @@ impl Table {
         let alloc = self.alloc;
         let site = self.opened(rt)?;
         match line {
-            Line::Totals => print_totals(rt, &site.totals(alloc, 0)?)?,
-            Line::Show(p) => match site.point(*p) {
-                Some(view) => println!(rt; "show {}: {view}", p.get())?,
-                None => println!(rt; "show {}: none", p.get())?,
-            },
+            Line::Totals => print_totals(rt, &site.totals(alloc, 0)?),
+            Line::Shift(n) => print_shift(rt, *n, site.shift(*n)),
+            Line::Sale(p, id) => print_sale(rt, *p, id, site.transaction(*p, *id)),
+            Line::Show(p) => print_point(rt, *p, site.point(*p)),
             Line::Leave(t) => {
                 let was = site.signed_on(*t);
                 if was {
                     site.sign_off(*t);
                 }
                 println!(rt; "leave {}: {was}", t.get())?;
+                Ok(())
             }
-            _ => {}
+            _ => Ok(()),
         }
-        Ok(())
     }
 }
 
@@ -173,19 +173,6 @@ fn replies_to(
             }
         }
     }
-}
-
-/// Prints what each till has cleared, if it has, and each product.
-fn print_totals(rt: &impl Print, totals: &Totals) -> anyhow::Result<()> {
-    for (till, clears, cents) in &totals.tills {
-        if *clears > 0 {
-            println!(rt; "totals t{}: clears {clears}, cents {cents}", till.get())?;
-        }
-    }
-    for view in &totals.products {
-        println!(rt; "totals: {view}")?;
-    }
-    Ok(())
 }
 
 /// The row of the event at a place, if its reply isn't lost.
