@@ -47,3 +47,5 @@ pub mod WorkedEnds
 pub mod WorkedChecks
 pub mod WorkedReports
 pub mod WorkedPayments
+pub mod RowWords
+pub mod SigningLaws

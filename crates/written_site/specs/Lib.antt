@@ -12,3 +12,5 @@ pub mod Sound
 pub mod SoundSteps
 pub mod FigureSteps
 pub mod SoundRuns
+pub mod RowWords
+pub mod SigningLaws
