@@ -49,3 +49,10 @@ pub mod WorkedReports
 pub mod WorkedPayments
 pub mod RowWords
 pub mod SigningLaws
+pub mod PointAfter
+pub mod SlotRows
+pub mod MomentRows
+pub mod RowFacts
+pub mod ToldAnswers
+pub mod Lockers
+pub mod LockLaws

@@ -73,7 +73,7 @@ kept I step earlier s (r ∷ rs) holds legal =
 
 -- ---- the last that rows say
 
-said_again : {A : Type 0} (o l : Option A) (x : A)
+pub said_again : {A : Type 0} (o l : Option A) (x : A)
     → unwrap_or (last_said o l) x ≡ unwrap_or l (unwrap_or o x)
 said_again o None x = refl
 said_again o (Some y) x = refl

@@ -33,7 +33,7 @@ use Rattle.written_site.proofs.SoundSales.{sells, let_go_counts, asked_counts, u
 
 -- ---- the event's own point
 
-own_there : (s : SiteState) (e : Event) (p : ℕ) (event : PointEvent) → numbers s e ≡ None
+pub own_there : (s : SiteState) (e : Event) (p : ℕ) (event : PointEvent) → numbers s e ≡ None
     → own_event s e ≡ Some (p, event) → has_point s p ≡ true
 own_there s e p event names own = grind (arith, common_steps)
 

@@ -14,3 +14,5 @@ pub mod FigureSteps
 pub mod SoundRuns
 pub mod RowWords
 pub mod SigningLaws
+pub mod SaleWords
+pub mod LockLaws

@@ -1,7 +1,9 @@
 //! What is true of the written site. The laws have no code: each is proved of the definitions.
 
+mod paying;
 mod signing;
 
+pub use paying::{cleared_once, locked_by_one};
 pub use signing::{shift_by_rows, signed_on_by_rows};
 
 ghost use Rattle.written_site.specs.Bridge.{AreLegalHistoriesRuns};
