@@ -56,3 +56,5 @@ pub mod RowFacts
 pub mod ToldAnswers
 pub mod Lockers
 pub mod LockLaws
+pub mod SoldRows
+pub mod NumberLaws

@@ -70,11 +70,11 @@ may_sell_is s q may = record {
 -- ---- what the site's other facts say of a point
 
 -- no sale is of a shift after the open one
-abbrev NoneLater : SiteState → Type 0
+abbrev pub NoneLater : SiteState → Type 0
 NoneLater s = (q h : ℕ) → open_shift s < h → made_at q h s.sales ≡ 0
 
 -- a point keeps its room where it makes no sale; a shift that a close opens has every number left
-room_kept : (s : SiteState) (a : Actor) (e : Event) (q : ℕ) → NoneLater s
+pub room_kept : (s : SiteState) (a : Actor) (e : Event) (q : ℕ) → NoneLater s
     → SellsNoMore q s.sales (sales_after s a e) → MaySell s q → MaySell (accepted_site s a e) q
 room_kept s a e q order counts may =
     record {
@@ -212,11 +212,12 @@ one_event s e q event other own again =
     ap (λ (x : ℕ × PointEvent). x.1) (told_once (q, event) (q, other) (sym own ∙ again))
 
 -- a point that is released for a sale may make one
-room_own : (s : SiteState) (a : Actor) (e : Event) (q : ℕ) (event : PointEvent) → NoneLater s
-    → Passed s a e → own_event s e ≡ Some (q, event) → IsPointSound s q (facts_of s q)
+pub room_own : (s : SiteState) (a : Actor) (e : Event) (q : ℕ) (event : PointEvent) → NoneLater s
+    → Passed s a e → own_event s e ≡ Some (q, event) → IsWhole (facts_of s q)
+    → (is_released (facts_of s q).state ≡ true → (facts_of s q).test ≡ false → MaySell s q)
     → is_released (after event (facts_of s q)).state ≡ true
     → (after event (facts_of s q)).test ≡ false → MaySell (accepted_site s a e) q
-room_own s a e q event order passed own point released sale =
+room_own s a e q event order passed own whole room released sale =
     room_kept s a e q order counts (by_test (is_sale_release event) refl)
   where
     counts : SellsNoMore q s.sales (sales_after s a e)
@@ -228,8 +229,8 @@ room_own s a e q event order passed own point released sale =
     by_test : (b : Bool) → is_sale_release event ≡ b → MaySell s q
     by_test true is = may_sell_is s q (may_own s e q event own passed.sells is)
     by_test false other =
-        let was = sells_after event (facts_of s q) point.whole other released sale in
-        point.room was.0 was.1
+        let was = sells_after event (facts_of s q) whole other released sale in
+        room was.0 was.1
 
 -- ---- a point that the event isn't of
 
@@ -269,8 +270,8 @@ done_point s a e q event sound passed taken own held =
       held = held;
       flowed = λ under_way. flowed_own s e q event taken own point whole under_way;
       price = λ under_way. price_own s e q event sound own point under_way;
-      room = λ released sale. room_own s a e q event sound.order passed own point released
-          sale;
+      room = λ released sale. room_own s a e q event sound.order passed own point.whole
+          point.room released sale;
     }
 
 -- ---- every point

@@ -148,22 +148,23 @@ unpaid_after s a (HangUp p n reading) sound taken =
     sound.unpaid
 unpaid_after s a e sound taken = sound.unpaid
 
-pub order_after : (s : SiteState) (a : Actor) (e : Event) → Sound s → (q h : ℕ)
+pub order_after : (s : SiteState) (a : Actor) (e : Event)
+    → ((q h : ℕ) → open_shift s < h → made_at q h s.sales ≡ 0) → (q h : ℕ)
     → open_shift s < h → made_at q h (sales_after s a e) ≡ 0
-order_after s (Till t) SignOff sound = λ q h later.
-    (let_go_counts t q s.sales).made h ∙ sound.order q h later
-order_after s (Till t) (Lock p id) sound = λ q h later.
-    (asked_counts requests.Lock t (key_named s p id) q s.sales).made h ∙ sound.order q h later
-order_after s (Till t) (Unlock p id) sound = λ q h later.
-    (asked_counts requests.Unlock t (key_named s p id) q s.sales).made h ∙ sound.order q h later
-order_after s (Till t) (Clear p id) sound = λ q h later.
+order_after s (Till t) SignOff order = λ q h later.
+    (let_go_counts t q s.sales).made h ∙ order q h later
+order_after s (Till t) (Lock p id) order = λ q h later.
+    (asked_counts requests.Lock t (key_named s p id) q s.sales).made h ∙ order q h later
+order_after s (Till t) (Unlock p id) order = λ q h later.
+    (asked_counts requests.Unlock t (key_named s p id) q s.sales).made h ∙ order q h later
+order_after s (Till t) (Clear p id) order = λ q h later.
     (asked_counts (requests.Clear (open_shift s)) t (key_named s p id) q s.sales).made h
-    ∙ sound.order q h later
-order_after s a (Offline p) sound =
-    order_by s s.nozzles p (step_at s (Offline p)) sound.order
-order_after s a (HangUp p n reading) sound =
-    order_by s (nozzles_after s (HangUp p n reading)) p (step_at s (HangUp p n reading)) sound.order
-order_after s a e sound = sound.order
+    ∙ order q h later
+order_after s a (Offline p) order =
+    order_by s s.nozzles p (step_at s (Offline p)) order
+order_after s a (HangUp p n reading) order =
+    order_by s (nozzles_after s (HangUp p n reading)) p (step_at s (HangUp p n reading)) order
+order_after s a e order = order
 
 pub sale_after : (s : SiteState) (a : Actor) (e : Event) → Sound s → IsTaken s e
     → Each IsSaleSound (sales_after s a e)

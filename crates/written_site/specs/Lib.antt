@@ -16,3 +16,4 @@ pub mod RowWords
 pub mod SigningLaws
 pub mod SaleWords
 pub mod LockLaws
+pub mod NumberLaws
