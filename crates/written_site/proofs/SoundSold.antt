@@ -15,7 +15,7 @@ use Rattle.fuelling_point.specs.declared.step.PointStep.TheVariants.{Sold}
 use Rattle.fuelling_point.specs.Kept.{Facts, is_under_way, growth_of}
 use Rattle.fuelling_point.specs.PointChecks.{refusal_of}
 use Rattle.fuelling_point.specs.Step.{step_of}
-use Rattle.fuelling_point.specs.Whole.{is_released}
+use Rattle.fuelling_point.specs.Whole.{IsWhole, is_released}
 use Rattle.meters.specs.Nozzles.{reading_of}
 use Rattle.transaction_buffer.specs.declared.request.Request.TheVariants as requests
 use Rattle.transaction_buffer.specs.Sales.{made_at, unpaid_at}
@@ -28,7 +28,7 @@ use Rattle.written_site.specs.Volumes.{nozzle_out, running_at}
 use Rattle.written_site.proofs.EachSale.{Each}
 use Rattle.written_site.proofs.SoundTables.{row_there}
 use Rattle.written_site.proofs.SoundMachine.{sold_from}
-use Rattle.written_site.proofs.SoundReports.{reading_own}
+use Rattle.written_site.proofs.SoundReports.{IsRead, read_of, reading_read}
 use Rattle.written_site.proofs.SoundSales.{sells, let_go_counts, asked_counts, unpaid_by, order_by, signed_off_sales, asked_sales, sales_by_step}
 
 -- ---- the event's own point
@@ -56,18 +56,26 @@ own_point s e p event sound taken own =
 
 -- what has flowed in the fuelling under way, the event's own growth with it, is what its meter has
 -- grown since the start
+pub run_read : (s : SiteState) (e : Event) (p : ℕ) (event : PointEvent) → IsRead s e
+    → own_event s e ≡ Some (p, event) → IsWhole (facts_of s p)
+    → (facts_of s p).start + (facts_of s p).volume
+    ≡ reading_of p (nozzle_out (facts_of s p)) s.nozzles
+    → is_under_way (facts_of s p).state ≡ true
+    → running_at (nozzles_after s e) p (facts_of s p) ≡ (facts_of s p).volume + growth_of event
+run_read s e p event taken own whole start under_way =
+    let f : Facts = facts_of s p in
+    let reads = reading_read s e p event taken own whole under_way in
+    let since : reading_of p (nozzle_out f) (nozzles_after s e) - f.start
+    ≡ f.volume + growth_of event =
+    omega (arith, reads, start) in
+    rw under_way since
+
 pub run_own : (s : SiteState) (e : Event) (p : ℕ) (event : PointEvent) → IsTaken s e
     → own_event s e ≡ Some (p, event) → IsPointSound s p (facts_of s p)
     → is_under_way (facts_of s p).state ≡ true
     → running_at (nozzles_after s e) p (facts_of s p) ≡ (facts_of s p).volume + growth_of event
 run_own s e p event taken own point under_way =
-    let f : Facts = facts_of s p in
-    let reads = reading_own s e p event taken own point.whole under_way in
-    let start = point.flowed under_way in
-    let since : reading_of p (nozzle_out f) (nozzles_after s e) - f.start
-    ≡ f.volume + growth_of event =
-    omega (arith, reads, start) in
-    rw under_way since
+    run_read s e p event (read_of s e taken) own point.whole (point.flowed under_way) under_way
 
 -- a step that is a sale, with its values
 pub record IsSale (step : PointStep) : Type 0 where

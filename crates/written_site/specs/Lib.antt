@@ -17,3 +17,5 @@ pub mod SigningLaws
 pub mod SaleWords
 pub mod LockLaws
 pub mod NumberLaws
+pub mod FuellingWords
+pub mod FuellingLaws
