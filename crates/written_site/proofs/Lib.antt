@@ -47,3 +47,14 @@ pub mod WorkedEnds
 pub mod WorkedChecks
 pub mod WorkedReports
 pub mod WorkedPayments
+pub mod RowWords
+pub mod SigningLaws
+pub mod PointAfter
+pub mod SlotRows
+pub mod MomentRows
+pub mod RowFacts
+pub mod ToldAnswers
+pub mod Lockers
+pub mod LockLaws
+pub mod SoldRows
+pub mod NumberLaws

@@ -50,7 +50,7 @@ noted_rows q volume (row ∷ next ∷ rows) all =
 
 -- ---- the draws after an event
 
-by_length : (s : SiteState) (nozzles : List Nozzle) (p : ℕ) (step : PointStep)
+pub by_length : (s : SiteState) (nozzles : List Nozzle) (p : ℕ) (step : PointStep)
     → length (draws_by s nozzles p step) ≡ open_shift s
 by_length s nozzles p (Drawn nozzle volume) =
     noted_length (product_out nozzles p (facts_of s p)) (running_at nozzles p (facts_of s p))

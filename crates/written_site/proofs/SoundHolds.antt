@@ -28,13 +28,13 @@ use Rattle.written_site.proofs.SoundMachine.{is_release, released_after}
 -- ---- one hold
 
 -- the hold of a point, once one is taken or ended
-taken_hold : (holds : FinMap nat_cmp ℕ) (p t q : ℕ)
+pub taken_hold : (holds : FinMap nat_cmp ℕ) (p t q : ℕ)
     → finite.get (finite.insert holds p t) q ≡ cond (q == p) (Some t) (finite.get holds q)
 taken_hold holds p t q =
     get-insert nat_cmp_total holds p t q
     ∙ ap (λ (b : Bool). cond b (Some t) (finite.get holds q)) (unsigned_tied q p)
 
-ended_hold : (holds : FinMap nat_cmp ℕ) (p q : ℕ)
+pub ended_hold : (holds : FinMap nat_cmp ℕ) (p q : ℕ)
     → finite.get (finite.remove holds p) q ≡ cond (q == p) None (finite.get holds q)
 ended_hold holds p q =
     get-remove nat_cmp_total holds p q
@@ -43,19 +43,19 @@ ended_hold holds p q =
 -- ---- what the step of a point says of its release
 
 -- a point that is released afterwards didn't end what it was released for
-goes_on_released : (event : PointEvent) (f : Facts) → is_released (after event f).state ≡ true
+pub goes_on_released : (event : PointEvent) (f : Facts) → is_released (after event f).state ≡ true
     → ends_release (step_of event f) ≡ false
 goes_on_released event f is = grind (arith, common_steps)
 
-offline_ends : (f : Facts) → refusal_of points.Offline f ≡ None
+pub offline_ends : (f : Facts) → refusal_of points.Offline f ≡ None
     → is_released (after points.Offline f).state ≡ false
 offline_ends f taken = grind (arith, common_steps)
 
-unassigned_rests : (f : Facts) → refusal_of points.Unassign f ≡ None
+pub unassigned_rests : (f : Facts) → refusal_of points.Unassign f ≡ None
     → is_released (after points.Unassign f).state ≡ false
 unassigned_rests f taken = grind (arith, common_steps)
 
-doesn't_rest : (state : PointState) → is_released state ≡ true → is_resting state ≡ false
+pub doesn't_rest : (state : PointState) → is_released state ≡ true → is_resting state ≡ false
 doesn't_rest state is = grind (arith, common_steps)
 
 -- ---- the holds after an event

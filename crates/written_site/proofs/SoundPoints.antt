@@ -28,14 +28,14 @@ use Rattle.written_site.specs.Volumes.{nozzle_out, running_at}
 use Rattle.written_site.proofs.SoundTables.{told_once, facts_there, RowAfter, kept, done, row_after}
 use Rattle.written_site.proofs.SoundMachine.{is_sale_release, out_after, sells_after, goes_on, starts}
 use Rattle.written_site.proofs.SoundMeters.{nozzle_after}
-use Rattle.written_site.proofs.SoundReports.{reading_elsewhere, reading_own}
+use Rattle.written_site.proofs.SoundReports.{IsRead, read_of, reading_elsewhere, reading_read}
 use Rattle.written_site.proofs.SoundHolds.{held_after}
 use Rattle.written_site.proofs.SoundDraws.{drawn_length}
 use Rattle.written_site.proofs.SoundSales.{sells, SellsNoMore, counts_after}
 use Rattle.written_site.proofs.SoundSold.{own_point}
 
 -- a nozzle that is lifted is one of the point's
-lifts : (s : SiteState) (e : Event) (q n : ℕ) (event : PointEvent) (old : Facts)
+pub lifts : (s : SiteState) (e : Event) (q n : ℕ) (event : PointEvent) (old : Facts)
     → numbers s e ≡ None
     → own_event s e ≡ Some (q, event) → lifted_by event old.state ≡ Some n
     → has_nozzle q n s.nozzles ≡ true
@@ -43,13 +43,13 @@ lifts s e q n event old names own is = grind (arith, common_steps)
 
 -- a fuelling that starts takes the last reading of the nozzle that is out, and today's price of its
 -- product
-start_own : (s : SiteState) (e : Event) (q : ℕ) (event : PointEvent) (old : Facts)
+pub start_own : (s : SiteState) (e : Event) (q : ℕ) (event : PointEvent) (old : Facts)
     → own_event s e ≡ Some (q, event) → facts_of s q ≡ old
     → is_under_way (after event old).state ≡ true → is_under_way old.state ≡ false
     → (after event old).start ≡ reading_at_start s q (after event old).out
 start_own s e q event old own is under_way was = grind (arith, common_steps)
 
-price_start : (s : SiteState) (e : Event) (q : ℕ) (event : PointEvent) (old : Facts)
+pub price_start : (s : SiteState) (e : Event) (q : ℕ) (event : PointEvent) (old : Facts)
     → own_event s e ≡ Some (q, event) → facts_of s q ≡ old
     → is_under_way (after event old).state ≡ true → is_under_way old.state ≡ false
     → (after event old).price ≡ price_at_start s q (after event old).out
@@ -70,11 +70,11 @@ may_sell_is s q may = record {
 -- ---- what the site's other facts say of a point
 
 -- no sale is of a shift after the open one
-abbrev NoneLater : SiteState → Type 0
+abbrev pub NoneLater : SiteState → Type 0
 NoneLater s = (q h : ℕ) → open_shift s < h → made_at q h s.sales ≡ 0
 
 -- a point keeps its room where it makes no sale; a shift that a close opens has every number left
-room_kept : (s : SiteState) (a : Actor) (e : Event) (q : ℕ) → NoneLater s
+pub room_kept : (s : SiteState) (a : Actor) (e : Event) (q : ℕ) → NoneLater s
     → SellsNoMore q s.sales (sales_after s a e) → MaySell s q → MaySell (accepted_site s a e) q
 room_kept s a e q order counts may =
     record {
@@ -106,7 +106,7 @@ nozzle_own s e q n event taken own point (inr lifted) =
     lifts s e q n event (facts_of s q) taken.names own lifted
 
 -- what a nozzle reads where a fuelling starts
-reading_at : (s : SiteState) (q : ℕ) (out : Option ℕ) → is_some out ≡ true
+pub reading_at : (s : SiteState) (q : ℕ) (out : Option ℕ) → is_some out ≡ true
     → reading_at_start s q out ≡ reading_of q (unwrap_or out 0) s.nozzles
 reading_at s q None there = cc
 reading_at s q (Some n) there = refl
@@ -116,19 +116,22 @@ pub out_under_way : (state : PointState) → is_under_way state ≡ true → has
 out_under_way state is = grind (arith, common_steps)
 
 -- no meter moves where a fuelling starts
-started_still : (s : SiteState) (e : Event) (q : ℕ) (event : PointEvent)
+pub started_still : (s : SiteState) (e : Event) (q : ℕ) (event : PointEvent)
     → own_event s e ≡ Some (q, event) → is_under_way (after event (facts_of s q)).state ≡ true
     → is_under_way (facts_of s q).state ≡ false → nozzles_after s e ≡ s.nozzles
 started_still s e q event own under_way was = grind (arith, common_steps)
 
 -- the volume since the start is what the meter has grown
-flowed_own : (s : SiteState) (e : Event) (q : ℕ) (event : PointEvent) → IsTaken s e
-    → own_event s e ≡ Some (q, event) → IsPointSound s q (facts_of s q)
+pub flowed_read : (s : SiteState) (e : Event) (q : ℕ) (event : PointEvent) → IsRead s e
+    → own_event s e ≡ Some (q, event) → IsWhole (facts_of s q)
+    → (is_under_way (facts_of s q).state ≡ true
+    → (facts_of s q).start + (facts_of s q).volume
+    ≡ reading_of q (nozzle_out (facts_of s q)) s.nozzles)
     → IsWhole (after event (facts_of s q))
     → is_under_way (after event (facts_of s q)).state ≡ true
     → (after event (facts_of s q)).start + (after event (facts_of s q)).volume
     ≡ reading_of q (nozzle_out (after event (facts_of s q))) (nozzles_after s e)
-flowed_own s e q event taken own point whole under_way =
+flowed_read s e q event taken own was_whole flowed whole under_way =
     by_test (is_under_way (facts_of s q).state) refl
   where
     by_test : (b : Bool) → is_under_way (facts_of s q).state ≡ b
@@ -136,8 +139,8 @@ flowed_own s e q event taken own point whole under_way =
         ≡ reading_of q (nozzle_out (after event (facts_of s q))) (nozzles_after s e)
     by_test true was =
         let on = goes_on event (facts_of s q) under_way was in
-        let reads = reading_own s e q event taken own point.whole was in
-        let start = point.flowed was in
+        let reads = reading_read s e q event taken own was_whole was in
+        let start = flowed was in
         rw (on.start, on.volume, on.out) (omega (arith, reads, start))
     by_test false was =
         let new : Facts = after event (facts_of s q) in
@@ -212,11 +215,12 @@ one_event s e q event other own again =
     ap (λ (x : ℕ × PointEvent). x.1) (told_once (q, event) (q, other) (sym own ∙ again))
 
 -- a point that is released for a sale may make one
-room_own : (s : SiteState) (a : Actor) (e : Event) (q : ℕ) (event : PointEvent) → NoneLater s
-    → Passed s a e → own_event s e ≡ Some (q, event) → IsPointSound s q (facts_of s q)
+pub room_own : (s : SiteState) (a : Actor) (e : Event) (q : ℕ) (event : PointEvent) → NoneLater s
+    → Passed s a e → own_event s e ≡ Some (q, event) → IsWhole (facts_of s q)
+    → (is_released (facts_of s q).state ≡ true → (facts_of s q).test ≡ false → MaySell s q)
     → is_released (after event (facts_of s q)).state ≡ true
     → (after event (facts_of s q)).test ≡ false → MaySell (accepted_site s a e) q
-room_own s a e q event order passed own point released sale =
+room_own s a e q event order passed own whole room released sale =
     room_kept s a e q order counts (by_test (is_sale_release event) refl)
   where
     counts : SellsNoMore q s.sales (sales_after s a e)
@@ -228,8 +232,8 @@ room_own s a e q event order passed own point released sale =
     by_test : (b : Bool) → is_sale_release event ≡ b → MaySell s q
     by_test true is = may_sell_is s q (may_own s e q event own passed.sells is)
     by_test false other =
-        let was = sells_after event (facts_of s q) point.whole other released sale in
-        point.room was.0 was.1
+        let was = sells_after event (facts_of s q) whole other released sale in
+        room was.0 was.1
 
 -- ---- a point that the event isn't of
 
@@ -267,10 +271,11 @@ done_point s a e q event sound passed taken own held =
       nozzle = λ n out. nozzle_after s e q n
           ∙ nozzle_own s e q n event taken own point (out_after event old n out);
       held = held;
-      flowed = λ under_way. flowed_own s e q event taken own point whole under_way;
+      flowed = λ under_way. flowed_read s e q event (read_of s e taken) own point.whole point.flowed whole
+          under_way;
       price = λ under_way. price_own s e q event sound own point under_way;
-      room = λ released sale. room_own s a e q event sound.order passed own point released
-          sale;
+      room = λ released sale. room_own s a e q event sound.order passed own point.whole
+          point.room released sale;
     }
 
 -- ---- every point
@@ -319,4 +324,4 @@ run_after s e sound taken q f is = by_row (row_after s.points (own_event s e) q 
         ap (after event) (facts_there s.points q old row) ∙ sym made in
         subst (λ (g : Facts). running_at (nozzles_after s e) q g ≡ volume_of g) facts
         (run_is_volume (nozzles_after s e) q (after event (facts_of s q))
-        (flowed_own s e q event taken own own_is.sound whole))
+        (flowed_read s e q event (read_of s e taken) own own_is.sound.whole own_is.sound.flowed whole))

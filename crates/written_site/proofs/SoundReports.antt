@@ -16,7 +16,7 @@ use Rattle.meters.proofs.Bounded.{reads, replaces}
 use Rattle.meters.proofs.Looked.{length-with_nozzle, read_there}
 use Rattle.meters.proofs.Weighed.{accepted_above}
 use Rattle.written_site.specs.SiteState.{SiteState, facts_of}
-use Rattle.written_site.specs.SiteChecks.{own_event, numbers, metering, flowed, put_back_at}
+use Rattle.written_site.specs.SiteChecks.{own_event, numbers, at_point, metering, flowed, put_back_at}
 use Rattle.written_site.specs.SiteStep.{nozzles_after}
 use Rattle.written_site.specs.SoundSteps.{IsTaken, growth_at, growth_by}
 use Rattle.written_site.specs.Volumes.{nozzle_out}
@@ -61,15 +61,24 @@ grown s p n reading there above =
     reading_taken p n reading s.nozzles there in
     omega arith
 
+-- the event names what is there, its point takes it, and its meter agrees
+pub record IsRead (s : SiteState) (e : Event) : Type 0 where
+  pub names : numbers s e ≡ None
+  pub takes : at_point s e ≡ None
+  pub reads : metering s e ≡ None
+
+pub read_of : (s : SiteState) (e : Event) → IsTaken s e → IsRead s e
+read_of s e taken = record { names = taken.names; takes = taken.takes; reads = taken.reads }
+
 -- a report's nozzle reads what flowed above what it read
-pub flow_grows : (s : SiteState) (p n reading : ℕ) → IsTaken s (Flow p n reading)
+pub flow_grows : (s : SiteState) (p n reading : ℕ) → IsRead s (Flow p n reading)
     → reading_of p n (with_last p n reading s.nozzles)
     ≡ reading_of p n s.nozzles + flowed s p n reading
 flow_grows s p n reading taken =
     grown s p n reading (flow_nozzle s p n reading taken.names)
     (accepted_above Growing (reading_of p n s.nozzles) reading taken.reads)
 
-pub hung_up_grows : (s : SiteState) (p n reading : ℕ) → IsTaken s (HangUp p n reading)
+pub hung_up_grows : (s : SiteState) (p n reading : ℕ) → IsRead s (HangUp p n reading)
     → reading_of p n (with_last p n reading s.nozzles)
     ≡ reading_of p n s.nozzles + flowed s p n reading
 hung_up_grows s p n reading taken =
@@ -121,7 +130,7 @@ replaced_at_rest : (f : Facts) → refusal_of points.ReplaceMeter f ≡ None
     → is_under_way f.state ≡ true → ⊥
 replaced_at_rest f taken under_way = grind (arith, common_steps)
 
-reads_own : (s : SiteState) (e : Event) → IsTaken s e
+reads_own : (s : SiteState) (e : Event) → IsRead s e
     → ReadsOwn s (nozzles_after s e) (own_event s e)
 reads_own s (Flow p n reading) taken = λ w under_way.
     let out : nozzle_out (facts_of s p) ≡ n =
@@ -147,13 +156,20 @@ reads_own s ReadSite taken = tt
 reads_own s e taken = λ w under_way. none_flows _
 
 -- the fuelling under way at the event's point: its nozzle reads what flowed above what it read
+pub reading_read : (s : SiteState) (e : Event) (q : ℕ) (event : PointEvent) → IsRead s e
+    → own_event s e ≡ Some (q, event) → IsWhole (facts_of s q)
+    → is_under_way (facts_of s q).state ≡ true
+    → reading_of q (nozzle_out (facts_of s q)) (nozzles_after s e)
+    ≡ reading_of q (nozzle_out (facts_of s q)) s.nozzles + growth_of event
+reading_read s e q event taken own =
+    subst (ReadsOwn s (nozzles_after s e)) own (reads_own s e taken)
+
 pub reading_own : (s : SiteState) (e : Event) (q : ℕ) (event : PointEvent) → IsTaken s e
     → own_event s e ≡ Some (q, event) → IsWhole (facts_of s q)
     → is_under_way (facts_of s q).state ≡ true
     → reading_of q (nozzle_out (facts_of s q)) (nozzles_after s e)
     ≡ reading_of q (nozzle_out (facts_of s q)) s.nozzles + growth_of event
-reading_own s e q event taken own =
-    subst (ReadsOwn s (nozzles_after s e)) own (reads_own s e taken)
+reading_own s e q event taken own = reading_read s e q event (read_of s e taken) own
 
 -- ---- the nozzles after an event are such as a site has
 

@@ -15,7 +15,7 @@ use Rattle.fuelling_point.specs.declared.step.PointStep.TheVariants.{Sold}
 use Rattle.fuelling_point.specs.Kept.{Facts, is_under_way, growth_of}
 use Rattle.fuelling_point.specs.PointChecks.{refusal_of}
 use Rattle.fuelling_point.specs.Step.{step_of}
-use Rattle.fuelling_point.specs.Whole.{is_released}
+use Rattle.fuelling_point.specs.Whole.{IsWhole, is_released}
 use Rattle.meters.specs.Nozzles.{reading_of}
 use Rattle.transaction_buffer.specs.declared.request.Request.TheVariants as requests
 use Rattle.transaction_buffer.specs.Sales.{made_at, unpaid_at}
@@ -28,12 +28,12 @@ use Rattle.written_site.specs.Volumes.{nozzle_out, running_at}
 use Rattle.written_site.proofs.EachSale.{Each}
 use Rattle.written_site.proofs.SoundTables.{row_there}
 use Rattle.written_site.proofs.SoundMachine.{sold_from}
-use Rattle.written_site.proofs.SoundReports.{reading_own}
+use Rattle.written_site.proofs.SoundReports.{IsRead, read_of, reading_read}
 use Rattle.written_site.proofs.SoundSales.{sells, let_go_counts, asked_counts, unpaid_by, order_by, signed_off_sales, asked_sales, sales_by_step}
 
 -- ---- the event's own point
 
-own_there : (s : SiteState) (e : Event) (p : ℕ) (event : PointEvent) → numbers s e ≡ None
+pub own_there : (s : SiteState) (e : Event) (p : ℕ) (event : PointEvent) → numbers s e ≡ None
     → own_event s e ≡ Some (p, event) → has_point s p ≡ true
 own_there s e p event names own = grind (arith, common_steps)
 
@@ -56,18 +56,26 @@ own_point s e p event sound taken own =
 
 -- what has flowed in the fuelling under way, the event's own growth with it, is what its meter has
 -- grown since the start
+pub run_read : (s : SiteState) (e : Event) (p : ℕ) (event : PointEvent) → IsRead s e
+    → own_event s e ≡ Some (p, event) → IsWhole (facts_of s p)
+    → (facts_of s p).start + (facts_of s p).volume
+    ≡ reading_of p (nozzle_out (facts_of s p)) s.nozzles
+    → is_under_way (facts_of s p).state ≡ true
+    → running_at (nozzles_after s e) p (facts_of s p) ≡ (facts_of s p).volume + growth_of event
+run_read s e p event taken own whole start under_way =
+    let f : Facts = facts_of s p in
+    let reads = reading_read s e p event taken own whole under_way in
+    let since : reading_of p (nozzle_out f) (nozzles_after s e) - f.start
+    ≡ f.volume + growth_of event =
+    omega (arith, reads, start) in
+    rw under_way since
+
 pub run_own : (s : SiteState) (e : Event) (p : ℕ) (event : PointEvent) → IsTaken s e
     → own_event s e ≡ Some (p, event) → IsPointSound s p (facts_of s p)
     → is_under_way (facts_of s p).state ≡ true
     → running_at (nozzles_after s e) p (facts_of s p) ≡ (facts_of s p).volume + growth_of event
 run_own s e p event taken own point under_way =
-    let f : Facts = facts_of s p in
-    let reads = reading_own s e p event taken own point.whole under_way in
-    let start = point.flowed under_way in
-    let since : reading_of p (nozzle_out f) (nozzles_after s e) - f.start
-    ≡ f.volume + growth_of event =
-    omega (arith, reads, start) in
-    rw under_way since
+    run_read s e p event (read_of s e taken) own point.whole (point.flowed under_way) under_way
 
 -- a step that is a sale, with its values
 pub record IsSale (step : PointStep) : Type 0 where
@@ -148,22 +156,23 @@ unpaid_after s a (HangUp p n reading) sound taken =
     sound.unpaid
 unpaid_after s a e sound taken = sound.unpaid
 
-pub order_after : (s : SiteState) (a : Actor) (e : Event) → Sound s → (q h : ℕ)
+pub order_after : (s : SiteState) (a : Actor) (e : Event)
+    → ((q h : ℕ) → open_shift s < h → made_at q h s.sales ≡ 0) → (q h : ℕ)
     → open_shift s < h → made_at q h (sales_after s a e) ≡ 0
-order_after s (Till t) SignOff sound = λ q h later.
-    (let_go_counts t q s.sales).made h ∙ sound.order q h later
-order_after s (Till t) (Lock p id) sound = λ q h later.
-    (asked_counts requests.Lock t (key_named s p id) q s.sales).made h ∙ sound.order q h later
-order_after s (Till t) (Unlock p id) sound = λ q h later.
-    (asked_counts requests.Unlock t (key_named s p id) q s.sales).made h ∙ sound.order q h later
-order_after s (Till t) (Clear p id) sound = λ q h later.
+order_after s (Till t) SignOff order = λ q h later.
+    (let_go_counts t q s.sales).made h ∙ order q h later
+order_after s (Till t) (Lock p id) order = λ q h later.
+    (asked_counts requests.Lock t (key_named s p id) q s.sales).made h ∙ order q h later
+order_after s (Till t) (Unlock p id) order = λ q h later.
+    (asked_counts requests.Unlock t (key_named s p id) q s.sales).made h ∙ order q h later
+order_after s (Till t) (Clear p id) order = λ q h later.
     (asked_counts (requests.Clear (open_shift s)) t (key_named s p id) q s.sales).made h
-    ∙ sound.order q h later
-order_after s a (Offline p) sound =
-    order_by s s.nozzles p (step_at s (Offline p)) sound.order
-order_after s a (HangUp p n reading) sound =
-    order_by s (nozzles_after s (HangUp p n reading)) p (step_at s (HangUp p n reading)) sound.order
-order_after s a e sound = sound.order
+    ∙ order q h later
+order_after s a (Offline p) order =
+    order_by s s.nozzles p (step_at s (Offline p)) order
+order_after s a (HangUp p n reading) order =
+    order_by s (nozzles_after s (HangUp p n reading)) p (step_at s (HangUp p n reading)) order
+order_after s a e order = order
 
 pub sale_after : (s : SiteState) (a : Actor) (e : Event) → Sound s → IsTaken s e
     → Each IsSaleSound (sales_after s a e)

@@ -12,3 +12,10 @@ pub mod Sound
 pub mod SoundSteps
 pub mod FigureSteps
 pub mod SoundRuns
+pub mod RowWords
+pub mod SigningLaws
+pub mod SaleWords
+pub mod LockLaws
+pub mod NumberLaws
+pub mod FuellingWords
+pub mod FuellingLaws

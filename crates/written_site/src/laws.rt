@@ -1,5 +1,13 @@
 //! What is true of the written site. The laws have no code: each is proved of the definitions.
 
+mod numbering;
+mod paying;
+mod signing;
+
+pub use numbering::sales_are_numbered;
+pub use paying::{cleared_once, locked_by_one};
+pub use signing::{shift_by_rows, signed_on_by_rows};
+
 ghost use Rattle.written_site.specs.Bridge.{AreLegalHistoriesRuns};
 ghost use Rattle.written_site.specs.FigureSteps.{DoFiguresFit, DoFiguresMove};
 ghost use Rattle.written_site.specs.Holders.{IsHeldByOne, AreUnendedTakes, AreBooksHeldByOne};
