@@ -1,6 +1,5 @@
 pub mod Bytes
 pub mod Hexadecimal
-pub mod Books
 pub mod Lines
 pub mod WholeTexts
 pub mod Running

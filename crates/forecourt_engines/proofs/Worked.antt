@@ -11,7 +11,7 @@ use Rattle.device_map.specs.Nodes.{for_us, till_at}
 use Rattle.device_map.specs.Replies.{number_message}
 use Rattle.device_map.specs.Requests.{command_in, request_at}
 use Rattle.forecourt_engines.specs.Answers.{answer_to, book_after}
-use Rattle.forecourt_engines.specs.Book.{Book, is_full}
+use Rattle.site_book.specs.Book.{Book, is_full}
 
 -- till t signed on
 abbrev signed_on : ℕ → Row

@@ -13,7 +13,7 @@ use Rattle.device_map.specs.Changes.{change_of}
 use Rattle.device_map.specs.Faults.{map_number}
 use Rattle.device_map.specs.Requests.{request_at}
 use Rattle.device_map.specs.Replies.{reply_message, number_message}
-use Rattle.forecourt_engines.specs.Book.{Book, is_full, book_reply, next_row, with_row_of}
+use Rattle.site_book.specs.Book.{Book, is_full, book_reply, next_row, with_row_of}
 
 -- the answer to a request that means this: the mapping's fault, a full book, or the reply
 abbrev pub answer_meaning : Book → Telegram → Result (Actor × Event) MapFault → Telegram

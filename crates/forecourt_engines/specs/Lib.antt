@@ -1,4 +1,3 @@
-pub mod Book
 pub mod Sites
 pub mod Answers
 pub mod Text

@@ -6,7 +6,7 @@ use Rattle.forecourt_engines.specs.declared.fault.TextFault.{TextFault}
 use Rattle.forecourt_engines.specs.declared.fault.ReplayFault.{ReplayFault}
 use Rattle.forecourt_engines.specs.declared.fault.ReplayFault.TheVariants as faults
 use Rattle.forecourt_engines.specs.declared.replay.TheConstants.{PIECE_OCTETS}
-use Rattle.forecourt_engines.specs.Book.{Book}
+use Rattle.site_book.specs.Book.{Book}
 use Rattle.forecourt_engines.specs.Text.{State, after, text_of, fault_of, book_of}
 
 -- it ended for want of memory, at its turn limit, or because a device failed

@@ -9,7 +9,7 @@ use Rattle.device_map.specs.Replies.{fault_message}
 use Rattle.forecourt_engines.specs.declared.fault.TextFault.{TextFault}
 use Rattle.forecourt_engines.specs.declared.fault.TextFault.TheVariants as faults
 use Rattle.forecourt_engines.specs.declared.line.TheConstants.{LINE_OCTETS}
-use Rattle.forecourt_engines.specs.Book.{Book}
+use Rattle.site_book.specs.Book.{Book}
 use Rattle.forecourt_engines.specs.Answers.{Answerer, answers_to, after_messages, line_of}
 
 -- between two octets of the input: the line so far and its number, the octets of a message to come, the

@@ -7,7 +7,6 @@
 #![tactic(auto)]
 
 mod answers;
-mod book;
 mod engine;
 pub mod explain;
 mod fault;
@@ -18,7 +17,7 @@ mod sites;
 mod sizes;
 mod trace;
 
-pub use book::SiteBook;
+pub use site_book::SiteBook;
 pub use fault::{ReplayFault, TextFault};
 pub use laws::{
     a_last_line_says, a_line_says, a_long_line_says, nothing_follows, one_stream_of_lines,

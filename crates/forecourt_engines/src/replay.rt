@@ -8,7 +8,7 @@ ghost use Rattle.site_base.specs.Devices.{Rose};
 ghost use Rattle.forecourt_engines.specs.Text.{start};
 ghost use Rattle.forecourt_engines.specs.Replay.{Replayed};
 
-use crate::book::SiteBook;
+use site_book::SiteBook;
 use crate::engine::Engine;
 use crate::fault::ReplayFault;
 use site_base::{Counted, ReadFault, SiteConfig, WriteFault, read_piece, write_whole};

@@ -1,14 +1,18 @@
 -- The book: a configuration and the rows of its history.
-use Rattle.std.specs.Prelude.{◌≡◌, Bool, List, [], ◌∷◌, ◌++◌, length, nat_le, Result}
+use Rattle.std.specs.Prelude.{◌≡◌, ℕ, ◌+◌, ◌≤◌, Bool, List, [], ◌∷◌, ◌++◌, length, nat_le, Result}
+use Rattle.std.specs.List.{AllByRecursion}
 use Rattle.site_base.specs.declared.actor.Actor.{Actor}
 use Rattle.site_base.specs.declared.answer.Answer.{Answer}
 use Rattle.site_base.specs.declared.event.Event.{Event}
+use Rattle.site_base.specs.declared.limits.TheConstants.{TILLS}
 use Rattle.site_base.specs.declared.refusal.Refusal.{Refusal}
 use Rattle.site_base.specs.declared.row.Row.{Row}
 use Rattle.site_base.specs.Configured.{Configured}
 use Rattle.written_site.specs.SiteState.{SiteState, opening}
 use Rattle.written_site.specs.SiteStep.{reply_to}
 use Rattle.written_site.specs.SiteRun.{site_of_rows, IsLegal}
+use Rattle.written_site.specs.Sound.{InRange}
+use Rattle.site_book.specs.Signed.{AreTills, tills_on}
 
 -- a configuration, and the rows so far
 pub record Book : Type 0 where
@@ -22,7 +26,7 @@ site_at config rows = site_of_rows (opening config) rows
 abbrev pub site_of_book : Book → SiteState
 site_of_book b = site_at b.config b.rows
 
--- as many rows as the configuration allows
+-- as many rows as the configuration allows, or more
 abbrev pub is_full : Book → Bool
 is_full b = nat_le b.config.rows (length b.rows)
 
@@ -38,7 +42,18 @@ next_row b actor event = record { actor = actor; event = event; reply = book_rep
 abbrev pub with_row_of : Book → Actor → Event → Book
 with_row_of b actor event = record b { rows = b.rows ++ next_row b actor event ∷ [] }
 
--- the site is the site of the rows, and the rows are a legal history
-pub record IsBook (config : Configured) (rows : List Row) (site : SiteState) : Type 0 where
+-- each reading that these rows carry is one that a meter can show
+abbrev pub AreRowsInRange : List Row → Type 0
+AreRowsInRange rows = AllByRecursion (λ r. InRange r.event) rows
+
+-- What the book always keeps: the site is that of the rows, and the rows are a legal history whose readings
+-- are in range. Room for one row more is reserved for each till that is signed on, and with these
+-- there are at most as many rows as the configuration allows and one for each till that may be.
+pub record IsBook (config : Configured) (rows : List Row) (site : SiteState) (count room : ℕ) : Type 0 where
   pub leads : site ≡ site_at config rows
   pub legal : IsLegal (opening config) rows
+  pub ranges : AreRowsInRange rows
+  pub tills : AreTills site
+  pub counted : count ≡ tills_on site
+  pub reserved : count ≤ room
+  pub few : length rows + count ≤ config.rows + TILLS

@@ -1,0 +1,79 @@
+-- A book with one more row.
+use Rattle.std.proofs.Common.{◌≡◌, ℕ, ◌+◌, ◌<◌, ◌≤◌, true, false, List, [], ◌∷◌, ◌++◌, length, length-append, Result, Ok, Err, ap, sym, subst, ◌∙◌, arith}
+use Rattle.std.proofs.lemmas.Bool.{false≢true}
+use Rattle.std.specs.Ordering.{nat_cmp}
+use Rattle.std.specs.FinSet as set
+use Rattle.site_base.specs.declared.actor.Actor.{Actor}
+use Rattle.site_base.specs.declared.answer.Answer.{Answer}
+use Rattle.site_base.specs.declared.event.Event.{Event}
+use Rattle.site_base.specs.declared.event.Event.TheVariants.{SignOn, SignOff}
+use Rattle.site_base.specs.declared.limits.TheConstants.{TILLS}
+use Rattle.site_base.specs.declared.refusal.Refusal.{Refusal}
+use Rattle.site_base.specs.declared.row.Row.{Row}
+use Rattle.site_base.specs.Configured.{Configured}
+use Rattle.written_site.specs.SiteState.{SiteState, is_signed_on, opening}
+use Rattle.written_site.specs.SiteStep.{Steps, reply_to, site_after}
+use Rattle.written_site.specs.Sound.{InRange}
+use Rattle.written_site.proofs.Histories.{site_of_rows-push, IsLegal-push}
+use Rattle.site_book.specs.Book.{AreRowsInRange, IsBook, site_at}
+use Rattle.site_book.specs.Signed.{AreTills, IsTillActor, tills_after, tills_on}
+use Rattle.site_book.proofs.Signed.{counted_row, no_more, tills_row}
+
+-- readings in range, of one row more
+ranges-push : (rows : List Row) (r : Row) → AreRowsInRange rows → InRange r.event
+    → AreRowsInRange (rows ++ r ∷ [])
+ranges-push [] r all one = (one, tt)
+ranges-push (x ∷ xs) r all one = (all.0, ranges-push xs r all.1 one)
+
+-- at most one till more is signed on
+pub tills_after-most : (e : Event) (reply : Result Answer Refusal) (on : ℕ)
+    → tills_after e reply on ≤ on + 1
+tills_after-most SignOn (Ok answer) on = omega arith
+tills_after-most SignOff (Ok answer) on = omega arith
+tills_after-most e reply on = omega arith
+
+-- the book's row of a step
+pub IsBook-push : (config : Configured) (rows : List Row) (site new : SiteState) (on room left : ℕ) (r : Row)
+    → IsBook config rows site on room → Steps site r.actor r.event new r.reply
+    → InRange r.event → IsTillActor r.actor
+    → tills_after r.event r.reply on ≤ left
+    → ((most : tills_after r.event r.reply on ≤ TILLS)
+    → length rows + 1 + tills_after r.event r.reply on ≤ config.rows + TILLS)
+    → IsBook config (rows ++ r ∷ []) new (tills_after r.event r.reply on) left
+IsBook-push config rows site new on room left r book steps range actor reserved few =
+    let counted : tills_after r.event r.reply on ≡ tills_on new =
+    ap (tills_after r.event r.reply) book.counted
+    ∙ sym (counted_row site r steps.replies)
+    ∙ ap tills_on (sym steps.leads) in
+    let tills = subst (λ s. AreTills s) (sym steps.leads) (tills_row site r steps.replies actor book.tills) in
+    let most : tills_after r.event r.reply on ≤ TILLS = subst (λ n. n ≤ TILLS) (sym counted) (no_more TILLS new.signed_on tills) in
+    record {
+      leads =
+          steps.leads
+          ∙ ap (λ (s : SiteState). site_after s r.actor r.event) book.leads
+          ∙ sym (site_of_rows-push (opening config) rows r);
+      legal =
+          IsLegal-push (opening config) rows r book.legal
+          (steps.replies ∙ ap (λ (s : SiteState). reply_to s r.actor r.event) book.leads);
+      ranges = ranges-push rows r book.ranges range;
+      tills = tills;
+      counted = counted;
+      reserved = reserved;
+      few = subst (λ n. n + tills_after r.event r.reply on ≤ config.rows + TILLS) (sym (length-append rows (r ∷ []))) (few most);
+    }
+
+-- the book of an opening site
+pub opens : (config : Configured) (site : SiteState) (room : ℕ) → site ≡ opening config
+    → IsBook config [] site 0 room
+opens config site room is = record {
+  leads = is;
+  legal = tt;
+  ranges = tt;
+  tills = λ t on. absurd (false≢true (sym (nobody t) ∙ on));
+  counted = sym (ap tills_on is ∙ set.len-empty nat_cmp);
+  reserved = omega arith;
+  few = omega arith;
+}
+  where
+    nobody : (t : ℕ) → is_signed_on site t ≡ false
+    nobody t = ap (λ s. is_signed_on s t) is ∙ set.contains-empty nat_cmp t

@@ -1,0 +1,180 @@
+//! The book: its rows and its site, and how a row is added.
+
+ghost use Rattle.std.specs.Prelude.{◌≡◌, ◌+◌, ◌<◌, ◌≤◌, [], ◌∷◌, ◌++◌, length, slice_get, true, false, Ok, IfOk, IfSome, OnOk, OnErr, OnSome, IsErrOf, is_some};
+ghost use Rattle.site_base.specs.declared.limits.TheConstants.{TILLS};
+ghost use Rattle.site_core.specs.Shown.{HasRoom};
+ghost use Rattle.written_site.specs.SiteRun.{IsLegal};
+ghost use Rattle.written_site.specs.SiteState.{is_signed_on, opening, point_shown};
+ghost use Rattle.written_site.specs.SiteStep.{Steps};
+ghost use Rattle.written_site.specs.Sound.{InRange};
+ghost use Rattle.site_book.specs.Signed.{IsTillActor};
+ghost use Rattle.site_book.specs.Book.{AreRowsInRange, book_reply, is_full, site_of_book, with_row_of};
+
+use crate::tills::tills_after;
+use site_base::{
+    Actor, Answer, Event, FpNo, NoMemory, NoRow, Placed, PointView, Row, Rows, SiteConfig, TillNo,
+};
+use site_core::Site;
+use std::alloc::Global;
+use std::marker::Model;
+
+/// The history of a site, and the site that its rows lead to from the opening site. The rows are a
+/// legal history: each reply is the written step's.
+#[derive(Drop)]
+pub struct SiteBook {
+    pub(crate) config: SiteConfig,
+    pub(crate) site: Site,
+    pub(crate) rows: Rows,
+    // How many tills are signed on. A row is reserved for the sign-off of each.
+    on: usize,
+}
+
+impl Model for SiteBook {
+    ghost use Rattle.site_book.specs.Book.{Book, IsBook};
+
+    ghost Value = { Book };
+
+    ghost view = { λ b. record { config = b.config; rows = b.rows.rows } };
+
+    ghost invariant = { λ b. IsBook b.config b.rows.rows b.site.site b.on b.rows.room };
+}
+
+impl SiteBook {
+    /// The book of the opening site of this configuration, without rows.
+    pub fn try_open(alloc: Global, config: &SiteConfig) -> Result<SiteBook, NoMemory>
+        ensures { IfOk result (λ b. b ≡ record { config = config.now; rows = [] }) }
+    {
+        let site = Site::try_open(alloc, config)?;
+        let config = config.copy(alloc)?;
+        Ok(SiteBook {
+            config,
+            site,
+            rows: Rows::new(alloc),
+            on: 0,
+        })
+    }
+
+    /// One event of one actor, as one row. `BookFull` comes exactly where the book has as many rows as
+    /// its configuration allows, then `NoMemory` where a growth is refused; neither makes a row or
+    /// changes the site. Else the row has the written step's reply, and is answered with its place.
+    /// A SignOn that is accepted reserves the row of the till's sign-off.
+    pub fn apply(&mut self, actor: Actor, event: Event) -> Result<Placed, NoRow>
+        ensures row { OnOk result (self.new ≡ with_row_of self.old actor event) }
+        ensures reply { IfOk result (λ placed. placed.reply ≡ book_reply self.old actor event) }
+        ensures place { IfOk result (λ placed. placed.place ≡ length self.old.rows) }
+        ensures room { OnOk result (is_full self.old ≡ false) }
+        ensures full { IsErrOf result NoRow.BookFull → is_full self.old ≡ true }
+        ensures told_full { is_full self.old ≡ true → IsErrOf result NoRow.BookFull }
+        ensures err { OnErr result (self.new ≡ self.old) }
+    {
+        if self.rows.len() >= self.config.rows() as usize {
+            return Err(NoRow::BookFull);
+        }
+        // What can fail comes first: the rows of this event and of each sign-off, then the room of the step.
+        self.rows.reserve(self.on + 2)?;
+        self.site.prepare(actor, &event)?;
+        let placed = add_row(&mut self.site, &mut self.rows, &actor, &event);
+        self.on = tills_after(&event, &placed.reply, self.on);
+        Ok(placed)
+    }
+
+    /// Signs off a till, as one row, on a full book too. None where the till isn't signed on, and
+    /// then there is no row. It takes no memory.
+    pub fn sign_off(&mut self, t: TillNo) -> Option<Placed>
+        ensures row { OnSome result (self.new ≡ with_row_of self.old (Actor.Till t) Event.SignOff) }
+        ensures reply { IfSome result (λ placed. placed.reply ≡ Ok Answer.Done) }
+        ensures place { IfSome result (λ placed. placed.place ≡ length self.old.rows) }
+        ensures signed_on { is_some result ≡ is_signed_on (site_of_book self.old) t }
+        ensures none { is_some result ≡ false → self.new ≡ self.old }
+    {
+        if !self.site.signed_on(t) {
+            return None;
+        }
+        let placed = add_sign_off(&mut self.site, &mut self.rows, &t);
+        self.on = tills_after(&Event::SignOff, &placed.reply, self.on);
+        Some(placed)
+    }
+
+    /// How many rows there are: as many as the configuration allows, and one more for each till that is
+    /// signed off beyond. They are a legal history of the configuration's site.
+    pub fn len(&self) -> u64
+        ensures rows { result ≡ length self.now.rows }
+        ensures legal { IsLegal (opening self.now.config) self.now.rows }
+        ensures few { length self.now.rows ≤ self.now.config.rows + TILLS }
+        ensures ranges { AreRowsInRange self.now.rows }
+    {
+        self.rows.len() as u64
+    }
+
+    /// The row at a place, counted from 0.
+    pub fn row(&self, place: u64) -> Option<Row>
+        ensures { result ≡ slice_get self.now.rows place }
+    {
+        self.rows.get(place as usize)
+    }
+
+    /// The point as a read shows it. None where the site has no such point.
+    pub fn point(&self, p: FpNo) -> Option<PointView>
+        ensures { result ≡ point_shown (site_of_book self.now) p }
+    {
+        self.site.point(p)
+    }
+}
+
+/// Takes the written step, and adds its row. Room for both was made; it takes no memory.
+fn add_row(site: &mut Site, rows: &mut Rows, actor: &Actor, event: &Event) -> Placed
+    requires step { HasRoom site.old.room event.now }
+    requires row { 0 < rows.old.room }
+    ensures step { Steps site.old.site actor.now event.now site.new.site result.reply }
+    ensures rows { rows.new.rows
+        ≡ rows.old.rows ++ record { actor = actor.now; event = event.now; reply = result.reply } ∷ [] }
+    ensures room { rows.new.room + 1 ≡ rows.old.room }
+    ensures place { result.place ≡ length rows.old.rows }
+    ensures range { InRange event.now }
+    ensures till { IsTillActor actor.now }
+{
+    // The ranges of the numbers that the event and its actor carry.
+    let _ = event.reading();
+    if let Actor::Till(t) = actor {
+        let _ = t.get();
+    }
+    let place = rows.len() as u64;
+    let reply = &site.step(*actor, *event);
+    let row = &Row {
+        actor: *actor,
+        event: *event,
+        reply: *reply,
+    };
+    rows.push(*row);
+    Placed {
+        place,
+        reply: row.reply,
+    }
+}
+
+/// Signs off a till that is signed on, and adds the row. Room for it was made; it takes no memory.
+fn add_sign_off(site: &mut Site, rows: &mut Rows, t: &TillNo) -> Placed
+    requires on { is_signed_on site.old.site t.now ≡ true }
+    requires row { 0 < rows.old.room }
+    ensures step { Steps site.old.site (Actor.Till t.now) Event.SignOff site.new.site result.reply }
+    ensures rows { rows.new.rows ≡ rows.old.rows
+        ++ record { actor = Actor.Till t.now; event = Event.SignOff; reply = result.reply } ∷ [] }
+    ensures room { rows.new.room + 1 ≡ rows.old.room }
+    ensures place { result.place ≡ length rows.old.rows }
+    ensures reply { result.reply ≡ Ok Answer.Done }
+    ensures till { (1 ≤ t.now) × (t.now ≤ TILLS) }
+{
+    let _ = t.get();
+    let place = rows.len() as u64;
+    site.sign_off(*t);
+    let signing_off = &Row {
+        actor: Actor::Till(*t),
+        event: Event::SignOff,
+        reply: Ok(Answer::Done),
+    };
+    rows.push(*signing_off);
+    Placed {
+        place,
+        reply: signing_off.reply,
+    }
+}

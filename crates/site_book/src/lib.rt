@@ -1,0 +1,10 @@
+//! The book of a site: its history, row by row, with the site that the rows lead to. An auditor replays it
+//! and counts every figure anew; the counter desk will hold it under its lock.
+#![tactic(auto)]
+
+mod book;
+mod changes;
+mod figures;
+mod tills;
+
+pub use book::SiteBook;
