@@ -4,6 +4,7 @@ ghost use Rattle.std.specs.Prelude.{◌≡◌, ◌≢◌, ℕ, ◌+◌, ◌^◌,
 ghost use Rattle.site_base.specs.declared.limits.TheConstants.{POINT_CELLS, UNPAID_LIMIT};
 ghost use Rattle.transaction_buffer.specs.Sales.{key, no_sales, HasNoneLater, sale_of, next_number, unpaid_at, with_new, is_new, new_sale, shown};
 ghost use Rattle.transaction_buffer.specs.Asked.{Asked};
+ghost use Rattle.transaction_buffer.specs.Figures.{figure_of};
 ghost use Rattle.transaction_buffer.specs.LetGo.{AreLetGo};
 ghost use Rattle.transaction_buffer.specs.TransactionTable.{after_sign_off};
 ghost use Rattle.transaction_buffer.specs.Sums.{volume_of, volume_by};
@@ -11,7 +12,9 @@ ghost use Rattle.transaction_buffer.specs.Rooms.{room_at};
 ghost use Rattle.transaction_buffer.specs.Shelves.{sales_on};
 ghost use Rattle.transaction_buffer.specs.KeptSums.{AreSums};
 
+use crate::figure::Figure;
 use crate::locked_points::LockedPoints;
+use crate::recount::counted_on;
 use crate::request::Request;
 use crate::sale::Sale;
 use crate::shelf::Shelf;
@@ -193,6 +196,15 @@ impl Buffer {
     {
         let _ = q.get();
         self.sums.get(q, status)
+    }
+
+    /// A figure summed over the transactions themselves: no sum that is kept is read. It fits in 64
+    /// bits.
+    pub fn counted(&self, figure: &Figure) -> u64
+        requires { figure_of figure.now self.now.sales < 2 ^ 64 }
+        ensures { result ≡ figure_of figure.now self.now.sales }
+    {
+        counted_on(&self.shelves, figure)
     }
 
     /// What the transaction table says of the till's request.

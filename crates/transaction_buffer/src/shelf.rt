@@ -1,17 +1,20 @@
 //! The sales of one fuelling point.
 
-ghost use Rattle.std.specs.Prelude.{◌≡◌, ℕ, ◌-◌, ◌<◌, ◌≤◌, [], ◌∷◌, ◌++◌, true, is_some, IfSome, length, map, OnErr, OnOk, slice_index_or};
+ghost use Rattle.std.specs.Prelude.{◌≡◌, ℕ, ◌-◌, ◌^◌, ◌<◌, ◌≤◌, [], ◌∷◌, ◌++◌, true, is_some, IfSome, length, map, OnErr, OnOk, slice_index_or};
 ghost use Rattle.site_base.specs.declared.limits.TheConstants.{GREATEST_SEQ, GREATEST_SHIFT, UNPAID_LIMIT};
 ghost use Rattle.transaction_buffer.specs.Sales.{is_unpaid, made_in, next_after, sale_in, unpaid_among, with_in};
 ghost use Rattle.transaction_buffer.specs.Shelves.{NoneAfter, no_span, place_in, shifts_of};
 ghost use Rattle.transaction_buffer.specs.TransactionTable.{let_go};
 ghost use Rattle.transaction_buffer.specs.UnpaidPlaces.{figure_at, AreUnpaid, IsLetGoAt};
+ghost use Rattle.transaction_buffer.specs.Figures.{figure_in};
 ghost use Rattle.transaction_buffer.specs.KeptSums.{AreMoved, CanMove};
 ghost use Rattle.transaction_buffer.specs.LetGo.{IsLetGo};
 ghost use Rattle.transaction_buffer.specs.Locked.{locker_at, no_lockers, AreTold};
 ghost use Rattle.transaction_buffer.specs.Sums.{sum_among, volume_locked_by};
 
+use crate::figure::Figure;
 use crate::locked_points::Lockers;
+use crate::recount::counted_among;
 use crate::sale::Sale;
 use crate::span::Span;
 use crate::sums::Sums;
@@ -161,6 +164,14 @@ impl Shelf {
         let sales: &[Sale] = &self.sales;
         let left = let_go_sum_at(sales, self.unpaid.one, sums, t);
         let_go_sum_at(sales, self.unpaid.other, &left, t)
+    }
+
+    /// The figure over its sales, which fits.
+    pub fn counted(&self, figure: &Figure) -> u64
+        requires { sum_among (figure_in figure.now) self.now.sales < 2 ^ 64 }
+        ensures { result ≡ sum_among (figure_in figure.now) self.now.sales }
+    {
+        counted_among(&self.sales, figure)
     }
 
     /// The place of the sale of this shift with this number, if there is one.
