@@ -10,3 +10,6 @@ pub mod AccountFigures
 pub mod AskedClears
 pub mod ClearedOnce
 pub mod ShownFigures
+pub mod CountedDraws
+pub mod TillRows
+pub mod CountedFigures

@@ -5,6 +5,7 @@ ghost use Rattle.site_base.specs.declared.limits.TheConstants.{GREATEST_SHIFT, U
 ghost use Rattle.site_base.specs.declared.refusal.Refusal.TheVariants.{ShiftsSpent};
 ghost use Rattle.transaction_buffer.specs.declared.request.Request.{Request};
 ghost use Rattle.transaction_buffer.specs.Asked.{Asked};
+ghost use Rattle.transaction_buffer.specs.Figures.{figure_of};
 ghost use Rattle.transaction_buffer.specs.Rooms.{room_at};
 ghost use Rattle.transaction_buffer.specs.Sales.{HasNoneLater, Sale, is_new, is_unpaid, key, new_sale, next_number, no_sales, sale_of, shown, unpaid_at, with_new};
 ghost use Rattle.transaction_buffer.specs.Sums.{volume_by, volume_of};
@@ -22,7 +23,7 @@ use site_base::{
 };
 use std::alloc::Global;
 use std::marker::Model;
-use transaction_buffer::Buffer;
+use transaction_buffer::{Buffer, Figure};
 
 /// The sales of a site and the figures of its shifts. The figures are those of the sales that were
 /// cleared and of what tests drew: the type keeps it. Contracts see the sales and the draws alone.
@@ -128,6 +129,23 @@ impl Accounts {
         ensures { result ≡ drawn_of q self.now.drawn }
     {
         self.ledger.drawn(q)
+    }
+
+    /// A figure summed over the sales themselves, which fits in 64 bits: no sum that is kept is read.
+    pub fn counted(&self, figure: &Figure) -> u64
+        requires { figure_of figure.now self.now.sales < 2 ^ 64 }
+        ensures { result ≡ figure_of figure.now self.now.sales }
+    {
+        self.sales.counted(figure)
+    }
+
+    /// The millilitres that tests drew of a product in all shifts, summed over the shifts. They fit
+    /// in 64 bits.
+    pub fn counted_drawn(&self, q: ProductNo) -> u64
+        requires { drawn_of q self.now.drawn < 2 ^ 64 }
+        ensures { result ≡ drawn_of q self.now.drawn }
+    {
+        self.ledger.counted_drawn(q)
     }
 
     /// Adds a sale of point p in the open shift, and answers its number there. The conditions are

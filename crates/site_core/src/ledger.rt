@@ -91,6 +91,15 @@ impl Ledger {
         self.drawn[q.cell()]
     }
 
+    /// The same, summed over the shifts: the total that is kept isn't read. It fits in 64 bits.
+    pub fn counted_drawn(&self, q: ProductNo) -> u64
+        requires { drawn_of q (draws_of self.now.shifts) < 2 ^ 64 }
+        ensures { result ≡ drawn_of q (draws_of self.now.shifts) }
+    {
+        let _ = q.get();
+        self.shifts.drawn(q)
+    }
+
     /// Adds a clear by a till to the open shift: of this product, so many millilitres and cents. The
     /// sums with it stay in u64.
     pub fn note_cleared(&mut self, t: TillNo, q: ProductNo, volume: u64, cents: u64)

@@ -132,6 +132,20 @@ impl Site {
         })
     }
 
+    /// The same as `totals`, counted from the site's lists alone: no total that is kept is read.
+    pub fn counted_totals(&self, alloc: Global, rows: u64) -> Result<Totals, NoMemory>
+        ensures rows { IfOk result (λ totals. totals.rows ≡ rows) }
+        ensures products { IfOk result (λ totals.
+            totals.products.items ≡ product_totals self.now.site) }
+        ensures tills { IfOk result (λ totals. totals.tills.items ≡ till_totals self.now.site) }
+    {
+        Ok(Totals {
+            rows,
+            products: self.parts.counted_products(alloc)?,
+            tills: self.parts.counted_tills(alloc)?,
+        })
+    }
+
     /// The point as a read shows it. None where the site has no such point.
     pub fn point(&self, p: FpNo) -> Option<PointView>
         ensures { result ≡ point_shown self.now.site p }
