@@ -11,5 +11,5 @@ pub mod AskedClears
 pub mod ClearedOnce
 pub mod ShownFigures
 pub mod CountedDraws
-pub mod TillRows
+pub mod ToldInOrder
 pub mod CountedFigures

@@ -35,11 +35,15 @@ account_code =
 abbrev pub products : List ℕ
 products = range_with_len 1 PRODUCTS
 
+-- how many sales till t cleared in shift h, and their cents
+abbrev pub takings_of : ℕ → Sales → ℕ → ℕ × ℕ
+takings_of h sales t = (clears_in h t sales, cents_in h t sales)
+
 -- the figures of shift h: of each till its clears and their cents, of each product the millilitres
 -- cleared and those drawn by tests
 abbrev pub figures_in : ℕ → Sales → List ℕ → ShiftRow
 figures_in h sales draws = record {
-  tills = map (λ t. (clears_in h t sales, cents_in h t sales)) tills;
+  tills = map (takings_of h sales) tills;
   products = map (λ q. cleared_in h q sales) products;
   adjusted = draws;
 }
@@ -67,7 +71,7 @@ pub record AreFigures (sales : Sales) (shifts : Shifts) (totals : List (ℕ × �
   pub rows : HaveRows shifts
   pub cells : length totals ≡ TILL_CELLS
   pub clears : (h t : ℕ) → 1 ≤ t → t ≤ TILLS
-      → till_figures t (row_in h shifts) ≡ (clears_in h t sales, cents_in h t sales)
+      → till_figures t (row_in h shifts) ≡ takings_of h sales t
   pub cleared : (h q : ℕ) → 1 ≤ q → q ≤ PRODUCTS
       → product_figure q (row_in h shifts) ≡ cleared_in h q sales
   pub all : (t : ℕ) → 1 ≤ t → t ≤ TILLS → total_of t totals ≡ (clears_by t sales, cents_by t sales)

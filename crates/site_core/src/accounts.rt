@@ -3,6 +3,7 @@
 ghost use Rattle.std.specs.Prelude.{◌≡◌, ℕ, ◌+◌, ◌^◌, ◌<◌, ◌≤◌, ◌==◌, [], ◌∷◌, ◌++◌, Some, true, false, is_some, length, sum_by, OnOk, OnErr, IfOk, IfErr};
 ghost use Rattle.site_base.specs.declared.limits.TheConstants.{GREATEST_SHIFT, UNPAID_LIMIT};
 ghost use Rattle.site_base.specs.declared.refusal.Refusal.TheVariants.{ShiftsSpent};
+ghost use Rattle.site_base.specs.Numbered.{numbered};
 ghost use Rattle.transaction_buffer.specs.declared.request.Request.{Request};
 ghost use Rattle.transaction_buffer.specs.Asked.{Asked};
 ghost use Rattle.transaction_buffer.specs.Figures.{figure_of};
@@ -19,7 +20,8 @@ ghost use Rattle.site_core.specs.Accounts.{FitsOneClear, shift_row};
 use crate::ledger::Ledger;
 use shift_ledger::ShiftRow;
 use site_base::{
-    Answer, FpNo, NoMemory, ProductNo, Refusal, Seq, ShiftNo, Status, TillNo, TransactionView,
+    Answer, FpNo, NoMemory, PRODUCT_CELLS, ProductNo, Refusal, Seq, ShiftNo, Status, TillNo,
+    TransactionView,
 };
 use std::alloc::Global;
 use std::marker::Model;
@@ -244,6 +246,16 @@ impl Accounts {
         ensures { result ≡ shift_row n self.now.sales self.now.drawn }
     {
         self.ledger.row(n)
+    }
+
+    /// The millilitres that tests drew in shift n of each product, from 1 on. None for shifts to come.
+    pub fn draws(&self, n: ShiftNo) -> Option<[u64; PRODUCT_CELLS]>
+        ensures { result ≡ numbered n self.now.drawn }
+    {
+        match self.ledger.row(n) {
+            Some(row) => Some(row.adjusted),
+            None => None,
+        }
     }
 
     /// How many sales the till cleared in all shifts, and their cents.

@@ -1,16 +1,21 @@
 //! The totals of the site and the figures of its shifts, counted from its lists: of the nozzles, of the
 //! points, of the sales and of each shift's draws. No total that is kept is read.
 
-ghost use Rattle.std.specs.Prelude.{◌≡◌, ◌*◌, IfOk};
+ghost use Rattle.std.specs.Prelude.{◌≡◌, ◌*◌, IfOk, map};
 ghost use Rattle.meters.specs.Metered.{product_alone};
-ghost use Rattle.written_site.specs.ShiftFigures.{product_totals, till_totals};
+ghost use Rattle.written_site.specs.ShiftFigures.{cleared_in, product_totals, till_totals, tills};
 ghost use Rattle.written_site.specs.Sound.{IsPointSound, Sound};
 ghost use Rattle.written_site.specs.Volumes.{product_out, product_view, running, running_at};
+ghost use Rattle.site_core.specs.Accounts.{products, shift_row, takings_of};
 ghost use Rattle.site_core.specs.SiteParts.{site_of};
 
 use crate::site_parts::SiteParts;
 use fuelling_point::Point;
-use site_base::{FpNo, Mills, NoMemory, ProductNo, ProductView, Status, TILL_CELLS, TillNo};
+use shift_ledger::ShiftRow;
+use site_base::{
+    FpNo, Mills, NoMemory, PRODUCT_CELLS, ProductNo, ProductView, ShiftNo, Status, TILL_CELLS,
+    TillNo,
+};
 use std::alloc::Global;
 use transaction_buffer::Figure;
 
@@ -88,5 +93,46 @@ impl SiteParts {
             (Some(product), Some(last)) if product.get() == q.get() => last.get() - start.get(),
             _ => 0,
         }
+    }
+
+    /// The figures of shift n, the open one's too. None for shifts to come.
+    pub(crate) fn counted_shift(&self, n: ShiftNo) -> Option<ShiftRow>
+        requires { Sound (site_of self.now) }
+        ensures { result ≡ shift_row n (site_of self.now).sales (site_of self.now).drawn }
+    {
+        let adjusted = self.accounts.draws(n)?;
+        Some(ShiftRow {
+            tills: self.counted_takings(n),
+            products: self.counted_cleared(n),
+            adjusted,
+        })
+    }
+
+    /// What each till, from 1 on, cleared in shift n: how many sales, and their cents.
+    fn counted_takings(&self, n: ShiftNo) -> [(u64, u64); TILL_CELLS]
+        requires { Sound (site_of self.now) }
+        ensures { result ≡ map (takings_of n (site_of self.now).sales) tills }
+    {
+        let mut takings = [(0, 0); TILL_CELLS];
+        for cell in 0..TILL_CELLS {
+            let till = TillNo::of_cell(cell);
+            let clears = self.accounts.counted(&Figure::ClearsIn(n, till));
+            let cents = self.accounts.counted(&Figure::CentsIn(n, till));
+            takings[cell] = (clears, cents);
+        }
+        takings
+    }
+
+    /// What was cleared in shift n of each product, from 1 on, in millilitres.
+    fn counted_cleared(&self, n: ShiftNo) -> [u64; PRODUCT_CELLS]
+        requires { Sound (site_of self.now) }
+        ensures { result ≡ map (λ q. cleared_in n q (site_of self.now).sales) products }
+    {
+        let mut cleared = [0; PRODUCT_CELLS];
+        for cell in 0..PRODUCT_CELLS {
+            let product = ProductNo::of_cell(cell);
+            cleared[cell] = self.accounts.counted(&Figure::ClearedIn(n, product));
+        }
+        cleared
     }
 }

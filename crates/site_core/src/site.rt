@@ -118,7 +118,16 @@ impl Site {
         self.parts.accounts.shift(n)
     }
 
-    /// The totals of the site, with this number of rows. They are kept: nothing is counted anew.
+    /// The same as `shift`, counted from the site's lists alone: no figure of the shift's clears that
+    /// is kept is read.
+    pub fn counted_shift(&self, n: ShiftNo) -> Option<ShiftRow>
+        ensures { result ≡ shift_row n self.now.site.sales self.now.site.drawn }
+    {
+        self.parts.counted_shift(n)
+    }
+
+    /// The totals of the site, with this number of rows: of each product its volumes, in configured
+    /// order, and of each till what it cleared in all shifts. Each is kept, and read.
     pub fn totals(&self, alloc: Global, rows: u64) -> Result<Totals, NoMemory>
         ensures rows { IfOk result (λ totals. totals.rows ≡ rows) }
         ensures products { IfOk result (λ totals.

@@ -1,5 +1,6 @@
 //! What the site keeps, and which event is whose: the events themselves stand in `signing`, `commanding`,
-//! `holding`, `releasing`, `reporting`, `managing` and `figures`.
+//! `holding`, `releasing`, `reporting`, `ending`, `paying`, `managing` and `figures`. `totalling` reads the
+//! totals that are kept, `counting` counts them from the lists.
 
 ghost use Rattle.std.specs.Prelude.{◌≡◌, ℕ, ◌≤◌, IfOk, OnOk, OnErr};
 ghost use Rattle.transaction_buffer.specs.Rooms.{room_at};

@@ -1,7 +1,7 @@
 use Rattle.std.proofs.Common.{◌≡◌, ◌+◌, ◌++◌, ◌∷◌, [], List, ℕ, sym, ap, ◌∙◌}
 use Rattle.written_site.specs.ShiftFigures.{clears_by, cents_by}
 use Rattle.site_core.specs.SiteParts.{site_of}
-use Rattle.site_core.proofs.TillRows.{one_more}
+use Rattle.site_core.proofs.ToldInOrder.{one_more}
 use Rattle.site_core.proofs.site_parts.SiteParts.till_totals.Goals as goal
 
 pub loop-cell-preserved : goal.loop-cell-preserved
