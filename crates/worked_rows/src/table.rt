@@ -85,7 +85,11 @@ impl Table {
         let alloc = self.alloc;
         let site = self.opened(rt)?;
         match line {
-            Line::Totals => print_totals(rt, &site.totals(alloc, 0)?)?,
+            Line::Totals => {
+                let totals = site.totals(alloc, 0)?;
+                print_totals(rt, &totals)?;
+                agree(&totals, &site.counted_totals(alloc, 0)?)?;
+            }
             Line::Show(p) => match site.point(*p) {
                 Some(view) => println!(rt; "show {}: {view}", p.get())?,
                 None => println!(rt; "show {}: none", p.get())?,
@@ -185,6 +189,19 @@ fn print_totals(rt: &impl Print, totals: &Totals) -> anyhow::Result<()> {
     for view in &totals.products {
         println!(rt; "totals: {view}")?;
     }
+    Ok(())
+}
+
+/// The totals that are kept have to be those that are counted.
+fn agree(kept: &Totals, counted: &Totals) -> anyhow::Result<()> {
+    ensure!(
+        kept.products == counted.products,
+        "the products' totals aren't those counted"
+    );
+    ensure!(
+        kept.tills == counted.tills,
+        "the tills' totals aren't those counted"
+    );
     Ok(())
 }
 
