@@ -1,6 +1,6 @@
 //! The shifts of a site.
 
-ghost use Rattle.std.specs.Prelude.{◌≡◌, ◌^◌, ◌<◌, ◌≤◌, true, false, length, OnOk, OnErr, IfOk, IfErr};
+ghost use Rattle.std.specs.Prelude.{◌≡◌, ◌-◌, ◌^◌, ◌<◌, ◌≤◌, true, false, length, OnOk, OnErr, IfOk, IfErr};
 ghost use Rattle.site_base.specs.declared.refusal.Refusal.TheVariants.{ShiftsSpent};
 ghost use Rattle.site_base.specs.declared.limits.TheConstants.{GREATEST_SHIFT};
 ghost use Rattle.shift_ledger.specs.Figures.{FitsClear, FitsDraw};
@@ -86,6 +86,7 @@ impl ShiftBook {
         ensures accepted { OnOk result (is_last self.old.shifts ≡ false) }
         ensures number { IfOk result (λ n. n ≡ open_number self.old.shifts) }
         ensures shifts { OnOk result (self.new.shifts ≡ after_close self.old.shifts) }
+        ensures room { OnOk result (self.new.room ≡ self.old.room - 1) }
         ensures spent { OnErr result (is_last self.old.shifts ≡ true) }
         ensures refused { IfErr result (λ refusal. refusal ≡ ShiftsSpent) }
         ensures err { OnErr result (self.new ≡ self.old) }

@@ -1,13 +1,13 @@
 //! The sales of a site, with the figures of its shifts.
 
-ghost use Rattle.std.specs.Prelude.{◌≡◌, ℕ, ◌+◌, ◌^◌, ◌<◌, ◌≤◌, ◌==◌, [], ◌∷◌, ◌++◌, Some, true, false, is_some, length, sum_by, OnOk, OnErr, IfOk, IfErr};
+ghost use Rattle.std.specs.Prelude.{◌≡◌, ℕ, ◌+◌, ◌-◌, ◌^◌, ◌<◌, ◌≤◌, ◌==◌, [], ◌∷◌, ◌++◌, Some, true, false, is_some, length, sum_by, OnOk, OnErr, IfOk, IfErr};
 ghost use Rattle.site_base.specs.declared.limits.TheConstants.{GREATEST_SHIFT, UNPAID_LIMIT};
 ghost use Rattle.site_base.specs.declared.refusal.Refusal.TheVariants.{ShiftsSpent};
 ghost use Rattle.site_base.specs.Numbered.{numbered};
 ghost use Rattle.transaction_buffer.specs.declared.request.Request.{Request};
 ghost use Rattle.transaction_buffer.specs.Asked.{Asked};
 ghost use Rattle.transaction_buffer.specs.Figures.{figure_of};
-ghost use Rattle.transaction_buffer.specs.Rooms.{room_at};
+ghost use Rattle.transaction_buffer.specs.Rooms.{one_taken, room_at};
 ghost use Rattle.transaction_buffer.specs.Sales.{HasNoneLater, Sale, is_new, is_unpaid, key, new_sale, next_number, no_sales, sale_of, shown, unpaid_at, with_new};
 ghost use Rattle.transaction_buffer.specs.Sums.{volume_by, volume_of};
 ghost use Rattle.transaction_buffer.specs.TransactionTable.{after_sign_off};
@@ -163,6 +163,8 @@ impl Accounts {
         ensures sales { self.new.sales
             ≡ with_new p (new_sale (length self.old.drawn) view) self.old.sales }
         ensures drawn { self.new.drawn ≡ self.old.drawn }
+        ensures rooms { self.new.rooms ≡ one_taken p self.old.rooms }
+        ensures closes { self.new.closes ≡ self.old.closes }
     {
         let shift = self.ledger.open_shift();
         self.sales.add(p, shift, view)
@@ -173,6 +175,8 @@ impl Accounts {
         requires { drawn_of q self.old.drawn + volume < 2 ^ 64 }
         ensures sales { self.new.sales ≡ self.old.sales }
         ensures drawn { self.new.drawn ≡ draw_noted q volume self.old.drawn }
+        ensures rooms { self.new.rooms ≡ self.old.rooms }
+        ensures closes { self.new.closes ≡ self.old.closes }
     {
         self.ledger.note_drawn(q, volume);
     }
@@ -181,6 +185,8 @@ impl Accounts {
     pub fn lock(&mut self, p: FpNo, shift: ShiftNo, s: Seq, t: TillNo) -> Result<Answer, Refusal>
         ensures asked { Asked Request.Lock t (key shift p s) self.old.sales self.new.sales result }
         ensures drawn { self.new.drawn ≡ self.old.drawn }
+        ensures rooms { self.new.rooms ≡ self.old.rooms }
+        ensures closes { self.new.closes ≡ self.old.closes }
     {
         self.sales.lock(p, shift, s, t)
     }
@@ -191,6 +197,8 @@ impl Accounts {
         ensures asked { Asked Request.Unlock t (key shift p s) self.old.sales self.new.sales
             result }
         ensures drawn { self.new.drawn ≡ self.old.drawn }
+        ensures rooms { self.new.rooms ≡ self.old.rooms }
+        ensures closes { self.new.closes ≡ self.old.closes }
     {
         self.sales.unlock(p, shift, s, t)
     }
@@ -204,6 +212,8 @@ impl Accounts {
         ensures asked { Asked (Request.Clear (length self.old.drawn)) t (key shift p s)
             self.old.sales self.new.sales result }
         ensures drawn { self.new.drawn ≡ self.old.drawn }
+        ensures rooms { self.new.rooms ≡ self.old.rooms }
+        ensures closes { self.new.closes ≡ self.old.closes }
     {
         let shown = self.sales.row(p, shift, s);
         let answer = self.sales.clear(p, shift, s, t, self.ledger.open_shift())?;
@@ -221,6 +231,8 @@ impl Accounts {
     pub fn release_all(&mut self, t: TillNo)
         ensures sales { self.new.sales ≡ after_sign_off t self.old.sales }
         ensures drawn { self.new.drawn ≡ self.old.drawn }
+        ensures rooms { self.new.rooms ≡ self.old.rooms }
+        ensures closes { self.new.closes ≡ self.old.closes }
     {
         self.sales.release_all(t);
     }
@@ -234,6 +246,8 @@ impl Accounts {
         ensures number { IfOk result (λ n. n ≡ length self.old.drawn) }
         ensures sales { self.new.sales ≡ self.old.sales }
         ensures drawn { OnOk result (self.new.drawn ≡ self.old.drawn ++ nothing_drawn ∷ []) }
+        ensures rooms { self.new.rooms ≡ self.old.rooms }
+        ensures closes { OnOk result (self.new.closes ≡ self.old.closes - 1) }
         ensures spent { OnErr result ((length self.old.drawn == GREATEST_SHIFT) ≡ true) }
         ensures refused { IfErr result (λ refusal. refusal ≡ ShiftsSpent) }
         ensures err { OnErr result (self.new ≡ self.old) }

@@ -8,7 +8,7 @@ ghost use Rattle.transaction_buffer.specs.Figures.{figure_of};
 ghost use Rattle.transaction_buffer.specs.LetGo.{AreLetGo};
 ghost use Rattle.transaction_buffer.specs.TransactionTable.{after_sign_off};
 ghost use Rattle.transaction_buffer.specs.Sums.{volume_of, volume_by};
-ghost use Rattle.transaction_buffer.specs.Rooms.{room_at};
+ghost use Rattle.transaction_buffer.specs.Rooms.{one_taken, room_at};
 ghost use Rattle.transaction_buffer.specs.Shelves.{sales_on};
 ghost use Rattle.transaction_buffer.specs.KeptSums.{AreSums};
 
@@ -116,6 +116,7 @@ impl Buffer {
         requires new { is_new view ≡ true }
         ensures number { next_number p shift self.old.sales ≡ Some result }
         ensures sales { self.new.sales ≡ with_new p (new_sale shift view) self.old.sales }
+        ensures rooms { self.new.rooms ≡ one_taken p self.old.rooms }
     {
         let sale = Sale::new(shift, &view);
         let shelf = &mut self.shelves[p.cell()];
@@ -133,7 +134,8 @@ impl Buffer {
     /// where it isn't there, `AlreadyCleared` where a till has cleared it, and `LockedByOther`
     /// where another till has locked it.
     pub fn lock(&mut self, p: FpNo, shift: ShiftNo, s: Seq, t: TillNo) -> Result<Answer, Refusal>
-        ensures { Asked Request.Lock t (key shift p s) self.old.sales self.new.sales result }
+        ensures asked { Asked Request.Lock t (key shift p s) self.old.sales self.new.sales result }
+        ensures rooms { self.new.rooms ≡ self.old.rooms }
     {
         self.ask(p, shift, s, t, &Request::Lock)
     }
@@ -143,7 +145,9 @@ impl Buffer {
     /// till has cleared it, `LockedByOther` where another till has locked it, and `NotLocked` where
     /// none has.
     pub fn unlock(&mut self, p: FpNo, shift: ShiftNo, s: Seq, t: TillNo) -> Result<Answer, Refusal>
-        ensures { Asked Request.Unlock t (key shift p s) self.old.sales self.new.sales result }
+        ensures asked { Asked Request.Unlock t (key shift p s) self.old.sales self.new.sales
+            result }
+        ensures rooms { self.new.rooms ≡ self.old.rooms }
     {
         self.ask(p, shift, s, t, &Request::Unlock)
     }
@@ -159,8 +163,9 @@ impl Buffer {
         t: TillNo,
         current: ShiftNo,
     ) -> Result<Answer, Refusal>
-        ensures { Asked (Request.Clear current) t (key shift p s) self.old.sales self.new.sales
-            result }
+        ensures asked { Asked (Request.Clear current) t (key shift p s) self.old.sales
+            self.new.sales result }
+        ensures rooms { self.new.rooms ≡ self.old.rooms }
     {
         self.ask(p, shift, s, t, &Request::Clear(current))
     }
@@ -168,7 +173,8 @@ impl Buffer {
     /// Makes every transaction that the till has locked payable; every other stays. It is what a
     /// sign-off does to the transactions.
     pub fn release_all(&mut self, t: TillNo)
-        ensures { self.new.sales ≡ after_sign_off t self.old.sales }
+        ensures sales { self.new.sales ≡ after_sign_off t self.old.sales }
+        ensures rooms { self.new.rooms ≡ self.old.rooms }
     {
         let cell = t.cell();
         let (one, other) = (self.locked.one[cell], self.locked.other[cell]);
@@ -216,7 +222,8 @@ impl Buffer {
         t: TillNo,
         request: &Request,
     ) -> Result<Answer, Refusal>
-        ensures { Asked request.now t (key shift p s) self.old.sales self.new.sales result }
+        ensures asked { Asked request.now t (key shift p s) self.old.sales self.new.sales result }
+        ensures rooms { self.new.rooms ≡ self.old.rooms }
     {
         let shelf = &mut self.shelves[p.cell()];
         let Some(old) = shelf.get(shift, s) else {
