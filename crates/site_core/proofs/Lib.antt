@@ -13,3 +13,4 @@ pub mod ShownFigures
 pub mod CountedDraws
 pub mod ToldInOrder
 pub mod CountedFigures
+pub mod RoomsLeft

@@ -97,12 +97,11 @@ row_shown n sales shifts totals kept =
         }) (product_cells n sales shifts totals row kept shown) in
         rw shown (ap Some is)
 
--- the draws of a shift are those of its row
-pub draws_shown : (n : ℕ) (shifts : Shifts) (o : Option ShiftRow) → o ≡ figures_of n shifts
-    → option_map (λ row. row.adjusted) o ≡ numbered n (draws_of shifts)
-draws_shown n shifts o is =
-    ap (option_map (λ row. row.adjusted)) is
-    ∙ sym (numbered_map (λ row. row.adjusted) n (shifts.closed ++ shifts.current ∷ []))
+-- the draws of a shift are those that its figures have
+pub draws_shown : (n : ℕ) (sales : Sales) (draws : Option (List ℕ))
+    → option_map (λ row. row.adjusted) (option_map (figures_in n sales) draws) ≡ draws
+draws_shown n sales None = refl
+draws_shown n sales (Some row) = refl
 
 -- ---- the cents of all tills
 

@@ -266,7 +266,7 @@ impl Accounts {
     pub fn draws(&self, n: ShiftNo) -> Option<[u64; PRODUCT_CELLS]>
         ensures { result ≡ numbered n self.now.drawn }
     {
-        match self.ledger.row(n) {
+        match self.shift(n) {
             Some(row) => Some(row.adjusted),
             None => None,
         }

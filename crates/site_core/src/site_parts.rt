@@ -8,7 +8,7 @@ ghost use Rattle.written_site.specs.SiteState.{opening, is_signed_on};
 ghost use Rattle.written_site.specs.SiteStep.{Steps};
 ghost use Rattle.written_site.specs.Sound.{Sound};
 ghost use Rattle.site_core.specs.SiteParts.{site_of, room_of};
-ghost use Rattle.site_core.specs.Shown.{HasRoom};
+ghost use Rattle.site_core.specs.Shown.{HasRoom, room_left};
 ghost use Rattle.std.specs.FinSet as set;
 
 use crate::accounts::Accounts;
@@ -73,7 +73,8 @@ impl SiteParts {
     pub fn step(&mut self, actor: Actor, event: &Event) -> Reply
         requires sound { Sound (site_of self.old) }
         requires room { HasRoom (room_of self.old) event.now }
-        ensures { Steps (site_of self.old) actor event.now (site_of self.new) result }
+        ensures steps { Steps (site_of self.old) actor event.now (site_of self.new) result }
+        ensures room { room_of self.new ≡ room_left event.now result (room_of self.old) }
     {
         match actor {
             Actor::Till(t) => self.till_step(t, event),
@@ -84,7 +85,8 @@ impl SiteParts {
     fn till_step(&mut self, t: TillNo, event: &Event) -> Reply
         requires sound { Sound (site_of self.old) }
         requires room { HasRoom (room_of self.old) event.now }
-        ensures { Steps (site_of self.old) (Actor.Till t) event.now (site_of self.new) result }
+        ensures steps { Steps (site_of self.old) (Actor.Till t) event.now (site_of self.new) result }
+        ensures room { room_of self.new ≡ room_left event.now result (room_of self.old) }
     {
         match event {
             Event::SignOn => self.sign_on(t),
@@ -120,7 +122,8 @@ impl SiteParts {
     fn dispenser_step(&mut self, d: FpNo, event: &Event) -> Reply
         requires sound { Sound (site_of self.old) }
         requires room { HasRoom (room_of self.old) event.now }
-        ensures { Steps (site_of self.old) (Actor.Dispenser d) event.now (site_of self.new) result }
+        ensures steps { Steps (site_of self.old) (Actor.Dispenser d) event.now (site_of self.new) result }
+        ensures room { room_of self.new ≡ room_left event.now result (room_of self.old) }
     {
         match event {
             Event::Online(p) => self.online(d, *p),
