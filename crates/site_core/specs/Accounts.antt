@@ -1,5 +1,5 @@
 -- The sales of a site with the figures of its shifts, as contracts see them and as they are kept.
-use Rattle.std.specs.Prelude.{◌≡◌, ℕ, ◌+◌, ◌^◌, ◌<◌, ◌≤◌, List, length, map, Option, option_map, unwrap_or, refl}
+use Rattle.std.specs.Prelude.{◌≡◌, ℕ, ◌≤◌, List, length, map, Option, option_map, unwrap_or, refl}
 use Rattle.std.specs.Coded.{Coded, code_by, coded_ℕ, coded×, coded_list}
 use Rattle.std.specs.List.{range_with_len}
 use Rattle.site_base.specs.declared.limits.TheConstants.{PRODUCTS, TILLS, TILL_CELLS}
@@ -9,7 +9,7 @@ use Rattle.shift_ledger.specs.Figures.{empty_figures, till_figures, product_figu
 use Rattle.shift_ledger.specs.Laws.{HaveRows}
 use Rattle.shift_ledger.specs.Shifts.{Shifts, figures_of}
 use Rattle.transaction_buffer.specs.Codes.{sales_code}
-use Rattle.transaction_buffer.specs.Sales.{Sale, Sales}
+use Rattle.transaction_buffer.specs.Sales.{Sales}
 use Rattle.written_site.specs.ShiftFigures.{cents_by, cents_in, cleared_in, clears_by, clears_in, tills}
 use Rattle.site_core.specs.Ledger.{total_of}
 
@@ -51,14 +51,6 @@ figures_in h sales draws = record {
 -- the figures of shift h, if it is open or closed
 abbrev pub shift_row : ℕ → Sales → List (List ℕ) → Option ShiftRow
 shift_row h sales drawn = option_map (figures_in h sales) (numbered h drawn)
-
--- the figures with one more clear, of sale x by till t in shift h, stay in 64 bits
-pub record FitsOneClear (h t : ℕ) (x : Sale) (sales : Sales) : Type 0 where
-  pub clears : clears_in h t sales + 1 < 2 ^ 64
-  pub cents : cents_in h t sales + x.cents < 2 ^ 64
-  pub cleared : cleared_in h x.product sales + x.volume < 2 ^ 64
-  pub all_clears : clears_by t sales + 1 < 2 ^ 64
-  pub all_cents : cents_by t sales + x.cents < 2 ^ 64
 
 -- the row of shift h; of no such shift, an empty one
 abbrev pub row_in : ℕ → Shifts → ShiftRow

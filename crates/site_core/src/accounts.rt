@@ -6,6 +6,7 @@ ghost use Rattle.site_base.specs.declared.refusal.Refusal.TheVariants.{ShiftsSpe
 ghost use Rattle.site_base.specs.Numbered.{numbered};
 ghost use Rattle.transaction_buffer.specs.declared.request.Request.{Request};
 ghost use Rattle.transaction_buffer.specs.Asked.{Asked};
+ghost use Rattle.transaction_buffer.specs.Clears.{FitsOneClear};
 ghost use Rattle.transaction_buffer.specs.Figures.{figure_of};
 ghost use Rattle.transaction_buffer.specs.Rooms.{one_taken, room_at};
 ghost use Rattle.transaction_buffer.specs.Sales.{HasNoneLater, Sale, is_new, is_unpaid, key, new_sale, next_number, no_sales, sale_of, shown, unpaid_at, with_new};
@@ -15,7 +16,7 @@ ghost use Rattle.written_site.specs.SiteState.{nothing_drawn};
 ghost use Rattle.written_site.specs.SiteStep.{draw_noted};
 ghost use Rattle.written_site.specs.ShiftFigures.{cents_by, clears_by, takings_in};
 ghost use Rattle.written_site.specs.Volumes.{drawn_of};
-ghost use Rattle.site_core.specs.Accounts.{FitsOneClear, shift_row};
+ghost use Rattle.site_core.specs.Accounts.{shift_row};
 
 use crate::ledger::Ledger;
 use shift_ledger::ShiftRow;

@@ -1,5 +1,5 @@
 -- What was cleared: by each till and of each product, in one shift and in all.
-use Rattle.std.specs.Prelude.{ℕ, Bool, false, ◌&&◌, ◌==◌, if◌then◌else◌}
+use Rattle.std.specs.Prelude.{ℕ, ◌+◌, ◌^◌, ◌<◌, Bool, false, ◌&&◌, ◌==◌, if◌then◌else◌}
 use Rattle.transaction_buffer.specs.declared.standing.Standing.{Standing}
 use Rattle.transaction_buffer.specs.declared.standing.Standing.TheVariants.{ClearedBy}
 use Rattle.transaction_buffer.specs.Sales.{Sale, Sales}
@@ -38,3 +38,12 @@ clears_by t sales = sum_of (λ x. if is_cleared_by t x.standing then 1 else 0) s
 -- the cents of the sales that till t cleared in all shifts
 abbrev pub cents_by : ℕ → Sales → ℕ
 cents_by t sales = sum_of (λ x. if is_cleared_by t x.standing then x.cents else 0) sales
+
+-- one more clear, of sale x by till t in shift h, fits in 64 bits: in the figures of that shift, and
+-- in all that the till cleared
+pub record FitsOneClear (h t : ℕ) (x : Sale) (sales : Sales) : Type 0 where
+  pub clears : clears_in h t sales + 1 < 2 ^ 64
+  pub cents : cents_in h t sales + x.cents < 2 ^ 64
+  pub cleared : cleared_in h x.product sales + x.volume < 2 ^ 64
+  pub all_clears : clears_by t sales + 1 < 2 ^ 64
+  pub all_cents : cents_by t sales + x.cents < 2 ^ 64

@@ -6,7 +6,8 @@ use Rattle.transaction_buffer.specs.declared.request.Request.TheVariants.{Clear}
 use Rattle.transaction_buffer.specs.Asked.{Asked}
 use Rattle.transaction_buffer.specs.Sales.{Sale, key, is_unpaid, sale_of}
 use Rattle.written_site.specs.FigureSteps.{HasClear}
-use Rattle.site_core.specs.Accounts.{AreFigures, FitsOneClear}
+use Rattle.site_core.specs.Accounts.{AreFigures}
+use Rattle.transaction_buffer.specs.Clears.{FitsOneClear}
 use Rattle.site_core.specs.Ledger.{draws_of, total_of, with_one_more}
 use Rattle.site_core.proofs.NotedDraws.{draws-open}
 use Rattle.site_core.proofs.AskedClears.{IsOneClear, accepted_clear, refused_clear}
