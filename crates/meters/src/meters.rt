@@ -178,7 +178,8 @@ impl Meters {
         self.totals[q.cell()]
     }
 
-    /// The same as `product_total`, summed from the nozzles' own rows: no total that is kept is read.
+    /// The same as `product_total`, summed from the nozzles' own rows: no total that is kept is
+    /// read.
     pub fn counted(&self, q: ProductNo) -> u64
         ensures { result ≡ product_total q self.now }
     {

@@ -134,7 +134,8 @@ impl Accounts {
         self.ledger.drawn(q)
     }
 
-    /// A figure summed over the sales themselves, which fits in 64 bits: no sum that is kept is read.
+    /// A figure summed over the sales themselves, which fits in 64 bits: no sum that is kept is
+    /// read.
     pub fn counted(&self, figure: &Figure) -> u64
         requires { figure_of figure.now self.now.sales < 2 ^ 64 }
         ensures { result ≡ figure_of figure.now self.now.sales }
@@ -263,7 +264,8 @@ impl Accounts {
         self.ledger.row(n)
     }
 
-    /// The millilitres that tests drew in shift n of each product, from 1 on. None for shifts to come.
+    /// The millilitres that tests drew in shift n of each product, from 1 on. None for shifts to
+    /// come.
     pub fn draws(&self, n: ShiftNo) -> Option<[u64; PRODUCT_CELLS]>
         ensures { result ≡ numbered n self.now.drawn }
     {

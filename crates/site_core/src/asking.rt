@@ -15,8 +15,8 @@ use site_base::{Event, FpNo, GREATEST_PRESET, GREATEST_PRICE, Preset, Refusal, T
 
 impl SiteParts {
     /// The till is signed on, what its event names is there, a manager asks what is for managers
-    /// alone, a price and a preset are in range, and no other till holds the point where the event is
-    /// for one that no other holds. The event is a till's to ask: no dispenser reports it.
+    /// alone, a price and a preset are in range, and no other till holds the point where the event
+    /// is for one that no other holds. The event is a till's to ask: no dispenser reports it.
     pub(crate) fn may_ask(&self, t: TillNo, event: &Event) -> Result<(), Refusal>
         requires reported { is_none (reported_by event.now) ≡ true }
         requires signs { signing (site_of self.now) (Till t) event.now

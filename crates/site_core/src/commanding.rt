@@ -28,7 +28,8 @@ impl SiteParts {
     /// A till ends the release of a point, or its fuelling. Where the release is taken back, the hold
     /// ends.
     pub(crate) fn terminate(&mut self, t: TillNo, p: FpNo) -> Reply
-        ensures steps { Steps (site_of self.old) (Till t) (Event.Terminate p) (site_of self.new) result }
+        ensures steps { Steps (site_of self.old) (Till t) (Event.Terminate p)
+            (site_of self.new) result }
         ensures room { room_of self.new ≡ room_of self.old }
     {
         self.may_ask(t, &Event::Terminate(p))?;

@@ -1,5 +1,5 @@
-//! The totals of the site and the figures of its shifts, counted from its lists: of the nozzles, of the
-//! points, of the sales and of each shift's draws. No total that is kept is read.
+//! The totals of the site and the figures of its shifts, counted from its lists: of the nozzles, of
+//! the points, of the sales and of each shift's draws. No total that is kept is read.
 
 ghost use Rattle.std.specs.Prelude.{◌≡◌, ◌*◌, IfOk, map};
 ghost use Rattle.meters.specs.Metered.{product_alone};
@@ -75,9 +75,9 @@ impl SiteParts {
         sum
     }
 
-    /// The millilitres of product q in the fuelling under way at a point: what the meter of the nozzle
-    /// that is out reads, less what it read at the start. 0 where none is under way, or another
-    /// product flows.
+    /// The millilitres of product q in the fuelling under way at a point: what the meter of the
+    /// nozzle that is out reads, less what it read at the start. 0 where none is under way, or
+    /// another product flows.
     fn running_at(&self, p: FpNo, point: &Point, q: ProductNo) -> u64
         requires { IsPointSound (site_of self.now) p point.now }
         ensures { result ≡ product_alone q (product_out (site_of self.now).nozzles p point.now)

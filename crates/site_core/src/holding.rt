@@ -12,7 +12,8 @@ use site_base::{Answer, Event, FpNo, Refusal, Reply, TillNo};
 impl SiteParts {
     /// The till takes the hold of the point.
     pub(crate) fn assign(&mut self, t: TillNo, p: FpNo) -> Reply
-        ensures steps { Steps (site_of self.old) (Till t) (Event.Assign p) (site_of self.new) result }
+        ensures steps { Steps (site_of self.old) (Till t) (Event.Assign p)
+            (site_of self.new) result }
         ensures room { room_of self.new ≡ room_of self.old }
     {
         self.may_ask(t, &Event::Assign(p))?;
@@ -23,7 +24,8 @@ impl SiteParts {
 
     /// The till gives back the hold of the point. That somebody holds it is looked at last.
     pub(crate) fn unassign(&mut self, t: TillNo, p: FpNo) -> Reply
-        ensures steps { Steps (site_of self.old) (Till t) (Event.Unassign p) (site_of self.new) result }
+        ensures steps { Steps (site_of self.old) (Till t) (Event.Unassign p)
+            (site_of self.new) result }
         ensures room { room_of self.new ≡ room_of self.old }
     {
         self.may_ask(t, &Event::Unassign(p))?;

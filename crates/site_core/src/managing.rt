@@ -39,7 +39,8 @@ impl SiteParts {
 
     /// A manager gives a product this price. Fuellings under way keep theirs.
     pub(crate) fn set_price(&mut self, t: TillNo, q: ProductNo, price: u32) -> Reply
-        ensures steps { Steps (site_of self.old) (Till t) (Event.SetPrice q price) (site_of self.new) result }
+        ensures steps { Steps (site_of self.old) (Till t) (Event.SetPrice q price)
+            (site_of self.new) result }
         ensures room { room_of self.new ≡ room_of self.old }
     {
         self.may_ask(t, &Event::SetPrice(q, price))?;
@@ -53,7 +54,8 @@ impl SiteParts {
     /// A manager closes the open shift, and the next one is open then.
     pub(crate) fn close_shift(&mut self, t: TillNo) -> Reply
         requires { 0 < self.old.accounts.closes }
-        ensures steps { Steps (site_of self.old) (Till t) Event.CloseShift (site_of self.new) result }
+        ensures steps { Steps (site_of self.old) (Till t) Event.CloseShift
+            (site_of self.new) result }
         ensures room { room_of self.new ≡ room_left Event.CloseShift result (room_of self.old) }
     {
         self.may_ask(t, &Event::CloseShift)?;

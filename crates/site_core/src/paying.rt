@@ -12,7 +12,8 @@ use site_base::{Event, FpNo, Reply, SaleId, TillNo};
 impl SiteParts {
     /// The till locks a transaction, so that no other till can clear it.
     pub(crate) fn lock(&mut self, t: TillNo, p: FpNo, id: &SaleId) -> Reply
-        ensures steps { Steps (site_of self.old) (Till t) (Event.Lock p id.now) (site_of self.new) result }
+        ensures steps { Steps (site_of self.old) (Till t) (Event.Lock p id.now)
+            (site_of self.new) result }
         ensures room { room_of self.new ≡ room_of self.old }
     {
         self.may_ask(t, &Event::Lock(p, *id))?;
@@ -22,7 +23,8 @@ impl SiteParts {
 
     /// The till makes a transaction that it has locked payable again.
     pub(crate) fn unlock(&mut self, t: TillNo, p: FpNo, id: &SaleId) -> Reply
-        ensures steps { Steps (site_of self.old) (Till t) (Event.Unlock p id.now) (site_of self.new) result }
+        ensures steps { Steps (site_of self.old) (Till t) (Event.Unlock p id.now)
+            (site_of self.new) result }
         ensures room { room_of self.new ≡ room_of self.old }
     {
         self.may_ask(t, &Event::Unlock(p, *id))?;
@@ -33,7 +35,8 @@ impl SiteParts {
     /// The till clears a transaction that it has locked: it is paid, and counts in the open shift.
     pub(crate) fn clear(&mut self, t: TillNo, p: FpNo, id: &SaleId) -> Reply
         requires { Sound (site_of self.old) }
-        ensures steps { Steps (site_of self.old) (Till t) (Event.Clear p id.now) (site_of self.new) result }
+        ensures steps { Steps (site_of self.old) (Till t) (Event.Clear p id.now)
+            (site_of self.new) result }
         ensures room { room_of self.new ≡ room_of self.old }
     {
         self.may_ask(t, &Event::Clear(p, *id))?;

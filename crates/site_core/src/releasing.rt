@@ -17,7 +17,8 @@ use site_base::{
 impl SiteParts {
     /// The till takes the hold of the point and releases it for one sale within this preset.
     pub(crate) fn release(&mut self, t: TillNo, p: FpNo, preset: Preset) -> Reply
-        ensures steps { Steps (site_of self.old) (Till t) (Event.Release p preset) (site_of self.new) result }
+        ensures steps { Steps (site_of self.old) (Till t) (Event.Release p preset)
+            (site_of self.new) result }
         ensures room { room_of self.new ≡ room_of self.old }
     {
         self.may_ask(t, &Event::Release(p, preset))?;
@@ -37,7 +38,8 @@ impl SiteParts {
 
     /// The till takes the hold of the point and releases it for one sale that is prepaid.
     pub(crate) fn prepay(&mut self, t: TillNo, p: FpNo, cents: u32) -> Reply
-        ensures steps { Steps (site_of self.old) (Till t) (Event.Prepay p cents) (site_of self.new) result }
+        ensures steps { Steps (site_of self.old) (Till t) (Event.Prepay p cents)
+            (site_of self.new) result }
         ensures room { room_of self.new ≡ room_of self.old }
     {
         self.may_ask(t, &Event::Prepay(p, cents))?;
@@ -58,7 +60,8 @@ impl SiteParts {
     /// A manager takes the hold of the point and releases it for a test. No sale comes of it, so the
     /// point's sales aren't looked at.
     pub(crate) fn test_release(&mut self, t: TillNo, p: FpNo) -> Reply
-        ensures steps { Steps (site_of self.old) (Till t) (Event.TestRelease p) (site_of self.new) result }
+        ensures steps { Steps (site_of self.old) (Till t) (Event.TestRelease p)
+            (site_of self.new) result }
         ensures room { room_of self.new ≡ room_of self.old }
     {
         self.may_ask(t, &Event::TestRelease(p))?;

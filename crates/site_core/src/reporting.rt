@@ -21,7 +21,8 @@ use site_base::{Answer, Event, FpNo, Millilitres, NozzleNo, PointState, Reply};
 impl SiteParts {
     /// The dispenser is reached: its point is closed then.
     pub(crate) fn online(&mut self, d: FpNo, p: FpNo) -> Reply
-        ensures steps { Steps (site_of self.old) (Dispenser d) (Event.Online p) (site_of self.new) result }
+        ensures steps { Steps (site_of self.old) (Dispenser d) (Event.Online p)
+            (site_of self.new) result }
         ensures room { room_of self.new ≡ room_of self.old }
     {
         self.may_report(d, &Event::Online(p))?;
@@ -32,8 +33,8 @@ impl SiteParts {
     /// A nozzle is taken out: the point calls, or its fuelling starts at today's price and the nozzle's
     /// last reading, which the meter has to read.
     pub(crate) fn lift(&mut self, d: FpNo, p: FpNo, n: NozzleNo, reading: Millilitres) -> Reply
-        ensures steps { Steps (site_of self.old) (Dispenser d) (Event.Lift p n reading) (site_of self.new)
-            result }
+        ensures steps { Steps (site_of self.old) (Dispenser d) (Event.Lift p n reading)
+            (site_of self.new) result }
         ensures room { room_of self.new ≡ room_of self.old }
     {
         self.may_report(d, &Event::Lift(p, n, reading))?;
@@ -53,7 +54,8 @@ impl SiteParts {
     pub(crate) fn offline(&mut self, d: FpNo, p: FpNo) -> Reply
         requires sound { Sound (site_of self.old) }
         requires room { 0 < room_at p self.old.accounts.rooms }
-        ensures steps { Steps (site_of self.old) (Dispenser d) (Event.Offline p) (site_of self.new) result }
+        ensures steps { Steps (site_of self.old) (Dispenser d) (Event.Offline p)
+            (site_of self.new) result }
         ensures room { room_of self.new ≡ room_left (Event.Offline p) result (room_of self.old) }
     {
         self.may_report(d, &Event::Offline(p))?;
@@ -66,8 +68,8 @@ impl SiteParts {
     /// Fuel may have flowed by the nozzle: what its meter has grown since its last reading.
     pub(crate) fn flow(&mut self, d: FpNo, p: FpNo, n: NozzleNo, reading: Millilitres) -> Reply
         requires { Sound (site_of self.old) }
-        ensures steps { Steps (site_of self.old) (Dispenser d) (Event.Flow p n reading) (site_of self.new)
-            result }
+        ensures steps { Steps (site_of self.old) (Dispenser d) (Event.Flow p n reading)
+            (site_of self.new) result }
         ensures room { room_of self.new ≡ room_of self.old }
     {
         self.may_report(d, &Event::Flow(p, n, reading))?;
@@ -85,9 +87,10 @@ impl SiteParts {
     pub(crate) fn hang_up(&mut self, d: FpNo, p: FpNo, n: NozzleNo, reading: Millilitres) -> Reply
         requires sound { Sound (site_of self.old) }
         requires room { 0 < room_at p self.old.accounts.rooms }
-        ensures steps { Steps (site_of self.old) (Dispenser d) (Event.HangUp p n reading) (site_of self.new)
-            result }
-        ensures room { room_of self.new ≡ room_left (Event.HangUp p n reading) result (room_of self.old) }
+        ensures steps { Steps (site_of self.old) (Dispenser d) (Event.HangUp p n reading)
+            (site_of self.new) result }
+        ensures room { room_of self.new
+            ≡ room_left (Event.HangUp p n reading) result (room_of self.old) }
     {
         self.may_report(d, &Event::HangUp(p, n, reading))?;
         let growth = self.growth(p, n, reading);

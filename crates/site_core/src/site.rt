@@ -78,8 +78,9 @@ impl Site {
     }
 
     /// The written step: the reply to this event of this actor, and the site that it leads to. After a
-    /// refusal the site is as it was. The room of `prepare` for the event is there; it takes no memory.
-    /// A sale uses one place of its point, the close of a shift one of the closes; all other room stays.
+    /// refusal the site is as it was. The room of `prepare` for the event is there; it takes no
+    /// memory. A sale uses one place of its point's room, a shift that is closed one of the closes;
+    /// all other room stays.
     pub fn step(&mut self, actor: Actor, event: Event) -> Reply
         requires room { HasRoom self.old.room event }
         ensures step { Steps self.old.site actor event self.new.site result }
@@ -90,8 +91,8 @@ impl Site {
         self.parts.step(actor, &event)
     }
 
-    /// Signs off a till that is signed on, as the written step does. It takes no memory, and all room
-    /// stays.
+    /// Signs off a till that is signed on, as the written step does. It takes no memory, and all
+    /// room stays.
     pub fn sign_off(&mut self, t: TillNo)
         requires { is_signed_on self.old.site t ≡ true }
         ensures step { Steps self.old.site (Actor.Till t) Event.SignOff self.new.site
@@ -123,7 +124,7 @@ impl Site {
         self.parts.accounts.shift(n)
     }
 
-    /// The same as `shift`, counted from the site's lists alone: no figure of the shift's clears that
+    /// The same as `shift`, counted from the site's lists alone: of the shift's clears no figure that
     /// is kept is read.
     pub fn counted_shift(&self, n: ShiftNo) -> Option<ShiftRow>
         ensures { result ≡ shift_row n self.now.site.sales self.now.site.drawn }

@@ -1,6 +1,6 @@
 //! What the site keeps, and which event is whose: the events themselves stand in `signing`, `commanding`,
-//! `holding`, `releasing`, `reporting`, `ending`, `paying`, `managing` and `figures`. `totalling` reads the
-//! totals that are kept, `counting` counts them from the lists.
+//! `holding`, `releasing`, `reporting`, `ending`, `paying`, `managing` and `figures`. `totalling`
+//! reads the totals that are kept, `counting` counts them from the lists.
 
 ghost use Rattle.std.specs.Prelude.{◌≡◌, ℕ, ◌≤◌, IfOk, OnOk, OnErr};
 ghost use Rattle.transaction_buffer.specs.Rooms.{room_at};
@@ -85,7 +85,8 @@ impl SiteParts {
     fn till_step(&mut self, t: TillNo, event: &Event) -> Reply
         requires sound { Sound (site_of self.old) }
         requires room { HasRoom (room_of self.old) event.now }
-        ensures steps { Steps (site_of self.old) (Actor.Till t) event.now (site_of self.new) result }
+        ensures steps { Steps (site_of self.old) (Actor.Till t) event.now
+            (site_of self.new) result }
         ensures room { room_of self.new ≡ room_left event.now result (room_of self.old) }
     {
         match event {
@@ -122,7 +123,8 @@ impl SiteParts {
     fn dispenser_step(&mut self, d: FpNo, event: &Event) -> Reply
         requires sound { Sound (site_of self.old) }
         requires room { HasRoom (room_of self.old) event.now }
-        ensures steps { Steps (site_of self.old) (Actor.Dispenser d) event.now (site_of self.new) result }
+        ensures steps { Steps (site_of self.old) (Actor.Dispenser d) event.now
+            (site_of self.new) result }
         ensures room { room_of self.new ≡ room_left event.now result (room_of self.old) }
     {
         match event {

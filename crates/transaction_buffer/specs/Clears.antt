@@ -39,8 +39,8 @@ clears_by t sales = sum_of (λ x. if is_cleared_by t x.standing then 1 else 0) s
 abbrev pub cents_by : ℕ → Sales → ℕ
 cents_by t sales = sum_of (λ x. if is_cleared_by t x.standing then x.cents else 0) sales
 
--- one more clear, of sale x by till t in shift h, fits in 64 bits: in the figures of that shift, and
--- in all that the till cleared
+-- one more clear, of sale x by till t in shift h, fits in 64 bits: in the figures of that shift,
+-- and in all that the till cleared
 pub record FitsOneClear (h t : ℕ) (x : Sale) (sales : Sales) : Type 0 where
   pub clears : clears_in h t sales + 1 < 2 ^ 64
   pub cents : cents_in h t sales + x.cents < 2 ^ 64
