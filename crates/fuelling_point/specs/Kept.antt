@@ -59,6 +59,10 @@ price_of f = if is_under_way f.state then f.price else 0
 abbrev pub volume_of : Facts → ℕ
 volume_of f = if is_under_way f.state then f.volume else 0
 
+-- the reading at the start of the fuelling, where one is under way
+abbrev pub start_of : Facts → Option ℕ
+start_of f = if is_under_way f.state then Some f.start else None
+
 -- the point as a read shows it, with the till that holds it
 abbrev pub point_view : Facts → Option ℕ → PointView
 point_view f holder = record {

@@ -4,7 +4,7 @@ ghost use Rattle.std.specs.Prelude.{◌≡◌, ℕ, ◌≤◌, ◌+◌, true, fa
 ghost use Rattle.site_base.specs.declared.limits.TheConstants.{GREATEST_READING};
 ghost use Rattle.site_base.specs.declared.state.PointState.TheVariants.{Closed, Started};
 ghost use Rattle.fuelling_point.specs.Table.{is_listed};
-ghost use Rattle.fuelling_point.specs.Kept.{fresh, point_view, FitsGrowth, is_under_way, has_nozzle_out, volume_of};
+ghost use Rattle.fuelling_point.specs.Kept.{fresh, point_view, FitsGrowth, is_under_way, has_nozzle_out, start_of, volume_of};
 ghost use Rattle.fuelling_point.specs.Whole.{IsWhole};
 ghost use Rattle.fuelling_point.specs.Fields.{suspended, flowing};
 ghost use Rattle.fuelling_point.specs.PointChecks.{refusal_of, is_out};
@@ -87,6 +87,17 @@ impl Point {
             prepaid: self.prepaid,
             price,
             volume,
+        }
+    }
+
+    /// The reading at which the fuelling under way started, of the nozzle that is out. None where
+    /// no fuelling is under way.
+    pub fn start(&self) -> Option<Millilitres>
+        ensures { result ≡ start_of self.now }
+    {
+        match self.delivery {
+            Some(delivery) => Some(delivery.start),
+            None => None,
         }
     }
 

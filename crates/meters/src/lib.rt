@@ -3,6 +3,7 @@
 //! moves no meter.
 #![tactic(auto)]
 
+mod counting;
 mod laws;
 mod meter;
 mod meters;

@@ -2,6 +2,7 @@
 
 ghost use Rattle.std.specs.Prelude.{◌≡◌, ◌<◌, ◌≤◌, None, Some, OnOk, IfOk, IfErr};
 ghost use Rattle.site_base.specs.declared.limits.TheConstants.{GREATEST_READING, NOZZLE_CELLS, NOZZLES, POINTS, REPLACEMENT_LIMIT};
+ghost use Rattle.meters.specs.Metered.{metered, most_of_a_nozzle};
 ghost use Rattle.meters.specs.Nozzles.{opened, read_at, replaced_at, IsMetered};
 ghost use Rattle.meters.specs.Places.{nozzle_cell};
 ghost use Rattle.meters.specs.Reports.{growth_of, report_refusal};
@@ -97,6 +98,15 @@ impl Meter {
         ensures { result ≡ self.now.replaced }
     {
         self.replaced
+    }
+
+    /// The millilitres that the nozzle has metered since the site opened: those of this meter, and
+    /// those of its earlier meters.
+    pub fn metered(&self) -> u64
+        ensures value { result ≡ metered self.now }
+        ensures range { result ≤ most_of_a_nozzle }
+    {
+        (self.last.get() - self.began.get()) + self.earlier
     }
 
     /// How much a report adds to the last reading, or why the report is refused.

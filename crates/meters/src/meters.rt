@@ -8,6 +8,7 @@ ghost use Rattle.meters.specs.Metered.{most_of_a_site, product_total, metered_by
 ghost use Rattle.meters.specs.Places.{IsPlace};
 ghost use Rattle.meters.specs.Reports.{growth_of, report_refusal};
 
+use crate::counting::counted;
 use crate::meter::Meter;
 use crate::place::{cell_of, places_of};
 use crate::report::Report;
@@ -175,6 +176,14 @@ impl Meters {
         ensures bound { metered_by every_product self.now ≤ most_of_a_site }
     {
         self.totals[q.cell()]
+    }
+
+    /// The same as `product_total`, summed from the nozzles' own rows: no total that is kept is
+    /// read.
+    pub fn counted(&self, q: ProductNo) -> u64
+        ensures { result ≡ product_total q self.now }
+    {
+        counted(&self.meters, q)
     }
 
     /// The place of the meter of nozzle n of point p, from its cell.

@@ -3,7 +3,7 @@ use Rattle.std.specs.Prelude.{ℕ, ◌+◌, List, [], ◌∷◌, ◌++◌, lengt
 use Rattle.site_base.specs.declared.limits.TheConstants.{GREATEST_SHIFT}
 use Rattle.shift_ledger.specs.declared.row.ShiftRow.{ShiftRow}
 use Rattle.site_base.specs.Numbered.{numbered}
-use Rattle.shift_ledger.specs.Figures.{empty_figures, with_clear, with_draw}
+use Rattle.shift_ledger.specs.Figures.{adjusted_figure, empty_figures, with_clear, with_draw}
 
 -- the figures of the closed shifts in their order, and those of the open one
 pub record Shifts : Type 0 where
@@ -30,6 +30,15 @@ is_last s = open_number s == GREATEST_SHIFT
 -- the figures of shift n; of 0 and of shifts to come, none
 abbrev pub figures_of : ℕ → Shifts → Option ShiftRow
 figures_of n s = numbered n (s.closed ++ s.current ∷ [])
+
+-- the millilitres that tests drew of product q in these shifts
+abbrev pub drawn_among : ℕ → List ShiftRow → ℕ
+drawn_among q [] = 0
+drawn_among q (row ∷ rows) = adjusted_figure q row + drawn_among q rows
+
+-- the millilitres that tests drew of product q in all shifts, the open one's too
+abbrev pub drawn_in_all : ℕ → Shifts → ℕ
+drawn_in_all q s = adjusted_figure q s.current + drawn_among q s.closed
 
 -- the open shift is closed, and the next one is open with nothing in it
 abbrev pub after_close : Shifts → Shifts

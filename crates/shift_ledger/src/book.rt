@@ -1,10 +1,10 @@
 //! The shifts of a site.
 
-ghost use Rattle.std.specs.Prelude.{◌≡◌, ◌<◌, ◌≤◌, true, false, length, OnOk, OnErr, IfOk, IfErr};
+ghost use Rattle.std.specs.Prelude.{◌≡◌, ◌-◌, ◌^◌, ◌<◌, ◌≤◌, true, false, length, OnOk, OnErr, IfOk, IfErr};
 ghost use Rattle.site_base.specs.declared.refusal.Refusal.TheVariants.{ShiftsSpent};
 ghost use Rattle.site_base.specs.declared.limits.TheConstants.{GREATEST_SHIFT};
 ghost use Rattle.shift_ledger.specs.Figures.{FitsClear, FitsDraw};
-ghost use Rattle.shift_ledger.specs.Shifts.{first_shift, open_number, is_last, figures_of};
+ghost use Rattle.shift_ledger.specs.Shifts.{drawn_in_all, first_shift, open_number, is_last, figures_of};
 ghost use Rattle.shift_ledger.specs.Shifts.{after_close, after_clear, after_draw};
 
 use crate::row::ShiftRow;
@@ -86,6 +86,7 @@ impl ShiftBook {
         ensures accepted { OnOk result (is_last self.old.shifts ≡ false) }
         ensures number { IfOk result (λ n. n ≡ open_number self.old.shifts) }
         ensures shifts { OnOk result (self.new.shifts ≡ after_close self.old.shifts) }
+        ensures room { OnOk result (self.new.room ≡ self.old.room - 1) }
         ensures spent { OnErr result (is_last self.old.shifts ≡ true) }
         ensures refused { IfErr result (λ refusal. refusal ≡ ShiftsSpent) }
         ensures err { OnErr result (self.new ≡ self.old) }
@@ -129,5 +130,18 @@ impl ShiftBook {
         } else {
             None
         }
+    }
+
+    /// The millilitres that tests drew of a product in all shifts, summed over the shifts. They fit
+    /// in 64 bits.
+    pub fn drawn(&self, q: ProductNo) -> u64
+        requires { drawn_in_all q self.now.shifts < 2 ^ 64 }
+        ensures { result ≡ drawn_in_all q self.now.shifts }
+    {
+        let mut sum = self.current.drawn(q);
+        for row in &self.closed {
+            sum += row.drawn(q);
+        }
+        sum
     }
 }

@@ -1,7 +1,7 @@
 //! The figures of one shift.
 
 ghost use Rattle.std.specs.Prelude.{◌≡◌};
-ghost use Rattle.shift_ledger.specs.Figures.{empty_figures, with_clear, FitsClear};
+ghost use Rattle.shift_ledger.specs.Figures.{adjusted_figure, empty_figures, with_clear, FitsClear};
 ghost use Rattle.shift_ledger.specs.Figures.{with_draw, FitsDraw};
 
 use site_base::{PRODUCT_CELLS, ProductNo, TILL_CELLS, TillNo};
@@ -49,5 +49,12 @@ impl ShiftRow {
         ensures { self.new ≡ with_draw q ml self.old }
     {
         self.adjusted[q.cell()] += ml;
+    }
+
+    /// The millilitres that tests drew of a product.
+    pub fn drawn(&self, q: ProductNo) -> u64
+        ensures { result ≡ adjusted_figure q self.now }
+    {
+        self.adjusted[q.cell()]
     }
 }

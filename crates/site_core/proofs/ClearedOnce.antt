@@ -14,7 +14,8 @@ use Rattle.shift_ledger.proofs.Counting.{has_every_figure}
 use Rattle.transaction_buffer.specs.Sales.{Sale, Sales}
 use Rattle.written_site.specs.FigureSteps.{HasClear}
 use Rattle.written_site.specs.ShiftFigures.{cents_by, cents_in, cleared_in, clears_by, clears_in}
-use Rattle.site_core.specs.Accounts.{AreFigures, FitsOneClear, row_in}
+use Rattle.site_core.specs.Accounts.{AreFigures, row_in}
+use Rattle.transaction_buffer.specs.Clears.{FitsOneClear}
 use Rattle.site_core.specs.Ledger.{total_of, with_one_more}
 use Rattle.site_core.proofs.AccountFigures.{both, row_open, row_other}
 

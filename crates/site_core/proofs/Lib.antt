@@ -10,3 +10,7 @@ pub mod AccountFigures
 pub mod AskedClears
 pub mod ClearedOnce
 pub mod ShownFigures
+pub mod CountedDraws
+pub mod ToldInOrder
+pub mod CountedFigures
+pub mod RoomsLeft

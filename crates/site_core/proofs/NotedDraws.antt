@@ -22,7 +22,7 @@ use Rattle.written_site.proofs.SoundTables.{same}
 use Rattle.site_core.specs.Ledger.{draws_of, AreDrawn}
 
 -- the draws of these shifts, of which this is the open one
-abbrev told : List ShiftRow → ShiftRow → List (List ℕ)
+abbrev pub told : List ShiftRow → ShiftRow → List (List ℕ)
 told closed current = map (λ row. row.adjusted) (closed ++ current ∷ [])
 
 told-noted : (closed : List ShiftRow) (current : ShiftRow) (q volume : ℕ)
@@ -52,7 +52,7 @@ weighed_has w k (suc i) (v ∷ vs) within =
     let place : k + suc i ≡ k + 1 + i = omega arith in
     rw place (omega (arith, rest))
 
-alone_itself : (q : ℕ) → product_alone q q ≡ 1
+pub alone_itself : (q : ℕ) → product_alone q q ≡ 1
 alone_itself q = let is : (q == q) ≡ true = grind (arith, nat_tests) in rw is refl
 
 figure_within : (closed : List ShiftRow) (current : ShiftRow) (q : ℕ) → 1 ≤ q
@@ -91,7 +91,7 @@ figure_bound shifts cells q kept low high =
     figure_within shifts.closed shifts.current q low (omega arith)
 
 -- the draw of one product is none of another's
-other_alone : (j q : ℕ) → j ≢ q → product_alone j q ≡ 0
+pub other_alone : (j q : ℕ) → j ≢ q → product_alone j q ≡ 0
 other_alone j q apart = by_test (q == j) refl
   where
     by_test : (b : Bool) → (q == j) ≡ b → product_alone j q ≡ 0

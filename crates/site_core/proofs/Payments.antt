@@ -1,18 +1,15 @@
 -- What the accounts do as they are asked is what the written step does.
-use Rattle.std.proofs.Common.{◌≡◌, ℕ, Result, Some, true, sym, ap, subst, ◌∙◌}
+use Rattle.std.proofs.Common.{◌≡◌, ℕ, Result, sym, ap, subst, ◌∙◌}
 use Rattle.site_base.specs.declared.actor.Actor.TheVariants.{Till}
 use Rattle.site_base.specs.declared.answer.Answer.{Answer}
 use Rattle.site_base.specs.declared.event.Event.{Event}
 use Rattle.site_base.specs.declared.refusal.Refusal.{Refusal}
 use Rattle.transaction_buffer.specs.declared.request.Request.{Request}
 use Rattle.transaction_buffer.specs.Asked.{Asked}
-use Rattle.transaction_buffer.specs.Sales.{Key, Sale, Sales, is_unpaid, key, sale_of}
+use Rattle.transaction_buffer.specs.Sales.{Sales, key}
 use Rattle.written_site.proofs.AskedAnswers.{IsAsked}
-use Rattle.written_site.specs.SiteState.{SiteState, open_shift}
+use Rattle.written_site.specs.SiteState.{SiteState}
 use Rattle.written_site.specs.SiteStep.{Steps}
-use Rattle.written_site.specs.Sound.{Sound}
-use Rattle.written_site.proofs.FigureBounds.{figures_fit}
-use Rattle.site_core.specs.Accounts.{FitsOneClear}
 
 -- the till's request for the sale that it names, of shift h
 pub paid : (s : SiteState) (t p n h g : ℕ) (event : Event) (request : Request) (sales : Sales)
@@ -25,18 +22,4 @@ paid s t p n h g event request sales reply same site accounts =
     record {
       replies = asked.replies ∙ sym site.replies;
       leads = ap (λ (x : Sales). record s { sales = x }) asked.leads ∙ sym site.leads;
-    }
-
--- one clear more fits
-pub clear_fits : (s : SiteState) (t : ℕ) (k : Key) (x : Sale) → Sound s
-    → sale_of k s.sales ≡ Some x → is_unpaid x.standing ≡ true
-    → FitsOneClear (open_shift s) t x s.sales
-clear_fits s t k x sound is unpaid =
-    let fits = figures_fit.clears s t (open_shift s) k x sound is unpaid in
-    record {
-      clears = fits.clears;
-      cents = fits.cents;
-      cleared = fits.cleared;
-      all_clears = fits.all_clears;
-      all_cents = fits.all_cents;
     }

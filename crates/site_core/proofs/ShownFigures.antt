@@ -13,8 +13,8 @@ use Rattle.shift_ledger.specs.Figures.{empty_figures, product_figure, till_figur
 use Rattle.shift_ledger.specs.Laws.{HaveRows, IsRow}
 use Rattle.shift_ledger.specs.Shifts.{Shifts, figures_of}
 use Rattle.transaction_buffer.specs.Sales.{Sales}
-use Rattle.written_site.specs.ShiftFigures.{cents_in, cleared_in, clears_in, takings_in, tills}
-use Rattle.site_core.specs.Accounts.{AreFigures, figures_in, products, row_in, shift_row}
+use Rattle.written_site.specs.ShiftFigures.{cleared_in, takings_in, tills}
+use Rattle.site_core.specs.Accounts.{AreFigures, figures_in, products, row_in, shift_row, takings_of}
 use Rattle.site_core.specs.Ledger.{draws_of}
 use Rattle.site_core.proofs.NumberedCells.{member_at}
 
@@ -59,10 +59,10 @@ known d f count xs size figures =
 
 pub till_cells : (n : ℕ) (sales : Sales) (shifts : Shifts) (totals : List (ℕ × ℕ))
     (row : ShiftRow) → AreFigures sales shifts totals → figures_of n shifts ≡ Some row
-    → row.tills ≡ map (λ t. (clears_in n t sales, cents_in n t sales)) tills
+    → row.tills ≡ map (takings_of n sales) tills
 till_cells n sales shifts totals row kept shown =
     let own : row_in n shifts ≡ row = ap (λ o. unwrap_or o empty_figures) shown in
-    known (0, 0) (λ t. (clears_in n t sales, cents_in n t sales)) TILLS row.tills
+    known (0, 0) (takings_of n sales) TILLS row.tills
     (row_is n shifts row kept.rows shown).tills
     (λ t low high. ap (till_figures t) (sym own) ∙ kept.clears n t low high)
 
@@ -91,11 +91,17 @@ row_shown n sales shifts totals kept =
         ap (λ cells. record { tills = cells; products = row.products; adjusted = row.adjusted })
         (till_cells n sales shifts totals row kept shown)
         ∙ ap (λ cells. record {
-          tills = map (λ t. (clears_in n t sales, cents_in n t sales)) tills;
+          tills = map (takings_of n sales) tills;
           products = cells;
           adjusted = row.adjusted;
         }) (product_cells n sales shifts totals row kept shown) in
         rw shown (ap Some is)
+
+-- the draws of a shift are those that its figures have
+pub draws_shown : (n : ℕ) (sales : Sales) (draws : Option (List ℕ))
+    → option_map (λ row. row.adjusted) (option_map (figures_in n sales) draws) ≡ draws
+draws_shown n sales None = refl
+draws_shown n sales (Some row) = refl
 
 -- ---- the cents of all tills
 
@@ -109,4 +115,4 @@ pub takings_shown : (n : ℕ) (sales : Sales) (shifts : Shifts) (totals : List (
     → sum_by (λ (e : ℕ × ℕ). e.1) row.tills ≡ takings_in n sales
 takings_shown n sales shifts totals row kept shown =
     ap (sum_by (λ (e : ℕ × ℕ). e.1)) (till_cells n sales shifts totals row kept shown)
-    ∙ fold_map (λ t. (clears_in n t sales, cents_in n t sales)) (λ (e : ℕ × ℕ). e.1) tills 0
+    ∙ fold_map (takings_of n sales) (λ (e : ℕ × ℕ). e.1) tills 0

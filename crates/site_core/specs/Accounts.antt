@@ -1,5 +1,5 @@
 -- The sales of a site with the figures of its shifts, as contracts see them and as they are kept.
-use Rattle.std.specs.Prelude.{◌≡◌, ℕ, ◌+◌, ◌^◌, ◌<◌, ◌≤◌, List, length, map, Option, option_map, unwrap_or, refl}
+use Rattle.std.specs.Prelude.{◌≡◌, ℕ, ◌≤◌, List, length, map, Option, option_map, unwrap_or, refl}
 use Rattle.std.specs.Coded.{Coded, code_by, coded_ℕ, coded×, coded_list}
 use Rattle.std.specs.List.{range_with_len}
 use Rattle.site_base.specs.declared.limits.TheConstants.{PRODUCTS, TILLS, TILL_CELLS}
@@ -9,7 +9,7 @@ use Rattle.shift_ledger.specs.Figures.{empty_figures, till_figures, product_figu
 use Rattle.shift_ledger.specs.Laws.{HaveRows}
 use Rattle.shift_ledger.specs.Shifts.{Shifts, figures_of}
 use Rattle.transaction_buffer.specs.Codes.{sales_code}
-use Rattle.transaction_buffer.specs.Sales.{Sale, Sales}
+use Rattle.transaction_buffer.specs.Sales.{Sales}
 use Rattle.written_site.specs.ShiftFigures.{cents_by, cents_in, cleared_in, clears_by, clears_in, tills}
 use Rattle.site_core.specs.Ledger.{total_of}
 
@@ -35,11 +35,15 @@ account_code =
 abbrev pub products : List ℕ
 products = range_with_len 1 PRODUCTS
 
+-- how many sales till t cleared in shift h, and their cents
+abbrev pub takings_of : ℕ → Sales → ℕ → ℕ × ℕ
+takings_of h sales t = (clears_in h t sales, cents_in h t sales)
+
 -- the figures of shift h: of each till its clears and their cents, of each product the millilitres
 -- cleared and those drawn by tests
 abbrev pub figures_in : ℕ → Sales → List ℕ → ShiftRow
 figures_in h sales draws = record {
-  tills = map (λ t. (clears_in h t sales, cents_in h t sales)) tills;
+  tills = map (takings_of h sales) tills;
   products = map (λ q. cleared_in h q sales) products;
   adjusted = draws;
 }
@@ -47,14 +51,6 @@ figures_in h sales draws = record {
 -- the figures of shift h, if it is open or closed
 abbrev pub shift_row : ℕ → Sales → List (List ℕ) → Option ShiftRow
 shift_row h sales drawn = option_map (figures_in h sales) (numbered h drawn)
-
--- the figures with one more clear, of sale x by till t in shift h, stay in 64 bits
-pub record FitsOneClear (h t : ℕ) (x : Sale) (sales : Sales) : Type 0 where
-  pub clears : clears_in h t sales + 1 < 2 ^ 64
-  pub cents : cents_in h t sales + x.cents < 2 ^ 64
-  pub cleared : cleared_in h x.product sales + x.volume < 2 ^ 64
-  pub all_clears : clears_by t sales + 1 < 2 ^ 64
-  pub all_cents : cents_by t sales + x.cents < 2 ^ 64
 
 -- the row of shift h; of no such shift, an empty one
 abbrev pub row_in : ℕ → Shifts → ShiftRow
@@ -67,7 +63,7 @@ pub record AreFigures (sales : Sales) (shifts : Shifts) (totals : List (ℕ × �
   pub rows : HaveRows shifts
   pub cells : length totals ≡ TILL_CELLS
   pub clears : (h t : ℕ) → 1 ≤ t → t ≤ TILLS
-      → till_figures t (row_in h shifts) ≡ (clears_in h t sales, cents_in h t sales)
+      → till_figures t (row_in h shifts) ≡ takings_of h sales t
   pub cleared : (h q : ℕ) → 1 ≤ q → q ≤ PRODUCTS
       → product_figure q (row_in h shifts) ≡ cleared_in h q sales
   pub all : (t : ℕ) → 1 ≤ t → t ≤ TILLS → total_of t totals ≡ (clears_by t sales, cents_by t sales)

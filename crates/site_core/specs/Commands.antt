@@ -1,9 +1,9 @@
 -- Commands and reports of which the point itself decides.
-use Rattle.std.specs.Prelude.{◌≡◌, ℕ, Some, None}
+use Rattle.std.specs.Prelude.{◌≡◌, ℕ, true, Some, None, is_none}
 use Rattle.site_base.specs.declared.actor.Actor.{Actor}
 use Rattle.site_base.specs.declared.answer.Answer.TheVariants.{Done}
 use Rattle.site_base.specs.declared.event.Event.{Event}
-use Rattle.site_base.specs.Events.{point_named}
+use Rattle.site_base.specs.Events.{point_named, reported_by}
 use Rattle.fuelling_point.specs.declared.event.PointEvent.{PointEvent}
 use Rattle.fuelling_point.specs.Kept.{FitsGrowth}
 use Rattle.written_site.specs.SiteState.{SiteState, facts_of}
@@ -14,6 +14,7 @@ use Rattle.written_site.specs.SiteStep.{site_answer, accepted_site, points_after
 -- changes
 pub record IsCommand (s : SiteState) (actor : Actor) (p : ℕ) (event : Event) (own : PointEvent) : Type 0 where
   pub names : point_named event ≡ Some p
+  pub asked : is_none (reported_by event) ≡ true
   pub is : own_event s event ≡ Some (p, own)
   pub fits : FitsGrowth own (facts_of s p)
   pub held : is_held s event ≡ None

@@ -1,8 +1,11 @@
 -- What contracts see of a site: its state, and the room that is reserved.
-use Rattle.std.specs.Prelude.{ℕ, ◌<◌, List}
+use Rattle.std.specs.Prelude.{ℕ, ◌-◌, ◌<◌, List, Result, Ok}
+use Rattle.site_base.specs.declared.answer.Answer.{Answer}
+use Rattle.site_base.specs.declared.answer.Answer.TheVariants.{Sold}
 use Rattle.site_base.specs.declared.event.Event.{Event}
 use Rattle.site_base.specs.declared.event.Event.TheVariants.{CloseShift, Offline, HangUp}
-use Rattle.transaction_buffer.specs.Rooms.{room_at}
+use Rattle.site_base.specs.declared.refusal.Refusal.{Refusal}
+use Rattle.transaction_buffer.specs.Rooms.{one_taken, room_at}
 use Rattle.written_site.specs.SiteState.{SiteState}
 
 -- how many more sales of each point, from 1 on, there is room for, and how many more shifts to close
@@ -22,3 +25,17 @@ HasRoom room CloseShift = 0 < room.closes
 HasRoom room (Offline p) = 0 < room_at p room.sales
 HasRoom room (HangUp p n reading) = 0 < room_at p room.sales
 HasRoom room event = Unit {0}
+
+-- the room once an answer tells a sale of point p, or none: a sale has taken one place
+abbrev pub room_sold : ℕ → Answer → Room → Room
+room_sold p (Sold seq growth) room =
+    record { sales = one_taken p room.sales; closes = room.closes }
+room_sold p answer room = room
+
+-- the room that the reply to an event leaves: a sale takes one place of its point, a shift that is
+-- closed one of the closes, and nothing else takes any
+abbrev pub room_left : Event → Result Answer Refusal → Room → Room
+room_left (Offline p) (Ok answer) room = room_sold p answer room
+room_left (HangUp p n reading) (Ok answer) room = room_sold p answer room
+room_left CloseShift (Ok answer) room = record { sales = room.sales; closes = room.closes - 1 }
+room_left event reply room = room

@@ -1,11 +1,14 @@
 //! The sales of a site, with the figures of its shifts.
 
-ghost use Rattle.std.specs.Prelude.{◌≡◌, ℕ, ◌+◌, ◌^◌, ◌<◌, ◌≤◌, ◌==◌, [], ◌∷◌, ◌++◌, Some, true, false, is_some, length, sum_by, OnOk, OnErr, IfOk, IfErr};
+ghost use Rattle.std.specs.Prelude.{◌≡◌, ℕ, ◌+◌, ◌-◌, ◌^◌, ◌<◌, ◌≤◌, ◌==◌, [], ◌∷◌, ◌++◌, Some, true, false, is_some, length, sum_by, OnOk, OnErr, IfOk, IfErr};
 ghost use Rattle.site_base.specs.declared.limits.TheConstants.{GREATEST_SHIFT, UNPAID_LIMIT};
 ghost use Rattle.site_base.specs.declared.refusal.Refusal.TheVariants.{ShiftsSpent};
+ghost use Rattle.site_base.specs.Numbered.{numbered};
 ghost use Rattle.transaction_buffer.specs.declared.request.Request.{Request};
 ghost use Rattle.transaction_buffer.specs.Asked.{Asked};
-ghost use Rattle.transaction_buffer.specs.Rooms.{room_at};
+ghost use Rattle.transaction_buffer.specs.Clears.{FitsOneClear};
+ghost use Rattle.transaction_buffer.specs.Figures.{figure_of};
+ghost use Rattle.transaction_buffer.specs.Rooms.{one_taken, room_at};
 ghost use Rattle.transaction_buffer.specs.Sales.{HasNoneLater, Sale, is_new, is_unpaid, key, new_sale, next_number, no_sales, sale_of, shown, unpaid_at, with_new};
 ghost use Rattle.transaction_buffer.specs.Sums.{volume_by, volume_of};
 ghost use Rattle.transaction_buffer.specs.TransactionTable.{after_sign_off};
@@ -13,16 +16,17 @@ ghost use Rattle.written_site.specs.SiteState.{nothing_drawn};
 ghost use Rattle.written_site.specs.SiteStep.{draw_noted};
 ghost use Rattle.written_site.specs.ShiftFigures.{cents_by, clears_by, takings_in};
 ghost use Rattle.written_site.specs.Volumes.{drawn_of};
-ghost use Rattle.site_core.specs.Accounts.{FitsOneClear, shift_row};
+ghost use Rattle.site_core.specs.Accounts.{shift_row};
 
 use crate::ledger::Ledger;
 use shift_ledger::ShiftRow;
 use site_base::{
-    Answer, FpNo, NoMemory, ProductNo, Refusal, Seq, ShiftNo, Status, TillNo, TransactionView,
+    Answer, FpNo, NoMemory, PRODUCT_CELLS, ProductNo, Refusal, Seq, ShiftNo, Status, TillNo,
+    TransactionView,
 };
 use std::alloc::Global;
 use std::marker::Model;
-use transaction_buffer::Buffer;
+use transaction_buffer::{Buffer, Figure};
 
 /// The sales of a site and the figures of its shifts. The figures are those of the sales that were
 /// cleared and of what tests drew: the type keeps it. Contracts see the sales and the draws alone.
@@ -130,6 +134,24 @@ impl Accounts {
         self.ledger.drawn(q)
     }
 
+    /// A figure summed over the sales themselves, which fits in 64 bits: no sum that is kept is
+    /// read.
+    pub fn counted(&self, figure: &Figure) -> u64
+        requires { figure_of figure.now self.now.sales < 2 ^ 64 }
+        ensures { result ≡ figure_of figure.now self.now.sales }
+    {
+        self.sales.counted(figure)
+    }
+
+    /// The millilitres that tests drew of a product in all shifts, summed over the shifts. They fit
+    /// in 64 bits.
+    pub fn counted_drawn(&self, q: ProductNo) -> u64
+        requires { drawn_of q self.now.drawn < 2 ^ 64 }
+        ensures { result ≡ drawn_of q self.now.drawn }
+    {
+        self.ledger.counted_drawn(q)
+    }
+
     /// Adds a sale of point p in the open shift, and answers its number there. The conditions are
     /// those of the buffer.
     pub fn add(&mut self, p: FpNo, view: TransactionView) -> Seq
@@ -143,6 +165,8 @@ impl Accounts {
         ensures sales { self.new.sales
             ≡ with_new p (new_sale (length self.old.drawn) view) self.old.sales }
         ensures drawn { self.new.drawn ≡ self.old.drawn }
+        ensures rooms { self.new.rooms ≡ one_taken p self.old.rooms }
+        ensures closes { self.new.closes ≡ self.old.closes }
     {
         let shift = self.ledger.open_shift();
         self.sales.add(p, shift, view)
@@ -153,6 +177,8 @@ impl Accounts {
         requires { drawn_of q self.old.drawn + volume < 2 ^ 64 }
         ensures sales { self.new.sales ≡ self.old.sales }
         ensures drawn { self.new.drawn ≡ draw_noted q volume self.old.drawn }
+        ensures rooms { self.new.rooms ≡ self.old.rooms }
+        ensures closes { self.new.closes ≡ self.old.closes }
     {
         self.ledger.note_drawn(q, volume);
     }
@@ -161,6 +187,8 @@ impl Accounts {
     pub fn lock(&mut self, p: FpNo, shift: ShiftNo, s: Seq, t: TillNo) -> Result<Answer, Refusal>
         ensures asked { Asked Request.Lock t (key shift p s) self.old.sales self.new.sales result }
         ensures drawn { self.new.drawn ≡ self.old.drawn }
+        ensures rooms { self.new.rooms ≡ self.old.rooms }
+        ensures closes { self.new.closes ≡ self.old.closes }
     {
         self.sales.lock(p, shift, s, t)
     }
@@ -171,6 +199,8 @@ impl Accounts {
         ensures asked { Asked Request.Unlock t (key shift p s) self.old.sales self.new.sales
             result }
         ensures drawn { self.new.drawn ≡ self.old.drawn }
+        ensures rooms { self.new.rooms ≡ self.old.rooms }
+        ensures closes { self.new.closes ≡ self.old.closes }
     {
         self.sales.unlock(p, shift, s, t)
     }
@@ -184,6 +214,8 @@ impl Accounts {
         ensures asked { Asked (Request.Clear (length self.old.drawn)) t (key shift p s)
             self.old.sales self.new.sales result }
         ensures drawn { self.new.drawn ≡ self.old.drawn }
+        ensures rooms { self.new.rooms ≡ self.old.rooms }
+        ensures closes { self.new.closes ≡ self.old.closes }
     {
         let shown = self.sales.row(p, shift, s);
         let answer = self.sales.clear(p, shift, s, t, self.ledger.open_shift())?;
@@ -201,6 +233,8 @@ impl Accounts {
     pub fn release_all(&mut self, t: TillNo)
         ensures sales { self.new.sales ≡ after_sign_off t self.old.sales }
         ensures drawn { self.new.drawn ≡ self.old.drawn }
+        ensures rooms { self.new.rooms ≡ self.old.rooms }
+        ensures closes { self.new.closes ≡ self.old.closes }
     {
         self.sales.release_all(t);
     }
@@ -214,6 +248,8 @@ impl Accounts {
         ensures number { IfOk result (λ n. n ≡ length self.old.drawn) }
         ensures sales { self.new.sales ≡ self.old.sales }
         ensures drawn { OnOk result (self.new.drawn ≡ self.old.drawn ++ nothing_drawn ∷ []) }
+        ensures rooms { self.new.rooms ≡ self.old.rooms }
+        ensures closes { OnOk result (self.new.closes ≡ self.old.closes - 1) }
         ensures spent { OnErr result ((length self.old.drawn == GREATEST_SHIFT) ≡ true) }
         ensures refused { IfErr result (λ refusal. refusal ≡ ShiftsSpent) }
         ensures err { OnErr result (self.new ≡ self.old) }
@@ -226,6 +262,17 @@ impl Accounts {
         ensures { result ≡ shift_row n self.now.sales self.now.drawn }
     {
         self.ledger.row(n)
+    }
+
+    /// The millilitres that tests drew in shift n of each product, from 1 on. None for shifts to
+    /// come.
+    pub fn draws(&self, n: ShiftNo) -> Option<[u64; PRODUCT_CELLS]>
+        ensures { result ≡ numbered n self.now.drawn }
+    {
+        match self.shift(n) {
+            Some(row) => Some(row.adjusted),
+            None => None,
+        }
     }
 
     /// How many sales the till cleared in all shifts, and their cents.

@@ -14,11 +14,12 @@ use crate::site_parts::SiteParts;
 use site_base::{Event, FpNo, GREATEST_PRESET, GREATEST_PRICE, Preset, Refusal, TillNo};
 
 impl SiteParts {
-    /// The till is signed on, what its event names is there, the event is a till's to ask, a manager
-    /// asks what is for managers alone, a price and a preset are in range, and no other till holds the
-    /// point where the event is for one that no other holds.
+    /// The till is signed on, what its event names is there, a manager asks what is for managers
+    /// alone, a price and a preset are in range, and no other till holds the point where the event
+    /// is for one that no other holds. The event is a till's to ask: no dispenser reports it.
     pub(crate) fn may_ask(&self, t: TillNo, event: &Event) -> Result<(), Refusal>
-        requires { signing (site_of self.now) (Till t) event.now
+        requires reported { is_none (reported_by event.now) ≡ true }
+        requires signs { signing (site_of self.now) (Till t) event.now
             ≡ unless (is_signed_on (site_of self.now) t) NotSignedOn }
         ensures checks { MatchResult result
             (λ _. may_ask (site_of self.now) (Till t) event.now ≡ None)
@@ -28,9 +29,6 @@ impl SiteParts {
     {
         self.signs(t)?;
         self.names(event)?;
-        if event.reported_by().is_some() {
-            return Err(Refusal::NotYourPoint);
-        }
         self.manages(t, event)?;
         prices(event)?;
         limits(event)?;

@@ -3,7 +3,7 @@
 ghost use Rattle.std.specs.Prelude.{◌≡◌};
 ghost use Rattle.site_base.specs.declared.actor.Actor.TheVariants.{Till};
 ghost use Rattle.written_site.specs.SiteStep.{Steps};
-ghost use Rattle.site_core.specs.SiteParts.{site_of};
+ghost use Rattle.site_core.specs.SiteParts.{room_of, site_of};
 ghost use Rattle.site_core.specs.Commands.{IsCommand};
 
 use crate::ending::give_back;
@@ -17,7 +17,8 @@ impl SiteParts {
     /// nothing else changes.
     pub(crate) fn command(&mut self, t: TillNo, p: FpNo, event: &Event, own: PointEvent) -> Reply
         requires { IsCommand (site_of self.old) (Till t) p event.now own }
-        ensures { Steps (site_of self.old) (Till t) event.now (site_of self.new) result }
+        ensures steps { Steps (site_of self.old) (Till t) event.now (site_of self.new) result }
+        ensures room { room_of self.new ≡ room_of self.old }
     {
         self.may_ask(t, event)?;
         self.points.on(p, own)?;
@@ -27,7 +28,9 @@ impl SiteParts {
     /// A till ends the release of a point, or its fuelling. Where the release is taken back, the hold
     /// ends.
     pub(crate) fn terminate(&mut self, t: TillNo, p: FpNo) -> Reply
-        ensures { Steps (site_of self.old) (Till t) (Event.Terminate p) (site_of self.new) result }
+        ensures steps { Steps (site_of self.old) (Till t) (Event.Terminate p)
+            (site_of self.new) result }
+        ensures room { room_of self.new ≡ room_of self.old }
     {
         self.may_ask(t, &Event::Terminate(p))?;
         let step = &self.points.on(p, PointEvent::Terminate)?;

@@ -6,7 +6,8 @@ ghost use Rattle.transaction_buffer.specs.Sales.{new_sale, is_new};
 ghost use Rattle.written_site.specs.SiteState.{open_shift};
 ghost use Rattle.written_site.specs.SiteStep.{first_locker, holds_unless_over, step_told};
 ghost use Rattle.site_core.specs.Endings.{draws_with, MayEnd, sale_told, sales_with};
-ghost use Rattle.site_core.specs.SiteParts.{site_of};
+ghost use Rattle.site_core.specs.Shown.{room_sold};
+ghost use Rattle.site_core.specs.SiteParts.{room_of, site_of};
 ghost use Rattle.meters.specs.Nozzles.{product_of};
 
 use crate::site_parts::SiteParts;
@@ -25,6 +26,7 @@ impl SiteParts {
         requires room { 0 < room_at p self.old.accounts.rooms }
         requires place { MayEnd (site_of self.old) p step.now }
         ensures told { result ≡ step_told (site_of self.old) p growth step.now }
+        ensures room { room_of self.new ≡ room_sold p result (room_of self.old) }
         ensures site { site_of self.new ≡ record (site_of self.old) {
           sales = sales_with (site_of self.old) p step.now;
           drawn = draws_with (site_of self.old) p step.now;

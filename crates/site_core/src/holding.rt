@@ -1,7 +1,8 @@
 //! Taking and giving back the hold of a fuelling point.
 
+ghost use Rattle.std.specs.Prelude.{◌≡◌};
 ghost use Rattle.site_base.specs.declared.actor.Actor.TheVariants.{Till};
-ghost use Rattle.site_core.specs.SiteParts.{site_of};
+ghost use Rattle.site_core.specs.SiteParts.{room_of, site_of};
 ghost use Rattle.written_site.specs.SiteStep.{Steps};
 
 use crate::site_parts::SiteParts;
@@ -11,7 +12,9 @@ use site_base::{Answer, Event, FpNo, Refusal, Reply, TillNo};
 impl SiteParts {
     /// The till takes the hold of the point.
     pub(crate) fn assign(&mut self, t: TillNo, p: FpNo) -> Reply
-        ensures { Steps (site_of self.old) (Till t) (Event.Assign p) (site_of self.new) result }
+        ensures steps { Steps (site_of self.old) (Till t) (Event.Assign p)
+            (site_of self.new) result }
+        ensures room { room_of self.new ≡ room_of self.old }
     {
         self.may_ask(t, &Event::Assign(p))?;
         self.points.on(p, PointEvent::Assign)?;
@@ -21,7 +24,9 @@ impl SiteParts {
 
     /// The till gives back the hold of the point. That somebody holds it is looked at last.
     pub(crate) fn unassign(&mut self, t: TillNo, p: FpNo) -> Reply
-        ensures { Steps (site_of self.old) (Till t) (Event.Unassign p) (site_of self.new) result }
+        ensures steps { Steps (site_of self.old) (Till t) (Event.Unassign p)
+            (site_of self.new) result }
+        ensures room { room_of self.new ≡ room_of self.old }
     {
         self.may_ask(t, &Event::Unassign(p))?;
         self.points.judge(p, &PointEvent::Unassign)?;

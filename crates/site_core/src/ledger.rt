@@ -1,6 +1,6 @@
 //! The figures of the shifts, and those of all shifts together.
 
-ghost use Rattle.std.specs.Prelude.{◌≡◌, ◌+◌, ◌^◌, ◌<◌, ◌≤◌, true, false, OnOk, OnErr, IfOk, IfErr};
+ghost use Rattle.std.specs.Prelude.{◌≡◌, ◌+◌, ◌-◌, ◌^◌, ◌<◌, ◌≤◌, true, false, OnOk, OnErr, IfOk, IfErr};
 ghost use Rattle.site_base.specs.declared.refusal.Refusal.TheVariants.{ShiftsSpent};
 ghost use Rattle.shift_ledger.specs.Figures.{FitsClear};
 ghost use Rattle.shift_ledger.specs.Shifts.{first_shift, open_number, is_last, figures_of};
@@ -91,6 +91,15 @@ impl Ledger {
         self.drawn[q.cell()]
     }
 
+    /// The same, summed over the shifts: the total that is kept isn't read. It fits in 64 bits.
+    pub fn counted_drawn(&self, q: ProductNo) -> u64
+        requires { drawn_of q (draws_of self.now.shifts) < 2 ^ 64 }
+        ensures { result ≡ drawn_of q (draws_of self.now.shifts) }
+    {
+        let _ = q.get();
+        self.shifts.drawn(q)
+    }
+
     /// Adds a clear by a till to the open shift: of this product, so many millilitres and cents. The
     /// sums with it stay in u64.
     pub fn note_cleared(&mut self, t: TillNo, q: ProductNo, volume: u64, cents: u64)
@@ -128,6 +137,7 @@ impl Ledger {
         ensures accepted { OnOk result (is_last self.old.shifts ≡ false) }
         ensures number { IfOk result (λ n. n ≡ open_number self.old.shifts) }
         ensures shifts { OnOk result (self.new.shifts ≡ after_close self.old.shifts) }
+        ensures room { OnOk result (self.new.room ≡ self.old.room - 1) }
         ensures tills { self.new.tills ≡ self.old.tills }
         ensures spent { OnErr result (is_last self.old.shifts ≡ true) }
         ensures refused { IfErr result (λ refusal. refusal ≡ ShiftsSpent) }

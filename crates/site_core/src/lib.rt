@@ -6,6 +6,7 @@
 mod accounts;
 mod asking;
 mod commanding;
+mod counting;
 mod ending;
 mod figures;
 mod holding;

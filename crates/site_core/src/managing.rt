@@ -3,7 +3,8 @@
 ghost use Rattle.std.specs.Prelude.{◌≡◌, ◌<◌};
 ghost use Rattle.site_base.specs.declared.actor.Actor.TheVariants.{Till};
 ghost use Rattle.written_site.specs.SiteStep.{Steps};
-ghost use Rattle.site_core.specs.SiteParts.{site_of};
+ghost use Rattle.site_core.specs.Shown.{room_left};
+ghost use Rattle.site_core.specs.SiteParts.{room_of, site_of};
 
 use crate::site_parts::SiteParts;
 use fuelling_point::PointEvent;
@@ -21,8 +22,9 @@ impl SiteParts {
         n: NozzleNo,
         reading: Millilitres,
     ) -> Reply
-        ensures { Steps (site_of self.old) (Till t) (Event.ReplaceMeter p n reading)
+        ensures steps { Steps (site_of self.old) (Till t) (Event.ReplaceMeter p n reading)
             (site_of self.new) result }
+        ensures room { room_of self.new ≡ room_of self.old }
     {
         self.may_ask(t, &Event::ReplaceMeter(p, n, reading))?;
         self.points.judge(p, &PointEvent::ReplaceMeter)?;
@@ -37,7 +39,9 @@ impl SiteParts {
 
     /// A manager gives a product this price. Fuellings under way keep theirs.
     pub(crate) fn set_price(&mut self, t: TillNo, q: ProductNo, price: u32) -> Reply
-        ensures { Steps (site_of self.old) (Till t) (Event.SetPrice q price) (site_of self.new) result }
+        ensures steps { Steps (site_of self.old) (Till t) (Event.SetPrice q price)
+            (site_of self.new) result }
+        ensures room { room_of self.new ≡ room_of self.old }
     {
         self.may_ask(t, &Event::SetPrice(q, price))?;
         match Mills::new(price) {
@@ -50,7 +54,9 @@ impl SiteParts {
     /// A manager closes the open shift, and the next one is open then.
     pub(crate) fn close_shift(&mut self, t: TillNo) -> Reply
         requires { 0 < self.old.accounts.closes }
-        ensures { Steps (site_of self.old) (Till t) Event.CloseShift (site_of self.new) result }
+        ensures steps { Steps (site_of self.old) (Till t) Event.CloseShift
+            (site_of self.new) result }
+        ensures room { room_of self.new ≡ room_left Event.CloseShift result (room_of self.old) }
     {
         self.may_ask(t, &Event::CloseShift)?;
         Ok(Answer::ShiftClosed(self.accounts.close()?))

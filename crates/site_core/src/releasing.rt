@@ -6,7 +6,7 @@ ghost use Rattle.fuelling_point.specs.Kept.{Facts};
 ghost use Rattle.written_site.specs.SiteState.{facts_of, has_point, price_at_start, reading_at_start};
 ghost use Rattle.written_site.specs.SiteChecks.{may_sell};
 ghost use Rattle.written_site.specs.SiteStep.{Steps};
-ghost use Rattle.site_core.specs.SiteParts.{site_of};
+ghost use Rattle.site_core.specs.SiteParts.{room_of, site_of};
 
 use crate::site_parts::SiteParts;
 use fuelling_point::PointEvent;
@@ -17,7 +17,9 @@ use site_base::{
 impl SiteParts {
     /// The till takes the hold of the point and releases it for one sale within this preset.
     pub(crate) fn release(&mut self, t: TillNo, p: FpNo, preset: Preset) -> Reply
-        ensures { Steps (site_of self.old) (Till t) (Event.Release p preset) (site_of self.new) result }
+        ensures steps { Steps (site_of self.old) (Till t) (Event.Release p preset)
+            (site_of self.new) result }
+        ensures room { room_of self.new ≡ room_of self.old }
     {
         self.may_ask(t, &Event::Release(p, preset))?;
         let (last, price) = self.start_by(p, self.points.out(p));
@@ -36,7 +38,9 @@ impl SiteParts {
 
     /// The till takes the hold of the point and releases it for one sale that is prepaid.
     pub(crate) fn prepay(&mut self, t: TillNo, p: FpNo, cents: u32) -> Reply
-        ensures { Steps (site_of self.old) (Till t) (Event.Prepay p cents) (site_of self.new) result }
+        ensures steps { Steps (site_of self.old) (Till t) (Event.Prepay p cents)
+            (site_of self.new) result }
+        ensures room { room_of self.new ≡ room_of self.old }
     {
         self.may_ask(t, &Event::Prepay(p, cents))?;
         let (last, price) = self.start_by(p, self.points.out(p));
@@ -56,7 +60,9 @@ impl SiteParts {
     /// A manager takes the hold of the point and releases it for a test. No sale comes of it, so the
     /// point's sales aren't looked at.
     pub(crate) fn test_release(&mut self, t: TillNo, p: FpNo) -> Reply
-        ensures { Steps (site_of self.old) (Till t) (Event.TestRelease p) (site_of self.new) result }
+        ensures steps { Steps (site_of self.old) (Till t) (Event.TestRelease p)
+            (site_of self.new) result }
+        ensures room { room_of self.new ≡ room_of self.old }
     {
         self.may_ask(t, &Event::TestRelease(p))?;
         let (last, price) = self.start_by(p, self.points.out(p));

@@ -8,7 +8,8 @@ ghost use Rattle.written_site.specs.SiteChecks.{flowed, put_back_at};
 ghost use Rattle.written_site.specs.Sound.{Sound};
 ghost use Rattle.site_base.specs.declared.actor.Actor.TheVariants.{Dispenser};
 ghost use Rattle.written_site.specs.SiteStep.{Steps};
-ghost use Rattle.site_core.specs.SiteParts.{site_of};
+ghost use Rattle.site_core.specs.Shown.{room_left};
+ghost use Rattle.site_core.specs.SiteParts.{room_of, site_of};
 
 use crate::ending::give_back;
 use crate::site_parts::SiteParts;
@@ -20,7 +21,9 @@ use site_base::{Answer, Event, FpNo, Millilitres, NozzleNo, PointState, Reply};
 impl SiteParts {
     /// The dispenser is reached: its point is closed then.
     pub(crate) fn online(&mut self, d: FpNo, p: FpNo) -> Reply
-        ensures { Steps (site_of self.old) (Dispenser d) (Event.Online p) (site_of self.new) result }
+        ensures steps { Steps (site_of self.old) (Dispenser d) (Event.Online p)
+            (site_of self.new) result }
+        ensures room { room_of self.new ≡ room_of self.old }
     {
         self.may_report(d, &Event::Online(p))?;
         self.points.on(p, PointEvent::Online)?;
@@ -30,8 +33,9 @@ impl SiteParts {
     /// A nozzle is taken out: the point calls, or its fuelling starts at today's price and the nozzle's
     /// last reading, which the meter has to read.
     pub(crate) fn lift(&mut self, d: FpNo, p: FpNo, n: NozzleNo, reading: Millilitres) -> Reply
-        ensures { Steps (site_of self.old) (Dispenser d) (Event.Lift p n reading) (site_of self.new)
-            result }
+        ensures steps { Steps (site_of self.old) (Dispenser d) (Event.Lift p n reading)
+            (site_of self.new) result }
+        ensures room { room_of self.new ≡ room_of self.old }
     {
         self.may_report(d, &Event::Lift(p, n, reading))?;
         let (last, price) = self.start_by(p, Some(n));
@@ -50,7 +54,9 @@ impl SiteParts {
     pub(crate) fn offline(&mut self, d: FpNo, p: FpNo) -> Reply
         requires sound { Sound (site_of self.old) }
         requires room { 0 < room_at p self.old.accounts.rooms }
-        ensures { Steps (site_of self.old) (Dispenser d) (Event.Offline p) (site_of self.new) result }
+        ensures steps { Steps (site_of self.old) (Dispenser d) (Event.Offline p)
+            (site_of self.new) result }
+        ensures room { room_of self.new ≡ room_left (Event.Offline p) result (room_of self.old) }
     {
         self.may_report(d, &Event::Offline(p))?;
         let step = &self.points.on(p, PointEvent::Offline)?;
@@ -62,8 +68,9 @@ impl SiteParts {
     /// Fuel may have flowed by the nozzle: what its meter has grown since its last reading.
     pub(crate) fn flow(&mut self, d: FpNo, p: FpNo, n: NozzleNo, reading: Millilitres) -> Reply
         requires { Sound (site_of self.old) }
-        ensures { Steps (site_of self.old) (Dispenser d) (Event.Flow p n reading) (site_of self.new)
-            result }
+        ensures steps { Steps (site_of self.old) (Dispenser d) (Event.Flow p n reading)
+            (site_of self.new) result }
+        ensures room { room_of self.new ≡ room_of self.old }
     {
         self.may_report(d, &Event::Flow(p, n, reading))?;
         let growth = self.growth(p, n, reading);
@@ -80,8 +87,10 @@ impl SiteParts {
     pub(crate) fn hang_up(&mut self, d: FpNo, p: FpNo, n: NozzleNo, reading: Millilitres) -> Reply
         requires sound { Sound (site_of self.old) }
         requires room { 0 < room_at p self.old.accounts.rooms }
-        ensures { Steps (site_of self.old) (Dispenser d) (Event.HangUp p n reading) (site_of self.new)
-            result }
+        ensures steps { Steps (site_of self.old) (Dispenser d) (Event.HangUp p n reading)
+            (site_of self.new) result }
+        ensures room { room_of self.new
+            ≡ room_left (Event.HangUp p n reading) result (room_of self.old) }
     {
         self.may_report(d, &Event::HangUp(p, n, reading))?;
         let growth = self.growth(p, n, reading);

@@ -5,7 +5,7 @@ ghost use Rattle.std.specs.FinMap as finite;
 ghost use Rattle.site_base.specs.declared.actor.Actor.TheVariants.{Till};
 ghost use Rattle.site_base.specs.declared.event.Event.TheVariants.{SignOn, SignOff};
 ghost use Rattle.written_site.specs.SiteStep.{Steps, accepted_site, ends_at_sign_off, holds_without};
-ghost use Rattle.site_core.specs.SiteParts.{site_of};
+ghost use Rattle.site_core.specs.SiteParts.{room_of, site_of};
 
 use crate::points::Points;
 use crate::site_parts::SiteParts;
@@ -15,7 +15,8 @@ use till_claims::Claims;
 impl SiteParts {
     /// The till signs on, if it isn't.
     pub(crate) fn sign_on(&mut self, t: TillNo) -> Reply
-        ensures { Steps (site_of self.old) (Till t) SignOn (site_of self.new) result }
+        ensures steps { Steps (site_of self.old) (Till t) SignOn (site_of self.new) result }
+        ensures room { room_of self.new ≡ room_of self.old }
     {
         if self.signed_on.contains(t) {
             return Err(Refusal::SignedOn);
@@ -26,7 +27,8 @@ impl SiteParts {
 
     /// The till signs off, if it is signed on.
     pub(crate) fn sign_off(&mut self, t: TillNo) -> Reply
-        ensures { Steps (site_of self.old) (Till t) SignOff (site_of self.new) result }
+        ensures steps { Steps (site_of self.old) (Till t) SignOff (site_of self.new) result }
+        ensures room { room_of self.new ≡ room_of self.old }
     {
         if !self.signed_on.contains(t) {
             return Err(Refusal::NotSignedOn);
@@ -38,7 +40,8 @@ impl SiteParts {
     /// The till leaves: its locked transactions are payable again, its holds of points that are closed,
     /// idle or calling end, and it isn't signed on any more.
     pub(crate) fn leave(&mut self, t: TillNo)
-        ensures { site_of self.new ≡ accepted_site (site_of self.old) (Till t) SignOff }
+        ensures site { site_of self.new ≡ accepted_site (site_of self.old) (Till t) SignOff }
+        ensures room { room_of self.new ≡ room_of self.old }
     {
         self.accounts.release_all(t);
         let_go(&self.points, &mut self.claims, t);

@@ -7,7 +7,7 @@ ghost use Rattle.written_site.specs.ShiftFigures.{product_totals, till_totals};
 ghost use Rattle.site_core.specs.Accounts.{shift_row};
 ghost use Rattle.written_site.specs.SiteStep.{Steps};
 ghost use Rattle.written_site.specs.Sound.{Sound};
-ghost use Rattle.site_core.specs.Shown.{HasRoom};
+ghost use Rattle.site_core.specs.Shown.{HasRoom, room_left};
 
 use crate::ranges::are_fit;
 use crate::site_parts::SiteParts;
@@ -78,20 +78,26 @@ impl Site {
     }
 
     /// The written step: the reply to this event of this actor, and the site that it leads to. After a
-    /// refusal the site is as it was. The room of `prepare` for the event is there; it takes no memory.
+    /// refusal the site is as it was. The room of `prepare` for the event is there; it takes no
+    /// memory. A sale uses one place of its point's room, a shift that is closed one of the closes;
+    /// all other room stays.
     pub fn step(&mut self, actor: Actor, event: Event) -> Reply
         requires room { HasRoom self.old.room event }
         ensures step { Steps self.old.site actor event self.new.site result }
+        ensures room { self.new.room ≡ room_left event result self.old.room }
     {
         // The range of a reading that the event carries.
         let _ = event.reading();
         self.parts.step(actor, &event)
     }
 
-    /// Signs off a till that is signed on, as the written step does. It takes no memory.
+    /// Signs off a till that is signed on, as the written step does. It takes no memory, and all
+    /// room stays.
     pub fn sign_off(&mut self, t: TillNo)
         requires { is_signed_on self.old.site t ≡ true }
-        ensures { Steps self.old.site (Actor.Till t) Event.SignOff self.new.site (Ok Answer.Done) }
+        ensures step { Steps self.old.site (Actor.Till t) Event.SignOff self.new.site
+            (Ok Answer.Done) }
+        ensures room { self.new.room ≡ self.old.room }
     {
         self.parts.leave(t);
     }
@@ -118,7 +124,16 @@ impl Site {
         self.parts.accounts.shift(n)
     }
 
-    /// The totals of the site, with this number of rows. They are kept: nothing is counted anew.
+    /// The same as `shift`, counted from the site's lists alone: of the shift's clears no figure that
+    /// is kept is read.
+    pub fn counted_shift(&self, n: ShiftNo) -> Option<ShiftRow>
+        ensures { result ≡ shift_row n self.now.site.sales self.now.site.drawn }
+    {
+        self.parts.counted_shift(n)
+    }
+
+    /// The totals of the site, with this number of rows: of each product its volumes, in configured
+    /// order, and of each till what it cleared in all shifts. Each is kept, and read.
     pub fn totals(&self, alloc: Global, rows: u64) -> Result<Totals, NoMemory>
         ensures rows { IfOk result (λ totals. totals.rows ≡ rows) }
         ensures products { IfOk result (λ totals.
@@ -129,6 +144,20 @@ impl Site {
             rows,
             products: self.parts.product_totals(alloc)?,
             tills: self.parts.till_totals(alloc)?,
+        })
+    }
+
+    /// The same as `totals`, counted from the site's lists alone: no total that is kept is read.
+    pub fn counted_totals(&self, alloc: Global, count: u64) -> Result<Totals, NoMemory>
+        ensures rows { IfOk result (λ totals. totals.rows ≡ count) }
+        ensures products { IfOk result (λ totals.
+            totals.products.items ≡ product_totals self.now.site) }
+        ensures tills { IfOk result (λ totals. totals.tills.items ≡ till_totals self.now.site) }
+    {
+        Ok(Totals {
+            rows: count,
+            products: self.parts.counted_products(alloc)?,
+            tills: self.parts.counted_tills(alloc)?,
         })
     }
 

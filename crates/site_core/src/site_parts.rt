@@ -1,5 +1,6 @@
 //! What the site keeps, and which event is whose: the events themselves stand in `signing`, `commanding`,
-//! `holding`, `releasing`, `reporting`, `managing` and `figures`.
+//! `holding`, `releasing`, `reporting`, `ending`, `paying`, `managing` and `figures`. `totalling`
+//! reads the totals that are kept, `counting` counts them from the lists.
 
 ghost use Rattle.std.specs.Prelude.{◌≡◌, ℕ, ◌≤◌, IfOk, OnOk, OnErr};
 ghost use Rattle.transaction_buffer.specs.Rooms.{room_at};
@@ -7,7 +8,7 @@ ghost use Rattle.written_site.specs.SiteState.{opening, is_signed_on};
 ghost use Rattle.written_site.specs.SiteStep.{Steps};
 ghost use Rattle.written_site.specs.Sound.{Sound};
 ghost use Rattle.site_core.specs.SiteParts.{site_of, room_of};
-ghost use Rattle.site_core.specs.Shown.{HasRoom};
+ghost use Rattle.site_core.specs.Shown.{HasRoom, room_left};
 ghost use Rattle.std.specs.FinSet as set;
 
 use crate::accounts::Accounts;
@@ -72,7 +73,8 @@ impl SiteParts {
     pub fn step(&mut self, actor: Actor, event: &Event) -> Reply
         requires sound { Sound (site_of self.old) }
         requires room { HasRoom (room_of self.old) event.now }
-        ensures { Steps (site_of self.old) actor event.now (site_of self.new) result }
+        ensures steps { Steps (site_of self.old) actor event.now (site_of self.new) result }
+        ensures room { room_of self.new ≡ room_left event.now result (room_of self.old) }
     {
         match actor {
             Actor::Till(t) => self.till_step(t, event),
@@ -83,7 +85,9 @@ impl SiteParts {
     fn till_step(&mut self, t: TillNo, event: &Event) -> Reply
         requires sound { Sound (site_of self.old) }
         requires room { HasRoom (room_of self.old) event.now }
-        ensures { Steps (site_of self.old) (Actor.Till t) event.now (site_of self.new) result }
+        ensures steps { Steps (site_of self.old) (Actor.Till t) event.now
+            (site_of self.new) result }
+        ensures room { room_of self.new ≡ room_left event.now result (room_of self.old) }
     {
         match event {
             Event::SignOn => self.sign_on(t),
@@ -119,7 +123,9 @@ impl SiteParts {
     fn dispenser_step(&mut self, d: FpNo, event: &Event) -> Reply
         requires sound { Sound (site_of self.old) }
         requires room { HasRoom (room_of self.old) event.now }
-        ensures { Steps (site_of self.old) (Actor.Dispenser d) event.now (site_of self.new) result }
+        ensures steps { Steps (site_of self.old) (Actor.Dispenser d) event.now
+            (site_of self.new) result }
+        ensures room { room_of self.new ≡ room_left event.now result (room_of self.old) }
     {
         match event {
             Event::Online(p) => self.online(d, *p),

@@ -17,7 +17,7 @@ use Rattle.transaction_buffer.specs.Kept.{AreNoted}
 use Rattle.transaction_buffer.specs.LetGo.{IsLetGo, IsLetGoWhere, AreLetGo}
 use Rattle.transaction_buffer.specs.Locked.{locker_at, lockers_at, no_lockers, is_locker, locker_without, lockers_without, AreTold, IsForgotten, IsNoted, KeepsOthers}
 use Rattle.transaction_buffer.specs.Sales.{Sale}
-use Rattle.transaction_buffer.specs.Shelves.{Shelf}
+use Rattle.transaction_buffer.specs.Shelves.{Shelf, rooms_on}
 use Rattle.transaction_buffer.specs.TransactionTable.{is_locked_by, let_go, locker}
 use Rattle.transaction_buffer.specs.UnpaidPlaces.{AreUnpaid, IsLetGoAt}
 use Rattle.transaction_buffer.proofs.TwoPlaces.{let_go_both}
@@ -229,6 +229,7 @@ let_go_twice : (t : ℕ) (x y z : Shelf) (b c : Bool) → is_locker t x.lockers.
     → IsLetGoWhere t c y z → IsLetGo t x z
 let_go_twice t x y z true true p q tells first second = record {
   sales = second.sales ∙ ap (map (let_go t)) first.sales ∙ all_again t x.sales;
+  room = second.room ∙ first.room;
   lockers = second.lockers ∙ ap (lockers_without t) first.lockers
       ∙ rw (without_again t x.lockers.one, without_again t x.lockers.other) refl;
   told = second.told;
@@ -238,6 +239,7 @@ let_go_twice t x y z false true p q tells first second = subst (λ w. IsLetGo t 
 let_go_twice t x y z false false p q tells first second =
     subst (IsLetGo t x) (sym (second ∙ first)) (record {
       sales = sym (tells t p q);
+      room = refl;
       lockers = rw (without_none t x.lockers.one p, without_none t x.lockers.other q) refl;
       told = tells;
     })
@@ -288,6 +290,21 @@ module _ (t k one other : ℕ) (first second third : List Shelf) (was now : Lock
       ∙ sym (get_or-map (map (let_go t)) (map (λ (x : Shelf). x.sales) first) i d d
       (omega (arith, count_first))
       ∙ ap (map (let_go t)) (get_or-map (λ (x : Shelf). x.sales) first i e d inside)))
+
+  pub rooms_let_go : rooms_on third ≡ rooms_on first
+  rooms_let_go =
+      let count_third : length (rooms_on third) ≡ length third =
+      length-map third (λ (x : Shelf). x.room) in
+      let count_first : length (rooms_on first) ≡ length first =
+      length-map first (λ (x : Shelf). x.room) in
+      same_lists (rooms_on third) (rooms_on first)
+      (omega (arith, count_third, count_first, are.cells))
+      (λ i d within.
+      let inside : i < length first = omega (arith, count_third, are.cells) in
+      let e : Shelf = record { sales = []; room = d; lockers = no_lockers } in
+      get_or-map (λ (x : Shelf). x.room) third i e d (omega (arith, are.cells))
+      ∙ (shelf_let_go i e inside).room
+      ∙ sym (get_or-map (λ (x : Shelf). x.room) first i e d inside))
 
   pub noted_let_go : AreNoted third now
   noted_let_go = record {

@@ -11,7 +11,7 @@ use Rattle.std.proofs.lemmas.Bool.{cases_eq}
 use Rattle.transaction_buffer.specs.Sales.{Sale, no_sales, sales_at, sale_in, with_in}
 use Rattle.transaction_buffer.specs.TransactionTable.{let_go, after_sign_off}
 use Rattle.transaction_buffer.specs.Sums.{sum_among, sum_over, sum_of}
-use Rattle.transaction_buffer.specs.Rooms.{room_at}
+use Rattle.transaction_buffer.specs.Rooms.{one_taken, room_at}
 use Rattle.transaction_buffer.specs.Shelves.{Shelf, stock, sales_on, rooms_on, sum_on}
 
 -- the cells in which the shelves' sales stand
@@ -80,6 +80,15 @@ rooms_written shelves i p new place =
     map-set (λ (x : Shelf). x.room) shelves i new
     ∙ ap (λ k. set (rooms_on shelves) k new.room) back
     ∙ sym (with_numbered_place p new.room (rooms_on shelves) (omega arith))
+
+-- where the new shelf has one place less, the point's place is taken
+pub room_taken : (shelves : List Shelf) (i p : ℕ) (new d : Shelf) → i + 1 ≡ p → i < length shelves
+    → new.room + 1 ≡ (get_or shelves i d).room
+    → rooms_on (set shelves i new) ≡ one_taken p (rooms_on shelves)
+room_taken shelves i p new d place within fewer =
+    rooms_written shelves i p new place
+    ∙ ap (λ n. with_numbered p n (rooms_on shelves))
+    (omega (arith, fewer, room_there shelves i p d place within))
 
 -- every other point has the room that it had
 pub room_elsewhere : (shelves : List Shelf) (i p q : ℕ) (new : Shelf) → i + 1 ≡ p → q ≢ p

@@ -5,9 +5,10 @@ use Rattle.transaction_buffer.specs.Locked.{AreTold, lockers_without}
 use Rattle.transaction_buffer.specs.Shelves.{Shelf}
 use Rattle.transaction_buffer.specs.TransactionTable.{let_go}
 
--- on this shelf till t's locked sales are payable, and it is no locker any more
+-- on this shelf till t's locked sales are payable, and it is no locker any more; its room stays
 pub record IsLetGo (t : ℕ) (old new : Shelf) : Type 0 where
   pub sales : new.sales ≡ map (let_go t) old.sales
+  pub room : new.room ≡ old.room
   pub lockers : new.lockers ≡ lockers_without t old.lockers
   pub told : AreTold new.sales new.lockers
 

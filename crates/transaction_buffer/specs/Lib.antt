@@ -1,5 +1,7 @@
 pub mod Asked
+pub mod Clears
 pub mod Codes
+pub mod Figures
 pub mod KeptSums
 pub mod Kept
 pub mod LetGo

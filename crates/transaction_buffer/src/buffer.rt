@@ -4,14 +4,17 @@ ghost use Rattle.std.specs.Prelude.{◌≡◌, ◌≢◌, ℕ, ◌+◌, ◌^◌,
 ghost use Rattle.site_base.specs.declared.limits.TheConstants.{POINT_CELLS, UNPAID_LIMIT};
 ghost use Rattle.transaction_buffer.specs.Sales.{key, no_sales, HasNoneLater, sale_of, next_number, unpaid_at, with_new, is_new, new_sale, shown};
 ghost use Rattle.transaction_buffer.specs.Asked.{Asked};
+ghost use Rattle.transaction_buffer.specs.Figures.{figure_of};
 ghost use Rattle.transaction_buffer.specs.LetGo.{AreLetGo};
 ghost use Rattle.transaction_buffer.specs.TransactionTable.{after_sign_off};
 ghost use Rattle.transaction_buffer.specs.Sums.{volume_of, volume_by};
-ghost use Rattle.transaction_buffer.specs.Rooms.{room_at};
+ghost use Rattle.transaction_buffer.specs.Rooms.{one_taken, room_at};
 ghost use Rattle.transaction_buffer.specs.Shelves.{sales_on};
 ghost use Rattle.transaction_buffer.specs.KeptSums.{AreSums};
 
+use crate::figure::Figure;
 use crate::locked_points::LockedPoints;
+use crate::recount::counted_on;
 use crate::request::Request;
 use crate::sale::Sale;
 use crate::shelf::Shelf;
@@ -113,6 +116,7 @@ impl Buffer {
         requires new { is_new view ≡ true }
         ensures number { next_number p shift self.old.sales ≡ Some result }
         ensures sales { self.new.sales ≡ with_new p (new_sale shift view) self.old.sales }
+        ensures rooms { self.new.rooms ≡ one_taken p self.old.rooms }
     {
         let sale = Sale::new(shift, &view);
         let shelf = &mut self.shelves[p.cell()];
@@ -130,7 +134,8 @@ impl Buffer {
     /// where it isn't there, `AlreadyCleared` where a till has cleared it, and `LockedByOther`
     /// where another till has locked it.
     pub fn lock(&mut self, p: FpNo, shift: ShiftNo, s: Seq, t: TillNo) -> Result<Answer, Refusal>
-        ensures { Asked Request.Lock t (key shift p s) self.old.sales self.new.sales result }
+        ensures asked { Asked Request.Lock t (key shift p s) self.old.sales self.new.sales result }
+        ensures rooms { self.new.rooms ≡ self.old.rooms }
     {
         self.ask(p, shift, s, t, &Request::Lock)
     }
@@ -140,7 +145,9 @@ impl Buffer {
     /// till has cleared it, `LockedByOther` where another till has locked it, and `NotLocked` where
     /// none has.
     pub fn unlock(&mut self, p: FpNo, shift: ShiftNo, s: Seq, t: TillNo) -> Result<Answer, Refusal>
-        ensures { Asked Request.Unlock t (key shift p s) self.old.sales self.new.sales result }
+        ensures asked { Asked Request.Unlock t (key shift p s) self.old.sales self.new.sales
+            result }
+        ensures rooms { self.new.rooms ≡ self.old.rooms }
     {
         self.ask(p, shift, s, t, &Request::Unlock)
     }
@@ -156,8 +163,9 @@ impl Buffer {
         t: TillNo,
         current: ShiftNo,
     ) -> Result<Answer, Refusal>
-        ensures { Asked (Request.Clear current) t (key shift p s) self.old.sales self.new.sales
-            result }
+        ensures asked { Asked (Request.Clear current) t (key shift p s) self.old.sales
+            self.new.sales result }
+        ensures rooms { self.new.rooms ≡ self.old.rooms }
     {
         self.ask(p, shift, s, t, &Request::Clear(current))
     }
@@ -165,7 +173,8 @@ impl Buffer {
     /// Makes every transaction that the till has locked payable; every other stays. It is what a
     /// sign-off does to the transactions.
     pub fn release_all(&mut self, t: TillNo)
-        ensures { self.new.sales ≡ after_sign_off t self.old.sales }
+        ensures sales { self.new.sales ≡ after_sign_off t self.old.sales }
+        ensures rooms { self.new.rooms ≡ self.old.rooms }
     {
         let cell = t.cell();
         let (one, other) = (self.locked.one[cell], self.locked.other[cell]);
@@ -195,6 +204,15 @@ impl Buffer {
         self.sums.get(q, status)
     }
 
+    /// A figure summed over the transactions themselves: no sum that is kept is read. It fits in 64
+    /// bits.
+    pub fn counted(&self, figure: &Figure) -> u64
+        requires { figure_of figure.now self.now.sales < 2 ^ 64 }
+        ensures { result ≡ figure_of figure.now self.now.sales }
+    {
+        counted_on(&self.shelves, figure)
+    }
+
     /// What the transaction table says of the till's request.
     fn ask(
         &mut self,
@@ -204,7 +222,8 @@ impl Buffer {
         t: TillNo,
         request: &Request,
     ) -> Result<Answer, Refusal>
-        ensures { Asked request.now t (key shift p s) self.old.sales self.new.sales result }
+        ensures asked { Asked request.now t (key shift p s) self.old.sales self.new.sales result }
+        ensures rooms { self.new.rooms ≡ self.old.rooms }
     {
         let shelf = &mut self.shelves[p.cell()];
         let Some(old) = shelf.get(shift, s) else {

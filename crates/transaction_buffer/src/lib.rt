@@ -4,8 +4,10 @@
 #![tactic(auto)]
 
 mod buffer;
+mod figure;
 mod laws;
 mod locked_points;
+mod recount;
 mod request;
 mod sale;
 mod shelf;
@@ -15,6 +17,7 @@ mod sums;
 mod unpaid_places;
 
 pub use buffer::Buffer;
+pub use figure::Figure;
 pub use laws::{
     cleared_by_its_locker, cleared_for_good, counted_after, one_locker, read_after, replies_tell,
     summed_after, volumes_add_up, volumes_move,

@@ -5,7 +5,8 @@ ghost use Rattle.site_base.specs.declared.limits.TheConstants.{PRODUCTS};
 ghost use Rattle.transaction_buffer.specs.Sales.{is_unpaid, new_sale, status_of, view_of};
 ghost use Rattle.transaction_buffer.specs.Asked.{outcome};
 ghost use Rattle.transaction_buffer.specs.TransactionTable.{line_for, let_go, locker};
-ghost use Rattle.transaction_buffer.specs.Sums.{volume_locked_by};
+ghost use Rattle.transaction_buffer.specs.Clears.{is_cleared_by, is_cleared_in};
+ghost use Rattle.transaction_buffer.specs.Sums.{has_status, volume_in, volume_locked_by};
 
 use crate::request::Request;
 use crate::standing::Standing;
@@ -129,6 +130,56 @@ impl Sale {
         ensures { result ≡ self.now.volume }
     {
         self.volume.get()
+    }
+
+    /// Its cents.
+    pub fn cents(&self) -> u64
+        ensures { result ≡ self.now.cents }
+    {
+        self.cents.get()
+    }
+
+    /// Its millilitres, if it is of this product; else 0.
+    pub fn volume_in(&self, q: ProductNo) -> u64
+        ensures { result ≡ volume_in q self.now }
+    {
+        if self.product.get() == q.get() {
+            self.volume.get()
+        } else {
+            0
+        }
+    }
+
+    /// Has it this status?
+    pub fn has_status(&self, status: Status) -> bool
+        ensures { result ≡ has_status status self.now.standing }
+    {
+        match (status, self.standing) {
+            (Status::Payable, Standing::Payable) => true,
+            (Status::Locked, Standing::LockedBy(_)) => true,
+            (Status::Cleared, Standing::ClearedBy(_, _)) => true,
+            _ => false,
+        }
+    }
+
+    /// Has this till cleared it?
+    pub fn is_cleared_by(&self, t: TillNo) -> bool
+        ensures { result ≡ is_cleared_by t self.now.standing }
+    {
+        match self.standing {
+            Standing::ClearedBy(till, _) => till.get() == t.get(),
+            _ => false,
+        }
+    }
+
+    /// Was it cleared in this shift?
+    pub fn is_cleared_in(&self, h: ShiftNo) -> bool
+        ensures { result ≡ is_cleared_in h self.now.standing }
+    {
+        match self.standing {
+            Standing::ClearedBy(_, shift) => shift.get() == h.get(),
+            _ => false,
+        }
     }
 
     /// The till that has locked it.

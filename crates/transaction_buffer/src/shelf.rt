@@ -1,17 +1,20 @@
 //! The sales of one fuelling point.
 
-ghost use Rattle.std.specs.Prelude.{◌≡◌, ℕ, ◌-◌, ◌<◌, ◌≤◌, [], ◌∷◌, ◌++◌, true, is_some, IfSome, length, map, OnErr, OnOk, slice_index_or};
+ghost use Rattle.std.specs.Prelude.{◌≡◌, ℕ, ◌+◌, ◌-◌, ◌^◌, ◌<◌, ◌≤◌, [], ◌∷◌, ◌++◌, true, is_some, IfSome, length, map, OnErr, OnOk, slice_index_or};
 ghost use Rattle.site_base.specs.declared.limits.TheConstants.{GREATEST_SEQ, GREATEST_SHIFT, UNPAID_LIMIT};
 ghost use Rattle.transaction_buffer.specs.Sales.{is_unpaid, made_in, next_after, sale_in, unpaid_among, with_in};
 ghost use Rattle.transaction_buffer.specs.Shelves.{NoneAfter, no_span, place_in, shifts_of};
 ghost use Rattle.transaction_buffer.specs.TransactionTable.{let_go};
 ghost use Rattle.transaction_buffer.specs.UnpaidPlaces.{figure_at, AreUnpaid, IsLetGoAt};
+ghost use Rattle.transaction_buffer.specs.Figures.{figure_in};
 ghost use Rattle.transaction_buffer.specs.KeptSums.{AreMoved, CanMove};
 ghost use Rattle.transaction_buffer.specs.LetGo.{IsLetGo};
 ghost use Rattle.transaction_buffer.specs.Locked.{locker_at, no_lockers, AreTold};
 ghost use Rattle.transaction_buffer.specs.Sums.{sum_among, volume_locked_by};
 
+use crate::figure::Figure;
 use crate::locked_points::Lockers;
+use crate::recount::counted_among;
 use crate::sale::Sale;
 use crate::span::Span;
 use crate::sums::Sums;
@@ -108,7 +111,8 @@ impl Shelf {
         requires order { NoneAfter sale.shift (shifts_of self.old.sales) }
         requires number { made_in sale.shift self.old.sales < GREATEST_SEQ }
         requires unpaid { unpaid_among self.old.sales < UNPAID_LIMIT }
-        ensures { self.new.sales ≡ self.old.sales ++ sale ∷ [] }
+        ensures sales { self.new.sales ≡ self.old.sales ++ sale ∷ [] }
+        ensures room { self.new.room + 1 ≡ self.old.room }
     {
         let cell = usize::from(sale.shift().get()) - 1;
         let span = self.spans[cell];
@@ -124,7 +128,8 @@ impl Shelf {
         requires there { is_some (sale_in sale.shift s self.old.sales) ≡ true }
         requires unpaid { IfSome (sale_in sale.shift s self.old.sales) (λ x.
             is_unpaid x.standing ≡ true) }
-        ensures { self.new.sales ≡ with_in sale.shift s sale self.old.sales }
+        ensures sales { self.new.sales ≡ with_in sale.shift s sale self.old.sales }
+        ensures room { self.new.room ≡ self.old.room }
     {
         let Some(place) = self.place(sale.shift(), s) else {
             unreachable!();
@@ -161,6 +166,14 @@ impl Shelf {
         let sales: &[Sale] = &self.sales;
         let left = let_go_sum_at(sales, self.unpaid.one, sums, t);
         let_go_sum_at(sales, self.unpaid.other, &left, t)
+    }
+
+    /// The figure over its sales, which fits.
+    pub fn counted(&self, figure: &Figure) -> u64
+        requires { sum_among (figure_in figure.now) self.now.sales < 2 ^ 64 }
+        ensures { result ≡ sum_among (figure_in figure.now) self.now.sales }
+    {
+        counted_among(&self.sales, figure)
     }
 
     /// The place of the sale of this shift with this number, if there is one.

@@ -1,5 +1,6 @@
 //! What the site itself shows, as a table prints it.
 
+use anyhow::ensure;
 use shift_ledger::ShiftRow;
 use site_base::{FpNo, PointView, SaleId, ShiftNo, Totals, TransactionView};
 
@@ -36,6 +37,19 @@ pub fn print_totals(rt: &impl Print, totals: &Totals) -> anyhow::Result<()> {
     for view in &totals.products {
         println!(rt; "totals: {view}")?;
     }
+    Ok(())
+}
+
+/// The totals that are kept have to be those that are counted.
+pub fn ensure_counted(kept: &Totals, counted: &Totals) -> anyhow::Result<()> {
+    ensure!(
+        kept.products == counted.products,
+        "the products' totals aren't those counted"
+    );
+    ensure!(
+        kept.tills == counted.tills,
+        "the tills' totals aren't those counted"
+    );
     Ok(())
 }
 

@@ -3,7 +3,7 @@
 use crate::asked::{Counted, asked_of};
 use crate::draft::Draft;
 use crate::line::Line;
-use crate::shown::{print_point, print_sale, print_shift, print_totals};
+use crate::shown::{ensure_counted, print_point, print_sale, print_shift, print_totals};
 use anyhow::{Context, ensure};
 use site_base::{Actor, Event, NoMemory, Reply, Row, SiteConfig};
 use site_core::{RunStopped, Site, run};
@@ -86,8 +86,16 @@ impl Table {
         let alloc = self.alloc;
         let site = self.opened(rt)?;
         match line {
-            Line::Totals => print_totals(rt, &site.totals(alloc, 0)?),
-            Line::Shift(n) => print_shift(rt, *n, site.shift(*n)),
+            Line::Totals => {
+                let totals = site.totals(alloc, 0)?;
+                ensure_counted(&totals, &site.counted_totals(alloc, 0)?)?;
+                print_totals(rt, &totals)
+            }
+            Line::Shift(n) => {
+                let row = site.shift(*n);
+                ensure!(row == site.counted_shift(*n), "the shift's figures aren't those counted");
+                print_shift(rt, *n, row)
+            }
             Line::Sale(p, id) => print_sale(rt, *p, id, site.transaction(*p, *id)),
             Line::Show(p) => print_point(rt, *p, site.point(*p)),
             Line::Leave(t) => {

@@ -12,10 +12,11 @@ use Rattle.site_base.proofs.Numbering.{numbered_place, numbered_there}
 use Rattle.meters.specs.Metered.{every_product, most_of_a_site}
 use Rattle.transaction_buffer.specs.declared.standing.Standing.{Standing}
 use Rattle.transaction_buffer.specs.declared.standing.Standing.TheVariants.{Payable, LockedBy, ClearedBy}
+use Rattle.transaction_buffer.specs.Clears.{FitsOneClear}
 use Rattle.transaction_buffer.specs.Sales.{Key, Sale, Sales, sale_of, is_unpaid, with_sale}
 use Rattle.transaction_buffer.specs.Sums.{sum_of, volume_in}
 use Rattle.transaction_buffer.proofs.Summing.{added_sum, alike_sum, replaced_sum}
-use Rattle.written_site.specs.FigureSteps.{DoFiguresFit, AreFiguresInRange, FitsFigures}
+use Rattle.written_site.specs.FigureSteps.{DoFiguresFit, AreFiguresInRange}
 use Rattle.written_site.specs.ShiftFigures.{shift_drawn, is_cleared_by, is_cleared_in, tills}
 use Rattle.written_site.specs.SiteState.{SiteState, nothing_drawn}
 use Rattle.written_site.specs.Sound.{IsPrice, IsSaleSound, Sound}
@@ -104,7 +105,7 @@ volume_of_own : (x : Sale) → volume_in x.product x ≡ x.volume
 volume_of_own x = ap (λ (b : Bool). cond b x.volume 0) (itself x.product)
 
 pub clear_fits : (s : SiteState) (t h : ℕ) (k : Key) (x : Sale) → Sound s
-    → sale_of k s.sales ≡ Some x → is_unpaid x.standing ≡ true → FitsFigures s t h x
+    → sale_of k s.sales ≡ Some x → is_unpaid x.standing ≡ true → FitsOneClear h t x s.sales
 clear_fits s t h k x sound there unpaid =
     let in_shift : (is_cleared_in h (ClearedBy t h) && is_cleared_by t (ClearedBy t h)) ≡ true =
     both_true (h == h) (t == t) (itself h) (itself t) in

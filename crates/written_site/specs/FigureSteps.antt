@@ -5,6 +5,7 @@ use Rattle.site_base.specs.declared.actor.Actor.TheVariants.{Till}
 use Rattle.site_base.specs.declared.event.Event.{Event}
 use Rattle.site_base.specs.declared.event.Event.TheVariants.{Clear}
 use Rattle.site_base.specs.declared.sale.SaleId.{SaleId}
+use Rattle.transaction_buffer.specs.Clears.{FitsOneClear}
 use Rattle.transaction_buffer.specs.Sales.{Key, Sale, Sales, sale_of, is_unpaid}
 use Rattle.written_site.specs.SiteState.{SiteState, key_named, nothing_drawn, open_shift}
 use Rattle.written_site.specs.SiteChecks.{at_sale}
@@ -59,15 +60,6 @@ pub record AreFiguresInRange (s : SiteState) (h : ℕ) : Type 0 where
   pub clears_together : sum_by (λ t. clears_by t s.sales) tills < 2 ^ 64
   pub cents_together : sum_by (λ t. cents_by t s.sales) tills < 2 ^ 64
 
--- one more clear, of sale x, fits in 64 bits: in the figures of shift h, of till t and of its
--- product, and in all that the till cleared
-pub record FitsFigures (s : SiteState) (t h : ℕ) (x : Sale) : Type 0 where
-  pub clears : clears_in h t s.sales + 1 < 2 ^ 64
-  pub cents : cents_in h t s.sales + x.cents < 2 ^ 64
-  pub cleared : cleared_in h x.product s.sales + x.volume < 2 ^ 64
-  pub all_clears : clears_by t s.sales + 1 < 2 ^ 64
-  pub all_cents : cents_by t s.sales + x.cents < 2 ^ 64
-
 -- How an accepted event moves the figures. A clear by till t counts once in the open shift, with
 -- the sale that it names. Every other event leaves what was cleared. A draw adds its volume to its
 -- product in the open shift; every other event leaves what was drawn. In a shift that isn't open
@@ -89,4 +81,4 @@ pub record DoFiguresMove : Type 0 where
 pub record DoFiguresFit : Type 0 where
   pub fit : (s : SiteState) (h : ℕ) → Sound s → AreFiguresInRange s h
   pub clears : (s : SiteState) (t h : ℕ) (k : Key) (x : Sale) → Sound s → sale_of k s.sales ≡ Some x
-      → is_unpaid x.standing ≡ true → FitsFigures s t h x
+      → is_unpaid x.standing ≡ true → FitsOneClear h t x s.sales

@@ -6,7 +6,8 @@ use Rattle.transaction_buffer.specs.declared.request.Request.TheVariants.{Clear}
 use Rattle.transaction_buffer.specs.Asked.{Asked}
 use Rattle.transaction_buffer.specs.Sales.{Sale, key, is_unpaid, sale_of}
 use Rattle.written_site.specs.FigureSteps.{HasClear}
-use Rattle.site_core.specs.Accounts.{AreFigures, FitsOneClear}
+use Rattle.site_core.specs.Accounts.{AreFigures}
+use Rattle.transaction_buffer.specs.Clears.{FitsOneClear}
 use Rattle.site_core.specs.Ledger.{draws_of, total_of, with_one_more}
 use Rattle.site_core.proofs.NotedDraws.{draws-open}
 use Rattle.site_core.proofs.AskedClears.{IsOneClear, accepted_clear, refused_clear}
@@ -20,7 +21,7 @@ cleared : (c : In-Some)
     c.self.inside.sales.sales c.clear.new.self.sales c.in-Some.view x
 cleared c = accepted_clear c.open_shift.result c.args.t (key c.args.shift c.args.p c.args.s)
     c.self.inside.sales.sales c.clear.new.self.sales c.clear.result c.in_ok-answer.answer
-    c.in-Some.view c.clear.ensures c.in_ok-answer.was (sym c.row-shown.ensures ∙ c.in-Some.is)
+    c.in-Some.view c.clear.ensures.asked c.in_ok-answer.was (sym c.row-shown.ensures ∙ c.in-Some.is)
 
 -- its figures fit, and the totals with it
 fits : (c : In-Some)
@@ -81,7 +82,7 @@ pub invariant_of-self : goal.invariant_of-self
 invariant_of-self c =
     rw (refused_clear c.open_shift.result c.args.t (key c.args.shift c.args.p c.args.s)
     c.self.inside.sales.sales c.clear.new.self.sales c.clear.result c.in_err-answer.field-0.0
-    c.clear.ensures c.in_err-answer.was) c.self.invariant
+    c.clear.ensures.asked c.in_err-answer.was) c.self.invariant
 
 pub returns-in_err-answer-clause-asked : goal.returns-in_err-answer-clause-asked
 returns-in_err-answer-clause-asked c =
@@ -97,4 +98,4 @@ returns-in_err-answer-clause-asked c =
     (subst (λ h. Asked (Clear h) c.args.t k c.self.inside.sales.sales new c.from_residual.result)
     shift
     (subst (λ r. Asked (Clear c.open_shift.result) c.args.t k c.self.inside.sales.sales new r)
-    refused c.clear.ensures))
+    refused c.clear.ensures.asked))

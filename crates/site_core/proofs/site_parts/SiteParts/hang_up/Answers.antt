@@ -19,8 +19,8 @@ end-answer-requires-clause-place c = (
     (c.put_back_at.ensures ∙ ap put_back_at c.state.ensures)
     c.in_ok-check.ensures.accepted c.growth-growth.ensures.range c.advance.ensures c.in_ok-step.ensures.step).place
 
-pub returns : goal.returns
-returns c =
+pub returns-clause-steps : goal.returns-clause-steps
+returns-clause-steps c =
     hang_up_steps (site_of c.args.self.now) (site_of c.end-answer.new.self) c.on.new.self c.advance.new.self
     c.give_back.new.claims c.args.d c.args.p c.args.n c.args.reading c.growth-growth.result
     c.put_back_at.result c.in_ok-step.field-0 c.end-answer.result

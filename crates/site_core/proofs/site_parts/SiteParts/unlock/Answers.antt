@@ -6,8 +6,8 @@ use Rattle.site_core.specs.SiteParts.{site_of}
 use Rattle.site_core.proofs.Payments.{paid}
 use Rattle.site_core.proofs.site_parts.SiteParts.unlock.Goals as goal
 
-pub returns : goal.returns
-returns c =
+pub returns-clause-steps : goal.returns-clause-steps
+returns-clause-steps c =
     let s = site_of c.args.self.now in
     rw c.unlock.ensures.drawn (paid s c.args.t c.args.p c.args.id.now.seq c.shift_named-shift.result
     (shift_named s c.args.id.now) (events.Unlock c.args.p c.args.id.now) requests.Unlock

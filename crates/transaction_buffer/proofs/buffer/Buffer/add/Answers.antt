@@ -5,7 +5,7 @@ use Rattle.transaction_buffer.specs.KeptSums.{AreSums}
 use Rattle.transaction_buffer.specs.Sales.{Sale, made_in, next_after, with_new}
 use Rattle.transaction_buffer.specs.Sums.{volume_of}
 use Rattle.transaction_buffer.specs.Shelves.{sales_on, stock}
-use Rattle.transaction_buffer.proofs.OnShelves.{sales_there, room_there, shelf_filled, stock_push}
+use Rattle.transaction_buffer.proofs.OnShelves.{sales_there, room_taken, room_there, shelf_filled, stock_push}
 use Rattle.transaction_buffer.proofs.Kept.{fits_more, kept_sold}
 use Rattle.transaction_buffer.proofs.Lockers.{noted_there, noted_after}
 use Rattle.transaction_buffer.proofs.Spans.{made_counts}
@@ -49,7 +49,7 @@ sold c =
     let old : List Sale = (get_or shelves c.cell.result c.index-self-cell.result).sales in
     let there = sales_there shelves c.cell.result c.args.p c.index-self-cell.result
     c.cell.ensures.place (omega arith) in
-    let added : c.push.new.self.sales ≡ old ++ x ∷ [] = c.push.ensures in
+    let added : c.push.new.self.sales ≡ old ++ x ∷ [] = c.push.ensures.sales in
     let some : stock c.push.new.self.sales ≡ Some c.push.new.self.sales =
     ap stock added ∙ stock_push old x ∙ ap Some (sym added) in
     shelf_filled shelves c.cell.result c.args.p c.push.new.self c.cell.ensures.place (omega arith)
@@ -80,6 +80,11 @@ pub returns-clause-sales : goal.returns-clause-sales
 returns-clause-sales c =
     rw (← c.self.view_is) (sold (goal.at.returns-clause-sales c).After-push
     ∙ ap (λ (x : Sale). with_new c.args.p x (sales_on c.self.inside.shelves)) c.new-sale.ensures.value)
+
+pub returns-clause-rooms : goal.returns-clause-rooms
+returns-clause-rooms c =
+    rw (← c.self.view_is) (room_taken c.self.inside.shelves c.cell.result c.args.p c.push.new.self
+    c.index-self-cell.result c.cell.ensures.place (omega arith) c.push.ensures.room)
 
 pub with-self-inside-requires : goal.with-self-inside-requires
 with-self-inside-requires c =

@@ -1,4 +1,4 @@
-use Rattle.std.proofs.Common.{◌≡◌, true, List, get_or, Some, None, Ok, Err, is_some, sym, ap, subst, ◌∙◌, arith}
+use Rattle.std.proofs.Common.{◌≡◌, true, List, get_or, Some, None, Ok, Err, is_some, refl, sym, ap, subst, ◌∙◌, arith}
 use Rattle.std.proofs.Math.ListN.{set}
 use Rattle.std.proofs.lemmas.List.{set-get_or}
 use Rattle.std.proofs.lemmas.Result.{err_from_is_err_and}
@@ -13,7 +13,7 @@ use Rattle.transaction_buffer.proofs.Accepted.{IsAccepted, accepted}
 use Rattle.transaction_buffer.proofs.InShift.{of_shift}
 use Rattle.transaction_buffer.proofs.Kept.{among, fits_again, kept_replaced}
 use Rattle.transaction_buffer.proofs.Lockers.{noted_there, noted_after}
-use Rattle.transaction_buffer.proofs.OnShelves.{sales_there, shelf_filled, stock_with}
+use Rattle.transaction_buffer.proofs.OnShelves.{rooms_same, sales_there, shelf_filled, stock_with}
 use Rattle.transaction_buffer.proofs.Requests.{asked_of_none, asked_and_refused, asked_and_accepted}
 use Rattle.transaction_buffer.proofs.buffer.Buffer.ask.Goals as goal
 use Rattle.transaction_buffer.proofs.buffer.Buffer.ask.Goals.{After-get, In-Some, In_ok-new, After-put}
@@ -70,7 +70,7 @@ written c =
     ∙ of_shift c.args.shift c.args.s old c.in-Some.old (sym c.get.ensures ∙ c.in-Some.is) in
     let is : sale_in h c.args.s old ≡ Some c.in-Some.old =
     ap (λ g. sale_in g c.args.s old) its ∙ sym c.get.ensures ∙ c.in-Some.is in
-    let put : c.put.new.self.sales ≡ with_in h c.args.s c.in_ok-new.new old = c.put.ensures in
+    let put : c.put.new.self.sales ≡ with_in h c.args.s c.in_ok-new.new old = c.put.ensures.sales in
     let some : stock c.put.new.self.sales ≡ Some c.put.new.self.sales =
     ap stock put ∙ stock_with h c.args.s old c.in-Some.old c.in_ok-new.new is ∙ ap Some (sym put) in
     let changed : c.put.new.self.sales
@@ -80,20 +80,20 @@ written c =
     shelf_filled shelves c.cell.result c.args.p c.put.new.self c.cell.ensures.place (omega arith) some
     ∙ ap (finite.insert (sales_on shelves) c.args.p) changed
 
-pub returns-in_default : goal.returns-in_default
-returns-in_default c =
+pub returns-in_default-clause-asked : goal.returns-in_default-clause-asked
+returns-in_default-clause-asked c =
     let shelves = c.self.inside.shelves in
-    let here = there (goal.at.returns-in_default c).After-get in
+    let here = there (goal.at.returns-in_default-clause-asked c).After-get in
     let none : sale_of (key c.args.shift c.args.p c.args.s) (sales_on shelves) ≡ None =
     ap (sale_in c.args.shift c.args.s) here ∙ sym c.get.ensures ∙ c.in_default.is in
     rw (set-get_or shelves c.cell.result c.index-self-cell.result, ← c.self.view_is)
     (asked_of_none c.args.request.now c.args.t (key c.args.shift c.args.p c.args.s)
     (sales_on shelves) none)
 
-pub returns-in_err-new : goal.returns-in_err-new
-returns-in_err-new c =
+pub returns-in_err-new-clause-asked : goal.returns-in_err-new-clause-asked
+returns-in_err-new-clause-asked c =
     let shelves = c.self.inside.shelves in
-    let sale = found (goal.at.returns-in_err-new c).In-Some in
+    let sale = found (goal.at.returns-in_err-new-clause-asked c).In-Some in
     let p = err_from_is_err_and c.from_residual.result c.from_residual.ensures.1 in
     let refused : outcome (line_for c.args.request.now c.args.t c.in-Some.old) c.in-Some.old
     ≡ Err c.in_err-new.field-0.0 =
@@ -153,16 +153,33 @@ invariant_of-self-2 c =
           c.lockers-after.ensures.told c.note.ensures.noted c.note.ensures.others;
     }
 
-pub returns : goal.returns
-returns c =
+pub returns-clause-asked : goal.returns-clause-asked
+returns-clause-asked c =
     let shelves = c.self.inside.shelves in
-    let sale = found (goal.at.returns c).In-Some in
+    let sale = found (goal.at.returns-clause-asked c).In-Some in
     let is : outcome (line_for c.args.request.now c.args.t c.in-Some.old) c.in-Some.old
     ≡ Ok (c.in_ok-new.new, c.in_ok-new.answer) =
     sym c.asked.ensures.outcome ∙ c.in_ok-new.was in
     rw (← c.self.view_is)
     (subst (λ (s : Sales). Asked c.args.request.now c.args.t (key c.args.shift c.args.p c.args.s)
     (sales_on shelves) s (Ok c.in_ok-new.answer))
-    (sym (written (goal.at.returns c).After-put))
+    (sym (written (goal.at.returns-clause-asked c).After-put))
     (asked_and_accepted c.args.request.now c.args.t (key c.args.shift c.args.p c.args.s)
     c.in-Some.old (c.in_ok-new.new, c.in_ok-new.answer) (sales_on shelves) sale is))
+
+-- ---- the room stays
+
+pub returns-in_default-clause-rooms : goal.returns-in_default-clause-rooms
+returns-in_default-clause-rooms c =
+    rw (set-get_or c.self.inside.shelves c.cell.result c.index-self-cell.result, ← c.self.view_is)
+    refl
+
+pub returns-in_err-new-clause-rooms : goal.returns-in_err-new-clause-rooms
+returns-in_err-new-clause-rooms c =
+    rw (set-get_or c.self.inside.shelves c.cell.result c.index-self-cell.result, ← c.self.view_is)
+    refl
+
+pub returns-clause-rooms : goal.returns-clause-rooms
+returns-clause-rooms c =
+    rw (← c.self.view_is) (rooms_same c.self.inside.shelves c.cell.result c.put.new.self
+    c.index-self-cell.result (omega arith) c.put.ensures.room)

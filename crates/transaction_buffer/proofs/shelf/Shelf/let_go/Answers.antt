@@ -32,6 +32,7 @@ returns c =
     let b = c.self.inside.unpaid.other in
     rw (← c.self.view_is, all_moved (goal.at.returns c).After-let_go_unpaid) (record {
       sales = refl;
+      room = refl;
       lockers = lockers_let_go c.args.t a b old;
       told = told (map (let_go c.args.t) old) a b
           (places_let_go c.args.t old a b c.self.invariant.places);

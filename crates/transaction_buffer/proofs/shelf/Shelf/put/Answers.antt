@@ -33,9 +33,9 @@ pub index_mut-requires : goal.index_mut-requires
 index_mut-requires c =
     let at = standing (goal.at.index_mut-requires c).In-Some in omega (arith, at.within)
 
-pub returns : goal.returns
-returns c =
-    let at = standing (goal.at.returns c).In-Some in
+pub returns-clause-sales : goal.returns-clause-sales
+returns-clause-sales c =
+    let at = standing (goal.at.returns-clause-sales c).In-Some in
     rw (← c.self.view_is) (sym (at.write c.args.sale))
 
 pub invariant_of-self : goal.invariant_of-self
