@@ -58,3 +58,7 @@ pub mod Lockers
 pub mod LockLaws
 pub mod SoldRows
 pub mod NumberLaws
+pub mod FuellingTold
+pub mod FuellingMoves
+pub mod FuellingRows
+pub mod FuellingLaws

@@ -2,10 +2,12 @@
 
 mod numbering;
 mod paying;
+mod selling;
 mod signing;
 
 pub use numbering::sales_are_numbered;
 pub use paying::{cleared_once, locked_by_one};
+pub use selling::{priced_at_start, sales_are_kept};
 pub use signing::{shift_by_rows, signed_on_by_rows};
 
 ghost use Rattle.written_site.specs.Bridge.{AreLegalHistoriesRuns};
