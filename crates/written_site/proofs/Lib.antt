@@ -62,3 +62,4 @@ pub mod FuellingTold
 pub mod FuellingMoves
 pub mod FuellingRows
 pub mod FuellingLaws
+pub mod FitLaws

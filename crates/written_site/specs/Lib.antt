@@ -19,3 +19,4 @@ pub mod LockLaws
 pub mod NumberLaws
 pub mod FuellingWords
 pub mod FuellingLaws
+pub mod FitLaws

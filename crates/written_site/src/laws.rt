@@ -1,10 +1,12 @@
 //! What is true of the written site. The laws have no code: each is proved of the definitions.
 
+mod fitting;
 mod numbering;
 mod paying;
 mod selling;
 mod signing;
 
+pub use fitting::every_figure_fits;
 pub use numbering::sales_are_numbered;
 pub use paying::{cleared_once, locked_by_one};
 pub use selling::{priced_at_start, sales_are_kept};
