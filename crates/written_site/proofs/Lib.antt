@@ -63,3 +63,5 @@ pub mod FuellingMoves
 pub mod FuellingRows
 pub mod FuellingLaws
 pub mod FitLaws
+pub mod MeterLaws
+pub mod ShiftLaws

@@ -20,3 +20,5 @@ pub mod NumberLaws
 pub mod FuellingWords
 pub mod FuellingLaws
 pub mod FitLaws
+pub mod MeterLaws
+pub mod ShiftLaws

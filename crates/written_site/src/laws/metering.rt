@@ -1,0 +1,13 @@
+//! The meters, as the rows of a history tell them.
+
+ghost use Rattle.written_site.specs.MeterLaws.{AreMetersRead};
+ghost use Rattle.written_site.specs.RowWords.{OfEvents, OfBooks};
+
+/// After every list of events from the opening site of any configuration each nozzle's meter began with the
+/// reading of its last accepted ReplaceMeter, else the configured one, and reads its last accepted Lift,
+/// Flow or HangUp; it was replaced as often as rows replaced it, and its earlier meters counted what they
+/// read when they were replaced, less what they began with. So it is of every legal history.
+pub fn meters_by_rows()
+    ensures events { OfEvents AreMetersRead }
+    ensures books { OfBooks AreMetersRead }
+{}
