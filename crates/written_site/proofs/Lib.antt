@@ -65,3 +65,5 @@ pub mod FuellingLaws
 pub mod FitLaws
 pub mod MeterLaws
 pub mod ShiftLaws
+pub mod VolumeRows
+pub mod VolumeLaws

@@ -42,12 +42,12 @@ record WasThere (p n : ℕ) (e : Event) (xs : List Nozzle) (y : Nozzle) : Type 0
   moved : Moved p n e nozzle y
 
 -- a nozzle after one was changed: it is that one, or as it was
-data Changed (p n q m : ℕ) (change : Nozzle → Nozzle) (xs : List Nozzle) (y : Nozzle) : Type 0 where
+pub data Changed (p n q m : ℕ) (change : Nozzle → Nozzle) (xs : List Nozzle) (y : Nozzle) : Type 0 where
   mine : is_its p n q m ≡ true → (x : Nozzle) → nozzle_of p n xs ≡ Some x → y ≡ change x
       → Changed p n q m change xs y
   other : is_its p n q m ≡ false → nozzle_of p n xs ≡ Some y → Changed p n q m change xs y
 
-changed : (p n q m : ℕ) (change : Nozzle → Nozzle) (xs : List Nozzle) (y : Nozzle) → KeepsName change
+pub changed : (p n q m : ℕ) (change : Nozzle → Nozzle) (xs : List Nozzle) (y : Nozzle) → KeepsName change
     → nozzle_of p n (with_nozzle q m change xs) ≡ Some y → Changed p n q m change xs y
 changed p n q m change xs y keeps is = by_test (is_its p n q m) refl
   where
@@ -181,12 +181,12 @@ moves s a e passes p n y is = record {
 
 -- ---- when the site opens
 
-record IsFresh (x : Nozzle) : Type 0 where
-  began : x.began ≡ x.last
-  replaced : x.replaced ≡ 0
-  earlier : x.earlier ≡ 0
+pub record IsFresh (x : Nozzle) : Type 0 where
+  pub began : x.began ≡ x.last
+  pub replaced : x.replaced ≡ 0
+  pub earlier : x.earlier ≡ 0
 
-abbrev EachFresh : List Nozzle → Type 0
+abbrev pub EachFresh : List Nozzle → Type 0
 EachFresh [] = Unit {0}
 EachFresh (x ∷ xs) = IsFresh x × EachFresh xs
 
@@ -199,13 +199,13 @@ fresh_both : (xs ys : List Nozzle) → EachFresh xs → EachFresh ys → EachFre
 fresh_both [] ys fresh rest = rest
 fresh_both (x ∷ xs) ys fresh rest = (fresh.0, fresh_both xs ys fresh.1 rest)
 
-fresh_points : (cs : List ConfiguredPoint) → EachFresh (nozzles_of_points cs)
+pub fresh_points : (cs : List ConfiguredPoint) → EachFresh (nozzles_of_points cs)
 fresh_points [] = tt
 fresh_points (c ∷ cs) =
     fresh_both (nozzles_of_point c) (nozzles_of_points cs) (fresh_numbered c.number 1 c.nozzles)
     (fresh_points cs)
 
-fresh_found : (p n : ℕ) (xs : List Nozzle) (y : Nozzle) → EachFresh xs → nozzle_of p n xs ≡ Some y
+pub fresh_found : (p n : ℕ) (xs : List Nozzle) (y : Nozzle) → EachFresh xs → nozzle_of p n xs ≡ Some y
     → IsFresh y
 fresh_found p n [] y fresh is = absurd (let none : None ≡ Some y = is in cc)
 fresh_found p n (x ∷ xs) y fresh is =

@@ -22,3 +22,4 @@ pub mod FuellingLaws
 pub mod FitLaws
 pub mod MeterLaws
 pub mod ShiftLaws
+pub mod VolumeLaws

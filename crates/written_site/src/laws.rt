@@ -9,7 +9,7 @@ mod shifts;
 mod signing;
 
 pub use fitting::every_figure_fits;
-pub use metering::meters_by_rows;
+pub use metering::{meters_by_rows, volumes_are_conserved};
 pub use numbering::sales_are_numbered;
 pub use paying::{cleared_once, locked_by_one};
 pub use selling::{priced_at_start, sales_are_kept};

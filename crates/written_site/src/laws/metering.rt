@@ -2,6 +2,7 @@
 
 ghost use Rattle.written_site.specs.MeterLaws.{AreMetersRead};
 ghost use Rattle.written_site.specs.RowWords.{OfEvents, OfBooks};
+ghost use Rattle.written_site.specs.VolumeLaws.{AreVolumesConserved};
 
 /// After every list of events from the opening site of any configuration each nozzle's meter began with the
 /// reading of its last accepted ReplaceMeter, else the configured one, and reads its last accepted Lift,
@@ -10,4 +11,13 @@ ghost use Rattle.written_site.specs.RowWords.{OfEvents, OfBooks};
 pub fn meters_by_rows()
     ensures events { OfEvents AreMetersRead }
     ensures books { OfBooks AreMetersRead }
+{}
+
+/// After every list of events from the opening site of any configuration, for each product that a site can
+/// have: what the meters of its nozzles have counted is in the fuellings under way, in sales that are
+/// payable, locked or cleared, and in draws; and the growths that the rows tell add up to what all
+/// meters have counted. So it is of every legal history.
+pub fn volumes_are_conserved()
+    ensures events { OfEvents AreVolumesConserved }
+    ensures books { OfBooks AreVolumesConserved }
 {}
