@@ -67,3 +67,4 @@ pub mod MeterLaws
 pub mod ShiftLaws
 pub mod VolumeRows
 pub mod VolumeLaws
+pub mod WorkedLaws
