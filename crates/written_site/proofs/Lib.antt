@@ -68,3 +68,4 @@ pub mod ShiftLaws
 pub mod VolumeRows
 pub mod VolumeLaws
 pub mod WorkedLaws
+pub mod PointLaws

@@ -23,3 +23,4 @@ pub mod FitLaws
 pub mod MeterLaws
 pub mod ShiftLaws
 pub mod VolumeLaws
+pub mod PointLaws
