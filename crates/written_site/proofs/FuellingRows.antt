@@ -197,7 +197,7 @@ module _ (c : Configured) (earlier : List Row) (s : SiteState) (r : Row) (fuel :
           (ap (λ (f : Facts). f.state) (sym is) ∙ calling))
 
   -- a fuelling that the event starts
-  starts_more : (p : ℕ) (event : PointEvent) → Passed s r.actor r.event
+  pub starts_more : (p : ℕ) (event : PointEvent) → Passed s r.actor r.event
       → own_event s r.event ≡ Some (p, event) → refusal_of event (facts_of s p) ≡ None
       → is_under_way (after event (facts_of s p)).state ≡ true
       → is_under_way (facts_of s p).state ≡ false → starts p m ≡ true

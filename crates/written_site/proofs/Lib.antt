@@ -69,3 +69,4 @@ pub mod VolumeRows
 pub mod VolumeLaws
 pub mod WorkedLaws
 pub mod PointLaws
+pub mod RunRows

@@ -114,7 +114,7 @@ cells_so : (row : List ℕ) (r : ℕ) → length row ≡ PRODUCT_CELLS → (r �
 cells_so row r cells (inl none) = inl none
 cells_so row r cells (inr beyond) = inr (omega (arith, cells, beyond))
 
-unnoted : (r v : ℕ) (rows : List (List ℕ)) → list_all is_draw_row rows ≡ true
+pub unnoted : (r v : ℕ) (rows : List (List ℕ)) → list_all is_draw_row rows ≡ true
     → (r ≡ 0) ⊎ (PRODUCT_CELLS < r) → draw_noted r v rows ≡ rows
 unnoted r v [] all out = refl
 unnoted r v (row ∷ []) all out =
@@ -229,7 +229,7 @@ sales_move w c earlier s a e fuel passes =
     stays_so (w (product_at s e)) (sold_by w s.sales) (sold_at s e)
     (none_sold s (own_event s e) refl)
 
-draws_move : (q : ℕ) (c : Configured) (earlier : List Row) (s : SiteState) (a : Actor) (e : Event)
+pub draws_move : (q : ℕ) (c : Configured) (earlier : List Row) (s : SiteState) (a : Actor) (e : Event)
     → KnowsFuel c earlier s → Passed s a e → 1 ≤ q → q ≤ PRODUCT_CELLS
     → list_all is_draw_row s.drawn ≡ true → 1 ≤ length s.drawn
     → drawn_by (product_alone q) (drawn_after s e)
@@ -273,16 +273,16 @@ record Moves (q : ℕ) (s new : SiteState) : Type 0 where
       ≡ drawn_by (product_alone q) s.drawn + weight * drawn
 
 -- what is known of volumes
-record KnowsVolumes (c : Configured) (earlier : List Row) (s : SiteState) : Type 0 where
-  fuel : KnowsFuel c earlier s
-  risen : AreRisen s.nozzles
-  quiet : Quiet [] s.points
-  rows : list_all is_draw_row s.drawn ≡ true
-  conserved : (q : ℕ) → 1 ≤ q → q ≤ PRODUCT_CELLS
+pub record KnowsVolumes (c : Configured) (earlier : List Row) (s : SiteState) : Type 0 where
+  pub fuel : KnowsFuel c earlier s
+  pub risen : AreRisen s.nozzles
+  pub quiet : Quiet [] s.points
+  pub rows : list_all is_draw_row s.drawn ≡ true
+  pub conserved : (q : ℕ) → 1 ≤ q → q ≤ PRODUCT_CELLS
       → metered_by (product_alone q) s.nozzles
       ≡ running_by (product_alone q) s.nozzles s.points + sold_by (product_alone q) s.sales
       + drawn_by (product_alone q) s.drawn
-  grown : total (λ r. growth_told r.reply) earlier ≡ metered_by every_product s.nozzles
+  pub grown : total (λ r. growth_told r.reply) earlier ≡ metered_by every_product s.nozzles
 
 moves_accepted : (q : ℕ) (c : Configured) (earlier : List Row) (s : SiteState) (a : Actor) (e : Event)
     → KnowsVolumes c earlier s → 1 ≤ q → q ≤ PRODUCT_CELLS → Passed s a e
@@ -335,7 +335,7 @@ grown_row c earlier s r known replies =
     let moved = meters_move every_product s r.actor r.event known.risen known.fuel.known.whole passes in
     omega (arith, told, moved))
 
-volumes_more : (c : Configured) (earlier : List Row) (s : SiteState) (r : Row)
+pub volumes_more : (c : Configured) (earlier : List Row) (s : SiteState) (r : Row)
     → KnowsVolumes c earlier s → r.reply ≡ reply_to s r.actor r.event
     → KnowsVolumes c (earlier ++ r ∷ []) (site_after s r.actor r.event)
 volumes_more c earlier s r known replies = record {
@@ -379,7 +379,7 @@ no_nozzle_risen c p n x is =
     let same_reading = fresh.began in
     omega (arith, same_reading)
 
-volumes_first : (c : Configured) → KnowsVolumes c [] (opening c)
+pub volumes_first : (c : Configured) → KnowsVolumes c [] (opening c)
 volumes_first c = record {
   fuel = fuel_first c;
   risen = no_nozzle_risen c;

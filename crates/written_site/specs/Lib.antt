@@ -24,3 +24,4 @@ pub mod MeterLaws
 pub mod ShiftLaws
 pub mod VolumeLaws
 pub mod PointLaws
+pub mod DrawLaws
