@@ -31,7 +31,7 @@ use Rattle.written_site.proofs.SoundVolumes.{none_drawn, nozzle_there, product_o
 -- ---- the draws of a shift
 
 -- what was drawn of product r in shift g, of these draws
-abbrev drawn_there : ℕ → ℕ → List (List ℕ) → ℕ
+abbrev pub drawn_there : ℕ → ℕ → List (List ℕ) → ℕ
 drawn_there g r rows = unwrap_or (numbered r (unwrap_or (numbered g rows) nothing_drawn)) 0
 
 -- a draw changes the last shift's draws, and no other's
@@ -86,7 +86,7 @@ more_figure q r v row low high = by_test (r == q) refl
         (numbered_with_other q r row (unwrap_or (numbered q row) 0 + v) (apart at))
         ∙ (omega arith)
 
-noted_figure : (q v g r : ℕ) (rows : List (List ℕ)) → 1 ≤ length rows → 1 ≤ q → q ≤ PRODUCT_CELLS
+pub noted_figure : (q v g r : ℕ) (rows : List (List ℕ)) → 1 ≤ length rows → 1 ≤ q → q ≤ PRODUCT_CELLS
     → ((h : ℕ) (row : List ℕ) → numbered h rows ≡ Some row → length row ≡ PRODUCT_CELLS)
     → drawn_there g r (draw_noted q v rows)
     ≡ drawn_there g r rows + cond (g == length rows && r == q) v 0
@@ -138,7 +138,7 @@ noted_figure q v (suc i) r rows some low high cells = by_test (suc i == length r
         ∙ (omega arith)
 
 -- a shift that is opened has no draws, as every shift to come
-opened_figure : (g r : ℕ) (rows : List (List ℕ))
+pub opened_figure : (g r : ℕ) (rows : List (List ℕ))
     → drawn_there g r (rows ++ nothing_drawn ∷ []) ≡ drawn_there g r rows
 opened_figure g r rows = by_test (g == length rows + 1) refl
   where
@@ -160,7 +160,7 @@ opened_figure g r rows = by_test (g == length rows + 1) refl
 
 -- ---- every event
 
-none_more : (b : Bool) (n v : ℕ) → v ≡ 0 → n ≡ n + cond b v 0
+pub none_more : (b : Bool) (n v : ℕ) → v ≡ 0 → n ≡ n + cond b v 0
 none_more true n v none = omega (arith, none)
 none_more false n v none = omega arith
 

@@ -58,3 +58,15 @@ pub mod Lockers
 pub mod LockLaws
 pub mod SoldRows
 pub mod NumberLaws
+pub mod FuellingTold
+pub mod FuellingMoves
+pub mod FuellingRows
+pub mod FuellingLaws
+pub mod FitLaws
+pub mod MeterLaws
+pub mod ShiftLaws
+pub mod VolumeRows
+pub mod VolumeLaws
+pub mod WorkedLaws
+pub mod PointLaws
+pub mod RunRows

@@ -97,7 +97,7 @@ after_none : {A : Type 0} (o : Option A) → last_said None o ≡ o
 after_none None = refl
 after_none (Some x) = refl
 
-said_last : {A : Type 0} (a b c : Option A)
+pub said_last : {A : Type 0} (a b c : Option A)
     → last_said a (last_said b c) ≡ last_said (last_said a b) c
 said_last a b None = refl
 said_last a b (Some x) = refl
@@ -128,3 +128,18 @@ total_word word figure agrees s (r ∷ rs) legal =
     let rest = total_word word figure agrees (site_after s r.actor r.event) rs legal.1 in
     let here = agrees s r legal.0 in
     omega (arith, rest, here)
+
+folded_said : {A : Type 0} (says : Row → Option A) (o : Option A) (rs : List Row)
+    → folded (λ x r. last_said x (says r)) o rs ≡ last_said o (latest says rs)
+folded_said says o [] = refl
+folded_said says o (r ∷ rs) =
+    folded_said says (last_said o (says r)) rs ∙ sym (said_last o (says r) (latest says rs))
+
+-- a word of the site that may be none
+pub said_word : {A : Type 0} (word : SiteState → Option A) (says : Row → Option A)
+    → ((s : SiteState) (r : Row) → r.reply ≡ reply_to s r.actor r.event
+    → word (site_after s r.actor r.event) ≡ last_said (word s) (says r))
+    → (s : SiteState) (rs : List Row) → IsLegal s rs
+    → word (site_of_rows s rs) ≡ last_said (word s) (latest says rs)
+said_word word says agrees s rs legal =
+    folds word (λ x r. last_said x (says r)) agrees s rs legal ∙ folded_said says (word s) rs

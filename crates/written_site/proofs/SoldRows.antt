@@ -33,6 +33,7 @@ use Rattle.written_site.proofs.ToldAnswers.{never_sold}
 pub record SellsHere (s : SiteState) (r : Row) (k : Key) (new : SiteState) : Type 0 where
   pub passes : Passed s r.actor r.event
   pub leads : new ≡ accepted_site s r.actor r.event
+  pub told : r.reply ≡ Ok (site_answer s r.event)
   pub point : ℕ
   pub event : PointEvent
   pub own : own_event s r.event ≡ Some (point, event)
@@ -56,6 +57,7 @@ sells_by k earlier s a e p event shift passes own (Sold nozzle volume price prep
     record {
       passes = passes;
       leads = refl;
+      told = refl;
       point = p;
       event = event;
       own = own;

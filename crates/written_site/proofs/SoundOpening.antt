@@ -215,12 +215,12 @@ opening_length products (p ∷ ps) all =
 no_sale : (p : ℕ) → sales_at p no_sales ≡ []
 no_sale p = ap (λ (o : Option (List Sale)). unwrap_or o []) (get-empty nat_cmp p)
 
-closed_volumes : (w : ℕ → ℕ) (nozzles : List Nozzle) (ps : List ConfiguredPoint)
+pub closed_volumes : (w : ℕ → ℕ) (nozzles : List Nozzle) (ps : List ConfiguredPoint)
     → running_by w nozzles (points_of ps) ≡ 0
 closed_volumes w nozzles [] = refl
 closed_volumes w nozzles (p ∷ ps) = omega (arith, mul-zero (w 0), closed_volumes w nozzles ps)
 
-nothing_weighs : (w : ℕ → ℕ) → drawn_by w (nothing_drawn ∷ []) ≡ 0
+pub nothing_weighs : (w : ℕ → ℕ) → drawn_by w (nothing_drawn ∷ []) ≡ 0
 nothing_weighs w = omega arith
 
 no_unpaid : (p : ℕ) → unpaid_at p no_sales ≡ 0
@@ -233,7 +233,7 @@ none_named : (k : Key) (x : Sale) → sale_of k no_sales ≡ Some x → ⊥
 none_named k x is =
     let nothing : None ≡ Some x = sym (ap (sale_in k.shift k.number) (no_sale k.point)) ∙ is in cc
 
-balanced : (metered running sold drawn : ℕ) → metered ≡ 0 → running ≡ 0 → sold ≡ 0 → drawn ≡ 0
+pub balanced : (metered running sold drawn : ℕ) → metered ≡ 0 → running ≡ 0 → sold ≡ 0 → drawn ≡ 0
     → metered ≡ running + sold + drawn
 balanced metered running sold drawn m r s d = omega arith
 

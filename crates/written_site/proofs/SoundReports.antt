@@ -89,7 +89,7 @@ hung_up_grows s p n reading taken =
 -- ---- after any event
 
 -- a point that isn't the event's
-apart : (p q : ℕ) (event : PointEvent)
+pub apart : (p q : ℕ) (event : PointEvent)
     → ((other : PointEvent) → ◌≡◌ {A = Option (ℕ × PointEvent)} (Some (p, event)) (Some (q, other))
     → ⊥) → (p == q) ≡ false
 apart p q event away = by_test (p == q) refl

@@ -49,7 +49,7 @@ use Rattle.written_site.proofs.AskedSums.{asked_keeps}
 
 -- ---- metered
 
-weighs_none : (weight volume : ℕ) → volume ≡ volume + weight * 0
+pub weighs_none : (weight volume : ℕ) → volume ≡ volume + weight * 0
 weighs_none weight volume = omega (arith, mul-zero weight)
 
 -- a reading above the last one, of the nozzle that is out
@@ -100,7 +100,7 @@ calling_still s e p event taken own calling =
     let reads = taken.reads in
     grind (arith, common_steps, nat_tests)
 
-weighed : (weight v growth v' sold drawn : ℕ) → v + growth ≡ v' + sold + drawn
+pub weighed : (weight v growth v' sold drawn : ℕ) → v + growth ≡ v' + sold + drawn
     → weight * v + weight * growth ≡ weight * v' + weight * (sold + drawn)
 weighed weight v growth v' sold drawn is =
     let all : weight * (v + growth) ≡ weight * (v' + sold + drawn) =
@@ -108,7 +108,7 @@ weighed weight v growth v' sold drawn is =
     omega (arith, all)
 
 -- a volume after the event weighs what it would by the nozzle that was out
-same_weight : (w : ℕ → ℕ) (nozzles : List Nozzle) (p : ℕ) (old new : Facts)
+pub same_weight : (w : ℕ → ℕ) (nozzles : List Nozzle) (p : ℕ) (old new : Facts)
     → (volume_of new ≡ 0) ⊎ (new.out ≡ old.out)
     → w (product_out nozzles p new) * volume_of new ≡ w (product_out nozzles p old) * volume_of new
 same_weight w nozzles p old new (inl none) =
@@ -119,7 +119,7 @@ same_weight w nozzles p old new (inr out) =
     ap (λ (o : Option ℕ). w (unwrap_or (product_of p (unwrap_or o 0) nozzles) 0) * volume_of new)
     out
 
-joined : (moved was all new kept over growth : ℕ) → moved + was ≡ all + new → new ≡ kept
+pub joined : (moved was all new kept over growth : ℕ) → moved + was ≡ all + new → new ≡ kept
     → was + growth ≡ kept + over → moved + over ≡ all + growth
 joined moved was all new kept over growth with_row same_ones is = omega arith
 
@@ -190,11 +190,11 @@ pub none_drawn : (s : SiteState) (own : Option (ℕ × PointEvent)) → ends_by 
 none_drawn s None other = refl
 none_drawn s (Some x) other = nothing_drawn x.1 (facts_of s x.0) other
 
-stays_so : (weight all volume : ℕ) → volume ≡ 0 → all ≡ all + weight * volume
+pub stays_so : (weight all volume : ℕ) → volume ≡ 0 → all ≡ all + weight * volume
 stays_so weight all volume none =
     weighs_none weight all ∙ ap (λ (v : ℕ). all + weight * v) (sym none)
 
-abbrev weight_of : (ℕ → ℕ) → Sale → ℕ
+abbrev pub weight_of : (ℕ → ℕ) → Sale → ℕ
 weight_of w x = w x.product * x.volume
 
 let_go_weighs : (w : ℕ → ℕ) (t : ℕ) (x : Sale) → weight_of w (let_go t x) ≡ weight_of w x
@@ -205,14 +205,14 @@ let_go_weighs w t x = by_test (is_locked_by t x.standing)
     by_test true = refl
     by_test false = refl
 
-sign_off_weighs : (w : ℕ → ℕ) (t : ℕ) (sales : Sales)
+pub sign_off_weighs : (w : ℕ → ℕ) (t : ℕ) (sales : Sales)
     → sold_by w (after_sign_off t sales) ≡ sold_by w sales
 sign_off_weighs w t sales =
     changed_sum (weight_of w) (let_go t) sales
     ∙ alike_sum (λ x. weight_of w (let_go t x)) (weight_of w) (let_go_weighs w t) sales
 
 -- what a till asks of a sale doesn't change its product or its volume
-asked_weighs : (w : ℕ → ℕ) (request : Request) (t : ℕ) (k : Key) (sales : Sales)
+pub asked_weighs : (w : ℕ → ℕ) (request : Request) (t : ℕ) (k : Key) (sales : Sales)
     → sold_by w (after_request request t k sales) ≡ sold_by w sales
 asked_weighs w request t k sales =
     asked_keeps (weight_of w) request t k sales (λ x y. refl)
@@ -224,7 +224,7 @@ product_out_after s e p f =
     ap (λ (o : Option ℕ). unwrap_or o 0) (product_after s e p (nozzle_out f))
 
 -- the volume of a fuelling that is over
-over_is : (w : ℕ → ℕ) (s : SiteState) (e : Event) (p volume : ℕ) (f : Facts)
+pub over_is : (w : ℕ → ℕ) (s : SiteState) (e : Event) (p volume : ℕ) (f : Facts)
     → running_at (nozzles_after s e) p f ≡ volume
     → w (product_out (nozzles_after s e) p f) * running_at (nozzles_after s e) p f
     ≡ w (product_out s.nozzles p f) * volume
@@ -342,7 +342,7 @@ moves_volumes w s a e sound taken = record {
   drawn = drawn_moves w s e sound taken;
 }
 
-balanced : (metered metered' running running' sold sold' drawn drawn' grown weight s d : ℕ)
+pub balanced : (metered metered' running running' sold sold' drawn drawn' grown weight s d : ℕ)
     → metered ≡ running + sold + drawn → metered' ≡ metered + grown
     → running' + weight * (s + d) ≡ running + grown → sold' ≡ sold + weight * s
     → drawn' ≡ drawn + weight * d → metered' ≡ running' + sold' + drawn'

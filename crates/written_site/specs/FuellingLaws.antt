@@ -46,3 +46,16 @@ pub record AreSalesKept (c : Configured) (rows : List Row) (s : SiteState) : Typ
   pub cleared : (k : Key) (t : ℕ) (before since : List Moment) (m : Moment) (x : Sale)
       → moments_of c rows ≡ before ++ m ∷ since → clears_sale k m ≡ Some t
       → sale_of k s.sales ≡ Some x → m.row.reply ≡ Ok (Cleared x.cents)
+
+-- a fuelling of point p goes on at the end of these moments, and took this price at its start
+pub record IsPricedAtStart (c : Configured) (p : ℕ) (moments : List Moment) (price : ℕ) : Type 0 where
+  pub nozzle : ℕ
+  pub flowed : ℕ
+  pub fuelling : HasFuelling c p moments nozzle price flowed
+
+-- the price of each sale is the one that its nozzle's product had before the row that started its
+-- fuelling
+pub record ArePricedAtStart (c : Configured) (rows : List Row) (s : SiteState) : Type 0 where
+  pub priced : (k : Key) (before since : List Moment) (m : Moment) (x : Sale)
+      → moments_of c rows ≡ before ++ m ∷ since → sold_as m ≡ Some k
+      → sale_of k s.sales ≡ Some x → IsPricedAtStart c k.point before x.price

@@ -19,3 +19,9 @@ pub mod LockLaws
 pub mod NumberLaws
 pub mod FuellingWords
 pub mod FuellingLaws
+pub mod FitLaws
+pub mod MeterLaws
+pub mod ShiftLaws
+pub mod VolumeLaws
+pub mod PointLaws
+pub mod DrawLaws

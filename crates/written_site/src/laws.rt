@@ -1,11 +1,21 @@
 //! What is true of the written site. The laws have no code: each is proved of the definitions.
 
+mod fitting;
+mod metering;
 mod numbering;
 mod paying;
+mod pointing;
+mod selling;
+mod shifts;
 mod signing;
 
+pub use fitting::every_figure_fits;
+pub use metering::{meters_by_rows, volumes_are_conserved};
 pub use numbering::sales_are_numbered;
 pub use paying::{cleared_once, locked_by_one};
+pub use pointing::points_are_their_own;
+pub use selling::{priced_at_start, sales_are_kept};
+pub use shifts::clears_are_counted;
 pub use signing::{shift_by_rows, signed_on_by_rows};
 
 ghost use Rattle.written_site.specs.Bridge.{AreLegalHistoriesRuns};

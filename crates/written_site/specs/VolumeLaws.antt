@@ -1,0 +1,22 @@
+-- The law of volumes: what the meters count is somewhere.
+use Rattle.std.specs.Prelude.{◌≡◌, ℕ, ◌+◌, ◌≤◌, List}
+use Rattle.site_base.specs.declared.limits.TheConstants.{PRODUCTS}
+use Rattle.site_base.specs.declared.row.Row.{Row}
+use Rattle.site_base.specs.declared.state.Status.TheVariants.{Payable, Locked, Cleared}
+use Rattle.site_base.specs.Configured.{Configured}
+use Rattle.site_base.specs.Events.{growth_told}
+use Rattle.meters.specs.Metered.{every_product, metered_by, product_total}
+use Rattle.transaction_buffer.specs.Sums.{volume_by}
+use Rattle.written_site.specs.RowWords.{total}
+use Rattle.written_site.specs.SiteState.{SiteState}
+use Rattle.written_site.specs.Volumes.{running, adjusted}
+
+-- For each product number that a product may have: what the meters of the product's nozzles have
+-- counted is in the fuellings under way, in sales that are payable, locked or cleared, and in draws.
+-- The growths that the rows tell add up to what all meters have counted.
+pub record AreVolumesConserved (c : Configured) (rows : List Row) (s : SiteState) : Type 0 where
+  pub conserved : (q : ℕ) → 1 ≤ q → q ≤ PRODUCTS
+      → product_total q s.nozzles
+      ≡ running s q + volume_by q Payable s.sales + volume_by q Locked s.sales
+      + volume_by q Cleared s.sales + adjusted s q
+  pub grown : total (λ r. growth_told r.reply) rows ≡ metered_by every_product s.nozzles

@@ -1,0 +1,12 @@
+//! The figures of tills and shifts, as the rows of a history tell them.
+
+ghost use Rattle.written_site.specs.RowWords.{OfEvents, OfBooks};
+ghost use Rattle.written_site.specs.ShiftLaws.{AreClearsCounted};
+
+/// For every list of events from the opening site of any configuration: how many sales a till cleared in a
+/// shift, and their cents, are those of its Cleared answers while the shift was open; over all shifts they
+/// are those of all its Cleared answers. So it is of every legal history.
+pub fn clears_are_counted()
+    ensures events { OfEvents AreClearsCounted }
+    ensures books { OfBooks AreClearsCounted }
+{}
