@@ -25,7 +25,7 @@ impl SiteBook {
     {
         let mut site = Site::try_open(alloc, &self.config)?;
         run_again(&mut site, &self.rows)?;
-        site.totals(alloc, self.rows.len() as u64)
+        site.counted_totals(alloc, self.rows.len() as u64)
     }
 }
 
