@@ -13,8 +13,10 @@ use std::alloc::Global;
 pub enum Line {
     /// An empty line, or a comment: it ends a paragraph, and is printed as it is.
     Text(String),
-    /// `rows 10`: a site begins, with the most rows of its history.
+    /// `rows 10`: a site begins. It is run, and a book of it with room enough beside it.
     Rows(u32),
+    /// `book 10`: a site begins, of which a book is kept alone, with at most so many rows.
+    Book(u32),
     /// `manager 1`
     Manager(TillNo),
     /// `product 1 diesel 1500`
@@ -32,6 +34,8 @@ pub enum Line {
     Shift(ShiftNo),
     /// `sale 3/1`, `sale 3/2/1`: the sale as the site shows it.
     Sale(FpNo, SaleId),
+    /// `changes 2`: the rows from place 2 on that a dispenser is told of, and how many rows there are.
+    Changes(u64),
     /// `leave 1`: the till is signed off, if it is signed on.
     Leave(TillNo),
     /// `t1 Open 3`: an event of a paragraph, in its words. Any line that isn't one of the others.
@@ -45,6 +49,8 @@ impl Line {
         match *words {
             [] => Ok(Line::Text(String::new(alloc))),
             ["rows", rows] => Ok(Line::Rows(rows.parse()?)),
+            ["book", rows] => Ok(Line::Book(rows.parse()?)),
+            ["changes", place] => Ok(Line::Changes(place.parse()?)),
             ["manager", t] => Ok(Line::Manager(till_of(t).context("no till")?)),
             ["product", q, name, price] => Ok(Line::Product(product_of(alloc, q, name, price)?)),
             ["point", p, ref nozzles @ ..] => Ok(Line::Point(entry_of(alloc, p, nozzles)?)),

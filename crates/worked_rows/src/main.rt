@@ -4,6 +4,7 @@
 
 mod asked;
 mod draft;
+mod kept;
 mod line;
 mod shown;
 mod table;

@@ -2,10 +2,12 @@
 
 use crate::asked::{Counted, asked_of};
 use crate::draft::Draft;
+use crate::kept::{apply_alone, apply_beside, audited, leave, open_book, print_changes};
 use crate::line::Line;
 use crate::shown::{ensure_counted, print_point, print_sale, print_shift, print_totals};
-use anyhow::{Context, ensure};
-use site_base::{Actor, Event, NoMemory, Reply, Row, SiteConfig};
+use anyhow::{Context, bail, ensure};
+use site_base::{Actor, Event, GREATEST_ROWS, NoMemory, Reply, Row, SiteConfig};
+use site_book::SiteBook;
 use site_core::{RunStopped, Site, run};
 use std::alloc::Global;
 use std::mem;
@@ -15,7 +17,10 @@ use std::mem;
 pub struct Table {
     alloc: Global,
     draft: Draft,
+    // Whether the book is kept alone, and the site isn't run.
+    alone: bool,
     site: Option<Site>,
+    book: Option<SiteBook>,
     paragraph: Vec<String>,
     times: u32,
     counted: Counted,
@@ -27,7 +32,9 @@ impl Table {
         Table {
             alloc,
             draft: Draft::new(alloc, 0),
+            alone: false,
             site: None,
+            book: None,
             paragraph: Vec::new(alloc),
             times: 1,
             counted: Counted::new(),
@@ -44,11 +51,8 @@ impl Table {
         match line {
             Line::Asked(text) => self.paragraph.push(text)?,
             Line::Text(text) => println!(rt; "{text}")?,
-            Line::Rows(rows) => {
-                self.site = None;
-                self.counted = Counted::new();
-                self.draft = Draft::new(self.alloc, rows);
-            }
+            Line::Rows(_) => self.begin(GREATEST_ROWS, false),
+            Line::Book(rows) => self.begin(rows, true),
             Line::Manager(till) => self.draft.managers.push(till)?,
             Line::Product(product) => self.draft.products.push(product)?,
             Line::Point(point) => self.draft.points.push(point)?,
@@ -56,6 +60,15 @@ impl Table {
             _ => self.show(rt, &line)?,
         }
         Ok(())
+    }
+
+    /// A site begins.
+    fn begin(&mut self, rows: u32, alone: bool) {
+        self.alone = alone;
+        self.site = None;
+        self.book = None;
+        self.counted = Counted::new();
+        self.draft = Draft::new(self.alloc, rows);
     }
 
     /// Ends the paragraph: its events are run, in one run as often as it says, and the last rows printed.
@@ -67,48 +80,103 @@ impl Table {
         let paragraph = mem::replace(&mut self.paragraph, Vec::new(alloc));
         let times = mem::replace(&mut self.times, 1);
         let events = events_of(alloc, &paragraph, times, &mut self.counted)?;
-        let replies = replies_to(rt, alloc, self.opened(rt)?, &events)?;
+        let alone = self.alone;
+        let (site, book) = self.opened(rt)?;
+        if alone {
+            return apply_all(rt, book, &events, paragraph.len());
+        }
+        let replies = replies_to(rt, alloc, site, &events)?;
+        apply_all_beside(rt, book, &events, &replies)?;
         print_rows(rt, &events, &replies, paragraph.len())
     }
 
-    /// The site, opened if it isn't.
-    fn opened(&mut self, rt: &impl Eprint) -> anyhow::Result<&mut Site> {
+    /// The site and its book, opened if they aren't.
+    fn opened(&mut self, rt: &impl Eprint) -> anyhow::Result<(&mut Site, &mut SiteBook)> {
         if self.site.is_none() {
             let draft = mem::replace(&mut self.draft, Draft::new(self.alloc, 0));
             let config = draft.into_config().context("the site isn't fit")?;
             self.site = Some(open(rt, self.alloc, &config)?);
+            self.book = Some(open_book(rt, self.alloc, &config)?);
         }
-        self.site.as_mut().context("no site")
+        match (&mut self.site, &mut self.book) {
+            (Some(site), Some(book)) => Ok((site, book)),
+            _ => bail!("no site"),
+        }
     }
 
     /// Prints what a line asks of the site itself.
     fn show(&mut self, rt: &(impl Print + Eprint), line: &Line) -> anyhow::Result<()> {
         let alloc = self.alloc;
-        let site = self.opened(rt)?;
+        let alone = self.alone;
+        let (site, book) = self.opened(rt)?;
         match line {
+            Line::Totals if alone => print_totals(rt, &audited(alloc, book)?),
             Line::Totals => {
-                let totals = site.totals(alloc, 0)?;
-                ensure_counted(&totals, &site.counted_totals(alloc, 0)?)?;
-                print_totals(rt, &totals)
+                let totals = &site.totals(alloc, book.len())?;
+                ensure_counted(totals, &site.counted_totals(alloc, book.len())?)?;
+                ensure_counted(totals, &audited(alloc, book)?)?;
+                print_totals(rt, totals)
             }
-            Line::Shift(n) => {
-                let row = site.shift(*n);
-                ensure!(row == site.counted_shift(*n), "the shift's figures aren't those counted");
-                print_shift(rt, *n, row)
-            }
-            Line::Sale(p, id) => print_sale(rt, *p, id, site.transaction(*p, *id)),
-            Line::Show(p) => print_point(rt, *p, site.point(*p)),
+            Line::Changes(place) => print_changes(rt, alloc, book, *place),
+            Line::Leave(t) if alone => leave(rt, book, *t),
             Line::Leave(t) => {
                 let was = site.signed_on(*t);
                 if was {
                     site.sign_off(*t);
                 }
+                ensure!(
+                    book.sign_off(*t).is_some() == was,
+                    "the book says otherwise"
+                );
                 println!(rt; "leave {}: {was}", t.get())?;
                 Ok(())
             }
+            Line::Show(p) if alone => print_point(rt, *p, book.point(*p)),
+            Line::Show(p) => {
+                let shown = site.point(*p);
+                ensure!(shown == book.point(*p), "the book shows another point");
+                print_point(rt, *p, shown)
+            }
+            _ if alone => bail!("a book doesn't show it"),
+            Line::Shift(n) => {
+                let row = site.shift(*n);
+                ensure!(
+                    row == site.counted_shift(*n),
+                    "the shift's figures aren't those counted"
+                );
+                print_shift(rt, *n, row)
+            }
+            Line::Sale(p, id) => print_sale(rt, *p, id, site.transaction(*p, *id)),
             _ => Ok(()),
         }
     }
+}
+
+/// Applies the events to a book that is kept alone, and prints the last rows.
+fn apply_all(
+    rt: &(impl Print + Eprint),
+    book: &mut SiteBook,
+    events: &[(Actor, Event)],
+    last: usize,
+) -> anyhow::Result<()> {
+    let first = events.len().saturating_sub(last);
+    for (place, (actor, event)) in events.iter().enumerate() {
+        apply_alone(rt, book, actor, event, place >= first)?;
+    }
+    Ok(())
+}
+
+/// Applies the events to the book beside the site, which answered so.
+fn apply_all_beside(
+    rt: &impl Eprint,
+    book: &mut SiteBook,
+    events: &[(Actor, Event)],
+    replies: &Replies,
+) -> anyhow::Result<()> {
+    for (place, (actor, event)) in events.iter().enumerate() {
+        apply_beside(rt, book, actor, event, replies.at(place))?;
+    }
+    Ok(())
 }
 
 /// The events of a paragraph, so often.
@@ -161,6 +229,13 @@ struct Replies {
     replies: Vec<Reply>,
 }
 
+impl Replies {
+    /// The reply to the event at a place, if it isn't lost.
+    fn at(&self, place: usize) -> Option<&Reply> {
+        self.replies.get(place.checked_sub(self.lost)?)
+    }
+}
+
 /// Runs the events. After a refused growth the events that aren't done are run.
 fn replies_to(
     rt: &impl Eprint,
@@ -186,7 +261,7 @@ fn replies_to(
 /// The row of the event at a place, if its reply isn't lost.
 fn row_at(events: &[(Actor, Event)], replies: &Replies, place: usize) -> Option<Row> {
     let (actor, event) = events.get(place)?;
-    let reply = replies.replies.get(place.checked_sub(replies.lost)?)?;
+    let reply = replies.at(place)?;
     Some(Row {
         actor: *actor,
         event: *event,
