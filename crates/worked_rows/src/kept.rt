@@ -1,131 +1,139 @@
-//! The book that is kept beside a site, or alone.
+//! The site that a table runs, and its book.
 
+use crate::books::{apply_alone, apply_beside, audited, leave, open_book, print_changes};
+use crate::line::Line;
+use crate::running::{Replies, open_site, print_rows, replies_to};
+use crate::shown::{ensure_counted, print_point, print_sale, print_shift, print_totals};
 use anyhow::{bail, ensure};
-use site_base::{Actor, Event, NoMemory, NoRow, Placed, Reply, Row, SiteConfig, TillNo, Totals};
+use site_base::{Actor, Event, FpNo, ShiftNo, SiteConfig, TillNo};
 use site_book::SiteBook;
+use site_core::Site;
 use std::alloc::Global;
 
-/// Opens a book. After a refused growth it is opened again.
-pub fn open_book(rt: &impl Eprint, alloc: Global, config: &SiteConfig) -> anyhow::Result<SiteBook> {
-    match SiteBook::try_open(alloc, config) {
-        Ok(book) => Ok(book),
-        Err(NoMemory) => {
-            eprintln!(rt; "a growth was refused")?;
-            Ok(SiteBook::try_open(alloc, config)?)
+/// A site and its book, which have to answer alike; or the book alone, beside a site that isn't run.
+#[derive(Drop)]
+pub struct Kept {
+    alloc: Global,
+    alone: bool,
+    site: Site,
+    book: SiteBook,
+}
+
+impl Kept {
+    /// Opens both.
+    pub fn open(
+        rt: &impl Eprint,
+        alloc: Global,
+        config: &SiteConfig,
+        alone: bool,
+    ) -> anyhow::Result<Kept> {
+        let site = open_site(rt, alloc, config)?;
+        let book = open_book(rt, alloc, config)?;
+        Ok(Kept {
+            alloc,
+            alone,
+            site,
+            book,
+        })
+    }
+
+    /// Runs the events, and prints the last rows.
+    pub fn run(
+        &mut self,
+        rt: &(impl Print + Eprint),
+        events: &[(Actor, Event)],
+        last: usize,
+    ) -> anyhow::Result<()> {
+        if self.alone {
+            return apply_all(rt, &mut self.book, events, last);
+        }
+        let replies = replies_to(rt, self.alloc, &mut self.site, events)?;
+        apply_all_beside(rt, &mut self.book, events, &replies)?;
+        print_rows(rt, events, &replies, last)
+    }
+
+    /// Prints what a line asks.
+    pub fn show(&mut self, rt: &impl Print, line: &Line) -> anyhow::Result<()> {
+        match line {
+            Line::Totals => self.totals(rt),
+            Line::Changes(place) => print_changes(rt, self.alloc, &self.book, *place),
+            Line::Leave(t) => self.leave(rt, *t),
+            Line::Show(p) => self.point(rt, *p),
+            Line::Shift(n) => self.shift(rt, *n),
+            Line::Sale(p, id) => {
+                ensure!(!self.alone, "a book doesn't show it");
+                print_sale(rt, *p, id, self.site.transaction(*p, *id))
+            }
+            _ => bail!("nothing is shown"),
         }
     }
+
+    fn totals(&self, rt: &impl Print) -> anyhow::Result<()> {
+        let totals = &audited(self.alloc, &self.book)?;
+        if !self.alone {
+            let rows = self.book.len();
+            ensure_counted(totals, &self.site.totals(self.alloc, rows)?)?;
+            ensure_counted(totals, &self.site.counted_totals(self.alloc, rows)?)?;
+        }
+        print_totals(rt, totals)
+    }
+
+    fn leave(&mut self, rt: &impl Print, t: TillNo) -> anyhow::Result<()> {
+        if self.alone {
+            return leave(rt, &mut self.book, t);
+        }
+        let was = self.site.signed_on(t);
+        if was {
+            self.site.sign_off(t);
+        }
+        let row = self.book.sign_off(t);
+        ensure!(row.is_some() == was, "the book says otherwise");
+        println!(rt; "leave {}: {was}", t.get())?;
+        Ok(())
+    }
+
+    fn point(&self, rt: &impl Print, p: FpNo) -> anyhow::Result<()> {
+        let shown = self.book.point(p);
+        if !self.alone {
+            ensure!(shown == self.site.point(p), "the book shows another point");
+        }
+        print_point(rt, p, shown)
+    }
+
+    fn shift(&self, rt: &impl Print, n: ShiftNo) -> anyhow::Result<()> {
+        ensure!(!self.alone, "a book doesn't show it");
+        let row = self.site.shift(n);
+        ensure!(
+            row == self.site.counted_shift(n),
+            "the shift's figures aren't those counted"
+        );
+        print_shift(rt, n, row)
+    }
 }
 
-/// Applies an event to the book. After a refused growth, which has left the book as it was, it is applied
-/// again.
-fn applied(
-    rt: &impl Eprint,
-    book: &mut SiteBook,
-    actor: &Actor,
-    event: &Event,
-) -> anyhow::Result<Option<Placed>> {
-    let rows = book.len();
-    let mut told = book.apply(*actor, *event);
-    if told == Err(NoRow::NoMemory) {
-        eprintln!(rt; "a growth was refused")?;
-        ensure!(book.len() == rows, "a row of a refused growth");
-        told = book.apply(*actor, *event);
-    }
-    match told {
-        Ok(placed) => Ok(Some(placed)),
-        Err(NoRow::BookFull) => Ok(None),
-        Err(NoRow::NoMemory) => bail!("want of memory twice"),
-    }
-}
-
-/// Applies an event to the book beside a site, which has to answer what the site did, as the next row.
-pub fn apply_beside(
-    rt: &impl Eprint,
-    book: &mut SiteBook,
-    actor: &Actor,
-    event: &Event,
-    reply: Option<&Reply>,
-) -> anyhow::Result<()> {
-    let rows = book.len();
-    let Some(placed) = &applied(rt, book, actor, event)? else {
-        bail!("the book is full");
-    };
-    ensure!(placed.place == rows, "another place than the next");
-    if let Some(reply) = reply {
-        ensure!(placed.reply == *reply, "the book answers otherwise");
-    }
-    Ok(())
-}
-
-/// Applies an event to the book that is kept alone, and prints the row, or that the book is full, if it is
-/// to be shown.
-pub fn apply_alone(
+/// Applies the events to a book that is kept alone, and prints the last rows.
+fn apply_all(
     rt: &(impl Print + Eprint),
     book: &mut SiteBook,
-    actor: &Actor,
-    event: &Event,
-    shown: bool,
+    events: &[(Actor, Event)],
+    last: usize,
 ) -> anyhow::Result<()> {
-    match &applied(rt, book, actor, event)? {
-        _ if !shown => Ok(()),
-        Some(placed) => print_row(rt, placed.place, book.row(placed.place)),
-        None => {
-            println!(rt; "{actor} {event}: 30 BookFull")?;
-            Ok(())
-        }
-    }
-}
-
-/// Prints a row behind its place.
-fn print_row(rt: &impl Print, place: u64, row: Option<Row>) -> anyhow::Result<()> {
-    match row {
-        Some(row) => println!(rt; "{place} {row}")?,
-        None => bail!("no such row"),
+    let first = events.len().saturating_sub(last);
+    for place in 0..events.len() {
+        apply_alone(rt, book, events.get(place), place >= first)?;
     }
     Ok(())
 }
 
-/// Signs a till off, and prints the place of the row, if it was signed on.
-pub fn leave(rt: &impl Print, book: &mut SiteBook, till: TillNo) -> anyhow::Result<()> {
-    match &book.sign_off(till) {
-        Some(placed) => print_row(rt, placed.place, book.row(placed.place)),
-        None => {
-            println!(rt; "leave {}: false", till.get())?;
-            Ok(())
-        }
-    }
-}
-
-/// Prints the rows from a place on that have a change, and how many rows there are.
-pub fn print_changes(
-    rt: &impl Print,
-    alloc: Global,
-    book: &SiteBook,
-    place: u64,
+/// Applies the events to the book beside the site, which answered so.
+fn apply_all_beside(
+    rt: &impl Eprint,
+    book: &mut SiteBook,
+    events: &[(Actor, Event)],
+    replies: &Replies,
 ) -> anyhow::Result<()> {
-    let changes = book.changes_since(alloc, place)?;
-    for row in &changes {
-        println!(rt; "change {row}")?;
+    for place in 0..events.len() {
+        apply_beside(rt, book, events.get(place), replies.at(place))?;
     }
-    println!(rt; "rows {}", book.len())?;
     Ok(())
-}
-
-/// The figures that the book keeps, which have to be those of its audit.
-pub fn audited(alloc: Global, book: &SiteBook) -> anyhow::Result<Totals> {
-    let totals = book.totals(alloc)?;
-    let audit = &book.audit(alloc)?;
-    ensure!(
-        totals.rows == audit.rows && totals.rows == book.len(),
-        "the rows aren't those counted"
-    );
-    ensure!(
-        totals.products == audit.products,
-        "the products' totals aren't those of the audit"
-    );
-    ensure!(
-        totals.tills == audit.tills,
-        "the tills' totals aren't those of the audit"
-    );
-    Ok(totals)
 }

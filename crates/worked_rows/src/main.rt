@@ -3,9 +3,11 @@
 #![tactic(auto)]
 
 mod asked;
+mod books;
 mod draft;
 mod kept;
 mod line;
+mod running;
 mod shown;
 mod table;
 
