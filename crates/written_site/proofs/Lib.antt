@@ -70,3 +70,4 @@ pub mod VolumeLaws
 pub mod WorkedLaws
 pub mod PointLaws
 pub mod RunRows
+pub mod DrawLaws

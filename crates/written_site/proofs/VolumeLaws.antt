@@ -126,7 +126,7 @@ unnoted r v (row ∷ next ∷ rows) all out =
     ap (λ xs. row ∷ xs) (unnoted r v (next ∷ rows) parts.1 out)
 
 -- a draw of product r, as product q weighs it
-drawn_one : (q r v : ℕ) (rows : List (List ℕ)) → 1 ≤ q → q ≤ PRODUCT_CELLS
+pub drawn_one : (q r v : ℕ) (rows : List (List ℕ)) → 1 ≤ q → q ≤ PRODUCT_CELLS
     → list_all is_draw_row rows ≡ true → 1 ≤ length rows
     → drawn_by (product_alone q) (draw_noted r v rows)
     ≡ drawn_by (product_alone q) rows + product_alone q r * v

@@ -1,5 +1,6 @@
 //! The figures of tills and shifts, as the rows of a history tell them.
 
+ghost use Rattle.written_site.specs.DrawLaws.{AreDrawsCounted};
 ghost use Rattle.written_site.specs.RowWords.{OfEvents, OfBooks};
 ghost use Rattle.written_site.specs.ShiftLaws.{AreClearsCounted};
 
@@ -9,4 +10,13 @@ ghost use Rattle.written_site.specs.ShiftLaws.{AreClearsCounted};
 pub fn clears_are_counted()
     ensures events { OfEvents AreClearsCounted }
     ensures books { OfBooks AreClearsCounted }
+{}
+
+/// For every list of events from the opening site of any configuration, and each product that a site can
+/// have: what tests drew of it in a shift is what the Drawn answers tell while the shift was open, and what
+/// they drew over all shifts is what all of them tell. A Drawn tells the millilitres that flowed since
+/// its fuelling started, of the product of the nozzle that was lifted. So it is of every legal history.
+pub fn draws_are_counted()
+    ensures events { OfEvents AreDrawsCounted }
+    ensures books { OfBooks AreDrawsCounted }
 {}
