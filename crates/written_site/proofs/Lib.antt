@@ -71,3 +71,4 @@ pub mod WorkedLaws
 pub mod PointLaws
 pub mod RunRows
 pub mod DrawLaws
+pub mod ClearedLaws

@@ -4,11 +4,13 @@
 use Rattle.std.proofs.Common.{◌≡◌, ◌≢◌, ℕ, ◌+◌, Bool, true, false, List, [], ◌∷◌, ◌++◌, Option, Some, None, Ok, is_some, refl, sym, ap, ◌∙◌, arith}
 use Rattle.std.proofs.lemmas.Bool.Decides.{nat_tests}
 use Rattle.std.specs.List.{list_any}
-use Rattle.site_base.specs.declared.answer.Answer.TheVariants.{Done, Start, Sold, Locked, Unlocked, Cleared, ShiftClosed}
-use Rattle.site_base.specs.declared.event.Event.TheVariants.{SignOn, Open, Release, Prepay, Lock, Unlock, Clear, SetPrice, CloseShift, Lift, HangUp}
+use Rattle.site_base.specs.declared.answer.Answer.TheVariants.{Done, Start, Flowed, Sold, Drawn, Locked, Unlocked, Cleared, ShiftClosed}
+use Rattle.site_base.specs.declared.event.Event.TheVariants.{SignOn, Open, Release, Prepay, TestRelease, Lock, Unlock, Clear, SetPrice, CloseShift, Lift, Flow, HangUp}
 use Rattle.site_base.specs.declared.row.Row.{Row}
 use Rattle.site_base.specs.declared.state.Preset.TheVariants.{Unset, Money}
 use Rattle.site_base.specs.declared.state.Status.TheVariants as statuses
+use Rattle.fuelling_point.specs.History.{point_after}
+use Rattle.fuelling_point.specs.Kept.{Facts}
 use Rattle.meters.specs.Metered.{every_product, metered_by, product_total}
 use Rattle.meters.specs.Nozzles.{Nozzle, nozzle_of}
 use Rattle.transaction_buffer.specs.Sales.{Key, key}
@@ -20,20 +22,24 @@ use Rattle.written_site.specs.FitLaws.{AreReadable, HasFitFigures}
 use Rattle.written_site.specs.Histories.{Moment, moments_after, moments_of}
 use Rattle.written_site.specs.MeterLaws.{read_after}
 use Rattle.written_site.specs.NumberLaws.{sells_in}
+use Rattle.written_site.specs.PointLaws.{own_events}
 use Rattle.written_site.specs.RowWords.{count}
 use Rattle.written_site.specs.SaleWords.{locks_sale, lets_go, ends_lock, clears_sale, sold_as}
-use Rattle.written_site.specs.ShiftFigures.{clears_in, cents_in}
+use Rattle.written_site.specs.ShiftFigures.{clears_in, cents_in, cleared_in, shift_drawn}
 use Rattle.written_site.specs.SiteRun.{site_of_rows, IsLegal}
-use Rattle.written_site.specs.SiteState.{SiteState, opening, is_signed_on, open_shift}
+use Rattle.written_site.specs.SiteState.{SiteState, opening, facts_of, is_signed_on, open_shift}
 use Rattle.written_site.specs.SiteStep.{site_after}
 use Rattle.written_site.specs.Slots.{IsLastTake}
 use Rattle.written_site.specs.Sound.{IsFit}
 use Rattle.written_site.specs.Volumes.{running, adjusted}
+use Rattle.written_site.proofs.ClearedLaws.{volumes_cleared}
+use Rattle.written_site.proofs.DrawLaws.{draws_counted}
 use Rattle.written_site.proofs.FitLaws.{every_figure_fits}
 use Rattle.written_site.proofs.FuellingLaws.{sales_kept, priced_at_start}
 use Rattle.written_site.proofs.LockLaws.{locked_by_one, cleared_once}
 use Rattle.written_site.proofs.MeterLaws.{meters_read}
 use Rattle.written_site.proofs.NumberLaws.{numbered}
+use Rattle.written_site.proofs.PointLaws.{points_their_own}
 use Rattle.written_site.proofs.ShiftLaws.{clears_counted}
 use Rattle.written_site.proofs.SigningLaws.{signed_on_by_rows, shift_by_rows}
 use Rattle.written_site.proofs.SlotRows.{moment_at}
@@ -227,6 +233,37 @@ till_2_cleared_cents = (clears_counted known_site day day_is_legal).cents 1 2
 
 none_in_shift_2 : clears_in 2 2 evening.sales ≡ 0
 none_in_shift_2 = (clears_counted known_site day day_is_legal).clears 2 2
+
+diesel_cleared : cleared_in 1 1 evening.sales ≡ 10000
+diesel_cleared = (volumes_cleared known_site day day_is_legal).cleared 1 1
+
+-- a test of diesel at point 1 is drawn in shift 2, which the closed one precedes
+abbrev tested : List Row
+tested =
+    t1 SignOn (Ok Done)
+    ∷ t1 (Open 1) (Ok Done)
+    ∷ t1 CloseShift (Ok (ShiftClosed 1))
+    ∷ t1 (TestRelease 1) (Ok Done)
+    ∷ d1 (Lift 1 1 0) (Ok (Start Unset 1500))
+    ∷ d1 (Flow 1 1 4000) (Ok (Flowed 4000))
+    ∷ d1 (HangUp 1 1 5000) (Ok (Drawn 1000))
+    ∷ []
+
+tested_is_legal : IsLegal (opening known_site) tested
+tested_is_legal = legal (opening known_site) tested (simp kit)
+
+drawn_in_shift_2 : shift_drawn (site_of_rows (opening known_site) tested) 2 1 ≡ 5000
+drawn_in_shift_2 =
+    (draws_counted known_site tested tested_is_legal).shifts 2 1 (omega arith) (omega arith)
+
+none_drawn_in_shift_1 : shift_drawn (site_of_rows (opening known_site) tested) 1 1 ≡ 0
+none_drawn_in_shift_1 =
+    (draws_counted known_site tested tested_is_legal).shifts 1 1 (omega arith) (omega arith)
+
+-- so is the point what its own events make of a new one
+idle_again : (facts_of (site_of_rows (opening known_site) tested) 1).state
+    ≡ (point_after (own_events 1 (moments_of known_site tested))).state
+idle_again = ap (λ (f : Facts). f.state) ((points_their_own known_site tested tested_is_legal).facts 1)
 
 known_site_is_fit : IsFit known_site
 known_site_is_fit = record { site = refl; products = refl; prices = refl; readings = refl }

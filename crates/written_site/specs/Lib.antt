@@ -25,3 +25,4 @@ pub mod ShiftLaws
 pub mod VolumeLaws
 pub mod PointLaws
 pub mod DrawLaws
+pub mod ClearedLaws

@@ -15,7 +15,7 @@ pub use numbering::sales_are_numbered;
 pub use paying::{cleared_once, locked_by_one};
 pub use pointing::points_are_their_own;
 pub use selling::{priced_at_start, sales_are_kept};
-pub use shifts::{clears_are_counted, draws_are_counted};
+pub use shifts::{clears_are_counted, draws_are_counted, volumes_cleared_are_counted};
 pub use signing::{shift_by_rows, signed_on_by_rows};
 
 ghost use Rattle.written_site.specs.Bridge.{AreLegalHistoriesRuns};

@@ -13,4 +13,5 @@ pub use laws::{
     legal_histories_are_runs, locked_by_one, meters_by_rows, passes_each_check,
     points_are_their_own, priced_at_start, runs_stay_sound, sales_are_kept, sales_are_numbered,
     shift_by_rows, signed_on_by_rows, stays_sound, volumes_add_up, volumes_are_conserved,
+    volumes_cleared_are_counted,
 };

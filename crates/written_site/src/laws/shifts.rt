@@ -1,5 +1,6 @@
 //! The figures of tills and shifts, as the rows of a history tell them.
 
+ghost use Rattle.written_site.specs.ClearedLaws.{AreVolumesCleared};
 ghost use Rattle.written_site.specs.DrawLaws.{AreDrawsCounted};
 ghost use Rattle.written_site.specs.RowWords.{OfEvents, OfBooks};
 ghost use Rattle.written_site.specs.ShiftLaws.{AreClearsCounted};
@@ -10,6 +11,14 @@ ghost use Rattle.written_site.specs.ShiftLaws.{AreClearsCounted};
 pub fn clears_are_counted()
     ensures events { OfEvents AreClearsCounted }
     ensures books { OfBooks AreClearsCounted }
+{}
+
+/// For every list of events from the opening site of any configuration: the millilitres of a product that
+/// were cleared in a shift are those that flowed into the transactions which accepted Clears name while
+/// the shift was open. So it is of every legal history.
+pub fn volumes_cleared_are_counted()
+    ensures events { OfEvents AreVolumesCleared }
+    ensures books { OfBooks AreVolumesCleared }
 {}
 
 /// For every list of events from the opening site of any configuration, and each product that a site can
