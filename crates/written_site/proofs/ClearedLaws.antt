@@ -1,5 +1,5 @@
 -- What was cleared of each product in a shift is what the rows tell, for every legal history.
-use Rattle.std.proofs.Common.{◌≡◌, ℕ, ◌+◌, ◌==◌, ◌&&◌, Bool, true, false, cond, List, [], ◌∷◌, ◌++◌, Option, option_map, Some, None, unwrap_or, Result, Ok, Err, refl, sym, ap, subst, ◌∙◌, if◌then◌else◌, arith}
+use Rattle.std.proofs.Common.{◌≡◌, ℕ, ◌+◌, ◌==◌, ◌&&◌, Bool, true, false, cond, List, [], ◌∷◌, ◌++◌, Option, option_map, Some, None, unwrap_or, Result, Ok, Err, refl, sym, ap, ◌∙◌, if◌then◌else◌, arith}
 use Rattle.std.specs.FinMap.{get-empty}
 use Rattle.std.specs.Ordering.{nat_cmp}
 use Rattle.site_base.specs.declared.actor.Actor.{Actor}
@@ -25,18 +25,16 @@ use Rattle.transaction_buffer.specs.TransactionTable.{Line, line_for, sale_after
 use Rattle.transaction_buffer.proofs.InShift.{none_next}
 use Rattle.transaction_buffer.proofs.Reading.{read_after, one_sale}
 use Rattle.transaction_buffer.proofs.Rules.{cleared_by_its_locker}
-use Rattle.written_site.specs.ClearedLaws.{sold_as_told, sold_for, volume_told, clear_volume, cleared_for, cleared_while, AreVolumesCleared}
-use Rattle.written_site.specs.DrawLaws.{run_of, run_at, product_read}
-use Rattle.written_site.specs.FigureSteps.{is_clear}
+use Rattle.written_site.specs.ClearedLaws.{sold_as_told, sold_for, volume_told, cleared_while, AreVolumesCleared}
+use Rattle.written_site.specs.DrawLaws.{run_at, product_read}
 use Rattle.written_site.specs.FuellingWords.{product_at as product_configured}
 use Rattle.written_site.specs.Histories.{Moment, moments_of}
-use Rattle.written_site.specs.RowWords.{OfBooks, open_after, total}
-use Rattle.written_site.specs.SaleWords.{key_after, key_sold, number_sold, sold_as}
+use Rattle.written_site.specs.RowWords.{OfBooks, open_after}
+use Rattle.written_site.specs.SaleWords.{key_sold, number_sold}
 use Rattle.written_site.specs.ShiftFigures.{cleared_in}
 use Rattle.written_site.specs.SiteChecks.{Passed, own_event, flowed}
-use Rattle.written_site.specs.SiteRun.{site_of_rows, IsLegal}
 use Rattle.written_site.specs.SiteState.{SiteState, opening, facts_of, key_named, open_shift}
-use Rattle.written_site.specs.SiteStep.{accepted_site, site_answer, step_at, step_told, nozzles_after, sales_after, sales_by, sale_made, reply_to, site_after}
+use Rattle.written_site.specs.SiteStep.{site_answer, step_at, step_told, nozzles_after, sales_after, sales_by, sale_made, reply_to, site_after}
 use Rattle.written_site.specs.Volumes.{nozzle_out, product_out, running_at}
 use Rattle.written_site.proofs.ClearFigures.{none_cleared_in}
 use Rattle.written_site.proofs.FigureMoves.{keeps_clears, has_clear}
@@ -105,7 +103,8 @@ signed_off_keeps q t k sales =
 nothing_more : (v : ℕ) → v ≡ v + 0
 nothing_more v = omega arith
 
-sold_none : (c : Configured) (q v : ℕ) (k : Key) (earlier : List Row) (m : Moment) (p : ℕ) (o : Option ℕ)
+sold_none : (c : Configured) (q v : ℕ) (k : Key) (earlier : List Row) (m : Moment) (p : ℕ)
+    (o : Option ℕ)
     → o ≡ None → v ≡ v + sold_as_told c q k (key_sold earlier (Some p) o) m
 sold_none c q v k earlier m p o none =
     nothing_more v
@@ -126,7 +125,8 @@ module _ (c : Configured) (earlier : List Row) (s : SiteState) (a : Actor) (e : 
   product_so : (p : ℕ) → product_out (nozzles_after s e) p (facts_of s p) ≡ product_read c p earlier
   product_so p =
       ap (λ (o : Option ℕ). unwrap_or o 0) (product_after s e p (nozzle_out (facts_of s p)))
-      ∙ ap (λ (o : Option ℕ). unwrap_or o 0) (known.volumes.fuel.products p (nozzle_out (facts_of s p)))
+      ∙ ap (λ (o : Option ℕ). unwrap_or o 0) (known.volumes.fuel.products p
+      (nozzle_out (facts_of s p)))
       ∙ ap (λ (o : Option ℕ). unwrap_or (product_configured c p (unwrap_or o 0)) 0)
       (known.volumes.fuel.points p).out
 
@@ -147,11 +147,13 @@ module _ (c : Configured) (earlier : List Row) (s : SiteState) (a : Actor) (e : 
       let grown = growth_moves s a e p event earlier passes own in
       omega (arith, run, so_far, grown)
 
-  sold_step : (q : ℕ) (k : Key) (p growth : ℕ) (event : PointEvent) → own_event s e ≡ Some (p, event)
+  sold_step : (q : ℕ) (k : Key) (p growth : ℕ) (event : PointEvent) → own_event s e ≡ Some
+      (p, event)
       → (step : PointStep) → step_of event (facts_of s p) ≡ step
       → volume_named q k (sales_by s (nozzles_after s e) p step)
       ≡ volume_named q k s.sales
-      + sold_as_told c q k (key_sold earlier (Some p) (number_sold (Ok (step_told s p growth step)))) m
+      + sold_as_told c q k (key_sold earlier (Some p)
+      (number_sold (Ok (step_told s p growth step)))) m
   sold_step q k p growth event own (Sold nozzle volume price prepaid) is =
       let x : Sale = sale_made s (nozzles_after s e) p in
       let n : ℕ = made_at p (open_shift s) s.sales + 1 in
@@ -172,7 +174,8 @@ module _ (c : Configured) (earlier : List Row) (s : SiteState) (a : Actor) (e : 
     where
       by_cond : (b : Bool)
           → volume_if q (cond b (Some (sale_made s (nozzles_after s e) p)) (sale_of k s.sales))
-          ≡ (if b then volume_in q (sale_made s (nozzles_after s e) p) else volume_named q k s.sales)
+          ≡ (if b then volume_in q (sale_made s (nozzles_after s e) p) else volume_named q k
+          s.sales)
       by_cond true = refl
       by_cond false = refl
   sold_step q k p growth event own step is = nothing_more (volume_named q k s.sales)
@@ -185,7 +188,8 @@ named_accepted : (q : ℕ) (k : Key) (c : Configured) (earlier : List Row) (s : 
 named_accepted q k c earlier s (Till t) SignOff known passes =
     signed_off_keeps q t k s.sales ∙ nothing_more (volume_named q k s.sales)
 named_accepted q k c earlier s (Till t) (Lock p id) known passes =
-    asked_keeps q requests.Lock t (key_named s p id) k s.sales ∙ nothing_more (volume_named q k s.sales)
+    asked_keeps q requests.Lock t (key_named s p id) k s.sales ∙ nothing_more
+    (volume_named q k s.sales)
 named_accepted q k c earlier s (Till t) (Unlock p id) known passes =
     asked_keeps q requests.Unlock t (key_named s p id) k s.sales
     ∙ nothing_more (volume_named q k s.sales)
@@ -193,7 +197,8 @@ named_accepted q k c earlier s (Till t) (Clear p id) known passes =
     asked_keeps q (requests.Clear (open_shift s)) t (key_named s p id) k s.sales
     ∙ sold_none c q (volume_named q k s.sales) k earlier _ p _ (never_sold s (Clear p id) refl)
 named_accepted q k c earlier s a (Offline p) known passes =
-    sold_step c earlier s a (Offline p) known passes q k p 0 points.Offline refl (step_at s (Offline p))
+    sold_step c earlier s a (Offline p) known passes q k p 0 points.Offline refl
+    (step_at s (Offline p))
     refl
 named_accepted q k c earlier s a (HangUp p n reading) known passes =
     sold_step c earlier s a (HangUp p n reading) known passes q k p (flowed s p n reading)
@@ -207,7 +212,8 @@ named_accepted q k c earlier s a (Lift p n reading) known passes =
 named_accepted q k c earlier s a (Flow p n reading) known passes =
     sold_none c q (volume_named q k s.sales) k earlier _ p _ (never_sold s (Flow p n reading) refl)
 named_accepted q k c earlier s a (ReadTransaction p id) known passes =
-    sold_none c q (volume_named q k s.sales) k earlier _ p _ (never_sold s (ReadTransaction p id) refl)
+    sold_none c q (volume_named q k s.sales) k earlier _ p _
+    (never_sold s (ReadTransaction p id) refl)
 named_accepted q k c earlier s a e known passes = nothing_more (volume_named q k s.sales)
 
 named_row : (q : ℕ) (k : Key) (c : Configured) (earlier : List Row) (s : SiteState) (r : Row)
@@ -247,7 +253,8 @@ sales_more c earlier s r known replies = record {
   where
     later : moments_of c (earlier ++ r ∷ []) ≡ moments_of c earlier ++ moment_at earlier s r ∷ []
     later = moments_push [] (opening c) earlier r
-        ∙ ap (λ y. moments_of c earlier ++ moment_at earlier y r ∷ []) (sym known.runs.volumes.fuel.led)
+        ∙ ap (λ y. moments_of c earlier ++ moment_at earlier y r ∷ [])
+        (sym known.runs.volumes.fuel.led)
 
 sales_first : (c : Configured) → KnowsSales c [] (opening c)
 sales_first c = record {
@@ -284,7 +291,8 @@ cleared_accepted h q c earlier s (Till t) (Clear p id) known passes =
     let shift = known.runs.volumes.fuel.known.shift in
     (has_clear s t p id x clear.1.there passes.pays).cleared h q
     ∙ ap (λ (v : ℕ). cleared_in h q s.sales + v)
-    (clear_adds (h == open_shift s) (open_after earlier == h) (q == x.product) (x.product == q) x.volume
+    (clear_adds (h == open_shift s) (open_after earlier == h) (q == x.product)
+    (x.product == q) x.volume
     (turned h (open_shift s) ∙ ap (λ (g : ℕ). g == h) shift) (turned q x.product)
     ∙ ap (λ (v : ℕ). if open_after earlier == h then v else 0)
     (sym (ap (volume_if q) clear.1.there) ∙ known.volumes q k
@@ -292,7 +300,8 @@ cleared_accepted h q c earlier s (Till t) (Clear p id) known passes =
 cleared_accepted h q c earlier s (Dispenser d) (Clear p id) known passes =
     (let asks = passes.asks in absurd cc)
 cleared_accepted h q c earlier s a e known passes =
-    (keeps_clears s a e refl).cleared h q ∙ unmoved (cleared_in h q s.sales) (open_after earlier == h)
+    (keeps_clears s a e refl).cleared h q ∙ unmoved (cleared_in h q s.sales)
+    (open_after earlier == h)
 
 cleared_row : (h q : ℕ) (c : Configured) (earlier : List Row) (s : SiteState) (r : Row)
     → KnowsSales c earlier s → r.reply ≡ reply_to s r.actor r.event
@@ -310,7 +319,8 @@ from_none {n} {m} none = omega (arith, none)
 pub volumes_cleared : OfBooks AreVolumesCleared
 volumes_cleared c rows legal = record {
   cleared = λ h q.
-      total_moments (KnowsSales c) (sales_more c) (λ s. cleared_in h q s.sales) (cleared_while c h q)
+      total_moments (KnowsSales c) (sales_more c) (λ s. cleared_in h q s.sales)
+      (cleared_while c h q)
       (cleared_row h q c) [] (opening c) rows (sales_first c) legal
       ∙ from_none (none_cleared_in h q);
 }

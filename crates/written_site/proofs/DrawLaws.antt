@@ -1,5 +1,5 @@
 -- The draws of tests are what the rows tell, for every legal history.
-use Rattle.std.proofs.Common.{◌≡◌, ℕ, zero, suc, ◌+◌, ◌-◌, ◌*◌, ◌≤◌, ◌<◌, ◌==◌, ◌&&◌, nat_le, Bool, true, false, cond, List, [], ◌∷◌, ◌++◌, length, replicate, Option, Some, None, is_some, unwrap_or, Ok, Err, refl, sym, ap, subst, ◌∙◌, if◌then◌else◌, ◌⊎◌, inl, inr, arith}
+use Rattle.std.proofs.Common.{◌≡◌, ℕ, zero, suc, ◌+◌, ◌-◌, ◌*◌, ◌≤◌, ◌<◌, ◌==◌, ◌&&◌, nat_le, Bool, true, false, cond, List, [], ◌∷◌, length, replicate, Option, Some, None, unwrap_or, Ok, Err, refl, sym, ap, ◌∙◌, if◌then◌else◌, ◌⊎◌, inl, inr, arith}
 use Rattle.std.proofs.lemmas.Bool.Decides.{nat_tests}
 use Rattle.std.specs.List.{list_all}
 use Rattle.std.specs.Prelude.{slice_get}
@@ -7,9 +7,8 @@ use Rattle.site_base.specs.declared.actor.Actor.{Actor}
 use Rattle.site_base.specs.declared.answer.Answer.{Answer}
 use Rattle.site_base.specs.declared.answer.Answer.TheVariants as answers
 use Rattle.site_base.specs.declared.event.Event.{Event}
-use Rattle.site_base.specs.declared.event.Event.TheVariants.{CloseShift, Terminate, Clear, ReadTransaction, ReadProduct, Lift, Flow, Offline, HangUp}
+use Rattle.site_base.specs.declared.event.Event.TheVariants.{CloseShift, Offline, HangUp}
 use Rattle.site_base.specs.declared.limits.TheConstants.{PRODUCT_CELLS}
-use Rattle.site_base.specs.declared.refusal.Refusal.{Refusal}
 use Rattle.site_base.specs.declared.row.Row.{Row}
 use Rattle.site_base.specs.Configured.{Configured}
 use Rattle.site_base.specs.Events.{point_named}
@@ -22,15 +21,14 @@ use Rattle.fuelling_point.specs.declared.step.PointStep.TheVariants.{Drawn}
 use Rattle.fuelling_point.specs.Kept.{Facts, growth_of}
 use Rattle.fuelling_point.specs.Step.{step_of}
 use Rattle.meters.specs.Metered.{product_alone}
-use Rattle.written_site.specs.DrawLaws.{tells_drawn, run_of, run_at, product_read, draws_at, drawn_for, drawn_while, AreDrawsCounted}
-use Rattle.written_site.specs.FuellingWords.{nozzle_after, product_at as product_configured, growth_at}
-use Rattle.written_site.specs.Histories.{Moment, moments_of}
-use Rattle.written_site.specs.RowWords.{OfBooks, open_after, total}
+use Rattle.written_site.specs.DrawLaws.{tells_drawn, run_at, product_read, draws_at, drawn_for, drawn_while, AreDrawsCounted}
+use Rattle.written_site.specs.FuellingWords.{product_at as product_configured}
+use Rattle.written_site.specs.Histories.{Moment}
+use Rattle.written_site.specs.RowWords.{OfBooks, open_after}
 use Rattle.written_site.specs.ShiftFigures.{shift_drawn}
 use Rattle.written_site.specs.SiteChecks.{Passed, own_event, flowed}
-use Rattle.written_site.specs.SiteRun.{site_of_rows, IsLegal}
 use Rattle.written_site.specs.SiteState.{SiteState, opening, nothing_drawn, facts_of, open_shift}
-use Rattle.written_site.specs.SiteStep.{accepted_site, site_answer, step_at, step_told, nozzles_after, drawn_after, draws_by, draw_noted, reply_to, site_after}
+use Rattle.written_site.specs.SiteStep.{accepted_site, site_answer, step_at, step_told, nozzles_after, draws_by, draw_noted, reply_to, site_after}
 use Rattle.written_site.specs.Sound.{is_draw_row}
 use Rattle.written_site.specs.Volumes.{nozzle_out, product_out, running_at, drawn_by, adjusted}
 use Rattle.written_site.proofs.FigureDraws.{drawn_there, noted_figure, opened_figure}
@@ -62,7 +60,8 @@ cells_in rows all (suc h) row is =
 -- a product that has no figure isn't r
 out_of_range : (q r : ℕ) → 1 ≤ r → r ≤ PRODUCT_CELLS → (q ≡ 0) ⊎ (PRODUCT_CELLS < q)
     → (r == q) ≡ false
-out_of_range q r low high (inl none) = let apart : (r == q) ≡ false = grind (arith, nat_tests) in apart
+out_of_range q r low high (inl none) = let apart : (r == q) ≡ false = grind
+    (arith, nat_tests) in apart
 out_of_range q r low high (inr beyond) =
     let apart : (r == q) ≡ false = grind (arith, nat_tests) in apart
 
@@ -124,7 +123,8 @@ draws_none c q (Some p) m none =
 either_turned : (a b c d : Bool) (v : ℕ) → a ≡ c → b ≡ d
     → ◌≡◌ {A = ℕ} (cond (a && b) v 0) (if c then (if d then v else 0) else 0)
 either_turned true b c d v same same' =
-    ap (λ (x : Bool). cond x v 0) same' ∙ ap (λ (x : Bool). if x then (if d then v else 0) else 0) same
+    ap (λ (x : Bool). cond x v 0) same' ∙ ap (λ (x : Bool). if x then (if d then v else 0) else 0)
+    same
 either_turned false b c d v same same' =
     ap (λ (x : Bool). if x then (if d then v else 0) else 0) same
 
@@ -151,7 +151,8 @@ module _ (c : Configured) (earlier : List Row) (s : SiteState) (a : Actor) (e : 
   product_so : (p : ℕ) → product_out (nozzles_after s e) p (facts_of s p) ≡ product_read c p earlier
   product_so p =
       ap (λ (o : Option ℕ). unwrap_or o 0) (product_after s e p (nozzle_out (facts_of s p)))
-      ∙ ap (λ (o : Option ℕ). unwrap_or o 0) (known.volumes.fuel.products p (nozzle_out (facts_of s p)))
+      ∙ ap (λ (o : Option ℕ). unwrap_or o 0) (known.volumes.fuel.products p
+      (nozzle_out (facts_of s p)))
       ∙ ap (λ (o : Option ℕ). unwrap_or (product_configured c p (unwrap_or o 0)) 0)
       (known.volumes.fuel.points p).out
 
@@ -221,29 +222,34 @@ unmoved_all : (v w : ℕ) → w ≡ 0 → v ≡ v + w
 unmoved_all v w none = omega (arith, none)
 
 -- what a row adds to the figures of product q
-record Adds (c : Configured) (q : ℕ) (earlier : List Row) (s : SiteState) (r : Row) (new : SiteState)
+record Adds (c : Configured) (q : ℕ) (earlier : List Row) (s : SiteState) (r : Row)
+    (new : SiteState)
     : Type 0 where
   shifts : (h : ℕ) → shift_drawn new h q
       ≡ shift_drawn s h q + drawn_while c h q (moment_at earlier s r)
   all : adjusted new q ≡ adjusted s q + drawn_for c q (moment_at earlier s r)
 
-adds_none : (c : Configured) (q : ℕ) (earlier : List Row) (s : SiteState) (r : Row) (new : SiteState)
+adds_none : (c : Configured) (q : ℕ) (earlier : List Row) (s : SiteState) (r : Row)
+    (new : SiteState)
     → new.drawn ≡ s.drawn → tells_drawn r.reply ≡ false → Adds c q earlier s r new
 adds_none c q earlier s r new same none =
     let nothing = draws_none c q (point_named r.event) (moment_at earlier s r) none in
     record {
       shifts = λ h. ap (drawn_there h q) same
-          ∙ unmoved (shift_drawn s h q) (open_after earlier == h) (drawn_for c q (moment_at earlier s r))
+          ∙ unmoved (shift_drawn s h q) (open_after earlier == h)
+          (drawn_for c q (moment_at earlier s r))
           nothing;
       all = ap (drawn_by (product_alone q)) same
           ∙ unmoved_all (adjusted s q) (drawn_for c q (moment_at earlier s r)) nothing;
     }
 
-adds_accepted : (c : Configured) (q : ℕ) (earlier : List Row) (s : SiteState) (a : Actor) (e : Event)
+adds_accepted : (c : Configured) (q : ℕ) (earlier : List Row) (s : SiteState) (a : Actor)
+    (e : Event)
     → KnowsRuns c earlier s → 1 ≤ q → q ≤ PRODUCT_CELLS → Passed s a e
     → Adds c q earlier s (told_row a e (Ok (site_answer s e))) (accepted_site s a e)
 adds_accepted c q earlier s a (Offline p) known low high passes = record {
-  shifts = λ h. figure_step c earlier s a (Offline p) known passes h q p points.Offline refl low high
+  shifts = λ h. figure_step c earlier s a (Offline p) known passes h q p points.Offline refl low
+      high
       (step_at s (Offline p)) refl;
   all = all_step c earlier s a (Offline p) known passes q p points.Offline refl low high
       (step_at s (Offline p)) refl;

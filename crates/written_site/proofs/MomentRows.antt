@@ -1,5 +1,5 @@
--- Where a moment stands in a history: the rows before it led to its site, and its reply is the written
--- step's.
+-- Where a moment stands in a history: the rows before it led to its site, and its reply is the
+-- written step's.
 use Rattle.std.proofs.Common.{◌≡◌, List, [], ◌∷◌, ◌++◌, refl, sym, ap, subst, ◌∙◌}
 use Rattle.std.proofs.lemmas.List.{append_assoc}
 use Rattle.site_base.specs.declared.row.Row.{Row}
@@ -10,8 +10,8 @@ use Rattle.written_site.specs.SiteRun.{site_of_rows, IsLegal}
 use Rattle.written_site.specs.Histories.{Moment, moments_after, moments_of}
 use Rattle.written_site.proofs.Histories.{site_of_rows-push, IsLegal-push}
 
--- the rows before the moment are legal and led to its site; its reply is told there; the moments before it
--- are those of its earlier rows, and the rows after it go on from its site
+-- the rows before the moment are legal and led to its site; its reply is told there; the moments
+-- before it are those of its earlier rows, and the rows after it go on from its site
 pub record IsPlaced (c : Configured) (before : List Moment) (m : Moment) (since : List Moment)
     (end : SiteState) : Type 0 where
   pub legal : IsLegal (opening c) m.earlier

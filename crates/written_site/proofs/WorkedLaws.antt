@@ -1,7 +1,7 @@
--- The laws at work on a day of the known site: diesel is sold at point 1 while its price changes, till 1
--- locks the sale and lets it go, till 2 locks it and clears it, and the shift is closed. No law is
--- empty: each has its premise met here.
-use Rattle.std.proofs.Common.{◌≡◌, ◌≢◌, ℕ, ◌+◌, Bool, true, false, List, [], ◌∷◌, ◌++◌, Option, Some, None, Ok, is_some, refl, sym, ap, ◌∙◌, arith}
+-- The laws at work on a day of the known site: diesel is sold at point 1 while its price changes,
+-- till 1 locks the sale and lets it go, till 2 locks it and clears it, and the shift is closed. No
+-- law is empty: each has its premise met here.
+use Rattle.std.proofs.Common.{◌≡◌, ◌≢◌, ℕ, ◌+◌, true, false, List, [], ◌∷◌, ◌++◌, Some, Ok, is_some, refl, sym, ap, arith}
 use Rattle.std.proofs.lemmas.Bool.Decides.{nat_tests}
 use Rattle.std.specs.List.{list_any}
 use Rattle.site_base.specs.declared.answer.Answer.TheVariants.{Done, Start, Flowed, Sold, Drawn, Locked, Unlocked, Cleared, ShiftClosed}
@@ -18,13 +18,13 @@ use Rattle.transaction_buffer.specs.Sums.{volume_by}
 use Rattle.transaction_buffer.specs.TransactionTable.{locker_of}
 use Rattle.written_site.specs.FuellingLaws.{IsKeptAsRead, IsPricedAtStart}
 use Rattle.written_site.specs.FuellingWords.{price_read}
-use Rattle.written_site.specs.FitLaws.{AreReadable, HasFitFigures}
+use Rattle.written_site.specs.FitLaws.{HasFitFigures}
 use Rattle.written_site.specs.Histories.{Moment, moments_after, moments_of}
 use Rattle.written_site.specs.MeterLaws.{read_after}
 use Rattle.written_site.specs.NumberLaws.{sells_in}
 use Rattle.written_site.specs.PointLaws.{own_events}
 use Rattle.written_site.specs.RowWords.{count}
-use Rattle.written_site.specs.SaleWords.{locks_sale, lets_go, ends_lock, clears_sale, sold_as}
+use Rattle.written_site.specs.SaleWords.{locks_sale, lets_go, ends_lock, clears_sale}
 use Rattle.written_site.specs.ShiftFigures.{clears_in, cents_in, cleared_in, shift_drawn}
 use Rattle.written_site.specs.SiteRun.{site_of_rows, IsLegal}
 use Rattle.written_site.specs.SiteState.{SiteState, opening, facts_of, is_signed_on, open_shift}
@@ -98,7 +98,8 @@ here earlier r = moment_at earlier (site_of_rows (opening known_site) earlier) r
 
 abbrev then_on : List Row → Row → List Row → List Moment
 then_on earlier r later =
-    moments_after (earlier ++ r ∷ []) (site_after (site_of_rows (opening known_site) earlier) r.actor r.event)
+    moments_after (earlier ++ r ∷ []) (site_after
+    (site_of_rows (opening known_site) earlier) r.actor r.event)
     later
 
 -- ---- who is signed on, and which shift is open
@@ -130,10 +131,12 @@ let_go_between : list_any (lets_go first_sale 1) (here (to_lock_1 ++ locks_1 ∷
     ≡ true
 let_go_between =
     (locked_by_one known_site day day_is_legal).one first_sale 1 2 (so_far to_lock_1)
-    (here (to_lock_1 ++ locks_1 ∷ []) unlocks_1 ∷ []) (then_on to_lock_2 locks_2 (clears_2 ∷ closes ∷ []))
+    (here (to_lock_1 ++ locks_1 ∷ []) unlocks_1 ∷ [])
+    (then_on to_lock_2 locks_2 (clears_2 ∷ closes ∷ []))
     (here to_lock_1 locks_1) (here to_lock_2 locks_2) refl refl refl differ
 
-cleared_by_its_locker : IsLastTake (locks_sale first_sale) (ends_lock first_sale) 2 (so_far to_clear)
+cleared_by_its_locker : IsLastTake (locks_sale first_sale) (ends_lock first_sale) 2
+    (so_far to_clear)
 cleared_by_its_locker =
     (cleared_once known_site day day_is_legal).locked first_sale 2 (so_far to_clear)
     (then_on to_clear clears_2 (closes ∷ [])) (here to_clear clears_2) refl refl
@@ -154,7 +157,8 @@ its_number =
 
 -- ---- the sale, as its fuelling was told
 
-stands_in_the_evening : IsKeptAsRead known_site (so_far fuelled) (here fuelled sells) first_sale evening
+stands_in_the_evening : IsKeptAsRead known_site (so_far fuelled)
+    (here fuelled sells) first_sale evening
 stands_in_the_evening =
     (sales_kept known_site day day_is_legal).stands first_sale (so_far fuelled)
     (then_on fuelled sells (locks_1 ∷ unlocks_1 ∷ locks_2 ∷ clears_2 ∷ closes ∷ []))
@@ -179,7 +183,8 @@ price_raised = refl
 answered_with_its_cents : clears_2.reply ≡ Ok (Cleared stands_in_the_evening.sale.cents)
 answered_with_its_cents =
     (sales_kept known_site day day_is_legal).cleared first_sale 2 (so_far to_clear)
-    (then_on to_clear clears_2 (closes ∷ [])) (here to_clear clears_2) stands_in_the_evening.sale refl
+    (then_on to_clear clears_2 (closes ∷ [])) (here to_clear clears_2) stands_in_the_evening.sale
+    refl
     refl stands_in_the_evening.there
 
 -- a prepaid sale is locked for the till that took the money, by the row that sells it
@@ -263,7 +268,8 @@ none_drawn_in_shift_1 =
 -- so is the point what its own events make of a new one
 idle_again : (facts_of (site_of_rows (opening known_site) tested) 1).state
     ≡ (point_after (own_events 1 (moments_of known_site tested))).state
-idle_again = ap (λ (f : Facts). f.state) ((points_their_own known_site tested tested_is_legal).facts 1)
+idle_again = ap (λ (f : Facts). f.state) ((points_their_own known_site tested tested_is_legal).facts
+    1)
 
 known_site_is_fit : IsFit known_site
 known_site_is_fit = record { site = refl; products = refl; prices = refl; readings = refl }

@@ -1,5 +1,5 @@
 -- What was cleared of each product in a shift, as rows tell it.
-use Rattle.std.specs.Prelude.{◌≡◌, ℕ, Bool, ◌&&◌, ◌==◌, if◌then◌else◌, List, Option, Some, None, is_ok}
+use Rattle.std.specs.Prelude.{◌≡◌, ℕ, ◌&&◌, ◌==◌, if◌then◌else◌, List, Option, Some, None, is_ok}
 use Rattle.site_base.specs.declared.event.Event.{Event}
 use Rattle.site_base.specs.declared.event.Event.TheVariants.{Clear}
 use Rattle.site_base.specs.declared.row.Row.{Row}
@@ -12,7 +12,8 @@ use Rattle.written_site.specs.SaleWords.{key_after, sold_as}
 use Rattle.written_site.specs.ShiftFigures.{cleared_in}
 use Rattle.written_site.specs.SiteState.{SiteState}
 
--- the millilitres of product q of transaction k, where it is the sale of this name that a moment tells
+-- the millilitres of product q of transaction k, where it is the sale of this name that a moment
+-- tells
 abbrev pub sold_as_told : Configured → ℕ → Key → Option Key → Moment → ℕ
 sold_as_told c q k None m = 0
 sold_as_told c q k (Some j) m =
@@ -25,8 +26,8 @@ sold_for c q k m = sold_as_told c q k (sold_as m) m
 abbrev pub volume_told : Configured → ℕ → Key → List Moment → ℕ
 volume_told c q k moments = total (sold_for c q k) moments
 
--- the millilitres of product q that such an event, once accepted, clears after these rows: those of the
--- transaction that a Clear names
+-- the millilitres of product q that such an event, once accepted, clears after these rows: those of
+-- the transaction that a Clear names
 abbrev pub clear_volume : Configured → ℕ → List Row → Event → ℕ
 clear_volume c q earlier (Clear p id) =
     volume_told c q (key_after earlier p id) (moments_of c earlier)
@@ -40,7 +41,7 @@ cleared_for c q m = if is_ok m.row.reply then clear_volume c q m.earlier m.row.e
 abbrev pub cleared_while : Configured → ℕ → ℕ → Moment → ℕ
 cleared_while c h q m = if open_after m.earlier == h then cleared_for c q m else 0
 
--- what was cleared of a product in a shift is what flowed into the transactions that the accepted Clears
--- name while the shift is open
+-- what was cleared of a product in a shift is what flowed into the transactions that the accepted
+-- Clears name while the shift is open
 pub record AreVolumesCleared (c : Configured) (rows : List Row) (s : SiteState) : Type 0 where
   pub cleared : (h q : ℕ) → cleared_in h q s.sales ≡ total (cleared_while c h q) (moments_of c rows)

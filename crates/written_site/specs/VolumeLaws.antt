@@ -12,8 +12,8 @@ use Rattle.written_site.specs.SiteState.{SiteState}
 use Rattle.written_site.specs.Volumes.{running, adjusted}
 
 -- For each product number that a product may have: what the meters of the product's nozzles have
--- counted is in the fuellings under way, in sales that are payable, locked or cleared, and in draws.
--- The growths that the rows tell add up to what all meters have counted.
+-- counted is in the fuellings under way, in sales that are payable, locked or cleared, and in
+-- draws. The growths that the rows tell add up to what all meters have counted.
 pub record AreVolumesConserved (c : Configured) (rows : List Row) (s : SiteState) : Type 0 where
   pub conserved : (q : ℕ) → 1 ≤ q → q ≤ PRODUCTS
       → product_total q s.nozzles
