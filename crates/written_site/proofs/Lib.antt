@@ -72,3 +72,4 @@ pub mod PointLaws
 pub mod RunRows
 pub mod DrawLaws
 pub mod ClearedLaws
+pub mod MeteredRows

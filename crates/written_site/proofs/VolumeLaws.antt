@@ -44,6 +44,7 @@ use Rattle.written_site.specs.Volumes.{product_out, running_at, running_by, sold
 use Rattle.written_site.proofs.FuellingRows.{KnowsFuel, fuel_more, fuel_first}
 use Rattle.written_site.proofs.FuellingTold.{growth_is}
 use Rattle.written_site.proofs.MeterLaws.{Changed, mine, other, changed, fresh_found, fresh_points}
+use Rattle.written_site.proofs.MeteredRows.{totals_read}
 use Rattle.written_site.proofs.RowFacts.{own_after}
 use Rattle.written_site.proofs.RowWords.{of_row, kept, total_push}
 use Rattle.written_site.proofs.SoundDraws.{drawn_more, drawn_rows, opened_weighs}
@@ -409,10 +410,12 @@ volumes_conserved c rows legal =
     (volumes_first c) legal in
     let s : SiteState = site_of_rows (opening c) rows in
     record {
+      metered = totals_read c rows legal;
       conserved = λ q low high.
+          let read = totals_read c rows legal q in
           let all = known.conserved q low (omega (arith, high)) in
           let sold = sold_alone q s.sales in
           let by_status = add_up q s.sales in
-          omega (arith, all, sold, by_status);
+          omega (arith, read, all, sold, by_status);
       grown = known.grown;
     }

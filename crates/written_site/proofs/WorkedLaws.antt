@@ -223,10 +223,13 @@ nozzle_reads x is = ((meters_read known_site day day_is_legal).nozzles 1 1 x is)
 all_is_metered : metered_by every_product evening.nozzles ≡ 10000
 all_is_metered = sym (volumes_conserved known_site day day_is_legal).grown
 
-diesel_is_conserved : product_total 1 evening.nozzles
-    ≡ running evening 1 + volume_by 1 statuses.Payable evening.sales
+diesel_is_metered : product_total 1 evening.nozzles ≡ 10000
+diesel_is_metered = (volumes_conserved known_site day day_is_legal).metered 1
+
+diesel_is_conserved : ◌≡◌ {A = ℕ} 10000
+    (running evening 1 + volume_by 1 statuses.Payable evening.sales
     + volume_by 1 statuses.Locked evening.sales + volume_by 1 statuses.Cleared evening.sales
-    + adjusted evening 1
+    + adjusted evening 1)
 diesel_is_conserved =
     (volumes_conserved known_site day day_is_legal).conserved 1 (omega arith) (omega arith)
 

@@ -26,3 +26,4 @@ pub mod VolumeLaws
 pub mod PointLaws
 pub mod DrawLaws
 pub mod ClearedLaws
+pub mod MeteredRows

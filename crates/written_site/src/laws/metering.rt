@@ -14,10 +14,11 @@ pub fn meters_by_rows()
     ensures books { OfBooks AreMetersRead }
 {}
 
-/// After every list of events from the opening site of any configuration, for each product that a
-/// site can have: what the meters of its nozzles have counted is in the fuellings under way, in
-/// sales that are payable, locked or cleared, and in draws; and the growths that the rows tell add
-/// up to what all meters have counted. So it is of every legal history.
+/// After every list of events from the opening site of any configuration: what the rows tell of the
+/// meters of a product's nozzles is what the site shows as metered; for each product that a site can
+/// have it is in the fuellings under way, in sales that are payable, locked or cleared, and in draws;
+/// and the growths that the rows tell add up to what all meters have counted. So it is of every
+/// legal history.
 pub fn volumes_are_conserved()
     ensures events { OfEvents AreVolumesConserved }
     ensures books { OfBooks AreVolumesConserved }
