@@ -45,7 +45,7 @@ use Rattle.written_site.proofs.RowFacts.{own_after}
 use Rattle.written_site.proofs.RowWords.{told_row, of_row, total_push}
 use Rattle.written_site.proofs.RunRows.{KnowsRuns, runs_more, runs_first}
 use Rattle.written_site.proofs.SlotRows.{moment_at}
-use Rattle.written_site.proofs.SoldRows.{total_moments}
+use Rattle.written_site.proofs.SoldRows.{counted}
 use Rattle.written_site.proofs.SoundMachine.{sold_from}
 use Rattle.written_site.proofs.SoundMeters.{product_after}
 use Rattle.written_site.proofs.SoundReports.{IsRead}
@@ -313,14 +313,10 @@ cleared_row h q c earlier s r known replies =
     (λ refusal. unmoved (cleared_in h q s.sales) (open_after earlier == h))
     (λ passes. cleared_accepted h q c earlier s r.actor r.event known passes)
 
-from_none : {n m : ℕ} → n ≡ 0 → n + m ≡ m
-from_none {n} {m} none = omega (arith, none)
-
 pub volumes_cleared : OfBooks AreVolumesCleared
 volumes_cleared c rows legal = record {
   cleared = λ h q.
-      total_moments (KnowsSales c) (sales_more c) (λ s. cleared_in h q s.sales)
+      counted (KnowsSales c) (sales_more c) (λ s. cleared_in h q s.sales)
       (cleared_while c h q)
-      (cleared_row h q c) [] (opening c) rows (sales_first c) legal
-      ∙ from_none (none_cleared_in h q);
+      (cleared_row h q c) c rows (sales_first c) legal (none_cleared_in h q);
 }

@@ -37,7 +37,7 @@ use Rattle.written_site.proofs.RowFacts.{own_after}
 use Rattle.written_site.proofs.RowWords.{told_row, of_row}
 use Rattle.written_site.proofs.RunRows.{KnowsRuns, runs_more, runs_first}
 use Rattle.written_site.proofs.SlotRows.{moment_at}
-use Rattle.written_site.proofs.SoldRows.{total_moments}
+use Rattle.written_site.proofs.SoldRows.{counted}
 use Rattle.written_site.proofs.SoundDraws.{opened_weighs}
 use Rattle.written_site.proofs.SoundMachine.{drawn_from}
 use Rattle.written_site.proofs.SoundMeters.{product_after}
@@ -299,21 +299,16 @@ none_first h q = opened_figure h q [] ∙ by_test (h == 0)
     by_test true = zero_numbered PRODUCT_CELLS q
     by_test false = zero_numbered PRODUCT_CELLS q
 
-from_none : {n m : ℕ} → n ≡ 0 → n + m ≡ m
-from_none {n} {m} none = omega (arith, none)
-
 pub draws_counted : OfBooks AreDrawsCounted
 draws_counted c rows legal = record {
   shifts = λ h q low high.
-      total_moments (KnowsRuns c) (runs_more c) (λ s. shift_drawn s h q) (drawn_while c h q)
+      counted (KnowsRuns c) (runs_more c) (λ s. shift_drawn s h q) (drawn_while c h q)
       (λ earlier s r known replies.
       (adds_row c q low (omega (arith, high)) earlier s r known replies).shifts h)
-      [] (opening c) rows (runs_first c) legal
-      ∙ from_none (none_first h q);
+      c rows (runs_first c) legal (none_first h q);
   all = λ q low high.
-      total_moments (KnowsRuns c) (runs_more c) (λ s. adjusted s q) (drawn_for c q)
+      counted (KnowsRuns c) (runs_more c) (λ s. adjusted s q) (drawn_for c q)
       (λ earlier s r known replies.
       (adds_row c q low (omega (arith, high)) earlier s r known replies).all)
-      [] (opening c) rows (runs_first c) legal
-      ∙ from_none (nothing_weighs (product_alone q));
+      c rows (runs_first c) legal (nothing_weighs (product_alone q));
 }

@@ -20,7 +20,7 @@ use Rattle.written_site.proofs.Histories.{site_of_rows-push}
 use Rattle.written_site.proofs.MomentRows.{moments_push, placed}
 use Rattle.written_site.proofs.PointAfter.{FactsAfter, stays, moves, facts_after, opens_closed}
 use Rattle.written_site.proofs.RowFacts.{own_after}
-use Rattle.written_site.proofs.RowWords.{told_row, of_row, kept}
+use Rattle.written_site.proofs.RowWords.{append_none, told_row, of_row, kept}
 use Rattle.written_site.proofs.SlotRows.{moment_at}
 use Rattle.written_site.proofs.SoundTables.{same, itself, told_once}
 
@@ -42,10 +42,6 @@ own_more p (x ∷ ms) m = ap (added (own_of p x)) (own_more p ms m) ∙ by_own (
         ≡ added o (own_events p ms) ++ added (own_of p m) []
     by_own None = refl
     by_own (Some event) = refl
-
-append_none : {A : Type 0} (xs : List A) → xs ++ [] ≡ xs
-append_none [] = refl
-append_none (x ∷ xs) = ap (λ ys. x ∷ ys) (append_none xs)
 
 none_more : (p : ℕ) (ms : List Moment) (m : Moment) → own_of p m ≡ None
     → point_after (own_events p (ms ++ m ∷ [])) ≡ point_after (own_events p ms)

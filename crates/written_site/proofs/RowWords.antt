@@ -55,7 +55,7 @@ of_row P s r replies refused accepted =
 
 -- ---- a fact of the rows so far and the site that they led to
 
-append_none : {A : Type 0} (xs : List A) → xs ++ [] ≡ xs
+pub append_none : {A : Type 0} (xs : List A) → xs ++ [] ≡ xs
 append_none [] = refl
 append_none (x ∷ xs) = ap (λ ys. x ∷ ys) (append_none xs)
 

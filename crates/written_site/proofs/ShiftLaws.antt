@@ -24,7 +24,7 @@ use Rattle.written_site.proofs.FigureMoves.{keeps_clears, has_clear}
 use Rattle.written_site.proofs.RowFacts.{Known, known_more, known_first}
 use Rattle.written_site.proofs.RowWords.{of_row}
 use Rattle.written_site.proofs.SlotRows.{moment_at}
-use Rattle.written_site.proofs.SoldRows.{total_moments}
+use Rattle.written_site.proofs.SoldRows.{counted}
 use Rattle.written_site.proofs.SoundTables.{turned}
 
 -- ---- only a clear is told so
@@ -182,31 +182,24 @@ adds_row earlier s r known replies =
 
 -- ---- all rows
 
-from_none : {n m : ℕ} → n ≡ 0 → n + m ≡ m
-from_none {n} {m} none = omega (arith, none)
-
 pub clears_counted : OfBooks AreClearsCounted
 clears_counted c rows legal = record {
   clears = λ h t.
-      total_moments Known known_more (λ s. clears_in h t s.sales)
+      counted Known known_more (λ s. clears_in h t s.sales)
       (λ m. if clears_while h t m then 1 else 0)
       (λ earlier s r known replies. (adds_row earlier s r known replies).clears h t)
-      [] (opening c) rows (known_first c) legal
-      ∙ from_none (none_in h t).0;
+      c rows (known_first c) legal (none_in h t).0;
   cents = λ h t.
-      total_moments Known known_more (λ s. cents_in h t s.sales) (cents_while h t)
+      counted Known known_more (λ s. cents_in h t s.sales) (cents_while h t)
       (λ earlier s r known replies. (adds_row earlier s r known replies).cents h t)
-      [] (opening c) rows (known_first c) legal
-      ∙ from_none (none_in h t).1;
+      c rows (known_first c) legal (none_in h t).1;
   all_clears = λ t.
-      total_moments Known known_more (λ s. clears_by t s.sales)
+      counted Known known_more (λ s. clears_by t s.sales)
       (λ m. if clears_for t m then 1 else 0)
       (λ earlier s r known replies. (adds_row earlier s r known replies).all_clears t)
-      [] (opening c) rows (known_first c) legal
-      ∙ from_none (none_by t).0;
+      c rows (known_first c) legal (none_by t).0;
   all_cents = λ t.
-      total_moments Known known_more (λ s. cents_by t s.sales) (cents_for t)
+      counted Known known_more (λ s. cents_by t s.sales) (cents_for t)
       (λ earlier s r known replies. (adds_row earlier s r known replies).all_cents t)
-      [] (opening c) rows (known_first c) legal
-      ∙ from_none (none_by t).1;
+      c rows (known_first c) legal (none_by t).1;
 }

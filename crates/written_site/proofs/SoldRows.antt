@@ -5,6 +5,7 @@ use Rattle.site_base.specs.declared.actor.Actor.TheVariants.{Till, Dispenser}
 use Rattle.site_base.specs.declared.event.Event.{Event}
 use Rattle.site_base.specs.declared.event.Event.TheVariants.{Terminate, Clear, ReadTransaction, Lift, Flow, Offline, HangUp}
 use Rattle.site_base.specs.declared.row.Row.{Row}
+use Rattle.site_base.specs.Configured.{Configured}
 use Rattle.site_base.specs.Events.{point_named}
 use Rattle.fuelling_point.specs.declared.event.PointEvent.{PointEvent}
 use Rattle.fuelling_point.specs.declared.event.PointEvent.TheVariants as points
@@ -14,11 +15,11 @@ use Rattle.fuelling_point.specs.Kept.{growth_of}
 use Rattle.fuelling_point.specs.PointChecks.{refusal_of}
 use Rattle.fuelling_point.specs.Step.{step_of}
 use Rattle.transaction_buffer.specs.Sales.{Key, key, made_at, next_key, with_new}
-use Rattle.written_site.specs.SiteState.{SiteState, facts_of, open_shift}
+use Rattle.written_site.specs.SiteState.{SiteState, opening, facts_of, open_shift}
 use Rattle.written_site.specs.SiteChecks.{Passed, own_event, flowed}
 use Rattle.written_site.specs.SiteStep.{accepted_site, site_answer, step_at, step_told, nozzles_after, sales_after, sales_by, sale_made, reply_to, site_after}
 use Rattle.written_site.specs.SiteRun.{site_of_rows, IsLegal}
-use Rattle.written_site.specs.Histories.{Moment, moments_after}
+use Rattle.written_site.specs.Histories.{Moment, moments_after, moments_of}
 use Rattle.written_site.specs.RowWords.{open_after, total}
 use Rattle.written_site.specs.SaleWords.{key_sold, number_sold, sold_as}
 use Rattle.written_site.proofs.RowFacts.{own_after}
@@ -154,3 +155,19 @@ total_moments Known keeps word figure adds earlier s (r ∷ rs) known legal =
     let rest = total_moments Known keeps word figure adds (earlier ++ r ∷ [])
     (site_after s r.actor r.event) rs (keeps earlier s r known legal.0) legal.1 in
     omega (arith, here, rest)
+
+-- so a word that is 0 when the site opens is what the moments add up to
+pub counted : (Known : List Row → SiteState → Type 0)
+    → ((earlier : List Row) (s : SiteState) (r : Row) → Known earlier s
+    → r.reply ≡ reply_to s r.actor r.event
+    → Known (earlier ++ r ∷ []) (site_after s r.actor r.event))
+    → (word : SiteState → ℕ) (figure : Moment → ℕ)
+    → ((earlier : List Row) (s : SiteState) (r : Row) → Known earlier s
+    → r.reply ≡ reply_to s r.actor r.event
+    → word (site_after s r.actor r.event) ≡ word s + figure (moment_at earlier s r))
+    → (c : Configured) (rows : List Row) → Known [] (opening c) → IsLegal (opening c) rows
+    → word (opening c) ≡ 0
+    → word (site_of_rows (opening c) rows) ≡ total figure (moments_of c rows)
+counted Known keeps word figure adds c rows known legal none =
+    let all = total_moments Known keeps word figure adds [] (opening c) rows known legal in
+    omega (arith, all, none)
