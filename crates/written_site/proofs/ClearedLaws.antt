@@ -1,5 +1,5 @@
 -- What was cleared of each product in a shift is what the rows tell, for every legal history.
-use Rattle.std.proofs.Common.{◌≡◌, ℕ, ◌+◌, ◌==◌, ◌&&◌, Bool, true, false, cond, List, [], ◌∷◌, ◌++◌, Option, option_map, Some, None, unwrap_or, Result, Ok, Err, refl, sym, ap, ◌∙◌, if◌then◌else◌, arith}
+use Rattle.std.proofs.Common.{◌≡◌, ℕ, ◌+◌, ◌==◌, ◌&&◌, Bool, true, false, cond, List, [], ◌∷◌, ◌++◌, Option, option_map, Some, None, Result, Ok, Err, refl, sym, ap, ◌∙◌, if◌then◌else◌, arith}
 use Rattle.std.specs.FinMap.{get-empty}
 use Rattle.std.specs.Ordering.{nat_cmp}
 use Rattle.site_base.specs.declared.actor.Actor.{Actor}
@@ -14,7 +14,6 @@ use Rattle.fuelling_point.specs.declared.event.PointEvent.{PointEvent}
 use Rattle.fuelling_point.specs.declared.event.PointEvent.TheVariants as points
 use Rattle.fuelling_point.specs.declared.step.PointStep.{PointStep}
 use Rattle.fuelling_point.specs.declared.step.PointStep.TheVariants.{Sold}
-use Rattle.fuelling_point.specs.Kept.{Facts}
 use Rattle.fuelling_point.specs.Step.{step_of}
 use Rattle.transaction_buffer.specs.declared.request.Request.{Request}
 use Rattle.transaction_buffer.specs.declared.request.Request.TheVariants as requests
@@ -27,7 +26,6 @@ use Rattle.transaction_buffer.proofs.Reading.{read_after, one_sale}
 use Rattle.transaction_buffer.proofs.Rules.{cleared_by_its_locker}
 use Rattle.written_site.specs.ClearedLaws.{sold_as_told, sold_for, volume_told, cleared_while, AreVolumesCleared}
 use Rattle.written_site.specs.DrawLaws.{run_at, product_read}
-use Rattle.written_site.specs.FuellingWords.{product_at as product_configured}
 use Rattle.written_site.specs.Histories.{Moment, moments_of}
 use Rattle.written_site.specs.RowWords.{OfBooks, open_after}
 use Rattle.written_site.specs.SaleWords.{key_sold, number_sold}
@@ -35,21 +33,17 @@ use Rattle.written_site.specs.ShiftFigures.{cleared_in}
 use Rattle.written_site.specs.SiteChecks.{Passed, own_event, flowed}
 use Rattle.written_site.specs.SiteState.{SiteState, opening, facts_of, key_named, open_shift}
 use Rattle.written_site.specs.SiteStep.{site_answer, step_at, step_told, nozzles_after, sales_after, sales_by, sale_made, reply_to, site_after}
-use Rattle.written_site.specs.Volumes.{nozzle_out, product_out, running_at}
+use Rattle.written_site.specs.Volumes.{product_out, running_at}
 use Rattle.written_site.proofs.ClearFigures.{none_cleared_in}
 use Rattle.written_site.proofs.FigureMoves.{keeps_clears, has_clear}
-use Rattle.written_site.proofs.FuellingMoves.{growth_moves}
 use Rattle.written_site.proofs.Lockers.{named_so}
 use Rattle.written_site.proofs.MomentRows.{moments_push}
 use Rattle.written_site.proofs.RowFacts.{own_after}
 use Rattle.written_site.proofs.RowWords.{told_row, of_row, total_push}
-use Rattle.written_site.proofs.RunRows.{KnowsRuns, runs_more, runs_first}
+use Rattle.written_site.proofs.RunRows.{KnowsRuns, runs_more, runs_first, product_so, run_so}
 use Rattle.written_site.proofs.SlotRows.{moment_at}
 use Rattle.written_site.proofs.SoldRows.{counted}
 use Rattle.written_site.proofs.SoundMachine.{sold_from}
-use Rattle.written_site.proofs.SoundMeters.{product_after}
-use Rattle.written_site.proofs.SoundReports.{IsRead}
-use Rattle.written_site.proofs.SoundSold.{run_read}
 use Rattle.written_site.proofs.SoundTables.{turned}
 use Rattle.written_site.proofs.ToldAnswers.{never_sold}
 
@@ -122,30 +116,14 @@ module _ (c : Configured) (earlier : List Row) (s : SiteState) (a : Actor) (e : 
   abbrev m : Moment
   m = moment_at earlier s (told_row a e (Ok (site_answer s e)))
 
-  product_so : (p : ℕ) → product_out (nozzles_after s e) p (facts_of s p) ≡ product_read c p earlier
-  product_so p =
-      ap (λ (o : Option ℕ). unwrap_or o 0) (product_after s e p (nozzle_out (facts_of s p)))
-      ∙ ap (λ (o : Option ℕ). unwrap_or o 0) (known.volumes.fuel.products p
-      (nozzle_out (facts_of s p)))
-      ∙ ap (λ (o : Option ℕ). unwrap_or (product_configured c p (unwrap_or o 0)) 0)
-      (known.volumes.fuel.points p).out
-
-  run_so : (p : ℕ) (event : PointEvent) → own_event s e ≡ Some (p, event)
+  run_here : (p : ℕ) (event : PointEvent) → own_event s e ≡ Some (p, event)
       → (nozzle volume price : ℕ) (prepaid : Option ℕ)
       → step_of event (facts_of s p) ≡ Sold nozzle volume price prepaid
       → running_at (nozzles_after s e) p (facts_of s p) ≡ run_at c p m
-  run_so p event own nozzle volume price prepaid is =
-      let f : Facts = facts_of s p in
-      let fuel = known.volumes.fuel in
-      let read : IsRead s e =
-      record { names = passes.names; takes = passes.takes; reads = passes.reads } in
-      let from = sold_from event f nozzle volume price prepaid (fuel.known.whole p)
-      (own_after s a e p event passes own).1 is in
-      let run = run_read s e p event read own (fuel.known.whole p)
-      ((fuel.points p).fuels from.was).meter from.was in
-      let so_far = known.runs p from.was in
-      let grown = growth_moves s a e p event earlier passes own in
-      omega (arith, run, so_far, grown)
+  run_here p event own nozzle volume price prepaid is =
+      run_so c earlier s a e known passes p event own
+      (sold_from event (facts_of s p) nozzle volume price prepaid (known.volumes.fuel.known.whole p)
+      (own_after s a e p event passes own).1 is).was
 
   sold_step : (q : ℕ) (k : Key) (p growth : ℕ) (event : PointEvent) → own_event s e ≡ Some
       (p, event)
@@ -164,10 +142,10 @@ module _ (c : Configured) (earlier : List Row) (s : SiteState) (a : Actor) (e : 
       (running_at (nozzles_after s e) p (facts_of s p)) (volume_named q k s.sales)
       (λ named. ap (volume_if q) (one_sale k (next_key p (open_shift s) s.sales) s.sales named
       ∙ none_next (open_shift s) (sales_at p s.sales)))
-      (ap (λ (r : ℕ). r == q) (product_so p))
+      (ap (λ (r : ℕ). r == q) (product_so c earlier s e known p))
       ∙ ap (λ (v : ℕ). volume_named q k s.sales
       + (if same_key k (key (open_shift s) p n) && product_read c p earlier == q then v else 0))
-      (run_so p event own nozzle volume price prepaid is)
+      (run_here p event own nozzle volume price prepaid is)
       ∙ ap (λ (h : ℕ). volume_named q k s.sales
       + (if same_key k (key h p n) && product_read c p earlier == q then run_at c p m else 0))
       known.volumes.fuel.known.shift

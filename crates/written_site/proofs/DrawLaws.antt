@@ -18,32 +18,27 @@ use Rattle.fuelling_point.specs.declared.event.PointEvent.{PointEvent}
 use Rattle.fuelling_point.specs.declared.event.PointEvent.TheVariants as points
 use Rattle.fuelling_point.specs.declared.step.PointStep.{PointStep}
 use Rattle.fuelling_point.specs.declared.step.PointStep.TheVariants.{Drawn}
-use Rattle.fuelling_point.specs.Kept.{Facts, growth_of}
+use Rattle.fuelling_point.specs.Kept.{growth_of}
 use Rattle.fuelling_point.specs.Step.{step_of}
 use Rattle.meters.specs.Metered.{product_alone}
 use Rattle.written_site.specs.DrawLaws.{tells_drawn, run_at, product_read, draws_at, drawn_for, drawn_while, AreDrawsCounted}
-use Rattle.written_site.specs.FuellingWords.{product_at as product_configured}
 use Rattle.written_site.specs.Histories.{Moment}
 use Rattle.written_site.specs.RowWords.{OfBooks, open_after}
 use Rattle.written_site.specs.ShiftFigures.{shift_drawn}
 use Rattle.written_site.specs.SiteChecks.{Passed, own_event, flowed}
-use Rattle.written_site.specs.SiteState.{SiteState, opening, nothing_drawn, facts_of, open_shift}
+use Rattle.written_site.specs.SiteState.{SiteState, nothing_drawn, facts_of, open_shift}
 use Rattle.written_site.specs.SiteStep.{accepted_site, site_answer, step_at, step_told, nozzles_after, draws_by, draw_noted, reply_to, site_after}
 use Rattle.written_site.specs.Sound.{is_draw_row}
-use Rattle.written_site.specs.Volumes.{nozzle_out, product_out, running_at, drawn_by, adjusted}
+use Rattle.written_site.specs.Volumes.{product_out, running_at, drawn_by, adjusted}
 use Rattle.written_site.proofs.FigureDraws.{drawn_there, noted_figure, opened_figure}
-use Rattle.written_site.proofs.FuellingMoves.{growth_moves}
 use Rattle.written_site.proofs.RowFacts.{own_after}
 use Rattle.written_site.proofs.RowWords.{told_row, of_row}
-use Rattle.written_site.proofs.RunRows.{KnowsRuns, runs_more, runs_first}
+use Rattle.written_site.proofs.RunRows.{KnowsRuns, runs_more, runs_first, product_so, run_so}
 use Rattle.written_site.proofs.SlotRows.{moment_at}
 use Rattle.written_site.proofs.SoldRows.{counted}
 use Rattle.written_site.proofs.SoundDraws.{opened_weighs}
 use Rattle.written_site.proofs.SoundMachine.{drawn_from}
-use Rattle.written_site.proofs.SoundMeters.{product_after}
 use Rattle.written_site.proofs.SoundOpening.{nothing_weighs}
-use Rattle.written_site.proofs.SoundReports.{IsRead}
-use Rattle.written_site.proofs.SoundSold.{run_read}
 use Rattle.written_site.proofs.SoundTables.{turned}
 use Rattle.written_site.proofs.SoundUses.{row_at}
 use Rattle.written_site.proofs.ToldAnswers.{ends_fuelling, is_over, not_over}
@@ -139,36 +134,19 @@ module _ (c : Configured) (earlier : List Row) (s : SiteState) (a : Actor) (e : 
   abbrev m : Moment
   m = moment_at earlier s (told_row a e (Ok (site_answer s e)))
 
-  read : IsRead s e
-  read = record { names = passes.names; takes = passes.takes; reads = passes.reads }
-
   -- what the event draws of product r, as the row tells it, where it is this step of its point
   abbrev drawn_so : ℕ → ℕ → ℕ → PointStep → ℕ
   drawn_so r p growth step =
       if tells_drawn (Ok (step_told s p growth step)) && product_read c p earlier == r
       then run_at c p m else 0
 
-  product_so : (p : ℕ) → product_out (nozzles_after s e) p (facts_of s p) ≡ product_read c p earlier
-  product_so p =
-      ap (λ (o : Option ℕ). unwrap_or o 0) (product_after s e p (nozzle_out (facts_of s p)))
-      ∙ ap (λ (o : Option ℕ). unwrap_or o 0) (known.volumes.fuel.products p
-      (nozzle_out (facts_of s p)))
-      ∙ ap (λ (o : Option ℕ). unwrap_or (product_configured c p (unwrap_or o 0)) 0)
-      (known.volumes.fuel.points p).out
-
-  run_so : (p : ℕ) (event : PointEvent) → own_event s e ≡ Some (p, event) → (nozzle volume : ℕ)
-      → step_of event (facts_of s p) ≡ Drawn nozzle volume
+  run_here : (p : ℕ) (event : PointEvent) → own_event s e ≡ Some (p, event)
+      → (nozzle volume : ℕ) → step_of event (facts_of s p) ≡ Drawn nozzle volume
       → running_at (nozzles_after s e) p (facts_of s p) ≡ run_at c p m
-  run_so p event own nozzle volume is =
-      let f : Facts = facts_of s p in
-      let fuel = known.volumes.fuel in
-      let from = drawn_from event f nozzle volume (fuel.known.whole p)
-      (own_after s a e p event passes own).1 is in
-      let run = run_read s e p event read own (fuel.known.whole p)
-      ((fuel.points p).fuels from.was).meter from.was in
-      let so_far = known.runs p from.was in
-      let grown = growth_moves s a e p event earlier passes own in
-      omega (arith, run, so_far, grown)
+  run_here p event own nozzle volume is =
+      run_so c earlier s a e known passes p event own
+      (drawn_from event (facts_of s p) nozzle volume (known.volumes.fuel.known.whole p)
+      (own_after s a e p event passes own).1 is).was
 
   figure_step : (g r p : ℕ) (event : PointEvent) → own_event s e ≡ Some (p, event)
       → 1 ≤ r → r ≤ PRODUCT_CELLS → (step : PointStep) → step_of event (facts_of s p) ≡ step
@@ -186,10 +164,10 @@ module _ (c : Configured) (earlier : List Row) (s : SiteState) (a : Actor) (e : 
       (running_at (nozzles_after s e) p (facts_of s p))
       (turned g (open_shift s) ∙ ap (λ (h : ℕ). h == g) shift)
       (turned r (product_out (nozzles_after s e) p (facts_of s p))
-      ∙ ap (λ (k : ℕ). k == r) (product_so p))
+      ∙ ap (λ (k : ℕ). k == r) (product_so c earlier s e known p))
       ∙ ap (λ (v : ℕ). if open_after earlier == g
       then (if product_read c p earlier == r then v else 0) else 0)
-      (run_so p event own nozzle volume is))
+      (run_here p event own nozzle volume is))
   figure_step g r p event own low high step is =
       same_figure (drawn_there g r s.drawn) (open_after earlier == g)
     where
@@ -209,9 +187,9 @@ module _ (c : Configured) (earlier : List Row) (s : SiteState) (a : Actor) (e : 
       ∙ ap (λ (v : ℕ). drawn_by (product_alone r) s.drawn + v)
       (alone_turned (product_out (nozzles_after s e) p (facts_of s p) == r)
       (product_read c p earlier == r) (running_at (nozzles_after s e) p (facts_of s p))
-      (ap (λ (k : ℕ). k == r) (product_so p))
+      (ap (λ (k : ℕ). k == r) (product_so c earlier s e known p))
       ∙ ap (λ (v : ℕ). if product_read c p earlier == r then v else 0)
-      (run_so p event own nozzle volume is))
+      (run_here p event own nozzle volume is))
   all_step r p event own low high step is = omega arith
 
 unmoved : (v : ℕ) (b : Bool) (w : ℕ) → w ≡ 0 → v ≡ v + (if b then w else 0)

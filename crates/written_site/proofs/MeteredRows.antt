@@ -1,8 +1,6 @@
 -- What the meters of a product have counted is what the rows tell.
-use Rattle.std.proofs.Common.{◌≡◌, ℕ, ◌+◌, ◌-◌, ◌*◌, ◌==◌, ◌&&◌, ◌||◌, not, Bool, true, false, cond, List, [], ◌∷◌, ◌++◌, Option, Some, None, refl, sym, ap, subst, ◌∙◌, if◌then◌else◌, arith}
+use Rattle.std.proofs.Common.{◌≡◌, ℕ, ◌+◌, ◌-◌, ◌*◌, ◌==◌, ◌&&◌, ◌||◌, not, Bool, true, false, cond, List, [], ◌∷◌, Some, refl, sym, ap, subst, ◌∙◌, if◌then◌else◌, arith}
 use Rattle.std.proofs.lemmas.Bool.{and_parts, false≢true}
-use Rattle.std.specs.List.{list_any}
-use Rattle.site_base.specs.declared.actor.Actor.{Actor}
 use Rattle.site_base.specs.declared.event.Event.{Event}
 use Rattle.site_base.specs.declared.event.Event.TheVariants.{ReplaceMeter, Flow, HangUp}
 use Rattle.site_base.specs.declared.row.Row.{Row}
@@ -11,19 +9,19 @@ use Rattle.meters.specs.Metered.{metered, metered_by, product_alone, product_tot
 use Rattle.meters.specs.Nozzles.{Nozzle, is_nozzle, opening_nozzles, nozzle_of, with_nozzle, read_at, replaced_at}
 use Rattle.meters.proofs.Looked.{KeepsName}
 use Rattle.written_site.specs.MeteredRows.{metered_read, is_among, metered_of, metered_rows}
-use Rattle.written_site.specs.MeterLaws.{began_after, read_after, IsNozzleRead}
+use Rattle.written_site.specs.MeterLaws.{began_after, read_after}
 use Rattle.written_site.specs.SiteRun.{site_of_rows, IsLegal}
 use Rattle.written_site.specs.SiteState.{SiteState, opening}
 use Rattle.written_site.specs.SiteStep.{nozzles_after, reply_to, site_after}
-use Rattle.written_site.proofs.MeterLaws.{IsFresh, EachFresh, fresh_points, meters_read}
+use Rattle.written_site.proofs.MeterLaws.{EachFresh, fresh_points, meters_read}
 use Rattle.written_site.proofs.RowWords.{of_row, kept}
 use Rattle.written_site.proofs.SoundMeters.{read_keeps, replaced_keeps}
-use Rattle.written_site.proofs.SoundTables.{same, turned, itself}
+use Rattle.written_site.proofs.SoundTables.{same, itself}
 
 -- ---- the nozzles of a site stand as configured
 
--- The nozzles stand in configured order with their names and products; one whose name stands before it,
--- so that no event can name it, has metered nothing.
+-- The nozzles stand in configured order with their names and products; one whose name stands before
+-- it, so that no event can name it, has metered nothing.
 abbrev pub Aligned : List Nozzle → List Nozzle → List Nozzle → Type 0
 Aligned seen [] [] = Unit {0}
 Aligned seen [] (y ∷ ys) = ⊥
@@ -60,16 +58,32 @@ aligned_with seen p n change (x ∷ xs) (y ∷ ys) keeps same_product unseen ali
         let first : is_among seen x.point x.number ≡ false =
         ap (λ (r : ℕ). is_among seen r x.number) (same x.point p parts.0)
         ∙ ap (is_among seen p) (same x.number n parts.1) ∙ unseen in
-        subst (Aligned seen (x ∷ xs)) (sym moved)
-        (keeps.point y ∙ aligned.0, (keeps.number y ∙ aligned.1.0,
-        (same_product y ∙ aligned.1.1.0,
-        ((λ shadow. absurd (false≢true (sym first ∙ shadow))), aligned.1.1.1.1))))
+        subst (Aligned seen (x ∷ xs)) (sym moved) (
+          keeps.point y ∙ aligned.0,
+          (
+            keeps.number y ∙ aligned.1.0,
+            (
+              same_product y ∙ aligned.1.1.0,
+              ((λ shadow. absurd (false≢true (sym first ∙ shadow))), aligned.1.1.1.1),
+            ),
+          ),
+        )
     by_test false at behind =
         let moved : with_nozzle p n change (y ∷ ys) ≡ y ∷ with_nozzle p n change ys = rw at refl in
         let other : is_nozzle p n x ≡ false = sym as_configured ∙ at in
-        subst (Aligned seen (x ∷ xs)) (sym moved)
-        (aligned.0, (aligned.1.0, (aligned.1.1.0, (aligned.1.1.1.0,
-        behind (ap (λ (b : Bool). b || is_among seen p n) other ∙ unseen)))))
+        subst (Aligned seen (x ∷ xs)) (sym moved) (
+          aligned.0,
+          (
+            aligned.1.0,
+            (
+              aligned.1.1.0,
+              (
+                aligned.1.1.1.0,
+                behind (ap (λ (b : Bool). b || is_among seen p n) other ∙ unseen),
+              ),
+            ),
+          ),
+        )
 
 aligned_after : (s : SiteState) (e : Event) (xs : List Nozzle) → Aligned [] xs s.nozzles
     → Aligned [] xs (nozzles_after s e)
@@ -123,7 +137,8 @@ metered_as_read c q rows seen (x ∷ xs) (y ∷ ys) aligned each =
     its_name = named_as x.point x.number x y aligned.0 aligned.1.0
         ∙ ap (λ (b : Bool). b && x.number == x.number) (itself x.point) ∙ itself x.number
 
-    first : is_among seen x.point x.number ≡ false → metered y ≡ metered_read c x.point x.number rows
+    first : is_among seen x.point x.number ≡ false → metered y
+        ≡ metered_read c x.point x.number rows
     first unseen = each x.point x.number y unseen (rw its_name refl)
 
     later : (p n : ℕ) (z : Nozzle) → is_among (x ∷ seen) p n ≡ false → nozzle_of p n ys ≡ Some z

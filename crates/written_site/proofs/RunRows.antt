@@ -1,5 +1,5 @@
 -- The volume of a fuelling under way is what the rows tell since its start.
-use Rattle.std.proofs.Common.{◌≡◌, ℕ, ◌+◌, ◌==◌, ◌&&◌, ◌||◌, Bool, true, false, List, [], ◌∷◌, ◌++◌, Some, None, is_some, Ok, Err, refl, sym, ap, ◌∙◌, if◌then◌else◌, arith}
+use Rattle.std.proofs.Common.{◌≡◌, ℕ, ◌+◌, ◌==◌, ◌&&◌, ◌||◌, Bool, true, false, List, [], ◌∷◌, ◌++◌, Some, None, is_some, unwrap_or, Ok, Err, refl, sym, ap, ◌∙◌, if◌then◌else◌, arith, Option}
 use Rattle.std.proofs.lemmas.Bool.{false≢true}
 use Rattle.std.proofs.lemmas.Bool.Decides.{nat_tests}
 use Rattle.std.proofs.lemmas.Grind.{common_steps}
@@ -16,14 +16,15 @@ use Rattle.fuelling_point.specs.declared.event.PointEvent.{PointEvent}
 use Rattle.fuelling_point.specs.Kept.{Facts, is_under_way}
 use Rattle.fuelling_point.specs.PointChecks.{refusal_of}
 use Rattle.fuelling_point.specs.Step.{after}
-use Rattle.written_site.specs.DrawLaws.{run_of}
-use Rattle.written_site.specs.FuellingWords.{is_started, tells_start, calls_after, starts, growth_at}
+use Rattle.written_site.specs.DrawLaws.{run_of, run_at, product_read}
+use Rattle.written_site.specs.FuellingWords.{product_at, is_started, tells_start, calls_after, starts, growth_at}
 use Rattle.written_site.specs.Histories.{Moment, moments_of}
 use Rattle.written_site.specs.Holders.{names_point}
 use Rattle.written_site.specs.SaleWords.{by_till, release_of, release_said}
 use Rattle.written_site.specs.SiteChecks.{Passed, own_event, lifted, released, test_released}
 use Rattle.written_site.specs.SiteState.{SiteState, opening, facts_in, facts_of}
-use Rattle.written_site.specs.SiteStep.{site_answer, points_after, reply_to, site_after}
+use Rattle.written_site.specs.SiteStep.{nozzles_after, site_answer, points_after, reply_to, site_after}
+use Rattle.written_site.specs.Volumes.{nozzle_out, product_out, running_at}
 use Rattle.written_site.proofs.FuellingMoves.{growth_moves, growth_away}
 use Rattle.written_site.proofs.FuellingRows.{starts_more}
 use Rattle.written_site.proofs.MomentRows.{moments_push}
@@ -31,7 +32,9 @@ use Rattle.written_site.proofs.PointAfter.{FactsAfter, stays, moves, facts_after
 use Rattle.written_site.proofs.RowWords.{told_row, of_row}
 use Rattle.written_site.proofs.SlotRows.{moment_at}
 use Rattle.written_site.proofs.SoundMachine.{goes_on, starts as begins}
-use Rattle.written_site.proofs.SoundReports.{apart}
+use Rattle.written_site.proofs.SoundMeters.{product_after}
+use Rattle.written_site.proofs.SoundReports.{apart, IsRead}
+use Rattle.written_site.proofs.SoundSold.{run_read}
 use Rattle.written_site.proofs.VolumeLaws.{KnowsVolumes, volumes_more, volumes_first}
 
 -- one moment more
@@ -190,3 +193,32 @@ runs_first c = record {
       absurd (false≢true (ap (λ (f : Facts). is_under_way f.state) (sym (opens_closed c p))
       ∙ under_way));
 }
+
+-- ---- the fuelling that an event ends
+
+-- the product that it is of is the one that the rows tell
+pub product_so : (c : Configured) (earlier : List Row) (s : SiteState) (e : Event)
+    → KnowsRuns c earlier s → (p : ℕ)
+    → product_out (nozzles_after s e) p (facts_of s p) ≡ product_read c p earlier
+product_so c earlier s e known p =
+    ap (λ (o : Option ℕ). unwrap_or o 0) (product_after s e p (nozzle_out (facts_of s p)))
+    ∙ ap (λ (o : Option ℕ). unwrap_or o 0)
+    (known.volumes.fuel.products p (nozzle_out (facts_of s p)))
+    ∙ ap (λ (o : Option ℕ). unwrap_or (product_at c p (unwrap_or o 0)) 0)
+    (known.volumes.fuel.points p).out
+
+-- so is its volume, with what flows in the event
+pub run_so : (c : Configured) (earlier : List Row) (s : SiteState) (a : Actor) (e : Event)
+    → KnowsRuns c earlier s → Passed s a e → (p : ℕ) (event : PointEvent)
+    → own_event s e ≡ Some (p, event) → is_under_way (facts_of s p).state ≡ true
+    → running_at (nozzles_after s e) p (facts_of s p)
+    ≡ run_at c p (moment_at earlier s (told_row a e (Ok (site_answer s e))))
+run_so c earlier s a e known passes p event own under_way =
+    let fuel = known.volumes.fuel in
+    let read : IsRead s e =
+    record { names = passes.names; takes = passes.takes; reads = passes.reads } in
+    let run = run_read s e p event read own (fuel.known.whole p)
+    ((fuel.points p).fuels under_way).meter under_way in
+    let so_far = known.runs p under_way in
+    let grown = growth_moves s a e p event earlier passes own in
+    omega (arith, run, so_far, grown)

@@ -1,5 +1,5 @@
 -- What tills cleared is what the rows tell.
-use Rattle.std.proofs.Common.{◌≡◌, ℕ, ◌+◌, ◌==◌, ◌&&◌, Bool, true, false, List, [], Option, Some, None, is_some, unwrap_or, Ok, Err, refl, sym, ap, subst, ◌∙◌, if◌then◌else◌, arith}
+use Rattle.std.proofs.Common.{◌≡◌, ℕ, ◌+◌, ◌==◌, ◌&&◌, Bool, true, false, List, Option, Some, None, is_some, unwrap_or, Ok, Err, refl, sym, ap, subst, ◌∙◌, if◌then◌else◌, arith}
 use Rattle.site_base.specs.declared.actor.Actor.{Actor}
 use Rattle.site_base.specs.declared.actor.Actor.TheVariants.{Till, Dispenser}
 use Rattle.site_base.specs.declared.event.Event.{Event}
@@ -17,7 +17,7 @@ use Rattle.written_site.specs.RowWords.{OfBooks, open_after}
 use Rattle.written_site.specs.ShiftFigures.{clears_in, cents_in, clears_by, cents_by}
 use Rattle.written_site.specs.ShiftLaws.{cents_cleared, cleared_cents, clears_for, cents_for, clears_while, cents_while, AreClearsCounted}
 use Rattle.written_site.specs.SiteChecks.{Passed, flowed}
-use Rattle.written_site.specs.SiteState.{SiteState, opening, key_named, open_shift, sale_shown}
+use Rattle.written_site.specs.SiteState.{SiteState, key_named, open_shift, sale_shown}
 use Rattle.written_site.specs.SiteStep.{site_answer, step_at, step_told, sale_told, clear_told, product_told, sales_after, reply_to, site_after}
 use Rattle.written_site.proofs.ClearFigures.{nothing_keeps, none_in, none_by}
 use Rattle.written_site.proofs.FigureMoves.{keeps_clears, has_clear}

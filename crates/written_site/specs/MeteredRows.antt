@@ -18,8 +18,8 @@ metered_read c p n rows =
 abbrev pub is_among : List Nozzle → ℕ → ℕ → Bool
 is_among seen p n = list_any (is_nozzle p n) seen
 
--- the same of those of these nozzles that deliver product q. Events name the first of two nozzles of
--- one name, which no site file configures.
+-- the same of those of these nozzles that deliver product q. Events name the first of two nozzles
+-- of one name, which no site file configures.
 abbrev pub metered_of : Configured → ℕ → List Row → List Nozzle → List Nozzle → ℕ
 metered_of c q rows seen [] = 0
 metered_of c q rows seen (x ∷ xs) =

@@ -12,10 +12,10 @@ use Rattle.written_site.specs.RowWords.{total}
 use Rattle.written_site.specs.SiteState.{SiteState}
 use Rattle.written_site.specs.Volumes.{running, adjusted}
 
--- What the site shows as metered of a product is what the rows tell of its nozzles' meters. For each
--- product number that a product may have, this is in the fuellings under way, in sales that are
--- payable, locked or cleared, and in draws. The growths that the rows tell add up to what all meters
--- have counted.
+-- What the site shows as metered of a product is what the rows tell of its nozzles' meters. For
+-- each product number that a product may have, this is in the fuellings under way, in sales that
+-- are payable, locked or cleared, and in draws. The growths that the rows tell add up to what all
+-- meters have counted.
 pub record AreVolumesConserved (c : Configured) (rows : List Row) (s : SiteState) : Type 0 where
   pub metered : (q : ℕ) → product_total q s.nozzles ≡ metered_rows c q rows
   pub conserved : (q : ℕ) → 1 ≤ q → q ≤ PRODUCTS
