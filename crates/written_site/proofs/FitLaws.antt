@@ -1,6 +1,5 @@
 -- Every figure fits in 64 bits, for every legal history of a fit configuration.
-use Rattle.std.proofs.Common.{◌≡◌, ℕ, ◌+◌, List, [], ◌∷◌, refl, sym, subst, ◌∙◌, arith}
-use Rattle.std.specs.List.{AllByRecursion}
+use Rattle.std.proofs.Common.{ℕ, List, [], ◌∷◌, sym, subst, arith}
 use Rattle.site_base.specs.declared.row.Row.{Row}
 use Rattle.site_base.specs.Configured.{Configured}
 use Rattle.written_site.specs.FitLaws.{AreReadable, DoVolumesFit, DoFiguresFitRows}

@@ -1,8 +1,7 @@
 -- What is sold is what the rows tell of its fuelling, and it stands for good.
-use Rattle.std.proofs.Common.{◌≡◌, ℕ, ◌+◌, ◌-◌, ◌==◌, ◌&&◌, Bool, true, false, cond, List, [], ◌∷◌, ◌++◌, Option, option_map, Some, None, unwrap_or, Result, Ok, Err, refl, sym, ap, subst, ◌∙◌, if◌then◌else◌}
+use Rattle.std.proofs.Common.{◌≡◌, ℕ, ◌+◌, Bool, true, false, cond, List, [], ◌∷◌, ◌++◌, Option, option_map, Some, None, unwrap_or, Result, Ok, Err, refl, sym, ap, subst, ◌∙◌, if◌then◌else◌}
 use Rattle.site_base.specs.declared.actor.Actor.{Actor}
-use Rattle.site_base.specs.declared.actor.Actor.TheVariants.{Till, Dispenser}
-use Rattle.site_base.specs.declared.answer.Answer.{Answer}
+use Rattle.site_base.specs.declared.actor.Actor.TheVariants.{Till}
 use Rattle.site_base.specs.declared.answer.Answer.TheVariants.{Cleared}
 use Rattle.site_base.specs.declared.event.Event.{Event}
 use Rattle.site_base.specs.declared.event.Event.TheVariants.{SignOff, Lock, Unlock, Clear, Offline, HangUp}
@@ -17,14 +16,14 @@ use Rattle.transaction_buffer.specs.declared.request.Request.{Request}
 use Rattle.transaction_buffer.specs.declared.request.Request.TheVariants as requests
 use Rattle.transaction_buffer.specs.declared.standing.Standing.{Standing}
 use Rattle.transaction_buffer.specs.declared.standing.Standing.TheVariants.{Payable}
-use Rattle.transaction_buffer.specs.Sales.{Key, Sale, Sales, same_key, next_key, sales_at, sale_of, with_new}
-use Rattle.transaction_buffer.specs.TransactionTable.{Line, line_for, sale_after, sale_after_request, after_request, after_sign_off, is_locked_by, let_go, refusal_of}
+use Rattle.transaction_buffer.specs.Sales.{Key, Sale, Sales, same_key, next_key, sales_at, sale_of}
+use Rattle.transaction_buffer.specs.TransactionTable.{Line, line_for, sale_after, sale_after_request, after_request, after_sign_off, is_locked_by, let_go}
 use Rattle.transaction_buffer.proofs.Reading.{read_after, one_sale}
 use Rattle.transaction_buffer.proofs.InShift.{none_next}
 use Rattle.transaction_buffer.proofs.Rules.{cleared_by_its_locker}
 use Rattle.written_site.specs.SiteState.{SiteState, opening, facts_of, key_named, open_shift}
 use Rattle.written_site.specs.SiteChecks.{Passed}
-use Rattle.written_site.specs.SiteStep.{accepted_site, site_answer, clear_told, step_at, nozzles_after, sales_after, sales_by, sale_made, reply_to, site_after}
+use Rattle.written_site.specs.SiteStep.{site_answer, clear_told, step_at, nozzles_after, sales_after, sales_by, sale_made, reply_to, site_after}
 use Rattle.written_site.specs.SiteRun.{site_of_rows, IsLegal}
 use Rattle.written_site.specs.Histories.{Moment, moments_of}
 use Rattle.written_site.specs.RowWords.{OfBooks}
@@ -84,7 +83,8 @@ asked_same request t x y = by_line (line_for request t (record x { standing = y 
 
 asked_stands : (request : Request) (t : ℕ) (j k : Key) (x : Sale) (sales : Sales)
     → Stands k x sales → Stands k x (after_request request t j sales)
-asked_stands request t j k x sales is = by_name (same_key k j) (read_after.asked_for t request j k sales)
+asked_stands request t j k x sales is = by_name (same_key k j)
+    (read_after.asked_for t request j k sales)
   where
     by_name : (b : Bool)
         → sale_of k (after_request request t j sales)
@@ -146,7 +146,8 @@ stands_accepted k x s (Till t) (Clear p id) is =
 stands_accepted k x s a (Offline p) is =
     stepped_stands k x s s.nozzles p (step_at s (Offline p)) is
 stands_accepted k x s a (HangUp p n reading) is =
-    stepped_stands k x s (nozzles_after s (HangUp p n reading)) p (step_at s (HangUp p n reading)) is
+    stepped_stands k x s (nozzles_after s (HangUp p n reading)) p
+    (step_at s (HangUp p n reading)) is
 stands_accepted k x s a e is = is
 
 stands_rows : (k : Key) (x : Sale) (s : SiteState) (rs : List Row) → IsLegal s rs

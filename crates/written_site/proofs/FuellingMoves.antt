@@ -1,12 +1,10 @@
 -- What an accepted event does to its point, and what its row says of that.
-use Rattle.std.proofs.Common.{◌≡◌, ℕ, ◌+◌, ◌==◌, ◌&&◌, ◌||◌, Bool, true, false, List, [], ◌∷◌, Option, Some, None, is_some, unwrap_or, Ok, refl, sym, ap, subst, ◌∙◌, if◌then◌else◌, ◌⊎◌, inl, inr, arith}
-use Rattle.std.proofs.lemmas.Bool.{false≢true}
+use Rattle.std.proofs.Common.{◌≡◌, ℕ, ◌==◌, Bool, true, false, List, Option, Some, None, is_some, unwrap_or, Ok, refl, ap, ◌∙◌, if◌then◌else◌, ◌⊎◌, arith}
 use Rattle.std.proofs.lemmas.Bool.Decides.{nat_tests}
 use Rattle.std.proofs.lemmas.Grind.{common_steps}
 use Rattle.site_base.specs.declared.actor.Actor.{Actor}
-use Rattle.site_base.specs.declared.actor.Actor.TheVariants.{Till, Dispenser}
 use Rattle.site_base.specs.declared.event.Event.{Event}
-use Rattle.site_base.specs.declared.event.Event.TheVariants.{Release, Prepay, TestRelease, Lift, Offline, HangUp}
+use Rattle.site_base.specs.declared.event.Event.TheVariants.{Lift, Offline, HangUp}
 use Rattle.site_base.specs.declared.row.Row.{Row}
 use Rattle.site_base.specs.declared.state.PointState.TheVariants as states
 use Rattle.site_base.specs.Events.{point_named, growth_told}
@@ -14,20 +12,20 @@ use Rattle.fuelling_point.specs.declared.event.PointEvent.{PointEvent}
 use Rattle.fuelling_point.specs.declared.event.PointEvent.TheVariants as points
 use Rattle.fuelling_point.specs.Kept.{Facts, growth_of, is_under_way}
 use Rattle.fuelling_point.specs.PointChecks.{refusal_of}
-use Rattle.fuelling_point.specs.Step.{step_of, after}
+use Rattle.fuelling_point.specs.Step.{after}
 use Rattle.fuelling_point.specs.Whole.{IsWhole}
 use Rattle.written_site.specs.SiteState.{SiteState, facts_of}
 use Rattle.written_site.specs.SiteChecks.{Passed, own_event, flowed, lifted}
-use Rattle.written_site.specs.SiteStep.{site_answer, step_told}
+use Rattle.written_site.specs.SiteStep.{site_answer}
 use Rattle.written_site.specs.Holders.{names_point}
-use Rattle.written_site.specs.FuellingWords.{nozzle_said, calling_said, tells_calling, is_started, tells_start, end_said, growth_at}
+use Rattle.written_site.specs.FuellingWords.{nozzle_said, calling_said, tells_calling, is_started, end_said, growth_at}
 use Rattle.written_site.specs.SaleWords.{release_said}
 use Rattle.written_site.specs.SoundSteps.{growth_by}
 use Rattle.written_site.proofs.FuellingTold.{growth_is}
 use Rattle.written_site.proofs.RowWords.{told_row}
 use Rattle.written_site.proofs.SlotRows.{moment_at}
 use Rattle.written_site.proofs.SoundReports.{apart}
-use Rattle.written_site.proofs.SoundTables.{itself, same, told_once}
+use Rattle.written_site.proofs.SoundTables.{itself}
 
 -- ---- the nozzle that is out
 
@@ -86,7 +84,8 @@ pub calling_away : (s : SiteState) (e : Event) (p : ℕ)
     → ((event : PointEvent) → own_event s e ≡ Some (p, event) → ⊥)
     → calling_said p e (Ok (site_answer s e)) ≡ None
 calling_away s (Lift q n reading) p away =
-    ap (λ (b : Bool). if b then Some (tells_calling (Ok (site_answer s (Lift q n reading)))) else None)
+    ap (λ (b : Bool). if b then Some (tells_calling (Ok (site_answer s (Lift q n reading)))) else
+    None)
     (apart q p (lifted s q n) away)
 calling_away s (HangUp q n reading) p away =
     ap (λ (b : Bool). if b then Some false else None)

@@ -1,11 +1,9 @@
 -- The fuellings under way at a site are those that the rows so far tell.
 use Rattle.std.proofs.Common.{◌≡◌, ℕ, ◌+◌, ◌==◌, ◌&&◌, ◌||◌, Bool, true, false, List, [], ◌∷◌, ◌++◌, Option, option_and_then, Some, None, is_some, unwrap_or, Ok, Err, refl, sym, ap, subst, ◌∙◌, if◌then◌else◌, ◌⊎◌, inl, inr, arith}
 use Rattle.std.proofs.lemmas.Bool.{false≢true}
-use Rattle.std.proofs.lemmas.Bool.Decides.{nat_tests}
 use Rattle.std.proofs.lemmas.Grind.{common_steps}
 use Rattle.std.proofs.lemmas.List.{append_assoc}
 use Rattle.std.proofs.lemmas.List.Folds.{list_any-append}
-use Rattle.std.specs.List.{list_any}
 use Rattle.site_base.specs.declared.actor.Actor.{Actor}
 use Rattle.site_base.specs.declared.event.Event.{Event}
 use Rattle.site_base.specs.declared.event.Event.TheVariants.{SetPrice}
@@ -13,25 +11,24 @@ use Rattle.site_base.specs.declared.refusal.Refusal.{Refusal}
 use Rattle.site_base.specs.declared.row.Row.{Row}
 use Rattle.site_base.specs.declared.state.PointState.TheVariants as states
 use Rattle.site_base.specs.Configured.{Configured}
-use Rattle.site_base.specs.Events.{point_named, growth_told}
+use Rattle.site_base.specs.Events.{point_named}
 use Rattle.site_base.specs.Prices.{prices_of}
 use Rattle.site_base.specs.Table.{row_of, with_row}
 use Rattle.fuelling_point.specs.declared.event.PointEvent.{PointEvent}
 use Rattle.fuelling_point.specs.Kept.{Facts, growth_of, is_under_way}
 use Rattle.fuelling_point.specs.PointChecks.{refusal_of}
 use Rattle.fuelling_point.specs.Step.{after}
-use Rattle.fuelling_point.specs.Whole.{IsWhole}
 use Rattle.fuelling_point.proofs.Whole.{whole_accepted}
-use Rattle.meters.specs.Nozzles.{opening_nozzles, product_of, reading_of}
-use Rattle.written_site.specs.SiteState.{SiteState, opening, facts_in, facts_of, price_of, price_at_start}
+use Rattle.meters.specs.Nozzles.{product_of, reading_of}
+use Rattle.written_site.specs.SiteState.{SiteState, opening, facts_of, price_at_start}
 use Rattle.written_site.specs.SiteChecks.{Passed, own_event, numbers}
-use Rattle.written_site.specs.SiteStep.{accepted_site, site_answer, nozzles_after, points_after, prices_after, reply_to, site_after}
+use Rattle.written_site.specs.SiteStep.{accepted_site, site_answer, prices_after, reply_to, site_after}
 use Rattle.written_site.specs.SiteRun.{site_of_rows, IsLegal}
-use Rattle.written_site.specs.Histories.{Moment, moments_after, moments_of}
+use Rattle.written_site.specs.Histories.{Moment, moments_of}
 use Rattle.written_site.specs.Holders.{names_point}
-use Rattle.written_site.specs.RowWords.{last_said, latest, total}
+use Rattle.written_site.specs.RowWords.{last_said, latest}
 use Rattle.written_site.specs.SaleWords.{release_of, release_said}
-use Rattle.written_site.specs.FuellingWords.{nozzle_said, nozzle_of_row, nozzle_after, calling_said, calling_of_row, calls_after, price_said, price_of_row, price_after, product_at, price_read, is_started, starts, end_said, ends_at, growth_at, HasFuelling}
+use Rattle.written_site.specs.FuellingWords.{nozzle_said, nozzle_of_row, nozzle_after, calling_said, calling_of_row, calls_after, price_said, price_of_row, price_after, product_at, price_read, is_started, starts, ends_at, growth_at, HasFuelling}
 use Rattle.written_site.specs.Volumes.{nozzle_out}
 use Rattle.written_site.proofs.FuellingMoves.{nozzle_moves, nozzle_away, calls_moves, calling_away, starts_moves, not_ended, end_away, growth_moves, growth_away}
 use Rattle.written_site.proofs.Histories.{site_of_rows-push}
@@ -88,8 +85,8 @@ price_row q s r replies =
 
 -- ---- what is known
 
--- the fuelling under way at the point: its volume is what its meter has grown since the start, and the
--- rows tell its nozzle, price and volume
+-- the fuelling under way at the point: its volume is what its meter has grown since the start, and
+-- the rows tell its nozzle, price and volume
 pub record IsFuelling (c : Configured) (earlier : List Row) (s : SiteState) (p : ℕ) : Type 0 where
   pub meter : (facts_of s p).start + (facts_of s p).volume
       ≡ reading_of p (nozzle_out (facts_of s p)) s.nozzles
@@ -134,232 +131,240 @@ more c p ms m nozzle price volume volume' was unended grown = record {
 unchanged : (v g : ℕ) → g ≡ 0 → v ≡ v + g
 unchanged v g none = omega (arith, none)
 
-module _ (c : Configured) (earlier : List Row) (s : SiteState) (r : Row) (fuel : KnowsFuel c earlier s)
+module _ (c : Configured) (earlier : List Row) (s : SiteState) (r : Row)
+    (fuel : KnowsFuel c earlier s)
   where
-  -- the row of the event, accepted, and its moment
-  abbrev row : Row
-  row = told_row r.actor r.event (Ok (site_answer s r.event))
+    -- the row of the event, accepted, and its moment
+    abbrev row : Row
+    row = told_row r.actor r.event (Ok (site_answer s r.event))
 
-  abbrev new : SiteState
-  new = accepted_site s r.actor r.event
+    abbrev new : SiteState
+    new = accepted_site s r.actor r.event
 
-  abbrev m : Moment
-  m = moment_at earlier s row
+    abbrev m : Moment
+    m = moment_at earlier s row
 
-  later : (x : Row) → moments_of c (earlier ++ x ∷ [])
-      ≡ moments_of c earlier ++ moment_at earlier s x ∷ []
-  later x = moments_push [] (opening c) earlier x
-      ∙ ap (λ y. moments_of c earlier ++ moment_at earlier y x ∷ []) (sym fuel.led)
+    later : (x : Row) → moments_of c (earlier ++ x ∷ [])
+        ≡ moments_of c earlier ++ moment_at earlier s x ∷ []
+    later x = moments_push [] (opening c) earlier x
+        ∙ ap (λ y. moments_of c earlier ++ moment_at earlier y x ∷ []) (sym fuel.led)
 
-  -- the nozzle that is out
-  out_more : (p : ℕ) → Passed s r.actor r.event → FactsAfter s r.event p
-      → (facts_of new p).out ≡ nozzle_after p (earlier ++ row ∷ [])
-  out_more p passes after_it =
-      by_after after_it
-      ∙ ap (unwrap_or (nozzle_said p r.event)) (fuel.points p).out
-      ∙ sym (said_again (latest (nozzle_of_row p) earlier) (nozzle_said p r.event) None)
-      ∙ ap (λ (o : Option (Option ℕ)). unwrap_or o None)
-      (sym (latest_push (nozzle_of_row p) earlier row))
-    where
-      by_after : FactsAfter s r.event p
-          → (facts_of new p).out ≡ unwrap_or (nozzle_said p r.event) (facts_of s p).out
-      by_after (stays is away) =
-          ap (λ (f : Facts). f.out) is
-          ∙ ap (λ o. unwrap_or o (facts_of s p).out) (sym (nozzle_away s r.event p away))
-      by_after (moves event own is taken) =
-          ap (λ (f : Facts). f.out) is
-          ∙ nozzle_moves s r.event p event (facts_of s p) own (fuel.known.whole p) taken
+    -- the nozzle that is out
+    out_more : (p : ℕ) → Passed s r.actor r.event → FactsAfter s r.event p
+        → (facts_of new p).out ≡ nozzle_after p (earlier ++ row ∷ [])
+    out_more p passes after_it =
+        by_after after_it
+        ∙ ap (unwrap_or (nozzle_said p r.event)) (fuel.points p).out
+        ∙ sym (said_again (latest (nozzle_of_row p) earlier) (nozzle_said p r.event) None)
+        ∙ ap (λ (o : Option (Option ℕ)). unwrap_or o None)
+        (sym (latest_push (nozzle_of_row p) earlier row))
+      where
+        by_after : FactsAfter s r.event p
+            → (facts_of new p).out ≡ unwrap_or (nozzle_said p r.event) (facts_of s p).out
+        by_after (stays is away) =
+            ap (λ (f : Facts). f.out) is
+            ∙ ap (λ o. unwrap_or o (facts_of s p).out) (sym (nozzle_away s r.event p away))
+        by_after (moves event own is taken) =
+            ap (λ (f : Facts). f.out) is
+            ∙ nozzle_moves s r.event p event (facts_of s p) own (fuel.known.whole p) taken
 
-  -- a point that calls
-  calls_more : (p : ℕ) → FactsAfter s r.event p → (facts_of new p).state ≡ states.Calling
-      → calls_after p (earlier ++ row ∷ []) ≡ true
-  calls_more p after_it calling =
-      ap (λ (o : Option Bool). unwrap_or o false) (latest_push (calling_of_row p) earlier row)
-      ∙ said_again (latest (calling_of_row p) earlier) (calling_of_row p row) false
-      ∙ by_after after_it
-    where
-      by_said : (calling_said p r.event (Ok (site_answer s r.event)) ≡ Some true)
-          ⊎ (((facts_of s p).state ≡ states.Calling)
-          × (calling_said p r.event (Ok (site_answer s r.event)) ≡ None))
-          → unwrap_or (calling_of_row p row) (calls_after p earlier) ≡ true
-      by_said (inl is) = ap (λ (o : Option Bool). unwrap_or o (calls_after p earlier)) is
-      by_said (inr was) =
-          ap (λ (o : Option Bool). unwrap_or o (calls_after p earlier)) was.1
-          ∙ (fuel.points p).calls was.0
+    -- a point that calls
+    calls_more : (p : ℕ) → FactsAfter s r.event p → (facts_of new p).state ≡ states.Calling
+        → calls_after p (earlier ++ row ∷ []) ≡ true
+    calls_more p after_it calling =
+        ap (λ (o : Option Bool). unwrap_or o false) (latest_push (calling_of_row p) earlier row)
+        ∙ said_again (latest (calling_of_row p) earlier) (calling_of_row p row) false
+        ∙ by_after after_it
+      where
+        by_said : (calling_said p r.event (Ok (site_answer s r.event)) ≡ Some true)
+            ⊎ (((facts_of s p).state ≡ states.Calling)
+            × (calling_said p r.event (Ok (site_answer s r.event)) ≡ None))
+            → unwrap_or (calling_of_row p row) (calls_after p earlier) ≡ true
+        by_said (inl is) = ap (λ (o : Option Bool). unwrap_or o (calls_after p earlier)) is
+        by_said (inr was) =
+            ap (λ (o : Option Bool). unwrap_or o (calls_after p earlier)) was.1
+            ∙ (fuel.points p).calls was.0
 
-      by_after : FactsAfter s r.event p
-          → unwrap_or (calling_of_row p row) (calls_after p earlier) ≡ true
-      by_after (stays is away) =
-          by_said (inr (ap (λ (f : Facts). f.state) (sym is) ∙ calling,
-          calling_away s r.event p away))
-      by_after (moves event own is taken) =
-          by_said (calls_moves s r.event p event own taken
-          (ap (λ (f : Facts). f.state) (sym is) ∙ calling))
+        by_after : FactsAfter s r.event p
+            → unwrap_or (calling_of_row p row) (calls_after p earlier) ≡ true
+        by_after (stays is away) =
+            by_said (inr (
+              ap (λ (f : Facts). f.state) (sym is) ∙ calling,
+              calling_away s r.event p away,
+            ))
+        by_after (moves event own is taken) =
+            by_said (calls_moves s r.event p event own taken
+            (ap (λ (f : Facts). f.state) (sym is) ∙ calling))
 
-  -- a fuelling that the event starts
-  pub starts_more : (p : ℕ) (event : PointEvent) → Passed s r.actor r.event
-      → own_event s r.event ≡ Some (p, event) → refusal_of event (facts_of s p) ≡ None
-      → is_under_way (after event (facts_of s p)).state ≡ true
-      → is_under_way (facts_of s p).state ≡ false → starts p m ≡ true
-  starts_more p event passes own taken under_way was =
-      by_start (starts_moves s r.actor r.event p event passes own taken under_way was)
-    where
-      either : (a b : Bool) → b ≡ true → (a || b) ≡ true
-      either true b is = refl
-      either false b is = is
+    -- a fuelling that the event starts
+    pub starts_more : (p : ℕ) (event : PointEvent) → Passed s r.actor r.event
+        → own_event s r.event ≡ Some (p, event) → refusal_of event (facts_of s p) ≡ None
+        → is_under_way (after event (facts_of s p)).state ≡ true
+        → is_under_way (facts_of s p).state ≡ false → starts p m ≡ true
+    starts_more p event passes own taken under_way was =
+        by_start (starts_moves s r.actor r.event p event passes own taken under_way was)
+      where
+        either : (a b : Bool) → b ≡ true → (a || b) ≡ true
+        either true b is = refl
+        either false b is = is
 
-      by_start : (is_started p r.event (Ok (site_answer s r.event)) ≡ true)
-          ⊎ ((is_some (release_said p r.actor r.event) ≡ true)
-          × ((facts_of s p).state ≡ states.Calling))
-          → starts p m ≡ true
-      by_start (inl is) =
-          ap (λ (b : Bool). b || (is_some (release_of p row) && calls_after p earlier)) is
-      by_start (inr was) =
-          either (is_started p r.event (Ok (site_answer s r.event)))
-          (is_some (release_of p row) && calls_after p earlier)
-          (ap (λ (b : Bool). b && calls_after p earlier) was.0 ∙ (fuel.points p).calls was.1)
+        by_start : (is_started p r.event (Ok (site_answer s r.event)) ≡ true)
+            ⊎ ((is_some (release_said p r.actor r.event) ≡ true)
+            × ((facts_of s p).state ≡ states.Calling))
+            → starts p m ≡ true
+        by_start (inl is) =
+            ap (λ (b : Bool). b || (is_some (release_of p row) && calls_after p earlier)) is
+        by_start (inr was) =
+            either (is_started p r.event (Ok (site_answer s r.event)))
+            (is_some (release_of p row) && calls_after p earlier)
+            (ap (λ (b : Bool). b && calls_after p earlier) was.0 ∙ (fuel.points p).calls was.1)
 
-  -- the price that it takes
-  price_more : (p : ℕ) (out : Option ℕ) (nozzle : ℕ) → out ≡ Some nozzle
-      → price_at_start s p out ≡ price_read c p nozzle earlier
-  price_more p out nozzle is =
-      ap (price_at_start s p) is
-      ∙ ap (λ (o : Option ℕ). unwrap_or (option_and_then (λ q. row_of q s.prices) o) 1)
-      (fuel.products p nozzle)
-      ∙ by_product (product_at c p nozzle)
-    where
-      by_product : (o : Option ℕ)
-          → unwrap_or (option_and_then (λ q. row_of q s.prices) o) 1
-          ≡ unwrap_or (option_and_then (λ q. price_after c q earlier) o) 1
-      by_product None = refl
-      by_product (Some q) = ap (λ (o : Option ℕ). unwrap_or o 1) (fuel.prices q)
+    -- the price that it takes
+    price_more : (p : ℕ) (out : Option ℕ) (nozzle : ℕ) → out ≡ Some nozzle
+        → price_at_start s p out ≡ price_read c p nozzle earlier
+    price_more p out nozzle is =
+        ap (price_at_start s p) is
+        ∙ ap (λ (o : Option ℕ). unwrap_or (option_and_then (λ q. row_of q s.prices) o) 1)
+        (fuel.products p nozzle)
+        ∙ by_product (product_at c p nozzle)
+      where
+        by_product : (o : Option ℕ)
+            → unwrap_or (option_and_then (λ q. row_of q s.prices) o) 1
+            ≡ unwrap_or (option_and_then (λ q. price_after c q earlier) o) 1
+        by_product None = refl
+        by_product (Some q) = ap (λ (o : Option ℕ). unwrap_or o 1) (fuel.prices q)
 
-  some_out : (o : Option ℕ) → is_some o ≡ true → o ≡ Some (unwrap_or o 0)
-  some_out None is = cc
-  some_out (Some n) is = refl
+    some_out : (o : Option ℕ) → is_some o ≡ true → o ≡ Some (unwrap_or o 0)
+    some_out None is = cc
+    some_out (Some n) is = refl
 
-  is_read : Passed s r.actor r.event → IsRead s r.event
-  is_read passes = record { names = passes.names; takes = passes.takes; reads = passes.reads }
+    is_read : Passed s r.actor r.event → IsRead s r.event
+    is_read passes = record { names = passes.names; takes = passes.takes; reads = passes.reads }
 
-  -- the fuelling that stands after the event
-  told_more : (p : ℕ) → Passed s r.actor r.event → FactsAfter s r.event p
-      → is_under_way (facts_of new p).state ≡ true
-      → HasFuelling c p (moments_of c earlier ++ m ∷ []) (nozzle_out (facts_of new p))
-      (facts_of new p).price (facts_of new p).volume
-  told_more p passes (stays is away) under_way =
-      let was = (fuel.points p).fuels (ap (λ (f : Facts). is_under_way f.state) (sym is) ∙ under_way) in
-      subst (λ (f : Facts). HasFuelling c p (moments_of c earlier ++ m ∷ []) (nozzle_out f) f.price
-      f.volume) (sym is)
-      (more c p (moments_of c earlier) m (nozzle_out (facts_of s p)) (facts_of s p).price
-      (facts_of s p).volume (facts_of s p).volume was.told (end_away s r.event p away)
-      (unchanged (facts_of s p).volume (growth_at p m)
-      (growth_away s r.actor r.event p earlier passes away)))
-  told_more p passes (moves event own is taken) under_way =
-      subst (λ (f : Facts). HasFuelling c p (moments_of c earlier ++ m ∷ []) (nozzle_out f) f.price
-      f.volume) (sym is)
-      (by_test (is_under_way f.state) refl)
-    where
-      f : Facts
-      f = facts_of s p
+    -- the fuelling that stands after the event
+    told_more : (p : ℕ) → Passed s r.actor r.event → FactsAfter s r.event p
+        → is_under_way (facts_of new p).state ≡ true
+        → HasFuelling c p (moments_of c earlier ++ m ∷ []) (nozzle_out (facts_of new p))
+        (facts_of new p).price (facts_of new p).volume
+    told_more p passes (stays is away) under_way =
+        let was = (fuel.points p).fuels (ap (λ (f : Facts). is_under_way f.state) (sym is)
+        ∙ under_way) in
+        subst (λ (f : Facts). HasFuelling c p (moments_of c earlier ++ m ∷ [])
+        (nozzle_out f) f.price
+        f.volume) (sym is)
+        (more c p (moments_of c earlier) m (nozzle_out (facts_of s p)) (facts_of s p).price
+        (facts_of s p).volume (facts_of s p).volume was.told (end_away s r.event p away)
+        (unchanged (facts_of s p).volume (growth_at p m)
+        (growth_away s r.actor r.event p earlier passes away)))
+    told_more p passes (moves event own is taken) under_way =
+        subst (λ (f : Facts). HasFuelling c p (moments_of c earlier ++ m ∷ [])
+        (nozzle_out f) f.price
+        f.volume) (sym is)
+        (by_test (is_under_way f.state) refl)
+      where
+        f : Facts
+        f = facts_of s p
 
-      now : is_under_way (after event f).state ≡ true
-      now = ap (λ (g : Facts). is_under_way g.state) (sym is) ∙ under_way
+        now : is_under_way (after event f).state ≡ true
+        now = ap (λ (g : Facts). is_under_way g.state) (sym is) ∙ under_way
 
-      out_is : (after event f).out ≡ Some (nozzle_out (after event f))
-      out_is = some_out (after event f).out
-          ((whole_accepted event f (fuel.known.whole p) taken).nozzle
-          ∙ out_under_way (after event f).state now)
+        out_is : (after event f).out ≡ Some (nozzle_out (after event f))
+        out_is = some_out (after event f).out
+            ((whole_accepted event f (fuel.known.whole p) taken).nozzle
+            ∙ out_under_way (after event f).state now)
 
-      by_test : (b : Bool) → is_under_way f.state ≡ b
-          → HasFuelling c p (moments_of c earlier ++ m ∷ []) (nozzle_out (after event f))
-          (after event f).price (after event f).volume
-      by_test true was =
-          let on = goes_on event f now was in
-          let before = (fuel.points p).fuels was in
-          rw (on.price, on.volume, on.out)
-          (more c p (moments_of c earlier) m (nozzle_out f) f.price f.volume
-          (f.volume + growth_of event) before.told
-          (not_ended s r.event p event f own taken now)
-          (ap (λ (v : ℕ). f.volume + v)
-          (sym (growth_moves s r.actor r.event p event earlier passes own))))
-      by_test false was = record {
-        before = moments_of c earlier;
-        start = m;
-        since = [];
-        parts = refl;
-        started = starts_more p event passes own taken now was;
-        goes_on = refl;
-        lifted = sym (out_more p passes (moves event own is taken))
-            ∙ ap (λ (g : Facts). g.out) is ∙ out_is;
-        priced = price_start s r.event p event f own refl now was
-            ∙ price_more p (after event f).out (nozzle_out (after event f)) out_is;
-        flowed = (begins event f now was).volume;
-      }
+        by_test : (b : Bool) → is_under_way f.state ≡ b
+            → HasFuelling c p (moments_of c earlier ++ m ∷ []) (nozzle_out (after event f))
+            (after event f).price (after event f).volume
+        by_test true was =
+            let on = goes_on event f now was in
+            let before = (fuel.points p).fuels was in
+            rw (on.price, on.volume, on.out)
+            (more c p (moments_of c earlier) m (nozzle_out f) f.price f.volume
+            (f.volume + growth_of event) before.told
+            (not_ended s r.event p event f own taken now)
+            (ap (λ (v : ℕ). f.volume + v)
+            (sym (growth_moves s r.actor r.event p event earlier passes own))))
+        by_test false was = record {
+          before = moments_of c earlier;
+          start = m;
+          since = [];
+          parts = refl;
+          started = starts_more p event passes own taken now was;
+          goes_on = refl;
+          lifted = sym (out_more p passes (moves event own is taken))
+              ∙ ap (λ (g : Facts). g.out) is ∙ out_is;
+          priced = price_start s r.event p event f own refl now was
+              ∙ price_more p (after event f).out (nozzle_out (after event f)) out_is;
+          flowed = (begins event f now was).volume;
+        }
 
-  meter_more : (p : ℕ) → Passed s r.actor r.event → FactsAfter s r.event p
-      → is_under_way (facts_of new p).state ≡ true
-      → (facts_of new p).start + (facts_of new p).volume
-      ≡ reading_of p (nozzle_out (facts_of new p)) new.nozzles
-  meter_more p passes (stays is away) under_way =
-      let was = (fuel.points p).fuels (ap (λ (f : Facts). is_under_way f.state) (sym is) ∙ under_way) in
-      subst (λ (f : Facts). f.start + f.volume ≡ reading_of p (nozzle_out f) new.nozzles) (sym is)
-      (was.meter ∙ sym (reading_elsewhere s r.event p (nozzle_out (facts_of s p)) away))
-  meter_more p passes (moves event own is taken) under_way =
-      subst (λ (f : Facts). f.start + f.volume ≡ reading_of p (nozzle_out f) new.nozzles) (sym is)
-      (flowed_read s r.event p event (is_read passes) own (fuel.known.whole p)
-      (λ was. ((fuel.points p).fuels was).meter)
-      (whole_accepted event (facts_of s p) (fuel.known.whole p) taken)
-      (ap (λ (g : Facts). is_under_way g.state) (sym is) ∙ under_way))
+    meter_more : (p : ℕ) → Passed s r.actor r.event → FactsAfter s r.event p
+        → is_under_way (facts_of new p).state ≡ true
+        → (facts_of new p).start + (facts_of new p).volume
+        ≡ reading_of p (nozzle_out (facts_of new p)) new.nozzles
+    meter_more p passes (stays is away) under_way =
+        let was = (fuel.points p).fuels (ap (λ (f : Facts). is_under_way f.state) (sym is)
+        ∙ under_way) in
+        subst (λ (f : Facts). f.start + f.volume ≡ reading_of p (nozzle_out f) new.nozzles) (sym is)
+        (was.meter ∙ sym (reading_elsewhere s r.event p (nozzle_out (facts_of s p)) away))
+    meter_more p passes (moves event own is taken) under_way =
+        subst (λ (f : Facts). f.start + f.volume ≡ reading_of p (nozzle_out f) new.nozzles) (sym is)
+        (flowed_read s r.event p event (is_read passes) own (fuel.known.whole p)
+        (λ was. ((fuel.points p).fuels was).meter)
+        (whole_accepted event (facts_of s p) (fuel.known.whole p) taken)
+        (ap (λ (g : Facts). is_under_way g.state) (sym is) ∙ under_way))
 
-  point_more : (p : ℕ) → Passed s r.actor r.event → KnowsPoint c (earlier ++ row ∷ []) new p
-  point_more p passes =
-      let done = facts_after s r.actor r.event passes p in
-      record {
-        out = out_more p passes done;
-        calls = calls_more p done;
-        fuels = λ under_way. record {
-          meter = meter_more p passes done under_way;
-          told = subst (λ ms. HasFuelling c p ms (nozzle_out (facts_of new p))
-              (facts_of new p).price (facts_of new p).volume) (sym (later row))
-              (told_more p passes done under_way);
-        };
-      }
+    point_more : (p : ℕ) → Passed s r.actor r.event → KnowsPoint c (earlier ++ row ∷ []) new p
+    point_more p passes =
+        let done = facts_after s r.actor r.event passes p in
+        record {
+          out = out_more p passes done;
+          calls = calls_more p done;
+          fuels = λ under_way. record {
+            meter = meter_more p passes done under_way;
+            told = subst (λ ms. HasFuelling c p ms (nozzle_out (facts_of new p))
+                (facts_of new p).price (facts_of new p).volume) (sym (later row))
+                (told_more p passes done under_way);
+          };
+        }
 
-  -- a refused event changes nothing, and its row tells nothing
-  point_refused : (p : ℕ) (refusal : Refusal)
-      → KnowsPoint c (earlier ++ told_row r.actor r.event (Err refusal) ∷ []) s p
-  point_refused p refusal =
-      let x : Row = told_row r.actor r.event (Err refusal) in
-      let was = fuel.points p in
-      record {
-        out = was.out
-            ∙ ap (λ (o : Option (Option ℕ)). unwrap_or o None)
-            (sym (latest_push (nozzle_of_row p) earlier x));
-        calls = λ calling.
-            ap (λ (o : Option Bool). unwrap_or o false) (latest_push (calling_of_row p) earlier x)
-            ∙ was.calls calling;
-        fuels = λ under_way. record {
-          meter = (was.fuels under_way).meter;
-          told = subst (λ ms. HasFuelling c p ms (nozzle_out (facts_of s p)) (facts_of s p).price
-              (facts_of s p).volume) (sym (later x))
-              (more c p (moments_of c earlier) (moment_at earlier s x) (nozzle_out (facts_of s p))
-              (facts_of s p).price (facts_of s p).volume (facts_of s p).volume
-              (was.fuels under_way).told refl
-              (unchanged (facts_of s p).volume (growth_at p (moment_at earlier s x))
-              (nothing (names_point p (point_named r.event)))));
-        };
-      }
-    where
-      nothing : (b : Bool) → ◌≡◌ {A = ℕ} (if b then 0 else 0) 0
-      nothing true = refl
-      nothing false = refl
+    -- a refused event changes nothing, and its row tells nothing
+    point_refused : (p : ℕ) (refusal : Refusal)
+        → KnowsPoint c (earlier ++ told_row r.actor r.event (Err refusal) ∷ []) s p
+    point_refused p refusal =
+        let x : Row = told_row r.actor r.event (Err refusal) in
+        let was = fuel.points p in
+        record {
+          out = was.out
+              ∙ ap (λ (o : Option (Option ℕ)). unwrap_or o None)
+              (sym (latest_push (nozzle_of_row p) earlier x));
+          calls = λ calling.
+              ap (λ (o : Option Bool). unwrap_or o false) (latest_push (calling_of_row p) earlier x)
+              ∙ was.calls calling;
+          fuels = λ under_way. record {
+            meter = (was.fuels under_way).meter;
+            told = subst (λ ms. HasFuelling c p ms (nozzle_out (facts_of s p)) (facts_of s p).price
+                (facts_of s p).volume) (sym (later x))
+                (more c p (moments_of c earlier) (moment_at earlier s x) (nozzle_out (facts_of s p))
+                (facts_of s p).price (facts_of s p).volume (facts_of s p).volume
+                (was.fuels under_way).told refl
+                (unchanged (facts_of s p).volume (growth_at p (moment_at earlier s x))
+                (nothing (names_point p (point_named r.event)))));
+          };
+        }
+      where
+        nothing : (b : Bool) → ◌≡◌ {A = ℕ} (if b then 0 else 0) 0
+        nothing true = refl
+        nothing false = refl
 
 pub fuel_more : (c : Configured) (earlier : List Row) (s : SiteState) (r : Row)
     → KnowsFuel c earlier s → r.reply ≡ reply_to s r.actor r.event
     → KnowsFuel c (earlier ++ r ∷ []) (site_after s r.actor r.event)
 fuel_more c earlier s r fuel replies = record {
   known = known_more earlier s r fuel.known replies;
-  led = ap (λ y. site_after y r.actor r.event) fuel.led ∙ sym (site_of_rows-push (opening c) earlier r);
+  led = ap (λ y. site_after y r.actor r.event) fuel.led ∙ sym
+      (site_of_rows-push (opening c) earlier r);
   products = λ p n.
       of_row (λ x new. product_of p n new.nozzles ≡ product_at c p n) s r replies
       (λ refusal. fuel.products p n)

@@ -1,28 +1,21 @@
 -- What an accepted event tells of its point's fuelling is what it does to the point.
-use Rattle.std.proofs.Common.{◌≡◌, ℕ, ◌+◌, ◌==◌, ◌&&◌, ◌||◌, Bool, true, false, List, [], ◌∷◌, Option, Some, None, is_some, unwrap_or, Ok, refl, sym, ap, subst, ◌∙◌, if◌then◌else◌, ◌⊎◌, inl, inr, arith}
-use Rattle.std.proofs.lemmas.Bool.{false≢true}
+use Rattle.std.proofs.Common.{◌≡◌, ℕ, Option, Some, None, Ok, refl, arith}
 use Rattle.std.proofs.lemmas.Bool.Decides.{nat_tests}
 use Rattle.std.proofs.lemmas.Grind.{common_steps}
 use Rattle.site_base.specs.declared.actor.Actor.{Actor}
-use Rattle.site_base.specs.declared.actor.Actor.TheVariants.{Till, Dispenser}
-use Rattle.site_base.specs.declared.answer.Answer.{Answer}
 use Rattle.site_base.specs.declared.event.Event.{Event}
-use Rattle.site_base.specs.declared.event.Event.TheVariants.{Open, Close, Assign, Unassign, Release, Prepay, TestRelease, Suspend, Resume, Terminate, ReplaceMeter, Online, ReadTransaction, ReadProduct, Clear, Lift, Flow, Offline, HangUp}
-use Rattle.site_base.specs.declared.state.PointState.{PointState}
+use Rattle.site_base.specs.declared.event.Event.TheVariants.{Terminate, ReadTransaction, ReadProduct, Clear, Lift, Flow, Offline, HangUp}
 use Rattle.site_base.specs.declared.state.PointState.TheVariants as states
 use Rattle.site_base.specs.declared.view.TransactionView.{TransactionView}
-use Rattle.site_base.specs.Events.{point_named, growth_told}
+use Rattle.site_base.specs.Events.{growth_told}
 use Rattle.site_base.specs.Table.{row_of}
-use Rattle.fuelling_point.specs.declared.event.PointEvent.{PointEvent}
 use Rattle.fuelling_point.specs.declared.event.PointEvent.TheVariants as points
-use Rattle.fuelling_point.specs.declared.step.PointStep.{PointStep}
-use Rattle.fuelling_point.specs.Kept.{Facts, growth_of, is_under_way, has_nozzle_out}
+use Rattle.fuelling_point.specs.Kept.{Facts}
 use Rattle.fuelling_point.specs.PointChecks.{refusal_of}
-use Rattle.fuelling_point.specs.Step.{step_of, after}
-use Rattle.fuelling_point.specs.Whole.{IsWhole}
+use Rattle.fuelling_point.specs.Step.{step_of}
 use Rattle.transaction_buffer.specs.Sales.{Sale, sale_of}
 use Rattle.written_site.specs.SiteState.{SiteState, facts_of, key_named, sale_shown}
-use Rattle.written_site.specs.SiteChecks.{Passed, own_event, metering, flowed, put_back_at}
+use Rattle.written_site.specs.SiteChecks.{Passed, own_event, metering, flowed}
 use Rattle.written_site.specs.SiteStep.{site_answer, step_told, sale_told, clear_told, product_told}
 use Rattle.written_site.specs.SoundSteps.{growth_by}
 

@@ -70,3 +70,6 @@ pub mod VolumeLaws
 pub mod WorkedLaws
 pub mod PointLaws
 pub mod RunRows
+pub mod DrawLaws
+pub mod ClearedLaws
+pub mod MeteredRows

@@ -1,13 +1,11 @@
 -- One locker and one clear, for every legal history.
-use Rattle.std.proofs.Common.{◌≡◌, ◌≢◌, ◌↔◌, ℕ, ◌==◌, ◌&&◌, ◌||◌, Bool, true, false, cond, List, [], ◌∷◌, ◌++◌, Option, option_and_then, Some, None, is_some, Ok, Err, ◌⊎◌, inl, inr, refl, sym, ap, subst, ◌∙◌, if◌then◌else◌}
-use Rattle.std.proofs.lemmas.Bool.{false≢true}
+use Rattle.std.proofs.Common.{◌≡◌, ◌≢◌, ◌↔◌, ℕ, ◌==◌, ◌&&◌, ◌||◌, Bool, true, false, List, [], ◌∷◌, ◌++◌, Option, option_and_then, Some, None, is_some, Ok, ◌⊎◌, inl, inr, refl, sym, ap, subst, ◌∙◌, if◌then◌else◌}
 use Rattle.std.specs.List.{list_any}
 use Rattle.std.proofs.lemmas.List.{append_assoc}
 use Rattle.site_base.specs.declared.actor.Actor.{Actor}
-use Rattle.site_base.specs.declared.actor.Actor.TheVariants.{Till, Dispenser}
+use Rattle.site_base.specs.declared.actor.Actor.TheVariants.{Till}
 use Rattle.site_base.specs.declared.event.Event.{Event}
-use Rattle.site_base.specs.declared.event.Event.TheVariants.{SignOff, Lock, Unlock, Clear, Offline, HangUp, Terminate, ReadTransaction, Lift, Flow}
-use Rattle.site_base.specs.declared.refusal.Refusal.{Refusal}
+use Rattle.site_base.specs.declared.event.Event.TheVariants.{SignOff, Lock, Unlock, Clear, Offline, HangUp}
 use Rattle.site_base.specs.declared.row.Row.{Row}
 use Rattle.site_base.specs.Configured.{Configured}
 use Rattle.fuelling_point.specs.declared.step.PointStep.{PointStep}
@@ -16,10 +14,9 @@ use Rattle.meters.specs.Nozzles.{Nozzle}
 use Rattle.std.specs.Ordering.{nat_cmp}
 use Rattle.std.specs.FinMap.{get-empty}
 use Rattle.transaction_buffer.specs.declared.request.Request.TheVariants as requests
-use Rattle.transaction_buffer.specs.declared.standing.Standing.{Standing}
-use Rattle.transaction_buffer.specs.declared.standing.Standing.TheVariants.{ClearedBy, LockedBy}
+use Rattle.transaction_buffer.specs.declared.standing.Standing.TheVariants.{ClearedBy}
 use Rattle.transaction_buffer.specs.Laws.{asks, signs_off, sells}
-use Rattle.transaction_buffer.specs.Sales.{Key, Sale, Sales, same_key, sale_of, sale_in, sales_at}
+use Rattle.transaction_buffer.specs.Sales.{Key, Sale, Sales, same_key, sale_of}
 use Rattle.transaction_buffer.specs.TransactionTable.{refusal_of, locker, locker_of, after_request}
 use Rattle.transaction_buffer.proofs.Reading.{one_sale}
 use Rattle.transaction_buffer.proofs.Rules.{cleared_for_good, cleared_by_its_locker, one_locker}
@@ -90,7 +87,8 @@ cleared_after k s (Till u) (Clear p id) x t h there is =
 cleared_after k s a (Offline p) x t h there is =
     cleared_by_step k s s.nozzles p (step_at s (Offline p)) x t h there is
 cleared_after k s a (HangUp p n reading) x t h there is =
-    cleared_by_step k s (nozzles_after s (HangUp p n reading)) p (step_at s (HangUp p n reading)) x t
+    cleared_by_step k s (nozzles_after s (HangUp p n reading)) p
+    (step_at s (HangUp p n reading)) x t
     h there is
 cleared_after k s a e x t h there is = there
 
@@ -272,7 +270,8 @@ keeps_accepted k t earlier s (Till u) (Clear p id) known passes is stays =
         → (b ≡ false) ⊎ IsCleared k (accepted_site s (Till u) (Clear p id)).sales
     by_test false other = inl refl
     by_test true same =
-        inr (cleared_here k (key_named s p id) u s (accepted_site s (Till u) (Clear p id)) passes.pays
+        inr (cleared_here k (key_named s p id) u s
+        (accepted_site s (Till u) (Clear p id)) passes.pays
         (ap (same_key k) (named_so earlier s p id known.shift) ∙ same) refl).cleared
 keeps_accepted k t earlier s (Till u) SignOff known passes is stays = inl stays
 keeps_accepted k t earlier s a e known passes is stays = inl refl
@@ -289,7 +288,8 @@ keeps_row k t earlier s r known replies (inl is) stays =
     stays)
   where
     by_end : (ends_lock k t (moment_at earlier s r) ≡ false)
-        ⊎ IsCleared k (site_after s r.actor r.event).sales → Keeps k t (site_after s r.actor r.event)
+        ⊎ IsCleared k (site_after s r.actor r.event).sales → Keeps k t
+        (site_after s r.actor r.event)
     by_end (inl unended) =
         inl (goes_on (locks_sale k (moment_at earlier s r)) t
         (λ u. ends_lock k u (moment_at earlier s r)) (locker_of k s.sales)
@@ -311,7 +311,8 @@ mine_alone k t u earlier s r known replies (inr is) taken =
     now.holder ∙ ap (λ o. next o (locker_of k s.sales) (λ v. ends_lock k v (moment_at earlier s r)))
     taken in
     let none : Some u ≡ None =
-    sym locked ∙ no_locker k (site_after s r.actor r.event).sales (stays_cleared k s r replies is) in
+    sym locked ∙ no_locker k (site_after s r.actor r.event).sales
+    (stays_cleared k s r replies is) in
     absurd cc
 
 let_go_between : (k : Key) (t u : ℕ) (earlier : List Row) (s : SiteState) (rs : List Row)
@@ -319,7 +320,8 @@ let_go_between : (k : Key) (t u : ℕ) (earlier : List Row) (s : SiteState) (rs 
     → moments_after earlier s rs ≡ between ++ second ∷ since
     → locks_sale k second ≡ Some u → t ≢ u → list_any (lets_go k t) between ≡ true
 let_go_between k t u earlier s [] [] since second known legal keeps parts taken differ = cc
-let_go_between k t u earlier s [] (x ∷ between) since second known legal keeps parts taken differ = cc
+let_go_between k t u earlier s [] (x ∷ between) since second known legal keeps parts taken differ =
+    cc
 let_go_between k t u earlier s (r ∷ rs) [] since second known legal keeps parts taken differ =
     let both = head_is (moment_at earlier s r) second
     (moments_after (earlier ++ r ∷ []) (site_after s r.actor r.event) rs) since parts in
@@ -328,11 +330,13 @@ let_go_between k t u earlier s (r ∷ rs) [] since second known legal keeps part
 let_go_between k t u earlier s (r ∷ rs) (x ∷ between) since second known legal keeps parts taken
     differ =
     let both = head_is (moment_at earlier s r) x
-    (moments_after (earlier ++ r ∷ []) (site_after s r.actor r.event) rs) (between ++ second ∷ since)
+    (moments_after (earlier ++ r ∷ []) (site_after s r.actor r.event) rs)
+    (between ++ second ∷ since)
     parts in
     ap (λ m. list_any (lets_go k t) (m ∷ between)) (sym both.0)
     ∙ by_test (lets_go k t (moment_at earlier s r)) refl
-    (λ kept. let_go_between k t u (earlier ++ r ∷ []) (site_after s r.actor r.event) rs between since
+    (λ kept. let_go_between k t u (earlier ++ r ∷ [])
+    (site_after s r.actor r.event) rs between since
     second (known_more earlier s r known legal.0) legal.1 kept both.1 taken differ)
   where
     by_test : (b : Bool) → lets_go k t (moment_at earlier s r) ≡ b

@@ -1,35 +1,31 @@
 -- The locker of a transaction is a slot of the site's history.
-use Rattle.std.proofs.Common.{◌≡◌, ℕ, ◌+◌, ◌==◌, ◌&&◌, Bool, true, false, cond, List, [], ◌∷◌, ◌++◌, Option, option_and_then, Some, None, is_some, unwrap_or, Ok, Err, ◌⊎◌, inl, inr, refl, sym, ap, subst, ◌∙◌, if◌then◌else◌}
+use Rattle.std.proofs.Common.{◌≡◌, ℕ, ◌+◌, ◌==◌, ◌&&◌, Bool, true, false, List, Option, option_and_then, Some, None, is_some, unwrap_or, Ok, ◌⊎◌, inl, inr, refl, sym, ap, subst, ◌∙◌, if◌then◌else◌}
 use Rattle.site_base.specs.declared.actor.Actor.{Actor}
-use Rattle.site_base.specs.declared.actor.Actor.TheVariants.{Till, Dispenser}
+use Rattle.site_base.specs.declared.actor.Actor.TheVariants.{Till}
 use Rattle.site_base.specs.declared.event.Event.{Event}
 use Rattle.site_base.specs.declared.event.Event.TheVariants.{SignOff, Lock, Unlock, Clear, Terminate, ReadTransaction, ReadProduct, Lift, Flow, Offline, HangUp}
-use Rattle.site_base.specs.declared.refusal.Refusal.{Refusal}
 use Rattle.site_base.specs.declared.row.Row.{Row}
 use Rattle.site_base.specs.declared.sale.SaleId.{SaleId}
 use Rattle.fuelling_point.specs.declared.event.PointEvent.{PointEvent}
 use Rattle.fuelling_point.specs.declared.event.PointEvent.TheVariants as points
 use Rattle.fuelling_point.specs.declared.step.PointStep.{PointStep}
 use Rattle.fuelling_point.specs.declared.step.PointStep.TheVariants.{Sold}
-use Rattle.fuelling_point.specs.Kept.{Facts}
 use Rattle.fuelling_point.specs.Step.{step_of}
 use Rattle.transaction_buffer.specs.declared.request.Request.TheVariants as requests
-use Rattle.transaction_buffer.specs.declared.standing.Standing.{Standing}
 use Rattle.transaction_buffer.specs.Laws.{unless_signed_off}
-use Rattle.transaction_buffer.specs.Sales.{Key, key, Sale, Sales, made_at, next_key, new_standing, same_key, sale_of, sales_at, with_new}
+use Rattle.transaction_buffer.specs.Sales.{Key, key, Sale, Sales, made_at, next_key, new_standing, same_key, sales_at, with_new}
 use Rattle.transaction_buffer.specs.TransactionTable.{refusal_of, after_request, after_sign_off, locker, locker_of}
 use Rattle.transaction_buffer.proofs.InShift.{none_next}
 use Rattle.transaction_buffer.proofs.Reading.{one_sale}
 use Rattle.transaction_buffer.proofs.Rules.{one_locker}
-use Rattle.written_site.specs.SiteState.{SiteState, facts_of, holder_of, is_signed_on, key_named, open_shift}
+use Rattle.written_site.specs.SiteState.{SiteState, facts_of, key_named, open_shift}
 use Rattle.written_site.specs.SiteChecks.{Passed, own_event, flowed}
-use Rattle.written_site.specs.SiteStep.{accepted_site, site_answer, step_at, step_told, nozzles_after, sales_after, sales_by, sale_made, first_locker, if_signed_on, reply_to, site_after}
-use Rattle.written_site.specs.Histories.{Moment}
+use Rattle.written_site.specs.SiteStep.{site_answer, step_at, step_told, nozzles_after, sales_after, sales_by, sale_made, first_locker, if_signed_on, reply_to, site_after}
 use Rattle.written_site.specs.RowWords.{on_after, open_after}
-use Rattle.written_site.specs.SaleWords.{ToldRelease, key_after, key_sold, number_sold, locker_from, lock_sold, locks_sale, ends_lock, lock_end_said, release_after}
+use Rattle.written_site.specs.SaleWords.{key_after, key_sold, number_sold, locker_from, lock_sold, locks_sale, ends_lock, release_after}
 use Rattle.written_site.proofs.RowFacts.{Known, IsReleasedSo, own_after}
 use Rattle.written_site.proofs.RowWords.{told_row, of_row}
-use Rattle.written_site.proofs.Slots.{MayTake, next}
+use Rattle.written_site.proofs.Slots.{MayTake}
 use Rattle.written_site.proofs.SlotRows.{Does, moment_at, idle, begins, given_back}
 use Rattle.written_site.proofs.SoundMachine.{sold_from}
 use Rattle.written_site.proofs.SoundSold.{under_way_released}
@@ -102,7 +98,8 @@ signs_off t k sales =
 -- ---- a sale
 
 -- the locker with which it is made is the one that the rows say
-locker_so : (earlier : List Row) (s : SiteState) (p : ℕ) → Known earlier s → IsReleasedSo earlier s p
+locker_so : (earlier : List Row) (s : SiteState) (p : ℕ) → Known earlier s
+    → IsReleasedSo earlier s p
     → first_locker s p (facts_of s p).prepaid ≡ locker_from earlier (release_after p earlier)
 locker_so earlier s p known so =
     ap (first_locker s p) so.prepaid ∙ by_prepaid so.told.prepaid
@@ -153,7 +150,8 @@ steps : (k : Key) (earlier : List Row) (s : SiteState) (a : Actor) (e : Event) (
 steps k earlier s a e p growth event known passes own (Sold nozzle volume price prepaid) is =
     let x : Sale = sale_made s (nozzles_after s e) p in
     let its = own_after s a e p event passes own in
-    let from = sold_from event (facts_of s p) nozzle volume price prepaid (known.whole p) its.1 is in
+    let from = sold_from event (facts_of s p) nozzle volume price prepaid
+    (known.whole p) its.1 is in
     let so = known.released p (under_way_released (facts_of s p).state from.was) in
     let lock : locker x.standing ≡ locker_from earlier (release_after p earlier) =
     locker_new (first_locker s p (facts_of s p).prepaid) ∙ locker_so earlier s p known so in
@@ -199,7 +197,8 @@ does_accepted k earlier s (Till t) (Clear p id) known passes =
     (clears t (open_shift s) (key_named s p id) k s.sales passes.pays))
 does_accepted k earlier s (Till t) SignOff known passes = signs_off t k s.sales
 does_accepted k earlier s a (Offline p) known passes =
-    steps k earlier s a (Offline p) p 0 points.Offline known passes refl (step_at s (Offline p)) refl
+    steps k earlier s a (Offline p) p 0 points.Offline known passes refl
+    (step_at s (Offline p)) refl
 does_accepted k earlier s a (HangUp p n reading) known passes =
     steps k earlier s a (HangUp p n reading) p (flowed s p n reading)
     (points.HangUp n (flowed s p n reading)) known passes refl (step_at s (HangUp p n reading)) refl

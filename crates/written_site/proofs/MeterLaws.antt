@@ -1,5 +1,5 @@
 -- The meters are those that the rows tell.
-use Rattle.std.proofs.Common.{◌≡◌, ℕ, ◌+◌, ◌-◌, ◌==◌, ◌&&◌, not, Bool, true, false, List, [], ◌∷◌, ◌++◌, Option, option_map, Some, None, is_some, unwrap_or, Ok, Err, refl, sym, ap, subst, ◌∙◌, if◌then◌else◌, ◌⊎◌, inl, inr, arith}
+use Rattle.std.proofs.Common.{◌≡◌, ℕ, ◌+◌, ◌-◌, ◌==◌, Bool, true, false, List, [], ◌∷◌, ◌++◌, Option, option_map, Some, None, unwrap_or, Ok, Err, refl, sym, ap, subst, ◌∙◌, if◌then◌else◌, arith}
 use Rattle.std.proofs.lemmas.Bool.{and_parts}
 use Rattle.std.proofs.lemmas.Bool.Decides.{nat_tests}
 use Rattle.std.proofs.lemmas.Grind.{common_steps}
@@ -7,18 +7,17 @@ use Rattle.site_base.specs.declared.actor.Actor.{Actor}
 use Rattle.site_base.specs.declared.config.NozzleEntry.{NozzleEntry}
 use Rattle.site_base.specs.declared.event.Event.{Event}
 use Rattle.site_base.specs.declared.event.Event.TheVariants.{ReplaceMeter, Lift, Flow, HangUp}
-use Rattle.site_base.specs.declared.refusal.Refusal.{Refusal}
 use Rattle.site_base.specs.declared.row.Row.{Row}
 use Rattle.site_base.specs.Configured.{Configured, ConfiguredPoint}
-use Rattle.meters.specs.Nozzles.{Nozzle, is_nozzle, numbered, nozzles_of_point, nozzles_of_points, opening_nozzles, nozzle_of, has_nozzle, product_of, reading_of, with_nozzle, with_last, with_meter, read_at, replaced_at}
+use Rattle.meters.specs.Nozzles.{Nozzle, is_nozzle, numbered, nozzles_of_point, nozzles_of_points, opening_nozzles, nozzle_of, has_nozzle, reading_of, with_nozzle, with_last, read_at, replaced_at}
 use Rattle.meters.proofs.Looked.{KeepsName, nozzle_of-here, nozzle_of-other, reading_is}
 use Rattle.written_site.specs.Histories.{Moment, moments_of}
-use Rattle.written_site.specs.MeterLaws.{is_its, replace_said, begun_said, read_said, begun_of_row, read_of_row, replaces_meter, began_after, read_after, counted_at, IsNozzleRead, AreMetersRead}
+use Rattle.written_site.specs.MeterLaws.{is_its, replace_said, begun_said, read_said, begun_of_row, read_of_row, replaces_meter, read_after, counted_at, IsNozzleRead, AreMetersRead}
 use Rattle.written_site.specs.RowWords.{OfBooks, latest, total, count}
 use Rattle.written_site.specs.SiteChecks.{Passed, metering}
-use Rattle.written_site.specs.SiteRun.{site_of_rows, IsLegal}
+use Rattle.written_site.specs.SiteRun.{site_of_rows}
 use Rattle.written_site.specs.SiteState.{SiteState, opening}
-use Rattle.written_site.specs.SiteStep.{accepted_site, site_answer, nozzles_after, reply_to, site_after}
+use Rattle.written_site.specs.SiteStep.{site_answer, nozzles_after, reply_to, site_after}
 use Rattle.written_site.proofs.Histories.{site_of_rows-push}
 use Rattle.written_site.proofs.MomentRows.{moments_push}
 use Rattle.written_site.proofs.RowWords.{told_row, of_row, kept, said_again, latest_push, total_push}
@@ -42,12 +41,14 @@ record WasThere (p n : ℕ) (e : Event) (xs : List Nozzle) (y : Nozzle) : Type 0
   moved : Moved p n e nozzle y
 
 -- a nozzle after one was changed: it is that one, or as it was
-pub data Changed (p n q m : ℕ) (change : Nozzle → Nozzle) (xs : List Nozzle) (y : Nozzle) : Type 0 where
+pub data Changed (p n q m : ℕ) (change : Nozzle → Nozzle) (xs : List Nozzle)
+    (y : Nozzle) : Type 0 where
   mine : is_its p n q m ≡ true → (x : Nozzle) → nozzle_of p n xs ≡ Some x → y ≡ change x
       → Changed p n q m change xs y
   other : is_its p n q m ≡ false → nozzle_of p n xs ≡ Some y → Changed p n q m change xs y
 
-pub changed : (p n q m : ℕ) (change : Nozzle → Nozzle) (xs : List Nozzle) (y : Nozzle) → KeepsName change
+pub changed : (p n q m : ℕ) (change : Nozzle → Nozzle) (xs : List Nozzle) (y : Nozzle)
+    → KeepsName change
     → nozzle_of p n (with_nozzle q m change xs) ≡ Some y → Changed p n q m change xs y
 changed p n q m change xs y keeps is = by_test (is_its p n q m) refl
   where
@@ -205,7 +206,8 @@ fresh_points (c ∷ cs) =
     fresh_both (nozzles_of_point c) (nozzles_of_points cs) (fresh_numbered c.number 1 c.nozzles)
     (fresh_points cs)
 
-pub fresh_found : (p n : ℕ) (xs : List Nozzle) (y : Nozzle) → EachFresh xs → nozzle_of p n xs ≡ Some y
+pub fresh_found : (p n : ℕ) (xs : List Nozzle) (y : Nozzle) → EachFresh xs → nozzle_of p n xs
+    ≡ Some y
     → IsFresh y
 fresh_found p n [] y fresh is = absurd (let none : None ≡ Some y = is in cc)
 fresh_found p n (x ∷ xs) y fresh is =
@@ -247,7 +249,8 @@ nozzle_more : (c : Configured) (earlier : List Row) (s : SiteState) (r : Row)
     → y.product ≡ x.product
     → IsNozzleRead c p n (earlier ++ r ∷ []) y
 nozzle_more c earlier s r led p n x y was began last replaced earlier_more product = record {
-  began = said_more (begun_of_row p n) earlier r (reading_of p n (opening_nozzles c)) x.began y.began
+  began = said_more (begun_of_row p n) earlier r
+      (reading_of p n (opening_nozzles c)) x.began y.began
       was.began began;
   last = said_more (read_of_row p n) earlier r (reading_of p n (opening_nozzles c)) x.last y.last
       was.last last;
@@ -263,7 +266,8 @@ nozzle_more c earlier s r led p n x y was began last replaced earlier_more produ
       ap (total (counted_at c p n)) later in
       let here : (if replaces_meter p n m then x.last - x.began else 0) ≡ counted_at c p n m =
       ap (λ (v : ℕ). if replaces_meter p n m then v - x.began else 0) was.last
-      ∙ ap (λ (v : ℕ). if replaces_meter p n m then read_after c p n earlier - v else 0) was.began in
+      ∙ ap (λ (v : ℕ). if replaces_meter p n m then read_after c p n earlier - v else 0) was.began
+      in
       omega (arith, earlier_more, so_far, sum, all, here));
   product = ap (λ (v : ℕ). Some v) product ∙ was.product;
 }
@@ -289,7 +293,8 @@ meters_more : (c : Configured) (earlier : List Row) (s : SiteState) (r : Row)
     → KnowsMeters c earlier s → r.reply ≡ reply_to s r.actor r.event
     → KnowsMeters c (earlier ++ r ∷ []) (site_after s r.actor r.event)
 meters_more c earlier s r known replies = record {
-  led = ap (λ y. site_after y r.actor r.event) known.led ∙ sym (site_of_rows-push (opening c) earlier r);
+  led = ap (λ y. site_after y r.actor r.event) known.led ∙ sym
+      (site_of_rows-push (opening c) earlier r);
   there = λ p n.
       of_row (λ x new. has_nozzle p n new.nozzles ≡ has_nozzle p n (opening_nozzles c)) s r replies
       (λ refusal. known.there p n)
@@ -297,7 +302,8 @@ meters_more c earlier s r known replies = record {
   nozzles =
       of_row (λ row new. (p n : ℕ) (x : Nozzle) → nozzle_of p n new.nozzles ≡ Some x
       → IsNozzleRead c p n (earlier ++ row ∷ []) x) s r replies
-      (λ refusal p n x is. nozzle_more c earlier s (told_row r.actor r.event (Err refusal)) known.led p
+      (λ refusal p n x is. nozzle_more c earlier s
+      (told_row r.actor r.event (Err refusal)) known.led p
       n x x (known.nozzles p n x is) refl refl (stays_so x.replaced) (stays_so x.earlier) refl)
       (λ passes p n y is.
       let was = moves s r.actor r.event passes p n y is in

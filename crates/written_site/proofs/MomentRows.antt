@@ -1,5 +1,5 @@
--- Where a moment stands in a history: the rows before it led to its site, and its reply is the written
--- step's.
+-- Where a moment stands in a history: the rows before it led to its site, and its reply is the
+-- written step's.
 use Rattle.std.proofs.Common.{◌≡◌, List, [], ◌∷◌, ◌++◌, refl, sym, ap, subst, ◌∙◌}
 use Rattle.std.proofs.lemmas.List.{append_assoc}
 use Rattle.site_base.specs.declared.row.Row.{Row}
@@ -9,9 +9,10 @@ use Rattle.written_site.specs.SiteStep.{reply_to, site_after}
 use Rattle.written_site.specs.SiteRun.{site_of_rows, IsLegal}
 use Rattle.written_site.specs.Histories.{Moment, moments_after, moments_of}
 use Rattle.written_site.proofs.Histories.{site_of_rows-push, IsLegal-push}
+use Rattle.written_site.proofs.RowWords.{append_none}
 
--- the rows before the moment are legal and led to its site; its reply is told there; the moments before it
--- are those of its earlier rows, and the rows after it go on from its site
+-- the rows before the moment are legal and led to its site; its reply is told there; the moments
+-- before it are those of its earlier rows, and the rows after it go on from its site
 pub record IsPlaced (c : Configured) (before : List Moment) (m : Moment) (since : List Moment)
     (end : SiteState) : Type 0 where
   pub legal : IsLegal (opening c) m.earlier
@@ -31,10 +32,6 @@ pub moments_push : (earlier : List Row) (s : SiteState) (rs : List Row) (r : Row
     ++ record { earlier = earlier ++ rs; before = site_of_rows s rs; row = r } ∷ []
 moments_push earlier s [] r =
     ap (λ rows. record { earlier = rows; before = s; row = r } ∷ []) (sym (append_none earlier))
-  where
-    append_none : {A : Type 0} (xs : List A) → xs ++ [] ≡ xs
-    append_none [] = refl
-    append_none (x ∷ xs) = ap (λ ys. x ∷ ys) (append_none xs)
 moments_push earlier s (x ∷ rs) r =
     let next : SiteState = site_after s x.actor x.event in
     ap (λ ms. record { earlier = earlier; before = s; row = x } ∷ ms)
@@ -70,10 +67,6 @@ placed_after c earlier s (r ∷ rs) [] since m legal led rest parts =
       after = sym both.1;
       ends = refl;
     })
-  where
-    append_none : {A : Type 0} (xs : List A) → xs ++ [] ≡ xs
-    append_none [] = refl
-    append_none (x ∷ xs) = ap (λ ys. x ∷ ys) (append_none xs)
 placed_after c earlier s (r ∷ rs) (x ∷ before) since m legal led rest parts =
     let next : SiteState = site_after s r.actor r.event in
     let later : List Row = earlier ++ r ∷ [] in

@@ -1,26 +1,26 @@
 -- A sale finds room and the next number, for every legal history.
-use Rattle.std.proofs.Common.{◌≡◌, ℕ, ◌+◌, ◌<◌, ◌≤◌, ◌==◌, ◌&&◌, Bool, true, false, cond, List, [], ◌∷◌, ◌++◌, length, Option, Some, None, unwrap_or, Ok, refl, sym, ap, subst, ◌∙◌, if◌then◌else◌, arith}
+use Rattle.std.proofs.Common.{◌≡◌, ℕ, ◌+◌, ◌≤◌, ◌==◌, ◌&&◌, Bool, true, false, List, [], ◌∷◌, ◌++◌, Option, Some, None, Ok, refl, sym, ap, subst, ◌∙◌, if◌then◌else◌, arith}
 use Rattle.std.proofs.lemmas.Bool.{false≢true}
 use Rattle.std.specs.FinMap.{get-empty}
 use Rattle.std.specs.Ordering.{nat_cmp}
 use Rattle.site_base.specs.Events.{point_named}
 use Rattle.site_base.specs.declared.actor.Actor.{Actor}
-use Rattle.site_base.specs.declared.actor.Actor.TheVariants.{Till, Dispenser}
+use Rattle.site_base.specs.declared.actor.Actor.TheVariants.{Till}
 use Rattle.site_base.specs.declared.event.Event.{Event}
 use Rattle.site_base.specs.declared.event.Event.TheVariants.{SignOff, Lock, Unlock, Clear, Terminate, ReadTransaction, Lift, Flow, Offline, HangUp}
-use Rattle.site_base.specs.declared.limits.TheConstants.{GREATEST_SEQ, UNPAID_LIMIT}
+use Rattle.site_base.specs.declared.limits.TheConstants.{UNPAID_LIMIT}
 use Rattle.site_base.specs.declared.row.Row.{Row}
 use Rattle.site_base.specs.Configured.{Configured}
 use Rattle.fuelling_point.specs.declared.event.PointEvent.{PointEvent}
 use Rattle.fuelling_point.specs.declared.event.PointEvent.TheVariants as points
 use Rattle.fuelling_point.specs.declared.step.PointStep.{PointStep}
 use Rattle.fuelling_point.specs.declared.step.PointStep.TheVariants.{Sold}
-use Rattle.fuelling_point.specs.Kept.{Facts, growth_of}
-use Rattle.fuelling_point.specs.Step.{step_of, after}
+use Rattle.fuelling_point.specs.Kept.{Facts}
+use Rattle.fuelling_point.specs.Step.{step_of}
 use Rattle.fuelling_point.specs.Whole.{is_released}
 use Rattle.meters.specs.Nozzles.{Nozzle}
 use Rattle.transaction_buffer.specs.declared.request.Request.TheVariants as requests
-use Rattle.transaction_buffer.specs.Sales.{Key, key, Sales, no_sales, made_in, made_at, sales_at, unpaid_at, next_key}
+use Rattle.transaction_buffer.specs.Sales.{Key, no_sales, made_at, unpaid_at}
 use Rattle.transaction_buffer.proofs.Counting.{counted_after}
 use Rattle.written_site.specs.SiteState.{SiteState, opening, facts_in, facts_of, key_named, open_shift}
 use Rattle.written_site.specs.SiteChecks.{Passed, own_event, flowed}
@@ -31,13 +31,12 @@ use Rattle.written_site.specs.RowWords.{OfBooks, open_after, count}
 use Rattle.written_site.specs.SaleWords.{key_sold, number_sold, sold_as}
 use Rattle.written_site.specs.NumberLaws.{is_key_of, sells_in, AreNumbered}
 use Rattle.written_site.specs.Sound.{MaySell}
-use Rattle.written_site.proofs.LockLaws.{known_at}
 use Rattle.written_site.proofs.MomentRows.{placed}
 use Rattle.written_site.proofs.PointAfter.{FactsAfter, stays, moves, facts_after, opens_closed}
 use Rattle.written_site.proofs.RowFacts.{own_after, Known, known_more, known_first}
 use Rattle.written_site.proofs.RowWords.{told_row, of_row, kept}
 use Rattle.written_site.proofs.SlotRows.{moment_at}
-use Rattle.written_site.proofs.SoldRows.{SellsHere, sells_here, total_moments}
+use Rattle.written_site.proofs.SoldRows.{sells_here, total_moments}
 use Rattle.written_site.proofs.SoundDraws.{shifts_kept}
 use Rattle.written_site.proofs.SoundMachine.{sold_from}
 use Rattle.written_site.proofs.SoundPoints.{NoneLater, room_kept, room_own}
@@ -88,7 +87,8 @@ made_accepted : (q h : ℕ) (earlier : List Row) (s : SiteState) (a : Actor) (e 
 made_accepted q h earlier s (Till t) SignOff shift =
     (let_go_counts t q s.sales).made h ∙ unmade (made_at q h s.sales)
 made_accepted q h earlier s (Till t) (Lock p id) shift =
-    (asked_counts requests.Lock t (key_named s p id) q s.sales).made h ∙ unmade (made_at q h s.sales)
+    (asked_counts requests.Lock t (key_named s p id) q s.sales).made h ∙ unmade
+    (made_at q h s.sales)
 made_accepted q h earlier s (Till t) (Unlock p id) shift =
     (asked_counts requests.Unlock t (key_named s p id) q s.sales).made h
     ∙ unmade (made_at q h s.sales)
@@ -142,21 +142,24 @@ made_so_far c rows legal q h =
 
 -- ---- room
 
--- what is known of rooms: no sale is of a shift to come, no more are unpaid than may be, and a point that
--- is released for a sale may make one
+-- what is known of rooms: no sale is of a shift to come, no more are unpaid than may be, and a
+-- point that is released for a sale may make one
 record HasRooms (earlier : List Row) (s : SiteState) : Type 0 where
   known : Known earlier s
   order : NoneLater s
   unpaid : (p : ℕ) → unpaid_at p s.sales ≤ UNPAID_LIMIT
-  room : (p : ℕ) → is_released (facts_of s p).state ≡ true → (facts_of s p).test ≡ false → MaySell s p
+  room : (p : ℕ) → is_released (facts_of s p).state ≡ true → (facts_of s p).test ≡ false
+      → MaySell s p
 
 record Rooms (s : SiteState) : Type 0 where
   order : NoneLater s
   unpaid : (p : ℕ) → unpaid_at p s.sales ≤ UNPAID_LIMIT
-  room : (p : ℕ) → is_released (facts_of s p).state ≡ true → (facts_of s p).test ≡ false → MaySell s p
+  room : (p : ℕ) → is_released (facts_of s p).state ≡ true → (facts_of s p).test ≡ false
+      → MaySell s p
 
 -- a point that sells may
-may_there : (earlier : List Row) (s : SiteState) (a : Actor) (e : Event) (p : ℕ) (event : PointEvent)
+may_there : (earlier : List Row) (s : SiteState) (a : Actor) (e : Event) (p : ℕ)
+    (event : PointEvent)
     → HasRooms earlier s → Passed s a e → own_event s e ≡ Some (p, event)
     → sells (step_of event (facts_of s p)) ≡ true → MaySell s p
 may_there earlier s a e p event rooms passes own is =
@@ -192,7 +195,8 @@ unpaid_accepted earlier s a (Offline p) rooms passes =
     (may_there earlier s a (Offline p) p points.Offline rooms passes refl) rooms.unpaid
 unpaid_accepted earlier s a (HangUp p n reading) rooms passes =
     unpaid_by s (nozzles_after s (HangUp p n reading)) p (step_at s (HangUp p n reading))
-    (may_there earlier s a (HangUp p n reading) p (points.HangUp n (flowed s p n reading)) rooms passes
+    (may_there earlier s a (HangUp p n reading) p
+    (points.HangUp n (flowed s p n reading)) rooms passes
     refl)
     rooms.unpaid
 unpaid_accepted earlier s a e rooms passes = rooms.unpaid
@@ -271,7 +275,8 @@ sells_at c rows before since m k legal parts sold =
     let number : k.number ≡ made_at k.point (open_shift m.before) m.before.sales + 1 =
     ap (λ (j : Key). j.number) here.name
     ∙ ap (λ (p : ℕ). made_at p (open_shift m.before) m.before.sales + 1) point in
-    let from = sold_from here.event (facts_of m.before here.point) here.nozzle here.volume here.price
+    let from = sold_from here.event (facts_of m.before here.point) here.nozzle here.volume
+    here.price
     here.prepaid (rooms.known.whole here.point) here.taken here.sells in
     record {
       next = number
@@ -290,6 +295,7 @@ numbered c rows legal = record {
   within = λ k before since m parts sold.
       let at = sells_at c rows before since m k legal parts sold in
       let number = at.may.number in let made = at.made in omega (arith, number, made);
-  room = λ k before since m parts sold. (sells_at c rows before since m k legal parts sold).may.unpaid;
+  room = λ k before since m parts sold. (sells_at c rows before since m k legal parts
+      sold).may.unpaid;
   unpaid = (rooms_at c rows legal).unpaid;
 }

@@ -1,12 +1,10 @@
 -- What each point keeps after an accepted event, whatever the configuration.
-use Rattle.std.proofs.Common.{◌≡◌, ℕ, ◌==◌, Bool, true, false, List, [], ◌∷◌, Option, Some, None, is_some, unwrap_or, refl, sym, ap, subst, ◌∙◌, arith}
+use Rattle.std.proofs.Common.{◌≡◌, ℕ, ◌==◌, Bool, true, false, List, [], ◌∷◌, Option, Some, None, unwrap_or, refl, sym, ap, ◌∙◌}
 use Rattle.std.proofs.lemmas.Bool.{false≢true}
 use Rattle.site_base.specs.declared.actor.Actor.{Actor}
 use Rattle.site_base.specs.declared.event.Event.{Event}
-use Rattle.site_base.specs.declared.refusal.Refusal.{Refusal}
 use Rattle.site_base.specs.declared.state.PointState.TheVariants.{Closed}
 use Rattle.site_base.specs.Configured.{Configured, ConfiguredPoint}
-use Rattle.site_base.specs.Table.{row_of}
 use Rattle.fuelling_point.specs.declared.event.PointEvent.{PointEvent}
 use Rattle.fuelling_point.specs.Kept.{Facts, fresh}
 use Rattle.fuelling_point.specs.PointChecks.{refusal_of}
@@ -17,8 +15,8 @@ use Rattle.written_site.specs.SiteStep.{with_event, points_after}
 use Rattle.written_site.proofs.SoundTables.{same, itself, told_once, facts_there, row_there, row_of-same, row_of-other}
 use Rattle.written_site.proofs.SoundSold.{own_there}
 
--- a point that the event isn't of stays as it was; its own does what the point table says, and refuses
--- nothing
+-- a point that the event isn't of stays as it was; its own does what the point table says, and
+-- refuses nothing
 pub data FactsAfter (s : SiteState) (e : Event) (q : ℕ) : Type 0 where
   stays : facts_in (points_after s e) q ≡ facts_of s q
       → ((event : PointEvent) → own_event s e ≡ Some (q, event) → ⊥) → FactsAfter s e q

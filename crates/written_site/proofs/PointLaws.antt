@@ -1,5 +1,5 @@
 -- The points of a site are points, for every legal history.
-use Rattle.std.proofs.Common.{◌≡◌, ℕ, ◌==◌, Bool, true, false, List, [], ◌∷◌, ◌++◌, Option, Some, None, Ok, Err, is_ok, refl, sym, ap, subst, ◌∙◌, if◌then◌else◌}
+use Rattle.std.proofs.Common.{◌≡◌, ℕ, ◌==◌, Bool, true, false, List, [], ◌∷◌, ◌++◌, Option, Some, None, Ok, Err, is_ok, refl, sym, ap, ◌∙◌, if◌then◌else◌}
 use Rattle.site_base.specs.declared.refusal.Refusal.{Refusal}
 use Rattle.site_base.specs.declared.row.Row.{Row}
 use Rattle.site_base.specs.Checks.{reply_or, value_or}
@@ -12,15 +12,15 @@ use Rattle.fuelling_point.specs.Step.{step_of, after}
 use Rattle.written_site.specs.Histories.{Moment, moments_of}
 use Rattle.written_site.specs.PointLaws.{event_for, own_of, added, own_events, ArePointsTheirOwn}
 use Rattle.written_site.specs.RowWords.{OfBooks}
-use Rattle.written_site.specs.SiteChecks.{Passed, own_event}
+use Rattle.written_site.specs.SiteChecks.{own_event}
 use Rattle.written_site.specs.SiteRun.{site_of_rows, IsLegal}
 use Rattle.written_site.specs.SiteState.{SiteState, opening, facts_in, facts_of}
-use Rattle.written_site.specs.SiteStep.{accepted_site, site_answer, points_after, reply_to, site_after}
+use Rattle.written_site.specs.SiteStep.{site_answer, points_after, reply_to, site_after}
 use Rattle.written_site.proofs.Histories.{site_of_rows-push}
 use Rattle.written_site.proofs.MomentRows.{moments_push, placed}
 use Rattle.written_site.proofs.PointAfter.{FactsAfter, stays, moves, facts_after, opens_closed}
 use Rattle.written_site.proofs.RowFacts.{own_after}
-use Rattle.written_site.proofs.RowWords.{told_row, of_row, kept}
+use Rattle.written_site.proofs.RowWords.{append_none, told_row, of_row, kept}
 use Rattle.written_site.proofs.SlotRows.{moment_at}
 use Rattle.written_site.proofs.SoundTables.{same, itself, told_once}
 
@@ -42,10 +42,6 @@ own_more p (x ∷ ms) m = ap (added (own_of p x)) (own_more p ms m) ∙ by_own (
         ≡ added o (own_events p ms) ++ added (own_of p m) []
     by_own None = refl
     by_own (Some event) = refl
-
-append_none : {A : Type 0} (xs : List A) → xs ++ [] ≡ xs
-append_none [] = refl
-append_none (x ∷ xs) = ap (λ ys. x ∷ ys) (append_none xs)
 
 none_more : (p : ℕ) (ms : List Moment) (m : Moment) → own_of p m ≡ None
     → point_after (own_events p (ms ++ m ∷ [])) ≡ point_after (own_events p ms)
@@ -87,11 +83,14 @@ points_more : (c : Configured) (earlier : List Row) (s : SiteState) (r : Row)
     → KnowsPoints c earlier s → r.reply ≡ reply_to s r.actor r.event
     → KnowsPoints c (earlier ++ r ∷ []) (site_after s r.actor r.event)
 points_more c earlier s r known replies = record {
-  led = ap (λ y. site_after y r.actor r.event) known.led ∙ sym (site_of_rows-push (opening c) earlier r);
+  led = ap (λ y. site_after y r.actor r.event) known.led ∙ sym
+      (site_of_rows-push (opening c) earlier r);
   facts = of_row (λ row new. (p : ℕ)
-      → facts_of new p ≡ point_after (own_events p (moments_of c (earlier ++ row ∷ [])))) s r replies
+      → facts_of new p ≡ point_after (own_events p (moments_of c (earlier ++ row ∷ [])))) s r
+      replies
       (λ refusal p. known.facts p
-      ∙ sym (ap (λ ms. point_after (own_events p ms)) (later (told_row r.actor r.event (Err refusal)))
+      ∙ sym (ap (λ ms. point_after (own_events p ms))
+      (later (told_row r.actor r.event (Err refusal)))
       ∙ none_more p (moments_of c earlier)
       (moment_at earlier s (told_row r.actor r.event (Err refusal))) refl))
       (λ passes p. by_after p (facts_after s r.actor r.event passes p));
@@ -115,7 +114,8 @@ points_more c earlier s r known replies = record {
         (away_none p (own_event s r.event) away))
     by_after p (moves event own is taken) =
         is
-        ∙ ap (λ (o : Option Refusal). value_or o (after event (facts_of s p)) (facts_of s p)) (sym taken)
+        ∙ ap (λ (o : Option Refusal). value_or o (after event (facts_of s p)) (facts_of s p))
+        (sym taken)
         ∙ ap (point_step event) (known.facts p)
         ∙ sym (ap (λ ms. point_after (own_events p ms)) (later row)
         ∙ some_more p (moments_of c earlier) (moment_at earlier s row) event
@@ -131,7 +131,8 @@ points_at c rows legal =
 
 -- ---- each event is taken
 
-its_own : (p : ℕ) (event : PointEvent) (own : Option (ℕ × PointEvent)) → event_for p own ≡ Some event
+its_own : (p : ℕ) (event : PointEvent) (own : Option (ℕ × PointEvent)) → event_for p own
+    ≡ Some event
     → own ≡ Some (p, event)
 its_own p event None is = absurd (let none : None ≡ Some event = is in cc)
 its_own p event (Some x) is = by_test (x.0 == p) refl is
@@ -161,7 +162,8 @@ points_their_own c rows legal = record {
   takes = λ p before since m event parts own.
       let at = placed c rows before since m legal parts in
       let taken = taken_row p event m.earlier m.before m.row at.told own in
-      ap (λ (f : Facts). is_ok (point_reply event f)) (sym (before_it p before since m event parts own))
+      ap (λ (f : Facts). is_ok (point_reply event f))
+      (sym (before_it p before since m event parts own))
       ∙ ap (λ (o : Option Refusal). is_ok (reply_or o (step_of event (facts_of m.before p)))) taken;
 }
   where

@@ -1,6 +1,6 @@
--- What rows say so far agrees with the site that they led to: the open shift, the tills that are signed
--- on, and how each released point was released.
-use Rattle.std.proofs.Common.{◌≡◌, ℕ, ◌+◌, ◌==◌, not, ◌&&◌, Bool, true, false, cond, List, [], ◌∷◌, ◌++◌, Option, Some, None, is_some, unwrap_or, Ok, Err, is_ok, refl, sym, ap, subst, ◌∙◌, if◌then◌else◌, arith}
+-- What rows say so far agrees with the site that they led to: the open shift, the tills that are
+-- signed on, and how each released point was released.
+use Rattle.std.proofs.Common.{◌≡◌, ℕ, ◌==◌, not, ◌&&◌, Bool, true, false, cond, List, [], ◌∷◌, ◌++◌, Option, Some, None, is_some, unwrap_or, Ok, Err, refl, sym, ap, subst, ◌∙◌, if◌then◌else◌, arith}
 use Rattle.std.proofs.lemmas.Bool.{false≢true}
 use Rattle.std.proofs.lemmas.Grind.{common_steps}
 use Rattle.std.specs.Ordering.{nat_cmp}
@@ -11,24 +11,22 @@ use Rattle.site_base.specs.declared.actor.Actor.{Actor}
 use Rattle.site_base.specs.declared.actor.Actor.TheVariants.{Till, Dispenser}
 use Rattle.site_base.specs.declared.event.Event.{Event}
 use Rattle.site_base.specs.declared.event.Event.TheVariants.{SignOff, Assign, Unassign, Release, Prepay, TestRelease, Terminate, Offline, HangUp}
-use Rattle.site_base.specs.declared.refusal.Refusal.{Refusal}
 use Rattle.site_base.specs.declared.row.Row.{Row}
 use Rattle.site_base.specs.declared.state.Preset.{Preset}
 use Rattle.site_base.specs.declared.state.Preset.TheVariants.{Money}
 use Rattle.site_base.specs.Configured.{Configured}
 use Rattle.fuelling_point.specs.declared.event.PointEvent.{PointEvent}
 use Rattle.fuelling_point.specs.declared.event.PointEvent.TheVariants as points
-use Rattle.fuelling_point.specs.Kept.{Facts, fresh}
+use Rattle.fuelling_point.specs.Kept.{Facts}
 use Rattle.fuelling_point.specs.PointChecks.{refusal_of}
 use Rattle.fuelling_point.specs.Step.{step_of, after}
 use Rattle.fuelling_point.specs.Whole.{IsWhole, is_released}
-use Rattle.fuelling_point.specs.Laws.{StaysWhole}
 use Rattle.fuelling_point.proofs.Whole.{whole_accepted, stays_whole}
 use Rattle.till_claims.specs.Holds.{is_held_by}
 use Rattle.site_base.specs.Table.{row_of}
 use Rattle.written_site.specs.SiteState.{SiteState, opening, facts_in, facts_of, holder_of, is_signed_on, is_resting, open_shift}
 use Rattle.written_site.specs.SiteChecks.{Passed, own_event, flowed, released, test_released}
-use Rattle.written_site.specs.SiteStep.{accepted_site, points_after, holds_after, holds_unless_over, holds_without, ends_at_sign_off, ends_release, reply_to, site_after, site_answer}
+use Rattle.written_site.specs.SiteStep.{accepted_site, points_after, holds_after, holds_unless_over, ends_at_sign_off, ends_release, reply_to, site_after, site_answer}
 use Rattle.written_site.specs.RowWords.{last_said, latest, signing_of, on_after, closes_shift, open_after}
 use Rattle.written_site.specs.SaleWords.{ToldRelease, by_till, release_said, release_of, release_after}
 use Rattle.written_site.proofs.PointAfter.{FactsAfter, stays, moves, facts_after, opens_closed}
@@ -62,14 +60,16 @@ own_after s a e p event passes own = by_after (facts_after s a e passes p)
     by_after (stays is away) = absurd (away event own)
     by_after (moves other own' is taken) =
         let one : other ≡ event = ap (λ (x : ℕ × PointEvent). x.1)
-        (told_once (p, other) (p, event) (sym own' ∙ own)) in
-        (is ∙ ap (λ (x : PointEvent). after x (facts_of s p)) one,
-        ap (λ (x : PointEvent). refusal_of x (facts_of s p)) (sym one) ∙ taken)
+        (told_once (p, other) (p, event) (sym own' ∙ own)) in (
+          is ∙ ap (λ (x : PointEvent). after x (facts_of s p)) one,
+          ap (λ (x : PointEvent). refusal_of x (facts_of s p)) (sym one) ∙ taken,
+        )
 
 -- a point that isn't released after the event isn't this one
 not_this : (s : SiteState) (a : Actor) (e : Event) (p q : ℕ) (event : PointEvent) → Passed s a e
     → own_event s e ≡ Some (q, event)
-    → (refusal_of event (facts_of s q) ≡ None → is_released (after event (facts_of s q)).state ≡ false)
+    → (refusal_of event (facts_of s q) ≡ None → is_released (after event (facts_of s q)).state
+    ≡ false)
     → is_released (facts_in (points_after s e) p).state ≡ true → (p == q) ≡ false
 not_this s a e p q event passes own rests is = by_test (p == q) refl
   where
@@ -78,7 +78,8 @@ not_this s a e p q event passes own rests is = by_test (p == q) refl
         let its = own_after s a e q event passes own in
         let here : facts_in (points_after s e) p ≡ after event (facts_of s q) =
         ap (facts_in (points_after s e)) (same p q at) ∙ its.0 in
-        absurd (false≢true (sym (rests its.1) ∙ ap (λ (f : Facts). is_released f.state) (sym here) ∙ is))
+        absurd (false≢true (sym (rests its.1) ∙ ap (λ (f : Facts). is_released f.state) (sym here)
+        ∙ is))
     by_test false at = refl
 
 -- a release of another point leaves the hold of this one
@@ -136,7 +137,8 @@ holder_stays s (Till t) SignOff p passes is none =
 holder_stays s (Till t) (Assign q) p passes is none =
     taken_hold s.holds q t p
     ∙ ap (λ (b : Bool). cond b (Some t) (holder_of s p))
-    (not_this s (Till t) (Assign q) p q points.Assign passes refl (assigned_rests (facts_of s q)) is)
+    (not_this s (Till t) (Assign q) p q points.Assign passes refl
+    (assigned_rests (facts_of s q)) is)
 holder_stays s (Till t) (Release q preset) p passes is none =
     taken_hold s.holds q t p ∙ untaken (holder_of s p) t p q None none
 holder_stays s (Till t) (Prepay q cents) p passes is none =
@@ -308,14 +310,16 @@ released_more earlier s r known replies =
         → is_released (facts_of new p).state ≡ true → FactsAfter s r.event p
         → (is_released (facts_of s p).state ≡ true)
         × ((facts_of new p).prepaid ≡ (facts_of s p).prepaid)
-    was_so p passes none is (stays same_facts away) =
-        (ap (λ (f : Facts). is_released f.state) (sym same_facts) ∙ is,
-        ap (λ (f : Facts). f.prepaid) same_facts)
+    was_so p passes none is (stays same_facts away) = (
+      ap (λ (f : Facts). is_released f.state) (sym same_facts) ∙ is,
+      ap (λ (f : Facts). f.prepaid) same_facts,
+    )
     was_so p passes none is (moves event own done taken) =
         let other = no_release s r.actor r.event p event passes own none in
-        let now = ap (λ (f : Facts). is_released f.state) (sym done) ∙ is in
-        (released_after event (facts_of s p) other now,
-        ap (λ (f : Facts). f.prepaid) done ∙ prepaid_stays event (facts_of s p) other now)
+        let now = ap (λ (f : Facts). is_released f.state) (sym done) ∙ is in (
+          released_after event (facts_of s p) other now,
+          ap (λ (f : Facts). f.prepaid) done ∙ prepaid_stays event (facts_of s p) other now,
+        )
 
     by_said : Passed s r.actor r.event → (p : ℕ) → is_released (facts_of new p).state ≡ true
         → (o : Option ToldRelease) → release_said p r.actor r.event ≡ o

@@ -1,35 +1,30 @@
 -- What tills cleared is what the rows tell.
-use Rattle.std.proofs.Common.{◌≡◌, ℕ, ◌+◌, ◌==◌, ◌&&◌, Bool, true, false, List, [], ◌∷◌, Option, Some, None, is_some, unwrap_or, Ok, Err, refl, sym, ap, subst, ◌∙◌, if◌then◌else◌, arith}
+use Rattle.std.proofs.Common.{◌≡◌, ℕ, ◌+◌, ◌==◌, ◌&&◌, Bool, true, false, List, Option, Some, None, is_some, unwrap_or, Ok, Err, refl, sym, ap, subst, ◌∙◌, if◌then◌else◌, arith}
 use Rattle.site_base.specs.declared.actor.Actor.{Actor}
 use Rattle.site_base.specs.declared.actor.Actor.TheVariants.{Till, Dispenser}
-use Rattle.site_base.specs.declared.answer.Answer.{Answer}
-use Rattle.site_base.specs.declared.answer.Answer.TheVariants.{Cleared}
 use Rattle.site_base.specs.declared.event.Event.{Event}
 use Rattle.site_base.specs.declared.event.Event.TheVariants.{Clear, Terminate, ReadTransaction, ReadProduct, Lift, Flow, Offline, HangUp}
 use Rattle.site_base.specs.declared.refusal.Refusal.{Refusal}
 use Rattle.site_base.specs.declared.row.Row.{Row}
 use Rattle.site_base.specs.declared.view.TransactionView.{TransactionView}
-use Rattle.site_base.specs.Configured.{Configured}
 use Rattle.site_base.specs.Table.{row_of}
 use Rattle.fuelling_point.specs.declared.step.PointStep.{PointStep}
 use Rattle.fuelling_point.specs.declared.step.PointStep.TheVariants as steps
-use Rattle.transaction_buffer.specs.Sales.{Sale, Sales, sale_of}
+use Rattle.transaction_buffer.specs.Sales.{Sale, Sales}
 use Rattle.transaction_buffer.proofs.Rules.{cleared_by_its_locker}
 use Rattle.written_site.specs.FigureSteps.{HasClear, HasSameClears, is_clear}
-use Rattle.written_site.specs.Histories.{Moment, moments_of}
-use Rattle.written_site.specs.RowWords.{OfBooks, open_after, total, count}
+use Rattle.written_site.specs.RowWords.{OfBooks, open_after}
 use Rattle.written_site.specs.ShiftFigures.{clears_in, cents_in, clears_by, cents_by}
 use Rattle.written_site.specs.ShiftLaws.{cents_cleared, cleared_cents, clears_for, cents_for, clears_while, cents_while, AreClearsCounted}
 use Rattle.written_site.specs.SiteChecks.{Passed, flowed}
-use Rattle.written_site.specs.SiteRun.{site_of_rows, IsLegal}
-use Rattle.written_site.specs.SiteState.{SiteState, opening, key_named, open_shift, sale_shown}
-use Rattle.written_site.specs.SiteStep.{accepted_site, site_answer, step_at, step_told, sale_told, clear_told, product_told, sales_after, reply_to, site_after}
+use Rattle.written_site.specs.SiteState.{SiteState, key_named, open_shift, sale_shown}
+use Rattle.written_site.specs.SiteStep.{site_answer, step_at, step_told, sale_told, clear_told, product_told, sales_after, reply_to, site_after}
 use Rattle.written_site.proofs.ClearFigures.{nothing_keeps, none_in, none_by}
 use Rattle.written_site.proofs.FigureMoves.{keeps_clears, has_clear}
 use Rattle.written_site.proofs.RowFacts.{Known, known_more, known_first}
-use Rattle.written_site.proofs.RowWords.{told_row, of_row}
+use Rattle.written_site.proofs.RowWords.{of_row}
 use Rattle.written_site.proofs.SlotRows.{moment_at}
-use Rattle.written_site.proofs.SoldRows.{total_moments}
+use Rattle.written_site.proofs.SoldRows.{counted}
 use Rattle.written_site.proofs.SoundTables.{turned}
 
 -- ---- only a clear is told so
@@ -111,9 +106,11 @@ adds_clear : (old new : Sales) (t h : ℕ) (x : Sale) → HasClear old new t h x
     → Adds old new h (λ u. if t == u then Some x.cents else None)
 adds_clear old new t h x clear = record {
   clears = λ g u. clear.clears g u
-      ∙ ap (λ (v : ℕ). clears_in g u old + v) (one (g == h) (h == g) (turned g h) (u == t) (t == u) (turned u t));
+      ∙ ap (λ (v : ℕ). clears_in g u old + v) (one (g == h) (h == g) (turned g h) (u == t) (t == u)
+      (turned u t));
   cents = λ g u. clear.cents g u
-      ∙ ap (λ (v : ℕ). cents_in g u old + v) (sum (g == h) (h == g) (turned g h) (u == t) (t == u) (turned u t));
+      ∙ ap (λ (v : ℕ). cents_in g u old + v) (sum (g == h) (h == g) (turned g h) (u == t) (t == u)
+      (turned u t));
   all_clears = λ u. clear.all_clears u
       ∙ ap (λ (v : ℕ). clears_by u old + v) (one_of (u == t) (t == u) (turned u t));
   all_cents = λ u. clear.all_cents u
@@ -139,7 +136,8 @@ adds_clear old new t h x clear = record {
     sum a b same d e same' = cc
 
     one_of : (d e : Bool) → d ≡ e
-        → ◌≡◌ {A = ℕ} (if d then 1 else 0) (if is_some (if e then Some x.cents else None) then 1 else 0)
+        → ◌≡◌ {A = ℕ} (if d then 1 else 0) (if is_some
+        (if e then Some x.cents else None) then 1 else 0)
     one_of true true same = refl
     one_of false false same = refl
     one_of d e same = cc
@@ -161,7 +159,8 @@ adds_accepted s (Till t) (Clear p id) passes =
     (has_clear s t p id clear.0 clear.1.there passes.pays))
 adds_accepted s (Dispenser d) (Clear p id) passes = (let asks = passes.asks in absurd cc)
 adds_accepted s a e passes =
-    adds_none s.sales (sales_after s a e) (open_shift s) (λ u. cents_cleared u a (Ok (site_answer s e)))
+    adds_none s.sales (sales_after s a e) (open_shift s)
+    (λ u. cents_cleared u a (Ok (site_answer s e)))
     (keeps_clears s a e refl) (λ u. not_cleared u s a e refl)
 
 adds_row : (earlier : List Row) (s : SiteState) (r : Row) → Known earlier s
@@ -183,31 +182,24 @@ adds_row earlier s r known replies =
 
 -- ---- all rows
 
-from_none : {n m : ℕ} → n ≡ 0 → n + m ≡ m
-from_none {n} {m} none = omega (arith, none)
-
 pub clears_counted : OfBooks AreClearsCounted
 clears_counted c rows legal = record {
   clears = λ h t.
-      total_moments Known known_more (λ s. clears_in h t s.sales)
+      counted Known known_more (λ s. clears_in h t s.sales)
       (λ m. if clears_while h t m then 1 else 0)
       (λ earlier s r known replies. (adds_row earlier s r known replies).clears h t)
-      [] (opening c) rows (known_first c) legal
-      ∙ from_none (none_in h t).0;
+      c rows (known_first c) legal (none_in h t).0;
   cents = λ h t.
-      total_moments Known known_more (λ s. cents_in h t s.sales) (cents_while h t)
+      counted Known known_more (λ s. cents_in h t s.sales) (cents_while h t)
       (λ earlier s r known replies. (adds_row earlier s r known replies).cents h t)
-      [] (opening c) rows (known_first c) legal
-      ∙ from_none (none_in h t).1;
+      c rows (known_first c) legal (none_in h t).1;
   all_clears = λ t.
-      total_moments Known known_more (λ s. clears_by t s.sales)
+      counted Known known_more (λ s. clears_by t s.sales)
       (λ m. if clears_for t m then 1 else 0)
       (λ earlier s r known replies. (adds_row earlier s r known replies).all_clears t)
-      [] (opening c) rows (known_first c) legal
-      ∙ from_none (none_by t).0;
+      c rows (known_first c) legal (none_by t).0;
   all_cents = λ t.
-      total_moments Known known_more (λ s. cents_by t s.sales) (cents_for t)
+      counted Known known_more (λ s. cents_by t s.sales) (cents_for t)
       (λ earlier s r known replies. (adds_row earlier s r known replies).all_cents t)
-      [] (opening c) rows (known_first c) legal
-      ∙ from_none (none_by t).1;
+      c rows (known_first c) legal (none_by t).1;
 }

@@ -1,19 +1,16 @@
 -- The tills that are signed on, and the open shift, are those that the rows say.
-use Rattle.std.proofs.Common.{◌≡◌, ℕ, ◌+◌, ◌==◌, ◌||◌, ◌&&◌, not, Bool, true, false, cond, List, ◌++◌, ◌∷◌, [], length, length-append, Option, Some, None, unwrap_or, Ok, refl, sym, ap, ◌∙◌, if◌then◌else◌, arith}
-use Rattle.std.proofs.lemmas.Bool.Decides.{nat_tests}
-use Rattle.std.specs.Ordering.{nat_cmp, eq_by_cmp}
+use Rattle.std.proofs.Common.{◌≡◌, ℕ, ◌+◌, ◌==◌, ◌||◌, ◌&&◌, not, Bool, true, false, ◌∷◌, [], length-append, Some, None, unwrap_or, refl, ap, ◌∙◌, if◌then◌else◌, arith}
+use Rattle.std.specs.Ordering.{nat_cmp}
 use Rattle.std.specs.Cmp.{nat_cmp_total, unsigned_tied}
 use Rattle.std.specs.FinSet as set
 use Rattle.site_base.specs.declared.actor.Actor.{Actor}
-use Rattle.site_base.specs.declared.actor.Actor.TheVariants.{Till, Dispenser}
+use Rattle.site_base.specs.declared.actor.Actor.TheVariants.{Till}
 use Rattle.site_base.specs.declared.event.Event.{Event}
 use Rattle.site_base.specs.declared.event.Event.TheVariants.{SignOn, SignOff, CloseShift, Offline, HangUp}
 use Rattle.site_base.specs.declared.row.Row.{Row}
-use Rattle.site_base.specs.Configured.{Configured}
 use Rattle.written_site.specs.SiteState.{SiteState, opening, is_signed_on, nothing_drawn, open_shift}
-use Rattle.written_site.specs.SiteRun.{site_of_rows, IsLegal}
-use Rattle.written_site.specs.SiteStep.{accepted_site, step_at, nozzles_after, drawn_after, reply_to, site_after}
-use Rattle.written_site.specs.RowWords.{OfBooks, signing_said, signing_of, is_close, closes_shift, latest, on_after, open_after, count}
+use Rattle.written_site.specs.SiteStep.{accepted_site, step_at, nozzles_after, reply_to, site_after}
+use Rattle.written_site.specs.RowWords.{OfBooks, signing_said, signing_of, is_close, closes_shift, latest}
 use Rattle.written_site.specs.SigningLaws.{AreSignedOnByRows, IsShiftByRows}
 use Rattle.written_site.proofs.RowWords.{of_row, latest_word, total_word}
 use Rattle.written_site.proofs.SoundDraws.{by_length}
@@ -67,7 +64,8 @@ signed_row t s r replies =
 
 pub signed_on_by_rows : OfBooks AreSignedOnByRows
 signed_on_by_rows c rows legal = record {
-  each = λ t. latest_word (λ s. is_signed_on s t) (signing_of t) (signed_row t) (opening c) rows legal
+  each = λ t. latest_word (λ s. is_signed_on s t) (signing_of t) (signed_row t)
+      (opening c) rows legal
       ∙ ap (unwrap_or (latest (signing_of t) rows)) (set.contains-empty nat_cmp t);
 }
 
@@ -95,5 +93,6 @@ shift_row s r replies =
 
 pub shift_by_rows : OfBooks IsShiftByRows
 shift_by_rows c rows legal = record {
-  shift = total_word open_shift (λ r. if closes_shift r then 1 else 0) shift_row (opening c) rows legal;
+  shift = total_word open_shift (λ r. if closes_shift r then 1 else 0) shift_row
+      (opening c) rows legal;
 }

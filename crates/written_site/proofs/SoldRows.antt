@@ -1,11 +1,11 @@
 -- What is known of a row that tells a sale.
-use Rattle.std.proofs.Common.{◌≡◌, ℕ, ◌+◌, Bool, true, false, List, [], ◌∷◌, ◌++◌, Option, Some, None, Ok, Err, refl, sym, ap, subst, ◌∙◌, arith}
-use Rattle.std.proofs.lemmas.List.{append_assoc}
+use Rattle.std.proofs.Common.{◌≡◌, ℕ, ◌+◌, List, [], ◌∷◌, ◌++◌, Option, Some, None, Ok, refl, sym, ap, ◌∙◌, arith}
 use Rattle.site_base.specs.declared.actor.Actor.{Actor}
 use Rattle.site_base.specs.declared.actor.Actor.TheVariants.{Till, Dispenser}
 use Rattle.site_base.specs.declared.event.Event.{Event}
-use Rattle.site_base.specs.declared.event.Event.TheVariants.{Terminate, Clear, ReadTransaction, ReadProduct, Lift, Flow, Offline, HangUp}
+use Rattle.site_base.specs.declared.event.Event.TheVariants.{Terminate, Clear, ReadTransaction, Lift, Flow, Offline, HangUp}
 use Rattle.site_base.specs.declared.row.Row.{Row}
+use Rattle.site_base.specs.Configured.{Configured}
 use Rattle.site_base.specs.Events.{point_named}
 use Rattle.fuelling_point.specs.declared.event.PointEvent.{PointEvent}
 use Rattle.fuelling_point.specs.declared.event.PointEvent.TheVariants as points
@@ -15,11 +15,11 @@ use Rattle.fuelling_point.specs.Kept.{growth_of}
 use Rattle.fuelling_point.specs.PointChecks.{refusal_of}
 use Rattle.fuelling_point.specs.Step.{step_of}
 use Rattle.transaction_buffer.specs.Sales.{Key, key, made_at, next_key, with_new}
-use Rattle.written_site.specs.SiteState.{SiteState, facts_of, open_shift}
+use Rattle.written_site.specs.SiteState.{SiteState, opening, facts_of, open_shift}
 use Rattle.written_site.specs.SiteChecks.{Passed, own_event, flowed}
 use Rattle.written_site.specs.SiteStep.{accepted_site, site_answer, step_at, step_told, nozzles_after, sales_after, sales_by, sale_made, reply_to, site_after}
 use Rattle.written_site.specs.SiteRun.{site_of_rows, IsLegal}
-use Rattle.written_site.specs.Histories.{Moment, moments_after}
+use Rattle.written_site.specs.Histories.{Moment, moments_after, moments_of}
 use Rattle.written_site.specs.RowWords.{open_after, total}
 use Rattle.written_site.specs.SaleWords.{key_sold, number_sold, sold_as}
 use Rattle.written_site.proofs.RowFacts.{own_after}
@@ -28,8 +28,8 @@ use Rattle.written_site.proofs.SlotRows.{moment_at}
 use Rattle.written_site.proofs.SoundTables.{told_once}
 use Rattle.written_site.proofs.ToldAnswers.{never_sold}
 
--- the event is accepted; it is this to its point, which sells this; the sale has the next name of its
--- point in the open shift, and joins the sales
+-- the event is accepted; it is this to its point, which sells this; the sale has the next name of
+-- its point in the open shift, and joins the sales
 pub record SellsHere (s : SiteState) (r : Row) (k : Key) (new : SiteState) : Type 0 where
   pub passes : Passed s r.actor r.event
   pub leads : new ≡ accepted_site s r.actor r.event
@@ -53,7 +53,8 @@ sells_by : (k : Key) (earlier : List Row) (s : SiteState) (a : Actor) (e : Event
     → sales_after s a e ≡ sales_by s (nozzles_after s e) p step
     → key_sold earlier (Some p) (number_sold (Ok (step_told s p (growth_of event) step))) ≡ Some k
     → SellsHere s (told_row a e (Ok (site_answer s e))) k (accepted_site s a e)
-sells_by k earlier s a e p event shift passes own (Sold nozzle volume price prepaid) is leads named =
+sells_by k earlier s a e p event shift passes own
+    (Sold nozzle volume price prepaid) is leads named =
     record {
       passes = passes;
       leads = refl;
@@ -67,7 +68,8 @@ sells_by k earlier s a e p event shift passes own (Sold nozzle volume price prep
       price = price;
       prepaid = prepaid;
       sells = is;
-      name = sym (told_once (key (open_after earlier) p (made_at p (open_shift s) s.sales + 1)) k named)
+      name = sym (told_once (key (open_after earlier) p (made_at p (open_shift s) s.sales + 1)) k
+          named)
           ∙ ap (λ (h : ℕ). key h p (made_at p (open_shift s) s.sales + 1)) (sym shift);
       sales = leads;
     }
@@ -75,7 +77,8 @@ sells_by k earlier s a e p event shift passes own step is leads named = absurd c
 
 -- whoever reports it
 lost_sales : (s : SiteState) (a : Actor) (p : ℕ)
-    → sales_after s a (Offline p) ≡ sales_by s (nozzles_after s (Offline p)) p (step_at s (Offline p))
+    → sales_after s a (Offline p) ≡ sales_by s (nozzles_after s (Offline p)) p
+    (step_at s (Offline p))
 lost_sales s (Till t) p = refl
 lost_sales s (Dispenser d) p = refl
 
@@ -94,17 +97,21 @@ sells_accepted : (k : Key) (earlier : List Row) (s : SiteState) (a : Actor) (e :
     → sold_as (moment_at earlier s (told_row a e (Ok (site_answer s e)))) ≡ Some k
     → SellsHere s (told_row a e (Ok (site_answer s e))) k (accepted_site s a e)
 sells_accepted k earlier s a (Offline p) shift passes named =
-    sells_by k earlier s a (Offline p) p points.Offline shift passes refl (step_at s (Offline p)) refl
+    sells_by k earlier s a (Offline p) p points.Offline shift passes refl
+    (step_at s (Offline p)) refl
     (lost_sales s a p) named
 sells_accepted k earlier s a (HangUp p n reading) shift passes named =
-    sells_by k earlier s a (HangUp p n reading) p (points.HangUp n (flowed s p n reading)) shift passes
+    sells_by k earlier s a (HangUp p n reading) p
+    (points.HangUp n (flowed s p n reading)) shift passes
     refl (step_at s (HangUp p n reading)) refl (hung_up_sales s a p n reading) named
 sells_accepted k earlier s a (Terminate p) shift passes named =
-    absurd (other_sells k _ (ap (key_sold earlier (Some p)) (never_sold s (Terminate p) refl)) named)
+    absurd (other_sells k _ (ap (key_sold earlier (Some p)) (never_sold s (Terminate p) refl))
+    named)
 sells_accepted k earlier s a (Clear p id) shift passes named =
     absurd (other_sells k _ (ap (key_sold earlier (Some p)) (never_sold s (Clear p id) refl)) named)
 sells_accepted k earlier s a (ReadTransaction p id) shift passes named =
-    absurd (other_sells k _ (ap (key_sold earlier (Some p)) (never_sold s (ReadTransaction p id) refl))
+    absurd (other_sells k _ (ap (key_sold earlier (Some p))
+    (never_sold s (ReadTransaction p id) refl))
     named)
 sells_accepted k earlier s a (Lift p n reading) shift passes named =
     absurd (other_sells k _ (ap (key_sold earlier (Some p)) (never_sold s (Lift p n reading) refl))
@@ -124,7 +131,8 @@ pub sells_here : (k : Key) (earlier : List Row) (s : SiteState) (r : Row)
     → sold_as (moment_at earlier s r) ≡ Some k
     → SellsHere s r k (site_after s r.actor r.event)
 sells_here k earlier s r shift replies =
-    of_row (λ row new. sold_as (moment_at earlier s row) ≡ Some k → SellsHere s row k new) s r replies
+    of_row (λ row new. sold_as (moment_at earlier s row) ≡ Some k → SellsHere s row k new) s r
+    replies
     (λ refusal named. absurd (other_sells k _ (untold earlier (point_named r.event)) named))
     (λ passes. sells_accepted k earlier s r.actor r.event shift passes)
 
@@ -147,3 +155,19 @@ total_moments Known keeps word figure adds earlier s (r ∷ rs) known legal =
     let rest = total_moments Known keeps word figure adds (earlier ++ r ∷ [])
     (site_after s r.actor r.event) rs (keeps earlier s r known legal.0) legal.1 in
     omega (arith, here, rest)
+
+-- so a word that is 0 when the site opens is what the moments add up to
+pub counted : (Known : List Row → SiteState → Type 0)
+    → ((earlier : List Row) (s : SiteState) (r : Row) → Known earlier s
+    → r.reply ≡ reply_to s r.actor r.event
+    → Known (earlier ++ r ∷ []) (site_after s r.actor r.event))
+    → (word : SiteState → ℕ) (figure : Moment → ℕ)
+    → ((earlier : List Row) (s : SiteState) (r : Row) → Known earlier s
+    → r.reply ≡ reply_to s r.actor r.event
+    → word (site_after s r.actor r.event) ≡ word s + figure (moment_at earlier s r))
+    → (c : Configured) (rows : List Row) → Known [] (opening c) → IsLegal (opening c) rows
+    → word (opening c) ≡ 0
+    → word (site_of_rows (opening c) rows) ≡ total figure (moments_of c rows)
+counted Known keeps word figure adds c rows known legal none =
+    let all = total_moments Known keeps word figure adds [] (opening c) rows known legal in
+    omega (arith, all, none)

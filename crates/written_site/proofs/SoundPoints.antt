@@ -271,7 +271,8 @@ done_point s a e q event sound passed taken own held =
       nozzle = λ n out. nozzle_after s e q n
           ∙ nozzle_own s e q n event taken own point (out_after event old n out);
       held = held;
-      flowed = λ under_way. flowed_read s e q event (read_of s e taken) own point.whole point.flowed whole
+      flowed = λ under_way. flowed_read s e q event
+          (read_of s e taken) own point.whole point.flowed whole
           under_way;
       price = λ under_way. price_own s e q event sound own point under_way;
       room = λ released sale. room_own s a e q event sound.order passed own point.whole
@@ -324,4 +325,5 @@ run_after s e sound taken q f is = by_row (row_after s.points (own_event s e) q 
         ap (after event) (facts_there s.points q old row) ∙ sym made in
         subst (λ (g : Facts). running_at (nozzles_after s e) q g ≡ volume_of g) facts
         (run_is_volume (nozzles_after s e) q (after event (facts_of s q))
-        (flowed_read s e q event (read_of s e taken) own own_is.sound.whole own_is.sound.flowed whole))
+        (flowed_read s e q event (read_of s e taken) own own_is.sound.whole own_is.sound.flowed
+        whole))

@@ -272,7 +272,7 @@ draws_there s sound =
     ap is_some
     (numbered_within (open_shift s) s.drawn (open_shift s - 1) [] (omega arith) (omega arith))
 
-row_at : (i : ℕ) (row : List ℕ) (rows : List (List ℕ)) → list_all is_draw_row rows ≡ true
+pub row_at : (i : ℕ) (row : List ℕ) (rows : List (List ℕ)) → list_all is_draw_row rows ≡ true
     → slice_get rows i ≡ Some row → length row ≡ PRODUCT_CELLS
 row_at i row [] all is = cc
 row_at zero row (first ∷ rows) all is =

@@ -1,55 +1,52 @@
 -- Volumes are conserved, for every legal history.
-use Rattle.std.proofs.Common.{◌≡◌, ℕ, zero, suc, ◌+◌, ◌-◌, ◌*◌, ◌≤◌, ◌<◌, ◌==◌, nat_le, Bool, true, false, cond, List, [], ◌∷◌, ◌++◌, length, Option, Some, None, is_some, unwrap_or, Ok, refl, sym, ap, subst, ◌∙◌, ◌⊎◌, inl, inr, arith}
+use Rattle.std.proofs.Common.{◌≡◌, ℕ, ◌+◌, ◌-◌, ◌*◌, ◌≤◌, ◌<◌, ◌==◌, nat_le, Bool, true, false, List, [], ◌∷◌, ◌++◌, length, Some, unwrap_or, refl, sym, ap, subst, ◌∙◌, ◌⊎◌, inl, inr, arith}
 use Rattle.std.proofs.lemmas.Bool.{and_parts}
 use Rattle.std.proofs.lemmas.Bool.Decides.{nat_tests}
 use Rattle.std.proofs.lemmas.List.{set_past}
 use Rattle.std.proofs.Math.Nat.{mul-zero}
 use Rattle.std.specs.List.{list_all}
-use Rattle.std.specs.FinMap as finite
 use Rattle.site_base.specs.declared.actor.Actor.{Actor}
 use Rattle.site_base.specs.declared.actor.Actor.TheVariants.{Till}
 use Rattle.site_base.specs.declared.event.Event.{Event}
 use Rattle.site_base.specs.declared.event.Event.TheVariants.{SignOff, Lock, Unlock, Clear, CloseShift, ReplaceMeter, Flow, Offline, HangUp}
 use Rattle.site_base.specs.declared.limits.TheConstants.{PRODUCT_CELLS}
-use Rattle.site_base.specs.declared.refusal.Refusal.{Refusal}
 use Rattle.site_base.specs.declared.row.Row.{Row}
 use Rattle.site_base.specs.Configured.{Configured}
 use Rattle.site_base.specs.Events.{growth_told}
 use Rattle.site_base.specs.Numbered.{numbered}
-use Rattle.site_base.specs.Table.{row_of}
 use Rattle.site_base.proofs.Numbering.{with_numbered_place}
 use Rattle.fuelling_point.specs.declared.event.PointEvent.{PointEvent}
 use Rattle.fuelling_point.specs.declared.event.PointEvent.TheVariants as points
 use Rattle.fuelling_point.specs.declared.step.PointStep.{PointStep}
 use Rattle.fuelling_point.specs.declared.step.PointStep.TheVariants.{Sold, Drawn}
-use Rattle.fuelling_point.specs.Kept.{Facts, is_under_way, volume_of}
+use Rattle.fuelling_point.specs.Kept.{Facts, volume_of}
 use Rattle.fuelling_point.specs.Laws.{sold_in, drawn_in}
 use Rattle.fuelling_point.specs.Step.{step_of}
 use Rattle.meters.specs.declared.report.Report.TheVariants.{Growing}
-use Rattle.meters.specs.Metered.{every_product, metered_by, product_alone, product_total}
-use Rattle.meters.specs.Nozzles.{Nozzle, nozzle_of, opening_nozzles, read_at, replaced_at, reading_of}
+use Rattle.meters.specs.Metered.{every_product, metered_by, product_alone}
+use Rattle.meters.specs.Nozzles.{Nozzle, opening_nozzles, read_at, replaced_at, reading_of}
 use Rattle.meters.proofs.Looked.{reading_is}
 use Rattle.meters.proofs.Weighed.{open_nothing, accepted_above}
 use Rattle.transaction_buffer.specs.declared.request.Request.TheVariants as requests
-use Rattle.transaction_buffer.specs.Sales.{Sale, no_sales}
+use Rattle.transaction_buffer.specs.Sales.{no_sales}
 use Rattle.transaction_buffer.proofs.OnShelves.{nothing_sold}
 use Rattle.transaction_buffer.proofs.Summing.{sold_sum}
 use Rattle.transaction_buffer.proofs.Volumes.{add_up}
-use Rattle.written_site.specs.FuellingWords.{growth_at}
 use Rattle.written_site.specs.RowWords.{OfBooks, total}
 use Rattle.written_site.specs.SiteChecks.{Passed, own_event, flowed, put_back_at}
-use Rattle.written_site.specs.SiteRun.{site_of_rows, IsLegal}
-use Rattle.written_site.specs.SiteState.{SiteState, opening, points_of, nothing_drawn, facts_in, facts_of, key_named, open_shift}
-use Rattle.written_site.specs.SiteStep.{accepted_site, site_answer, step_at, nozzles_after, points_after, sales_after, sales_by, sale_made, drawn_after, draws_by, draw_noted, one_more_drawn, reply_to, site_after}
+use Rattle.written_site.specs.SiteRun.{site_of_rows}
+use Rattle.written_site.specs.SiteState.{SiteState, opening, points_of, nothing_drawn, facts_of, key_named, open_shift}
+use Rattle.written_site.specs.SiteStep.{accepted_site, step_at, nozzles_after, points_after, sales_after, sales_by, sale_made, drawn_after, draws_by, draw_noted, one_more_drawn, reply_to, site_after}
 use Rattle.written_site.specs.Sound.{is_draw_row}
-use Rattle.written_site.specs.SoundSteps.{growth_at as growth_of_event, growth_by, product_at, sold_at, drawn_at}
+use Rattle.written_site.specs.SoundSteps.{growth_at as growth_of_event, product_at, sold_at, drawn_at}
 use Rattle.written_site.specs.VolumeLaws.{AreVolumesConserved}
 use Rattle.written_site.specs.Volumes.{product_out, running_at, running_by, sold_by, drawn_by}
 use Rattle.written_site.proofs.FuellingRows.{KnowsFuel, fuel_more, fuel_first}
 use Rattle.written_site.proofs.FuellingTold.{growth_is}
 use Rattle.written_site.proofs.MeterLaws.{Changed, mine, other, changed, fresh_found, fresh_points}
+use Rattle.written_site.proofs.MeteredRows.{totals_read}
 use Rattle.written_site.proofs.RowFacts.{own_after}
-use Rattle.written_site.proofs.RowWords.{told_row, of_row, kept, total_push}
+use Rattle.written_site.proofs.RowWords.{of_row, kept, total_push}
 use Rattle.written_site.proofs.SoundDraws.{drawn_more, drawn_rows, opened_weighs}
 use Rattle.written_site.proofs.SoundMachine.{sold_from, drawn_from}
 use Rattle.written_site.proofs.SoundMeters.{read_keeps, replaced_keeps, product_after}
@@ -60,7 +57,7 @@ use Rattle.written_site.proofs.SoundRunning.{flowed_by, flowed_products}
 use Rattle.written_site.proofs.SoundSold.{run_read}
 use Rattle.written_site.proofs.SoundSums.{other_weight, sold_alone}
 use Rattle.written_site.proofs.SoundTables.{same, facts_there}
-use Rattle.written_site.proofs.SoundVolumes.{weighs_none, stays_so, weight_of, sign_off_weighs, asked_weighs, over_is, none_sold, none_drawn, product_out_after, balanced}
+use Rattle.written_site.proofs.SoundVolumes.{weighs_none, stays_so, weight_of, sign_off_weighs, asked_weighs, over_is, none_sold, none_drawn, balanced}
 use Rattle.written_site.proofs.VolumeRows.{AreRisen, meters_move, kept_move, Quiet, quiet_first, quiet_after, runs_as_kept}
 
 -- ---- meters rise
@@ -91,7 +88,8 @@ risen_after s a (Flow q m reading) passes risen p n y is =
     (changed p n q m (read_at reading) s.nozzles y (read_keeps reading) is)
 risen_after s a (HangUp q m reading) passes risen p n y is =
     read_rises q m reading s.nozzles risen
-    (accepted_above (put_back_at (facts_of s q).state) (reading_of q m s.nozzles) reading passes.reads)
+    (accepted_above (put_back_at (facts_of s q).state)
+    (reading_of q m s.nozzles) reading passes.reads)
     p n y
     (changed p n q m (read_at reading) s.nozzles y (read_keeps reading) is)
 risen_after s a (ReplaceMeter q m reading) passes risen p n y is =
@@ -126,7 +124,7 @@ unnoted r v (row ∷ next ∷ rows) all out =
     ap (λ xs. row ∷ xs) (unnoted r v (next ∷ rows) parts.1 out)
 
 -- a draw of product r, as product q weighs it
-drawn_one : (q r v : ℕ) (rows : List (List ℕ)) → 1 ≤ q → q ≤ PRODUCT_CELLS
+pub drawn_one : (q r v : ℕ) (rows : List (List ℕ)) → 1 ≤ q → q ≤ PRODUCT_CELLS
     → list_all is_draw_row rows ≡ true → 1 ≤ length rows
     → drawn_by (product_alone q) (draw_noted r v rows)
     ≡ drawn_by (product_alone q) rows + product_alone q r * v
@@ -178,7 +176,8 @@ module _ (c : Configured) (earlier : List Row) (s : SiteState) (a : Actor) (e : 
       let from = sold_from event f nozzle volume price prepaid (fuel.known.whole p)
       (own_after s a e p event passes own).1 is in
       let run : running_at (nozzles_after s e) p f ≡ volume =
-      run_read s e p event read own (fuel.known.whole p) ((fuel.points p).fuels from.was).meter from.was
+      run_read s e p event read own (fuel.known.whole p)
+      ((fuel.points p).fuels from.was).meter from.was
       ∙ sym from.its_volume in
       sold_sum (weight_of w) p (sale_made s (nozzles_after s e) p) s.sales
       ∙ ap (λ (v : ℕ). sold_by w s.sales + v) (over_is w s e p volume f run)
@@ -196,9 +195,11 @@ module _ (c : Configured) (earlier : List Row) (s : SiteState) (a : Actor) (e : 
       let from = drawn_from event f nozzle volume (fuel.known.whole p)
       (own_after s a e p event passes own).1 is in
       let run : running_at (nozzles_after s e) p f ≡ volume =
-      run_read s e p event read own (fuel.known.whole p) ((fuel.points p).fuels from.was).meter from.was
+      run_read s e p event read own (fuel.known.whole p)
+      ((fuel.points p).fuels from.was).meter from.was
       ∙ sym from.its_volume in
-      drawn_one q (product_out (nozzles_after s e) p f) (running_at (nozzles_after s e) p f) s.drawn low
+      drawn_one q (product_out (nozzles_after s e) p f)
+      (running_at (nozzles_after s e) p f) s.drawn low
       high all some
       ∙ ap (λ (v : ℕ). drawn_by (product_alone q) s.drawn + v)
       (over_is (product_alone q) s e p volume f run)
@@ -206,7 +207,8 @@ module _ (c : Configured) (earlier : List Row) (s : SiteState) (a : Actor) (e : 
       weighs_none (product_alone q (product_out s.nozzles p (facts_of s p)))
       (drawn_by (product_alone q) s.drawn)
 
-sales_move : (w : ℕ → ℕ) (c : Configured) (earlier : List Row) (s : SiteState) (a : Actor) (e : Event)
+sales_move : (w : ℕ → ℕ) (c : Configured) (earlier : List Row) (s : SiteState) (a : Actor)
+    (e : Event)
     → KnowsFuel c earlier s → Passed s a e
     → sold_by w (sales_after s a e) ≡ sold_by w s.sales + w (product_at s e) * sold_at s e
 sales_move w c earlier s (Till t) SignOff fuel passes =
@@ -221,7 +223,8 @@ sales_move w c earlier s (Till t) (Clear p id) fuel passes =
     asked_weighs w (requests.Clear (open_shift s)) t (key_named s p id) s.sales
     ∙ weighs_none (w 0) (sold_by w s.sales)
 sales_move w c earlier s a (Offline p) fuel passes =
-    sold_step c earlier s a (Offline p) fuel passes w p points.Offline refl (step_at s (Offline p)) refl
+    sold_step c earlier s a (Offline p) fuel passes w p points.Offline refl
+    (step_at s (Offline p)) refl
 sales_move w c earlier s a (HangUp p n reading) fuel passes =
     sold_step c earlier s a (HangUp p n reading) fuel passes w p
     (points.HangUp n (flowed s p n reading)) refl (step_at s (HangUp p n reading)) refl
@@ -229,7 +232,8 @@ sales_move w c earlier s a e fuel passes =
     stays_so (w (product_at s e)) (sold_by w s.sales) (sold_at s e)
     (none_sold s (own_event s e) refl)
 
-pub draws_move : (q : ℕ) (c : Configured) (earlier : List Row) (s : SiteState) (a : Actor) (e : Event)
+pub draws_move : (q : ℕ) (c : Configured) (earlier : List Row) (s : SiteState) (a : Actor)
+    (e : Event)
     → KnowsFuel c earlier s → Passed s a e → 1 ≤ q → q ≤ PRODUCT_CELLS
     → list_all is_draw_row s.drawn ≡ true → 1 ≤ length s.drawn
     → drawn_by (product_alone q) (drawn_after s e)
@@ -239,7 +243,8 @@ draws_move q c earlier s a (Offline p) fuel passes low high all some =
     (step_at s (Offline p)) refl
 draws_move q c earlier s a (HangUp p n reading) fuel passes low high all some =
     drawn_step c earlier s a (HangUp p n reading) fuel passes q p
-    (points.HangUp n (flowed s p n reading)) refl low high all some (step_at s (HangUp p n reading)) refl
+    (points.HangUp n (flowed s p n reading)) refl low high all some
+    (step_at s (HangUp p n reading)) refl
 draws_move q c earlier s a CloseShift fuel passes low high all some =
     opened_weighs (product_alone q) s.drawn
     ∙ weighs_none (product_alone q 0) (drawn_by (product_alone q) s.drawn)
@@ -256,7 +261,8 @@ runs_so w c earlier s fuel quiet =
     runs_as_kept w s.nozzles [] s.points quiet (λ p f unseen is.
     let facts : facts_of s p ≡ f = facts_there s.points p f is in
     subst (λ (g : Facts). running_at s.nozzles p g ≡ volume_of g) facts
-    (run_is_volume s.nozzles p (facts_of s p) (λ under_way. ((fuel.points p).fuels under_way).meter)))
+    (run_is_volume s.nozzles p (facts_of s p) (λ under_way.
+    ((fuel.points p).fuels under_way).meter)))
 
 -- how a row moves the volumes of product q
 record Moves (q : ℕ) (s new : SiteState) : Type 0 where
@@ -284,7 +290,8 @@ pub record KnowsVolumes (c : Configured) (earlier : List Row) (s : SiteState) : 
       + drawn_by (product_alone q) s.drawn
   pub grown : total (λ r. growth_told r.reply) earlier ≡ metered_by every_product s.nozzles
 
-moves_accepted : (q : ℕ) (c : Configured) (earlier : List Row) (s : SiteState) (a : Actor) (e : Event)
+moves_accepted : (q : ℕ) (c : Configured) (earlier : List Row) (s : SiteState) (a : Actor)
+    (e : Event)
     → KnowsVolumes c earlier s → 1 ≤ q → q ≤ PRODUCT_CELLS → Passed s a e
     → Moves q s (accepted_site s a e)
 moves_accepted q c earlier s a e known low high passes =
@@ -322,7 +329,8 @@ moves_row q c earlier s r known low high replies =
     (λ passes. moves_accepted q c earlier s r.actor r.event known low high passes)
 
 -- what a row tells to have flowed is metered
-grown_row : (c : Configured) (earlier : List Row) (s : SiteState) (r : Row) → KnowsVolumes c earlier s
+grown_row : (c : Configured) (earlier : List Row) (s : SiteState) (r : Row)
+    → KnowsVolumes c earlier s
     → r.reply ≡ reply_to s r.actor r.event
     → metered_by every_product (site_after s r.actor r.event).nozzles
     ≡ metered_by every_product s.nozzles + growth_told r.reply
@@ -332,7 +340,8 @@ grown_row c earlier s r known replies =
     (λ refusal. omega arith)
     (λ passes.
     let told = growth_is s r.actor r.event passes in
-    let moved = meters_move every_product s r.actor r.event known.risen known.fuel.known.whole passes in
+    let moved = meters_move every_product s r.actor r.event known.risen known.fuel.known.whole
+    passes in
     omega (arith, told, moved))
 
 pub volumes_more : (c : Configured) (earlier : List Row) (s : SiteState) (r : Row)
@@ -397,13 +406,16 @@ volumes_first c = record {
 
 pub volumes_conserved : OfBooks AreVolumesConserved
 volumes_conserved c rows legal =
-    let known = kept (KnowsVolumes c) (volumes_more c) [] (opening c) rows (volumes_first c) legal in
+    let known = kept (KnowsVolumes c) (volumes_more c) [] (opening c) rows
+    (volumes_first c) legal in
     let s : SiteState = site_of_rows (opening c) rows in
     record {
+      metered = totals_read c rows legal;
       conserved = λ q low high.
+          let read = totals_read c rows legal q in
           let all = known.conserved q low (omega (arith, high)) in
           let sold = sold_alone q s.sales in
           let by_status = add_up q s.sales in
-          omega (arith, all, sold, by_status);
+          omega (arith, read, all, sold, by_status);
       grown = known.grown;
     }

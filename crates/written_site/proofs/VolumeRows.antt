@@ -1,7 +1,6 @@
--- How an accepted event moves the volumes, whatever the configuration: what is metered, and what the points
--- keep of fuellings under way.
-use Rattle.std.proofs.Common.{◌≡◌, ℕ, ◌+◌, ◌-◌, ◌*◌, ◌≤◌, ◌<◌, ◌==◌, ◌||◌, ◌&&◌, not, Bool, true, false, cond, List, [], ◌∷◌, ◌++◌, length, Option, option_map, Some, None, is_some, unwrap_or, Ok, refl, sym, ap, subst, ◌∙◌, ◌⊎◌, inl, inr, arith}
-use Rattle.std.proofs.Math.Nat.{mul-zero, mul-add}
+-- How an accepted event moves the volumes, whatever the configuration: what is metered, and what
+-- the points keep of fuellings under way.
+use Rattle.std.proofs.Common.{◌≡◌, ℕ, ◌+◌, ◌-◌, ◌*◌, ◌≤◌, ◌==◌, ◌||◌, Bool, true, false, List, [], ◌∷◌, Option, option_map, Some, None, unwrap_or, refl, sym, ap, subst, ◌∙◌, arith}
 use Rattle.std.proofs.lemmas.Bool.{false≢true}
 use Rattle.std.proofs.lemmas.Bool.Decides.{nat_tests}
 use Rattle.std.proofs.lemmas.Grind.{common_steps}
@@ -10,12 +9,10 @@ use Rattle.std.specs.Prelude.{nat_eq}
 use Rattle.site_base.specs.declared.actor.Actor.{Actor}
 use Rattle.site_base.specs.declared.event.Event.{Event}
 use Rattle.site_base.specs.declared.event.Event.TheVariants.{ReplaceMeter, Flow, HangUp}
-use Rattle.site_base.specs.declared.row.Row.{Row}
 use Rattle.site_base.specs.declared.state.PointState.TheVariants as states
-use Rattle.site_base.specs.Configured.{Configured, ConfiguredPoint}
+use Rattle.site_base.specs.Configured.{ConfiguredPoint}
 use Rattle.site_base.specs.Table.{row_of, with_row}
 use Rattle.fuelling_point.specs.declared.event.PointEvent.{PointEvent}
-use Rattle.fuelling_point.specs.declared.event.PointEvent.TheVariants as points
 use Rattle.fuelling_point.specs.Kept.{Facts, is_under_way, volume_of, growth_of}
 use Rattle.fuelling_point.specs.Laws.{sold_in, drawn_in}
 use Rattle.fuelling_point.specs.PointChecks.{refusal_of}
@@ -23,20 +20,20 @@ use Rattle.fuelling_point.specs.Step.{step_of, after}
 use Rattle.fuelling_point.specs.Whole.{IsWhole}
 use Rattle.fuelling_point.proofs.Whole.{conserved}
 use Rattle.meters.specs.declared.report.Report.TheVariants.{Growing}
-use Rattle.meters.specs.Metered.{metered, metered_by}
+use Rattle.meters.specs.Metered.{metered_by}
 use Rattle.meters.specs.Nozzles.{Nozzle, nozzle_of, has_nozzle, product_of, reading_of, with_last, read_at}
 use Rattle.meters.proofs.Looked.{there, reading_is}
 use Rattle.meters.proofs.Weighed.{raised, meter_keeps, accepted_above}
 use Rattle.written_site.specs.SiteState.{SiteState, points_of, facts_in, facts_of}
-use Rattle.written_site.specs.SiteChecks.{Passed, own_event, metering, flowed, put_back_at}
-use Rattle.written_site.specs.SiteStep.{nozzles_after, points_after, step_by, with_event}
-use Rattle.written_site.specs.SoundSteps.{growth_at, growth_by, product_at, product_by, sold_at, drawn_at}
+use Rattle.written_site.specs.SiteChecks.{Passed, own_event, flowed, put_back_at}
+use Rattle.written_site.specs.SiteStep.{nozzles_after, step_by, with_event}
+use Rattle.written_site.specs.SoundSteps.{growth_at, growth_by, product_at, product_by}
 use Rattle.written_site.specs.Volumes.{nozzle_out, product_out, running_at, running_by}
 use Rattle.written_site.proofs.SoundMachine.{same_nozzle}
 use Rattle.written_site.proofs.SoundReports.{flow_nozzle, hung_up_nozzle, flow_is_out, hung_up_is_out}
 use Rattle.written_site.proofs.SoundRunning.{flowed_by, flowed_with}
 use Rattle.written_site.proofs.SoundSold.{own_there}
-use Rattle.written_site.proofs.SoundTables.{same, turned, itself, told_once, row_there}
+use Rattle.written_site.proofs.SoundTables.{same, turned, itself, row_there}
 use Rattle.written_site.proofs.SoundVolumes.{weighs_none, weighed, same_weight, joined}
 
 -- ---- metered
@@ -143,21 +140,25 @@ quiet_with seen p new (e ∷ es) unseen quiet =
         → Quiet seen (with_row p new (e ∷ es))
     by_test true at behind =
         let moved : with_row p new (e ∷ es) ≡ (e.0, new) ∷ es = rw at refl in
-        subst (Quiet seen) (sym moved)
-        (λ is. absurd (false≢true (sym unseen
-        ∙ ap (λ (r : ℕ). list_any (λ q. nat_eq r q) seen) (sym (same e.0 p at)) ∙ is)),
-        quiet.1)
+        subst (Quiet seen) (sym moved) (
+          λ is. absurd (false≢true (sym unseen
+              ∙ ap (λ (r : ℕ). list_any (λ q. nat_eq r q) seen) (sym (same e.0 p at)) ∙ is)),
+          quiet.1,
+        )
     by_test false at behind =
         let moved : with_row p new (e ∷ es) ≡ e ∷ with_row p new es = rw at refl in
         let other : nat_eq p e.0 ≡ false = turned p e.0 ∙ at in
-        subst (Quiet seen) (sym moved)
-        (quiet.0, behind (ap (λ (b : Bool). b || list_any (λ q. nat_eq p q) seen) other ∙ unseen)
-        quiet.1)
+        subst (Quiet seen) (sym moved) (
+          quiet.0,
+          behind (ap (λ (b : Bool). b || list_any (λ q. nat_eq p q) seen) other ∙ unseen)
+              quiet.1,
+        )
 
 pub quiet_after : (points : List (ℕ × Facts)) (own : Option (ℕ × PointEvent)) → Quiet [] points
     → Quiet [] (with_event points own)
 quiet_after points None quiet = quiet
-quiet_after points (Some x) quiet = quiet_with [] x.0 (after x.1 (facts_in points x.0)) points refl quiet
+quiet_after points (Some x) quiet = quiet_with [] x.0
+    (after x.1 (facts_in points x.0)) points refl quiet
 
 none_runs : (nozzles : List Nozzle) (p : ℕ) (f : Facts) → is_under_way f.state ≡ false
     → running_at nozzles p f ≡ volume_of f

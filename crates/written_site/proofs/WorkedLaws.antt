@@ -1,14 +1,16 @@
--- The laws at work on a day of the known site: diesel is sold at point 1 while its price changes, till 1
--- locks the sale and lets it go, till 2 locks it and clears it, and the shift is closed. No law is
--- empty: each has its premise met here.
-use Rattle.std.proofs.Common.{◌≡◌, ◌≢◌, ℕ, ◌+◌, Bool, true, false, List, [], ◌∷◌, ◌++◌, Option, Some, None, Ok, is_some, refl, sym, ap, ◌∙◌, arith}
+-- The laws at work on a day of the known site: diesel is sold at point 1 while its price changes,
+-- till 1 locks the sale and lets it go, till 2 locks it and clears it, and the shift is closed. No
+-- law is empty: each has its premise met here.
+use Rattle.std.proofs.Common.{◌≡◌, ◌≢◌, ℕ, ◌+◌, true, false, List, [], ◌∷◌, ◌++◌, Some, Ok, is_some, refl, sym, ap, arith}
 use Rattle.std.proofs.lemmas.Bool.Decides.{nat_tests}
 use Rattle.std.specs.List.{list_any}
-use Rattle.site_base.specs.declared.answer.Answer.TheVariants.{Done, Start, Sold, Locked, Unlocked, Cleared, ShiftClosed}
-use Rattle.site_base.specs.declared.event.Event.TheVariants.{SignOn, Open, Release, Prepay, Lock, Unlock, Clear, SetPrice, CloseShift, Lift, HangUp}
+use Rattle.site_base.specs.declared.answer.Answer.TheVariants.{Done, Start, Flowed, Sold, Drawn, Locked, Unlocked, Cleared, ShiftClosed}
+use Rattle.site_base.specs.declared.event.Event.TheVariants.{SignOn, Open, Release, Prepay, TestRelease, Lock, Unlock, Clear, SetPrice, CloseShift, Lift, Flow, HangUp}
 use Rattle.site_base.specs.declared.row.Row.{Row}
 use Rattle.site_base.specs.declared.state.Preset.TheVariants.{Unset, Money}
 use Rattle.site_base.specs.declared.state.Status.TheVariants as statuses
+use Rattle.fuelling_point.specs.History.{point_after}
+use Rattle.fuelling_point.specs.Kept.{Facts}
 use Rattle.meters.specs.Metered.{every_product, metered_by, product_total}
 use Rattle.meters.specs.Nozzles.{Nozzle, nozzle_of}
 use Rattle.transaction_buffer.specs.Sales.{Key, key}
@@ -16,24 +18,28 @@ use Rattle.transaction_buffer.specs.Sums.{volume_by}
 use Rattle.transaction_buffer.specs.TransactionTable.{locker_of}
 use Rattle.written_site.specs.FuellingLaws.{IsKeptAsRead, IsPricedAtStart}
 use Rattle.written_site.specs.FuellingWords.{price_read}
-use Rattle.written_site.specs.FitLaws.{AreReadable, HasFitFigures}
+use Rattle.written_site.specs.FitLaws.{HasFitFigures}
 use Rattle.written_site.specs.Histories.{Moment, moments_after, moments_of}
 use Rattle.written_site.specs.MeterLaws.{read_after}
 use Rattle.written_site.specs.NumberLaws.{sells_in}
+use Rattle.written_site.specs.PointLaws.{own_events}
 use Rattle.written_site.specs.RowWords.{count}
-use Rattle.written_site.specs.SaleWords.{locks_sale, lets_go, ends_lock, clears_sale, sold_as}
-use Rattle.written_site.specs.ShiftFigures.{clears_in, cents_in}
+use Rattle.written_site.specs.SaleWords.{locks_sale, lets_go, ends_lock, clears_sale}
+use Rattle.written_site.specs.ShiftFigures.{clears_in, cents_in, cleared_in, shift_drawn}
 use Rattle.written_site.specs.SiteRun.{site_of_rows, IsLegal}
-use Rattle.written_site.specs.SiteState.{SiteState, opening, is_signed_on, open_shift}
+use Rattle.written_site.specs.SiteState.{SiteState, opening, facts_of, is_signed_on, open_shift}
 use Rattle.written_site.specs.SiteStep.{site_after}
 use Rattle.written_site.specs.Slots.{IsLastTake}
 use Rattle.written_site.specs.Sound.{IsFit}
 use Rattle.written_site.specs.Volumes.{running, adjusted}
+use Rattle.written_site.proofs.ClearedLaws.{volumes_cleared}
+use Rattle.written_site.proofs.DrawLaws.{draws_counted}
 use Rattle.written_site.proofs.FitLaws.{every_figure_fits}
 use Rattle.written_site.proofs.FuellingLaws.{sales_kept, priced_at_start}
 use Rattle.written_site.proofs.LockLaws.{locked_by_one, cleared_once}
 use Rattle.written_site.proofs.MeterLaws.{meters_read}
 use Rattle.written_site.proofs.NumberLaws.{numbered}
+use Rattle.written_site.proofs.PointLaws.{points_their_own}
 use Rattle.written_site.proofs.ShiftLaws.{clears_counted}
 use Rattle.written_site.proofs.SigningLaws.{signed_on_by_rows, shift_by_rows}
 use Rattle.written_site.proofs.SlotRows.{moment_at}
@@ -92,7 +98,8 @@ here earlier r = moment_at earlier (site_of_rows (opening known_site) earlier) r
 
 abbrev then_on : List Row → Row → List Row → List Moment
 then_on earlier r later =
-    moments_after (earlier ++ r ∷ []) (site_after (site_of_rows (opening known_site) earlier) r.actor r.event)
+    moments_after (earlier ++ r ∷ []) (site_after
+    (site_of_rows (opening known_site) earlier) r.actor r.event)
     later
 
 -- ---- who is signed on, and which shift is open
@@ -124,10 +131,12 @@ let_go_between : list_any (lets_go first_sale 1) (here (to_lock_1 ++ locks_1 ∷
     ≡ true
 let_go_between =
     (locked_by_one known_site day day_is_legal).one first_sale 1 2 (so_far to_lock_1)
-    (here (to_lock_1 ++ locks_1 ∷ []) unlocks_1 ∷ []) (then_on to_lock_2 locks_2 (clears_2 ∷ closes ∷ []))
+    (here (to_lock_1 ++ locks_1 ∷ []) unlocks_1 ∷ [])
+    (then_on to_lock_2 locks_2 (clears_2 ∷ closes ∷ []))
     (here to_lock_1 locks_1) (here to_lock_2 locks_2) refl refl refl differ
 
-cleared_by_its_locker : IsLastTake (locks_sale first_sale) (ends_lock first_sale) 2 (so_far to_clear)
+cleared_by_its_locker : IsLastTake (locks_sale first_sale) (ends_lock first_sale) 2
+    (so_far to_clear)
 cleared_by_its_locker =
     (cleared_once known_site day day_is_legal).locked first_sale 2 (so_far to_clear)
     (then_on to_clear clears_2 (closes ∷ [])) (here to_clear clears_2) refl refl
@@ -148,7 +157,8 @@ its_number =
 
 -- ---- the sale, as its fuelling was told
 
-stands_in_the_evening : IsKeptAsRead known_site (so_far fuelled) (here fuelled sells) first_sale evening
+stands_in_the_evening : IsKeptAsRead known_site (so_far fuelled)
+    (here fuelled sells) first_sale evening
 stands_in_the_evening =
     (sales_kept known_site day day_is_legal).stands first_sale (so_far fuelled)
     (then_on fuelled sells (locks_1 ∷ unlocks_1 ∷ locks_2 ∷ clears_2 ∷ closes ∷ []))
@@ -173,7 +183,8 @@ price_raised = refl
 answered_with_its_cents : clears_2.reply ≡ Ok (Cleared stands_in_the_evening.sale.cents)
 answered_with_its_cents =
     (sales_kept known_site day day_is_legal).cleared first_sale 2 (so_far to_clear)
-    (then_on to_clear clears_2 (closes ∷ [])) (here to_clear clears_2) stands_in_the_evening.sale refl
+    (then_on to_clear clears_2 (closes ∷ [])) (here to_clear clears_2) stands_in_the_evening.sale
+    refl
     refl stands_in_the_evening.there
 
 -- a prepaid sale is locked for the till that took the money, by the row that sells it
@@ -212,10 +223,13 @@ nozzle_reads x is = ((meters_read known_site day day_is_legal).nozzles 1 1 x is)
 all_is_metered : metered_by every_product evening.nozzles ≡ 10000
 all_is_metered = sym (volumes_conserved known_site day day_is_legal).grown
 
-diesel_is_conserved : product_total 1 evening.nozzles
-    ≡ running evening 1 + volume_by 1 statuses.Payable evening.sales
+diesel_is_metered : product_total 1 evening.nozzles ≡ 10000
+diesel_is_metered = (volumes_conserved known_site day day_is_legal).metered 1
+
+diesel_is_conserved : ◌≡◌ {A = ℕ} 10000
+    (running evening 1 + volume_by 1 statuses.Payable evening.sales
     + volume_by 1 statuses.Locked evening.sales + volume_by 1 statuses.Cleared evening.sales
-    + adjusted evening 1
+    + adjusted evening 1)
 diesel_is_conserved =
     (volumes_conserved known_site day day_is_legal).conserved 1 (omega arith) (omega arith)
 
@@ -227,6 +241,38 @@ till_2_cleared_cents = (clears_counted known_site day day_is_legal).cents 1 2
 
 none_in_shift_2 : clears_in 2 2 evening.sales ≡ 0
 none_in_shift_2 = (clears_counted known_site day day_is_legal).clears 2 2
+
+diesel_cleared : cleared_in 1 1 evening.sales ≡ 10000
+diesel_cleared = (volumes_cleared known_site day day_is_legal).cleared 1 1
+
+-- a test of diesel at point 1 is drawn in shift 2, which the closed one precedes
+abbrev tested : List Row
+tested =
+    t1 SignOn (Ok Done)
+    ∷ t1 (Open 1) (Ok Done)
+    ∷ t1 CloseShift (Ok (ShiftClosed 1))
+    ∷ t1 (TestRelease 1) (Ok Done)
+    ∷ d1 (Lift 1 1 0) (Ok (Start Unset 1500))
+    ∷ d1 (Flow 1 1 4000) (Ok (Flowed 4000))
+    ∷ d1 (HangUp 1 1 5000) (Ok (Drawn 1000))
+    ∷ []
+
+tested_is_legal : IsLegal (opening known_site) tested
+tested_is_legal = legal (opening known_site) tested (simp kit)
+
+drawn_in_shift_2 : shift_drawn (site_of_rows (opening known_site) tested) 2 1 ≡ 5000
+drawn_in_shift_2 =
+    (draws_counted known_site tested tested_is_legal).shifts 2 1 (omega arith) (omega arith)
+
+none_drawn_in_shift_1 : shift_drawn (site_of_rows (opening known_site) tested) 1 1 ≡ 0
+none_drawn_in_shift_1 =
+    (draws_counted known_site tested tested_is_legal).shifts 1 1 (omega arith) (omega arith)
+
+-- so is the point what its own events make of a new one
+idle_again : (facts_of (site_of_rows (opening known_site) tested) 1).state
+    ≡ (point_after (own_events 1 (moments_of known_site tested))).state
+idle_again = ap (λ (f : Facts). f.state) ((points_their_own known_site tested tested_is_legal).facts
+    1)
 
 known_site_is_fit : IsFit known_site
 known_site_is_fit = record { site = refl; products = refl; prices = refl; readings = refl }

@@ -19,8 +19,8 @@ abbrev pub tells_drawn : Result Answer Refusal → Bool
 tells_drawn (Ok (Drawn growth)) = true
 tells_drawn reply = false
 
--- the millilitres that these moments tell of point p since it last started a fuelling; where none does,
--- these v with all of theirs
+-- the millilitres that these moments tell of point p since it last started a fuelling; where none
+-- does, these v with all of theirs
 abbrev pub run_of : ℕ → ℕ → List Moment → ℕ
 run_of p v [] = v
 run_of p v (m ∷ ms) = run_of p (if starts p m then 0 else v + growth_at p m) ms
@@ -39,8 +39,8 @@ draws_at c q None m = 0
 draws_at c q (Some p) m =
     if tells_drawn m.row.reply && product_read c p m.earlier == q then run_at c p m else 0
 
--- the millilitres of product q that a moment draws: where it is answered Drawn, those of the test that
--- is over
+-- the millilitres of product q that a moment draws: where it is answered Drawn, those of the test
+-- that is over
 abbrev pub drawn_for : Configured → ℕ → Moment → ℕ
 drawn_for c q m = draws_at c q (point_named m.row.event) m
 
@@ -48,8 +48,8 @@ drawn_for c q m = draws_at c q (point_named m.row.event) m
 abbrev pub drawn_while : Configured → ℕ → ℕ → Moment → ℕ
 drawn_while c h q m = if open_after m.earlier == h then drawn_for c q m else 0
 
--- For each product number that a product may have: what tests drew of it in a shift is what the Drawn
--- answers tell while the shift is open, and what they drew in all is what all of them tell.
+-- For each product number that a product may have: what tests drew of it in a shift is what the
+-- Drawn answers tell while the shift is open, and what they drew in all is what all of them tell.
 pub record AreDrawsCounted (c : Configured) (rows : List Row) (s : SiteState) : Type 0 where
   pub shifts : (h q : ℕ) → 1 ≤ q → q ≤ PRODUCTS
       → shift_drawn s h q ≡ total (drawn_while c h q) (moments_of c rows)

@@ -11,8 +11,8 @@ use Rattle.written_site.specs.SiteState.{SiteState}
 use Rattle.written_site.specs.Sound.{InRange, IsFit}
 use Rattle.written_site.specs.Volumes.{running, adjusted}
 
--- the volumes of product q fit in 64 bits: what was metered, what is in fuellings under way, in sales of
--- each status, and in draws
+-- the volumes of product q fit in 64 bits: what was metered, what is in fuellings under way, in
+-- sales of each status, and in draws
 pub record DoVolumesFit (s : SiteState) (q : ℕ) : Type 0 where
   pub metered : product_total q s.nozzles < 2 ^ 64
   pub running : running s q < 2 ^ 64

@@ -17,8 +17,8 @@ cents_paid (Some release) = release.prepaid
 
 -- A sale of this name that moment m tells after these moments. A fuelling of its point went on, and
 -- the sale has its price, the product of its nozzle, the millilitres that flowed in it, those of m
--- among them, the amount of these at that price, and the cents of the Prepay that released the point,
--- if one did.
+-- among them, the amount of these at that price, and the cents of the Prepay that released the
+-- point, if one did.
 pub record IsSoldAsRead (c : Configured) (before : List Moment) (m : Moment) (k : Key) (x : Sale)
     : Type 0 where
   pub nozzle : ℕ
@@ -30,15 +30,16 @@ pub record IsSoldAsRead (c : Configured) (before : List Moment) (m : Moment) (k 
   pub prepaid : x.prepaid ≡ cents_paid (release_after k.point m.earlier)
 
 -- the sale of this name stands at the site, as it was told
-pub record IsKeptAsRead (c : Configured) (before : List Moment) (m : Moment) (k : Key) (s : SiteState)
+pub record IsKeptAsRead (c : Configured) (before : List Moment) (m : Moment) (k : Key)
+    (s : SiteState)
     : Type 0 where
   pub sale : Sale
   pub there : sale_of k s.sales ≡ Some sale
   pub as_read : IsSoldAsRead c before m k sale
 
--- After a row that tells a sale the sale stands for good, as it was told: at the price that its product
--- had before its fuelling started, whatever prices were given since. A clear of it is answered with its
--- cents.
+-- After a row that tells a sale the sale stands for good, as it was told: at the price that its
+-- product had before its fuelling started, whatever prices were given since. A clear of it is
+-- answered with its cents.
 pub record AreSalesKept (c : Configured) (rows : List Row) (s : SiteState) : Type 0 where
   pub stands : (k : Key) (before since : List Moment) (m : Moment)
       → moments_of c rows ≡ before ++ m ∷ since → sold_as m ≡ Some k
@@ -48,7 +49,8 @@ pub record AreSalesKept (c : Configured) (rows : List Row) (s : SiteState) : Typ
       → sale_of k s.sales ≡ Some x → m.row.reply ≡ Ok (Cleared x.cents)
 
 -- a fuelling of point p goes on at the end of these moments, and took this price at its start
-pub record IsPricedAtStart (c : Configured) (p : ℕ) (moments : List Moment) (price : ℕ) : Type 0 where
+pub record IsPricedAtStart (c : Configured) (p : ℕ) (moments : List Moment)
+    (price : ℕ) : Type 0 where
   pub nozzle : ℕ
   pub flowed : ℕ
   pub fuelling : HasFuelling c p moments nozzle price flowed

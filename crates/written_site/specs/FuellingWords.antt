@@ -1,5 +1,5 @@
--- What rows say of fuellings: the nozzle that is out, today's prices, which row starts a fuelling and
--- which ends it, and how much flows in it.
+-- What rows say of fuellings: the nozzle that is out, today's prices, which row starts a fuelling
+-- and which ends it, and how much flows in it.
 use Rattle.std.specs.Prelude.{◌≡◌, ℕ, Bool, true, false, ◌&&◌, ◌||◌, ◌==◌, if◌then◌else◌, List, [], ◌∷◌, ◌++◌, Option, option_and_then, Some, None, is_some, unwrap_or, Result, Ok, is_ok}
 use Rattle.std.specs.List.{list_any}
 use Rattle.site_base.specs.declared.answer.Answer.{Answer}
@@ -20,8 +20,8 @@ use Rattle.written_site.specs.SaleWords.{release_of}
 
 -- ---- the nozzle that is out
 
--- what such an event, once accepted, says of the nozzle that is out at the point: a Lift takes it out,
--- a HangUp puts it back, and an Offline forgets it
+-- what such an event, once accepted, says of the nozzle that is out at the point: a Lift takes it
+-- out, a HangUp puts it back, and an Offline forgets it
 abbrev pub nozzle_said : ℕ → Event → Option (Option ℕ)
 nozzle_said p (Lift q n reading) = if q == p then Some (Some n) else None
 nozzle_said p (HangUp q n reading) = if q == p then Some None else None
@@ -53,7 +53,8 @@ calling_said p event reply = None
 abbrev pub calling_of_row : ℕ → Row → Option Bool
 calling_of_row p r = if is_ok r.reply then calling_said p r.event r.reply else None
 
--- the point's last accepted Lift was answered Calling, and neither a HangUp nor an Offline followed it
+-- the point's last accepted Lift was answered Calling, and neither a HangUp nor an Offline followed
+-- it
 abbrev pub calls_after : ℕ → List Row → Bool
 calls_after p rows = unwrap_or (latest (calling_of_row p) rows) false
 
@@ -75,8 +76,8 @@ price_after c q rows = last_said (row_of q (prices_of c.products)) (latest (pric
 abbrev pub product_at : Configured → ℕ → ℕ → Option ℕ
 product_at c p n = product_of p n (opening_nozzles c)
 
--- the price of that nozzle's product. A nozzle without a product that has a price, which no site file
--- configures, delivers at the least price.
+-- the price of that nozzle's product. A nozzle without a product that has a price, which no site
+-- file configures, delivers at the least price.
 abbrev pub price_read : Configured → ℕ → ℕ → List Row → ℕ
 price_read c p n rows = unwrap_or (option_and_then (λ q. price_after c q rows) (product_at c p n)) 1
 
@@ -87,8 +88,8 @@ abbrev pub is_started : ℕ → Event → Result Answer Refusal → Bool
 is_started p (Lift q n reading) reply = q == p && tells_start reply
 is_started p event reply = false
 
--- a moment starts a fuelling of the point: by a Lift that is answered Start, or by an accepted Release,
--- Prepay or TestRelease while the point calls
+-- a moment starts a fuelling of the point: by a Lift that is answered Start, or by an accepted
+-- Release, Prepay or TestRelease while the point calls
 abbrev pub starts : ℕ → Moment → Bool
 starts p m =
     is_started p m.row.event m.row.reply
@@ -108,9 +109,9 @@ ends_at p m = is_ok m.row.reply && end_said p m.row.event
 abbrev pub growth_at : ℕ → Moment → ℕ
 growth_at p m = if names_point p (point_named m.row.event) then growth_told m.row.reply else 0
 
--- A fuelling of point p goes on at the end of these moments: one of them started it, and none since has
--- ended it. This nozzle was out as it started, the price is the one that its product had before, and so
--- much has flowed since.
+-- A fuelling of point p goes on at the end of these moments: one of them started it, and none since
+-- has ended it. This nozzle was out as it started, the price is the one that its product had
+-- before, and so much has flowed since.
 pub record HasFuelling (c : Configured) (p : ℕ) (moments : List Moment) (nozzle price volume : ℕ)
     : Type 0 where
   pub before : List Moment

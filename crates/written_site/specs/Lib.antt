@@ -25,3 +25,5 @@ pub mod ShiftLaws
 pub mod VolumeLaws
 pub mod PointLaws
 pub mod DrawLaws
+pub mod ClearedLaws
+pub mod MeteredRows

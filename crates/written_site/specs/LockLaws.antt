@@ -10,9 +10,9 @@ use Rattle.written_site.specs.Histories.{Moment, moments_of}
 use Rattle.written_site.specs.SaleWords.{locks_sale, lets_go, ends_lock, clears_sale}
 use Rattle.written_site.specs.Slots.{IsLastTake}
 
--- Between rows that lock a transaction for two different tills stands an Unlock of it by the first, or
--- its SignOff. The locks of the site are exactly the locking rows that no accepted Unlock or Clear of
--- the transaction and no SignOff of that till follows.
+-- Between rows that lock a transaction for two different tills stands an Unlock of it by the first,
+-- or its SignOff. The locks of the site are exactly the locking rows that no accepted Unlock or
+-- Clear of the transaction and no SignOff of that till follows.
 pub record AreLockedByOne (c : Configured) (rows : List Row) (s : SiteState) : Type 0 where
   pub one : (k : Key) (t u : ℕ) (before between since : List Moment) (first second : Moment)
       → moments_of c rows ≡ before ++ first ∷ between ++ second ∷ since
@@ -22,8 +22,8 @@ pub record AreLockedByOne (c : Configured) (rows : List Row) (s : SiteState) : T
       → (locker_of k s.sales ≡ Some t)
       ↔ IsLastTake (locks_sale k) (ends_lock k) t (moments_of c rows)
 
--- No transaction is cleared twice. The till that clears one is the last for which a row locked it, and
--- that lock hasn't ended.
+-- No transaction is cleared twice. The till that clears one is the last for which a row locked it,
+-- and that lock hasn't ended.
 pub record AreClearedOnce (c : Configured) (rows : List Row) (s : SiteState) : Type 0 where
   pub once : (k : Key) (t : ℕ) (before since : List Moment) (m : Moment)
       → moments_of c rows ≡ before ++ m ∷ since → clears_sale k m ≡ Some t

@@ -1,6 +1,6 @@
--- The meters of a site, as rows tell them: with which reading each began, its last accepted reading, how
--- often a nozzle's meter was replaced, and what its earlier meters counted.
-use Rattle.std.specs.Prelude.{◌≡◌, ℕ, ◌+◌, ◌-◌, Bool, false, ◌&&◌, ◌==◌, if◌then◌else◌, List, Option, Some, None, unwrap_or, is_ok}
+-- The meters of a site, as rows tell them: with which reading each began, its last accepted
+-- reading, how often a nozzle's meter was replaced, and what its earlier meters counted.
+use Rattle.std.specs.Prelude.{◌≡◌, ℕ, ◌-◌, Bool, false, ◌&&◌, ◌==◌, if◌then◌else◌, List, Option, Some, None, unwrap_or, is_ok}
 use Rattle.site_base.specs.declared.event.Event.{Event}
 use Rattle.site_base.specs.declared.event.Event.TheVariants.{ReplaceMeter, Lift, Flow, HangUp}
 use Rattle.site_base.specs.declared.row.Row.{Row}
@@ -48,8 +48,8 @@ abbrev pub began_after : Configured → ℕ → ℕ → List Row → ℕ
 began_after c p n rows =
     unwrap_or (latest (begun_of_row p n) rows) (reading_of p n (opening_nozzles c))
 
--- the last accepted reading of the nozzle's meter: of a Lift, Flow or HangUp, else the one with which it
--- began
+-- the last accepted reading of the nozzle's meter: of a Lift, Flow or HangUp, else the one with
+-- which it began
 abbrev pub read_after : Configured → ℕ → ℕ → List Row → ℕ
 read_after c p n rows =
     unwrap_or (latest (read_of_row p n) rows) (reading_of p n (opening_nozzles c))

@@ -1,5 +1,5 @@
--- The laws of room and numbers: a sale finds both, and its number is the next one of its point in its
--- shift.
+-- The laws of room and numbers: a sale finds both, and its number is the next one of its point in
+-- its shift.
 use Rattle.std.specs.Prelude.{◌≡◌, ℕ, ◌+◌, ◌<◌, ◌≤◌, Bool, false, ◌&&◌, ◌==◌, List, ◌∷◌, ◌++◌, Option, Some, None}
 use Rattle.site_base.specs.declared.limits.TheConstants.{GREATEST_SEQ, UNPAID_LIMIT}
 use Rattle.site_base.specs.declared.row.Row.{Row}
@@ -20,8 +20,8 @@ abbrev pub sells_in : ℕ → ℕ → Moment → Bool
 sells_in p h m = is_key_of p h (sold_as m)
 
 -- The sales of a point in a shift are told under the numbers 1, 2, 3 and so on, none above the
--- greatest. Before each of them fewer of the point's sales are unpaid than may be, and never are more
--- unpaid than may be.
+-- greatest. Before each of them fewer of the point's sales are unpaid than may be, and never are
+-- more unpaid than may be.
 pub record AreNumbered (c : Configured) (rows : List Row) (s : SiteState) : Type 0 where
   pub next : (k : Key) (before since : List Moment) (m : Moment)
       → moments_of c rows ≡ before ++ m ∷ since → sold_as m ≡ Some k

@@ -27,9 +27,9 @@ abbrev pub own_events : ℕ → List Moment → List PointEvent
 own_events p [] = []
 own_events p (m ∷ ms) = added (own_of p m) (own_events p ms)
 
--- What a point keeps is what its own events make of a new point, one after another, at the end and before
--- each of them; and it accepts each of them. So whatever holds of every point that began as a new one,
--- for any list of its events, holds of each point of the site.
+-- What a point keeps is what its own events make of a new point, one after another, at the end and
+-- before each of them; and it accepts each of them. So whatever holds of every point that began as
+-- a new one, for any list of its events, holds of each point of the site.
 pub record ArePointsTheirOwn (c : Configured) (rows : List Row) (s : SiteState) : Type 0 where
   pub facts : (p : ℕ) → facts_of s p ≡ point_after (own_events p (moments_of c rows))
   pub before : (p : ℕ) (before since : List Moment) (m : Moment) (event : PointEvent)

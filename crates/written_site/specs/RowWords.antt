@@ -1,5 +1,5 @@
--- What rows say, one after another: the last that a row says, what all of them add up to, which tills
--- are signed on, which shift is open, and how a law of histories is stated.
+-- What rows say, one after another: the last that a row says, what all of them add up to, which
+-- tills are signed on, which shift is open, and how a law of histories is stated.
 use Rattle.std.specs.Prelude.{◌≡◌, ℕ, ◌+◌, Bool, true, false, ◌==◌, if◌then◌else◌, List, [], ◌∷◌, ◌++◌, Option, Some, None, is_some, unwrap_or, is_ok}
 use Rattle.std.specs.List.{list_any}
 use Rattle.site_base.specs.declared.actor.Actor.{Actor}
@@ -11,8 +11,8 @@ use Rattle.site_base.specs.Configured.{Configured}
 use Rattle.written_site.specs.SiteState.{SiteState, opening}
 use Rattle.written_site.specs.SiteRun.{rows_of, site_at_end, site_of_rows, IsLegal}
 
--- it is so for every list of events from the opening site of any configuration: of the configuration,
--- the rows that the events make, and the site that they lead to
+-- it is so for every list of events from the opening site of any configuration: of the
+-- configuration, the rows that the events make, and the site that they lead to
 abbrev pub OfEvents : (Configured → List Row → SiteState → Type 0) → Type 0
 OfEvents Law = (c : Configured) (events : List (Actor × Event))
     → Law c (rows_of (opening c) events) (site_at_end (opening c) events)
@@ -73,6 +73,7 @@ is_close event = false
 abbrev pub closes_shift : Row → Bool
 closes_shift r = if is_ok r.reply then is_close r.event else false
 
--- the number of the shift that is open after these rows: 1, and 1 more for each shift that they close
+-- the number of the shift that is open after these rows: 1, and 1 more for each shift that they
+-- close
 abbrev pub open_after : List Row → ℕ
 open_after rows = 1 + count closes_shift rows

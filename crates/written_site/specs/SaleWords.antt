@@ -1,6 +1,6 @@
--- What rows say of transactions: how they are named, who released the point that sold one, which row
--- sells, locks, unlocks or clears one.
-use Rattle.std.specs.Prelude.{ℕ, Bool, true, false, ◌&&◌, ◌==◌, if◌then◌else◌, List, Option, Some, None, is_some, unwrap_or, Result, Ok, is_ok}
+-- What rows say of transactions: how they are named, who released the point that sold one, which
+-- row sells, locks, unlocks or clears one.
+use Rattle.std.specs.Prelude.{ℕ, Bool, false, ◌&&◌, ◌==◌, if◌then◌else◌, List, Option, Some, None, is_some, unwrap_or, Result, Ok, is_ok}
 use Rattle.site_base.specs.declared.actor.Actor.{Actor}
 use Rattle.site_base.specs.declared.actor.Actor.TheVariants.{Till}
 use Rattle.site_base.specs.declared.answer.Answer.{Answer}
@@ -50,8 +50,8 @@ abbrev pub number_sold : Result Answer Refusal → Option ℕ
 number_sold (Ok (Sold number growth)) = Some number
 number_sold reply = None
 
--- the name of the sale of a point that is told under this number after these rows: it is of the shift
--- that is open
+-- the name of the sale of a point that is told under this number after these rows: it is of the
+-- shift that is open
 abbrev pub key_sold : List Row → Option ℕ → Option ℕ → Option Key
 key_sold earlier (Some p) (Some number) = Some (key (open_after earlier) p number)
 key_sold earlier point number = None
@@ -75,16 +75,17 @@ lock_sold k earlier None = None
 lock_sold k earlier (Some j) =
     if same_key k j then locker_from earlier (release_after j.point earlier) else None
 
--- the till for which such an event, once accepted with this reply, locks transaction k: a Lock for the
--- till that asks for it; any other, where it sells the transaction locked
+-- the till for which such an event, once accepted with this reply, locks transaction k: a Lock for
+-- the till that asks for it; any other, where it sells the transaction locked
 abbrev pub lock_said : Key → List Row → Actor → Event → Result Answer Refusal → Option ℕ
 lock_said k earlier (Till t) (Lock p id) reply =
     if same_key k (key_after earlier p id) then Some t else None
 lock_said k earlier actor event reply =
     lock_sold k earlier (key_sold earlier (point_named event) (number_sold reply))
 
--- a moment locks transaction k for a till: by the till's accepted Lock, or as it sells it from a point
--- whose last accepted Release, Prepay or TestRelease is the Prepay of a till that is signed on
+-- a moment locks transaction k for a till: by the till's accepted Lock, or as it sells it from a
+-- point whose last accepted Release, Prepay or TestRelease is the Prepay of a till that is signed
+-- on
 abbrev pub locks_sale : Key → Moment → Option ℕ
 locks_sale k m =
     if is_ok m.row.reply then lock_said k m.earlier m.row.actor m.row.event m.row.reply else None

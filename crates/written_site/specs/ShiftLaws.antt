@@ -36,9 +36,9 @@ clears_while h t m = open_after m.earlier == h && clears_for t m
 abbrev pub cents_while : ℕ → ℕ → Moment → ℕ
 cents_while h t m = if open_after m.earlier == h then cents_for t m else 0
 
--- For each till and shift: how many sales it cleared and their cents are those of its Cleared answers
--- between the accepted CloseShifts that open and close the shift; over all shifts, those of all its
--- Cleared answers.
+-- For each till and shift: how many sales it cleared and their cents are those of its Cleared
+-- answers between the accepted CloseShifts that open and close the shift; over all shifts, those of
+-- all its Cleared answers.
 pub record AreClearsCounted (c : Configured) (rows : List Row) (s : SiteState) : Type 0 where
   pub clears : (h t : ℕ) → clears_in h t s.sales ≡ count (clears_while h t) (moments_of c rows)
   pub cents : (h t : ℕ) → cents_in h t s.sales ≡ total (cents_while h t) (moments_of c rows)

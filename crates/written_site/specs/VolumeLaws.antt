@@ -7,16 +7,19 @@ use Rattle.site_base.specs.Configured.{Configured}
 use Rattle.site_base.specs.Events.{growth_told}
 use Rattle.meters.specs.Metered.{every_product, metered_by, product_total}
 use Rattle.transaction_buffer.specs.Sums.{volume_by}
+use Rattle.written_site.specs.MeteredRows.{metered_rows}
 use Rattle.written_site.specs.RowWords.{total}
 use Rattle.written_site.specs.SiteState.{SiteState}
 use Rattle.written_site.specs.Volumes.{running, adjusted}
 
--- For each product number that a product may have: what the meters of the product's nozzles have
--- counted is in the fuellings under way, in sales that are payable, locked or cleared, and in draws.
--- The growths that the rows tell add up to what all meters have counted.
+-- What the site shows as metered of a product is what the rows tell of its nozzles' meters. For
+-- each product number that a product may have, this is in the fuellings under way, in sales that
+-- are payable, locked or cleared, and in draws. The growths that the rows tell add up to what all
+-- meters have counted.
 pub record AreVolumesConserved (c : Configured) (rows : List Row) (s : SiteState) : Type 0 where
+  pub metered : (q : ℕ) → product_total q s.nozzles ≡ metered_rows c q rows
   pub conserved : (q : ℕ) → 1 ≤ q → q ≤ PRODUCTS
-      → product_total q s.nozzles
+      → metered_rows c q rows
       ≡ running s q + volume_by q Payable s.sales + volume_by q Locked s.sales
       + volume_by q Cleared s.sales + adjusted s q
   pub grown : total (λ r. growth_told r.reply) rows ≡ metered_by every_product s.nozzles

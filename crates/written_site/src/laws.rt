@@ -9,15 +9,6 @@ mod selling;
 mod shifts;
 mod signing;
 
-pub use fitting::every_figure_fits;
-pub use metering::{meters_by_rows, volumes_are_conserved};
-pub use numbering::sales_are_numbered;
-pub use paying::{cleared_once, locked_by_one};
-pub use pointing::points_are_their_own;
-pub use selling::{priced_at_start, sales_are_kept};
-pub use shifts::clears_are_counted;
-pub use signing::{shift_by_rows, signed_on_by_rows};
-
 ghost use Rattle.written_site.specs.Bridge.{AreLegalHistoriesRuns};
 ghost use Rattle.written_site.specs.FigureSteps.{DoFiguresFit, DoFiguresMove};
 ghost use Rattle.written_site.specs.Holders.{IsHeldByOne, AreUnendedTakes, AreBooksHeldByOne};
@@ -26,22 +17,31 @@ ghost use Rattle.written_site.specs.Sound.{StaysSound};
 ghost use Rattle.written_site.specs.SoundRuns.{RunsStaySound};
 ghost use Rattle.written_site.specs.SoundSteps.{DoVolumesAddUp, FindsRoom};
 
+pub use fitting::every_figure_fits;
+pub use metering::{meters_by_rows, volumes_are_conserved};
+pub use numbering::sales_are_numbered;
+pub use paying::{cleared_once, locked_by_one};
+pub use pointing::points_are_their_own;
+pub use selling::{priced_at_start, sales_are_kept};
+pub use shifts::{clears_are_counted, draws_are_counted, volumes_cleared_are_counted};
+pub use signing::{shift_by_rows, signed_on_by_rows};
+
 /// An event that isn't refused has passed each of the checks.
 pub fn passes_each_check()
     ensures { PassesEachCheck }
 {}
 
-/// A legal history is what its events make: the rows are theirs, and so are the replies and the site that
-/// it leads to. What a list of events makes is a legal history of just these events.
+/// A legal history is what its events make: the rows are theirs, and so are the replies and the
+/// site that it leads to. What a list of events makes is a legal history of just these events.
 pub fn legal_histories_are_runs()
     ensures { AreLegalHistoriesRuns }
 {}
 
-/// For every list of events from the opening site of any configuration: between takes of a fuelling point
-/// by two different tills stands an end of the first one's hold. A take is an accepted Assign,
-/// Release, Prepay or TestRelease; an end is an accepted Unassign, the dispenser going Offline, an
-/// answer that tells that the release is taken back or the fuelling over, or the holder's sign-off
-/// while the point is closed, idle or calling.
+/// For every list of events from the opening site of any configuration: between takes of a fuelling
+/// point by two different tills stands an end of the first one's hold. A take is an accepted
+/// Assign, Release, Prepay or TestRelease; an end is an accepted Unassign, the dispenser going
+/// Offline, an answer that tells that the release is taken back or the fuelling over, or the
+/// holder's sign-off while the point is closed, idle or calling.
 pub fn held_by_one()
     ensures { IsHeldByOne }
 {}
@@ -66,24 +66,25 @@ pub fn stays_sound()
     ensures { StaysSound }
 {}
 
-/// From the opening site of each fit configuration, every list of events whose readings are in range
-/// leads to a sound site, whether they are accepted or refused.
+/// From the opening site of each fit configuration, every list of events whose readings are in
+/// range leads to a sound site, whether they are accepted or refused.
 pub fn runs_stay_sound()
     ensures { RunsStaySound }
 {}
 
-/// At a sound site, what the meters of a product have counted is in the fuellings under way, in sales
-/// that are payable, locked or cleared, and in draws, and fits in 64 bits. What flows in an event is
-/// metered and is in the fuelling; what is sold or drawn leaves the fuelling, and nothing else moves.
-/// A lock, an unlock and a clear move the volume of their transaction from one status to another.
+/// At a sound site, what the meters of a product have counted is in the fuellings under way, in
+/// sales that are payable, locked or cleared, and in draws, and fits in 64 bits. What flows in an
+/// event is metered and is in the fuelling; what is sold or drawn leaves the fuelling, and nothing
+/// else moves. A lock, an unlock and a clear move the volume of their transaction from one status
+/// to another.
 pub fn volumes_add_up()
     ensures { DoVolumesAddUp }
 {}
 
 /// At a sound site, what flows fits in its fuelling. Where a point sells, the sale is what the site
 /// reads of the fuelling: its nozzle, its volume and the price that it took; fewer of the point's
-/// sales are unpaid than may be, the open shift has a number left for it, and the sums fit in 64 bits
-/// with it. So do those of a draw.
+/// sales are unpaid than may be, the open shift has a number left for it, and the sums fit in 64
+/// bits with it. So do those of a draw.
 pub fn finds_room()
     ensures { FindsRoom }
 {}

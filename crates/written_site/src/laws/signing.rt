@@ -3,9 +3,9 @@
 ghost use Rattle.written_site.specs.RowWords.{OfEvents, OfBooks};
 ghost use Rattle.written_site.specs.SigningLaws.{AreSignedOnByRows, IsShiftByRows};
 
-/// After every list of events from the opening site of any configuration just the tills are signed on
-/// whose last accepted SignOn no accepted SignOff of theirs follows. So it is after the rows of every
-/// legal history.
+/// After every list of events from the opening site of any configuration just the tills are signed
+/// on whose last accepted SignOn no accepted SignOff of theirs follows. So it is after the rows of
+/// every legal history.
 pub fn signed_on_by_rows()
     ensures events { OfEvents AreSignedOnByRows }
     ensures books { OfBooks AreSignedOnByRows }
