@@ -73,3 +73,4 @@ pub mod RunRows
 pub mod DrawLaws
 pub mod ClearedLaws
 pub mod MeteredRows
+pub mod UnpaidRows
