@@ -74,3 +74,4 @@ pub mod DrawLaws
 pub mod ClearedLaws
 pub mod MeteredRows
 pub mod UnpaidRows
+pub mod TestLaws
