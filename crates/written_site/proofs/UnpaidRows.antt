@@ -40,15 +40,15 @@ use Rattle.written_site.proofs.ToldAnswers.{never_sold}
 -- ---- an accepted request
 
 -- a transaction is unpaid afterwards but for a clear
-abbrev pays : Request → Bool
+abbrev pub pays : Request → Bool
 pays (requests.Clear h) = true
 pays request = false
 
-abbrev unpaid_in : Result Line Refusal → Bool
+abbrev pub unpaid_in : Result Line Refusal → Bool
 unpaid_in (Ok l) = is_unpaid l.leaves
 unpaid_in (Err refusal) = true
 
-leaves_unpaid : (request : Request) (t cents : ℕ) (v : Seen)
+pub leaves_unpaid : (request : Request) (t cents : ℕ) (v : Seen)
     → refusal_in (line request t cents v) ≡ None
     → unpaid_in (line request t cents v) ≡ not (pays request)
 leaves_unpaid requests.Lock t cents payable accepted = refl
