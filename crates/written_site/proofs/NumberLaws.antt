@@ -264,7 +264,8 @@ record SellsAt (c : Configured) (before : List Moment) (m : Moment) (k : Key) : 
   may : MaySell m.before k.point
   made : k.number ≡ made_at k.point (open_shift m.before) m.before.sales + 1
 
-sells_at_name : (c : Configured) (rows : List Row) (before since : List Moment) (m : Moment) (k : Key)
+sells_at_name : (c : Configured) (rows : List Row) (before since : List Moment) (m : Moment)
+    (k : Key)
     → IsLegal (opening c) rows → moments_of c rows ≡ before ++ m ∷ since → sold_as m ≡ Some k
     → SellsAt c before m k
 sells_at_name c rows before since m k legal parts sold =
@@ -316,4 +317,5 @@ numbered c rows legal = record {
   where
     sells_here_at : (k : Key) (before since : List Moment) (m : Moment)
         → moments_of c rows ≡ before ++ m ∷ since → sold_as m ≡ Some k → SellsAt c before m k
-    sells_here_at k before since m parts sold = sells_at_name c rows before since m k legal parts sold
+    sells_here_at k before since m parts sold = sells_at_name c rows before since m k legal parts
+        sold

@@ -359,8 +359,10 @@ released_more earlier s r whole known replies =
         let other = no_release s r.actor r.event p event passes own none in
         let now = ap (λ (f : Facts). is_released f.state) (sym done) ∙ is in (
           released_after event (facts_of s p) other now,
-          (ap (λ (f : Facts). f.prepaid) done ∙ prepaid_stays event (facts_of s p) other now,
-          ap (λ (f : Facts). f.test) done ∙ test_stays event (facts_of s p) other now),
+          (
+            ap (λ (f : Facts). f.prepaid) done ∙ prepaid_stays event (facts_of s p) other now,
+            ap (λ (f : Facts). f.test) done ∙ test_stays event (facts_of s p) other now,
+          ),
         )
 
     by_said : Passed s r.actor r.event → (p : ℕ) → is_released (facts_of new p).state ≡ true

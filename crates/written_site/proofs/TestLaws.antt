@@ -1,5 +1,5 @@
 -- Tests are drawn and nothing else is, and each fuelling has one start, for every legal history.
-use Rattle.std.proofs.Common.{◌≡◌, ℕ, ◌==◌, ◌&&◌, ◌||◌, Bool, true, false, List, [], ◌∷◌, ◌++◌, Option, Some, None, is_some, unwrap_or, Ok, Err, ◌⊎◌, inl, inr, refl, sym, ap, subst, ◌∙◌}
+use Rattle.std.proofs.Common.{◌≡◌, ℕ, ◌&&◌, ◌||◌, Bool, true, false, List, [], ◌∷◌, ◌++◌, Option, Some, None, is_some, unwrap_or, Ok, ◌⊎◌, inl, inr, refl, sym, ap, subst, ◌∙◌}
 use Rattle.std.proofs.Common.{arith}
 use Rattle.std.proofs.lemmas.Bool.{false≢true}
 use Rattle.std.proofs.lemmas.Bool.Decides.{nat_tests}
@@ -8,8 +8,7 @@ use Rattle.std.proofs.lemmas.List.{append_assoc}
 use Rattle.std.specs.List.{list_any}
 use Rattle.site_base.specs.declared.actor.Actor.{Actor}
 use Rattle.site_base.specs.declared.event.Event.{Event}
-use Rattle.site_base.specs.declared.event.Event.TheVariants.{Terminate, Clear, ReadTransaction, ReadProduct, Lift, Flow, Offline, HangUp}
-use Rattle.site_base.specs.declared.refusal.Refusal.{Refusal}
+use Rattle.site_base.specs.declared.event.Event.TheVariants.{Offline, HangUp}
 use Rattle.site_base.specs.declared.row.Row.{Row}
 use Rattle.site_base.specs.declared.state.PointState.TheVariants as states
 use Rattle.site_base.specs.Configured.{Configured}
@@ -26,15 +25,15 @@ use Rattle.written_site.specs.DrawLaws.{tells_drawn}
 use Rattle.written_site.specs.FuellingWords.{calling_said, calling_of_row, calls_after, is_started, starts, end_said, ends_at, HasFuelling}
 use Rattle.written_site.specs.Histories.{Moment, moments_after, moments_of}
 use Rattle.written_site.specs.RowWords.{OfBooks, latest}
-use Rattle.written_site.specs.SaleWords.{release_of, release_said, sold_as}
+use Rattle.written_site.specs.SaleWords.{release_said, sold_as}
 use Rattle.written_site.specs.SiteChecks.{Passed, own_event, flowed}
 use Rattle.written_site.specs.SiteRun.{site_of_rows, IsLegal}
 use Rattle.written_site.specs.SiteState.{SiteState, opening, facts_in, facts_of}
-use Rattle.written_site.specs.SiteStep.{accepted_site, site_answer, step_at, step_told, points_after, reply_to, site_after}
+use Rattle.written_site.specs.SiteStep.{site_answer, step_at, step_told, points_after, reply_to, site_after}
 use Rattle.written_site.specs.TestLaws.{IsReleasedAs, IsDrawnAsRead, AreTestsApart}
 use Rattle.written_site.specs.Volumes.{nozzle_out}
 use Rattle.written_site.proofs.DrawLaws.{never_drawn}
-use Rattle.written_site.proofs.FuellingMoves.{calling_away, end_away}
+use Rattle.written_site.proofs.FuellingMoves.{calling_away}
 use Rattle.written_site.proofs.FuellingRows.{KnowsFuel, fuel_at}
 use Rattle.written_site.proofs.MomentRows.{head_is, placed}
 use Rattle.written_site.proofs.PointAfter.{FactsAfter, stays, moves, facts_after}
@@ -77,7 +76,8 @@ draws_by_step s a e p q growth event passes own named step is told = absurd cc
 draws_accepted : (s : SiteState) (a : Actor) (e : Event) (p : ℕ) → Passed s a e
     → point_named e ≡ Some p → tells_drawn (Ok (site_answer s e)) ≡ true → DrawsHere s e p
 draws_accepted s a (Offline q) p passes named told =
-    draws_by_step s a (Offline q) p q 0 points.Offline passes refl named (step_at s (Offline q)) refl
+    draws_by_step s a (Offline q) p q 0 points.Offline passes refl named
+    (step_at s (Offline q)) refl
     told
 draws_accepted s a (HangUp q n reading) p passes named told =
     draws_by_step s a (HangUp q n reading) p q (flowed s q n reading)

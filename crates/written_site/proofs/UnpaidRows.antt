@@ -1,5 +1,5 @@
 -- The unpaid sales of a point are those that rows sold and no row has cleared.
-use Rattle.std.proofs.Common.{◌≡◌, ℕ, ◌+◌, ◌==◌, ◌&&◌, not, Bool, true, false, cond, List, [], ◌∷◌, ◌++◌, Option, Some, None, Result, Ok, Err, refl, sym, ap, subst, ◌∙◌, if◌then◌else◌, arith}
+use Rattle.std.proofs.Common.{◌≡◌, ℕ, ◌+◌, ◌==◌, not, Bool, true, false, cond, List, [], ◌∷◌, ◌++◌, Option, Some, None, Result, Ok, Err, refl, sym, ap, ◌∙◌, if◌then◌else◌, arith}
 use Rattle.std.specs.FinMap.{get-empty}
 use Rattle.std.specs.Ordering.{nat_cmp}
 use Rattle.site_base.specs.declared.actor.Actor.{Actor}
@@ -22,19 +22,19 @@ use Rattle.transaction_buffer.proofs.Reading.{sales_at_insert}
 use Rattle.transaction_buffer.proofs.Rules.{accepted_unpaid}
 use Rattle.transaction_buffer.proofs.Unpaid.{unpaid_moved}
 use Rattle.written_site.specs.Histories.{Moment, moments_of}
-use Rattle.written_site.specs.NumberLaws.{is_key_at, sells_at, clear_at, clears_at}
+use Rattle.written_site.specs.NumberLaws.{is_key_at, sells_at, clears_at}
 use Rattle.written_site.specs.RowWords.{count}
 use Rattle.written_site.specs.SaleWords.{key_sold, number_sold}
 use Rattle.written_site.specs.SiteChecks.{Passed, flowed}
 use Rattle.written_site.specs.SiteRun.{site_of_rows, IsLegal}
 use Rattle.written_site.specs.SiteState.{SiteState, opening, facts_of, key_named, open_shift}
-use Rattle.written_site.specs.SiteStep.{accepted_site, site_answer, step_at, step_told, first_locker, nozzles_after, sales_after, sales_by, sale_made, reply_to, site_after}
+use Rattle.written_site.specs.SiteStep.{site_answer, step_at, step_told, first_locker, nozzles_after, sales_after, sales_by, sale_made, reply_to, site_after}
 use Rattle.written_site.proofs.FigureMoves.{new_unpaid}
 use Rattle.written_site.proofs.Histories.{site_of_rows-push}
 use Rattle.written_site.proofs.MomentRows.{moments_push}
 use Rattle.written_site.proofs.RowWords.{told_row, of_row, kept, total_push}
 use Rattle.written_site.proofs.SlotRows.{moment_at}
-use Rattle.written_site.proofs.SoundTables.{same, turned, itself}
+use Rattle.written_site.proofs.SoundTables.{same, turned}
 use Rattle.written_site.proofs.ToldAnswers.{never_sold}
 
 -- ---- an accepted request

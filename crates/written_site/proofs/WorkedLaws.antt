@@ -1,7 +1,7 @@
 -- The laws at work on a day of the known site: diesel is sold at point 1 while its price changes,
 -- till 1 locks the sale and lets it go, till 2 locks it and clears it, and the shift is closed. No
 -- law is empty: each has its premise met here.
-use Rattle.std.proofs.Common.{◌≡◌, ◌≢◌, ℕ, ◌+◌, true, false, List, [], ◌∷◌, ◌++◌, Some, Ok, is_some, refl, sym, ap, arith, Option, option_map, ◌∙◌, None, subst}
+use Rattle.std.proofs.Common.{◌≡◌, ◌≢◌, ℕ, ◌+◌, true, false, List, [], ◌∷◌, ◌++◌, Some, Ok, is_some, refl, sym, ap, arith, option_map, ◌∙◌, None, subst}
 use Rattle.std.proofs.lemmas.Bool.Decides.{nat_tests}
 use Rattle.std.specs.List.{list_any}
 use Rattle.site_base.specs.declared.answer.Answer.TheVariants.{Done, Start, Flowed, Sold, Drawn, Locked, Unlocked, Cleared, ShiftClosed}

@@ -25,7 +25,8 @@ pub record DoVolumesFit (s : SiteState) (q : ℕ) : Type 0 where
 abbrev pub AreReadable : List Row → Type 0
 AreReadable rows = AllByRecursion (λ r. InRange r.event) rows
 
--- every figure fits: what all meters have counted, the volumes of each product, and the figures of each shift and of all together
+-- every figure fits: what all meters have counted, the volumes of each product, and the figures of
+-- each shift and of all together
 pub record HasFitFigures (s : SiteState) : Type 0 where
   pub metered : metered_by every_product s.nozzles < 2 ^ 64
   pub volumes : (q : ℕ) → DoVolumesFit s q

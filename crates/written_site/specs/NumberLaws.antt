@@ -40,8 +40,8 @@ abbrev pub clears_at : ℕ → Moment → Bool
 clears_at p m = is_ok m.row.reply && clear_at p m.row.event
 
 -- The sales of a point in a shift are told under the numbers 1, 2, 3 and so on, none above the
--- greatest. Before each of them fewer of the point's sales have no clear yet than may be unpaid, and
--- never are there more. The unpaid sales of the site are those without a clear.
+-- greatest. Before each of them fewer of the point's sales have no clear yet than may be unpaid,
+-- and never are there more. The unpaid sales of the site are those without a clear.
 pub record AreNumbered (c : Configured) (rows : List Row) (s : SiteState) : Type 0 where
   pub next : (k : Key) (before since : List Moment) (m : Moment)
       → moments_of c rows ≡ before ++ m ∷ since → sold_as m ≡ Some k

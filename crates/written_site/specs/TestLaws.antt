@@ -26,8 +26,9 @@ pub record IsDrawnAsRead (c : Configured) (p : ℕ) (before : List Moment) (m : 
   pub fuelling : HasFuelling c p before nozzle price flowed
   pub released : IsReleasedAs true p m.earlier
 
--- A row sells only where the point's last accepted release isn't a TestRelease, and is answered Drawn
--- only where it is, and where a fuelling went on. Between two starts of a point stands an end of it.
+-- A row sells only where the point's last accepted release isn't a TestRelease, and is answered
+-- Drawn only where it is, and where a fuelling went on. Between two starts of a point stands an end
+-- of it.
 pub record AreTestsApart (c : Configured) (rows : List Row) (s : SiteState) : Type 0 where
   pub sold : (k : Key) (before since : List Moment) (m : Moment)
       → moments_of c rows ≡ before ++ m ∷ since → sold_as m ≡ Some k
