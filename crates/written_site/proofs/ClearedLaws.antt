@@ -1,5 +1,5 @@
 -- What was cleared of each product in a shift is what the rows tell, for every legal history.
-use Rattle.std.proofs.Common.{◌≡◌, ℕ, ◌+◌, ◌==◌, ◌&&◌, Bool, true, false, cond, List, [], ◌∷◌, ◌++◌, Option, option_map, Some, None, Result, Ok, Err, refl, sym, ap, ◌∙◌, if◌then◌else◌, arith}
+use Rattle.std.proofs.Common.{◌≡◌, ℕ, ◌+◌, ◌==◌, ◌&&◌, Bool, true, false, cond, List, [], ◌∷◌, ◌++◌, Option, option_map, Some, None, Result, Ok, Err, refl, sym, ap, ◌∙◌, if◌then◌else◌, arith, not}
 use Rattle.std.specs.FinMap.{get-empty}
 use Rattle.std.specs.Ordering.{nat_cmp}
 use Rattle.site_base.specs.declared.actor.Actor.{Actor}
@@ -17,14 +17,20 @@ use Rattle.fuelling_point.specs.declared.step.PointStep.TheVariants.{Sold}
 use Rattle.fuelling_point.specs.Step.{step_of}
 use Rattle.transaction_buffer.specs.declared.request.Request.{Request}
 use Rattle.transaction_buffer.specs.declared.request.Request.TheVariants as requests
-use Rattle.transaction_buffer.specs.declared.standing.Standing.TheVariants.{Payable}
-use Rattle.transaction_buffer.specs.Sales.{Key, key, Sale, Sales, no_sales, made_at, next_key, same_key, sales_at, sale_of}
-use Rattle.transaction_buffer.specs.Sums.{volume_in}
-use Rattle.transaction_buffer.specs.TransactionTable.{Line, line_for, sale_after, sale_after_request, after_request, after_sign_off, is_locked_by, let_go}
+use Rattle.transaction_buffer.specs.declared.standing.Standing.TheVariants.{Payable, LockedBy, ClearedBy}
+use Rattle.transaction_buffer.specs.Sales.{Key, key, Sale, Sales, no_sales, made_at, next_key, same_key, sales_at, sale_of, is_unpaid}
+use Rattle.transaction_buffer.specs.Sums.{volume_in, volume_by, volume_with}
+use Rattle.transaction_buffer.specs.TransactionTable.{Line, line_for, sale_after, sale_after_request, after_request, after_sign_off, is_locked_by, let_go, refusal_of, refusal_in, line_of, seen_by}
 use Rattle.transaction_buffer.proofs.InShift.{none_next}
 use Rattle.transaction_buffer.proofs.Reading.{read_after, one_sale}
-use Rattle.transaction_buffer.proofs.Rules.{cleared_by_its_locker}
-use Rattle.written_site.specs.ClearedLaws.{sold_as_told, sold_for, volume_told, cleared_while, AreVolumesCleared}
+use Rattle.transaction_buffer.proofs.Rules.{cleared_by_its_locker, accepted_unpaid}
+use Rattle.transaction_buffer.specs.declared.standing.Standing.{Standing}
+use Rattle.transaction_buffer.proofs.OnShelves.{nothing_sold}
+use Rattle.transaction_buffer.proofs.Volumes.{move as volumes_move}
+use Rattle.meters.specs.Nozzles.{Nozzle}
+use Rattle.site_base.specs.declared.state.Status.TheVariants as statuses
+use Rattle.written_site.proofs.UnpaidRows.{pays, unpaid_in, leaves_unpaid}
+use Rattle.written_site.specs.ClearedLaws.{cleared_for, sold_as_told, sold_for, volume_told, cleared_while, AreVolumesCleared}
 use Rattle.written_site.specs.DrawLaws.{run_at, product_read}
 use Rattle.written_site.specs.Histories.{Moment, moments_of}
 use Rattle.written_site.specs.RowWords.{OfBooks, open_after}
@@ -32,10 +38,10 @@ use Rattle.written_site.specs.SaleWords.{key_sold, number_sold}
 use Rattle.written_site.specs.ShiftFigures.{cleared_in}
 use Rattle.written_site.specs.SiteChecks.{Passed, own_event, flowed}
 use Rattle.written_site.specs.SiteState.{SiteState, opening, facts_of, key_named, open_shift}
-use Rattle.written_site.specs.SiteStep.{site_answer, step_at, step_told, nozzles_after, sales_after, sales_by, sale_made, reply_to, site_after}
+use Rattle.written_site.specs.SiteStep.{site_answer, step_at, step_told, nozzles_after, sales_after, sales_by, sale_made, reply_to, site_after, first_locker}
 use Rattle.written_site.specs.Volumes.{product_out, running_at}
 use Rattle.written_site.proofs.ClearFigures.{none_cleared_in}
-use Rattle.written_site.proofs.FigureMoves.{keeps_clears, has_clear}
+use Rattle.written_site.proofs.FigureMoves.{keeps_clears, has_clear, new_unpaid}
 use Rattle.written_site.proofs.Lockers.{named_so}
 use Rattle.written_site.proofs.MomentRows.{moments_push}
 use Rattle.written_site.proofs.RowFacts.{own_after}
@@ -291,10 +297,122 @@ cleared_row h q c earlier s r known replies =
     (λ refusal. unmoved (cleared_in h q s.sales) (open_after earlier == h))
     (λ passes. cleared_accepted h q c earlier s r.actor r.event known passes)
 
+-- ---- what is cleared in all
+
+-- only a sale that isn't unpaid counts as cleared
+cleared_or : (q : ℕ) (x : Sale) (y : Standing)
+    → volume_with q statuses.Cleared (record x { standing = y })
+    ≡ (if is_unpaid y then 0 else volume_in q x)
+cleared_or q x Payable = none_of (x.product == q) x.volume
+  where
+    none_of : (b : Bool) (v : ℕ) → ◌≡◌ {A = ℕ} (if b && false then v else 0) 0
+    none_of true v = refl
+    none_of false v = refl
+cleared_or q x (LockedBy t) = none_of (x.product == q) x.volume
+  where
+    none_of : (b : Bool) (v : ℕ) → ◌≡◌ {A = ℕ} (if b && false then v else 0) 0
+    none_of true v = refl
+    none_of false v = refl
+cleared_or q x (ClearedBy t h) = all_of (x.product == q) x.volume
+  where
+    all_of : (b : Bool) (v : ℕ) → ◌≡◌ {A = ℕ} (if b && true then v else 0) (if b then v else 0)
+    all_of true v = refl
+    all_of false v = refl
+
+asked_cleared : (request : Request) (t q : ℕ) (j : Key) (sales : Sales)
+    → refusal_of request t j sales ≡ None
+    → volume_by q statuses.Cleared (after_request request t j sales)
+    ≡ volume_by q statuses.Cleared sales
+    + (if not (pays request) then 0 else volume_named q j sales)
+asked_cleared request t q j sales accepted = by_sale (sale_of j sales) refl accepted
+  where
+    by_line : (x : Sale) (l : Result Line Refusal) → sale_of j sales ≡ Some x
+        → line_for request t x ≡ l → refusal_in l ≡ None
+        → volume_by q statuses.Cleared (after_request request t j sales)
+        ≡ volume_by q statuses.Cleared sales
+        + (if unpaid_in l then 0 else volume_named q j sales)
+    by_line x (Ok l) there is accepted =
+        let moves = volumes_move.by_request q statuses.Cleared t request j x sales there in
+        let before : volume_with q statuses.Cleared x ≡ 0 =
+        cleared_or q x x.standing
+        ∙ ap (λ (b : Bool). if b then 0 else volume_in q x) (accepted_unpaid request t x l is) in
+        let after : volume_with q statuses.Cleared (sale_after_request request t x)
+        ≡ (if is_unpaid l.leaves then 0 else volume_named q j sales) =
+        ap (λ y. volume_with q statuses.Cleared (sale_after y x)) is
+        ∙ cleared_or q x l.leaves
+        ∙ ap (λ (v : ℕ). if is_unpaid l.leaves then 0 else v)
+        (sym (ap (volume_if q) there)) in
+        omega (arith, moves, before, after)
+    by_line x (Err refusal) there is accepted = cc
+
+    by_sale : (o : Option Sale) → sale_of j sales ≡ o
+        → refusal_in (line_of request t o) ≡ None
+        → volume_by q statuses.Cleared (after_request request t j sales)
+        ≡ volume_by q statuses.Cleared sales
+        + (if not (pays request) then 0 else volume_named q j sales)
+    by_sale None there accepted = cc
+    by_sale (Some x) there accepted =
+        by_line x (line_for request t x) there refl accepted
+        ∙ ap (λ (b : Bool). volume_by q statuses.Cleared sales
+        + (if b then 0 else volume_named q j sales))
+        (leaves_unpaid request t x.cents (seen_by t x.standing) accepted)
+
+sold_cleared : (q : ℕ) (s : SiteState) (nozzles : List Nozzle) (p : ℕ) (step : PointStep)
+    → volume_by q statuses.Cleared (sales_by s nozzles p step)
+    ≡ volume_by q statuses.Cleared s.sales + 0
+sold_cleared q s nozzles p (Sold nozzle volume price prepaid) =
+    let x : Sale = sale_made s nozzles p in
+    let none : volume_with q statuses.Cleared x ≡ 0 =
+    cleared_or q x x.standing
+    ∙ ap (λ (b : Bool). if b then 0 else volume_in q x)
+    (new_unpaid (first_locker s p (facts_of s p).prepaid)) in
+    let more = volumes_move.by_sale q statuses.Cleared p x s.sales in
+    omega (arith, more, none)
+sold_cleared q s nozzles p step = omega arith
+
+all_accepted : (q : ℕ) (c : Configured) (earlier : List Row) (s : SiteState) (a : Actor) (e : Event)
+    → KnowsSales c earlier s → Passed s a e
+    → volume_by q statuses.Cleared (sales_after s a e)
+    ≡ volume_by q statuses.Cleared s.sales
+    + cleared_for c q (moment_at earlier s (told_row a e (Ok (site_answer s e))))
+all_accepted q c earlier s (Till t) SignOff known passes =
+    volumes_move.cleared_at_sign_off q t s.sales
+    ∙ nothing_more (volume_by q statuses.Cleared s.sales)
+all_accepted q c earlier s (Till t) (Lock p id) known passes =
+    asked_cleared requests.Lock t q (key_named s p id) s.sales passes.pays
+all_accepted q c earlier s (Till t) (Unlock p id) known passes =
+    asked_cleared requests.Unlock t q (key_named s p id) s.sales passes.pays
+all_accepted q c earlier s (Till t) (Clear p id) known passes =
+    let shift = known.runs.volumes.fuel.known.shift in
+    asked_cleared (requests.Clear (open_shift s)) t q (key_named s p id) s.sales passes.pays
+    ∙ ap (λ (v : ℕ). volume_by q statuses.Cleared s.sales + v)
+    (known.volumes q (key_named s p id)
+    ∙ ap (λ (j : Key). volume_told c q j (moments_of c earlier)) (named_so earlier s p id shift))
+all_accepted q c earlier s (Dispenser d) (Clear p id) known passes =
+    (let asks = passes.asks in absurd cc)
+all_accepted q c earlier s a (Offline p) known passes =
+    sold_cleared q s s.nozzles p (step_at s (Offline p))
+all_accepted q c earlier s a (HangUp p n reading) known passes =
+    sold_cleared q s (nozzles_after s (HangUp p n reading)) p (step_at s (HangUp p n reading))
+all_accepted q c earlier s a e known passes = nothing_more (volume_by q statuses.Cleared s.sales)
+
+all_row : (q : ℕ) (c : Configured) (earlier : List Row) (s : SiteState) (r : Row)
+    → KnowsSales c earlier s → r.reply ≡ reply_to s r.actor r.event
+    → volume_by q statuses.Cleared (site_after s r.actor r.event).sales
+    ≡ volume_by q statuses.Cleared s.sales + cleared_for c q (moment_at earlier s r)
+all_row q c earlier s r known replies =
+    of_row (λ row new. volume_by q statuses.Cleared new.sales
+    ≡ volume_by q statuses.Cleared s.sales + cleared_for c q (moment_at earlier s row)) s r replies
+    (λ refusal. nothing_more (volume_by q statuses.Cleared s.sales))
+    (λ passes. all_accepted q c earlier s r.actor r.event known passes)
+
 pub volumes_cleared : OfBooks AreVolumesCleared
 volumes_cleared c rows legal = record {
   cleared = λ h q.
-      counted (KnowsSales c) (sales_more c) (λ s. cleared_in h q s.sales)
-      (cleared_while c h q)
+      counted (KnowsSales c) (sales_more c) (λ s. cleared_in h q s.sales) (cleared_while c h q)
       (cleared_row h q c) c rows (sales_first c) legal (none_cleared_in h q);
+  all = λ q.
+      counted (KnowsSales c) (sales_more c) (λ s. volume_by q statuses.Cleared s.sales)
+      (cleared_for c q) (all_row q c) c rows (sales_first c) legal
+      (nothing_sold (volume_with q statuses.Cleared));
 }

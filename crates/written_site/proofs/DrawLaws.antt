@@ -102,7 +102,7 @@ none_drawn_told : (answer : Answer) → is_over answer ≡ false → tells_drawn
 none_drawn_told (answers.Drawn growth) other = cc
 none_drawn_told answer other = refl
 
-never_drawn : (s : SiteState) (e : Event) → ends_fuelling e ≡ false
+pub never_drawn : (s : SiteState) (e : Event) → ends_fuelling e ≡ false
     → tells_drawn (Ok (site_answer s e)) ≡ false
 never_drawn s e other = none_drawn_told (site_answer s e) (not_over s e other)
 

@@ -15,7 +15,7 @@ use Rattle.written_site.specs.SiteState.{SiteState, facts_of, key_named, open_sh
 use Rattle.written_site.specs.SiteStep.{step_at, nozzles_after, sales_after, sales_by, sale_made, first_locker}
 use Rattle.written_site.proofs.ClearFigures.{clear_counts, lock_keeps, unlock_keeps, sign_off_keeps, sale_keeps, nothing_keeps}
 
-new_unpaid : (locker : Option ℕ) → is_unpaid (new_standing locker) ≡ true
+pub new_unpaid : (locker : Option ℕ) → is_unpaid (new_standing locker) ≡ true
 new_unpaid None = refl
 new_unpaid (Some t) = refl
 

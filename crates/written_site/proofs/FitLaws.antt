@@ -8,10 +8,11 @@ use Rattle.written_site.specs.SiteRun.{site_of_rows, IsLegal, events_of}
 use Rattle.written_site.specs.SiteState.{SiteState, opening}
 use Rattle.written_site.specs.Sound.{IsFit, Sound}
 use Rattle.written_site.specs.SoundRuns.{AreInRange}
+use Rattle.meters.proofs.Bounded.{bound}
 use Rattle.written_site.proofs.Bridge.{legal_histories_are_runs}
 use Rattle.written_site.proofs.FigureBounds.{figures_fit}
 use Rattle.written_site.proofs.SoundRuns.{runs_stay_sound}
-use Rattle.written_site.proofs.SoundSums.{adds_up}
+use Rattle.written_site.proofs.SoundSums.{adds_up, most_fits}
 
 -- the events of readable rows are in range
 in_range : (rows : List Row) → AreReadable rows → AreInRange (events_of rows)
@@ -43,6 +44,8 @@ pub every_figure_fits : OfBooks DoFiguresFitRows
 every_figure_fits c rows legal fit readable =
     let sound = sound_rows c rows legal fit readable in
     record {
+      metered = (let most = bound (site_of_rows (opening c) rows).nozzles sound.meters in
+          omega (arith, most, most_fits));
       volumes = λ q. volumes_fit (site_of_rows (opening c) rows) q sound;
       shifts = λ h. figures_fit.fit (site_of_rows (opening c) rows) h sound;
     }

@@ -1,5 +1,5 @@
 -- The holder of a point is a slot of the site's history.
-use Rattle.std.proofs.Common.{◌≡◌, ℕ, ◌==◌, not, ◌&&◌, Bool, true, false, cond, List, [], ◌∷◌, ◌++◌, Option, Some, None, Ok, refl, sym, ap, subst, ◌∙◌, if◌then◌else◌, arith}
+use Rattle.std.proofs.Common.{◌≡◌, ℕ, ◌==◌, not, ◌&&◌, Bool, true, false, cond, List, [], ◌∷◌, ◌++◌, Option, Some, None, is_some, Ok, refl, sym, ap, subst, ◌∙◌, if◌then◌else◌, arith}
 use Rattle.std.proofs.lemmas.Bool.Decides.{nat_tests}
 use Rattle.std.specs.Ordering.{nat_cmp}
 use Rattle.std.specs.Cmp.{nat_cmp_total}
@@ -13,7 +13,7 @@ use Rattle.site_base.specs.declared.refusal.Refusal.{Refusal}
 use Rattle.site_base.specs.declared.refusal.Refusal.TheVariants.{AssignedToOther}
 use Rattle.site_base.specs.declared.row.Row.{Row}
 use Rattle.site_base.specs.declared.state.PointState.{PointState}
-use Rattle.site_base.specs.declared.state.PointState.TheVariants.{Idle, Authorised, Started, SuspendedStarted, Fuelling, SuspendedFuelling}
+use Rattle.site_base.specs.declared.state.PointState.TheVariants.{Inoperative, Closed, Idle, Calling, Authorised, Started, SuspendedStarted, Fuelling, SuspendedFuelling}
 use Rattle.site_base.specs.declared.view.TransactionView.{TransactionView}
 use Rattle.site_base.specs.Checks.{unless}
 use Rattle.fuelling_point.specs.declared.event.PointEvent.TheVariants as points
@@ -25,12 +25,12 @@ use Rattle.fuelling_point.specs.Table.{line_of, line, Growth, zero, above_zero, 
 use Rattle.site_base.specs.Table.{row_of}
 use Rattle.till_claims.specs.Holds.{is_held_by}
 use Rattle.transaction_buffer.specs.Sales.{Sale, sale_of}
-use Rattle.written_site.specs.SiteState.{SiteState, opening, facts_of, holder_of, key_named, rests, sale_shown, price_at_start, reading_at_start}
+use Rattle.written_site.specs.SiteState.{SiteState, opening, facts_of, holder_of, is_resting, key_named, rests, sale_shown, price_at_start, reading_at_start}
 use Rattle.written_site.specs.SiteChecks.{first_refusal, free_for, flowed}
 use Rattle.written_site.specs.SiteStep.{accepted_site, site_after, site_answer, step_told, sale_told, clear_told, product_told, ends_at_sign_off, holds_without, holds_unless_over}
 use Rattle.written_site.specs.SiteRun.{row_to, rows_of, events_of, site_at_end, site_of_rows}
 use Rattle.written_site.specs.Histories.{Moment, moments_after, moments_of}
-use Rattle.written_site.specs.Holders.{takes_hold, ends_hold, hold_taker, is_end, tells_end, AreHeldByOne, AreHoldsOf, IsHeldByOne, AreUnendedTakes, AreBooksHeldByOne}
+use Rattle.written_site.specs.Holders.{is_at_rest, stands_at_rest, takes_hold, ends_hold, hold_taker, is_end, tells_end, AreHeldByOne, AreHoldsOf, IsHeldByOne, AreUnendedTakes, AreBooksHeldByOne}
 use Rattle.site_base.proofs.Cells.{apart, alike}
 use Rattle.written_site.proofs.Passed.{passed}
 use Rattle.written_site.proofs.Bridge.{legal_histories_are_runs}
@@ -148,6 +148,22 @@ shows_product : (s : SiteState) (q : ℕ) (price : Option ℕ) → tells_end (Ok
 shows_product s q None = refl
 shows_product s q (Some price) = refl
 
+-- the states in which a sign-off ends a hold are those in which a point rests
+rests_so : (state : PointState) → is_at_rest state ≡ is_resting state
+rests_so Inoperative = refl
+rests_so Closed = refl
+rests_so Idle = refl
+rests_so Calling = refl
+rests_so Authorised = refl
+rests_so Started = refl
+rests_so SuspendedStarted = refl
+rests_so Fuelling = refl
+rests_so SuspendedFuelling = refl
+
+at_rest : (s : SiteState) (p : ℕ) → stands_at_rest s p ≡ rests s.points p
+at_rest s p =
+    ap (λ (b : Bool). is_some (row_of p s.points) && b) (rests_so (facts_of s p).state)
+
 -- an accepted event, with its answer
 accepted : (s : SiteState) (a : Actor) (e : Event) (p : ℕ) → first_refusal s a e ≡ None
     → Does (holder_of s p) (holder_of (accepted_site s a e) p) (hold_taker p a e) (λ t. is_end p t s a e (Ok (site_answer s e)))
@@ -156,7 +172,9 @@ accepted s (Till t) (Release q preset) p ok = assigned s.holds p q t (may_take t
 accepted s (Till t) (Prepay q cents) p ok = assigned s.holds p q t (may_take t (holder_of s q) (passed s (Till t) (Prepay q cents) ok).free)
 accepted s (Till t) (TestRelease q) p ok = assigned s.holds p q t (may_take t (holder_of s q) (passed s (Till t) (TestRelease q) ok).free)
 accepted s (Till t) (Unassign q) p ok = unassigned s.holds p q
-accepted s (Till t) SignOff p ok = signed_off s t p
+accepted s (Till t) SignOff p ok =
+    subst (λ (b : Bool). Does (holder_of s p) (finite.get (holds_without s.points s.holds t) p) None
+    (λ u. b && u == t)) (sym (at_rest s p)) (signed_off s t p)
 accepted s a (Offline q) p ok = unassigned s.holds p q
 accepted s a (HangUp q n reading) p ok = stepped s s.holds p q (flowed s q n reading) (machine.step_of (points.HangUp n (flowed s q n reading)) (facts_of s q))
 accepted s a (Terminate q) p ok = stepped s s.holds p q 0 (machine.step_of points.Terminate (facts_of s q))

@@ -73,3 +73,5 @@ pub mod RunRows
 pub mod DrawLaws
 pub mod ClearedLaws
 pub mod MeteredRows
+pub mod UnpaidRows
+pub mod TestLaws

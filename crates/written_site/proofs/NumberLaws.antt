@@ -29,7 +29,7 @@ use Rattle.written_site.specs.SiteRun.{site_of_rows, IsLegal}
 use Rattle.written_site.specs.Histories.{Moment, moments_of}
 use Rattle.written_site.specs.RowWords.{OfBooks, open_after, count}
 use Rattle.written_site.specs.SaleWords.{key_sold, number_sold, sold_as}
-use Rattle.written_site.specs.NumberLaws.{is_key_of, sells_in, AreNumbered}
+use Rattle.written_site.specs.NumberLaws.{is_key_of, sells_in, sells_at, clears_at, AreNumbered}
 use Rattle.written_site.specs.Sound.{MaySell}
 use Rattle.written_site.proofs.MomentRows.{placed}
 use Rattle.written_site.proofs.PointAfter.{FactsAfter, stays, moves, facts_after, opens_closed}
@@ -43,6 +43,7 @@ use Rattle.written_site.proofs.SoundPoints.{NoneLater, room_kept, room_own}
 use Rattle.written_site.proofs.SoundSales.{sells, let_go_counts, asked_counts, counts_after, unpaid_by}
 use Rattle.written_site.proofs.SoundSold.{order_after, under_way_released, sale_of_step}
 use Rattle.written_site.proofs.SoundTables.{turned}
+use Rattle.written_site.proofs.UnpaidRows.{unpaid_so_far}
 use Rattle.written_site.proofs.ToldAnswers.{never_sold}
 
 -- ---- numbers
@@ -263,10 +264,11 @@ record SellsAt (c : Configured) (before : List Moment) (m : Moment) (k : Key) : 
   may : MaySell m.before k.point
   made : k.number ≡ made_at k.point (open_shift m.before) m.before.sales + 1
 
-sells_at : (c : Configured) (rows : List Row) (before since : List Moment) (m : Moment) (k : Key)
+sells_at_name : (c : Configured) (rows : List Row) (before since : List Moment) (m : Moment)
+    (k : Key)
     → IsLegal (opening c) rows → moments_of c rows ≡ before ++ m ∷ since → sold_as m ≡ Some k
     → SellsAt c before m k
-sells_at c rows before since m k legal parts sold =
+sells_at_name c rows before since m k legal parts sold =
     let at = placed c rows before since m legal parts in
     let rooms = subst (HasRooms m.earlier) (sym at.led) (rooms_at c m.earlier at.legal) in
     let here = sells_here k m.earlier m.before m.row rooms.known.shift at.told sold in
@@ -291,11 +293,29 @@ sells_at c rows before since m k legal parts sold =
 
 pub numbered : OfBooks AreNumbered
 numbered c rows legal = record {
-  next = λ k before since m parts sold. (sells_at c rows before since m k legal parts sold).next;
+  next = λ k before since m parts sold. (sells_here_at k before since m parts sold).next;
   within = λ k before since m parts sold.
-      let at = sells_at c rows before since m k legal parts sold in
+      let at = sells_here_at k before since m parts sold in
       let number = at.may.number in let made = at.made in omega (arith, number, made);
-  room = λ k before since m parts sold. (sells_at c rows before since m k legal parts
-      sold).may.unpaid;
-  unpaid = (rooms_at c rows legal).unpaid;
+  room = λ k before since m parts sold.
+      let at = placed c rows before since m legal parts in
+      let may = (sells_here_at k before since m parts sold).may.unpaid in
+      let unpaid : unpaid_at k.point m.before.sales + count (clears_at k.point) before
+      ≡ count (sells_at k.point) before =
+      ap (λ s. unpaid_at k.point s.sales + count (clears_at k.point) before) at.led
+      ∙ ap (λ ms. unpaid_at k.point (site_of_rows (opening c) m.earlier).sales
+      + count (clears_at k.point) ms) at.moments
+      ∙ unpaid_so_far c m.earlier at.legal k.point
+      ∙ ap (count (sells_at k.point)) (sym at.moments) in
+      omega (arith, may, unpaid);
+  few = λ p.
+      let most = (rooms_at c rows legal).unpaid p in
+      let unpaid = unpaid_so_far c rows legal p in
+      omega (arith, most, unpaid);
+  unpaid = unpaid_so_far c rows legal;
 }
+  where
+    sells_here_at : (k : Key) (before since : List Moment) (m : Moment)
+        → moments_of c rows ≡ before ++ m ∷ since → sold_as m ≡ Some k → SellsAt c before m k
+    sells_here_at k before since m parts sold = sells_at_name c rows before since m k legal parts
+        sold

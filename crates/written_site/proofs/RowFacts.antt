@@ -28,7 +28,7 @@ use Rattle.written_site.specs.SiteState.{SiteState, opening, facts_in, facts_of,
 use Rattle.written_site.specs.SiteChecks.{Passed, own_event, flowed, released, test_released}
 use Rattle.written_site.specs.SiteStep.{accepted_site, points_after, holds_after, holds_unless_over, ends_at_sign_off, ends_release, reply_to, site_after, site_answer}
 use Rattle.written_site.specs.RowWords.{last_said, latest, signing_of, on_after, closes_shift, open_after}
-use Rattle.written_site.specs.SaleWords.{ToldRelease, by_till, release_said, release_of, release_after}
+use Rattle.written_site.specs.SaleWords.{ToldRelease, by_till, for_test, release_said, release_of, release_after}
 use Rattle.written_site.proofs.PointAfter.{FactsAfter, stays, moves, facts_after, opens_closed}
 use Rattle.written_site.proofs.RowWords.{told_row, of_row, said_again, latest_push, total_push}
 use Rattle.written_site.proofs.SigningLaws.{signed_row, shift_row}
@@ -46,6 +46,11 @@ assigned_rests f taken = grind (arith, common_steps)
 prepaid_stays : (event : PointEvent) (f : Facts) → is_release event ≡ false
     → is_released (after event f).state ≡ true → (after event f).prepaid ≡ f.prepaid
 prepaid_stays event f other is = grind (arith, common_steps)
+
+-- and whether it is a test
+test_stays : (event : PointEvent) (f : Facts) → is_release event ≡ false
+    → is_released (after event f).state ≡ true → (after event f).test ≡ f.test
+test_stays event f other is = grind (arith, common_steps)
 
 -- the event's own point, once the event is done
 pub own_after : (s : SiteState) (a : Actor) (e : Event) (p : ℕ) (event : PointEvent) → Passed s a e
@@ -83,14 +88,14 @@ not_this s a e p q event passes own rests is = by_test (p == q) refl
     by_test false at = refl
 
 -- a release of another point leaves the hold of this one
-untaken : (holder : Option ℕ) (t p q : ℕ) (prepaid : Option ℕ)
-    → ◌≡◌ {A = Option ToldRelease} (if q == p then Some (by_till t prepaid) else None) None
+untaken : (holder : Option ℕ) (t p q : ℕ) (release : ToldRelease)
+    → ◌≡◌ {A = Option ToldRelease} (if q == p then Some (release) else None) None
     → cond (p == q) (Some t) holder ≡ holder
-untaken holder t p q prepaid none =
+untaken holder t p q release none =
     ap (λ (b : Bool). cond b (Some t) holder) (turned p q) ∙ by_test (q == p) none
   where
     by_test : (b : Bool)
-        → ◌≡◌ {A = Option ToldRelease} (if b then Some (by_till t prepaid) else None) None
+        → ◌≡◌ {A = Option ToldRelease} (if b then Some (release) else None) None
         → cond b (Some t) holder ≡ holder
     by_test true none = cc
     by_test false none = refl
@@ -140,11 +145,11 @@ holder_stays s (Till t) (Assign q) p passes is none =
     (not_this s (Till t) (Assign q) p q points.Assign passes refl
     (assigned_rests (facts_of s q)) is)
 holder_stays s (Till t) (Release q preset) p passes is none =
-    taken_hold s.holds q t p ∙ untaken (holder_of s p) t p q None none
+    taken_hold s.holds q t p ∙ untaken (holder_of s p) t p q (by_till t None) none
 holder_stays s (Till t) (Prepay q cents) p passes is none =
-    taken_hold s.holds q t p ∙ untaken (holder_of s p) t p q (Some cents) none
+    taken_hold s.holds q t p ∙ untaken (holder_of s p) t p q (by_till t (Some cents)) none
 holder_stays s (Till t) (TestRelease q) p passes is none =
-    taken_hold s.holds q t p ∙ untaken (holder_of s p) t p q None none
+    taken_hold s.holds q t p ∙ untaken (holder_of s p) t p q (for_test t) none
 holder_stays s (Till t) (Unassign q) p passes is none =
     ended_hold s.holds q p
     ∙ ap (λ (b : Bool). cond b None (holder_of s p))
@@ -171,47 +176,78 @@ test_pays : (last price : ℕ) (f : Facts) → refusal_of (points.TestRelease la
     → (after (points.TestRelease last price) f).prepaid ≡ None
 test_pays last price f taken = grind (arith, common_steps)
 
--- such a till holds it, and these are its prepaid cents
+release_isn't_test : (preset : Preset) (prepaid : Option ℕ) (last price : ℕ) (f : Facts) → IsWhole f
+    → refusal_of (points.Release preset prepaid last price) f ≡ None
+    → (after (points.Release preset prepaid last price) f).test ≡ false
+release_isn't_test preset prepaid last price f whole taken =
+    let test = whole.test in grind (arith, common_steps)
+
+test_is_test : (last price : ℕ) (f : Facts) → refusal_of (points.TestRelease last price) f ≡ None
+    → (after (points.TestRelease last price) f).test ≡ true
+test_is_test last price f taken = grind (arith, common_steps)
+
+-- such a till holds it, these are its prepaid cents, and it is for a test or not
 record IsSo (s : SiteState) (p : ℕ) (told : ToldRelease) : Type 0 where
   holder : holder_of s p ≡ Some told.till
   prepaid : (facts_of s p).prepaid ≡ told.prepaid
+  test : (facts_of s p).test ≡ told.test
 
-taken_so : (s : SiteState) (e : Event) (p q t : ℕ) (prepaid : Option ℕ) (event : PointEvent)
-    (told : ToldRelease) → Passed s (Till t) e → own_event s e ≡ Some (q, event)
-    → holds_after s (Till t) e ≡ finite.insert s.holds q t
-    → (refusal_of event (facts_of s q) ≡ None → (after event (facts_of s q)).prepaid ≡ prepaid)
-    → ◌≡◌ {A = Option ToldRelease} (if q == p then Some (by_till t prepaid) else None) (Some told)
-    → IsSo (accepted_site s (Till t) e) p told
-taken_so s e p q t prepaid event told passes own holds pays = by_test (q == p) refl
+-- what a release leaves of its point
+record Leaves (f : Facts) (release : ToldRelease) : Type 0 where
+  prepaid : f.prepaid ≡ release.prepaid
+  test : f.test ≡ release.test
+
+taken_so : (s : SiteState) (e : Event) (p q : ℕ) (release : ToldRelease) (event : PointEvent)
+    (told : ToldRelease) → Passed s (Till release.till) e → own_event s e ≡ Some (q, event)
+    → holds_after s (Till release.till) e ≡ finite.insert s.holds q release.till
+    → (refusal_of event (facts_of s q) ≡ None → Leaves (after event (facts_of s q)) release)
+    → ◌≡◌ {A = Option ToldRelease} (if q == p then Some release else None) (Some told)
+    → IsSo (accepted_site s (Till release.till) e) p told
+taken_so s e p q release event told passes own holds leaves = by_test (q == p) refl
   where
     by_test : (b : Bool) → (q == p) ≡ b
-        → ◌≡◌ {A = Option ToldRelease} (if b then Some (by_till t prepaid) else None) (Some told)
-        → IsSo (accepted_site s (Till t) e) p told
+        → ◌≡◌ {A = Option ToldRelease} (if b then Some release else None) (Some told)
+        → IsSo (accepted_site s (Till release.till) e) p told
     by_test false at is = cc
     by_test true at is =
-        let its = own_after s (Till t) e q event passes own in
+        let its = own_after s (Till release.till) e q event passes own in
         let one : q ≡ p = same q p at in
-        subst (IsSo (accepted_site s (Till t) e) p) (told_once (by_till t prepaid) told is)
+        let left = leaves its.1 in
+        subst (IsSo (accepted_site s (Till release.till) e) p) (told_once release told is)
         (record {
           holder = ap (λ (m : finite.FinMap nat_cmp ℕ). finite.get m p) holds
-              ∙ taken_hold s.holds q t p
-              ∙ ap (λ (b : Bool). cond b (Some t) (holder_of s p)) (turned p q ∙ at);
+              ∙ taken_hold s.holds q release.till p
+              ∙ ap (λ (b : Bool). cond b (Some release.till) (holder_of s p)) (turned p q ∙ at);
           prepaid = ap (λ (r : ℕ). (facts_in (points_after s e) r).prepaid) (sym one)
-              ∙ ap (λ (f : Facts). f.prepaid) its.0 ∙ pays its.1;
+              ∙ ap (λ (f : Facts). f.prepaid) its.0 ∙ left.prepaid;
+          test = ap (λ (r : ℕ). (facts_in (points_after s e) r).test) (sym one)
+              ∙ ap (λ (f : Facts). f.test) its.0 ∙ left.test;
         })
 
-released_so : (s : SiteState) (a : Actor) (e : Event) (p : ℕ) (told : ToldRelease) → Passed s a e
+released_so : (s : SiteState) (a : Actor) (e : Event) (p : ℕ) (told : ToldRelease)
+    → ((q : ℕ) → IsWhole (facts_of s q)) → Passed s a e
     → release_said p a e ≡ Some told → IsSo (accepted_site s a e) p told
-released_so s (Till t) (Release q preset) p told passes is =
-    taken_so s (Release q preset) p q t None (released s q preset None) told passes refl refl
-    (release_pays preset None _ _ (facts_of s q)) is
-released_so s (Till t) (Prepay q cents) p told passes is =
-    taken_so s (Prepay q cents) p q t (Some cents) (released s q (Money cents) (Some cents)) told
-    passes refl refl (release_pays (Money cents) (Some cents) _ _ (facts_of s q)) is
-released_so s (Till t) (TestRelease q) p told passes is =
-    taken_so s (TestRelease q) p q t None (test_released s q) told passes refl refl
-    (test_pays _ _ (facts_of s q)) is
-released_so s a e p told passes is = absurd cc
+released_so s (Till t) (Release q preset) p told whole passes is =
+    taken_so s (Release q preset) p q (by_till t None) (released s q preset None) told passes refl
+    refl
+    (λ taken. record {
+      prepaid = release_pays preset None _ _ (facts_of s q) taken;
+      test = release_isn't_test preset None _ _ (facts_of s q) (whole q) taken;
+    }) is
+released_so s (Till t) (Prepay q cents) p told whole passes is =
+    taken_so s (Prepay q cents) p q (by_till t (Some cents))
+    (released s q (Money cents) (Some cents)) told passes refl refl
+    (λ taken. record {
+      prepaid = release_pays (Money cents) (Some cents) _ _ (facts_of s q) taken;
+      test = release_isn't_test (Money cents) (Some cents) _ _ (facts_of s q) (whole q) taken;
+    }) is
+released_so s (Till t) (TestRelease q) p told whole passes is =
+    taken_so s (TestRelease q) p q (for_test t) (test_released s q) told passes refl refl
+    (λ taken. record {
+      prepaid = test_pays _ _ (facts_of s q) taken;
+      test = test_is_test _ _ (facts_of s q) taken;
+    }) is
+released_so s a e p told whole passes is = absurd cc
 
 -- what an event is to its point releases it
 abbrev releases_by : Option (ℕ × PointEvent) → Bool
@@ -219,26 +255,26 @@ releases_by None = false
 releases_by (Some e) = is_release e.1
 
 -- a release that isn't of this point isn't its own event
-not_its : (p q t : ℕ) (prepaid : Option ℕ) (event other : PointEvent)
+not_its : (p q : ℕ) (release : ToldRelease) (event other : PointEvent)
     → ◌≡◌ {A = Option (ℕ × PointEvent)} (Some (q, other)) (Some (p, event))
-    → ◌≡◌ {A = Option ToldRelease} (if q == p then Some (by_till t prepaid) else None) None
+    → ◌≡◌ {A = Option ToldRelease} (if q == p then Some (release) else None) None
     → is_release event ≡ false
-not_its p q t prepaid event other own none =
+not_its p q release event other own none =
     let one : q ≡ p = ap (λ (x : ℕ × PointEvent). x.0) (told_once (q, other) (p, event) own) in
     let is : (q == p) ≡ true = ap (λ (r : ℕ). r == p) one ∙ itself p in
-    let some : Some (by_till t prepaid) ≡ None =
-    ap (λ (b : Bool). if b then Some (by_till t prepaid) else None) (sym is) ∙ none in
+    let some : Some (release) ≡ None =
+    ap (λ (b : Bool). if b then Some (release) else None) (sym is) ∙ none in
     absurd cc
 
 -- what an event is to a point that it doesn't release isn't a release
 no_release : (s : SiteState) (a : Actor) (e : Event) (p : ℕ) (event : PointEvent) → Passed s a e
     → own_event s e ≡ Some (p, event) → release_said p a e ≡ None → is_release event ≡ false
 no_release s (Till t) (Release q preset) p event passes own none =
-    not_its p q t None event (released s q preset None) own none
+    not_its p q (by_till t None) event (released s q preset None) own none
 no_release s (Till t) (Prepay q cents) p event passes own none =
-    not_its p q t (Some cents) event (released s q (Money cents) (Some cents)) own none
+    not_its p q (by_till t (Some cents)) event (released s q (Money cents) (Some cents)) own none
 no_release s (Till t) (TestRelease q) p event passes own none =
-    not_its p q t None event (test_released s q) own none
+    not_its p q (for_test t) event (test_released s q) own none
 no_release s (Dispenser d) (Release q preset) p event passes own none =
     (let asks = passes.asks in absurd cc)
 no_release s (Dispenser d) (Prepay q cents) p event passes own none =
@@ -249,12 +285,14 @@ no_release s a e p event passes own none = sym (ap releases_by own)
 
 -- ---- rows and site
 
--- the point's last release, by these rows, is by its holder, and its prepaid cents are the point's
+-- the point's last release, by these rows, is by its holder; its prepaid cents, and whether it is a
+-- test, are the point's
 pub record IsReleasedSo (earlier : List Row) (s : SiteState) (p : ℕ) : Type 0 where
   pub told : ToldRelease
   pub is : release_after p earlier ≡ Some told
   pub holder : holder_of s p ≡ Some told.till
   pub prepaid : (facts_of s p).prepaid ≡ told.prepaid
+  pub test : (facts_of s p).test ≡ told.test
 
 -- what the rows so far say of the site that they led to
 pub record Known (earlier : List Row) (s : SiteState) : Type 0 where
@@ -285,11 +323,12 @@ whole_more s r known replies =
         subst IsWhole (sym is) (whole_accepted event (facts_of s p) (known p) taken)
 
 released_more : (earlier : List Row) (s : SiteState) (r : Row)
+    → ((p : ℕ) → IsWhole (facts_of s p))
     → ((p : ℕ) → is_released (facts_of s p).state ≡ true → IsReleasedSo earlier s p)
     → r.reply ≡ reply_to s r.actor r.event
     → (p : ℕ) → is_released (facts_of (site_after s r.actor r.event) p).state ≡ true
     → IsReleasedSo (earlier ++ r ∷ []) (site_after s r.actor r.event) p
-released_more earlier s r known replies =
+released_more earlier s r whole known replies =
     of_row (λ row new. (p : ℕ) → is_released (facts_of new p).state ≡ true
     → IsReleasedSo (earlier ++ row ∷ []) new p) s r replies
     (λ refusal p is. let was = known p is in record {
@@ -297,6 +336,7 @@ released_more earlier s r known replies =
       is = latest_push (release_of p) earlier (told_row r.actor r.event (Err refusal)) ∙ was.is;
       holder = was.holder;
       prepaid = was.prepaid;
+      test = was.test;
     })
     (λ passes p is. by_said passes p is (release_said p r.actor r.event) refl)
   where
@@ -309,29 +349,34 @@ released_more earlier s r known replies =
     was_so : (p : ℕ) → Passed s r.actor r.event → release_said p r.actor r.event ≡ None
         → is_released (facts_of new p).state ≡ true → FactsAfter s r.event p
         → (is_released (facts_of s p).state ≡ true)
-        × ((facts_of new p).prepaid ≡ (facts_of s p).prepaid)
+        × (((facts_of new p).prepaid ≡ (facts_of s p).prepaid)
+        × ((facts_of new p).test ≡ (facts_of s p).test))
     was_so p passes none is (stays same_facts away) = (
       ap (λ (f : Facts). is_released f.state) (sym same_facts) ∙ is,
-      ap (λ (f : Facts). f.prepaid) same_facts,
+      (ap (λ (f : Facts). f.prepaid) same_facts, ap (λ (f : Facts). f.test) same_facts),
     )
     was_so p passes none is (moves event own done taken) =
         let other = no_release s r.actor r.event p event passes own none in
         let now = ap (λ (f : Facts). is_released f.state) (sym done) ∙ is in (
           released_after event (facts_of s p) other now,
-          ap (λ (f : Facts). f.prepaid) done ∙ prepaid_stays event (facts_of s p) other now,
+          (
+            ap (λ (f : Facts). f.prepaid) done ∙ prepaid_stays event (facts_of s p) other now,
+            ap (λ (f : Facts). f.test) done ∙ test_stays event (facts_of s p) other now,
+          ),
         )
 
     by_said : Passed s r.actor r.event → (p : ℕ) → is_released (facts_of new p).state ≡ true
         → (o : Option ToldRelease) → release_said p r.actor r.event ≡ o
         → IsReleasedSo (earlier ++ row ∷ []) new p
     by_said passes p is (Some told) said =
-        let so = released_so s r.actor r.event p told passes said in
+        let so = released_so s r.actor r.event p told whole passes said in
         record {
           told = told;
           is = latest_push (release_of p) earlier row
               ∙ ap (last_said (latest (release_of p) earlier)) said;
           holder = so.holder;
           prepaid = so.prepaid;
+          test = so.test;
         }
     by_said passes p is None said =
         let before = was_so p passes said is (facts_after s r.actor r.event passes p) in
@@ -341,7 +386,8 @@ released_more earlier s r known replies =
           is = latest_push (release_of p) earlier row
               ∙ ap (last_said (latest (release_of p) earlier)) said ∙ was.is;
           holder = holder_stays s r.actor r.event p passes is said ∙ was.holder;
-          prepaid = before.1 ∙ was.prepaid;
+          prepaid = before.1.0 ∙ was.prepaid;
+          test = before.1.1 ∙ was.test;
         }
 
 -- one row more may close the shift
@@ -361,7 +407,7 @@ known_more earlier s r known replies =
       shift = shift_more earlier s r known.shift replies;
       signed = λ t. signed_more t earlier s r (known.signed t) replies;
       whole = whole_more s r known.whole replies;
-      released = released_more earlier s r known.released replies;
+      released = released_more earlier s r known.whole known.released replies;
     }
 
 pub known_first : (c : Configured) → Known [] (opening c)

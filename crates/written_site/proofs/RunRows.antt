@@ -20,7 +20,7 @@ use Rattle.written_site.specs.DrawLaws.{run_of, run_at, product_read}
 use Rattle.written_site.specs.FuellingWords.{product_at, is_started, tells_start, calls_after, starts, growth_at}
 use Rattle.written_site.specs.Histories.{Moment, moments_of}
 use Rattle.written_site.specs.Holders.{names_point}
-use Rattle.written_site.specs.SaleWords.{by_till, release_of, release_said}
+use Rattle.written_site.specs.SaleWords.{by_till, for_test, release_of, release_said}
 use Rattle.written_site.specs.SiteChecks.{Passed, own_event, lifted, released, test_released}
 use Rattle.written_site.specs.SiteState.{SiteState, opening, facts_in, facts_of}
 use Rattle.written_site.specs.SiteStep.{nozzles_after, site_answer, points_after, reply_to, site_after}
@@ -44,14 +44,14 @@ run_more p v [] m = refl
 run_more p v (x ∷ ms) m = run_more p (if starts p x then 0 else v + growth_at p x) ms m
 
 -- where a fuelling is under way already, the event starts none
-not_started : (s : SiteState) (a : Actor) (e : Event) (p : ℕ) (event : PointEvent)
+pub not_started : (s : SiteState) (a : Actor) (e : Event) (p : ℕ) (event : PointEvent)
     → own_event s e ≡ Some (p, event) → refusal_of event (facts_of s p) ≡ None
     → is_under_way (facts_of s p).state ≡ true
     → (is_started p e (Ok (site_answer s e)) ≡ false) × (release_said p a e ≡ None)
 not_started s a e p event own taken under_way =
     (grind (arith, nat_tests, common_steps), grind (arith, nat_tests, common_steps))
 
-started_away : (s : SiteState) (e : Event) (p : ℕ)
+pub started_away : (s : SiteState) (e : Event) (p : ℕ)
     → ((event : PointEvent) → own_event s e ≡ Some (p, event) → ⊥)
     → is_started p e (Ok (site_answer s e)) ≡ false
 started_away s (Lift q n reading) p away =
@@ -59,7 +59,7 @@ started_away s (Lift q n reading) p away =
     (apart q p (lifted s q n) away)
 started_away s e p away = refl
 
-release_away : (s : SiteState) (a : Actor) (e : Event) (p : ℕ)
+pub release_away : (s : SiteState) (a : Actor) (e : Event) (p : ℕ)
     → ((event : PointEvent) → own_event s e ≡ Some (p, event) → ⊥) → release_said p a e ≡ None
 release_away s (Till t) (Release q preset) p away =
     ap (λ (b : Bool). if b then Some (by_till t None) else None)
@@ -68,7 +68,7 @@ release_away s (Till t) (Prepay q cents) p away =
     ap (λ (b : Bool). if b then Some (by_till t (Some cents)) else None)
     (apart q p (released s q (Money cents) (Some cents)) away)
 release_away s (Till t) (TestRelease q) p away =
-    ap (λ (b : Bool). if b then Some (by_till t None) else None)
+    ap (λ (b : Bool). if b then Some (for_test t) else None)
     (apart q p (test_released s q) away)
 release_away s a e p away = refl
 
@@ -106,7 +106,7 @@ module _ (c : Configured) (earlier : List Row) (s : SiteState) (r : Row)
         ap (λ (b : Bool). b || (is_some (release_of p row) && calls_after p earlier)) lift
         ∙ ap (λ o. is_some o && calls_after p earlier) release
 
-    refused_none : (p : ℕ) (refusal : Refusal)
+    pub refused_none : (p : ℕ) (refusal : Refusal)
         → starts p (moment_at earlier s (told_row r.actor r.event (Err refusal))) ≡ false
     refused_none p refusal = by_event r.event
       where

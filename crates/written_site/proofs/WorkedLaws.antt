@@ -1,11 +1,11 @@
 -- The laws at work on a day of the known site: diesel is sold at point 1 while its price changes,
 -- till 1 locks the sale and lets it go, till 2 locks it and clears it, and the shift is closed. No
 -- law is empty: each has its premise met here.
-use Rattle.std.proofs.Common.{◌≡◌, ◌≢◌, ℕ, ◌+◌, true, false, List, [], ◌∷◌, ◌++◌, Some, Ok, is_some, refl, sym, ap, arith}
+use Rattle.std.proofs.Common.{◌≡◌, ◌≢◌, ℕ, ◌+◌, true, false, List, [], ◌∷◌, ◌++◌, Some, Ok, is_some, refl, sym, ap, arith, option_map, ◌∙◌, None, subst}
 use Rattle.std.proofs.lemmas.Bool.Decides.{nat_tests}
 use Rattle.std.specs.List.{list_any}
 use Rattle.site_base.specs.declared.answer.Answer.TheVariants.{Done, Start, Flowed, Sold, Drawn, Locked, Unlocked, Cleared, ShiftClosed}
-use Rattle.site_base.specs.declared.event.Event.TheVariants.{SignOn, Open, Release, Prepay, TestRelease, Lock, Unlock, Clear, SetPrice, CloseShift, Lift, Flow, HangUp}
+use Rattle.site_base.specs.declared.event.Event.TheVariants.{SignOn, Open, Release, Prepay, TestRelease, Lock, Unlock, Clear, SetPrice, CloseShift, Lift, Flow, HangUp, SignOff, Close, ReplaceMeter}
 use Rattle.site_base.specs.declared.row.Row.{Row}
 use Rattle.site_base.specs.declared.state.Preset.TheVariants.{Unset, Money}
 use Rattle.site_base.specs.declared.state.Status.TheVariants as statuses
@@ -13,9 +13,13 @@ use Rattle.fuelling_point.specs.History.{point_after}
 use Rattle.fuelling_point.specs.Kept.{Facts}
 use Rattle.meters.specs.Metered.{every_product, metered_by, product_total}
 use Rattle.meters.specs.Nozzles.{Nozzle, nozzle_of}
-use Rattle.transaction_buffer.specs.Sales.{Key, key}
+use Rattle.transaction_buffer.specs.Sales.{Key, key, Sale, sale_of}
 use Rattle.transaction_buffer.specs.Sums.{volume_by}
 use Rattle.transaction_buffer.specs.TransactionTable.{locker_of}
+use Rattle.site_base.specs.declared.state.PointState.TheVariants.{Idle}
+use Rattle.written_site.proofs.SoundTables.{told_once}
+use Rattle.written_site.proofs.TestLaws.{tests_apart}
+use Rattle.written_site.specs.TestLaws.{IsReleasedAs}
 use Rattle.written_site.specs.FuellingLaws.{IsKeptAsRead, IsPricedAtStart}
 use Rattle.written_site.specs.FuellingWords.{price_read}
 use Rattle.written_site.specs.FitLaws.{HasFitFigures}
@@ -44,7 +48,7 @@ use Rattle.written_site.proofs.ShiftLaws.{clears_counted}
 use Rattle.written_site.proofs.SigningLaws.{signed_on_by_rows, shift_by_rows}
 use Rattle.written_site.proofs.SlotRows.{moment_at}
 use Rattle.written_site.proofs.VolumeLaws.{volumes_conserved}
-use Rattle.written_site.proofs.WorkedReplies.{legal, kit}
+use Rattle.written_site.proofs.WorkedReplies.{legal, kit, leads, site_on}
 use Rattle.written_site.proofs.WorkedRows.{known_site, t1, t2, d1, sale}
 
 -- the price of diesel is raised while it flows, and the sale is told
@@ -268,11 +272,98 @@ none_drawn_in_shift_1 : shift_drawn (site_of_rows (opening known_site) tested) 1
 none_drawn_in_shift_1 =
     (draws_counted known_site tested tested_is_legal).shifts 1 1 (omega arith) (omega arith)
 
--- so is the point what its own events make of a new one
-idle_again : (facts_of (site_of_rows (opening known_site) tested) 1).state
-    ≡ (point_after (own_events 1 (moments_of known_site tested))).state
-idle_again = ap (λ (f : Facts). f.state) ((points_their_own known_site tested tested_is_legal).facts
-    1)
+what_was_drawn : ◌≡◌ {A = ℕ} 5000
+    (running (site_of_rows (opening known_site) tested) 1
+    + volume_by 1 statuses.Payable (site_of_rows (opening known_site) tested).sales
+    + volume_by 1 statuses.Locked (site_of_rows (opening known_site) tested).sales
+    + volume_by 1 statuses.Cleared (site_of_rows (opening known_site) tested).sales
+    + adjusted (site_of_rows (opening known_site) tested) 1)
+what_was_drawn =
+    (volumes_conserved known_site tested tested_is_legal).conserved 1 (omega arith) (omega arith)
+
+-- legal rows lead to the site that they tell of
+led : (s : SiteState) (rows : List Row) → IsLegal s rows → site_of_rows s rows ≡ site_on s rows
+led s [] legal = refl
+led s (r ∷ rs) legal =
+    led (site_after s r.actor r.event) rs legal.1
+    ∙ ap (λ x. site_on x rs) (sym (leads s r legal.0))
+
+-- so is the point what its own events make of a new one: idle again
+idle_again : (point_after (own_events 1 (moments_of known_site tested))).state ≡ Idle
+idle_again =
+    sym (ap (λ (f : Facts). f.state)
+    ((points_their_own known_site tested tested_is_legal).facts 1))
+    ∙ ap (λ (s : SiteState). (facts_of s 1).state)
+    (led (opening known_site) tested tested_is_legal)
+
+-- the price of the sale is the one that the rows tell before its lift
+price_in_the_evening : option_map (λ (x : Sale). x.price) (sale_of first_sale evening.sales)
+    ≡ Some 1500
+price_in_the_evening =
+    ap (λ (s : SiteState). option_map (λ (x : Sale). x.price) (sale_of first_sale s.sales))
+    (led (opening known_site) day day_is_legal) ∙ simp kit
+
+at_1500 : IsPricedAtStart known_site 1 (so_far fuelled) 1500
+at_1500 =
+    subst (IsPricedAtStart known_site 1 (so_far fuelled))
+    (told_once stands_in_the_evening.sale.price 1500
+    (sym (ap (option_map (λ (x : Sale). x.price)) stands_in_the_evening.there)
+    ∙ price_in_the_evening))
+    at_the_price_of_its_start
+
+-- two sales of a shift, before and after a meter was replaced
+abbrev replaced : List Row
+replaced =
+    t1 SignOn (Ok Done)
+    ∷ t1 (Open 1) (Ok Done)
+    ∷ t1 (Release 1 Unset) (Ok Done)
+    ∷ d1 (Lift 1 1 0) (Ok (Start Unset 1500))
+    ∷ d1 (HangUp 1 1 5000) (Ok (Sold 1 5000))
+    ∷ t1 (Close 1) (Ok Done)
+    ∷ t1 (ReplaceMeter 1 1 7) (Ok Done)
+    ∷ t1 (Open 1) (Ok Done)
+    ∷ t1 (Release 1 Unset) (Ok Done)
+    ∷ d1 (Lift 1 1 7) (Ok (Start Unset 1500))
+    ∷ []
+
+abbrev sells_again : Row
+sells_again = d1 (HangUp 1 1 1007) (Ok (Sold 2 1000))
+
+replaced_is_legal : IsLegal (opening known_site) (replaced ++ sells_again ∷ [])
+replaced_is_legal = legal (opening known_site) (replaced ++ sells_again ∷ []) (simp kit)
+
+second_number : ◌≡◌ {A = ℕ} 2 (count (sells_in 1 1) (so_far replaced) + 1)
+second_number =
+    (numbered known_site (replaced ++ sells_again ∷ []) replaced_is_legal).next (key 1 1 2)
+    (so_far replaced) [] (here replaced sells_again) refl refl
+
+both_meters : product_total 1
+    (site_of_rows (opening known_site) (replaced ++ sells_again ∷ [])).nozzles ≡ 6000
+both_meters =
+    (volumes_conserved known_site (replaced ++ sells_again ∷ []) replaced_is_legal).metered 1
+
+-- a prepaid sale of a till that has signed off is locked by no row
+abbrev paid_and_off : List Row
+paid_and_off =
+    t1 SignOn (Ok Done)
+    ∷ t2 SignOn (Ok Done)
+    ∷ t1 (Open 1) (Ok Done)
+    ∷ t2 (Prepay 1 2000) (Ok Done)
+    ∷ t2 SignOff (Ok Done)
+    ∷ d1 (Lift 1 1 0) (Ok (Start (Money 2000) 1500))
+    ∷ []
+
+off_is_legal : IsLegal (opening known_site) (paid_and_off ++ sells ∷ [])
+off_is_legal = legal (opening known_site) (paid_and_off ++ sells ∷ []) (simp kit)
+
+locked_by_none : locks_sale first_sale (here paid_and_off sells) ≡ None
+locked_by_none = refl
+
+-- it isn't a test, and a test isn't sold
+a_sale : IsReleasedAs false 1 paid_and_off
+a_sale =
+    (tests_apart known_site (paid_and_off ++ sells ∷ []) off_is_legal).sold first_sale
+    (so_far paid_and_off) [] (here paid_and_off sells) refl refl
 
 known_site_is_fit : IsFit known_site
 known_site_is_fit = record { site = refl; products = refl; prices = refl; readings = refl }

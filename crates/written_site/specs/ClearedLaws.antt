@@ -3,8 +3,10 @@ use Rattle.std.specs.Prelude.{◌≡◌, ℕ, ◌&&◌, ◌==◌, if◌then◌el
 use Rattle.site_base.specs.declared.event.Event.{Event}
 use Rattle.site_base.specs.declared.event.Event.TheVariants.{Clear}
 use Rattle.site_base.specs.declared.row.Row.{Row}
+use Rattle.site_base.specs.declared.state.Status.TheVariants.{Cleared}
 use Rattle.site_base.specs.Configured.{Configured}
 use Rattle.transaction_buffer.specs.Sales.{Key, same_key}
+use Rattle.transaction_buffer.specs.Sums.{volume_by}
 use Rattle.written_site.specs.DrawLaws.{run_at, product_read}
 use Rattle.written_site.specs.Histories.{Moment, moments_of}
 use Rattle.written_site.specs.RowWords.{open_after, total}
@@ -42,6 +44,7 @@ abbrev pub cleared_while : Configured → ℕ → ℕ → Moment → ℕ
 cleared_while c h q m = if open_after m.earlier == h then cleared_for c q m else 0
 
 -- what was cleared of a product in a shift is what flowed into the transactions that the accepted
--- Clears name while the shift is open
+-- Clears name while the shift is open; over all shifts, into those that all of them name
 pub record AreVolumesCleared (c : Configured) (rows : List Row) (s : SiteState) : Type 0 where
   pub cleared : (h q : ℕ) → cleared_in h q s.sales ≡ total (cleared_while c h q) (moments_of c rows)
+  pub all : (q : ℕ) → volume_by q Cleared s.sales ≡ total (cleared_for c q) (moments_of c rows)

@@ -4,7 +4,7 @@ use Rattle.std.specs.List.{AllByRecursion}
 use Rattle.site_base.specs.declared.row.Row.{Row}
 use Rattle.site_base.specs.declared.state.Status.TheVariants.{Payable, Locked, Cleared}
 use Rattle.site_base.specs.Configured.{Configured}
-use Rattle.meters.specs.Metered.{product_total}
+use Rattle.meters.specs.Metered.{every_product, metered_by, product_total}
 use Rattle.transaction_buffer.specs.Sums.{volume_by}
 use Rattle.written_site.specs.FigureSteps.{AreFiguresInRange}
 use Rattle.written_site.specs.SiteState.{SiteState}
@@ -25,8 +25,10 @@ pub record DoVolumesFit (s : SiteState) (q : ℕ) : Type 0 where
 abbrev pub AreReadable : List Row → Type 0
 AreReadable rows = AllByRecursion (λ r. InRange r.event) rows
 
--- every figure fits: the volumes of each product, and the figures of each shift and of all together
+-- every figure fits: what all meters have counted, the volumes of each product, and the figures of
+-- each shift and of all together
 pub record HasFitFigures (s : SiteState) : Type 0 where
+  pub metered : metered_by every_product s.nozzles < 2 ^ 64
   pub volumes : (q : ℕ) → DoVolumesFit s q
   pub shifts : (h : ℕ) → AreFiguresInRange s h
 

@@ -1,5 +1,5 @@
 -- Takes and ends of a point's hold, read from the rows of a history, and the law of one holder.
-use Rattle.std.specs.Prelude.{◌≡◌, ◌≢◌, ◌↔◌, ℕ, Bool, true, false, ◌&&◌, ◌==◌, if◌then◌else◌, List, ◌∷◌, ◌++◌, Option, Some, None, Result, Ok, is_ok}
+use Rattle.std.specs.Prelude.{◌≡◌, ◌≢◌, ◌↔◌, ℕ, Bool, true, false, ◌&&◌, ◌==◌, if◌then◌else◌, List, ◌∷◌, ◌++◌, Option, Some, None, is_some, Result, Ok, is_ok}
 use Rattle.std.specs.List.{list_any}
 use Rattle.site_base.specs.declared.actor.Actor.{Actor}
 use Rattle.site_base.specs.declared.actor.Actor.TheVariants.{Till}
@@ -9,9 +9,12 @@ use Rattle.site_base.specs.declared.event.Event.{Event}
 use Rattle.site_base.specs.declared.event.Event.TheVariants.{SignOff, Assign, Unassign, Release, Prepay, TestRelease, Offline}
 use Rattle.site_base.specs.declared.refusal.Refusal.{Refusal}
 use Rattle.site_base.specs.declared.row.Row.{Row}
+use Rattle.site_base.specs.declared.state.PointState.{PointState}
+use Rattle.site_base.specs.declared.state.PointState.TheVariants.{Inoperative, Closed, Idle, Calling, Authorised, Started, SuspendedStarted, Fuelling, SuspendedFuelling}
 use Rattle.site_base.specs.Configured.{Configured}
 use Rattle.site_base.specs.Events.{point_named}
-use Rattle.written_site.specs.SiteState.{SiteState, opening, holder_of, rests}
+use Rattle.site_base.specs.Table.{row_of}
+use Rattle.written_site.specs.SiteState.{SiteState, opening, facts_of, holder_of}
 use Rattle.written_site.specs.SiteRun.{site_at_end, site_of_rows, IsLegal}
 use Rattle.written_site.specs.Histories.{Moment, moments_of, history}
 use Rattle.written_site.specs.Slots.{IsLastTake}
@@ -42,11 +45,27 @@ abbrev pub names_point : ℕ → Option ℕ → Bool
 names_point p None = false
 names_point p (Some q) = q == p
 
+-- a point in this state is at rest: closed, idle or calling
+abbrev pub is_at_rest : PointState → Bool
+is_at_rest Closed = true
+is_at_rest Idle = true
+is_at_rest Calling = true
+is_at_rest Inoperative = false
+is_at_rest Authorised = false
+is_at_rest Started = false
+is_at_rest SuspendedStarted = false
+is_at_rest Fuelling = false
+is_at_rest SuspendedFuelling = false
+
+-- the point is there, and at rest
+abbrev pub stands_at_rest : SiteState → ℕ → Bool
+stands_at_rest s p = is_some (row_of p s.points) && is_at_rest (facts_of s p).state
+
 -- such an event, once accepted with this reply, ends the hold that till t has of the point
 abbrev pub is_end : ℕ → ℕ → SiteState → Actor → Event → Result Answer Refusal → Bool
 is_end p t s (Till u) (Unassign q) reply = q == p
 is_end p t s actor (Offline q) reply = q == p
-is_end p t s (Till u) SignOff reply = rests s.points p && t == u
+is_end p t s (Till u) SignOff reply = stands_at_rest s p && t == u
 is_end p t s actor event reply = tells_end reply && names_point p (point_named event)
 
 -- an end of the till's hold of the point: an accepted Unassign or Offline of it, an answer of it that tells that its

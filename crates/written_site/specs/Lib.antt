@@ -27,3 +27,4 @@ pub mod PointLaws
 pub mod DrawLaws
 pub mod ClearedLaws
 pub mod MeteredRows
+pub mod TestLaws

@@ -1,6 +1,8 @@
 -- The laws of room and numbers: a sale finds both, and its number is the next one of its point in
 -- its shift.
-use Rattle.std.specs.Prelude.{◌≡◌, ℕ, ◌+◌, ◌<◌, ◌≤◌, Bool, false, ◌&&◌, ◌==◌, List, ◌∷◌, ◌++◌, Option, Some, None}
+use Rattle.std.specs.Prelude.{◌≡◌, ℕ, ◌+◌, ◌<◌, ◌≤◌, Bool, false, ◌&&◌, ◌==◌, List, ◌∷◌, ◌++◌, Option, Some, None, is_ok}
+use Rattle.site_base.specs.declared.event.Event.{Event}
+use Rattle.site_base.specs.declared.event.Event.TheVariants.{Clear}
 use Rattle.site_base.specs.declared.limits.TheConstants.{GREATEST_SEQ, UNPAID_LIMIT}
 use Rattle.site_base.specs.declared.row.Row.{Row}
 use Rattle.site_base.specs.Configured.{Configured}
@@ -19,9 +21,27 @@ is_key_of p h (Some k) = k.point == p && k.shift == h
 abbrev pub sells_in : ℕ → ℕ → Moment → Bool
 sells_in p h m = is_key_of p h (sold_as m)
 
+-- a sale of this name is one of point p
+abbrev pub is_key_at : ℕ → Option Key → Bool
+is_key_at p None = false
+is_key_at p (Some k) = k.point == p
+
+-- a moment sells at point p
+abbrev pub sells_at : ℕ → Moment → Bool
+sells_at p m = is_key_at p (sold_as m)
+
+-- the event clears a transaction of point p
+abbrev pub clear_at : ℕ → Event → Bool
+clear_at p (Clear q id) = q == p
+clear_at p event = false
+
+-- an accepted Clear of a transaction of point p
+abbrev pub clears_at : ℕ → Moment → Bool
+clears_at p m = is_ok m.row.reply && clear_at p m.row.event
+
 -- The sales of a point in a shift are told under the numbers 1, 2, 3 and so on, none above the
--- greatest. Before each of them fewer of the point's sales are unpaid than may be, and never are
--- more unpaid than may be.
+-- greatest. Before each of them fewer of the point's sales have no clear yet than may be unpaid,
+-- and never are there more. The unpaid sales of the site are those without a clear.
 pub record AreNumbered (c : Configured) (rows : List Row) (s : SiteState) : Type 0 where
   pub next : (k : Key) (before since : List Moment) (m : Moment)
       → moments_of c rows ≡ before ++ m ∷ since → sold_as m ≡ Some k
@@ -30,5 +50,8 @@ pub record AreNumbered (c : Configured) (rows : List Row) (s : SiteState) : Type
       → moments_of c rows ≡ before ++ m ∷ since → sold_as m ≡ Some k → k.number ≤ GREATEST_SEQ
   pub room : (k : Key) (before since : List Moment) (m : Moment)
       → moments_of c rows ≡ before ++ m ∷ since → sold_as m ≡ Some k
-      → unpaid_at k.point m.before.sales < UNPAID_LIMIT
-  pub unpaid : (p : ℕ) → unpaid_at p s.sales ≤ UNPAID_LIMIT
+      → count (sells_at k.point) before < count (clears_at k.point) before + UNPAID_LIMIT
+  pub few : (p : ℕ) → count (sells_at p) (moments_of c rows)
+      ≤ count (clears_at p) (moments_of c rows) + UNPAID_LIMIT
+  pub unpaid : (p : ℕ) → unpaid_at p s.sales + count (clears_at p) (moments_of c rows)
+      ≡ count (sells_at p) (moments_of c rows)

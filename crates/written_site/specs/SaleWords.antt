@@ -1,6 +1,6 @@
 -- What rows say of transactions: how they are named, who released the point that sold one, which
 -- row sells, locks, unlocks or clears one.
-use Rattle.std.specs.Prelude.{ℕ, Bool, false, ◌&&◌, ◌==◌, if◌then◌else◌, List, Option, Some, None, is_some, unwrap_or, Result, Ok, is_ok}
+use Rattle.std.specs.Prelude.{ℕ, Bool, true, false, ◌&&◌, ◌==◌, if◌then◌else◌, List, Option, Some, None, is_some, unwrap_or, Result, Ok, is_ok}
 use Rattle.site_base.specs.declared.actor.Actor.{Actor}
 use Rattle.site_base.specs.declared.actor.Actor.TheVariants.{Till}
 use Rattle.site_base.specs.declared.answer.Answer.{Answer}
@@ -22,19 +22,24 @@ key_after earlier p id = key (unwrap_or id.shift (open_after earlier)) p id.seq
 
 -- ---- releases and sales
 
--- a release of a point: the till that released it, and the cents where it is prepaid
+-- a release of a point: the till that released it, the cents where it is prepaid, and whether it is
+-- for a test
 pub record ToldRelease : Type 0 where
   pub till : ℕ
   pub prepaid : Option ℕ
+  pub test : Bool
 
 abbrev pub by_till : ℕ → Option ℕ → ToldRelease
-by_till t prepaid = record { till = t; prepaid = prepaid }
+by_till t prepaid = record { till = t; prepaid = prepaid; test = false }
+
+abbrev pub for_test : ℕ → ToldRelease
+for_test t = record { till = t; prepaid = None; test = true }
 
 -- how such an event, once accepted, releases the point
 abbrev pub release_said : ℕ → Actor → Event → Option ToldRelease
 release_said p (Till t) (Release q preset) = if q == p then Some (by_till t None) else None
 release_said p (Till t) (Prepay q cents) = if q == p then Some (by_till t (Some cents)) else None
-release_said p (Till t) (TestRelease q) = if q == p then Some (by_till t None) else None
+release_said p (Till t) (TestRelease q) = if q == p then Some (for_test t) else None
 release_said p actor event = None
 
 -- an accepted Release, Prepay or TestRelease of the point

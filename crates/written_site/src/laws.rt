@@ -8,6 +8,7 @@ mod pointing;
 mod selling;
 mod shifts;
 mod signing;
+mod testing;
 
 ghost use Rattle.written_site.specs.Bridge.{AreLegalHistoriesRuns};
 ghost use Rattle.written_site.specs.FigureSteps.{DoFiguresFit, DoFiguresMove};
@@ -25,6 +26,7 @@ pub use pointing::points_are_their_own;
 pub use selling::{priced_at_start, sales_are_kept};
 pub use shifts::{clears_are_counted, draws_are_counted, volumes_cleared_are_counted};
 pub use signing::{shift_by_rows, signed_on_by_rows};
+pub use testing::tests_are_apart;
 
 /// An event that isn't refused has passed each of the checks.
 pub fn passes_each_check()

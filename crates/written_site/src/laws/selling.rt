@@ -5,14 +5,16 @@ ghost use Rattle.written_site.specs.RowWords.{OfEvents, OfBooks};
 
 /// For every list of events from the opening site of any configuration: a sale's price is that of
 /// its product's last accepted SetPrice before the row that started its fuelling, else the
-/// configured one. A fuelling starts with a Lift that is answered Start, or with a Release, Prepay
-/// or TestRelease that is accepted while the point calls. So it is of every legal history.
+/// configured one (a nozzle of a product without a price, which no site file configures, sells at
+/// the least price). A fuelling starts with a Lift that is answered Start, or with a Release,
+/// Prepay or TestRelease that is accepted while the point calls. So it is of every legal history.
 pub fn priced_at_start()
     ensures events { OfEvents ArePricedAtStart }
     ensures books { OfBooks ArePricedAtStart }
 {}
 
-/// After a row that tells a sale the sale stands for good: with the millilitres that flowed since
+/// For every list of events from the opening site of any configuration: after a row that tells a
+/// sale the sale stands for good: with the millilitres that flowed since
 /// its fuelling started as its volume, the product of the nozzle that was lifted, the price of its
 /// start, their amount as its cents, and the cents of the Prepay that released it, if one did. A
 /// clear of it is answered with just its cents. So it is of every legal history.

@@ -15,17 +15,17 @@ pub fn clears_are_counted()
 
 /// For every list of events from the opening site of any configuration: the millilitres of a
 /// product that were cleared in a shift are those that flowed into the transactions which accepted
-/// Clears name while the shift was open. So it is of every legal history.
+/// Clears name while the shift was open; over all shifts, into those that all of them name. So it
+/// is of every legal history.
 pub fn volumes_cleared_are_counted()
     ensures events { OfEvents AreVolumesCleared }
     ensures books { OfBooks AreVolumesCleared }
 {}
 
-/// For every list of events from the opening site of any configuration, and each product that a
-/// site can have: what tests drew of it in a shift is what the Drawn answers tell while the shift
-/// was open, and what they drew over all shifts is what all of them tell. A Drawn tells the
-/// millilitres that flowed since its fuelling started, of the product of the nozzle that was
-/// lifted. So it is of every legal history.
+/// For every list of events from the opening site of any configuration, and each product number
+/// from 1 to 8: what tests drew of the product in a shift is the millilitres told in the fuellings
+/// that a Drawn ended while the shift was open, from each one's start on, the Drawn's own growth
+/// among them; over all shifts it is those of all of them. So it is of every legal history.
 pub fn draws_are_counted()
     ensures events { OfEvents AreDrawsCounted }
     ensures books { OfBooks AreDrawsCounted }

@@ -11,7 +11,8 @@ pub fn signed_on_by_rows()
     ensures books { OfBooks AreSignedOnByRows }
 {}
 
-/// The number of the open shift is one more than the shifts that were closed.
+/// After every such list of events the number of the open shift is one more than the CloseShifts
+/// that were accepted. So it is after the rows of every legal history.
 pub fn shift_by_rows()
     ensures events { OfEvents IsShiftByRows }
     ensures books { OfBooks IsShiftByRows }
