@@ -6,10 +6,10 @@ ghost use Rattle.forecourt_engines.specs.Answers.{line_of, change_line, lines_fo
 ghost use Rattle.forecourt_engines.specs.Answers.{answers_to, after_messages};
 ghost use Rattle.device_map.specs.Changes.{change_of};
 
-use site_book::SiteBook;
 use app_message::Message;
 use device_map::{change_of, refusal_in, reply_in, request_of};
 use site_base::{NoMemory, NoRow, Row};
+use site_book::SiteBook;
 use std::alloc::Global;
 use std::marker::Model;
 use std::mem;

@@ -9,13 +9,13 @@ ghost use Rattle.app_message.specs.Stream.{fed_by};
 ghost use Rattle.forecourt_engines.specs.Laws.{IsLine};
 
 use crate::answers::{Answerer, put_line};
-use site_book::SiteBook;
 use crate::fault::TextFault;
 use crate::line::{LINE_OCTETS, decode, put_without_spaces, skips, text_of};
 use app_message::{Decoder, Fed, Messages, StreamFault};
 use device_map::stream_refusal;
 use memchr::memchr;
 use site_base::NoMemory;
+use site_book::SiteBook;
 use std::alloc::Global;
 use std::marker::Model;
 use std::mem;

@@ -17,12 +17,12 @@ mod sites;
 mod sizes;
 mod trace;
 
-pub use site_book::SiteBook;
 pub use fault::{ReplayFault, TextFault};
 pub use laws::{
     a_last_line_says, a_line_says, a_long_line_says, nothing_follows, one_stream_of_lines,
 };
 pub use line::LINE_OCTETS;
+pub use site_book::SiteBook;
 pub use sites::known_site;
 pub use sizes::Sizes;
 pub use trace::{Explained, Trace};

@@ -8,10 +8,10 @@ ghost use Rattle.site_base.specs.Devices.{Rose};
 ghost use Rattle.forecourt_engines.specs.Text.{start};
 ghost use Rattle.forecourt_engines.specs.Replay.{Replayed};
 
-use site_book::SiteBook;
 use crate::engine::Engine;
 use crate::fault::ReplayFault;
 use site_base::{Counted, ReadFault, SiteConfig, WriteFault, read_piece, write_whole};
+use site_book::SiteBook;
 use std::alloc::Global;
 use std::io::{Read, Write};
 
