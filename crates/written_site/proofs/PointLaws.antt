@@ -1,21 +1,25 @@
 -- The points of a site are points, for every legal history.
-use Rattle.std.proofs.Common.{◌≡◌, ℕ, ◌==◌, Bool, true, false, List, [], ◌∷◌, ◌++◌, Option, Some, None, Ok, Err, is_ok, refl, sym, ap, ◌∙◌, if◌then◌else◌}
+use Rattle.std.proofs.Common.{◌≡◌, ℕ, ◌==◌, Bool, true, false, List, [], ◌∷◌, ◌++◌, Option, Some, None, Ok, Err, is_ok, refl, sym, ap, ◌∙◌, if◌then◌else◌, arith}
+use Rattle.std.proofs.lemmas.Bool.{false≢true}
+use Rattle.std.proofs.lemmas.Grind.{common_steps}
+use Rattle.site_base.specs.declared.answer.Answer.{Answer}
+use Rattle.site_base.specs.declared.event.Event.{Event}
 use Rattle.site_base.specs.declared.refusal.Refusal.{Refusal}
 use Rattle.site_base.specs.declared.row.Row.{Row}
 use Rattle.site_base.specs.Checks.{reply_or, value_or}
 use Rattle.site_base.specs.Configured.{Configured}
 use Rattle.fuelling_point.specs.declared.event.PointEvent.{PointEvent}
 use Rattle.fuelling_point.specs.History.{facts_after as point_step, facts_at_end, point_after, reply_to as point_reply}
-use Rattle.fuelling_point.specs.Kept.{Facts}
+use Rattle.fuelling_point.specs.Kept.{Facts, growth_of}
 use Rattle.fuelling_point.specs.PointChecks.{refusal_of}
 use Rattle.fuelling_point.specs.Step.{step_of, after}
 use Rattle.written_site.specs.Histories.{Moment, moments_of}
-use Rattle.written_site.specs.PointLaws.{event_for, own_of, added, own_events, ArePointsTheirOwn}
+use Rattle.written_site.specs.PointLaws.{event_for, own_of, added, own_events, tells_step, ArePointsTheirOwn}
 use Rattle.written_site.specs.RowWords.{OfBooks}
 use Rattle.written_site.specs.SiteChecks.{own_event}
 use Rattle.written_site.specs.SiteRun.{site_of_rows, IsLegal}
 use Rattle.written_site.specs.SiteState.{SiteState, opening, facts_in, facts_of}
-use Rattle.written_site.specs.SiteStep.{site_answer, points_after, reply_to, site_after}
+use Rattle.written_site.specs.SiteStep.{site_answer, points_after, reply_to, site_after, step_told, told_by}
 use Rattle.written_site.proofs.Histories.{site_of_rows-push}
 use Rattle.written_site.proofs.MomentRows.{moments_push, placed}
 use Rattle.written_site.proofs.PointAfter.{FactsAfter, stays, moves, facts_after, opens_closed}
@@ -155,6 +159,24 @@ taken_row p event earlier s r replies =
     (λ passes is. (own_after s r.actor r.event p event passes
     (its_own p event (own_event s r.event) is)).1)
 
+-- ---- what each event is answered
+
+answer_told : (s : SiteState) (e : Event) → tells_step e ≡ true
+    → site_answer s e ≡ told_by s (own_event s e)
+answer_told s e tells = grind (arith, common_steps)
+
+answered_row : (p : ℕ) (event : PointEvent) (earlier : List Row) (s : SiteState) (r : Row)
+    → r.reply ≡ reply_to s r.actor r.event → own_of p (moment_at earlier s r) ≡ Some event
+    → tells_step r.event ≡ true
+    → r.reply ≡ Ok (step_told s p (growth_of event) (step_of event (facts_of s p)))
+answered_row p event earlier s r replies =
+    of_row (λ row new. own_of p (moment_at earlier s row) ≡ Some event
+    → tells_step row.event ≡ true
+    → row.reply ≡ Ok (step_told s p (growth_of event) (step_of event (facts_of s p)))) s r replies
+    (λ refusal is tells. absurd (let none : None ≡ Some event = is in cc))
+    (λ passes is tells. ap (λ (a : Answer). Ok a) (answer_told s r.event tells
+    ∙ ap (told_by s) (its_own p event (own_event s r.event) is)))
+
 pub points_their_own : OfBooks ArePointsTheirOwn
 points_their_own c rows legal = record {
   facts = (points_at c rows legal).facts;
@@ -165,6 +187,11 @@ points_their_own c rows legal = record {
       ap (λ (f : Facts). is_ok (point_reply event f))
       (sym (before_it p before since m event parts own))
       ∙ ap (λ (o : Option Refusal). is_ok (reply_or o (step_of event (facts_of m.before p)))) taken;
+  answers = λ p before since m event parts own tells.
+      let at = placed c rows before since m legal parts in
+      answered_row p event m.earlier m.before m.row at.told own tells
+      ∙ ap (λ (f : Facts). Ok (step_told m.before p (growth_of event) (step_of event f)))
+      (before_it p before since m event parts own);
 }
   where
     before_it : (p : ℕ) (before since : List Moment) (m : Moment) (event : PointEvent)

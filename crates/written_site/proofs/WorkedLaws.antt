@@ -4,13 +4,15 @@
 use Rattle.std.proofs.Common.{◌≡◌, ◌≢◌, ℕ, ◌+◌, true, false, List, [], ◌∷◌, ◌++◌, Some, Ok, is_some, refl, sym, ap, arith, option_map, ◌∙◌, None, subst}
 use Rattle.std.proofs.lemmas.Bool.Decides.{nat_tests}
 use Rattle.std.specs.List.{list_any}
-use Rattle.site_base.specs.declared.answer.Answer.TheVariants.{Done, Start, Flowed, Sold, Drawn, Locked, Unlocked, Cleared, ShiftClosed}
-use Rattle.site_base.specs.declared.event.Event.TheVariants.{SignOn, Open, Release, Prepay, TestRelease, Lock, Unlock, Clear, SetPrice, CloseShift, Lift, Flow, HangUp, SignOff, Close, ReplaceMeter}
+use Rattle.site_base.specs.declared.answer.Answer.TheVariants.{Done, Start, Flowed, Sold, Drawn, Stopped, Locked, Unlocked, Cleared, ShiftClosed}
+use Rattle.site_base.specs.declared.event.Event.TheVariants.{SignOn, Open, Release, Prepay, TestRelease, Lock, Unlock, Clear, SetPrice, CloseShift, Lift, Flow, HangUp, SignOff, Close, Terminate, ReplaceMeter}
 use Rattle.site_base.specs.declared.row.Row.{Row}
 use Rattle.site_base.specs.declared.state.Preset.TheVariants.{Unset, Money}
 use Rattle.site_base.specs.declared.state.Status.TheVariants as statuses
+use Rattle.fuelling_point.specs.declared.event.PointEvent.TheVariants as points
 use Rattle.fuelling_point.specs.History.{point_after}
 use Rattle.fuelling_point.specs.Kept.{Facts}
+use Rattle.fuelling_point.specs.Step.{step_of}
 use Rattle.meters.specs.Metered.{every_product, metered_by, product_total}
 use Rattle.meters.specs.Nozzles.{Nozzle, nozzle_of}
 use Rattle.transaction_buffer.specs.Sales.{Key, key, Sale, sale_of}
@@ -32,7 +34,7 @@ use Rattle.written_site.specs.SaleWords.{locks_sale, lets_go, ends_lock, clears_
 use Rattle.written_site.specs.ShiftFigures.{clears_in, cents_in, cleared_in, shift_drawn}
 use Rattle.written_site.specs.SiteRun.{site_of_rows, IsLegal}
 use Rattle.written_site.specs.SiteState.{SiteState, opening, facts_of, is_signed_on, open_shift}
-use Rattle.written_site.specs.SiteStep.{site_after}
+use Rattle.written_site.specs.SiteStep.{site_after, step_told}
 use Rattle.written_site.specs.Slots.{IsLastTake}
 use Rattle.written_site.specs.Sound.{IsFit}
 use Rattle.written_site.specs.Volumes.{running, adjusted}
@@ -372,3 +374,19 @@ figures_fit_in_the_evening : HasFitFigures evening
 figures_fit_in_the_evening =
     every_figure_fits known_site day day_is_legal known_site_is_fit
     (tt, (tt, (tt, (tt, (omega arith, (tt, (omega arith, (tt, (tt, (tt, (tt, (tt, tt))))))))))))
+
+-- a release is taken back, and answered as the point's table says
+abbrev released : List Row
+released = t1 SignOn (Ok Done) ∷ t1 (Open 1) (Ok Done) ∷ t1 (Release 1 Unset) (Ok Done) ∷ []
+
+abbrev terminates : Row
+terminates = t1 (Terminate 1) (Ok Stopped)
+
+taken_back_is_legal : IsLegal (opening known_site) (released ++ terminates ∷ [])
+taken_back_is_legal = legal (opening known_site) (released ++ terminates ∷ []) (simp kit)
+
+taken_back : terminates.reply ≡ Ok (step_told (site_of_rows (opening known_site) released) 1 0
+    (step_of points.Terminate (point_after (own_events 1 (so_far released)))))
+taken_back =
+    (points_their_own known_site (released ++ terminates ∷ []) taken_back_is_legal).answers 1
+    (so_far released) [] (here released terminates) points.Terminate refl refl refl
