@@ -7,6 +7,7 @@ use crate::line::Line;
 use anyhow::{Context, ensure};
 use site_base::{Actor, Event, GREATEST_ROWS};
 use std::alloc::Global;
+use std::marker::Model;
 use std::mem;
 
 /// The site that is written or run, and the paragraph of events so far.
@@ -19,6 +20,12 @@ pub struct Table {
     paragraph: Vec<String>,
     times: u32,
     counted: Counted,
+}
+
+impl Model for Table {
+    ghost Value = { Unit {0} };
+
+    ghost view = { λ t. tt };
 }
 
 impl Table {
