@@ -3,6 +3,7 @@ use Rattle.std.specs.Prelude.{◌≡◌, ℕ, ◌≤◌, ◌*◌, length, Bool, 
 use Rattle.std.specs.Io.KnownBytes.{Appends, Consumes}
 use Rattle.site_base.specs.Configured.{Configured}
 use Rattle.site_base.specs.Devices.{AppendsFront}
+use Rattle.site_book.specs.Book.{Book}
 use Rattle.forecourt_engines.specs.declared.fault.TextFault.{TextFault}
 use Rattle.forecourt_engines.specs.declared.fault.ReplayFault.{ReplayFault}
 use Rattle.forecourt_engines.specs.declared.fault.ReplayFault.TheVariants.{NoMemory, Read}
@@ -29,6 +30,13 @@ abbrev pub is_before_report : ReplayFault → Bool
 is_before_report NoMemory = true
 is_before_report (Read fault) = true
 is_before_report other = false
+
+-- A report of a book was written, or a front of it, after a text that ended so. Without an early end the
+-- whole report was, and the end is the text's.
+pub record WritesReport (ended : Option ReplayFault) (b : Book) (holds holds' : Option (List ℕ)) (fault : Option ReplayFault) : Type 0 where
+  pub front : AppendsFront holds holds' (book_report b)
+  pub whole : is_early fault ≡ false → Appends holds holds' (book_report b)
+  pub exact : is_early fault ≡ false → fault ≡ ended
 
 -- Some octets were read, a piece a turn at most, and a front of the report of their rows was written. Where
 -- it didn't end early, the whole report was, its fault is that of their text, and it read until the text

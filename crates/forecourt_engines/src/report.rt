@@ -104,7 +104,10 @@ fn put_sold(text: &mut String, view: &ProductView) -> Result<(), NoMemory>
 {
     let (payable, locked) = (view.payable, view.locked);
     let (cleared, adjusted) = (view.cleared, view.adjusted);
-    write!(text, " payable {payable} locked {locked} cleared {cleared} adjusted {adjusted}\n")?;
+    write!(
+        text,
+        " payable {payable} locked {locked} cleared {cleared} adjusted {adjusted}\n"
+    )?;
     Ok(())
 }
 

@@ -5,10 +5,10 @@ ghost use Rattle.std.specs.Result.{IsErrOf, result_err};
 ghost use Rattle.std.specs.Io.KnownBytes.{IsAtEnd, Keeps};
 ghost use Rattle.site_base.specs.Counted.{device_of, failures_of};
 ghost use Rattle.site_base.specs.Devices.{Rose};
-ghost use Rattle.forecourt_engines.specs.Replay.{Replayed};
+ghost use Rattle.forecourt_engines.specs.Replay.{Replayed, as_fault};
 ghost use Rattle.site_base.specs.declared.transfer.ReadFault.{ReadFault};
 ghost use Rattle.forecourt_engines.specs.Report.{book_report};
-ghost use Rattle.forecourt_engines.specs.Reporting.{Reported, ended_with, is_before_report};
+ghost use Rattle.forecourt_engines.specs.Reporting.{Reported, WritesReport, ended_with, is_before_report};
 
 use crate::engine::Engine;
 use crate::fault::{ReplayFault, TextFault};
@@ -47,9 +47,35 @@ pub fn replay_to_report<R: Read, W: Write>(
 {
     let book = SiteBook::try_open(alloc, config)?;
     let mut engine = Engine::new(alloc, book, false);
-    let fault = run(alloc, &mut engine, reader, &mut turns)?;
-    let text = report_of_book(alloc, config, &engine.into_book())?;
-    write_whole(writer, text.as_str().as_bytes(), &mut turns)?;
+    let ended = run(alloc, &mut engine, reader, &mut turns);
+    let book = engine.into_book();
+    match ended {
+        Ok(fault) => put_report(alloc, config, &book, fault, writer, &mut turns),
+        Err(fault) => Err(fault),
+    }
+}
+
+/// Writes the report of a book whose text ended so, and ends as the text did.
+fn put_report<W: Write>(
+    alloc: Global,
+    config: &SiteConfig,
+    book: &SiteBook,
+    fault: Option<TextFault>,
+    writer: &mut Counted<W>,
+    turns: &mut u64,
+) -> Result<(), ReplayFault>
+    requires { book.now.config ≡ config.now }
+    ensures told { WritesReport (as_fault fault) book.now
+        (W.contents (device_of writer.old)) (W.contents (device_of writer.new)) (result_err result) }
+    ensures end { OnOk result (fault ≡ None) }
+    ensures no_memory { IsErrOf result ReplayFault.NoMemory
+        → Keeps (W.contents (device_of writer.old)) (W.contents (device_of writer.new)) }
+    ensures reads_none { (read : ReadFault) → IsErrOf result (ReplayFault.Read read) → ⊥ }
+    ensures write_failed { IsErrOf result (ReplayFault.Write WriteFault.Failed)
+        → Rose (failures_of writer.old) (failures_of writer.new) }
+{
+    let text = report_of_book(alloc, config, book)?;
+    write_whole(writer, text.as_str().as_bytes(), turns)?;
     match fault {
         None => Ok(()),
         Some(fault) => Err(ReplayFault::Text(fault)),
