@@ -14,7 +14,8 @@ help:
 	@echo 'make test     the gate: every proof from nothing, the wrong bodies of the first shelf, every test,'
 	@echo '              the built programs, refused growths and failing devices'
 	@echo 'make audit    the wrong bodies of the second shelf, of every crate or of CRATES="a b"'
-	@echo 'make bench    messages a second, memory, and their growth with the input; what a call of a part costs'
+	@echo 'make bench    messages a second, memory, and their growth with the input; what a call of a part costs,'
+	@echo '              and a row of a book of a million'
 
 run:
 	@cd crates/forecourt && rt try < stdin
@@ -38,5 +39,6 @@ bench: build
 	@scripts/bench $(PROGRAM)
 	@scripts/instructions $(PROGRAM)
 	@scripts/bench-fuellings $(PROGRAM)
+	@scripts/bench-book $(PROGRAM)
 	@cd crates/parts_cost && rt run > /dev/null
 	@scripts/parts-cost $(COSTS)

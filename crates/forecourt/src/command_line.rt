@@ -19,6 +19,9 @@ pub fn command<'a>(alloc: Global) -> Result<Command<'a>, Error> {
         .about("Answers the messages of standard input on the site of a file")
         .arg(file(alloc))?
         .arg(changes)?;
+    let report = Command::new(alloc, "report")
+        .about("Replays standard input on the site of a file, and prints the report of its rows")
+        .arg(file(alloc))?;
     let explain = Command::new(alloc, "explain").about(
         "Prints the messages of standard input in words, requests and replies",
     );
@@ -31,6 +34,7 @@ pub fn command<'a>(alloc: Global) -> Result<Command<'a>, Error> {
             )
             .subcommand(check)?
             .subcommand(replay)?
+            .subcommand(report)?
             .subcommand(explain)?,
     )
 }

@@ -13,6 +13,7 @@ use crate::explaining::explained;
 use crate::files::site_of;
 use clap::ArgMatches;
 use forecourt_engines::replay::replay;
+use forecourt_engines::reporting::replay_to_report;
 use forecourt_engines::{Sizes, known_site};
 use site_base::{Counted, SiteConfig};
 use std::env;
@@ -66,6 +67,10 @@ fn done(rt: &HostRuntime, matches: &ArgMatches<'_>) -> ExitCode {
                 Err(status) => status,
             }
         }
+        Some(("report", words)) => match site_of(rt, words.get_str("FILE").unwrap_or("")) {
+            Ok(config) => reported(rt, &config),
+            Err(status) => status,
+        },
         Some(("explain", _)) => explained(rt),
         _ => replayed_here(rt),
     }
@@ -99,4 +104,13 @@ fn replayed(rt: &HostRuntime, config: &SiteConfig, changes: bool) -> ExitCode {
     let mut writer = Counted::new(rt.stdout());
     let end = replay(rt.alloc(), config, &mut reader, &mut writer, TURNS, changes);
     ended(rt, end.fault)
+}
+
+/// Replays standard input on this site, prints the report of its rows, and tells why the replay ended, if it
+/// ended with a fault.
+fn reported(rt: &HostRuntime, config: &SiteConfig) -> ExitCode {
+    let mut reader = Counted::new(rt.stdin());
+    let mut writer = Counted::new(rt.stdout());
+    let end = replay_to_report(rt.alloc(), config, &mut reader, &mut writer, TURNS);
+    ended(rt, end.err())
 }

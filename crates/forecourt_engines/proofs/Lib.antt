@@ -5,3 +5,4 @@ pub mod WholeTexts
 pub mod Running
 pub mod Worked
 pub mod NozzleCount
+pub mod Reports

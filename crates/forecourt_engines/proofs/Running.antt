@@ -54,7 +54,7 @@ is_small n buf most within small = omega (arith, length-take-le n buf within, wi
 
 -- ---- early ends
 
-AppendsFront-none : (u : Option (List ℕ)) (a : List ℕ) → AppendsFront u u a
+pub AppendsFront-none : (u : Option (List ℕ)) (a : List ℕ) → AppendsFront u u a
 AppendsFront-none u a = record { front = []; rest = a; parts = refl; written = Appends-none u }
 
 -- the book couldn't be opened

@@ -7,3 +7,5 @@ pub mod SiteSizes
 pub mod WholeText
 pub mod Laws
 pub mod Meanings
+pub mod Report
+pub mod Reporting

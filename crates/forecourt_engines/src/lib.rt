@@ -3,7 +3,8 @@
 //!
 //! `replay` answers lines of messages over the opening site of a configuration. What it writes is the
 //! text of what it read, as `specs/Text.antt` defines it octet by octet; the laws join that text to
-//! lines and to one stream of messages. `Trace` explains such lines, message by message, in words.
+//! lines and to one stream of messages. `replay_to_report` writes the report of the rows that `replay`
+//! would make, which `report` makes of their figures. `Trace` explains such lines, message by message, in words.
 #![tactic(auto)]
 
 mod answers;
@@ -13,6 +14,8 @@ mod fault;
 mod laws;
 mod line;
 pub mod replay;
+pub mod report;
+pub mod reporting;
 mod sites;
 mod sizes;
 mod trace;

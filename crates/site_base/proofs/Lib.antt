@@ -1,4 +1,5 @@
 pub mod Cells
+pub mod KeptRows
 pub mod Known
 pub mod Numbering
 pub mod Places

@@ -6,6 +6,7 @@ pub mod Counted
 pub mod Devices
 pub mod Events
 pub mod History
+pub mod KeptRows
 pub mod Numbered
 pub mod PointSets
 pub mod Prices

@@ -1,6 +1,6 @@
 //! The figures of the book: as they are kept, and counted again from the rows.
 
-ghost use Rattle.std.specs.Prelude.{◌≡◌, [], ◌∷◌, take, IfOk, OnOk};
+ghost use Rattle.std.specs.Prelude.{◌≡◌, [], ◌∷◌, length, take, IfOk, OnOk};
 ghost use Rattle.written_site.specs.SiteState.{opening};
 ghost use Rattle.written_site.specs.SiteRun.{site_of_rows};
 ghost use Rattle.site_book.specs.Figures.{AreFiguresOf};
@@ -11,17 +11,24 @@ use site_core::Site;
 use std::alloc::Global;
 
 impl SiteBook {
-    /// The figures of the rows, as the site keeps them.
+    /// The figures of the rows, as the site keeps them, one member for each product of the
+    /// configuration.
+    #[tactic(auto, using(crate::proofs::ProductCounts::one_for_each_product))]
     pub fn totals(&self, alloc: Global) -> Result<Totals, NoMemory>
-        ensures { IfOk result (λ totals. AreFiguresOf self.now totals) }
+        ensures figures { IfOk result (λ totals. AreFiguresOf self.now totals) }
+        ensures products { IfOk result (λ totals.
+            length totals.products.items ≡ length self.now.config.products) }
     {
         self.site.totals(alloc, self.rows.len() as u64)
     }
 
     /// The figures of the rows, computed again from the configuration and the rows alone: a site is
     /// opened anew and takes each row's event, and what it then has is summed.
+    #[tactic(auto, using(crate::proofs::ProductCounts::one_for_each_product))]
     pub fn audit(&self, alloc: Global) -> Result<Totals, NoMemory>
-        ensures { IfOk result (λ totals. AreFiguresOf self.now totals) }
+        ensures figures { IfOk result (λ totals. AreFiguresOf self.now totals) }
+        ensures products { IfOk result (λ totals.
+            length totals.products.items ≡ length self.now.config.products) }
     {
         let mut site = Site::try_open(alloc, &self.config)?;
         run_again(&mut site, &self.rows)?;

@@ -1,0 +1,15 @@
+use Rattle.std.proofs.Common.{◌≡◌, ◌≤◌, None}
+use Rattle.site_base.specs.Counted.{device_of, failures_of}
+use Rattle.forecourt_engines.proofs.Running.{Running}
+use Rattle.forecourt_engines.proofs.reporting.run.Given as goal
+
+abbrev pub invariant-loop-n : goal.invariant-loop-n
+invariant-loop-n g l = record {
+  running : Running l.fn.turns l.turns l.fn.engine l.engine
+      (g.R.Read.remaining (device_of l.fn.reader)) (g.R.Read.remaining (device_of l.reader)) None None;
+  reads : failures_of l.reader ≡ failures_of l.fn.reader;
+  unturned : l.turns ≤ l.fn.turns;
+}
+
+abbrev pub decreases-loop-n : goal.decreases-loop-n
+decreases-loop-n g l = l.turns

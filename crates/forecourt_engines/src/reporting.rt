@@ -1,0 +1,126 @@
+//! The replay that ends with a report: lines of messages in, the report of their rows out.
+
+ghost use Rattle.std.specs.Prelude.{◌≡◌, ◌≤◌, ◌⊎◌, Some, None, true, string_bytes, IfOk, IfErr, OnOk};
+ghost use Rattle.std.specs.Result.{IsErrOf, result_err};
+ghost use Rattle.std.specs.Io.KnownBytes.{IsAtEnd, Keeps};
+ghost use Rattle.site_base.specs.Counted.{device_of, failures_of};
+ghost use Rattle.site_base.specs.Devices.{Rose};
+ghost use Rattle.forecourt_engines.specs.Replay.{Replayed, as_fault};
+ghost use Rattle.site_base.specs.declared.transfer.ReadFault.{ReadFault};
+ghost use Rattle.forecourt_engines.specs.Report.{book_report};
+ghost use Rattle.forecourt_engines.specs.Reporting.{Reported, WritesReport, ended_with, is_before_report};
+
+use crate::engine::Engine;
+use crate::fault::{ReplayFault, TextFault};
+use crate::replay::PIECE_OCTETS;
+use crate::report::report;
+use site_base::{Counted, NoMemory, ReadFault, SiteConfig, WriteFault, read_piece, write_whole};
+use site_book::SiteBook;
+use std::alloc::Global;
+use std::io::{Read, Write};
+
+/// Replays lines of messages on the opening site of this configuration, as `replay` does, but writes no
+/// answer. Where the text of the answers ends, at the end of the input or with a fault of its own, the
+/// report of the rows until then is written: their figures by the book's audit, and that no share settled.
+/// Where the replay ends early, for want of memory, at its turn limit or with a reader that fails, nothing is.
+pub fn replay_to_report<R: Read, W: Write>(
+    alloc: Global,
+    config: &SiteConfig,
+    reader: &mut Counted<R>,
+    writer: &mut Counted<W>,
+    mut turns: u64,
+) -> Result<(), ReplayFault>
+    ensures told { Reported turns config.now
+        (R.remaining (device_of reader.old)) (R.remaining (device_of reader.new))
+        (W.contents (device_of writer.old)) (W.contents (device_of writer.new)) (result_err result) }
+    ensures end { OnOk result (IsAtEnd (R.remaining (device_of reader.new))) }
+    ensures no_turns { turns ≡ 0 → (result_err result ≡ Some (ReplayFault.Read ReadFault.TurnLimit))
+        ⊎ (result_err result ≡ Some ReplayFault.NoMemory) }
+    ensures no_memory { IsErrOf result ReplayFault.NoMemory
+        → Keeps (W.contents (device_of writer.old)) (W.contents (device_of writer.new)) }
+    ensures unread { (fault : ReadFault) → IsErrOf result (ReplayFault.Read fault)
+        → Keeps (W.contents (device_of writer.old)) (W.contents (device_of writer.new)) }
+    ensures read_failed { IsErrOf result (ReplayFault.Read ReadFault.Failed)
+        → Rose (failures_of reader.old) (failures_of reader.new) }
+    ensures write_failed { IsErrOf result (ReplayFault.Write WriteFault.Failed)
+        → Rose (failures_of writer.old) (failures_of writer.new) }
+{
+    let book = SiteBook::try_open(alloc, config)?;
+    let mut engine = Engine::new(alloc, book, false);
+    let ended = run(alloc, &mut engine, reader, &mut turns);
+    let book = engine.into_book();
+    match ended {
+        Ok(fault) => put_report(alloc, config, &book, fault, writer, &mut turns),
+        Err(fault) => Err(fault),
+    }
+}
+
+/// Writes the report of a book whose text ended so, and ends as the text did.
+fn put_report<W: Write>(
+    alloc: Global,
+    config: &SiteConfig,
+    book: &SiteBook,
+    fault: Option<TextFault>,
+    writer: &mut Counted<W>,
+    turns: &mut u64,
+) -> Result<(), ReplayFault>
+    requires { book.now.config ≡ config.now }
+    ensures told { WritesReport (as_fault fault) book.now
+        (W.contents (device_of writer.old)) (W.contents (device_of writer.new)) (result_err result) }
+    ensures end { OnOk result (fault ≡ None) }
+    ensures no_memory { IsErrOf result ReplayFault.NoMemory
+        → Keeps (W.contents (device_of writer.old)) (W.contents (device_of writer.new)) }
+    ensures reads_none { (read : ReadFault) → IsErrOf result (ReplayFault.Read read) → ⊥ }
+    ensures write_failed { IsErrOf result (ReplayFault.Write WriteFault.Failed)
+        → Rose (failures_of writer.old) (failures_of writer.new) }
+{
+    let text = report_of_book(alloc, config, book)?;
+    write_whole(writer, text.as_str().as_bytes(), turns)?;
+    match fault {
+        None => Ok(()),
+        Some(fault) => Err(ReplayFault::Text(fault)),
+    }
+}
+
+/// The report of a book, by its audit.
+fn report_of_book(alloc: Global, config: &SiteConfig, book: &SiteBook) -> Result<String, NoMemory>
+    requires { book.now.config ≡ config.now }
+    ensures { IfOk result (λ text. string_bytes text ≡ book_report book.now) }
+{
+    let totals = book.audit(alloc)?;
+    report(alloc, config, &totals, 0)
+}
+
+/// Runs the engine over the reader, piece after piece, and lets its text go. The answer is why the text
+/// ends, if it does so before the input.
+#[tactic(auto, using(crate::proofs::Running::running))]
+fn run<R: Read>(
+    alloc: Global,
+    engine: &mut Engine,
+    reader: &mut Counted<R>,
+    turns: &mut u64,
+) -> Result<Option<TextFault>, ReplayFault>
+    ensures told { Replayed turns.old engine.old
+        (R.remaining (device_of reader.old)) (R.remaining (device_of reader.new))
+        None None (ended_with result) (Some engine.new.answerer.book) }
+    ensures end { IfOk result (λ fault. fault ≡ None → IsAtEnd (R.remaining (device_of reader.new))) }
+    ensures unwritten { IfErr result (λ fault. is_before_report fault ≡ true) }
+    ensures turns { turns.new ≤ turns.old }
+    ensures counted { OnOk result (failures_of reader.new ≡ failures_of reader.old) }
+    ensures no_turns { turns.old ≡ 0 → IsErrOf result (ReplayFault.Read ReadFault.TurnLimit) }
+    ensures read_failed { IsErrOf result (ReplayFault.Read ReadFault.Failed)
+        → Rose (failures_of reader.old) (failures_of reader.new) }
+{
+    let mut piece = [0u8; PIECE_OCTETS];
+    loop {
+        let n = read_piece(reader, &mut piece, turns)?;
+        let mut text = Vec::new(alloc);
+        if n == 0 {
+            return Ok(engine.finish(&mut text)?);
+        }
+        engine.feed(&piece[..n], &mut text)?;
+        if let Some(fault) = engine.stop() {
+            return Ok(Some(fault));
+        }
+    }
+}
