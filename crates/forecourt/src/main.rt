@@ -106,8 +106,8 @@ fn replayed(rt: &HostRuntime, config: &SiteConfig, changes: bool) -> ExitCode {
     ended(rt, end.fault)
 }
 
-/// Replays standard input on this site, prints the report of its rows, and tells why the replay ended, if it
-/// ended with a fault.
+/// Replays standard input on this site, prints the report of its rows, and tells why the replay
+/// ended, if it ended with a fault.
 fn reported(rt: &HostRuntime, config: &SiteConfig) -> ExitCode {
     let mut reader = Counted::new(rt.stdin());
     let mut writer = Counted::new(rt.stdout());

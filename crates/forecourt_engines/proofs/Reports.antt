@@ -1,5 +1,7 @@
 -- A replay's book keeps its configuration, and its report is that of what was read.
-use Rattle.std.proofs.Common.{◌≡◌, ℕ, Bool, true, false, List, [], ◌∷◌, ◌++◌, Option, Some, None, Result, Ok, Err, refl, ap, sym, subst, ◌∙◌, ◌==◌, nat_le, length, arith, if◌then◌else◌}
+use Rattle.std.proofs.Common.{◌≡◌, ℕ, Bool, true, false, List, [], ◌∷◌, ◌++◌, Option, Some, None}
+use Rattle.std.proofs.Common.{Result, Ok, Err, refl, ap, sym, subst, ◌∙◌, ◌==◌, nat_le, length}
+use Rattle.std.proofs.Common.{arith, if◌then◌else◌}
 use Rattle.std.specs.Io.KnownBytes.{Appends}
 use Rattle.site_base.specs.Devices.{AppendsFront}
 use Rattle.site_base.proofs.Known.{Consumes-none}
@@ -20,10 +22,12 @@ use Rattle.forecourt_engines.specs.declared.fault.ReplayFault.{ReplayFault}
 use Rattle.forecourt_engines.specs.declared.fault.ReplayFault.TheVariants as ends_so
 use Rattle.forecourt_engines.specs.Replay.{is_early, as_fault, Replayed}
 use Rattle.forecourt_engines.specs.Report.{book_report}
-use Rattle.forecourt_engines.specs.Reporting.{Reported, WritesReport, input_report, is_before_report, opening_state}
+use Rattle.forecourt_engines.specs.Reporting.{Reported, WritesReport, input_report}
+use Rattle.forecourt_engines.specs.Reporting.{is_before_report, opening_state}
 use Rattle.forecourt_engines.proofs.Running.{AppendsFront-none}
 use Rattle.forecourt_engines.specs.declared.line.TheConstants.{LINE_OCTETS}
-use Rattle.forecourt_engines.specs.Text.{State, after, book_of, decoded, ended, ends, is_skipped, judged, kept_of, line_told, next, next_line, stepped}
+use Rattle.forecourt_engines.specs.Text.{State, after, book_of, decoded, ended, ends, is_skipped}
+use Rattle.forecourt_engines.specs.Text.{judged, kept_of, line_told, next, next_line, stepped}
 
 book_keeps : (b : Book) (meaning : Result (Actor × Event) MapFault)
     → (book_meaning b meaning).config ≡ b.config
@@ -56,7 +60,8 @@ line_keeps number stream a kept = by_skip (is_skipped kept)
     by_skip true = refl
     by_skip false = by_text (decode_of kept)
 
-told_keeps : (st : State) → (next_line st (line_told st)).answerer.book.config ≡ st.answerer.book.config
+told_keeps : (st : State) → (next_line st (line_told st)).answerer.book.config
+    ≡ st.answerer.book.config
 told_keeps st = line_keeps st.number st.stream st.answerer (kept_of st.line)
 
 octet_keeps : (st : State) (b : ℕ) → (next st b).answerer.book.config ≡ st.answerer.book.config
@@ -78,23 +83,27 @@ octet_keeps st b = by_stop st.stop
     by_octet true = told_keeps st
     by_octet false = by_length (nat_le LINE_OCTETS (length st.line))
 
-    by_stop : (stop : Option TextFault) → (stepped stop st b).answerer.book.config ≡ st.answerer.book.config
+    by_stop : (stop : Option TextFault) → (stepped stop st b).answerer.book.config
+        ≡ st.answerer.book.config
     by_stop (Some fault) = refl
     by_stop None = by_octet (b == 10)
 
-octets_keep : (st : State) (input : List ℕ) → (after st input).answerer.book.config ≡ st.answerer.book.config
+octets_keep : (st : State) (input : List ℕ) → (after st input).answerer.book.config
+    ≡ st.answerer.book.config
 octets_keep st [] = refl
 octets_keep st (b ∷ bs) = octets_keep (next st b) bs ∙ octet_keeps st b
 
 end_keeps : (st : State) → (ended st).answerer.book.config ≡ st.answerer.book.config
 end_keeps st = by_stop st.stop
   where
-    by_stop : (stop : Option TextFault) → (ends stop st).answerer.book.config ≡ st.answerer.book.config
+    by_stop : (stop : Option TextFault) → (ends stop st).answerer.book.config
+        ≡ st.answerer.book.config
     by_stop (Some fault) = refl
     by_stop None = told_keeps st
 
 -- the book that an input leads to has the configuration that it began with
-pub same_config : (st : State) (input : List ℕ) → (book_of st input).config ≡ st.answerer.book.config
+pub same_config : (st : State) (input : List ℕ) → (book_of st input).config
+    ≡ st.answerer.book.config
 same_config st input = end_keeps (after st input) ∙ octets_keep st input
 
 -- ---- how it ends

@@ -1,5 +1,6 @@
 -- What a replay that ends with a report has done when it ends.
-use Rattle.std.specs.Prelude.{◌≡◌, ℕ, ◌≤◌, ◌*◌, length, Bool, true, false, List, [], Option, Result, Ok, Err, Some}
+use Rattle.std.specs.Prelude.{◌≡◌, ℕ, ◌≤◌, ◌*◌, length, Bool, true, false, List, [], Option, Result}
+use Rattle.std.specs.Prelude.{Ok, Err, Some}
 use Rattle.std.specs.Io.KnownBytes.{Appends, Consumes}
 use Rattle.site_base.specs.Configured.{Configured}
 use Rattle.site_base.specs.Devices.{AppendsFront}
@@ -31,16 +32,16 @@ is_before_report NoMemory = true
 is_before_report (Read fault) = true
 is_before_report other = false
 
--- A report of a book was written, or a front of it, after a text that ended so. Without an early end the
--- whole report was, and the end is the text's.
+-- A report of a book was written, or a front of it, after a text that ended so. Without an early
+-- end the whole report was, and the end is the text's.
 pub record WritesReport (ended : Option ReplayFault) (b : Book) (holds holds' : Option (List ℕ)) (fault : Option ReplayFault) : Type 0 where
   pub front : AppendsFront holds holds' (book_report b)
   pub whole : is_early fault ≡ false → Appends holds holds' (book_report b)
   pub exact : is_early fault ≡ false → fault ≡ ended
 
--- Some octets were read, a piece a turn at most, and a front of the report of their rows was written. Where
--- it didn't end early, the whole report was, its fault is that of their text, and it read until the text
--- stopped or to the end.
+-- Some octets were read, a piece a turn at most, and a front of the report of their rows was
+-- written. Where it didn't end early, the whole report was, its fault is that of their text, and it
+-- read until the text stopped or to the end.
 pub record Reported (turns : ℕ) (c : Configured) (left left' holds holds' : Option (List ℕ)) (fault : Option ReplayFault) : Type 0 where
   pub read : List ℕ
   pub consumed : Consumes left left' read

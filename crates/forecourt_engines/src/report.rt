@@ -8,10 +8,10 @@ ghost use Rattle.forecourt_engines.specs.Report.{shares_line, report_text};
 use site_base::{NoMemory, ProductEntry, ProductView, SiteConfig, TillNo, Totals};
 use std::alloc::Global;
 
-/// The report of these totals: how many rows there are; the clears of all tills and their cents; for
-/// each product, in configured order, its figures, of which what tests drew, the adjusted millilitres,
-/// comes last; and how many shares settled. The totals have one member for each product of the
-/// configuration.
+/// The report of these totals: how many rows there are; the clears of all tills and their cents;
+/// for each product, in configured order, its figures, of which what tests drew, the adjusted
+/// millilitres, comes last; and how many shares settled. The totals have one member for each
+/// product of the configuration.
 pub fn report(
     alloc: Global,
     config: &SiteConfig,
@@ -30,7 +30,8 @@ pub fn report(
 
 /// Appends the rows, and what all tills cleared.
 fn put_head(text: &mut String, rows: u64, tills: &[(TillNo, u64, u64)]) -> Result<(), NoMemory>
-    ensures { OnOk result (string_bytes text.new ≡ string_bytes text.old ++ head_lines rows tills.now) }
+    ensures { OnOk result (string_bytes text.new
+        ≡ string_bytes text.old ++ head_lines rows tills.now) }
 {
     let (clears, cents) = cleared_by_all(tills);
     write!(text, "rows {rows}\nclears {clears} cents {cents}\n")?;
@@ -82,7 +83,8 @@ fn put_product(
 
 /// Appends which product a line is of.
 fn put_title(text: &mut String, product: &ProductEntry) -> Result<(), NoMemory>
-    ensures { OnOk result (string_bytes text.new ≡ string_bytes text.old ++ product_title product.now) }
+    ensures { OnOk result (string_bytes text.new
+        ≡ string_bytes text.old ++ product_title product.now) }
 {
     let number = product.number.get();
     let name = product.name.as_str();
@@ -92,7 +94,8 @@ fn put_title(text: &mut String, product: &ProductEntry) -> Result<(), NoMemory>
 
 /// Appends what was metered, and what of it is in a fuelling under way.
 fn put_metered(text: &mut String, view: &ProductView) -> Result<(), NoMemory>
-    ensures { OnOk result (string_bytes text.new ≡ string_bytes text.old ++ metered_words view.now) }
+    ensures { OnOk result (string_bytes text.new
+        ≡ string_bytes text.old ++ metered_words view.now) }
 {
     write!(text, " metered {} running {}", view.metered, view.running)?;
     Ok(())

@@ -1,6 +1,7 @@
 //! The replay that ends with a report: lines of messages in, the report of their rows out.
 
-ghost use Rattle.std.specs.Prelude.{◌≡◌, ◌≤◌, ◌⊎◌, Some, None, true, string_bytes, IfOk, IfErr, OnOk};
+ghost use Rattle.std.specs.Prelude.{◌≡◌, ◌≤◌, ◌⊎◌, Some, None, true, string_bytes, IfOk, IfErr};
+ghost use Rattle.std.specs.Prelude.{OnOk};
 ghost use Rattle.std.specs.Result.{IsErrOf, result_err};
 ghost use Rattle.std.specs.Io.KnownBytes.{IsAtEnd, Keeps};
 ghost use Rattle.site_base.specs.Counted.{device_of, failures_of};
@@ -8,7 +9,8 @@ ghost use Rattle.site_base.specs.Devices.{Rose};
 ghost use Rattle.forecourt_engines.specs.Replay.{Replayed, as_fault};
 ghost use Rattle.site_base.specs.declared.transfer.ReadFault.{ReadFault};
 ghost use Rattle.forecourt_engines.specs.Report.{book_report};
-ghost use Rattle.forecourt_engines.specs.Reporting.{Reported, WritesReport, ended_with, is_before_report};
+ghost use Rattle.forecourt_engines.specs.Reporting.{Reported, WritesReport, ended_with};
+ghost use Rattle.forecourt_engines.specs.Reporting.{is_before_report};
 
 use crate::engine::Engine;
 use crate::fault::{ReplayFault, TextFault};
@@ -19,10 +21,11 @@ use site_book::SiteBook;
 use std::alloc::Global;
 use std::io::{Read, Write};
 
-/// Replays lines of messages on the opening site of this configuration, as `replay` does, but writes no
-/// answer. Where the text of the answers ends, at the end of the input or with a fault of its own, the
-/// report of the rows until then is written: their figures by the book's audit, and that no share settled.
-/// Where the replay ends early, for want of memory, at its turn limit or with a reader that fails, nothing is.
+/// Replays lines of messages on the opening site of this configuration, as `replay` does, but
+/// writes no answer. Where the text of the answers ends, at the end of the input or with a fault of
+/// its own, the report of the rows until then is written: their figures by the book's audit, and
+/// that no share settled. Where the replay ends early, for want of memory, at its turn limit or
+/// with a reader that fails, nothing is.
 pub fn replay_to_report<R: Read, W: Write>(
     alloc: Global,
     config: &SiteConfig,
@@ -32,7 +35,8 @@ pub fn replay_to_report<R: Read, W: Write>(
 ) -> Result<(), ReplayFault>
     ensures told { Reported turns config.now
         (R.remaining (device_of reader.old)) (R.remaining (device_of reader.new))
-        (W.contents (device_of writer.old)) (W.contents (device_of writer.new)) (result_err result) }
+        (W.contents (device_of writer.old))
+        (W.contents (device_of writer.new)) (result_err result) }
     ensures end { OnOk result (IsAtEnd (R.remaining (device_of reader.new))) }
     ensures no_turns { turns ≡ 0 → (result_err result ≡ Some (ReplayFault.Read ReadFault.TurnLimit))
         ⊎ (result_err result ≡ Some ReplayFault.NoMemory) }
@@ -66,7 +70,8 @@ fn put_report<W: Write>(
 ) -> Result<(), ReplayFault>
     requires { book.now.config ≡ config.now }
     ensures told { WritesReport (as_fault fault) book.now
-        (W.contents (device_of writer.old)) (W.contents (device_of writer.new)) (result_err result) }
+        (W.contents (device_of writer.old))
+        (W.contents (device_of writer.new)) (result_err result) }
     ensures end { OnOk result (fault ≡ None) }
     ensures no_memory { IsErrOf result ReplayFault.NoMemory
         → Keeps (W.contents (device_of writer.old)) (W.contents (device_of writer.new)) }
@@ -91,8 +96,8 @@ fn report_of_book(alloc: Global, config: &SiteConfig, book: &SiteBook) -> Result
     report(alloc, config, &totals, 0)
 }
 
-/// Runs the engine over the reader, piece after piece, and lets its text go. The answer is why the text
-/// ends, if it does so before the input.
+/// Runs the engine over the reader, piece after piece, and lets its text go. The answer is why the
+/// text ends, if it does so before the input.
 #[tactic(auto, using(crate::proofs::Running::running))]
 fn run<R: Read>(
     alloc: Global,
@@ -103,7 +108,8 @@ fn run<R: Read>(
     ensures told { Replayed turns.old engine.old
         (R.remaining (device_of reader.old)) (R.remaining (device_of reader.new))
         None None (ended_with result) (Some engine.new.answerer.book) }
-    ensures end { IfOk result (λ fault. fault ≡ None → IsAtEnd (R.remaining (device_of reader.new))) }
+    ensures end { IfOk result (λ fault. fault ≡ None
+        → IsAtEnd (R.remaining (device_of reader.new))) }
     ensures unwritten { IfErr result (λ fault. is_before_report fault ≡ true) }
     ensures turns { turns.new ≤ turns.old }
     ensures counted { OnOk result (failures_of reader.new ≡ failures_of reader.old) }

@@ -1,5 +1,7 @@
 -- Rows that are kept are the rows that were added.
-use Rattle.std.proofs.Common.{◌≡◌, ℕ, ◌+◌, ◌<◌, Bool, true, ◌&&◌, List, [], ◌∷◌, ◌++◌, length, slice_index_or, nat_lt, map, Option, Some, None, Result, Ok, Err, refl, sym, ap, ◌∙◌, arith, length-append}
+use Rattle.std.proofs.Common.{◌≡◌, ℕ, ◌+◌, ◌<◌, Bool, true, ◌&&◌, List, [], ◌∷◌, ◌++◌, length}
+use Rattle.std.proofs.Common.{slice_index_or, nat_lt, map, Option, Some, None, Result, Ok, Err}
+use Rattle.std.proofs.Common.{refl, sym, ap, ◌∙◌, arith, length-append}
 use Rattle.std.specs.List.{list_all}
 use Rattle.std.proofs.lemmas.Bool.{and_from, and_parts}
 use Rattle.std.proofs.lemmas.List.Folds.{list_all-append}
@@ -7,14 +9,18 @@ use Rattle.std.proofs.lemmas.Bool.Decides.{nat_tests}
 use Rattle.std.proofs.lemmas.Grind.{common_steps}
 use Rattle.std.proofs.lemmas.List.{get_or_append_left, map-append}
 use Rattle.std.proofs.Math.Seq.{get_or-append_seam}
+use Rattle.site_base.specs.declared.actor.Actor.{Actor}
 use Rattle.site_base.specs.declared.answer.Answer.{Answer}
 use Rattle.site_base.specs.declared.answer.Answer.TheVariants as answers
+use Rattle.site_base.specs.declared.event.Event.{Event}
 use Rattle.site_base.specs.declared.kept.Figures.{Figures}
 use Rattle.site_base.specs.declared.kept.KeptReply.{KeptReply}
 use Rattle.site_base.specs.declared.kept.KeptReply.TheVariants.{ProductIs}
 use Rattle.site_base.specs.declared.refusal.Refusal.{Refusal}
 use Rattle.site_base.specs.declared.row.Row.{Row}
-use Rattle.site_base.specs.KeptRows.{RowFacts, figures_told, figures_of, kept_reply, kept_row, reply_of_kept, row_of_kept, rows_of_kept, no_figures, is_within, product_shown}
+use Rattle.site_base.specs.KeptRows.{RowFacts, figures_told, figures_of, kept_reply, kept_row}
+use Rattle.site_base.specs.KeptRows.{reply_of_kept, row_of_kept, rows_of_kept, no_figures}
+use Rattle.site_base.specs.KeptRows.{is_within, product_shown}
 
 -- a reply that is kept behind the figures so far is told again
 told_again : (fs : List Figures) (reply : Result Answer Refusal)
@@ -49,14 +55,16 @@ still_within fs more reply within = refl
 abbrev pub all_within : ℕ → List RowFacts → Bool
 all_within n ks = list_all (λ k. is_within n k.reply) ks
 
+abbrev row_with : Actor → Event → Result Answer Refusal → Row
+row_with actor event reply = record { actor = actor; event = event; reply = reply }
+
 same_rows : (fs more : List Figures) (ks : List RowFacts) → all_within (length fs) ks ≡ true
     → rows_of_kept (fs ++ more) ks ≡ rows_of_kept fs ks
 same_rows fs more [] within = refl
 same_rows fs more (k ∷ ks) within =
     let parts = and_parts (is_within (length fs) k.reply) (all_within (length fs) ks) within in
     let first : row_of_kept (fs ++ more) k ≡ row_of_kept fs k =
-    ap (λ (reply : Result Answer Refusal). record { actor = k.actor; event = k.event; reply = reply })
-    (same_reply fs more k.reply parts.0) in
+    ap (row_with k.actor k.event) (same_reply fs more k.reply parts.0) in
     let others : rows_of_kept (fs ++ more) ks ≡ rows_of_kept fs ks = same_rows fs more ks parts.1 in
     cc
 
@@ -74,8 +82,7 @@ still_all fs more (k ∷ ks) within =
 row_again : (fs : List Figures) (r : Row)
     → row_of_kept (fs ++ figures_told r.reply) (kept_row (length fs) r) ≡ r
 row_again fs r =
-    ap (λ (reply : Result Answer Refusal). record { actor = r.actor; event = r.event; reply = reply })
-    (told_again fs r.reply)
+    ap (row_with r.actor r.event) (told_again fs r.reply)
 
 rows_push : (fs : List Figures) (ks : List RowFacts) (r : Row) → all_within (length fs) ks ≡ true
     → rows_of_kept (fs ++ figures_told r.reply) (ks ++ kept_row (length fs) r ∷ [])

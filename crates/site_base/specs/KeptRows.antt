@@ -1,5 +1,6 @@
 -- Rows as a list of rows keeps them: the figures of products stand in a list beside them.
-use Rattle.std.specs.Prelude.{◌≡◌, ℕ, ◌+◌, ◌<◌, ◌≤◌, Bool, true, List, [], ◌∷◌, length, map, nat_lt, slice_index_or, Option, Some, None, Result, Ok, Err}
+use Rattle.std.specs.Prelude.{◌≡◌, ℕ, ◌+◌, ◌<◌, ◌≤◌, Bool, true, List, [], ◌∷◌, length, map, nat_lt}
+use Rattle.std.specs.Prelude.{slice_index_or, Option, Some, None, Result, Ok, Err}
 use Rattle.std.specs.List.{list_all}
 use Rattle.site_base.specs.declared.actor.Actor.{Actor}
 use Rattle.site_base.specs.declared.answer.Answer.{Answer}
@@ -7,7 +8,12 @@ use Rattle.site_base.specs.declared.answer.Answer.TheVariants as answers
 use Rattle.site_base.specs.declared.event.Event.{Event}
 use Rattle.site_base.specs.declared.kept.Figures.{Figures}
 use Rattle.site_base.specs.declared.kept.KeptReply.{KeptReply}
-use Rattle.site_base.specs.declared.kept.KeptReply.TheVariants.{Refused, Done, Calling, Start, Flowed, HungUp, NoSale, Sold, Stopped, Ending, Locked, Unlocked, Cleared, ShiftClosed, Drawn, PointIs, TransactionIs, ProductIs, SiteIs}
+use Rattle.site_base.specs.declared.kept.KeptReply.TheVariants.{Refused, Done, Calling, Start}
+use Rattle.site_base.specs.declared.kept.KeptReply.TheVariants.{Flowed, HungUp, NoSale, Sold}
+use Rattle.site_base.specs.declared.kept.KeptReply.TheVariants.{Stopped, Ending, Locked, Unlocked}
+use Rattle.site_base.specs.declared.kept.KeptReply.TheVariants.{Cleared, ShiftClosed, Drawn}
+use Rattle.site_base.specs.declared.kept.KeptReply.TheVariants.{PointIs, TransactionIs, ProductIs}
+use Rattle.site_base.specs.declared.kept.KeptReply.TheVariants.{SiteIs}
 use Rattle.site_base.specs.declared.kept.PointMarks.{PointMarks}
 use Rattle.site_base.specs.declared.kept.SaleMarks.{SaleMarks}
 use Rattle.site_base.specs.declared.refusal.Refusal.{Refusal}
@@ -153,8 +159,8 @@ abbrev pub is_within : ℕ → KeptReply → Bool
 is_within n (ProductIs price at) = nat_lt at n
 is_within n reply = true
 
--- What a list of rows always keeps: each row's figures are there, and in both lists there is room for as many
--- more as it says.
+-- What a list of rows always keeps: each row's figures are there, and in both lists there is room
+-- for as many more as it says.
 pub record AreRowsKept (ks : List RowFacts) (fs : List Figures) (room most_rows most_figures : ℕ) : Type 0 where
   pub within : list_all (λ k. is_within (length fs) k.reply) ks ≡ true
   pub rows : length ks + room ≤ most_rows

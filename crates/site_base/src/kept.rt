@@ -1,6 +1,6 @@
-//! A row as a list of rows keeps it. Most of the octets of a plain row are the six figures of a product
-//! that a read may answer with; these stand beside the rows here, and every other answer is laid out so
-//! that its parts fill the octets behind its case.
+//! A row as a list of rows keeps it. Most of the octets of a plain row are the six figures of a
+//! product that a read may answer with; these stand beside the rows here, and every other answer is
+//! laid out so that its parts fill the octets behind its case.
 
 ghost use Rattle.std.specs.Prelude.{◌≡◌, length, option_to_list, slice_index_or, true};
 ghost use Rattle.site_base.specs.KeptRows.{figures_of, figures_told, is_within, kept_point};

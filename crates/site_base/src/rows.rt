@@ -1,6 +1,7 @@
 //! Lists of rows.
 
-ghost use Rattle.std.specs.Prelude.{◌≡◌, ◌+◌, ◌<◌, ◌≤◌, [], ◌∷◌, ◌++◌, length, slice_get, ◌==◌, OnOk};
+ghost use Rattle.std.specs.Prelude.{◌≡◌, ◌+◌, ◌<◌, ◌≤◌, [], ◌∷◌, ◌++◌, length, slice_get, ◌==◌};
+ghost use Rattle.std.specs.Prelude.{OnOk};
 ghost use Rattle.std.specs.Prelude.{vec_capacity};
 ghost use Rattle.site_base.specs.KeptRows.{figures_told};
 
@@ -28,7 +29,8 @@ impl Model for Rows {
 
     ghost Value = { RowList };
 
-    ghost view = { λ l. record { rows = rows_of_kept l.figures.items l.kept.items; room = l.room } };
+    ghost view = { λ l.
+        record { rows = rows_of_kept l.figures.items l.kept.items; room = l.room } };
 
     ghost invariant = { λ l. AreRowsKept l.kept.items l.figures.items l.room
         (vec_capacity l.kept) (vec_capacity l.figures) };
@@ -97,7 +99,8 @@ impl Rows {
     }
 }
 
-/// Adds the figures of the product that a reply answers with, if it does; room for them is reserved.
+/// Adds the figures of the product that a reply answers with, if it does; room for them is
+/// reserved.
 fn put_figures(figures: &mut Vec<Figures>, reply: &Reply)
     requires { length figures.old.items < vec_capacity figures.old }
     ensures figures { figures.new.items ≡ figures.old.items ++ figures_told reply.now }

@@ -1,5 +1,6 @@
 -- A book's figures have one member for each product of its configuration.
-use Rattle.std.proofs.Common.{◌≡◌, ℕ, Bool, true, false, List, [], ◌∷◌, length, map, Option, Some, None, refl, ap, ◌∙◌, ◌==◌, suc, if◌then◌else◌}
+use Rattle.std.proofs.Common.{◌≡◌, ℕ, Bool, true, false, List, [], ◌∷◌, length, map, Option, Some}
+use Rattle.std.proofs.Common.{None, refl, ap, ◌∙◌, ◌==◌, suc, if◌then◌else◌}
 use Rattle.std.proofs.lemmas.List.{length-map}
 use Rattle.site_base.specs.declared.actor.Actor.{Actor}
 use Rattle.site_base.specs.declared.event.Event.{Event}
@@ -32,7 +33,8 @@ event_keeps : (s : SiteState) (e : Event) → length (prices_after s e) ≡ leng
 event_keeps s (SetPrice q price) = length-with_row q price s.prices
 event_keeps s e = refl
 
-step_keeps : (s : SiteState) (a : Actor) (e : Event) → length (site_after s a e).prices ≡ length s.prices
+step_keeps : (s : SiteState) (a : Actor) (e : Event) → length (site_after s a e).prices
+    ≡ length s.prices
 step_keeps s a e = by_refusal (first_refusal s a e)
   where
     by_refusal : (o : Option Refusal)
@@ -40,7 +42,8 @@ step_keeps s a e = by_refusal (first_refusal s a e)
     by_refusal None = event_keeps s e
     by_refusal (Some refusal) = refl
 
-rows_keep : (s : SiteState) (rows : List Row) → length (site_of_rows s rows).prices ≡ length s.prices
+rows_keep : (s : SiteState) (rows : List Row) → length (site_of_rows s rows).prices
+    ≡ length s.prices
 rows_keep s [] = refl
 rows_keep s (r ∷ rows) =
     rows_keep (site_after s r.actor r.event) rows ∙ step_keeps s r.actor r.event

@@ -4,4 +4,5 @@ use Rattle.forecourt_engines.proofs.reporting.report_of_book.Goals as goal
 
 pub report-requires : goal.report-requires
 report-requires c =
-    c.in_ok-totals.ensures.products ∙ ap (λ (config : Configured). length config.products) c.requires
+    c.in_ok-totals.ensures.products
+    ∙ ap (λ (config : Configured). length config.products) c.requires

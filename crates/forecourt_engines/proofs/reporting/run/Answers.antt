@@ -2,7 +2,8 @@ use Rattle.std.proofs.Common.{◌≡◌, ℕ, List, take, None, Some, refl, ap, 
 use Rattle.std.proofs.lemmas.Result.{err_from_is_err_and}
 use Rattle.forecourt_engines.specs.declared.fault.ReplayFault.{ReplayFault}
 use Rattle.forecourt_engines.specs.Replay.{is_early}
-use Rattle.forecourt_engines.proofs.Running.{AppendsFront-none, is_small, goes_on, ends_unread, ends_unsaid, ends_late, ends_whole, ends_stopped}
+use Rattle.forecourt_engines.proofs.Running.{AppendsFront-none, is_small, goes_on, ends_unread}
+use Rattle.forecourt_engines.proofs.Running.{ends_unsaid, ends_late, ends_whole, ends_stopped}
 use Rattle.forecourt_engines.proofs.reporting.run.Goals as goal
 
 -- no more could be read
@@ -16,7 +17,8 @@ returns-in_err-n-clause-told g c =
 pub returns-in_err-finish-clause-told : goal.returns-in_err-finish-clause-told
 returns-in_err-finish-clause-told g c =
     let none = ap (λ (k : ℕ). take k c.read_piece.new.buf) c.if-n-eq0.true in
-    let p = err_from_is_err_and c.from_residual-in_err-finish.result c.from_residual-in_err-finish.ensures.1 in
+    let p =
+    err_from_is_err_and c.from_residual-in_err-finish.result c.from_residual-in_err-finish.ensures.1 in
     rw p.1 (ends_late _ _ _ _ _ _ _ _ _ _ _ _ _ (ap (λ (f : ReplayFault). is_early (Some f)) p.2)
     c.loop-n.invariant.running none c.in_ok-n.ensures.bytes (AppendsFront-none None _))
 
@@ -24,15 +26,18 @@ returns-in_err-finish-clause-told g c =
 pub returns-then-n-eq0-clause-told : goal.returns-then-n-eq0-clause-told
 returns-then-n-eq0-clause-told g c =
     let none = ap (λ (k : ℕ). take k c.read_piece.new.buf) c.if-n-eq0.true in
-    ends_whole _ _ _ _ _ _ _ _ _ _ _ _ _ _ c.loop-n.invariant.running none c.in_ok-n.ensures.bytes refl tt
-    c.in_ok-finish.ensures.fault c.in_ok-finish.ensures.state (c.in_ok-n.ensures.end c.if-n-eq0.true)
+    let done = c.in_ok-n.ensures.end c.if-n-eq0.true in
+    ends_whole _ _ _ _ _ _ _ _ _ _ _ _ _ _ c.loop-n.invariant.running none c.in_ok-n.ensures.bytes
+    refl tt c.in_ok-finish.ensures.fault c.in_ok-finish.ensures.state done
 
 -- there was no memory for the text of a piece
 pub returns-in_err-feed-clause-told : goal.returns-in_err-feed-clause-told
 returns-in_err-feed-clause-told g c =
-    let p = err_from_is_err_and c.from_residual-in_err-feed.result c.from_residual-in_err-feed.ensures.1 in
+    let p =
+    err_from_is_err_and c.from_residual-in_err-feed.result c.from_residual-in_err-feed.ensures.1 in
     rw p.1 (ends_unsaid _ _ c.read_piece.new.turns _ _ _ _ _ _ _ _ _ _
-    (ap (λ (f : ReplayFault). is_early (Some f)) p.2) c.loop-n.invariant.running c.in_ok-n.ensures.bytes
+    (ap (λ (f : ReplayFault). is_early (Some f)) p.2) c.loop-n.invariant.running
+    c.in_ok-n.ensures.bytes
     (is_small _ _ _ c.in_ok-n.ensures.bound (search rules)) c.in_ok-n.ensures.spent)
 
 -- the text has ended

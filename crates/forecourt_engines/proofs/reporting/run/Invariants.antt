@@ -6,7 +6,8 @@ use Rattle.forecourt_engines.proofs.reporting.run.Given as goal
 abbrev pub invariant-loop-n : goal.invariant-loop-n
 invariant-loop-n g l = record {
   running : Running l.fn.turns l.turns l.fn.engine l.engine
-      (g.R.Read.remaining (device_of l.fn.reader)) (g.R.Read.remaining (device_of l.reader)) None None;
+      (g.R.Read.remaining (device_of l.fn.reader))
+      (g.R.Read.remaining (device_of l.reader)) None None;
   reads : failures_of l.reader ≡ failures_of l.fn.reader;
   unturned : l.turns ≤ l.fn.turns;
 }
