@@ -1,0 +1,4 @@
+pub mod Lists
+pub mod OwedTills
+pub mod Same
+pub mod SameReplies
