@@ -1,3 +1,4 @@
 pub mod Signed
 pub mod Books
 pub mod RowByRow
+pub mod Growths
