@@ -1,5 +1,5 @@
 -- Replies that `==` finds equal are the same.
-use Rattle.std.proofs.Common.{◌≡◌, ℕ, ◌==◌, ◌&&◌, Bool, true, false, nat_eq, Option, Some, None, Result, Ok, Err, refl, ap, ◌∙◌}
+use Rattle.std.proofs.Common.{◌≡◌, ℕ, ◌==◌, ◌&&◌, Bool, true, false, nat_eq, Option, Some, None, Result, Ok, Err, refl, ap}
 use Rattle.std.specs.Option.{option_eq}
 use Rattle.std.specs.Result.{result_eq}
 use Rattle.std.proofs.Math.Bool.{beq}

@@ -1,3 +1,6 @@
+pub mod Kept
+pub mod Marks
 pub mod Receipts
 pub mod Roots
+pub mod Settlement
 pub mod Shares

@@ -3,13 +3,21 @@
 //! in, a settlement shows that they add up to the history.
 #![tactic(auto)]
 
+mod desk;
+mod laws;
+mod locked;
+mod marking;
 mod naming;
 mod owed;
 mod receipt;
 mod root;
+mod settlement;
 mod share;
 
+pub use desk::Desk;
+pub use laws::kept_histories_are_sound;
 pub use naming::Naming;
 pub use receipt::Receipt;
 pub use root::Root;
+pub use settlement::{SettleFault, Settled, Unsettled};
 pub use share::Share;

@@ -3,7 +3,7 @@
 ghost use Rattle.std.specs.Prelude.{◌≡◌, ◌+◌, ◌*◌, ◌<◌, ◌≤◌, ◌↔◌, [], ◌∷◌, ◌++◌, length, slice_get, IsTrue, OnOk};
 ghost use Rattle.site_base.specs.declared.limits.TheConstants.{GREATEST_CENTS, GREATEST_ROWS, GROWTH_LIMIT, TILLS};
 ghost use Rattle.site_base.specs.Events.{cents_told, growth_told};
-ghost use Rattle.counter_desk.specs.Receipts.{cents_receipted, growth_receipted, receipted_row};
+ghost use Rattle.counter_desk.specs.Receipts.{cents_receipted, growth_receipted, receipt_of, receipted_row};
 
 use site_base::{Actor, Answer, Event, NoMemory, Placed, Reply, Row, cents_told, growth_told};
 use std::alloc::Global;
@@ -24,13 +24,13 @@ pub struct Receipt {
 
 impl Receipt {
     /// The receipt of an actor's event that was placed and answered so.
-    pub(crate) fn new(placed: &Placed, actor: Actor, event: Event) -> Self
-        ensures { result ≡ record { place = placed.now.place; actor = actor; event = event; reply = placed.now.reply } }
+    pub(crate) fn new(placed: &Placed, actor: &Actor, event: &Event) -> Self
+        ensures { result ≡ receipt_of placed.now actor.now event.now }
     {
         Receipt {
             place: placed.place,
-            actor,
-            event,
+            actor: *actor,
+            event: *event,
             reply: placed.reply,
         }
     }
