@@ -6,3 +6,5 @@ pub mod OwedTills
 pub mod Same
 pub mod SameReplies
 pub mod Placing
+pub mod Submitted
+pub mod Threads

@@ -4,3 +4,5 @@ pub mod Receipts
 pub mod Roots
 pub mod Settlement
 pub mod Shares
+pub mod Work
+pub mod Crews
