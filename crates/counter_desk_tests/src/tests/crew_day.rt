@@ -59,7 +59,7 @@ fn day_of<L: Ledger + Send + Sync, C: Naming + Send + Sync, R: Threads + Wait + 
     assert_eq!(rt; ends.len(), 2);
     assert!(rt; ends[0].placed == 21 && ends[1].placed == 21);
     assert!(rt; ends[0].accepted <= 21 && ends[1].accepted <= 21);
-    assert_eq!(rt; ends[0].accepted + ends[1].accepted, 22);
+    assert_eq!(rt; ends[0].accepted.saturating_add(ends[1].accepted), 22);
     let root = root.into_inner();
     assert!(rt; root.out() == 0, "a share is out");
     match desk.settle(alloc, root) {
