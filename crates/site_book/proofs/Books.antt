@@ -1,9 +1,8 @@
 -- A book with one more row.
-use Rattle.std.proofs.Common.{◌≡◌, ℕ, ◌+◌, ◌<◌, ◌≤◌, true, false, List, [], ◌∷◌, ◌++◌, length, length-append, Result, Ok, Err, ap, sym, subst, ◌∙◌, arith}
+use Rattle.std.proofs.Common.{◌≡◌, ℕ, ◌+◌, ◌≤◌, false, List, [], ◌∷◌, ◌++◌, length, length-append, Result, Ok, ap, sym, subst, ◌∙◌, arith}
 use Rattle.std.proofs.lemmas.Bool.{false≢true}
 use Rattle.std.specs.Ordering.{nat_cmp}
 use Rattle.std.specs.FinSet as set
-use Rattle.site_base.specs.declared.actor.Actor.{Actor}
 use Rattle.site_base.specs.declared.answer.Answer.{Answer}
 use Rattle.site_base.specs.declared.event.Event.{Event}
 use Rattle.site_base.specs.declared.event.Event.TheVariants.{SignOn, SignOff}
@@ -15,7 +14,7 @@ use Rattle.written_site.specs.SiteState.{SiteState, is_signed_on, opening}
 use Rattle.written_site.specs.SiteStep.{Steps, reply_to, site_after}
 use Rattle.written_site.specs.Sound.{InRange}
 use Rattle.written_site.proofs.Histories.{site_of_rows-push, IsLegal-push}
-use Rattle.site_book.specs.Book.{AreRowsInRange, IsBook, site_at}
+use Rattle.site_book.specs.Book.{AreRowsInRange, IsBook}
 use Rattle.site_book.specs.Signed.{AreTills, IsTillActor, tills_after, tills_on}
 use Rattle.site_book.proofs.Signed.{counted_row, no_more, tills_row}
 

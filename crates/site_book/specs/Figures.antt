@@ -1,5 +1,5 @@
 -- The figures of a book: those of its rows.
-use Rattle.std.specs.Prelude.{◌≡◌, ℕ, length}
+use Rattle.std.specs.Prelude.{◌≡◌, length}
 use Rattle.site_base.specs.declared.totals.Totals.{Totals}
 use Rattle.written_site.specs.ShiftFigures.{product_totals, till_totals}
 use Rattle.site_book.specs.Book.{Book, site_of_book}

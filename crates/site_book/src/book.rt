@@ -1,7 +1,8 @@
 //! The book: its rows and its site, and how a row is added.
 
 ghost use Rattle.std.specs.Prelude.{◌≡◌, ◌+◌, ◌<◌, ◌≤◌, [], ◌∷◌, ◌++◌, length, slice_get, true, false, Ok, IfOk, IfSome, OnOk, OnErr, OnSome, IsErrOf, is_some};
-ghost use Rattle.site_base.specs.declared.limits.TheConstants.{TILLS};
+ghost use Rattle.site_base.specs.declared.limits.TheConstants.{GREATEST_ROWS, GROWTH_LIMIT, TILLS};
+ghost use Rattle.site_base.specs.Events.{growth_told};
 ghost use Rattle.site_core.specs.Shown.{HasRoom};
 ghost use Rattle.written_site.specs.SiteRun.{IsLegal};
 ghost use Rattle.written_site.specs.SiteState.{is_signed_on, opening, point_shown};
@@ -62,6 +63,7 @@ impl SiteBook {
         ensures row { OnOk result (self.new ≡ with_row_of self.old actor event) }
         ensures reply { IfOk result (λ placed. placed.reply ≡ book_reply self.old actor event) }
         ensures place { IfOk result (λ placed. placed.place ≡ length self.old.rows) }
+        ensures growth { IfOk result (λ placed. growth_told placed.reply ≤ GROWTH_LIMIT) }
         ensures room { OnOk result (is_full self.old ≡ false) }
         ensures full { IsErrOf result NoRow.BookFull → is_full self.old ≡ true }
         ensures told_full { is_full self.old ≡ true → IsErrOf result NoRow.BookFull }
@@ -101,8 +103,10 @@ impl SiteBook {
         ensures rows { result ≡ length self.now.rows }
         ensures legal { IsLegal (opening self.now.config) self.now.rows }
         ensures few { length self.now.rows ≤ self.now.config.rows + TILLS }
+        ensures allowed { self.now.config.rows ≤ GREATEST_ROWS }
         ensures ranges { AreRowsInRange self.now.rows }
     {
+        let _ = self.config.rows();
         self.rows.len() as u64
     }
 

@@ -75,3 +75,4 @@ pub mod ClearedLaws
 pub mod MeteredRows
 pub mod UnpaidRows
 pub mod TestLaws
+pub mod Growths

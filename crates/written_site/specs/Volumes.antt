@@ -4,7 +4,7 @@ use Rattle.std.specs.Prelude.{ℕ, ◌+◌, ◌-◌, ◌*◌, List, [], ◌∷�
 use Rattle.site_base.specs.declared.state.Status.TheVariants.{Payable, Locked, Cleared}
 use Rattle.site_base.specs.declared.view.ProductView.{ProductView}
 use Rattle.fuelling_point.specs.Kept.{Facts, is_under_way}
-use Rattle.meters.specs.Metered.{product_alone, product_total}
+use Rattle.meters.specs.Metered.{every_product, metered_by, product_alone, product_total}
 use Rattle.meters.specs.Nozzles.{Nozzle, product_of, reading_of}
 use Rattle.transaction_buffer.specs.Sales.{Sales}
 use Rattle.transaction_buffer.specs.Sums.{sum_of, volume_by}
@@ -66,3 +66,7 @@ product_view s q price = record {
   cleared = volume_by q Cleared s.sales;
   adjusted = adjusted s q;
 }
+
+-- what all meters of the site have counted, in millilitres
+abbrev pub all_metered : SiteState → ℕ
+all_metered s = metered_by every_product s.nozzles

@@ -1,4 +1,4 @@
-use Rattle.std.proofs.Common.{◌≡◌, ap, sym, ◌∙◌, None, slice_get, length, rules}
+use Rattle.std.proofs.Common.{ap, sym, ◌∙◌, rules}
 use Rattle.site_book.proofs.RowByRow.{site_more, none_within}
 use Rattle.site_book.proofs.figures.run_again.Goals as goal
 use Rattle.site_book.proofs.figures.run_again.Goals.{in-Some+in_ok-take_step-in-Some, in-None}

@@ -1,4 +1,4 @@
-use Rattle.std.proofs.Common.{◌≤◌, ◌+◌, ℕ, ap, ◌∙◌, sym, subst, length, arith}
+use Rattle.std.proofs.Common.{◌≤◌, ℕ, ap, ◌∙◌, arith}
 use Rattle.std.proofs.lemmas.Bool.Decides.{nat_tests}
 use Rattle.site_base.specs.declared.row.Row.{Row}
 use Rattle.site_base.specs.declared.limits.TheConstants.{TILLS}
@@ -6,6 +6,7 @@ use Rattle.written_site.specs.SiteStep.{reply_to}
 use Rattle.site_book.specs.Book.{IsBook, book_reply}
 use Rattle.site_book.specs.Signed.{tills_after, tills_on}
 use Rattle.site_book.proofs.Books.{IsBook-push, tills_after-most}
+use Rattle.written_site.proofs.Growths.{growth_fits}
 use Rattle.site_book.proofs.Signed.{no_more}
 use Rattle.site_book.proofs.book.SiteBook.apply.Goals as goal
 
@@ -33,3 +34,8 @@ returns-clause-reply c =
     c.add_row-placed.ensures.step.replies
     ∙ ap (λ s. reply_to s c.args.actor c.args.event) (c.in_ok-prepare.ensures.site ∙ c.self.invariant.leads)
     ∙ ap (λ b. book_reply b c.args.actor c.args.event) c.self.view_is
+
+pub returns-clause-growth : goal.returns-clause-growth
+returns-clause-growth c =
+    rw c.add_row-placed.ensures.step.replies
+    (growth_fits c.prepare.new.self.site c.args.actor c.args.event)

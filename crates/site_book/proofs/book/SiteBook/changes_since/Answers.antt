@@ -1,4 +1,4 @@
-use Rattle.std.proofs.Common.{◌≡◌, ◌+◌, ◌++◌, ◌∷◌, [], filter, slice_get, ap, sym, ◌∙◌, rules}
+use Rattle.std.proofs.Common.{◌+◌, ◌++◌, ◌∷◌, [], filter, slice_get, ap, sym, ◌∙◌, rules}
 use Rattle.std.proofs.lemmas.List.{append_assoc}
 use Rattle.site_book.specs.Changes.{changes_from, is_changing}
 use Rattle.site_book.proofs.RowByRow.{changes_more, none_within}

@@ -1,9 +1,8 @@
-use Rattle.std.proofs.Common.{◌≡◌, ◌≤◌, ◌+◌, ℕ, true, ap, ◌∙◌, sym, arith}
+use Rattle.std.proofs.Common.{◌≤◌, ◌+◌, ℕ, sym, arith}
 use Rattle.site_base.specs.declared.actor.Actor.{Actor}
 use Rattle.site_base.specs.declared.event.Event.{Event}
 use Rattle.site_base.specs.declared.row.Row.{Row}
 use Rattle.site_base.specs.declared.limits.TheConstants.{TILLS}
-use Rattle.written_site.specs.SiteState.{is_signed_on}
 use Rattle.site_book.specs.Signed.{tills_after, tills_on}
 use Rattle.site_book.proofs.Books.{IsBook-push}
 use Rattle.site_book.proofs.Signed.{no_more, one_on}

@@ -1,0 +1,35 @@
+use Rattle.std.proofs.Common.{◌≡◌, length, ap, sym, subst, ◌∙◌}
+use Rattle.std.proofs.lemmas.List.{length-map}
+use Rattle.site_base.specs.declared.row.Row.{Row}
+use Rattle.site_base.specs.Events.{cents_told, growth_told}
+use Rattle.written_site.specs.RowWords.{total}
+use Rattle.counter_desk.specs.Marks.{AreAllMarked}
+use Rattle.counter_desk.specs.Receipts.{ReceiptList, cents_receipted, growth_receipted}
+use Rattle.counter_desk.specs.Roots.{lists_of}
+use Rattle.counter_desk.proofs.Counting.{adds_up, dealt}
+use Rattle.counter_desk.proofs.settlement.figures.Goals as goal
+
+pub returns-clause-ok : goal.returns-clause-ok
+returns-clause-ok g c =
+    let rows = c.args.site.now in
+    let lists = c.args.root.now.lists in
+    let marks = c.mark_all.new.marks in
+    let returned : lists_of c.returned-returned.result.now ≡ lists = c.returned-returned.ensures in
+    let all : AreAllMarked rows marks lists =
+    subst (λ ls. AreAllMarked rows marks ls) returned c.in-Ok-mark_all.ensures.ok in
+    let as_long : length marks ≡ length rows = c.mark_all.ensures.length in
+    let cents = c.amounts-cents.ensures.cents ∙ ap (total cents_receipted) returned in
+    let millilitres = c.amounts-cents.ensures.millilitres ∙ ap (total growth_receipted) returned in
+    let grown = millilitres ∙ adds_up (λ (r : Row). growth_told r.reply) rows marks lists all as_long c.requires in
+    record {
+      dealt = dealt rows marks lists all as_long c.requires;
+      rows = c.len-rows.ensures.rows;
+      calls = c.len-rows.ensures.rows ∙ sym c.requires;
+      cents = cents ∙ adds_up (λ (r : Row). cents_told r.reply) rows marks lists all as_long c.requires;
+      cents_shared = cents;
+      millilitres = grown;
+      millilitres_shared = millilitres;
+      metered = grown ∙ (c.volumes_are_conserved.ensures.books g.C.Naming.config rows c.len-rows.ensures.legal).grown;
+      shares = sym (length-map c.returned-returned.result.now (λ (l : ReceiptList). l.receipts)) ∙ ap length returned;
+      book = c.in-Ok-totals.ensures.totals;
+    }

@@ -1,0 +1,139 @@
+//! A crew: a worker for each list of calls, in threads of their own.
+
+ghost use Rattle.std.specs.Prelude.{◌≡◌, ◌≤◌, length, map, vec_items, IfOk};
+ghost use Rattle.counter_desk.specs.declared.crews.TheConstants.{WORKERS};
+ghost use Rattle.counter_desk.specs.Crews.{IsJoined};
+ghost use Rattle.counter_desk.specs.Work.{EachEnds, EndsWhole};
+
+use crate::desk::Desk;
+use crate::gate::Gate;
+use crate::naming::Naming;
+use crate::root::Root;
+use crate::worker::{ListEnd, WorkFault, work};
+use site_base::{Actor, Event, NoMemory};
+use std::alloc::Global;
+use std::sync::ledger::Ledger;
+use std::sync::{Mutex, Wait};
+use std::thread;
+use std::thread::{Promise, PromisedHandle, Scope, Threads};
+
+/// The most workers of one crew.
+pub const WORKERS: usize = 16;
+
+/// What a worker promises: an end of these calls.
+#[derive(Clone, Copy)]
+struct EndOf<'a>(&'a [(Actor, Event)]);
+
+impl<'a> Promise<ListEnd> for EndOf<'a> {
+    ghost use Rattle.counter_desk.specs.Work.{EndsWhole};
+
+    ghost kept_by = { λ p end. EndsWhole p.0.now end };
+}
+
+/// A worker's thread, if it was started.
+type Started<'a> = Option<PromisedHandle<ListEnd, EndOf<'a>>>;
+
+/// Makes the calls of each list by a worker of its own, all side by side. Each takes a share from the
+/// root, works through its list and hands the share back. There is one end for each list, in their
+/// order. A growth that is refused here is answered before any worker starts.
+pub fn crew<
+    L: Ledger + Send + Sync,
+    C: Naming + Send + Sync,
+    G: Gate + Sync,
+    R: Threads + Wait + Sync,
+>(
+    rt: &R,
+    alloc: Global,
+    desk: &Desk<L, C>,
+    root: &Mutex<Root<L, C>>,
+    gate: &G,
+    lists: &[Vec<(Actor, Event)>],
+) -> Result<Vec<ListEnd>, NoMemory>
+    requires { length lists.now ≤ WORKERS }
+    ensures { IfOk result (λ ends. EachEnds (map vec_items lists.now) ends.items) }
+{
+    thread::scope(
+        thread::scope_env(),
+        rt,
+        |scope| -> Result<Vec<ListEnd>, NoMemory>
+            ensures { IfOk result (λ ends. EachEnds (map vec_items lists.entry.now) ends.items) }
+        { run_all(scope, rt, alloc, desk, root, gate, lists) },
+    )
+}
+
+/// Starts the workers, and waits for their ends.
+fn run_all<
+    's,
+    E,
+    L: Ledger + Send + Sync,
+    C: Naming + Send + Sync,
+    G: Gate + Sync,
+    R: Threads + Wait + Sync,
+>(
+    scope: &Scope<'s, E>,
+    rt: &'s R,
+    alloc: Global,
+    desk: &'s Desk<L, C>,
+    root: &'s Mutex<Root<L, C>>,
+    gate: &'s G,
+    lists: &'s [Vec<(Actor, Event)>],
+) -> Result<Vec<ListEnd>, NoMemory>
+    ensures { IfOk result (λ ends. EachEnds (map vec_items lists.now) ends.items) }
+{
+    // What can fail for memory comes before any worker starts.
+    let mut started: Vec<Started<'s>> = Vec::with_capacity(alloc, lists.len())?;
+    let mut ends = Vec::with_capacity(alloc, lists.len())?;
+    for list in lists {
+        let calls = list.as_slice();
+        let job = move || -> ListEnd
+            ensures { EndsWhole calls.entry.now result }
+        { work_once(rt, desk, root, gate, calls) };
+        match scope.spawn_with(EndOf(calls), job) {
+            Ok(handle) => started.push_reserved(Some(handle)),
+            Err(_) => started.push_reserved(None),
+        }
+    }
+    for handle in started {
+        ends.push_reserved(join_one(rt, handle));
+    }
+    Ok(ends)
+}
+
+/// The end of a worker; of one that couldn't be started, that it wasn't.
+fn join_one<'a, R: Threads>(rt: &R, handle: Started<'a>) -> ListEnd
+    ensures { IsJoined handle.entry result }
+{
+    match handle {
+        Some(handle) => handle.join(rt),
+        None => ListEnd {
+            placed: 0,
+            accepted: 0,
+            fault: Some(WorkFault::NoWorker),
+        },
+    }
+}
+
+/// Takes a share, works through the list, and hands the share back.
+fn work_once<L: Ledger, C: Naming, G: Gate, R: Wait>(
+    rt: &R,
+    desk: &Desk<L, C>,
+    root: &Mutex<Root<L, C>>,
+    gate: &G,
+    calls: &[(Actor, Event)],
+) -> ListEnd
+    ensures { EndsWhole calls.now result }
+{
+    let given = root.lock(rt).give();
+    match given {
+        Ok(mut share) => {
+            let end = work(rt, desk, &mut share, gate, calls);
+            root.lock(rt).take_back(share);
+            end
+        }
+        Err(_) => ListEnd {
+            placed: 0,
+            accepted: 0,
+            fault: Some(WorkFault::NoMemory),
+        },
+    }
+}

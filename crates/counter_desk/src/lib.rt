@@ -1,0 +1,29 @@
+//! The counter desk: one site for several workers. The site and its history stand under one lock;
+//! each worker has a share, which keeps a receipt of each of its calls; and once all shares are handed
+//! in, a settlement shows that they add up to the history.
+#![tactic(auto)]
+
+mod crews;
+mod desk;
+mod gate;
+mod laws;
+mod locked;
+mod marking;
+mod naming;
+mod owed;
+mod receipt;
+mod root;
+mod settlement;
+mod share;
+mod worker;
+
+pub use crews::{WORKERS, crew};
+pub use desk::Desk;
+pub use gate::{Gate, OpenGate};
+pub use laws::kept_histories_are_sound;
+pub use naming::Naming;
+pub use receipt::Receipt;
+pub use root::Root;
+pub use settlement::{SettleFault, Settled, Unsettled};
+pub use share::Share;
+pub use worker::{ListEnd, WorkFault, work};

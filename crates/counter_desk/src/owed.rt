@@ -1,0 +1,79 @@
+//! Which tills are owed a sign-off.
+
+ghost use Rattle.std.specs.Prelude.{◌≡◌, ◌-◌, ◌≤◌, false, slice_index_or, slice_set};
+ghost use Rattle.site_base.specs.declared.limits.TheConstants.{TILLS};
+ghost use Rattle.counter_desk.specs.Shares.{nobody_owed, owed_after, tills_owed};
+
+use site_base::{Actor, Event, Reply, TILL_CELLS, TillNo};
+use std::marker::Model;
+
+/// Of each till whether it is owed a sign-off, from till 1 on. It takes no memory.
+#[derive(Drop)]
+pub(crate) struct Owed {
+    tills: [bool; TILL_CELLS],
+    count: usize,
+}
+
+impl Model for Owed {
+    ghost use Rattle.std.specs.Prelude.{◌≡◌, Bool, List};
+    ghost use Rattle.counter_desk.specs.Shares.{tills_owed};
+
+    ghost Value = { List Bool };
+
+    ghost view = { λ o. o.tills };
+
+    ghost invariant = { λ o. o.count ≡ tills_owed o.tills };
+}
+
+impl Owed {
+    /// Nobody is owed.
+    pub(crate) fn new() -> Self
+        ensures { result ≡ nobody_owed }
+    {
+        Owed {
+            tills: [false; TILL_CELLS],
+            count: 0,
+        }
+    }
+
+    /// Is the till owed a sign-off?
+    pub(crate) fn owes(&self, t: TillNo) -> bool
+        ensures { result ≡ slice_index_or self.now (t - 1) false }
+    {
+        self.tills[t.cell()]
+    }
+
+    /// How many tills are owed.
+    pub(crate) fn count(&self) -> usize
+        ensures count { result ≡ tills_owed self.now }
+        ensures few { result ≤ TILLS }
+    {
+        self.count
+    }
+
+    /// The till is owed a sign-off from now on, or isn't any more.
+    pub(crate) fn set(&mut self, t: TillNo, owed: bool)
+        ensures { self.new ≡ slice_set self.old (t - 1) owed }
+    {
+        let cell = t.cell();
+        if self.tills[cell] {
+            self.count -= 1;
+        }
+        self.tills[cell] = owed;
+        if owed {
+            self.count += 1;
+        }
+    }
+
+    /// An event of an actor was answered so: an accepted SignOn makes its till owed, an accepted
+    /// SignOff ends that.
+    pub(crate) fn note(&mut self, actor: &Actor, event: &Event, reply: &Reply)
+        ensures { self.new ≡ owed_after actor.now event.now reply.now self.old }
+    {
+        match (actor, event, reply) {
+            (Actor::Till(t), Event::SignOn, Ok(_)) => self.set(*t, true),
+            (Actor::Till(t), Event::SignOff, Ok(_)) => self.set(*t, false),
+            _ => {}
+        }
+    }
+}

@@ -1,0 +1,130 @@
+//! Settlement: the shares that came back are compared with the history.
+
+ghost use Rattle.std.specs.Prelude.{◌≡◌, length, IfErr, IfOk};
+ghost use Rattle.written_site.specs.SiteRun.{IsLegal};
+ghost use Rattle.written_site.specs.SiteState.{opening};
+ghost use Rattle.counter_desk.specs.Roots.{calls_in};
+ghost use Rattle.counter_desk.specs.Settlement.{AddsUp, IsFaultIn, IsFaultOf, settle_fault_number, Settles};
+
+use crate::desk::Desk;
+use crate::locked::Locked;
+use crate::marking::{amounts, mark_all, no_marks};
+use crate::naming::Naming;
+use crate::root::Root;
+use site_base::Totals;
+use std::alloc::Global;
+use std::sync::Mutex;
+use std::sync::ledger::Ledger;
+use written_site::volumes_are_conserved;
+
+/// The figures of a day that is settled.
+#[derive(Drop)]
+pub struct Settled {
+    /// How many rows the history has, and how many calls all shares made.
+    pub rows: u64,
+    /// The cents that were cleared, by the history and by all shares.
+    pub cents: u64,
+    /// The millilitres that were metered, by the history and by all shares.
+    pub millilitres: u64,
+    /// How many shares came back.
+    pub shares: u64,
+    /// The figures of the history.
+    pub book: Totals,
+}
+
+/// Why a day isn't settled.
+#[derive(Clone, Copy, Debug, PartialEq, Eq)]
+pub enum SettleFault {
+    /// A receipt of this place isn't its row, or the place was receipted before or isn't above the one
+    /// before it in its share.
+    StrangeReceipt(u64),
+    /// A growth was refused.
+    NoMemory,
+}
+
+impl SettleFault {
+    /// Its number: 60 or 31.
+    pub fn number(self) -> u8
+        ensures { result ≡ settle_fault_number self }
+    {
+        match self {
+            SettleFault::StrangeReceipt(_) => 60,
+            SettleFault::NoMemory => 31,
+        }
+    }
+}
+
+/// A day that isn't settled: its desk and its root as they were, and why.
+#[derive(Drop)]
+pub struct Unsettled<L: Ledger, C: Naming> {
+    /// Why it isn't settled.
+    pub fault: SettleFault,
+    /// The desk.
+    pub desk: Desk<L, C>,
+    /// The root.
+    pub root: Root<L, C>,
+}
+
+impl<L: Ledger, C: Naming> Desk<L, C> {
+    /// Compares the receipts of all shares with the history, once every share came back. Where it
+    /// answers the figures, the shares add up to the history: each row is told by one receipt of one
+    /// share, and each share's calls stand there in the order in which it made them. It fails where a
+    /// receipt is strange, or a growth is refused; then nothing has changed.
+    pub fn settle(self, alloc: Global, root: Root<L, C>) -> Result<Settled, Unsettled<L, C>>
+        requires { root.out ≡ 0 }
+        ensures ok { IfOk result (λ settled. Settles C.config root.lists settled) }
+        ensures fault { IfErr result (λ unsettled. IsFaultIn C.config root.lists unsettled.fault) }
+        ensures root { IfErr result (λ unsettled. unsettled.root ≡ root) }
+    {
+        let Desk { site } = self;
+        let mut locked = site.into_inner();
+        let mut root = root;
+        locked.audit(&mut root);
+        match figures(alloc, &locked, &root) {
+            Ok(settled) => Ok(settled),
+            Err(fault) => Err(Unsettled {
+                fault,
+                desk: Desk {
+                    site: Mutex::new(locked),
+                },
+                root,
+            }),
+        }
+    }
+}
+
+/// The figures of the day, where no receipt is strange.
+fn figures<L: Ledger, C: Naming>(
+    alloc: Global,
+    site: &Locked<L, C>,
+    root: &Root<L, C>,
+) -> Result<Settled, SettleFault>
+    requires { calls_in root.now.lists ≡ length site.now }
+    ensures ok { IfOk result (λ settled. AddsUp C.config site.now root.now.lists settled) }
+    ensures err { IfErr result (λ fault. IsFaultOf site.now root.now.lists fault) }
+    ensures legal { IsLegal (opening C.config) site.now }
+{
+    let rows = site.len();
+    let returned = root.returned();
+    let mut marks = match no_marks(alloc, rows as usize) {
+        Ok(marks) => marks,
+        Err(_) => return Err(SettleFault::NoMemory),
+    };
+    match mark_all(site, &mut marks, returned) {
+        Ok(()) => {}
+        Err(place) => return Err(SettleFault::StrangeReceipt(place)),
+    }
+    let book = match site.totals(alloc) {
+        Ok(book) => book,
+        Err(_) => return Err(SettleFault::NoMemory),
+    };
+    volumes_are_conserved();
+    let (cents, millilitres) = amounts(returned);
+    Ok(Settled {
+        rows,
+        cents,
+        millilitres,
+        shares: returned.len() as u64,
+        book,
+    })
+}

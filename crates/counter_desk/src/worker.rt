@@ -1,0 +1,166 @@
+//! A worker: it makes the calls of a list through one share.
+
+ghost use Rattle.std.specs.Prelude.{◌≡◌, ◌≤◌, ℕ, [], ◌∷◌, false, take, IfOk, OnErr};
+ghost use Rattle.site_base.specs.declared.limits.TheConstants.{TILLS};
+ghost use Rattle.counter_desk.specs.Shares.{owes};
+ghost use Rattle.counter_desk.specs.Work.{AreSignOffs, AreSubmitted, EndsWhole, OwesNobody, Works, work_fault_number};
+
+use crate::desk::Desk;
+use crate::gate::Gate;
+use crate::naming::Naming;
+use crate::share::Share;
+use site_base::{Actor, Event, NoRow, TILL_CELLS, TillNo};
+use std::sync::Wait;
+use std::sync::ledger::Ledger;
+
+/// Why a worker ended before its list did.
+#[derive(Clone, Copy, Debug, PartialEq, Eq)]
+pub enum WorkFault {
+    /// The book has as many rows as the configuration allows.
+    BookFull,
+    /// A growth was refused.
+    NoMemory,
+    /// The worker couldn't be started; it was given no share.
+    NoWorker,
+}
+
+impl WorkFault {
+    /// Its number: 30, 31 or 64.
+    pub fn number(self) -> u8
+        ensures { result ≡ work_fault_number self }
+    {
+        match self {
+            WorkFault::BookFull => 30,
+            WorkFault::NoMemory => 31,
+            WorkFault::NoWorker => 64,
+        }
+    }
+}
+
+/// How a list of calls ended.
+#[derive(Clone, Copy, Debug, PartialEq, Eq)]
+pub struct ListEnd {
+    /// How many of its calls made a row, from the first on.
+    pub placed: u64,
+    /// How many of these were accepted.
+    pub accepted: u64,
+    /// Why it ended before the list did; None where it didn't.
+    pub fault: Option<WorkFault>,
+}
+
+/// Makes the calls of the list, in order, each between the gate's two calls, and stops at the first
+/// that makes no row. Then it signs off each till that the share owes.
+pub fn work<L: Ledger, C: Naming, G: Gate, R: Wait>(
+    rt: &R,
+    desk: &Desk<L, C>,
+    share: &mut Share<L, C>,
+    gate: &G,
+    calls: &[(Actor, Event)],
+) -> ListEnd
+    ensures works { Works calls.now share.old.receipts share.new.receipts result }
+    ensures owed { OwesNobody share.new }
+{
+    let end = submit_all(rt, desk, share, gate, calls);
+    leave_all(rt, desk, share);
+    end
+}
+
+/// Makes the calls of the list.
+fn submit_all<L: Ledger, C: Naming, G: Gate, R: Wait>(
+    rt: &R,
+    desk: &Desk<L, C>,
+    share: &mut Share<L, C>,
+    gate: &G,
+    calls: &[(Actor, Event)],
+) -> ListEnd
+    ensures submitted { AreSubmitted (take result.placed calls.now) share.old.receipts share.new.receipts result.accepted }
+    ensures whole { EndsWhole calls.now result }
+{
+    let mut placed = 0;
+    let mut accepted = 0;
+    for call in calls {
+        let (actor, event) = call;
+        match submit_one(rt, desk, share, gate, *actor, *event) {
+            Ok(one) => accepted += one,
+            Err(fault) => {
+                return ListEnd {
+                    placed,
+                    accepted,
+                    fault: Some(fault),
+                };
+            }
+        }
+        placed += 1;
+    }
+    ListEnd {
+        placed,
+        accepted,
+        fault: None,
+    }
+}
+
+/// Makes one call between the gate's two, and says whether it was accepted: 1 or 0.
+fn submit_one<L: Ledger, C: Naming, G: Gate, R: Wait>(
+    rt: &R,
+    desk: &Desk<L, C>,
+    share: &mut Share<L, C>,
+    gate: &G,
+    actor: Actor,
+    event: Event,
+) -> Result<u64, WorkFault>
+    ensures submitted { IfOk result (λ one.
+        AreSubmitted ((actor, event) ∷ []) share.old.receipts share.new.receipts one) }
+    ensures one { IfOk result (λ one. one ≤ 1) }
+    ensures err { OnErr result (share.new.receipts ≡ share.old.receipts) }
+{
+    gate.before_lock(actor);
+    let one = make(rt, desk, share, &actor, &event);
+    gate.after_reply(actor);
+    one
+}
+
+/// Makes one call, and says whether it was accepted: 1 or 0.
+fn make<L: Ledger, C: Naming, R: Wait>(
+    rt: &R,
+    desk: &Desk<L, C>,
+    share: &mut Share<L, C>,
+    actor: &Actor,
+    event: &Event,
+) -> Result<u64, WorkFault>
+    ensures submitted { IfOk result (λ one.
+        AreSubmitted ((actor.now, event.now) ∷ []) share.old.receipts share.new.receipts one) }
+    ensures one { IfOk result (λ one. one ≤ 1) }
+    ensures err { OnErr result (share.new.receipts ≡ share.old.receipts) }
+{
+    match &desk.submit(rt, share, *actor, *event) {
+        Ok(placed) => Ok(u64::from(placed.reply.is_ok())),
+        Err(NoRow::BookFull) => Err(WorkFault::BookFull),
+        Err(NoRow::NoMemory) => Err(WorkFault::NoMemory),
+    }
+}
+
+/// Signs off each till that the share owes.
+fn leave_all<L: Ledger, C: Naming, R: Wait>(rt: &R, desk: &Desk<L, C>, share: &mut Share<L, C>)
+    ensures left { AreSignOffs share.old.receipts share.new.receipts }
+    ensures owed { OwesNobody share.new }
+{
+    for cell in 0..TILL_CELLS {
+        leave_one(rt, desk, share, TillNo::of_cell(cell));
+    }
+}
+
+/// Signs off the till, where the share owes it.
+fn leave_one<L: Ledger, C: Naming, R: Wait>(
+    rt: &R,
+    desk: &Desk<L, C>,
+    share: &mut Share<L, C>,
+    t: TillNo,
+)
+    ensures left { AreSignOffs share.old.receipts share.new.receipts }
+    ensures gone { owes share.new t ≡ false }
+    ensures others { (u : ℕ) → owes share.old u ≡ false → owes share.new u ≡ false }
+{
+    if share.owes(t) {
+        let _ = desk.leave(rt, share, t);
+    }
+}

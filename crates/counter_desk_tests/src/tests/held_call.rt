@@ -1,0 +1,109 @@
+//! Two workers run side by side: the one whose till is held at the gate goes on once the other was
+//! answered.
+
+ghost use Rattle.std.specs.Prelude.{◌≡◌, ◌^◌};
+
+use super::calls::by_till;
+use super::site::five_points;
+use counter_desk::{Desk, Gate, Naming, Settled, crew};
+use site_base::{Actor, Event, NoMemory, SiteConfig};
+use std::alloc::Global;
+use std::marker::Brand;
+use std::process::Abort;
+use std::sync::atomic::{AtomicU64, Ordering};
+use std::sync::ledger::{Blank, Ledger};
+use std::sync::{Mutex, Wait};
+use std::test::Fail;
+use std::thread;
+use std::thread::Threads;
+
+/// Holds one actor until another was answered, for at most so many turns.
+#[derive(Drop)]
+struct HoldingGate {
+    held: Actor,
+    answered: AtomicU64,
+    gave_up: AtomicU64,
+}
+
+impl Gate for HoldingGate {
+    fn before_lock(&self, actor: Actor) {
+        if actor != self.held {
+            return;
+        }
+        for turn in 0..100_000_000u64 {
+            if self.answered.load(Ordering::SeqCst) != 0 {
+                return;
+            }
+            if turn % 64 == 0 {
+                thread::yield_now();
+            }
+        }
+        self.gave_up.store(1, Ordering::SeqCst);
+    }
+
+    fn after_reply(&self, actor: Actor) {
+        if actor != self.held {
+            self.answered.store(1, Ordering::SeqCst);
+        }
+    }
+}
+
+#[test]
+fn held_call(rt: HostRuntime) -> Result<(), Fail> {
+    let config = five_points(&rt, rt.alloc(), 1_000_000)?;
+    for held in 1..3 {
+        let settled = one_day(&rt, rt.alloc(), &config, held)?;
+        assert_eq!(rt; settled.rows, 4);
+        assert_eq!(rt; settled.shares, 2);
+    }
+    Ok(())
+}
+
+fn one_day<R: Threads + Wait + Abort + Sync>(
+    rt: &R,
+    alloc: Global,
+    config: &SiteConfig,
+    held: u8,
+) -> Result<Settled, NoMemory> {
+    day_of::<Brand, Brand, R>(rt, alloc, Blank::new(1 << 63), config, held)
+}
+
+fn day_of<L: Ledger + Send + Sync, C: Naming + Send + Sync, R: Threads + Wait + Abort + Sync>(
+    rt: &R,
+    alloc: Global,
+    blank: Blank,
+    config: &SiteConfig,
+    held: u8,
+) -> Result<Settled, NoMemory>
+    requires ledger { (blank.name ≡ L.name) × (blank.parts ≡ L.parts) × (blank.parts ≡ 2 ^ 63) }
+    requires config { config.now ≡ C.config }
+{
+    let (desk, root) = Desk::<L, C>::try_open(alloc, blank, config)?;
+    let root = Mutex::new(root);
+    let gate = HoldingGate {
+        held: by_till(rt, held),
+        answered: AtomicU64::new(0),
+        gave_up: AtomicU64::new(0),
+    };
+    let mut lists = Vec::new(alloc);
+    for t in 1..3 {
+        let mut calls = Vec::new(alloc);
+        calls.push((by_till(rt, t), Event::SignOn))?;
+        lists.push(calls)?;
+    }
+    assert!(rt; lists.len() <= 2);
+    let ends = crew(rt, alloc, &desk, &root, &gate, &lists)?;
+    assert!(rt;
+        gate.gave_up.load(Ordering::SeqCst) == 0,
+        "the other worker didn't run"
+    );
+    for end in &ends {
+        assert!(rt; end.placed == 1 && end.accepted == 1 && end.fault.is_none());
+    }
+    let root = root.into_inner();
+    assert!(rt; root.out() == 0, "a share is out");
+    match desk.settle(alloc, root) {
+        Ok(settled) => Ok(settled),
+        Err(_) => panic!(rt; "the day isn't settled"),
+    }
+}

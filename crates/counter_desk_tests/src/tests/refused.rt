@@ -1,0 +1,245 @@
+//! A day of one share: a sale is paid, and a snapshot sees it. Each growth may be refused once.
+
+ghost use Rattle.std.specs.Prelude.{◌≡◌, ◌^◌};
+
+use super::calls::{by_till, hang_up, lift, point, sale, till};
+use super::site::five_points;
+use counter_desk::{Desk, Naming, SettleFault, Settled, Share, Unsettled};
+use site_base::{
+    Actor, Answer, Cents, Event, NoMemory, NoRow, PointState, Preset, Refusal, Reply, SiteConfig,
+    growth_told,
+};
+use std::alloc::Global;
+use std::marker::Brand;
+use std::process::Abort;
+use std::sync::Wait;
+use std::sync::ledger::{Blank, Ledger};
+use std::test::Fail;
+
+/// Says that a growth was refused in this run.
+fn said(rt: &impl Eprint) {
+    let _ = rt.eprintln("a growth was refused");
+}
+
+#[test]
+fn each_refused(rt: HostRuntime) -> Result<(), Fail> {
+    let config = match five_points(&rt, rt.alloc(), 1_000_000) {
+        Ok(config) => config,
+        Err(NoMemory) => {
+            said(&rt);
+            five_points(&rt, rt.alloc(), 1_000_000)?
+        }
+    };
+    let settled = match one_day(&rt, rt.alloc(), &config) {
+        Ok(settled) => settled,
+        Err(NoMemory) => {
+            said(&rt);
+            one_day(&rt, rt.alloc(), &config)?
+        }
+    };
+    assert_eq!(rt; settled.rows, 12);
+    assert_eq!(rt; settled.cents, 1_500);
+    assert_eq!(rt; settled.millilitres, 10_000);
+    assert_eq!(rt; settled.shares, 1);
+    Ok(())
+}
+
+fn one_day<R: Wait + Abort + Eprint>(
+    rt: &R,
+    alloc: Global,
+    config: &SiteConfig,
+) -> Result<Settled, NoMemory> {
+    day_of::<Brand, Brand, R>(rt, alloc, Blank::new(1 << 63), config)
+}
+
+fn day_of<L: Ledger, C: Naming, R: Wait + Abort + Eprint>(
+    rt: &R,
+    alloc: Global,
+    blank: Blank,
+    config: &SiteConfig,
+) -> Result<Settled, NoMemory>
+    requires ledger { (blank.name ≡ L.name) × (blank.parts ≡ L.parts) × (blank.parts ≡ 2 ^ 63) }
+    requires config { config.now ≡ C.config }
+{
+    let (desk, root) = Desk::<L, C>::try_open(alloc, blank, config)?;
+    let mut root = root;
+    let given = match root.give() {
+        Ok(share) => Ok(share),
+        Err(NoMemory) => {
+            said(rt);
+            root.give()
+        }
+    };
+    match given {
+        Ok(share) => {
+            let mut share = share;
+            pay(rt, &desk, &mut share);
+            see(rt, alloc, &desk);
+            leave(rt, &desk, &mut share, 1);
+            leave(rt, &desk, &mut share, 2);
+            assert!(rt; share.calls() == 12 && share.cents() == 1_500);
+            assert_eq!(rt; share.millilitres(), 10_000);
+            root.take_back(share);
+        }
+        Err(NoMemory) => panic!(rt; "no share"),
+    }
+    assert!(rt; root.out() == 0, "a share is out");
+    match desk.settle(alloc, root) {
+        Ok(settled) => Ok(settled),
+        Err(unsettled) => {
+            said(rt);
+            Ok(settled_again(rt, alloc, unsettled))
+        }
+    }
+}
+
+fn settled_again<L: Ledger, C: Naming, R: Abort>(
+    rt: &R,
+    alloc: Global,
+    unsettled: Unsettled<L, C>,
+) -> Settled {
+    let Unsettled { fault, desk, root } = unsettled;
+    assert!(rt; fault == SettleFault::NoMemory, "a strange receipt");
+    assert!(rt; root.out() == 0, "a share is out");
+    match desk.settle(alloc, root) {
+        Ok(settled) => settled,
+        Err(_) => panic!(rt; "the day isn't settled"),
+    }
+}
+
+/// Makes a call. After a refused growth the share is as before, and the call is made again.
+fn told<L: Ledger, C: Naming, R: Wait + Abort + Eprint>(
+    rt: &R,
+    desk: &Desk<L, C>,
+    share: &mut Share<L, C>,
+    actor: &Actor,
+    event: &Event,
+) -> Reply {
+    let calls = share.calls();
+    match &desk.submit(rt, share, *actor, *event) {
+        Ok(placed) => return placed.reply,
+        Err(NoRow::NoMemory) => said(rt),
+        Err(NoRow::BookFull) => panic!(rt; "the book is full"),
+    }
+    assert_eq!(rt; share.calls(), calls);
+    match &desk.submit(rt, share, *actor, *event) {
+        Ok(placed) => placed.reply,
+        Err(_) => panic!(rt; "no row"),
+    }
+}
+
+/// Till 1 sells 10,000 ml of diesel at point 1, and the sale is paid once.
+fn pay<L: Ledger, C: Naming, R: Wait + Abort + Eprint>(
+    rt: &R,
+    desk: &Desk<L, C>,
+    share: &mut Share<L, C>,
+) {
+    let done = Ok(Answer::Done);
+    expect(rt, desk, share, 1, &Event::SignOn, &done);
+    expect(rt, desk, share, 2, &Event::SignOn, &done);
+    expect(rt, desk, share, 1, &Event::Open(point(rt, 1)), &done);
+    expect(
+        rt,
+        desk,
+        share,
+        1,
+        &Event::Release(point(rt, 1), Preset::Unset),
+        &done,
+    );
+    let (dispenser, lifted) = &lift(rt, 1, 0);
+    assert!(rt; told(rt, desk, share, dispenser, lifted).is_ok());
+    let (dispenser, hung_up) = &hang_up(rt, 1, 10_000);
+    assert!(rt; growth_told(&told(rt, desk, share, dispenser, hung_up)) == 10_000);
+    expect(
+        rt,
+        desk,
+        share,
+        1,
+        &Event::Lock(point(rt, 1), sale(rt, 1)),
+        &Ok(Answer::Locked),
+    );
+    let cleared = Ok(Answer::Cleared(Cents::new(1_500).expect(rt, "cents")));
+    expect(
+        rt,
+        desk,
+        share,
+        1,
+        &Event::Clear(point(rt, 1), sale(rt, 1)),
+        &cleared,
+    );
+    let twice = Err(Refusal::AlreadyCleared(till(rt, 1)));
+    expect(
+        rt,
+        desk,
+        share,
+        1,
+        &Event::Clear(point(rt, 1), sale(rt, 1)),
+        &twice,
+    );
+    expect(
+        rt,
+        desk,
+        share,
+        2,
+        &Event::Lock(point(rt, 1), sale(rt, 1)),
+        &twice,
+    );
+}
+
+/// A call of a till is answered so.
+fn expect<L: Ledger, C: Naming, R: Wait + Abort + Eprint>(
+    rt: &R,
+    desk: &Desk<L, C>,
+    share: &mut Share<L, C>,
+    number: u8,
+    event: &Event,
+    reply: &Reply,
+) {
+    let found = &told(rt, desk, share, &by_till(rt, number), event);
+    assert!(rt; found == reply, "answered otherwise");
+}
+
+/// The snapshot has the figures of that sale, and the point is idle.
+fn see<L: Ledger, C: Naming, R: Wait + Abort + Eprint>(rt: &R, alloc: Global, desk: &Desk<L, C>) {
+    let totals = match desk.snapshot(rt, alloc) {
+        Ok(totals) => Ok(totals),
+        Err(NoMemory) => {
+            said(rt);
+            desk.snapshot(rt, alloc)
+        }
+    };
+    match totals {
+        Ok(totals) => {
+            assert_eq!(rt; totals.rows, 10);
+            assert!(rt; totals.products.len() == 2 && totals.tills.len() == 32);
+            assert!(rt;
+                totals.products[0].metered == 10_000 && totals.products[0].cleared == 10_000
+            );
+            assert!(rt; totals.tills[0].1 == 1 && totals.tills[0].2 == 1_500);
+        }
+        Err(NoMemory) => panic!(rt; "no figures"),
+    }
+    match &desk.point(rt, point(rt, 1)) {
+        Some(view) => assert!(rt; view.state == PointState::Idle),
+        None => panic!(rt; "no point"),
+    }
+}
+
+/// Signs off a till that the share owes.
+pub fn leave<L: Ledger, C: Naming, R: Wait + Abort>(
+    rt: &R,
+    desk: &Desk<L, C>,
+    share: &mut Share<L, C>,
+    number: u8,
+) {
+    let t = till(rt, number);
+    assert!(rt; share.owes(t), "the till isn't owed");
+    let calls = share.calls();
+    match &desk.leave(rt, share, t) {
+        Some(placed) => {
+            assert!(rt; placed.place == calls && placed.reply == Ok(Answer::Done));
+            assert!(rt; !share.owes(t), "the till is owed");
+        }
+        None => panic!(rt; "the till wasn't signed on"),
+    }
+}
