@@ -20,7 +20,7 @@ use crate::view::{PointView, ProductView, SiteView, TransactionView};
 use std::marker::Model;
 use std::mem::size_of;
 
-// A history of years keeps every row.
+// A book keeps up to a million rows.
 const _: () = prove!(size_of::<KeptRow>() <= 64);
 
 /// The figures of a product, in millilitres.

@@ -12,7 +12,7 @@ use std::alloc::Global;
 use std::marker::Model;
 
 /// A list of rows that only grows, and the room that is reserved for more of them. A row takes 64
-/// octets, and one that answers with a product's figures as many as these beside it.
+/// octets, and one that answers with a product's figures 48 more, beside it.
 #[derive(Drop)]
 pub struct Rows {
     kept: Vec<KeptRow>,

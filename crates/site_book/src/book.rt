@@ -56,7 +56,7 @@ impl SiteBook {
     }
 
     /// One event of one actor, as one row. `BookFull` comes exactly where the book has as many rows as
-    /// its configuration allows, then `NoMemory` where a growth is refused; neither makes a row or
+    /// its configuration allows, or more, then `NoMemory` where a growth is refused; neither makes a row or
     /// changes the site. Else the row has the written step's reply, and is answered with its place.
     /// A SignOn that is accepted reserves the row of the till's sign-off.
     pub fn apply(&mut self, actor: Actor, event: Event) -> Result<Placed, NoRow>

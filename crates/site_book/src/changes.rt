@@ -34,7 +34,7 @@ type Told = (
 
 impl SiteBook {
     /// The rows from this place on, counted from 0, that have a change: accepted events that the dispenser
-    /// of their point is told of. None where there are no rows so far.
+    /// of their point is told of. No row where the place is behind the last one.
     pub fn changes_since(&self, alloc: Global, place: u64) -> Result<Vec<Row>, NoMemory>
         ensures { IfOk result (λ changes. changes.items ≡ changes_from place self.now.rows) }
     {
