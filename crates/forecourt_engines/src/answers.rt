@@ -80,7 +80,8 @@ impl Answerer {
             Err(fault) => return tell(refusal_in(buffer, message, fault.number())?, out),
             Ok(request) => request,
         };
-        let placed = match self.book.apply(actor, event) {
+        let told = self.book.apply(actor, event);
+        let placed = match &told {
             Ok(placed) => placed,
             Err(NoRow::BookFull) => return tell(
                 refusal_in(buffer, message, NoRow::BookFull.number())?,
@@ -88,13 +89,12 @@ impl Answerer {
             ),
             Err(NoRow::NoMemory) => return Err(NoMemory),
         };
-        let reply = placed.reply;
-        let room = tell(reply_in(buffer, message, &reply)?, out)?;
+        let room = tell(reply_in(buffer, message, &placed.reply)?, out)?;
         if self.changes {
             let row = Row {
                 actor,
                 event,
-                reply,
+                reply: placed.reply,
             };
             put_change(alloc, &row, out)?;
             return Ok(room);

@@ -87,14 +87,14 @@ impl Rows {
     }
 
     /// Adds a row at the end, where room is reserved.
-    pub fn push(&mut self, row: Row)
+    pub fn push(&mut self, row: &Row)
         requires { 0 < self.old.room }
-        ensures rows { self.new.rows ≡ self.old.rows ++ row ∷ [] }
+        ensures rows { self.new.rows ≡ self.old.rows ++ row.now ∷ [] }
         ensures room { self.new.room + 1 ≡ self.old.room }
     {
         let at = self.figures.len();
         put_figures(&mut self.figures, &row.reply);
-        self.kept.push_reserved(KeptRow::new(&row, at));
+        self.kept.push_reserved(KeptRow::new(row, at));
         self.room -= 1;
     }
 }

@@ -149,7 +149,7 @@ fn add_row(site: &mut Site, rows: &mut Rows, actor: &Actor, event: &Event) -> Pl
         event: *event,
         reply: *reply,
     };
-    rows.push(*row);
+    rows.push(row);
     Placed {
         place,
         reply: row.reply,
@@ -176,7 +176,7 @@ fn add_sign_off(site: &mut Site, rows: &mut Rows, t: &TillNo) -> Placed
         event: Event::SignOff,
         reply: Ok(Answer::Done),
     };
-    rows.push(*signing_off);
+    rows.push(signing_off);
     Placed {
         place,
         reply: signing_off.reply,

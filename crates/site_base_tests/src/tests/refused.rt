@@ -56,7 +56,7 @@ fn a_refused_room_leaves_the_rows(rt: HostRuntime) {
             room => room,
         };
         assert_eq!(rt; room, Ok(()));
-        rows.push(*row);
+        rows.push(row);
     }
     assert_eq!(rt; rows.get(5), Some(*row));
     assert_eq!(rt; rows.get(6), None);

@@ -21,4 +21,4 @@ returns-clause-rows c =
     grind (arith, common_steps) in
     pushed _ _ _ _ _ _ _ c.self.invariant.within c.put_figures.ensures.figures
     c.push_reserved.ensures.items c.new.ensures place
-    ∙ ap (λ (l : RowList). l.rows ++ c.args.row ∷ []) c.self.view_is
+    ∙ ap (λ (l : RowList). l.rows ++ c.args.row.now ∷ []) c.self.view_is
