@@ -5,7 +5,7 @@ use Rattle.counter_desk.specs.declared.receipt.Receipt.{Receipt}
 use Rattle.counter_desk.specs.Receipts.{ReceiptList}
 
 -- how many shares are out, and the receipts of those that came back, in the order of their return
-pub record Handed : Type 0 where
+pub record RootFacts : Type 0 where
   pub out : ℕ
   pub lists : List (List Receipt)
 

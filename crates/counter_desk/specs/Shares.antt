@@ -11,13 +11,13 @@ use Rattle.counter_desk.specs.declared.receipt.Receipt.{Receipt}
 
 -- its receipts in their order; of each till, from till 1 on, whether it is owed a sign-off; and the
 -- number of receipts that room is reserved for beside one for each till that is owed
-pub record Held : Type 0 where
+pub record ShareFacts : Type 0 where
   pub receipts : List Receipt
   pub owed : List Bool
   pub room : ℕ
 
 -- the share owes the till a sign-off
-abbrev pub owes : Held → ℕ → Bool
+abbrev pub owes : ShareFacts → ℕ → Bool
 owes share t = slice_index_or share.owed (t - 1) false
 
 -- nobody is owed
@@ -41,7 +41,7 @@ receipts_asked SignOn = 2
 receipts_asked event = 1
 
 -- its receipts and whom it owes are as before
-pub record IsAsBefore (old new : Held) : Type 0 where
+pub record IsAsBefore (old new : ShareFacts) : Type 0 where
   pub receipts : new.receipts ≡ old.receipts
   pub owed : new.owed ≡ old.owed
 

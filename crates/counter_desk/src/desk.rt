@@ -1,7 +1,8 @@
 //! The desk: one site for several workers.
 
-ghost use Rattle.std.specs.Prelude.{◌≡◌, ◌-◌, ◌^◌, ◌≤◌, [], ◌∷◌, ◌++◌, false, true, slice_set, Ok, IfErr, IfOk, IfSome, OnErr, IfNone};
-ghost use Rattle.counter_desk.specs.Kept.{AreFiguresInLegal, IsShownInLegal};
+ghost use Rattle.std.specs.Prelude.{◌≡◌, ◌-◌, ◌^◌, ◌≤◌, [], ◌∷◌, ◌++◌, false, true, length, slice_set, Ok, IfOk, IfSome, IsErrOf, OnErr, IfNone};
+ghost use Rattle.site_base.specs.declared.limits.TheConstants.{TILL_CELLS};
+ghost use Rattle.counter_desk.specs.Kept.{AreFiguresInLegal, IsFullInLegal, IsShownInLegal};
 ghost use Rattle.counter_desk.specs.Receipts.{receipt_of, StandsInLegal};
 ghost use Rattle.counter_desk.specs.Shares.{owed_after, owes, IsAsBefore};
 
@@ -49,6 +50,7 @@ impl<L: Ledger, C: Naming> Desk<L, C> {
     /// the configuration allows, `NoMemory` where a growth is refused; then there is no row, and the
     /// share is as before. An accepted SignOn makes the share owe the till, an accepted SignOff ends
     /// that.
+    #[tactic(auto, using(crate::proofs::OwedTills::cells_after))]
     pub fn submit<R: Wait>(
         &self,
         rt: &R,
@@ -62,6 +64,8 @@ impl<L: Ledger, C: Naming> Desk<L, C> {
             StandsInLegal C.config (receipt_of placed actor event)) }
         ensures owed { IfOk result (λ placed.
             share.new.owed ≡ owed_after actor event placed.reply share.old.owed) }
+        ensures cells { length share.new.owed ≡ TILL_CELLS }
+        ensures full { IsErrOf result NoRow.BookFull → IsFullInLegal C.config }
         ensures err { OnErr result (IsAsBefore share.old share.new) }
     {
         // What can fail for memory here comes before the lock is taken.

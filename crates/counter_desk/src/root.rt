@@ -27,9 +27,9 @@ pub struct Root<L: Ledger, C: Naming> {
 
 impl<L: Ledger, C: Naming> Model for Root<L, C> {
     ghost use Rattle.std.specs.Prelude.{vec_len, vec_capacity};
-    ghost use Rattle.counter_desk.specs.Roots.{Handed, IsRoot, lists_of};
+    ghost use Rattle.counter_desk.specs.Roots.{RootFacts, IsRoot, lists_of};
 
-    ghost Value = { Handed };
+    ghost Value = { RootFacts };
 
     ghost view = { λ r. record { out = r.out; lists = lists_of r.returned.items } };
 

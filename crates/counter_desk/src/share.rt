@@ -1,7 +1,7 @@
 //! A share of the day's work.
 
 ghost use Rattle.std.specs.Prelude.{◌≡◌, ◌+◌, ◌-◌, ◌<◌, ◌≤◌, [], ◌∷◌, ◌++◌, length, false, slice_set, OnOk};
-ghost use Rattle.site_base.specs.declared.limits.TheConstants.{GREATEST_ROWS, GROWTH_LIMIT, TILLS};
+ghost use Rattle.site_base.specs.declared.limits.TheConstants.{GREATEST_ROWS, GROWTH_LIMIT, TILL_CELLS, TILLS};
 ghost use Rattle.site_base.specs.Events.{growth_told};
 ghost use Rattle.counter_desk.specs.Receipts.{cents_receipted, growth_receipted};
 ghost use Rattle.counter_desk.specs.Shares.{owes, nobody_owed, owed_after, tills_owed, receipts_asked, IsAsBefore};
@@ -28,9 +28,9 @@ pub struct Share<L: Ledger, C: Naming> {
 
 impl<L: Ledger, C: Naming> Model for Share<L, C> {
     ghost use Rattle.std.specs.Prelude.{◌-◌};
-    ghost use Rattle.counter_desk.specs.Shares.{Held, IsShare, tills_owed};
+    ghost use Rattle.counter_desk.specs.Shares.{ShareFacts, IsShare, tills_owed};
 
-    ghost Value = { Held };
+    ghost Value = { ShareFacts };
 
     ghost view = { λ s. record { receipts = s.receipts.receipts; owed = s.owed; room = s.receipts.room - tills_owed s.owed } };
 
@@ -76,7 +76,8 @@ impl<L: Ledger, C: Naming> Share<L, C> {
 
     /// Has the till signed on through it, without a sign-off through it since?
     pub fn owes(&self, t: TillNo) -> bool
-        ensures { result ≡ owes self.now t }
+        ensures value { result ≡ owes self.now t }
+        ensures cells { length self.now.owed ≡ TILL_CELLS }
     {
         self.owed.owes(t)
     }
@@ -85,6 +86,7 @@ impl<L: Ledger, C: Naming> Share<L, C> {
     /// SignOn will owe.
     pub(crate) fn reserve(&mut self, event: &Event) -> Result<(), NoMemory>
         ensures same { IsAsBefore self.old self.new }
+        ensures cells { length self.new.owed ≡ TILL_CELLS }
         ensures room { OnOk result (receipts_asked event.now ≤ self.new.room) }
     {
         let asked = match event {
@@ -101,7 +103,8 @@ impl<L: Ledger, C: Naming> Share<L, C> {
         requires few { calls.old.total ≤ GREATEST_ROWS + TILLS }
         requires growth { growth_told receipt.reply ≤ GROWTH_LIMIT }
         ensures receipts { self.new.receipts ≡ self.old.receipts ++ receipt ∷ [] }
-        ensures owed { self.new.owed ≡ owed_after receipt.actor receipt.event receipt.reply self.old.owed }
+        ensures owed { self.new.owed
+            ≡ owed_after receipt.actor receipt.event receipt.reply self.old.owed }
         ensures total { calls.new.total ≡ calls.old.total + 1 }
     {
         // The ledger says that there are no more receipts here than rows.
