@@ -1,5 +1,5 @@
 -- Where a history is dealt among lists of receipts, none of these is strange.
-use Rattle.std.proofs.Common.{◌≡◌, ℕ, zero, suc, ◌+◌, ◌<◌, ◌≤◌, ◌==◌, List, [], ◌∷◌, ◌++◌, length, inl, inr, ◌⊎◌, refl, sym, ap, subst, ◌∙◌, if◌then◌else◌, Bool, true, arith}
+use Rattle.std.proofs.Common.{◌≡◌, ℕ, ◌+◌, ◌<◌, ◌≤◌, List, [], ◌∷◌, ◌++◌, inl, inr, ◌⊎◌, ap, subst, arith}
 use Rattle.std.proofs.lemmas.Bool.Decides.{nat_tests}
 use Rattle.std.proofs.lemmas.Option.{slice_get_within}
 use Rattle.std.specs.List.{AllByRecursion}
@@ -7,7 +7,7 @@ use Rattle.site_base.specs.declared.row.Row.{Row}
 use Rattle.written_site.specs.RowWords.{total}
 use Rattle.counter_desk.specs.declared.receipt.Receipt.{Receipt}
 use Rattle.counter_desk.specs.Receipts.{StandsAt, receipted_row}
-use Rattle.counter_desk.specs.Settlement.{IsDealt, IsInOrder, IsNoneStrange, IsStrange, IsStrangeAmong, Rises, next_from, one_at, times, weigh, weigh_all}
+use Rattle.counter_desk.specs.Settlement.{IsDealt, IsInOrder, IsNoneStrange, IsStrangeAmong, Rises, next_from, one_at, times, weigh}
 
 -- what is so of all, of one in the middle
 of_middle : {A : Type 0} (P : A → Type 0) (xs : List A) (x : A) (ys : List A)

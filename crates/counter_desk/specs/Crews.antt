@@ -13,7 +13,8 @@ IsStartOf calls None = Unit {0}
 IsStartOf calls (Some handle) = handle.promise.0.now ≡ calls
 
 -- each list has its thread
-abbrev pub EachStarted : List (List (Actor × Event)) → List (Option (PromisedHandle ListEnd EndOf)) → Type 0
+abbrev pub EachStarted : List (List (Actor × Event)) → List (Option (PromisedHandle ListEnd EndOf))
+    → Type 0
 EachStarted [] [] = Unit {0}
 EachStarted [] (s ∷ started) = ⊥
 EachStarted (calls ∷ lists) [] = ⊥
@@ -25,7 +26,8 @@ IsJoined None end = end ≡ not_started
 IsJoined (Some handle) end = IsWorkersEnd handle.promise.0.now end
 
 -- the first lists have their ends, and the others their threads
-pub record AreJoining (lists : List (List (Actor × Event))) (started : List (Option (PromisedHandle ListEnd EndOf))) (ends : List ListEnd) : Type 0 where
+pub record AreJoining (lists : List (List (Actor × Event)))
+    (started : List (Option (PromisedHandle ListEnd EndOf))) (ends : List ListEnd) : Type 0 where
   pub before : List (List (Actor × Event))
   pub after : List (List (Actor × Event))
   pub parts : lists ≡ before ++ after

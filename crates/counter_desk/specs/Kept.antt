@@ -17,18 +17,19 @@ use Rattle.written_site.specs.VolumeLaws.{AreVolumesConserved}
 use Rattle.site_book.specs.Book.{Book, is_full, site_at}
 use Rattle.site_book.specs.Figures.{AreFiguresOf}
 
--- Whenever the lock is free: the book is of the desk's configuration, its rows are a legal history, and
--- the ledger of calls stands at as many as there are rows. That the site is the one that the rows lead to
--- is the book's own.
+-- Whenever the lock is free: the book is of the desk's configuration, its rows are a legal history,
+-- and the ledger of calls stands at as many as there are rows. That the site is the one that the
+-- rows lead to is the book's own.
 pub record IsKept (config : Configured) (book : Book) (calls : ℕ) : Type 0 where
   pub of : book.config ≡ config
   pub legal : IsLegal (opening config) book.rows
   pub counted : calls ≡ length book.rows
 
--- What is true of a legal history: it is a run of the written one-thread site with just these replies. No
--- fuelling point has two tills at once, no transaction two lockers at once or two clears. What tills
--- cleared, the volumes cleared in each shift and those that tests drew are what the rows tell. And each
--- product's metered volume is its running, payable, locked, cleared and adjusted volume.
+-- What is true of a legal history: it is a run of the written one-thread site with just these
+-- replies. No fuelling point has two tills at once, no transaction two lockers at once or two
+-- clears. What tills cleared, the volumes cleared in each shift and those that tests drew are what
+-- the rows tell. And each product's metered volume is its running, payable, locked, cleared and
+-- adjusted volume.
 pub record IsSoundHistory (config : Configured) (rows : List Row) : Type 0 where
   pub run : IsRunOf (opening config) rows
   pub held : IsBookHeldByOne config rows

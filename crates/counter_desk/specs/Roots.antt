@@ -16,10 +16,11 @@ lists_of returned = map (λ l. l.receipts) returned
 abbrev pub calls_in : List (List Receipt) → ℕ
 calls_in lists = total length lists
 
--- What a root always keeps. Of the ledger of calls, cut into 2^63 parts, each share that is out has one,
--- and the root the rest, to the amount of the receipts that came back. The place of each return is
--- reserved.
-pub record IsRoot (all parts amount out : ℕ) (lists : List (List Receipt)) (count capacity : ℕ) : Type 0 where
+-- What a root always keeps. Of the ledger of calls, cut into 2^63 parts, each share that is out has
+-- one, and the root the rest, to the amount of the receipts that came back. The place of each
+-- return is reserved.
+pub record IsRoot (all parts amount out : ℕ) (lists : List (List Receipt))
+    (count capacity : ℕ) : Type 0 where
   pub whole : all ≡ 2 ^ 63
   pub rest : parts + out ≡ all
   pub counted : amount ≡ calls_in lists

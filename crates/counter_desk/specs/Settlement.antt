@@ -49,22 +49,24 @@ pub record IsInOrder (history : List Row) (receipts : List Receipt) : Type 0 whe
   pub stand : AllByRecursion (StandsAt history) receipts
   pub rise : Rises 0 receipts
 
--- The history is dealt among the lists: each place is receipted once, each receipt is the row at its
--- place, and in each list the places rise.
+-- The history is dealt among the lists: each place is receipted once, each receipt is the row at
+-- its place, and in each list the places rise.
 pub record IsDealt (history : List Row) (lists : List (List Receipt)) : Type 0 where
   pub once : (k : ℕ) → k < length history → times k lists ≡ 1
   pub in_order : AllByRecursion (IsInOrder history) lists
 
--- A receipt of this place among these is strange, where earlier lists receipted the place so often: it
--- isn't the row at its place, its place isn't above the one before it, or the place was receipted
--- before.
-pub record IsStrangeAmong (history : List Row) (earlier : ℕ) (receipts : List Receipt) (place : ℕ) : Type 0 where
+-- A receipt of this place among these is strange, where earlier lists receipted the place so often:
+-- it isn't the row at its place, its place isn't above the one before it, or the place was
+-- receipted before.
+pub record IsStrangeAmong (history : List Row) (earlier : ℕ) (receipts : List Receipt)
+    (place : ℕ) : Type 0 where
   pub done : List Receipt
   pub rest : List Receipt
   pub strange : Receipt
   pub parts : receipts ≡ done ++ strange ∷ rest
   pub at : strange.place ≡ place
-  pub why : (StandsAt history strange → ⊥) ⊎ ((place < next_from 0 done) ⊎ (1 ≤ earlier + weigh (one_at place) done))
+  pub why : (StandsAt history strange → ⊥)
+      ⊎ ((place < next_from 0 done) ⊎ (1 ≤ earlier + weigh (one_at place) done))
 
 -- a receipt of this place is strange in one of these lists
 pub record IsStrange (history : List Row) (lists : List (List Receipt)) (place : ℕ) : Type 0 where
@@ -78,12 +80,13 @@ pub record IsStrange (history : List Row) (lists : List (List Receipt)) (place :
 abbrev pub IsNoneStrange : List Row → List (List Receipt) → Type 0
 IsNoneStrange history lists = (place : ℕ) → IsStrange history lists place → ⊥
 
--- The shares add up to the history: it is dealt among them; there are as many rows as calls; the cents
--- are those of the rows' Cleared answers, of the shares, and of all tills in the book's figures; the
--- millilitres are those that the rows tell, those of the shares, what all meters have counted, and what
--- was metered of all products in the book's figures; and these are the history's figures, with one
--- member for each configured product.
-pub record AddsUp (config : Configured) (history : List Row) (lists : List (List Receipt)) (settled : Settled) : Type 0 where
+-- The shares add up to the history: it is dealt among them; there are as many rows as calls; the
+-- cents are those of the rows' Cleared answers, of the shares, and of all tills in the book's
+-- figures; the millilitres are those that the rows tell, those of the shares, what all meters have
+-- counted, and what was metered of all products in the book's figures; and these are the history's
+-- figures, with one member for each configured product.
+pub record AddsUp (config : Configured) (history : List Row) (lists : List (List Receipt))
+    (settled : Settled) : Type 0 where
   pub dealt : IsDealt history lists
   pub rows : settled.rows ≡ length history
   pub calls : settled.rows ≡ calls_in lists

@@ -28,14 +28,15 @@ nobody_owed = replicate TILL_CELLS false
 abbrev pub tills_owed : List Bool → ℕ
 tills_owed owed = count_by (λ o. o) owed
 
--- which tills are owed once an actor's event is answered so: an accepted SignOn makes its till owed,
--- an accepted SignOff ends that, and nothing else changes it
+-- which tills are owed once an actor's event is answered so: an accepted SignOn makes its till
+-- owed, an accepted SignOff ends that, and nothing else changes it
 abbrev pub owed_after : Actor → Event → Result Answer Refusal → List Bool → List Bool
 owed_after (Till t) SignOn (Ok answer) owed = slice_set owed (t - 1) true
 owed_after (Till t) SignOff (Ok answer) owed = slice_set owed (t - 1) false
 owed_after actor event reply owed = owed
 
--- how many receipts an event asks room for: its own, and that of the sign-off that a SignOn will owe
+-- how many receipts an event asks room for: its own, and that of the sign-off that a SignOn will
+-- owe
 abbrev pub receipts_asked : Event → ℕ
 receipts_asked SignOn = 2
 receipts_asked event = 1
@@ -47,7 +48,8 @@ pub record IsAsBefore (old new : ShareFacts) : Type 0 where
 
 -- what a share always keeps: it has one part of the ledger of calls, to the amount of its receipts,
 -- and room for a sign-off of each till that it owes
-pub record IsShare (parts amount : ℕ) (receipts : List Receipt) (owed : List Bool) (room : ℕ) : Type 0 where
+pub record IsShare (parts amount : ℕ) (receipts : List Receipt) (owed : List Bool)
+    (room : ℕ) : Type 0 where
   pub part : parts ≡ 1
   pub counted : amount ≡ length receipts
   pub reserved : tills_owed owed ≤ room

@@ -25,7 +25,8 @@ abbrev pub accepted_in : List Receipt → ℕ
 accepted_in receipts = count (λ r. is_ok r.reply) receipts
 
 -- just these calls were made, in order, so many of which were accepted
-pub record AreSubmitted (calls : List (Actor × Event)) (old new : List Receipt) (accepted : ℕ) : Type 0 where
+pub record AreSubmitted (calls : List (Actor × Event)) (old new : List Receipt)
+    (accepted : ℕ) : Type 0 where
   pub made : List Receipt
   pub added : new ≡ old ++ made
   pub told : map call_of made ≡ calls
@@ -48,8 +49,9 @@ pub record AreSignOffs (old new : List Receipt) : Type 0 where
 abbrev pub OwesNobody : ShareFacts → Type 0
 OwesNobody share = (t : ℕ) → 1 ≤ t → t ≤ TILLS → owes share t ≡ false
 
--- How a worker ends that had a share: it placed no more calls than the list has, and all of them where
--- it tells no fault; no more were accepted than placed; and it doesn't tell that it wasn't started.
+-- How a worker ends that had a share: it placed no more calls than the list has, and all of them
+-- where it tells no fault; no more were accepted than placed; and it doesn't tell that it wasn't
+-- started.
 pub record IsWorkersEnd (calls : List (Actor × Event)) (end : ListEnd) : Type 0 where
   pub placed : end.placed ≤ length calls
   pub accepted : end.accepted ≤ end.placed
@@ -71,21 +73,23 @@ EachEnds [] (end ∷ ends) = ⊥
 EachEnds (calls ∷ lists) [] = ⊥
 EachEnds (calls ∷ lists) (end ∷ ends) = IsListEnd calls end × EachEnds lists ends
 
--- what a call that made no row says of the desk: where the book was full, some legal history of the desk's
--- configuration has as many rows as it allows
+-- what a call that made no row says of the desk: where the book was full, some legal history of the
+-- desk's configuration has as many rows as it allows
 abbrev pub IsCause : Configured → WorkFault → Type 0
 IsCause config BookFull = IsFullInLegal config
 IsCause config NoMemory = Unit {0}
 IsCause config NoWorker = ⊥
 
 -- where there is a fault, a call of the list made no row, for this cause
-pub record IsStopped (config : Configured) (calls : List (Actor × Event)) (end : ListEnd) (fault : WorkFault) : Type 0 where
+pub record IsStopped (config : Configured) (calls : List (Actor × Event)) (end : ListEnd)
+    (fault : WorkFault) : Type 0 where
   pub short : end.placed < length calls
   pub cause : IsCause config fault
 
--- The first calls of the list were made, so many of which were accepted, and then tills were signed off.
--- These are all calls, or the next one made no row.
-pub record Works (config : Configured) (calls : List (Actor × Event)) (old new : List Receipt) (end : ListEnd) : Type 0 where
+-- The first calls of the list were made, so many of which were accepted, and then tills were signed
+-- off. These are all calls, or the next one made no row.
+pub record Works (config : Configured) (calls : List (Actor × Event)) (old new : List Receipt)
+    (end : ListEnd) : Type 0 where
   pub between : List Receipt
   pub submitted : AreSubmitted (take end.placed calls) old between end.accepted
   pub left : AreSignOffs between new

@@ -24,9 +24,9 @@ use std::alloc::Global;
 use std::marker::{Model, PhantomData};
 use std::sync::ledger::{Book, Ledger};
 
-/// The book under the lock, with the ledger that counts the calls which made its rows. Contracts see the
-/// rows. Whenever the lock is free they are a legal history of the desk's configuration, and the
-/// ledger has counted just as many calls.
+/// The book under the lock, with the ledger that counts the calls which made its rows. Contracts
+/// see the rows. Whenever the lock is free they are a legal history of the desk's configuration,
+/// and the ledger has counted just as many calls.
 #[derive(Drop)]
 pub(crate) struct Locked<L: Ledger, C: Naming> {
     book: SiteBook,
@@ -60,9 +60,9 @@ impl<L: Ledger, C: Naming> Locked<L, C> {
         }
     }
 
-    /// One event of one actor, as one row behind the others, with its receipt in the share. `BookFull`
-    /// comes exactly where there are as many rows as the configuration allows, or more. Where there is no
-    /// row, nothing has changed.
+    /// One event of one actor, as one row behind the others, with its receipt in the share.
+    /// `BookFull` comes exactly where there are as many rows as the configuration allows, or more.
+    /// Where there is no row, nothing has changed.
     pub(crate) fn submit(
         &mut self,
         share: &mut Share<L, C>,
@@ -94,12 +94,12 @@ impl<L: Ledger, C: Naming> Locked<L, C> {
         Ok(*placed)
     }
 
-    /// Signs off a till that the share owes, as one row, with its receipt in the share. None, without a
-    /// row, where the till isn't signed on.
+    /// Signs off a till that the share owes, as one row, with its receipt in the share. None,
+    /// without a row, where the till isn't signed on.
     pub(crate) fn leave(&mut self, share: &mut Share<L, C>, t: TillNo) -> Option<Placed>
         requires { owes share.old t ≡ true }
-        ensures row { IfSome result (λ placed.
-            self.new ≡ self.old ++ receipted_row (receipt_of placed (Actor.Till t) Event.SignOff) ∷ []) }
+        ensures row { IfSome result (λ placed. self.new
+            ≡ self.old ++ receipted_row (receipt_of placed (Actor.Till t) Event.SignOff) ∷ []) }
         ensures reply { IfSome result (λ placed. placed.reply ≡ Ok Answer.Done) }
         ensures place { IfSome result (λ placed. placed.place ≡ length self.old) }
         ensures receipt { IfSome result (λ placed. share.new.receipts

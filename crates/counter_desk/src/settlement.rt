@@ -36,8 +36,8 @@ pub struct Settled {
 /// Why a day isn't settled.
 #[derive(Clone, Copy, Debug, PartialEq, Eq)]
 pub enum SettleFault {
-    /// A receipt of this place isn't its row, or the place was receipted before or isn't above the one
-    /// before it in its share.
+    /// A receipt of this place isn't its row, or the place was receipted before or isn't above the
+    /// one before it in its share.
     StrangeReceipt(u64),
     /// A growth was refused.
     NoMemory,
@@ -80,9 +80,9 @@ pub struct Unsettled<L: Ledger, C: Naming> {
 
 impl<L: Ledger, C: Naming> Desk<L, C> {
     /// Compares the receipts of all shares with the history, once every share came back. Where it
-    /// answers the figures, the shares add up to the history: each row is told by one receipt of one
-    /// share, and each share's calls stand there in the order in which it made them. It fails where a
-    /// receipt is strange, or a growth is refused; then nothing has changed.
+    /// answers the figures, the shares add up to the history: each row is told by one receipt of
+    /// one share, and each share's calls stand there in the order in which it made them. It fails
+    /// where a receipt is strange, or a growth is refused; then nothing has changed.
     pub fn settle(self, alloc: Global, root: Root<L, C>) -> Result<Settled, Unsettled<L, C>>
         requires { root.out ≡ 0 }
         ensures ok { IfOk result (λ settled. Settles C.config root.lists settled) }
@@ -106,8 +106,9 @@ impl<L: Ledger, C: Naming> Desk<L, C> {
 }
 
 impl<L: Ledger, C: Naming> Locked<L, C> {
-    /// The figures of the day, where no share is out and no receipt is strange. Where one is, it is told
-    /// by its place, or a growth was refused before that was seen. Neither the rows nor the root are changed.
+    /// The figures of the day, where no share is out and no receipt is strange. Where one is, it is
+    /// told by its place, or a growth was refused before that was seen. Neither the rows nor the
+    /// root are changed.
     fn settle(&mut self, alloc: Global, root: &mut Root<L, C>) -> Result<Settled, SettleFault>
         requires { root.old.out ≡ 0 }
         ensures ok { IfOk result (λ settled. AddsUp C.config self.old root.old.lists settled) }

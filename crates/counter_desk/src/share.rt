@@ -32,9 +32,14 @@ impl<L: Ledger, C: Naming> Model for Share<L, C> {
 
     ghost Value = { ShareFacts };
 
-    ghost view = { λ s. record { receipts = s.receipts.receipts; owed = s.owed; room = s.receipts.room - tills_owed s.owed } };
+    ghost view = { λ s. record {
+      receipts = s.receipts.receipts;
+      owed = s.owed;
+      room = s.receipts.room - tills_owed s.owed;
+    } };
 
-    ghost invariant = { λ s. IsShare s.mark.parts s.mark.amount s.receipts.receipts s.owed s.receipts.room };
+    ghost invariant = { λ s. IsShare s.mark.parts s.mark.amount s.receipts.receipts s.owed
+        s.receipts.room };
 }
 
 impl<L: Ledger, C: Naming> Share<L, C> {
@@ -82,8 +87,8 @@ impl<L: Ledger, C: Naming> Share<L, C> {
         self.owed.owes(t)
     }
 
-    /// Makes room for the receipts of a call with this event: its own, and that of the sign-off that a
-    /// SignOn will owe.
+    /// Makes room for the receipts of a call with this event: its own, and that of the sign-off
+    /// that a SignOn will owe.
     pub(crate) fn reserve(&mut self, event: &Event) -> Result<(), NoMemory>
         ensures same { IsAsBefore self.old self.new }
         ensures cells { length self.new.owed ≡ TILL_CELLS }
@@ -98,7 +103,8 @@ impl<L: Ledger, C: Naming> Share<L, C> {
 
     /// A call was made: its receipt is kept, and the ledger of calls counts it.
     pub(crate) fn note(&mut self, calls: &mut Book<L>, receipt: Receipt)
-        requires room { tills_owed (owed_after receipt.actor receipt.event receipt.reply self.old.owed)
+        requires room { tills_owed
+            (owed_after receipt.actor receipt.event receipt.reply self.old.owed)
             < self.old.room + tills_owed self.old.owed }
         requires few { calls.old.total ≤ GREATEST_ROWS + TILLS }
         requires growth { growth_told receipt.reply ≤ GROWTH_LIMIT }

@@ -46,15 +46,18 @@ with_row_of b actor event = record b { rows = b.rows ++ next_row b actor event �
 abbrev pub AreActors : List Row → Type 0
 AreActors rows = AllByRecursion (λ r. IsTillActor r.actor) rows
 
--- the numbers that these rows carry are in range: the readings that they report, and the tills that act
+-- the numbers that these rows carry are in range: the readings that they report, and the tills that
+-- act
 pub record AreRowsInRange (rows : List Row) : Type 0 where
   pub readings : AreReadable rows
   pub actors : AreActors rows
 
--- What the book always keeps: the site is that of the rows, and the rows are a legal history whose numbers
--- are in range. Room for one row more is reserved for each till that is signed on, and with these
--- there are at most as many rows as the configuration allows and one for each till that may be.
-pub record IsBook (config : Configured) (rows : List Row) (site : SiteState) (count room : ℕ) : Type 0 where
+-- What the book always keeps: the site is that of the rows, and the rows are a legal history whose
+-- numbers are in range. Room for one row more is reserved for each till that is signed on, and with
+-- these there are at most as many rows as the configuration allows and one for each till that may
+-- be.
+pub record IsBook (config : Configured) (rows : List Row) (site : SiteState)
+    (count room : ℕ) : Type 0 where
   pub leads : site ≡ site_at config rows
   pub legal : IsLegal (opening config) rows
   pub ranges : AreRowsInRange rows

@@ -6,8 +6,8 @@ use Rattle.written_site.specs.RowWords.{total}
 use Rattle.written_site.specs.ShiftFigures.{product_totals, till_totals}
 use Rattle.site_book.specs.Book.{Book, site_of_book}
 
--- the totals are the figures of the book's rows: how many there are, and of the site that they lead to each
--- product's figures in configured order, and each till's clears and their cents
+-- the totals are the figures of the book's rows: how many there are, and of the site that they lead
+-- to each product's figures in configured order, and each till's clears and their cents
 pub record AreFiguresOf (b : Book) (totals : Totals) : Type 0 where
   pub rows : totals.rows ≡ length b.rows
   pub products : totals.products.items ≡ product_totals (site_of_book b)
@@ -21,8 +21,8 @@ metered_in totals = total (λ q. q.metered) totals.products.items
 abbrev pub cents_in : Totals → ℕ
 cents_in totals = total (λ t. t.2) totals.tills.items
 
--- The totals add up to what the book's rows tell: the products' metered volumes to the growths, the tills'
--- cents to those of the Cleared answers.
+-- The totals add up to what the book's rows tell: the products' metered volumes to the growths, the
+-- tills' cents to those of the Cleared answers.
 pub record AddUp (b : Book) (totals : Totals) : Type 0 where
   pub metered : metered_in totals ≡ total (λ r. growth_told r.reply) b.rows
   pub cleared : cents_in totals ≡ total (λ r. cents_told r.reply) b.rows

@@ -47,7 +47,10 @@ fn day_of<L: Ledger, C: Naming, R: Wait + Abort>(
             let mut share = share;
             let end = work(rt, &desk, &mut share, &OpenGate, &calls);
             assert!(rt; end.placed == 3 && end.accepted == 3);
-            assert!(rt; end.fault == Some(WorkFault::BookFull), "the book isn't full");
+            assert!(rt;
+                end.fault == Some(WorkFault::BookFull),
+                "the book isn't full"
+            );
             assert_eq!(rt; share.calls(), 5);
             root.take_back(share);
         }

@@ -6,8 +6,8 @@ use super::calls::{by_till, hang_up, lift, point, sale, till};
 use super::site::five_points;
 use counter_desk::{Desk, Naming, SettleFault, Settled, Share, Unsettled};
 use site_base::{
-    Actor, Answer, Cents, Event, NoMemory, NoRow, PointState, Preset, ProductView, Refusal, Reply, SiteConfig,
-    growth_told,
+    Actor, Answer, Cents, Event, NoMemory, NoRow, PointState, Preset, ProductView, Refusal, Reply,
+    SiteConfig, growth_told,
 };
 use std::alloc::Global;
 use std::marker::Brand;
