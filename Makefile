@@ -3,6 +3,7 @@
 PROGRAM := crates/forecourt/out/forecourt
 ROWS := crates/worked_rows/out/worked_rows
 COSTS := crates/parts_cost/out/parts_cost
+LOAD := crates/desk_load/out/desk_load
 CRATES := $(patsubst crates/%/wrong-bodies,%,$(wildcard crates/*/wrong-bodies))
 
 .PHONY: help run build check test audit bench
@@ -15,7 +16,7 @@ help:
 	@echo '              the built programs, refused growths and failing devices'
 	@echo 'make audit    the wrong bodies of the second shelf, of every crate or of CRATES="a b"'
 	@echo 'make bench    messages a second, memory, and their growth with the input; what a call of a part costs,'
-	@echo '              and a row of a book of a million'
+	@echo '              a row of a book of a million, a call of a desk, and a receipt that is settled'
 
 run:
 	@cd crates/forecourt && rt try < stdin
@@ -42,3 +43,5 @@ bench: build
 	@scripts/bench-book $(PROGRAM)
 	@cd crates/parts_cost && rt run > /dev/null
 	@scripts/parts-cost $(COSTS)
+	@cd crates/desk_load && rt run > /dev/null
+	@scripts/bench-desk $(LOAD)

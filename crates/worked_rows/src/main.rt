@@ -4,6 +4,7 @@
 
 mod asked;
 mod books;
+mod desks;
 mod draft;
 mod kept;
 mod line;
@@ -13,10 +14,12 @@ mod table;
 
 use crate::line::Line;
 use crate::table::Table;
+use std::alloc::Global;
 use std::process::ExitCode;
+use std::sync::Wait;
 
 fn main(rt: HostRuntime) -> ExitCode {
-    match printed(&rt) {
+    match printed(&rt, rt.alloc()) {
         Ok(()) => ExitCode::SUCCESS,
         Err(error) => {
             let _ = eprintln!(&rt; "{error}");
@@ -26,12 +29,12 @@ fn main(rt: HostRuntime) -> ExitCode {
 }
 
 /// Prints the table that standard input holds.
-fn printed(rt: &HostRuntime) -> anyhow::Result<()> {
-    let alloc = rt.alloc();
+fn printed(rt: &(impl Print + Eprint + Input + Wait), alloc: Global) -> anyhow::Result<()> {
     let mut table = Table::new(alloc);
     for text in rt.lines(alloc) {
         let text = text?;
         table.take(rt, Line::read(alloc, &text)?)?;
     }
-    table.end(rt)
+    table.end(rt)?;
+    table.close(rt)
 }
