@@ -59,7 +59,7 @@ fn list_of(alloc: Global, worker: u8) -> anyhow::Result<Calls> {
     let (first, second) = (till_number(first)?, till_number(second)?);
     let start = worker.saturating_mul(3);
     for round in 0..1_000u16 {
-        if calls.len() + 11 > CALLS {
+        if calls.len().saturating_add(11) > CALLS {
             break;
         }
         let place = u16::from(start).saturating_add(round);
