@@ -97,10 +97,12 @@ impl<L: Ledger, C: Naming> Desk<L, C> {
         self.site.lock(rt).point(p)
     }
 
-    /// The figures of the rows so far: of a legal history of the desk's configuration. It makes no
-    /// row.
+    /// The figures of the rows so far: of a legal history of the desk's configuration, with one
+    /// member for each of its products. It makes no row.
     pub fn snapshot<R: Wait>(&self, rt: &R, alloc: Global) -> Result<Totals, NoMemory>
-        ensures { IfOk result (λ totals. AreFiguresInLegal C.config totals) }
+        ensures figures { IfOk result (λ totals. AreFiguresInLegal C.config totals) }
+        ensures products { IfOk result (λ totals.
+            length totals.products.items ≡ length C.config.products) }
     {
         self.site.lock(rt).totals(alloc)
     }
