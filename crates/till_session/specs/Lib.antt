@@ -1,0 +1,4 @@
+pub mod Counters
+pub mod Text
+pub mod Course
+pub mod Ends
