@@ -6,5 +6,6 @@ pub mod OwedTills
 pub mod Same
 pub mod SameReplies
 pub mod Placing
+pub mod Strange
 pub mod Submitted
 pub mod Threads

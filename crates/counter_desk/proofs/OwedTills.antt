@@ -1,5 +1,6 @@
 -- How many tills are owed once one of them is set.
-use Rattle.std.proofs.Common.{◌≡◌, ℕ, zero, suc, ◌+◌, ◌-◌, ◌<◌, ◌≤◌, Bool, true, false, cond, List, [], ◌∷◌, set, get_or, Result, Ok, arith}
+use Rattle.std.proofs.Common.{◌≡◌, ℕ, zero, suc, ◌+◌, ◌-◌, ◌<◌, ◌≤◌, Bool, true, false, cond, List, [], ◌∷◌, length, set, get_or, Result, Ok, refl, arith}
+use Rattle.std.proofs.lemmas.List.{length-set}
 use Rattle.std.proofs.lemmas.List.Sums.{sum_by-cons}
 use Rattle.site_base.specs.declared.actor.Actor.{Actor}
 use Rattle.site_base.specs.declared.actor.Actor.TheVariants.{Till}
@@ -39,6 +40,14 @@ set_one_more (false ∷ owed) zero =
 set_one_more (o ∷ owed) (suc i) =
     let rest = set_one_more owed i in
     omega (arith, rest, sum_by-cons (λ (x : Bool). cond x 1 0) o (set owed i true), sum_by-cons (λ (x : Bool). cond x 1 0) o owed)
+
+-- there is a cell for each till, as before
+pub cells_after : (a : Actor) (e : Event) (reply : Result Answer Refusal) (owed : List Bool)
+    → length (owed_after a e reply owed) ≡ length owed
+cells_after (Till t) SignOn (Ok answer) owed = length-set owed (t - 1) true
+cells_after (Till t) SignOff (Ok answer) owed = length-set owed (t - 1) false
+cells_after a SignOn reply owed = refl
+cells_after a e reply owed = refl
 
 -- what an event asks room for is enough for its receipt and for the tills owed then
 pub room_asked : (a : Actor) (e : Event) (reply : Result Answer Refusal) (owed : List Bool)

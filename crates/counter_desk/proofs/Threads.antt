@@ -1,5 +1,5 @@
 -- The threads of a crew, started one after another and joined one after another.
-use Rattle.std.proofs.Common.{◌≡◌, List, [], ◌∷◌, ◌++◌, Option, Some, None, refl, sym, subst, ◌∙◌}
+use Rattle.std.proofs.Common.{◌≡◌, List, [], ◌∷◌, ◌++◌, Option, Some, None, inl, inr, refl, sym, subst, ◌∙◌}
 use Rattle.std.proofs.lemmas.List.{append-nil, append_assoc}
 use Rattle.std.specs.declared.thread.PromisedHandle.{PromisedHandle}
 use Rattle.site_base.specs.declared.actor.Actor.{Actor}
@@ -7,7 +7,7 @@ use Rattle.site_base.specs.declared.event.Event.{Event}
 use Rattle.counter_desk.specs.declared.crews.EndOf.{EndOf}
 use Rattle.counter_desk.specs.declared.worker.ListEnd.{ListEnd}
 use Rattle.counter_desk.specs.Crews.{AreJoining, EachStarted, IsJoined, IsStartOf}
-use Rattle.counter_desk.specs.Work.{EachEnds, EndsWhole}
+use Rattle.counter_desk.specs.Work.{EachEnds, IsListEnd, IsWorkersEnd}
 
 pub started_push : (lists : List (List (Actor × Event))) (started : List (Option (PromisedHandle ListEnd EndOf)))
     (calls : List (Actor × Event)) (s : Option (PromisedHandle ListEnd EndOf))
@@ -20,7 +20,7 @@ started_push (l ∷ lists) (x ∷ started) calls s each one =
     (each.0, started_push lists started calls s each.1 one)
 
 ends_push : (lists : List (List (Actor × Event))) (ends : List ListEnd) (calls : List (Actor × Event)) (end : ListEnd)
-    → EachEnds lists ends → EndsWhole calls end → EachEnds (lists ++ calls ∷ []) (ends ++ end ∷ [])
+    → EachEnds lists ends → IsListEnd calls end → EachEnds (lists ++ calls ∷ []) (ends ++ end ∷ [])
 ends_push [] [] calls end each one = (one, tt)
 ends_push [] (x ∷ ends) calls end each one = absurd each
 ends_push (l ∷ lists) [] calls end each one = absurd each
@@ -39,9 +39,9 @@ joining_start lists started each = record {
 
 -- a thread that is joined ends what it was to do
 joined : (calls : List (Actor × Event)) (s : Option (PromisedHandle ListEnd EndOf)) (end : ListEnd)
-    → IsStartOf calls s → IsJoined s end → EndsWhole calls end
-joined calls None end start join = λ none. absurd (join none)
-joined calls (Some handle) end start join = subst (λ cs. EndsWhole cs end) start join
+    → IsStartOf calls s → IsJoined s end → IsListEnd calls end
+joined calls None end start join = inr join
+joined calls (Some handle) end start join = inl (subst (λ cs. IsWorkersEnd cs end) start join)
 
 pub joining_more : (lists : List (List (Actor × Event))) (s : Option (PromisedHandle ListEnd EndOf))
     (started : List (Option (PromisedHandle ListEnd EndOf))) (ends : List ListEnd) (end : ListEnd)

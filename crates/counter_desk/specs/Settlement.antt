@@ -9,11 +9,12 @@ use Rattle.written_site.specs.SiteRun.{IsLegal}
 use Rattle.written_site.specs.SiteState.{opening}
 use Rattle.written_site.specs.Volumes.{all_metered}
 use Rattle.site_book.specs.Book.{site_at}
-use Rattle.site_book.specs.Figures.{AreFiguresOf}
+use Rattle.site_book.specs.Figures.{AreFiguresOf, cents_in, metered_in}
 use Rattle.counter_desk.specs.declared.receipt.Receipt.{Receipt}
 use Rattle.counter_desk.specs.declared.settlement.Settled.{Settled}
 use Rattle.counter_desk.specs.declared.settlement.SettleFault.{SettleFault}
 use Rattle.counter_desk.specs.declared.settlement.SettleFault.TheVariants.{StrangeReceipt, NoMemory}
+use Rattle.counter_desk.specs.Kept.{book_of}
 use Rattle.counter_desk.specs.Receipts.{cents_receipted, growth_receipted, StandsAt}
 use Rattle.counter_desk.specs.Roots.{calls_in}
 
@@ -48,22 +49,24 @@ pub record IsInOrder (history : List Row) (receipts : List Receipt) : Type 0 whe
   pub stand : AllByRecursion (StandsAt history) receipts
   pub rise : Rises 0 receipts
 
--- The history is dealt among the lists: each place is receipted once, each receipt is the row at its
--- place, and in each list the places rise.
+-- The history is dealt among the lists: each place is receipted once, each receipt is the row at
+-- its place, and in each list the places rise.
 pub record IsDealt (history : List Row) (lists : List (List Receipt)) : Type 0 where
   pub once : (k : ℕ) → k < length history → times k lists ≡ 1
   pub in_order : AllByRecursion (IsInOrder history) lists
 
--- A receipt of this place among these is strange, where earlier lists receipted the place so often: it
--- isn't the row at its place, its place isn't above the one before it, or the place was receipted
--- before.
-pub record IsStrangeAmong (history : List Row) (earlier : ℕ) (receipts : List Receipt) (place : ℕ) : Type 0 where
+-- A receipt of this place among these is strange, where earlier lists receipted the place so often:
+-- it isn't the row at its place, its place isn't above the one before it, or the place was
+-- receipted before.
+pub record IsStrangeAmong (history : List Row) (earlier : ℕ) (receipts : List Receipt)
+    (place : ℕ) : Type 0 where
   pub done : List Receipt
   pub rest : List Receipt
   pub strange : Receipt
   pub parts : receipts ≡ done ++ strange ∷ rest
   pub at : strange.place ≡ place
-  pub why : (StandsAt history strange → ⊥) ⊎ ((place < next_from 0 done) ⊎ (1 ≤ earlier + weigh (one_at place) done))
+  pub why : (StandsAt history strange → ⊥)
+      ⊎ ((place < next_from 0 done) ⊎ (1 ≤ earlier + weigh (one_at place) done))
 
 -- a receipt of this place is strange in one of these lists
 pub record IsStrange (history : List Row) (lists : List (List Receipt)) (place : ℕ) : Type 0 where
@@ -73,20 +76,30 @@ pub record IsStrange (history : List Row) (lists : List (List Receipt)) (place :
   pub parts : lists ≡ before ++ receipts ∷ after
   pub there : IsStrangeAmong history (times place before) receipts place
 
--- The shares add up to the history: it is dealt among them; there are as many rows as calls; the cents
--- are those of the rows' Cleared answers and of the shares'; the millilitres are those that the rows
--- tell, those of the shares, and what all meters have counted; and the figures are the history's.
-pub record AddsUp (config : Configured) (history : List Row) (lists : List (List Receipt)) (settled : Settled) : Type 0 where
+-- no receipt of these lists is strange
+abbrev pub IsNoneStrange : List Row → List (List Receipt) → Type 0
+IsNoneStrange history lists = (place : ℕ) → IsStrange history lists place → ⊥
+
+-- The shares add up to the history: it is dealt among them; there are as many rows as calls; the
+-- cents are those of the rows' Cleared answers, of the shares, and of all tills in the book's
+-- figures; the millilitres are those that the rows tell, those of the shares, what all meters have
+-- counted, and what was metered of all products in the book's figures; and these are the history's
+-- figures, with one member for each configured product.
+pub record AddsUp (config : Configured) (history : List Row) (lists : List (List Receipt))
+    (settled : Settled) : Type 0 where
   pub dealt : IsDealt history lists
   pub rows : settled.rows ≡ length history
   pub calls : settled.rows ≡ calls_in lists
   pub cents : settled.cents ≡ total (λ r. cents_told r.reply) history
   pub cents_shared : settled.cents ≡ total cents_receipted lists
+  pub cents_booked : settled.cents ≡ cents_in settled.book
   pub millilitres : settled.millilitres ≡ total (λ r. growth_told r.reply) history
   pub millilitres_shared : settled.millilitres ≡ total growth_receipted lists
   pub metered : settled.millilitres ≡ all_metered (site_at config history)
+  pub millilitres_booked : settled.millilitres ≡ metered_in settled.book
   pub shares : settled.shares ≡ length lists
-  pub book : AreFiguresOf (record { config = config; rows = history }) settled.book
+  pub book : AreFiguresOf (book_of config history) settled.book
+  pub products : length settled.book.products.items ≡ length config.products
 
 -- the shares add up to a legal history of this configuration
 abbrev pub Settles : Configured → List (List Receipt) → Settled → Type 0
@@ -98,10 +111,11 @@ abbrev pub IsFaultOf : List Row → List (List Receipt) → SettleFault → Type
 IsFaultOf history lists (StrangeReceipt place) = IsStrange history lists place
 IsFaultOf history lists NoMemory = Unit {0}
 
--- the same of a legal history of this configuration
+-- the same of a legal history of this configuration that has as many rows as the shares made calls
 abbrev pub IsFaultIn : Configured → List (List Receipt) → SettleFault → Type 0
 IsFaultIn config lists fault =
-    (history : List Row) × IsLegal (opening config) history × IsFaultOf history lists fault
+    (history : List Row) × IsLegal (opening config) history × (calls_in lists ≡ length history)
+    × IsFaultOf history lists fault
 
 -- its number, as a program tells it
 abbrev pub settle_fault_number : SettleFault → ℕ

@@ -11,13 +11,13 @@ use Rattle.counter_desk.specs.declared.receipt.Receipt.{Receipt}
 
 -- its receipts in their order; of each till, from till 1 on, whether it is owed a sign-off; and the
 -- number of receipts that room is reserved for beside one for each till that is owed
-pub record Held : Type 0 where
+pub record ShareFacts : Type 0 where
   pub receipts : List Receipt
   pub owed : List Bool
   pub room : ℕ
 
 -- the share owes the till a sign-off
-abbrev pub owes : Held → ℕ → Bool
+abbrev pub owes : ShareFacts → ℕ → Bool
 owes share t = slice_index_or share.owed (t - 1) false
 
 -- nobody is owed
@@ -28,26 +28,28 @@ nobody_owed = replicate TILL_CELLS false
 abbrev pub tills_owed : List Bool → ℕ
 tills_owed owed = count_by (λ o. o) owed
 
--- which tills are owed once an actor's event is answered so: an accepted SignOn makes its till owed,
--- an accepted SignOff ends that, and nothing else changes it
+-- which tills are owed once an actor's event is answered so: an accepted SignOn makes its till
+-- owed, an accepted SignOff ends that, and nothing else changes it
 abbrev pub owed_after : Actor → Event → Result Answer Refusal → List Bool → List Bool
 owed_after (Till t) SignOn (Ok answer) owed = slice_set owed (t - 1) true
 owed_after (Till t) SignOff (Ok answer) owed = slice_set owed (t - 1) false
 owed_after actor event reply owed = owed
 
--- how many receipts an event asks room for: its own, and that of the sign-off that a SignOn will owe
+-- how many receipts an event asks room for: its own, and that of the sign-off that a SignOn will
+-- owe
 abbrev pub receipts_asked : Event → ℕ
 receipts_asked SignOn = 2
 receipts_asked event = 1
 
 -- its receipts and whom it owes are as before
-pub record IsAsBefore (old new : Held) : Type 0 where
+pub record IsAsBefore (old new : ShareFacts) : Type 0 where
   pub receipts : new.receipts ≡ old.receipts
   pub owed : new.owed ≡ old.owed
 
 -- what a share always keeps: it has one part of the ledger of calls, to the amount of its receipts,
 -- and room for a sign-off of each till that it owes
-pub record IsShare (parts amount : ℕ) (receipts : List Receipt) (owed : List Bool) (room : ℕ) : Type 0 where
+pub record IsShare (parts amount : ℕ) (receipts : List Receipt) (owed : List Bool)
+    (room : ℕ) : Type 0 where
   pub part : parts ≡ 1
   pub counted : amount ≡ length receipts
   pub reserved : tills_owed owed ≤ room

@@ -3,7 +3,7 @@
 ghost use Rattle.std.specs.Prelude.{◌≡◌, ◌≤◌, length, map, vec_items, IfOk};
 ghost use Rattle.counter_desk.specs.declared.crews.TheConstants.{WORKERS};
 ghost use Rattle.counter_desk.specs.Crews.{IsJoined};
-ghost use Rattle.counter_desk.specs.Work.{EachEnds, EndsWhole};
+ghost use Rattle.counter_desk.specs.Work.{EachEnds, IsWorkersEnd};
 
 use crate::desk::Desk;
 use crate::gate::Gate;
@@ -25,17 +25,19 @@ pub const WORKERS: usize = 16;
 struct EndOf<'a>(&'a [(Actor, Event)]);
 
 impl<'a> Promise<ListEnd> for EndOf<'a> {
-    ghost use Rattle.counter_desk.specs.Work.{EndsWhole};
+    ghost use Rattle.counter_desk.specs.Work.{IsWorkersEnd};
 
-    ghost kept_by = { λ p end. EndsWhole p.0.now end };
+    ghost kept_by = { λ p end. IsWorkersEnd p.0.now end };
 }
 
 /// A worker's thread, if it was started.
 type Started<'a> = Option<PromisedHandle<ListEnd, EndOf<'a>>>;
 
-/// Makes the calls of each list by a worker of its own, all side by side. Each takes a share from the
-/// root, works through its list and hands the share back. There is one end for each list, in their
-/// order. A growth that is refused here is answered before any worker starts.
+/// Makes the calls of each list by a worker of its own, all side by side. Each takes a share from
+/// the root, works through its list and hands the share back. There is one end for each list, in
+/// their order: its worker's, or, where that couldn't be started, one that says so; then no share
+/// was given and nothing was placed. A growth that is refused here is answered before any worker
+/// starts.
 pub fn crew<
     L: Ledger + Send + Sync,
     C: Naming + Send + Sync,
@@ -86,7 +88,7 @@ fn run_all<
     for list in lists {
         let calls = list.as_slice();
         let job = move || -> ListEnd
-            ensures { EndsWhole calls.entry.now result }
+            ensures { IsWorkersEnd calls.entry.now result }
         { work_once(rt, desk, root, gate, calls) };
         match scope.spawn_with(EndOf(calls), job) {
             Ok(handle) => started.push_reserved(Some(handle)),
@@ -121,7 +123,7 @@ fn work_once<L: Ledger, C: Naming, G: Gate, R: Wait>(
     gate: &G,
     calls: &[(Actor, Event)],
 ) -> ListEnd
-    ensures { EndsWhole calls.now result }
+    ensures { IsWorkersEnd calls.now result }
 {
     let given = root.lock(rt).give();
     match given {

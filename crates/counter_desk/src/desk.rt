@@ -1,7 +1,8 @@
 //! The desk: one site for several workers.
 
-ghost use Rattle.std.specs.Prelude.{◌≡◌, ◌-◌, ◌^◌, ◌≤◌, [], ◌∷◌, ◌++◌, false, true, slice_set, Ok, IfErr, IfOk, IfSome, OnErr, IfNone};
-ghost use Rattle.counter_desk.specs.Kept.{AreFiguresInLegal, IsShownInLegal};
+ghost use Rattle.std.specs.Prelude.{◌≡◌, ◌-◌, ◌^◌, ◌≤◌, [], ◌∷◌, ◌++◌, false, true, length, slice_set, Ok, IfOk, IfSome, IsErrOf, OnErr, IfNone};
+ghost use Rattle.site_base.specs.declared.limits.TheConstants.{TILL_CELLS};
+ghost use Rattle.counter_desk.specs.Kept.{AreFiguresInLegal, IsFullInLegal, IsShownInLegal};
 ghost use Rattle.counter_desk.specs.Receipts.{receipt_of, StandsInLegal};
 ghost use Rattle.counter_desk.specs.Shares.{owed_after, owes, IsAsBefore};
 
@@ -17,8 +18,8 @@ use std::alloc::Global;
 use std::sync::ledger::{Blank, Ledger};
 use std::sync::{Mutex, Wait};
 
-/// One site, shared by several workers: its book stands under one lock, and each call is one holding of
-/// it. Each worker has a share, which the desk's root gave it.
+/// One site, shared by several workers: its book stands under one lock, and each call is one
+/// holding of it. Each worker has a share, which the desk's root gave it.
 #[derive(Drop)]
 pub struct Desk<L: Ledger, C: Naming> {
     pub(crate) site: Mutex<Locked<L, C>>,
@@ -45,10 +46,11 @@ impl<L: Ledger, C: Naming> Desk<L, C> {
     }
 
     /// One event of one actor. It makes one row, and the share one receipt, which is that row: of a
-    /// legal history of the desk's configuration. `BookFull` comes where the book has as many rows as
-    /// the configuration allows, `NoMemory` where a growth is refused; then there is no row, and the
-    /// share is as before. An accepted SignOn makes the share owe the till, an accepted SignOff ends
-    /// that.
+    /// legal history of the desk's configuration. `BookFull` comes where the book has as many rows
+    /// as the configuration allows, `NoMemory` where a growth is refused; then there is no row, and
+    /// the share is as before. An accepted SignOn makes the share owe the till, an accepted SignOff
+    /// ends that.
+    #[tactic(auto, using(crate::proofs::OwedTills::cells_after))]
     pub fn submit<R: Wait>(
         &self,
         rt: &R,
@@ -62,6 +64,8 @@ impl<L: Ledger, C: Naming> Desk<L, C> {
             StandsInLegal C.config (receipt_of placed actor event)) }
         ensures owed { IfOk result (λ placed.
             share.new.owed ≡ owed_after actor event placed.reply share.old.owed) }
+        ensures cells { length share.new.owed ≡ TILL_CELLS }
+        ensures full { IsErrOf result NoRow.BookFull → IsFullInLegal C.config }
         ensures err { OnErr result (IsAsBefore share.old share.new) }
     {
         // What can fail for memory here comes before the lock is taken.
@@ -69,9 +73,9 @@ impl<L: Ledger, C: Naming> Desk<L, C> {
         self.site.lock(rt).submit(share, actor, event)
     }
 
-    /// Signs off a till that the share owes, on a full book too; it takes no memory. None where the till
-    /// was signed off through another share; then there is no row. The share owes the till nothing
-    /// then.
+    /// Signs off a till that the share owes, on a full book too; it takes no memory. None where the
+    /// till was signed off through another share; then there is no row. The share owes the till
+    /// nothing then.
     pub fn leave<R: Wait>(&self, rt: &R, share: &mut Share<L, C>, t: TillNo) -> Option<Placed>
         requires { owes share.old t ≡ true }
         ensures reply { IfSome result (λ placed. placed.reply ≡ Ok Answer.Done) }
@@ -85,15 +89,16 @@ impl<L: Ledger, C: Naming> Desk<L, C> {
         self.site.lock(rt).leave(share, t)
     }
 
-    /// The point as a read shows it: in a legal history of the desk's configuration. None where the site
-    /// has no such point. It makes no row.
+    /// The point as a read shows it: in a legal history of the desk's configuration. None where the
+    /// site has no such point. It makes no row.
     pub fn point<R: Wait>(&self, rt: &R, p: FpNo) -> Option<PointView>
         ensures { IsShownInLegal C.config p result }
     {
         self.site.lock(rt).point(p)
     }
 
-    /// The figures of the rows so far: of a legal history of the desk's configuration. It makes no row.
+    /// The figures of the rows so far: of a legal history of the desk's configuration. It makes no
+    /// row.
     pub fn snapshot<R: Wait>(&self, rt: &R, alloc: Global) -> Result<Totals, NoMemory>
         ensures { IfOk result (λ totals. AreFiguresInLegal C.config totals) }
     {

@@ -2,8 +2,8 @@
 
 use site_base::Actor;
 
-/// What a worker passes on its way to the site and back. A test holds workers there; otherwise it is
-/// open.
+/// What a worker passes on its way to the site and back. A test holds workers there; otherwise it
+/// is open.
 pub trait Gate {
     /// Before the actor's call takes the lock.
     fn before_lock(&self, actor: Actor);

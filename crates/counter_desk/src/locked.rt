@@ -1,12 +1,13 @@
 //! What stands under the site's lock: the book, and the ledger of the calls that made its rows.
 
-ghost use Rattle.std.specs.Prelude.{◌≡◌, ◌+◌, ◌-◌, ◌≤◌, [], ◌∷◌, ◌++◌, false, true, is_some, length, slice_get, slice_set, Ok, IfOk, IfSome, IsTrue, ◌↔◌, OnErr, IfNone};
+ghost use Rattle.std.specs.Prelude.{◌≡◌, ◌+◌, ◌-◌, ◌≤◌, [], ◌∷◌, ◌++◌, false, true, is_some, length, slice_get, slice_set, Ok, IfOk, IfSome, IsErrOf, IsTrue, ◌↔◌, OnErr, IfNone};
 ghost use Rattle.site_base.specs.declared.limits.TheConstants.{GREATEST_ROWS, TILLS};
 ghost use Rattle.written_site.specs.SiteRun.{IsLegal};
 ghost use Rattle.written_site.specs.SiteState.{is_signed_on, opening, point_shown};
 ghost use Rattle.written_site.specs.SiteStep.{reply_to};
-ghost use Rattle.site_book.specs.Book.{site_at};
-ghost use Rattle.site_book.specs.Figures.{AreFiguresOf};
+ghost use Rattle.site_book.specs.Book.{is_full, site_at};
+ghost use Rattle.site_book.specs.Figures.{AddUp, AreFiguresOf};
+ghost use Rattle.counter_desk.specs.Kept.{book_of};
 ghost use Rattle.counter_desk.specs.Receipts.{receipt_of, receipted_row, StandsAt};
 ghost use Rattle.counter_desk.specs.Roots.{calls_in};
 ghost use Rattle.counter_desk.specs.Shares.{owed_after, owes, receipts_asked, IsAsBefore};
@@ -23,9 +24,9 @@ use std::alloc::Global;
 use std::marker::{Model, PhantomData};
 use std::sync::ledger::{Book, Ledger};
 
-/// The book under the lock, with the ledger that counts the calls which made its rows. Contracts see the
-/// rows. Whenever the lock is free they are a legal history of the desk's configuration, and the
-/// ledger has counted just as many calls.
+/// The book under the lock, with the ledger that counts the calls which made its rows. Contracts
+/// see the rows. Whenever the lock is free they are a legal history of the desk's configuration,
+/// and the ledger has counted just as many calls.
 #[derive(Drop)]
 pub(crate) struct Locked<L: Ledger, C: Naming> {
     book: SiteBook,
@@ -59,8 +60,9 @@ impl<L: Ledger, C: Naming> Locked<L, C> {
         }
     }
 
-    /// One event of one actor, as one row, with its receipt in the share. Where there is no row, nothing
-    /// has changed.
+    /// One event of one actor, as one row behind the others, with its receipt in the share.
+    /// `BookFull` comes exactly where there are as many rows as the configuration allows, or more.
+    /// Where there is no row, nothing has changed.
     pub(crate) fn submit(
         &mut self,
         share: &mut Share<L, C>,
@@ -72,11 +74,15 @@ impl<L: Ledger, C: Naming> Locked<L, C> {
             self.new ≡ self.old ++ receipted_row (receipt_of placed actor event) ∷ []) }
         ensures reply { IfOk result (λ placed.
             placed.reply ≡ reply_to (site_at C.config self.old) actor event) }
+        ensures place { IfOk result (λ placed. placed.place ≡ length self.old) }
         ensures receipt { IfOk result (λ placed.
             share.new.receipts ≡ share.old.receipts ++ receipt_of placed actor event ∷ []) }
         ensures owed { IfOk result (λ placed.
             share.new.owed ≡ owed_after actor event placed.reply share.old.owed) }
         ensures stands { IfOk result (λ placed. StandsAt self.new (receipt_of placed actor event)) }
+        ensures full { IsErrOf result NoRow.BookFull → is_full (book_of C.config self.old) ≡ true }
+        ensures told_full { is_full (book_of C.config self.old) ≡ true
+            → IsErrOf result NoRow.BookFull }
         ensures rows_stay { OnErr result (self.new ≡ self.old) }
         ensures share_stays { OnErr result (IsAsBefore share.old share.new) }
         ensures legal { IsLegal (opening C.config) self.new }
@@ -88,13 +94,14 @@ impl<L: Ledger, C: Naming> Locked<L, C> {
         Ok(*placed)
     }
 
-    /// Signs off a till that the share owes, as one row, with its receipt in the share. None, without a
-    /// row, where the till isn't signed on.
+    /// Signs off a till that the share owes, as one row, with its receipt in the share. None,
+    /// without a row, where the till isn't signed on.
     pub(crate) fn leave(&mut self, share: &mut Share<L, C>, t: TillNo) -> Option<Placed>
         requires { owes share.old t ≡ true }
-        ensures row { IfSome result (λ placed.
-            self.new ≡ self.old ++ receipted_row (receipt_of placed (Actor.Till t) Event.SignOff) ∷ []) }
+        ensures row { IfSome result (λ placed. self.new
+            ≡ self.old ++ receipted_row (receipt_of placed (Actor.Till t) Event.SignOff) ∷ []) }
         ensures reply { IfSome result (λ placed. placed.reply ≡ Ok Answer.Done) }
+        ensures place { IfSome result (λ placed. placed.place ≡ length self.old) }
         ensures receipt { IfSome result (λ placed. share.new.receipts
             ≡ share.old.receipts ++ receipt_of placed (Actor.Till t) Event.SignOff ∷ []) }
         ensures stands { IfSome result (λ placed.
@@ -146,10 +153,13 @@ impl<L: Ledger, C: Naming> Locked<L, C> {
         self.book.point(p)
     }
 
-    /// The figures of the rows.
+    /// The figures of the rows, which add up to what the rows tell.
     pub(crate) fn totals(&self, alloc: Global) -> Result<Totals, NoMemory>
         ensures totals { IfOk result (λ totals.
-            AreFiguresOf (record { config = C.config; rows = self.now }) totals) }
+            AreFiguresOf (book_of C.config self.now) totals) }
+        ensures products { IfOk result (λ totals.
+            length totals.products.items ≡ length C.config.products) }
+        ensures sums { IfOk result (λ totals. AddUp (book_of C.config self.now) totals) }
         ensures legal { IsLegal (opening C.config) self.now }
     {
         self.book.totals(alloc)

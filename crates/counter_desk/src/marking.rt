@@ -67,8 +67,8 @@ fn mark_list<L: Ledger, C: Naming>(
     Ok(())
 }
 
-/// Marks the place of one receipt, which mustn't be below `low`, and gives the least place that the next
-/// one may have. None where the receipt is strange.
+/// Marks the place of one receipt, which mustn't be below `low`, and gives the least place that the
+/// next one may have. None where the receipt is strange.
 fn mark<L: Ledger, C: Naming>(
     site: &Locked<L, C>,
     marks: &mut [bool],

@@ -4,8 +4,8 @@ ghost use Rattle.site_base.specs.Configured.{Configured};
 
 use std::marker::Brand;
 
-/// The name of a configuration. A desk, its root and its shares carry it in their types, so that what
-/// comes from under their locks is known to be of that configuration.
+/// The name of a configuration. A desk, its root and its shares carry it in their types, so that
+/// what comes from under their locks is known to be of that configuration.
 pub trait Naming {
     ghost config: { Configured };
 }

@@ -1,7 +1,7 @@
 //! Which tills are owed a sign-off.
 
-ghost use Rattle.std.specs.Prelude.{◌≡◌, ◌-◌, ◌≤◌, false, slice_index_or, slice_set};
-ghost use Rattle.site_base.specs.declared.limits.TheConstants.{TILLS};
+ghost use Rattle.std.specs.Prelude.{◌≡◌, ◌-◌, ◌≤◌, false, length, slice_index_or, slice_set};
+ghost use Rattle.site_base.specs.declared.limits.TheConstants.{TILL_CELLS, TILLS};
 ghost use Rattle.counter_desk.specs.Shares.{nobody_owed, owed_after, tills_owed};
 
 use site_base::{Actor, Event, Reply, TILL_CELLS, TillNo};
@@ -38,7 +38,8 @@ impl Owed {
 
     /// Is the till owed a sign-off?
     pub(crate) fn owes(&self, t: TillNo) -> bool
-        ensures { result ≡ slice_index_or self.now (t - 1) false }
+        ensures value { result ≡ slice_index_or self.now (t - 1) false }
+        ensures cells { length self.now ≡ TILL_CELLS }
     {
         self.tills[t.cell()]
     }
@@ -47,6 +48,7 @@ impl Owed {
     pub(crate) fn count(&self) -> usize
         ensures count { result ≡ tills_owed self.now }
         ensures few { result ≤ TILLS }
+        ensures cells { length self.now ≡ TILL_CELLS }
     {
         self.count
     }

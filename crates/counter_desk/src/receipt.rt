@@ -86,8 +86,8 @@ impl Model for KeptReceipt {
     ghost inverse = { λ r. record { receipt = r } };
 }
 
-/// A list of receipts that only grows, with their amounts, and the room that is reserved for more of
-/// them.
+/// A list of receipts that only grows, with their amounts, and the room that is reserved for more
+/// of them.
 #[derive(Drop)]
 pub(crate) struct Receipts {
     kept: Vec<KeptReceipt>,
@@ -101,7 +101,10 @@ impl Model for Receipts {
 
     ghost Value = { ReceiptList };
 
-    ghost view = { λ l. record { receipts = l.kept.items; room = vec_capacity l.kept - vec_len l.kept } };
+    ghost view = { λ l. record {
+      receipts = l.kept.items;
+      room = vec_capacity l.kept - vec_len l.kept;
+    } };
 
     ghost invariant = { λ l. IsTallied l.cents l.millilitres l.kept.items };
 }

@@ -15,7 +15,8 @@ use std::marker::{Model, PhantomData};
 use std::sync::ledger;
 use std::sync::ledger::{Book, Ledger};
 
-/// The root of the day's shares. It gives each share, and keeps the receipts of those that came back.
+/// The root of the day's shares. It gives each share, and keeps the receipts of those that came
+/// back.
 #[derive(Drop)]
 pub struct Root<L: Ledger, C: Naming> {
     alloc: Global,
@@ -27,13 +28,14 @@ pub struct Root<L: Ledger, C: Naming> {
 
 impl<L: Ledger, C: Naming> Model for Root<L, C> {
     ghost use Rattle.std.specs.Prelude.{vec_len, vec_capacity};
-    ghost use Rattle.counter_desk.specs.Roots.{Handed, IsRoot, lists_of};
+    ghost use Rattle.counter_desk.specs.Roots.{RootFacts, IsRoot, lists_of};
 
-    ghost Value = { Handed };
+    ghost Value = { RootFacts };
 
     ghost view = { λ r. record { out = r.out; lists = lists_of r.returned.items } };
 
-    ghost invariant = { λ r. IsRoot L.parts r.rest.parts r.rest.amount r.out (lists_of r.returned.items) (vec_len r.returned) (vec_capacity r.returned) };
+    ghost invariant = { λ r. IsRoot L.parts r.rest.parts r.rest.amount r.out
+        (lists_of r.returned.items) (vec_len r.returned) (vec_capacity r.returned) };
 }
 
 impl<L: Ledger, C: Naming> Root<L, C> {

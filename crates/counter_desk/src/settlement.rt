@@ -1,10 +1,10 @@
 //! Settlement: the shares that came back are compared with the history.
 
-ghost use Rattle.std.specs.Prelude.{◌≡◌, length, IfErr, IfOk};
+ghost use Rattle.std.specs.Prelude.{◌≡◌, length, IfErr, IfOk, OnOk};
 ghost use Rattle.written_site.specs.SiteRun.{IsLegal};
 ghost use Rattle.written_site.specs.SiteState.{opening};
 ghost use Rattle.counter_desk.specs.Roots.{calls_in};
-ghost use Rattle.counter_desk.specs.Settlement.{AddsUp, IsFaultIn, IsFaultOf, settle_fault_number, Settles};
+ghost use Rattle.counter_desk.specs.Settlement.{AddsUp, IsFaultIn, IsFaultOf, IsNoneStrange, settle_fault_number, Settles};
 
 use crate::desk::Desk;
 use crate::locked::Locked;
@@ -13,6 +13,7 @@ use crate::naming::Naming;
 use crate::root::Root;
 use site_base::Totals;
 use std::alloc::Global;
+use std::fmt;
 use std::sync::Mutex;
 use std::sync::ledger::Ledger;
 use written_site::volumes_are_conserved;
@@ -35,8 +36,8 @@ pub struct Settled {
 /// Why a day isn't settled.
 #[derive(Clone, Copy, Debug, PartialEq, Eq)]
 pub enum SettleFault {
-    /// A receipt of this place isn't its row, or the place was receipted before or isn't above the one
-    /// before it in its share.
+    /// A receipt of this place isn't its row, or the place was receipted before or isn't above the
+    /// one before it in its share.
     StrangeReceipt(u64),
     /// A growth was refused.
     NoMemory,
@@ -54,6 +55,18 @@ impl SettleFault {
     }
 }
 
+/// `a receipt of place 7 is strange`, or `no memory`.
+impl fmt::Display for SettleFault {
+    fn fmt<W: fmt::Write>(&self, f: &mut fmt::Formatter<W>) -> fmt::Result {
+        match self {
+            SettleFault::StrangeReceipt(place) => {
+                write!(f, "a receipt of place {} is strange", place)
+            }
+            SettleFault::NoMemory => f.write_str("no memory"),
+        }
+    }
+}
+
 /// A day that isn't settled: its desk and its root as they were, and why.
 #[derive(Drop)]
 pub struct Unsettled<L: Ledger, C: Naming> {
@@ -67,9 +80,9 @@ pub struct Unsettled<L: Ledger, C: Naming> {
 
 impl<L: Ledger, C: Naming> Desk<L, C> {
     /// Compares the receipts of all shares with the history, once every share came back. Where it
-    /// answers the figures, the shares add up to the history: each row is told by one receipt of one
-    /// share, and each share's calls stand there in the order in which it made them. It fails where a
-    /// receipt is strange, or a growth is refused; then nothing has changed.
+    /// answers the figures, the shares add up to the history: each row is told by one receipt of
+    /// one share, and each share's calls stand there in the order in which it made them. It fails
+    /// where a receipt is strange, or a growth is refused; then nothing has changed.
     pub fn settle(self, alloc: Global, root: Root<L, C>) -> Result<Settled, Unsettled<L, C>>
         requires { root.out ≡ 0 }
         ensures ok { IfOk result (λ settled. Settles C.config root.lists settled) }
@@ -79,8 +92,7 @@ impl<L: Ledger, C: Naming> Desk<L, C> {
         let Desk { site } = self;
         let mut locked = site.into_inner();
         let mut root = root;
-        locked.audit(&mut root);
-        match figures(alloc, &locked, &root) {
+        match locked.settle(alloc, &mut root) {
             Ok(settled) => Ok(settled),
             Err(fault) => Err(Unsettled {
                 fault,
@@ -93,6 +105,25 @@ impl<L: Ledger, C: Naming> Desk<L, C> {
     }
 }
 
+impl<L: Ledger, C: Naming> Locked<L, C> {
+    /// The figures of the day, where no share is out and no receipt is strange. Where one is, it is
+    /// told by its place, or a growth was refused before that was seen. Neither the rows nor the
+    /// root are changed.
+    fn settle(&mut self, alloc: Global, root: &mut Root<L, C>) -> Result<Settled, SettleFault>
+        requires { root.old.out ≡ 0 }
+        ensures ok { IfOk result (λ settled. AddsUp C.config self.old root.old.lists settled) }
+        ensures fault { IfErr result (λ fault. IsFaultOf self.old root.old.lists fault) }
+        ensures none { OnOk result (IsNoneStrange self.old root.old.lists) }
+        ensures counted { calls_in root.old.lists ≡ length self.old }
+        ensures legal { IsLegal (opening C.config) self.old }
+        ensures rows { self.new ≡ self.old }
+        ensures root { root.new ≡ root.old }
+    {
+        self.audit(root);
+        figures(alloc, self, root)
+    }
+}
+
 /// The figures of the day, where no receipt is strange.
 fn figures<L: Ledger, C: Naming>(
     alloc: Global,
@@ -101,6 +132,7 @@ fn figures<L: Ledger, C: Naming>(
 ) -> Result<Settled, SettleFault>
     requires { calls_in root.now.lists ≡ length site.now }
     ensures ok { IfOk result (λ settled. AddsUp C.config site.now root.now.lists settled) }
+    ensures none { OnOk result (IsNoneStrange site.now root.now.lists) }
     ensures err { IfErr result (λ fault. IsFaultOf site.now root.now.lists fault) }
     ensures legal { IsLegal (opening C.config) site.now }
 {

@@ -1,7 +1,7 @@
 //! A share of the day's work.
 
 ghost use Rattle.std.specs.Prelude.{◌≡◌, ◌+◌, ◌-◌, ◌<◌, ◌≤◌, [], ◌∷◌, ◌++◌, length, false, slice_set, OnOk};
-ghost use Rattle.site_base.specs.declared.limits.TheConstants.{GREATEST_ROWS, GROWTH_LIMIT, TILLS};
+ghost use Rattle.site_base.specs.declared.limits.TheConstants.{GREATEST_ROWS, GROWTH_LIMIT, TILL_CELLS, TILLS};
 ghost use Rattle.site_base.specs.Events.{growth_told};
 ghost use Rattle.counter_desk.specs.Receipts.{cents_receipted, growth_receipted};
 ghost use Rattle.counter_desk.specs.Shares.{owes, nobody_owed, owed_after, tills_owed, receipts_asked, IsAsBefore};
@@ -28,13 +28,18 @@ pub struct Share<L: Ledger, C: Naming> {
 
 impl<L: Ledger, C: Naming> Model for Share<L, C> {
     ghost use Rattle.std.specs.Prelude.{◌-◌};
-    ghost use Rattle.counter_desk.specs.Shares.{Held, IsShare, tills_owed};
+    ghost use Rattle.counter_desk.specs.Shares.{ShareFacts, IsShare, tills_owed};
 
-    ghost Value = { Held };
+    ghost Value = { ShareFacts };
 
-    ghost view = { λ s. record { receipts = s.receipts.receipts; owed = s.owed; room = s.receipts.room - tills_owed s.owed } };
+    ghost view = { λ s. record {
+      receipts = s.receipts.receipts;
+      owed = s.owed;
+      room = s.receipts.room - tills_owed s.owed;
+    } };
 
-    ghost invariant = { λ s. IsShare s.mark.parts s.mark.amount s.receipts.receipts s.owed s.receipts.room };
+    ghost invariant = { λ s. IsShare s.mark.parts s.mark.amount s.receipts.receipts s.owed
+        s.receipts.room };
 }
 
 impl<L: Ledger, C: Naming> Share<L, C> {
@@ -76,15 +81,17 @@ impl<L: Ledger, C: Naming> Share<L, C> {
 
     /// Has the till signed on through it, without a sign-off through it since?
     pub fn owes(&self, t: TillNo) -> bool
-        ensures { result ≡ owes self.now t }
+        ensures value { result ≡ owes self.now t }
+        ensures cells { length self.now.owed ≡ TILL_CELLS }
     {
         self.owed.owes(t)
     }
 
-    /// Makes room for the receipts of a call with this event: its own, and that of the sign-off that a
-    /// SignOn will owe.
+    /// Makes room for the receipts of a call with this event: its own, and that of the sign-off
+    /// that a SignOn will owe.
     pub(crate) fn reserve(&mut self, event: &Event) -> Result<(), NoMemory>
         ensures same { IsAsBefore self.old self.new }
+        ensures cells { length self.new.owed ≡ TILL_CELLS }
         ensures room { OnOk result (receipts_asked event.now ≤ self.new.room) }
     {
         let asked = match event {
@@ -96,12 +103,14 @@ impl<L: Ledger, C: Naming> Share<L, C> {
 
     /// A call was made: its receipt is kept, and the ledger of calls counts it.
     pub(crate) fn note(&mut self, calls: &mut Book<L>, receipt: Receipt)
-        requires room { tills_owed (owed_after receipt.actor receipt.event receipt.reply self.old.owed)
+        requires room { tills_owed
+            (owed_after receipt.actor receipt.event receipt.reply self.old.owed)
             < self.old.room + tills_owed self.old.owed }
         requires few { calls.old.total ≤ GREATEST_ROWS + TILLS }
         requires growth { growth_told receipt.reply ≤ GROWTH_LIMIT }
         ensures receipts { self.new.receipts ≡ self.old.receipts ++ receipt ∷ [] }
-        ensures owed { self.new.owed ≡ owed_after receipt.actor receipt.event receipt.reply self.old.owed }
+        ensures owed { self.new.owed
+            ≡ owed_after receipt.actor receipt.event receipt.reply self.old.owed }
         ensures total { calls.new.total ≡ calls.old.total + 1 }
     {
         // The ledger says that there are no more receipts here than rows.

@@ -1,15 +1,17 @@
 //! A worker: it makes the calls of a list through one share.
 
-ghost use Rattle.std.specs.Prelude.{◌≡◌, ◌≤◌, ℕ, [], ◌∷◌, false, take, IfOk, OnErr};
+ghost use Rattle.std.specs.Prelude.{◌≡◌, ◌≤◌, ℕ, [], ◌∷◌, false, take, IfErr, IfOk, IfSome, OnErr};
 ghost use Rattle.site_base.specs.declared.limits.TheConstants.{TILLS};
+ghost use Rattle.site_base.specs.Refusals.{no_row_number};
 ghost use Rattle.counter_desk.specs.Shares.{owes};
-ghost use Rattle.counter_desk.specs.Work.{AreSignOffs, AreSubmitted, EndsWhole, OwesNobody, Works, work_fault_number};
+ghost use Rattle.counter_desk.specs.Work.{AreSignOffs, AreSubmitted, IsCause, IsStopped, IsWorkersEnd, OwesNobody, Works, work_fault_number};
 
 use crate::desk::Desk;
 use crate::gate::Gate;
 use crate::naming::Naming;
 use crate::share::Share;
 use site_base::{Actor, Event, NoRow, TILL_CELLS, TillNo};
+use std::fmt;
 use std::sync::Wait;
 use std::sync::ledger::Ledger;
 
@@ -25,6 +27,16 @@ pub enum WorkFault {
 }
 
 impl WorkFault {
+    /// Why a call made no row. Its number is the same.
+    fn of(no_row: NoRow) -> Self
+        ensures { work_fault_number result ≡ no_row_number no_row }
+    {
+        match no_row {
+            NoRow::BookFull => WorkFault::BookFull,
+            NoRow::NoMemory => WorkFault::NoMemory,
+        }
+    }
+
     /// Its number: 30, 31 or 64.
     pub fn number(self) -> u8
         ensures { result ≡ work_fault_number self }
@@ -34,6 +46,17 @@ impl WorkFault {
             WorkFault::NoMemory => 31,
             WorkFault::NoWorker => 64,
         }
+    }
+}
+
+/// `the book is full`, `no memory`, or `the worker wasn't started`.
+impl fmt::Display for WorkFault {
+    fn fmt<W: fmt::Write>(&self, f: &mut fmt::Formatter<W>) -> fmt::Result {
+        f.write_str(match self {
+            WorkFault::BookFull => "the book is full",
+            WorkFault::NoMemory => "no memory",
+            WorkFault::NoWorker => "the worker wasn't started",
+        })
     }
 }
 
@@ -57,7 +80,7 @@ pub fn work<L: Ledger, C: Naming, G: Gate, R: Wait>(
     gate: &G,
     calls: &[(Actor, Event)],
 ) -> ListEnd
-    ensures works { Works calls.now share.old.receipts share.new.receipts result }
+    ensures works { Works C.config calls.now share.old.receipts share.new.receipts result }
     ensures owed { OwesNobody share.new }
 {
     let end = submit_all(rt, desk, share, gate, calls);
@@ -73,8 +96,10 @@ fn submit_all<L: Ledger, C: Naming, G: Gate, R: Wait>(
     gate: &G,
     calls: &[(Actor, Event)],
 ) -> ListEnd
-    ensures submitted { AreSubmitted (take result.placed calls.now) share.old.receipts share.new.receipts result.accepted }
-    ensures whole { EndsWhole calls.now result }
+    ensures submitted { AreSubmitted (take result.placed calls.now)
+        share.old.receipts share.new.receipts result.accepted }
+    ensures ended { IsWorkersEnd calls.now result }
+    ensures stopped { IfSome result.fault (λ fault. IsStopped C.config calls.now result fault) }
 {
     let mut placed = 0;
     let mut accepted = 0;
@@ -112,6 +137,7 @@ fn submit_one<L: Ledger, C: Naming, G: Gate, R: Wait>(
         AreSubmitted ((actor, event) ∷ []) share.old.receipts share.new.receipts one) }
     ensures one { IfOk result (λ one. one ≤ 1) }
     ensures err { OnErr result (share.new.receipts ≡ share.old.receipts) }
+    ensures cause { IfErr result (λ fault. IsCause C.config fault) }
 {
     gate.before_lock(actor);
     let one = make(rt, desk, share, &actor, &event);
@@ -131,11 +157,11 @@ fn make<L: Ledger, C: Naming, R: Wait>(
         AreSubmitted ((actor.now, event.now) ∷ []) share.old.receipts share.new.receipts one) }
     ensures one { IfOk result (λ one. one ≤ 1) }
     ensures err { OnErr result (share.new.receipts ≡ share.old.receipts) }
+    ensures cause { IfErr result (λ fault. IsCause C.config fault) }
 {
     match &desk.submit(rt, share, *actor, *event) {
         Ok(placed) => Ok(u64::from(placed.reply.is_ok())),
-        Err(NoRow::BookFull) => Err(WorkFault::BookFull),
-        Err(NoRow::NoMemory) => Err(WorkFault::NoMemory),
+        Err(no_row) => Err(WorkFault::of(*no_row)),
     }
 }
 

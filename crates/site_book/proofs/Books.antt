@@ -1,6 +1,7 @@
 -- A book with one more row.
 use Rattle.std.proofs.Common.{◌≡◌, ℕ, ◌+◌, ◌≤◌, false, List, [], ◌∷◌, ◌++◌, length, length-append, Result, Ok, ap, sym, subst, ◌∙◌, arith}
 use Rattle.std.proofs.lemmas.Bool.{false≢true}
+use Rattle.std.specs.List.{AllByRecursion}
 use Rattle.std.specs.Ordering.{nat_cmp}
 use Rattle.std.specs.FinSet as set
 use Rattle.site_base.specs.declared.answer.Answer.{Answer}
@@ -14,15 +15,15 @@ use Rattle.written_site.specs.SiteState.{SiteState, is_signed_on, opening}
 use Rattle.written_site.specs.SiteStep.{Steps, reply_to, site_after}
 use Rattle.written_site.specs.Sound.{InRange}
 use Rattle.written_site.proofs.Histories.{site_of_rows-push, IsLegal-push}
-use Rattle.site_book.specs.Book.{AreRowsInRange, IsBook}
+use Rattle.site_book.specs.Book.{IsBook}
 use Rattle.site_book.specs.Signed.{AreTills, IsTillActor, tills_after, tills_on}
 use Rattle.site_book.proofs.Signed.{counted_row, no_more, tills_row}
 
--- readings in range, of one row more
-ranges-push : (rows : List Row) (r : Row) → AreRowsInRange rows → InRange r.event
-    → AreRowsInRange (rows ++ r ∷ [])
-ranges-push [] r all one = (one, tt)
-ranges-push (x ∷ xs) r all one = (all.0, ranges-push xs r all.1 one)
+-- what is so of each row, of one row more
+each-push : (P : Row → Type 0) (rows : List Row) (r : Row) → AllByRecursion P rows → P r
+    → AllByRecursion P (rows ++ r ∷ [])
+each-push P [] r all one = (one, tt)
+each-push P (x ∷ xs) r all one = (all.0, each-push P xs r all.1 one)
 
 -- at most one till more is signed on
 pub tills_after-most : (e : Event) (reply : Result Answer Refusal) (on : ℕ)
@@ -54,7 +55,10 @@ IsBook-push config rows site new on room left r book steps range actor reserved 
       legal =
           IsLegal-push (opening config) rows r book.legal
           (steps.replies ∙ ap (λ (s : SiteState). reply_to s r.actor r.event) book.leads);
-      ranges = ranges-push rows r book.ranges range;
+      ranges = record {
+        readings = each-push (λ x. InRange x.event) rows r book.ranges.readings range;
+        actors = each-push (λ x. IsTillActor x.actor) rows r book.ranges.actors actor;
+      };
       tills = tills;
       counted = counted;
       reserved = reserved;
@@ -67,7 +71,7 @@ pub opens : (config : Configured) (site : SiteState) (room : ℕ) → site ≡ o
 opens config site room is = record {
   leads = is;
   legal = tt;
-  ranges = tt;
+  ranges = record { readings = tt; actors = tt };
   tills = λ t on. absurd (false≢true (sym (nobody t) ∙ on));
   counted = sym (ap tills_on is ∙ set.len-empty nat_cmp);
   reserved = omega arith;

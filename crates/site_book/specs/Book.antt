@@ -10,9 +10,9 @@ use Rattle.site_base.specs.declared.row.Row.{Row}
 use Rattle.site_base.specs.Configured.{Configured}
 use Rattle.written_site.specs.SiteState.{SiteState, opening}
 use Rattle.written_site.specs.SiteStep.{reply_to}
-use Rattle.written_site.specs.SiteRun.{site_of_rows, IsLegal}
-use Rattle.written_site.specs.Sound.{InRange}
-use Rattle.site_book.specs.Signed.{AreTills, tills_on}
+use Rattle.written_site.specs.SiteRun.{row_to, site_of_rows, IsLegal}
+use Rattle.written_site.specs.FitLaws.{AreReadable}
+use Rattle.site_book.specs.Signed.{AreTills, IsTillActor, tills_on}
 
 -- a configuration, and the rows so far
 pub record Book : Type 0 where
@@ -36,20 +36,28 @@ book_reply b actor event = reply_to (site_of_book b) actor event
 
 -- the row of the written step at the book's site
 abbrev pub next_row : Book → Actor → Event → Row
-next_row b actor event = record { actor = actor; event = event; reply = book_reply b actor event }
+next_row b actor event = row_to (site_of_book b) actor event
 
 -- the book with that row
 abbrev pub with_row_of : Book → Actor → Event → Book
 with_row_of b actor event = record b { rows = b.rows ++ next_row b actor event ∷ [] }
 
--- each reading that these rows carry is one that a meter can show
-abbrev pub AreRowsInRange : List Row → Type 0
-AreRowsInRange rows = AllByRecursion (λ r. InRange r.event) rows
+-- each till that acts in these rows is one that may be
+abbrev pub AreActors : List Row → Type 0
+AreActors rows = AllByRecursion (λ r. IsTillActor r.actor) rows
 
--- What the book always keeps: the site is that of the rows, and the rows are a legal history whose readings
--- are in range. Room for one row more is reserved for each till that is signed on, and with these
--- there are at most as many rows as the configuration allows and one for each till that may be.
-pub record IsBook (config : Configured) (rows : List Row) (site : SiteState) (count room : ℕ) : Type 0 where
+-- the numbers that these rows carry are in range: the readings that they report, and the tills that
+-- act
+pub record AreRowsInRange (rows : List Row) : Type 0 where
+  pub readings : AreReadable rows
+  pub actors : AreActors rows
+
+-- What the book always keeps: the site is that of the rows, and the rows are a legal history whose
+-- numbers are in range. Room for one row more is reserved for each till that is signed on, and with
+-- these there are at most as many rows as the configuration allows and one for each till that may
+-- be.
+pub record IsBook (config : Configured) (rows : List Row) (site : SiteState)
+    (count room : ℕ) : Type 0 where
   pub leads : site ≡ site_at config rows
   pub legal : IsLegal (opening config) rows
   pub ranges : AreRowsInRange rows

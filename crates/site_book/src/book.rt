@@ -55,10 +55,10 @@ impl SiteBook {
         })
     }
 
-    /// One event of one actor, as one row. `BookFull` comes exactly where the book has as many rows as
-    /// its configuration allows, or more, then `NoMemory` where a growth is refused; neither makes a row or
-    /// changes the site. Else the row has the written step's reply, and is answered with its place.
-    /// A SignOn that is accepted reserves the row of the till's sign-off.
+    /// One event of one actor, as one row. `BookFull` comes exactly where the book has as many rows
+    /// as its configuration allows, or more, then `NoMemory` where a growth is refused; neither
+    /// makes a row or changes the site. Else the row has the written step's reply, and is answered
+    /// with its place. A SignOn that is accepted reserves the row of the till's sign-off.
     pub fn apply(&mut self, actor: Actor, event: Event) -> Result<Placed, NoRow>
         ensures row { OnOk result (self.new ≡ with_row_of self.old actor event) }
         ensures reply { IfOk result (λ placed. placed.reply ≡ book_reply self.old actor event) }
@@ -72,7 +72,8 @@ impl SiteBook {
         if self.rows.len() >= self.config.rows() as usize {
             return Err(NoRow::BookFull);
         }
-        // What can fail comes first: the rows of this event and of each sign-off, then the room of the step.
+        // What can fail comes first: the rows of this event and of each sign-off, then the room of
+        // the step.
         self.rows.reserve(self.on + 2)?;
         self.site.prepare(actor, &event)?;
         let placed = add_row(&mut self.site, &mut self.rows, &actor, &event);
@@ -97,8 +98,8 @@ impl SiteBook {
         Some(placed)
     }
 
-    /// How many rows there are: as many as the configuration allows, and one more for each till that is
-    /// signed off beyond. They are a legal history of the configuration's site.
+    /// How many rows there are: as many as the configuration allows, and one more for each till
+    /// that is signed off beyond. They are a legal history of the configuration's site.
     pub fn len(&self) -> u64
         ensures rows { result ≡ length self.now.rows }
         ensures legal { IsLegal (opening self.now.config) self.now.rows }
@@ -130,8 +131,8 @@ fn add_row(site: &mut Site, rows: &mut Rows, actor: &Actor, event: &Event) -> Pl
     requires step { HasRoom site.old.room event.now }
     requires row { 0 < rows.old.room }
     ensures step { Steps site.old.site actor.now event.now site.new.site result.reply }
-    ensures rows { rows.new.rows
-        ≡ rows.old.rows ++ record { actor = actor.now; event = event.now; reply = result.reply } ∷ [] }
+    ensures rows { rows.new.rows ≡ rows.old.rows
+        ++ record { actor = actor.now; event = event.now; reply = result.reply } ∷ [] }
     ensures room { rows.new.room + 1 ≡ rows.old.room }
     ensures place { result.place ≡ length rows.old.rows }
     ensures range { InRange event.now }

@@ -33,8 +33,8 @@ type Told = (
 );
 
 impl SiteBook {
-    /// The rows from this place on, counted from 0, that have a change: accepted events that the dispenser
-    /// of their point is told of. No row where the place is behind the last one.
+    /// The rows from this place on, counted from 0, that have a change: accepted events that the
+    /// dispenser of their point is told of. No row where the place is behind the last one.
     pub fn changes_since(&self, alloc: Global, place: u64) -> Result<Vec<Row>, NoMemory>
         ensures { IfOk result (λ changes. changes.items ≡ changes_from place self.now.rows) }
     {
@@ -52,7 +52,8 @@ impl SiteBook {
 
 /// Adds the row, if it has a change.
 fn add_change(changes: &mut Vec<Row>, row: &Row) -> Result<(), NoMemory>
-    ensures { OnOk result (changes.new.items ≡ changes.old.items ++ filter is_changing (row.now ∷ [])) }
+    ensures { OnOk result (changes.new.items
+        ≡ changes.old.items ++ filter is_changing (row.now ∷ [])) }
 {
     let _told: Option<Told> = None;
     if is_changing(row) {

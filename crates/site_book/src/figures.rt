@@ -3,7 +3,7 @@
 ghost use Rattle.std.specs.Prelude.{◌≡◌, [], ◌∷◌, length, take, IfOk, OnOk};
 ghost use Rattle.written_site.specs.SiteState.{opening};
 ghost use Rattle.written_site.specs.SiteRun.{site_of_rows};
-ghost use Rattle.site_book.specs.Figures.{AreFiguresOf};
+ghost use Rattle.site_book.specs.Figures.{AddUp, AreFiguresOf, DoFiguresAddUp};
 
 use crate::book::SiteBook;
 use site_base::{NoMemory, Row, Rows, Totals};
@@ -12,13 +12,15 @@ use std::alloc::Global;
 
 impl SiteBook {
     /// The figures of the rows, as the site keeps them, one member for each product of the
-    /// configuration.
+    /// configuration. They add up to what the rows tell as metered and as cleared.
     #[tactic(auto, using(crate::proofs::ProductCounts::one_for_each_product))]
     pub fn totals(&self, alloc: Global) -> Result<Totals, NoMemory>
         ensures figures { IfOk result (λ totals. AreFiguresOf self.now totals) }
         ensures products { IfOk result (λ totals.
             length totals.products.items ≡ length self.now.config.products) }
+        ensures sums { IfOk result (λ totals. AddUp self.now totals) }
     {
+        self.sums();
         self.site.totals(alloc, self.rows.len() as u64)
     }
 
@@ -29,10 +31,20 @@ impl SiteBook {
         ensures figures { IfOk result (λ totals. AreFiguresOf self.now totals) }
         ensures products { IfOk result (λ totals.
             length totals.products.items ≡ length self.now.config.products) }
+        ensures sums { IfOk result (λ totals. AddUp self.now totals) }
     {
+        self.sums();
         let mut site = Site::try_open(alloc, &self.config)?;
         run_again(&mut site, &self.rows)?;
         site.counted_totals(alloc, self.rows.len() as u64)
+    }
+
+    /// What its figures add up to: by the rows' legality, their ranges, and the configuration.
+    fn sums(&self)
+        ensures { DoFiguresAddUp self.now }
+    {
+        let _ = self.config.products();
+        let _ = self.config.points();
     }
 }
 

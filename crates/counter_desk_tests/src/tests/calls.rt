@@ -47,7 +47,8 @@ pub fn sale(rt: &impl Abort, number: u16) -> SaleId {
     }
 }
 
-/// A till signs on, opens each of the five points, and makes two sales of 10,000 ml of diesel there.
+/// A till signs on, opens each of the five points, and makes two sales of 10,000 ml of diesel
+/// there.
 pub fn setup(rt: &impl Abort, alloc: Global, t: u8) -> Result<Calls, NoMemory> {
     let mut calls = Vec::new(alloc);
     calls.push((by_till(rt, t), Event::SignOn))?;

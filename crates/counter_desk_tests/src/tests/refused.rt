@@ -6,8 +6,8 @@ use super::calls::{by_till, hang_up, lift, point, sale, till};
 use super::site::five_points;
 use counter_desk::{Desk, Naming, SettleFault, Settled, Share, Unsettled};
 use site_base::{
-    Actor, Answer, Cents, Event, NoMemory, NoRow, PointState, Preset, Refusal, Reply, SiteConfig,
-    growth_told,
+    Actor, Answer, Cents, Event, NoMemory, NoRow, PointState, Preset, ProductView, Refusal, Reply,
+    SiteConfig, growth_told,
 };
 use std::alloc::Global;
 use std::marker::Brand;
@@ -128,8 +128,8 @@ fn told<L: Ledger, C: Naming, R: Wait + Abort + Eprint>(
     }
 }
 
-/// Till 1 sells 10,000 ml of diesel at point 1, and the sale is paid once.
-fn pay<L: Ledger, C: Naming, R: Wait + Abort + Eprint>(
+/// Tills 1 and 2 sign on. Till 1 sells 10,000 ml of diesel at point 1, and the sale is paid once.
+pub fn pay<L: Ledger, C: Naming, R: Wait + Abort + Eprint>(
     rt: &R,
     desk: &Desk<L, C>,
     share: &mut Share<L, C>,
@@ -200,7 +200,11 @@ fn expect<L: Ledger, C: Naming, R: Wait + Abort + Eprint>(
 }
 
 /// The snapshot has the figures of that sale, and the point is idle.
-fn see<L: Ledger, C: Naming, R: Wait + Abort + Eprint>(rt: &R, alloc: Global, desk: &Desk<L, C>) {
+pub fn see<L: Ledger, C: Naming, R: Wait + Abort + Eprint>(
+    rt: &R,
+    alloc: Global,
+    desk: &Desk<L, C>,
+) {
     let totals = match desk.snapshot(rt, alloc) {
         Ok(totals) => Ok(totals),
         Err(NoMemory) => {
@@ -212,10 +216,10 @@ fn see<L: Ledger, C: Naming, R: Wait + Abort + Eprint>(rt: &R, alloc: Global, de
         Ok(totals) => {
             assert_eq!(rt; totals.rows, 10);
             assert!(rt; totals.products.len() == 2 && totals.tills.len() == 32);
-            assert!(rt;
-                totals.products[0].metered == 10_000 && totals.products[0].cleared == 10_000
-            );
+            volumes(rt, &totals.products[0], 10_000);
+            volumes(rt, &totals.products[1], 0);
             assert!(rt; totals.tills[0].1 == 1 && totals.tills[0].2 == 1_500);
+            assert!(rt; totals.tills[1].1 == 0 && totals.tills[1].2 == 0);
         }
         Err(NoMemory) => panic!(rt; "no figures"),
     }
@@ -223,6 +227,13 @@ fn see<L: Ledger, C: Naming, R: Wait + Abort + Eprint>(rt: &R, alloc: Global, de
         Some(view) => assert!(rt; view.state == PointState::Idle),
         None => panic!(rt; "no point"),
     }
+}
+
+/// All that was metered of the product is cleared.
+fn volumes(rt: &impl Abort, product: &ProductView, metered: u64) {
+    assert!(rt; product.metered == metered && product.cleared == metered);
+    assert!(rt; product.running == 0 && product.payable == 0);
+    assert!(rt; product.locked == 0 && product.adjusted == 0);
 }
 
 /// Signs off a till that the share owes.

@@ -7,8 +7,9 @@ use site_base::{
 use std::alloc::Global;
 use std::process::Abort;
 
-/// Two products (diesel at 1500 mills, petrol at 1799), five fuelling points that each have a nozzle of
-/// diesel from reading 0 and a nozzle of petrol from reading 1000, and till 1 as a manager.
+/// Two products (diesel at 1500 mills, petrol at 1799), five fuelling points that each have a
+/// nozzle of diesel from reading 0 and a nozzle of petrol from reading 1000, and till 1 as a
+/// manager.
 pub fn five_points(rt: &impl Abort, alloc: Global, rows: u32) -> Result<SiteConfig, NoMemory> {
     let mut managers = Vec::new(alloc);
     managers.push(TillNo::new(1).expect(rt, "till 1"))?;

@@ -7,6 +7,7 @@ use Rattle.counter_desk.specs.Marks.{AreAllMarked}
 use Rattle.counter_desk.specs.Receipts.{ReceiptList, cents_receipted, growth_receipted}
 use Rattle.counter_desk.specs.Roots.{lists_of}
 use Rattle.counter_desk.proofs.Counting.{adds_up, dealt}
+use Rattle.counter_desk.proofs.Strange.{nothing_strange}
 use Rattle.counter_desk.proofs.settlement.figures.Goals as goal
 
 pub returns-clause-ok : goal.returns-clause-ok
@@ -27,9 +28,24 @@ returns-clause-ok g c =
       calls = c.len-rows.ensures.rows ∙ sym c.requires;
       cents = cents ∙ adds_up (λ (r : Row). cents_told r.reply) rows marks lists all as_long c.requires;
       cents_shared = cents;
+      cents_booked =
+          cents
+          ∙ adds_up (λ (r : Row). cents_told r.reply) rows marks lists all as_long c.requires
+          ∙ sym c.in-Ok-totals.ensures.sums.cleared;
       millilitres = grown;
       millilitres_shared = millilitres;
       metered = grown ∙ (c.volumes_are_conserved.ensures.books g.C.Naming.config rows c.len-rows.ensures.legal).grown;
+      millilitres_booked = grown ∙ sym c.in-Ok-totals.ensures.sums.metered;
       shares = sym (length-map c.returned-returned.result.now (λ (l : ReceiptList). l.receipts)) ∙ ap length returned;
       book = c.in-Ok-totals.ensures.totals;
+      products = c.in-Ok-totals.ensures.products;
     }
+
+pub returns-clause-none : goal.returns-clause-none
+returns-clause-none g c =
+    let rows = c.args.site.now in
+    let lists = c.args.root.now.lists in
+    let marks = c.mark_all.new.marks in
+    let all : AreAllMarked rows marks lists =
+    subst (λ ls. AreAllMarked rows marks ls) c.returned-returned.ensures c.in-Ok-mark_all.ensures.ok in
+    nothing_strange rows lists (dealt rows marks lists all c.mark_all.ensures.length c.requires)
