@@ -2,3 +2,4 @@ pub mod Counters
 pub mod Text
 pub mod Course
 pub mod Ends
+pub mod DeskCounters

@@ -7,10 +7,12 @@
 #![tactic(auto)]
 
 mod counter;
+mod desk_counter;
 mod fault;
 mod session;
 mod talk;
 
 pub use counter::Counter;
+pub use desk_counter::DeskCounter;
 pub use fault::{SessionFault, TalkFault};
 pub use session::{PIECE_OCTETS, Session, SessionEnd};
