@@ -14,6 +14,7 @@ use std::sync::ledger::Ledger;
 /// What a session asks of a desk: each request is submitted through the share, between the gate's two
 /// calls; the second one comes once the reply was written. Its record is what the share's receipts
 /// tell, and it owes what the share owes.
+#[derive(Drop)]
 pub struct DeskCounter<'a, L: Ledger, C: Naming, G: Gate, R: Wait> {
     rt: &'a R,
     desk: &'a Desk<L, C>,
@@ -28,8 +29,7 @@ impl<'a, L: Ledger, C: Naming, G: Gate, R: Wait> DeskCounter<'a, L, C, G, R> {
         desk: &'a Desk<L, C>,
         share: &'a mut Share<L, C>,
         gate: &'a G,
-    ) -> DeskCounter<'a, L, C, G, R>
-    {
+    ) -> DeskCounter<'a, L, C, G, R> {
         DeskCounter {
             rt,
             desk,

@@ -6,13 +6,21 @@
 //! that the session signed on and didn't sign off is signed off at its end.
 #![tactic(auto)]
 
+mod accept;
+mod connections;
 mod counter;
 mod desk_counter;
 mod fault;
+mod faulty;
+mod server;
 mod session;
 mod talk;
 
+pub use accept::{Accept, NoConnection};
+pub use connections::Connections;
 pub use counter::Counter;
 pub use desk_counter::DeskCounter;
 pub use fault::{SessionFault, TalkFault};
+pub use faulty::Faulty;
+pub use server::{SESSIONS, serve};
 pub use session::{PIECE_OCTETS, Session, SessionEnd};
