@@ -1,0 +1,3 @@
+pub mod Speakers
+pub mod Talks
+pub mod Conversing

@@ -1,0 +1,137 @@
+-- Who speaks in a session, and which till it signed on.
+use Rattle.std.proofs.Common.{◌≡◌, ℕ, Bool, true, false, cond, not, List, Option, Some, None, Ok, refl, sym, ap, ◌∙◌}
+use Rattle.std.specs.Prelude.{◌&&◌, ◌==◌, slice_index, IfSome}
+use Rattle.std.proofs.lemmas.Bool.{eq-eqb}
+use Rattle.site_base.specs.declared.actor.Actor.{Actor}
+use Rattle.site_base.specs.declared.actor.Actor.TheVariants.{Till, Dispenser}
+use Rattle.site_base.specs.declared.event.Event.{Event}
+use Rattle.site_base.specs.declared.event.Event.TheVariants.{SignOn, SignOff}
+use Rattle.site_base.specs.declared.limits.TheConstants.{TILLS, POINTS}
+use Rattle.site_base.specs.Configured.{is_between}
+use Rattle.app_message.specs.declared.kind.Kind.{Kind}
+use Rattle.app_message.specs.declared.kind.Kind.TheVariants as kinds
+use Rattle.app_message.specs.Telegram.{Telegram}
+use Rattle.device_map.specs.declared.fault.MapFault.TheVariants.{BadOriginator}
+use Rattle.device_map.specs.declared.ids.TheConstants as ids
+use Rattle.device_map.specs.Nodes.{actor_at, dispenser_at, for_us, is_request, till_at}
+use Rattle.device_map.specs.Requests.{event_at, request_at}
+use Rattle.device_map.specs.Addresses.{database_at}
+use Rattle.device_map.proofs.Results.{bind_ok, passed, equal, ok_is}
+use Rattle.till_session.specs.Counters.{Outcome, is_the_one, owed_by, signed_by}
+use Rattle.till_session.specs.Course.{IsOwn, IsSpokenBy}
+use Rattle.till_session.specs.Text.{is_another, is_same_node, peer_after}
+
+-- ---- a till speaks from the node of its number
+
+by_till : (from : List ℕ) (t : ℕ) → till_at from ≡ Ok (Till t) → slice_index from 1 ≡ t
+unfolding till_at
+by_till from t is =
+    let test =
+    passed (slice_index from 0 == ids.TILL_SUBNET && is_between 1 TILLS (slice_index from 1))
+    BadOriginator (Ok (Till (slice_index from 1))) (Till t) is in
+    let same = ok_is (Till (slice_index from 1)) (Till t) test.1 in cc
+
+no_dispenser : (from : List ℕ) (t : ℕ) → dispenser_at from ≡ Ok (Till t) → slice_index from 1 ≡ t
+unfolding dispenser_at
+no_dispenser from t is =
+    let test =
+    passed (slice_index from 0 == ids.DISPENSER_SUBNET && is_between 1 POINTS (slice_index from 1))
+    BadOriginator (Ok (Dispenser (slice_index from 1))) (Till t) is in
+    let same = ok_is (Dispenser (slice_index from 1)) (Till t) test.1 in absurd cc
+
+by_kind : (kind : Kind) (from : List ℕ) (t : ℕ) → actor_at kind from ≡ Ok (Till t) → slice_index from 1 ≡ t
+by_kind kinds.Read from t is = by_till from t is
+by_kind kinds.Write from t is = by_till from t is
+by_kind kinds.Report from t is = no_dispenser from t is
+by_kind kind from t is = absurd cc
+
+asked_by : (m : Telegram) (actor : Actor) (event : Event) → request_at m ≡ Ok (actor, event)
+    → actor_at m.kind m.from ≡ Ok actor
+unfolding request_at
+asked_by m actor event is =
+    let request = bind_ok (is_request m.kind) _ (actor, event) is in
+    let ours = bind_ok (for_us m.to) _ (actor, event) request.2 in
+    let who = bind_ok (actor_at m.kind m.from) _ (actor, event) ours.2 in
+    let database = bind_ok (database_at m.address) _ (actor, event) who.2 in
+    let asked = bind_ok (event_at m.kind database.0 m.items) _ (actor, event) database.2 in
+    let same : who.0 ≡ actor = ap (λ (p : Actor × Event). p.0) (ok_is (who.0, asked.0) (actor, event) asked.2) in
+    who.1 ∙ ap (λ (a : Actor). Ok a) same
+
+both : (a b : Bool) → (a && b) ≡ true → b ≡ true
+both true b is = is
+both false b is = absurd cc
+
+not_another : (peer from : List ℕ) → is_another (Some peer) from ≡ false → slice_index peer 1 ≡ slice_index from 1
+not_another peer from is =
+    equal (slice_index peer 1) (slice_index from 1)
+    (both (slice_index peer 0 == slice_index from 0) (slice_index peer 1 == slice_index from 1) (kept (is_same_node peer from) is))
+  where
+    kept : (b : Bool) → not b ≡ false → b ≡ true
+    kept true is = refl
+    kept false is = absurd cc
+
+-- whoever asks is the one that the session serves
+pub spoken_by : (peer : Option (List ℕ)) (m : Telegram) (actor : Actor) (event : Event)
+    → is_another peer m.from ≡ false → request_at m ≡ Ok (actor, event)
+    → IsSpokenBy actor (peer_after peer m.from)
+spoken_by None m (Till t) event same is = by_kind m.kind m.from t (asked_by m (Till t) event is)
+spoken_by (Some peer) m (Till t) event same is =
+    not_another peer m.from same ∙ by_kind m.kind m.from t (asked_by m (Till t) event is)
+spoken_by None m (Dispenser p) event same is = tt
+spoken_by (Some peer) m (Dispenser p) event same is = tt
+
+-- ---- the till that a session signed on is the one that it serves
+
+pub own_met : (on : Option ℕ) (peer : Option (List ℕ)) (from : List ℕ) → IsOwn on peer → IsOwn on (peer_after peer from)
+own_met None None from own = tt
+own_met None (Some node) from own = tt
+own_met (Some t) None from own = absurd own
+own_met (Some t) (Some node) from own = own
+
+pub own_signed : (actor : Actor) (event : Event) (outcome : Outcome) (on : Option ℕ) (peer : Option (List ℕ))
+    → IsSpokenBy actor peer → IsOwn on peer → IsOwn (signed_by actor event outcome on) peer
+own_signed (Till t) SignOn (Ok (Ok answer)) on peer spoken own = spoken
+own_signed (Till t) SignOff (Ok (Ok answer)) on peer spoken own = tt
+own_signed actor event outcome on peer spoken own = own
+
+-- ---- what a counter owes
+
+same_number : (t : ℕ) → (t == t) ≡ true
+same_number t = eq-eqb t t refl
+
+-- the till that is signed on is owed
+pub still_owed : (actor : Actor) (event : Event) (outcome : Outcome) (on : Option ℕ) (owes : ℕ → Bool)
+    → IfSome on (λ t. owes t ≡ true)
+    → IfSome (signed_by actor event outcome on) (λ t. owed_by actor event outcome owes t ≡ true)
+still_owed (Till t) SignOn (Ok (Ok answer)) on owes owed = rw (same_number t) refl
+still_owed (Till t) SignOff (Ok (Ok answer)) on owes owed = tt
+still_owed actor event outcome on owes owed = owed
+
+two_tills : (t : ℕ) (on : Option ℕ) (peer : Option (List ℕ)) (u : ℕ) → IsOwn on peer → IsOwn (Some t) peer
+    → (u == t) ≡ false → is_the_one on u ≡ false
+two_tills t None peer u own spoken other = refl
+two_tills t (Some s) None u own spoken other = absurd own
+two_tills t (Some s) (Some node) u own spoken other =
+    let same : s ≡ t = sym own ∙ spoken in rw same other
+
+debt_set : (b owed : Bool) (old : Bool) → (b ≡ false → old ≡ false) → cond b owed old ≡ (b && owed)
+debt_set true owed old other = refl
+debt_set false owed old other = other refl
+
+and_true : (b : Bool) → (b && true) ≡ b
+and_true true = refl
+and_true false = refl
+
+and_false : (b : Bool) → (b && false) ≡ false
+and_false true = refl
+and_false false = refl
+
+-- no other till is owed
+pub still_alone : (actor : Actor) (event : Event) (outcome : Outcome) (on : Option ℕ) (peer : Option (List ℕ)) (owes : ℕ → Bool)
+    → IsOwn on peer → IsSpokenBy actor peer → ((u : ℕ) → owes u ≡ is_the_one on u)
+    → (u : ℕ) → owed_by actor event outcome owes u ≡ is_the_one (signed_by actor event outcome on) u
+still_alone (Till t) SignOn (Ok (Ok answer)) on peer owes own spoken alone u =
+    debt_set (u == t) true (owes u) (λ other. alone u ∙ two_tills t on peer u own spoken other) ∙ and_true (u == t)
+still_alone (Till t) SignOff (Ok (Ok answer)) on peer owes own spoken alone u =
+    debt_set (u == t) false (owes u) (λ other. alone u ∙ two_tills t on peer u own spoken other) ∙ and_false (u == t)
+still_alone actor event outcome on peer owes own spoken alone u = alone u

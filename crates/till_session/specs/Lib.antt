@@ -1,0 +1,5 @@
+pub mod Counters
+pub mod Text
+pub mod Course
+pub mod Ends
+pub mod DeskCounters

@@ -1,0 +1,41 @@
+//! Listeners: where the connections of sessions come from.
+
+ghost use Rattle.std.specs.Prelude.{◌≡◌};
+
+use std::alloc::Global;
+use std::io::{Read, Write};
+
+/// Why a listener gave no connection.
+#[derive(Clone, Copy, Debug, PartialEq, Eq)]
+pub enum NoConnection {
+    /// A growth was refused.
+    NoMemory,
+    /// The listener failed.
+    Failed,
+}
+
+/// A listener. It counts the calls that failed, from 0 up to the greatest `u64`, where the count stays.
+pub trait Accept {
+    ghost use Rattle.std.specs.Prelude.{◌≡◌, ℕ, OnOk};
+    ghost use Rattle.std.specs.Result.{IsErrOf};
+    ghost use Rattle.site_base.specs.Devices.{one_more};
+
+    /// What a connection's octets are read from.
+    type Reader: Read + Send + Sync + Drop;
+
+    /// What a connection's replies are written to.
+    type Writer: Write + Send + Sync + Drop;
+
+    // The number of calls that failed.
+    ghost failed: { Self → ℕ };
+
+    /// The next connection. It may wait for it.
+    fn accept(&mut self, alloc: Global) -> Result<(Self::Reader, Self::Writer), NoConnection>
+        ensures given { OnOk result (failed self.new ≡ failed self.old) }
+        ensures no_memory { IsErrOf result NoConnection.NoMemory → failed self.new ≡ failed self.old }
+        ensures failed { IsErrOf result NoConnection.Failed → failed self.new ≡ one_more (failed self.old) };
+
+    /// The number of calls that failed.
+    fn failures(&self) -> u64
+        ensures { result ≡ failed self.now };
+}

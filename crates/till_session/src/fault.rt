@@ -1,0 +1,106 @@
+//! Why a session ends before its peer's octets do, or with them.
+
+ghost use Rattle.std.specs.Prelude.{◌≡◌};
+ghost use Rattle.till_session.specs.Ends.{session_number, talk_number};
+
+use app_message::GrammarFault;
+use site_base::{NoMemory, ReadFault, WriteFault};
+use thiserror::Error;
+
+/// The number by which another originator than the session's is told that it is another.
+pub const ORIGINATOR_CHANGED: u8 = 57;
+
+/// What the text of a session ends with.
+#[derive(Clone, Copy, Debug, PartialEq, Eq, Error)]
+pub enum TalkFault {
+    /// The octets have a fault; the refusal of it was written last.
+    #[error("a faulty header or body")]
+    Stream(GrammarFault),
+    /// A message came from another originator than the first one; the refusal of it was written last.
+    #[error("another originator")]
+    OriginatorChanged,
+    /// The octets end inside a message.
+    #[error("the octets end inside a message")]
+    Truncated,
+}
+
+impl TalkFault {
+    /// Its number: 40 to 44, or 57.
+    pub fn number(self) -> u8
+        ensures { result ≡ talk_number self }
+    {
+        match self {
+            TalkFault::Stream(fault) => fault.number(),
+            TalkFault::OriginatorChanged => ORIGINATOR_CHANGED,
+            TalkFault::Truncated => 44,
+        }
+    }
+}
+
+/// Why a session ended.
+#[derive(Clone, Copy, Debug, PartialEq, Eq, Error)]
+pub enum SessionFault {
+    /// A growth was refused.
+    #[error("out of memory")]
+    NoMemory,
+    /// The reader gave no more.
+    #[error("{0}")]
+    Read(ReadFault),
+    /// The writer took no more.
+    #[error("{0}")]
+    Write(WriteFault),
+    /// There was no connection to serve.
+    #[error("no connection")]
+    Accept,
+    /// The text ends so.
+    #[error("{0}")]
+    Talk(TalkFault),
+}
+
+impl SessionFault {
+    /// Its number: 31, 40 to 44, 57, 59, 61, 62 or 63.
+    pub fn number(self) -> u8
+        ensures { result ≡ session_number self }
+    {
+        match self {
+            SessionFault::NoMemory => 31,
+            SessionFault::Read(fault) => fault.number(),
+            SessionFault::Write(fault) => fault.number(),
+            SessionFault::Accept => 63,
+            SessionFault::Talk(fault) => fault.number(),
+        }
+    }
+}
+
+impl From<NoMemory> for SessionFault {
+    ghost use Rattle.std.specs.Prelude.{◌≡◌};
+    ghost use Rattle.till_session.specs.declared.fault.SessionFault.{SessionFault};
+
+    ghost from_gives = { λ _ e. e ≡ SessionFault.NoMemory };
+
+    fn from(_e: NoMemory) -> SessionFault {
+        SessionFault::NoMemory
+    }
+}
+
+impl From<ReadFault> for SessionFault {
+    ghost use Rattle.std.specs.Prelude.{◌≡◌};
+    ghost use Rattle.till_session.specs.declared.fault.SessionFault.{SessionFault};
+
+    ghost from_gives = { λ f e. e ≡ SessionFault.Read f };
+
+    fn from(fault: ReadFault) -> SessionFault {
+        SessionFault::Read(fault)
+    }
+}
+
+impl From<WriteFault> for SessionFault {
+    ghost use Rattle.std.specs.Prelude.{◌≡◌};
+    ghost use Rattle.till_session.specs.declared.fault.SessionFault.{SessionFault};
+
+    ghost from_gives = { λ f e. e ≡ SessionFault.Write f };
+
+    fn from(fault: WriteFault) -> SessionFault {
+        SessionFault::Write(fault)
+    }
+}
