@@ -1,7 +1,6 @@
 //! The site that a table runs, and its book.
 
 use crate::books::{apply_alone, apply_beside, audited, leave, open_book, print_changes};
-use crate::desks::submit_all;
 use crate::line::Line;
 use crate::running::{Replies, open_site, print_rows, replies_to};
 use crate::shown::{ensure_counted, print_point, print_sale, print_shift, print_totals};
@@ -10,14 +9,12 @@ use site_base::{Actor, Event, FpNo, ShiftNo, SiteConfig, TillNo};
 use site_book::SiteBook;
 use site_core::Site;
 use std::alloc::Global;
-use std::sync::Wait;
 
 /// A site and its book, which have to answer alike; or the book alone, beside a site that isn't run.
 #[derive(Drop)]
 pub struct Kept {
     alloc: Global,
     alone: bool,
-    config: SiteConfig,
     site: Site,
     book: SiteBook,
 }
@@ -27,15 +24,14 @@ impl Kept {
     pub fn open(
         rt: &impl Eprint,
         alloc: Global,
-        config: SiteConfig,
+        config: &SiteConfig,
         alone: bool,
     ) -> anyhow::Result<Kept> {
-        let site = open_site(rt, alloc, &config)?;
-        let book = open_book(rt, alloc, &config)?;
+        let site = open_site(rt, alloc, config)?;
+        let book = open_book(rt, alloc, config)?;
         Ok(Kept {
             alloc,
             alone,
-            config,
             site,
             book,
         })
@@ -54,14 +50,6 @@ impl Kept {
         let replies = replies_to(rt, self.alloc, &mut self.site, events)?;
         apply_all_beside(rt, &mut self.book, events, &replies)?;
         print_rows(rt, events, &replies, last)
-    }
-
-    /// The end of the site: the rows of a book that isn't kept alone are made once more at a desk.
-    pub fn end(&self, rt: &(impl Eprint + Wait)) -> anyhow::Result<()> {
-        if self.alone {
-            return Ok(());
-        }
-        submit_all(rt, self.alloc, &self.config, &self.book)
     }
 
     /// Prints what a line asks.

@@ -4,7 +4,6 @@
 
 mod asked;
 mod books;
-mod desks;
 mod draft;
 mod kept;
 mod line;
@@ -14,12 +13,10 @@ mod table;
 
 use crate::line::Line;
 use crate::table::Table;
-use std::alloc::Global;
 use std::process::ExitCode;
-use std::sync::Wait;
 
 fn main(rt: HostRuntime) -> ExitCode {
-    match printed(&rt, rt.alloc()) {
+    match printed(&rt) {
         Ok(()) => ExitCode::SUCCESS,
         Err(error) => {
             let _ = eprintln!(&rt; "{error}");
@@ -29,12 +26,12 @@ fn main(rt: HostRuntime) -> ExitCode {
 }
 
 /// Prints the table that standard input holds.
-fn printed(rt: &(impl Print + Eprint + Input + Wait), alloc: Global) -> anyhow::Result<()> {
+fn printed(rt: &HostRuntime) -> anyhow::Result<()> {
+    let alloc = rt.alloc();
     let mut table = Table::new(alloc);
     for text in rt.lines(alloc) {
         let text = text?;
         table.take(rt, Line::read(alloc, &text)?)?;
     }
-    table.end(rt)?;
-    table.close(rt)
+    table.end(rt)
 }

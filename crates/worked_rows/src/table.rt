@@ -9,7 +9,6 @@ use site_base::{Actor, Event, GREATEST_ROWS};
 use std::alloc::Global;
 use std::marker::Model;
 use std::mem;
-use std::sync::Wait;
 
 /// The site that is written or run, and the paragraph of events so far.
 #[derive(Drop)]
@@ -44,7 +43,7 @@ impl Table {
     }
 
     /// Takes a line. An event joins its paragraph; every other line ends one.
-    pub fn take(&mut self, rt: &(impl Print + Eprint + Wait), line: Line) -> anyhow::Result<()> {
+    pub fn take(&mut self, rt: &(impl Print + Eprint), line: Line) -> anyhow::Result<()> {
         if !matches!(line, Line::Asked(_)) {
             self.end(rt)?;
         }
@@ -53,8 +52,8 @@ impl Table {
         match line {
             Line::Asked(text) => self.paragraph.push(text)?,
             Line::Text(text) => println!(rt; "{text}")?,
-            Line::Rows(_) => self.begin(rt, GREATEST_ROWS, false)?,
-            Line::Book(rows) => self.begin(rt, rows, true)?,
+            Line::Rows(_) => self.begin(GREATEST_ROWS, false),
+            Line::Book(rows) => self.begin(rows, true),
             Line::Manager(till) => self.draft.managers.push(till)?,
             Line::Product(product) => self.draft.products.push(product)?,
             Line::Point(point) => self.draft.points.push(point)?,
@@ -64,22 +63,12 @@ impl Table {
         Ok(())
     }
 
-    /// A site begins, behind the end of the one before it.
-    fn begin(&mut self, rt: &(impl Eprint + Wait), rows: u32, alone: bool) -> anyhow::Result<()> {
-        self.close(rt)?;
+    /// A site begins.
+    fn begin(&mut self, rows: u32, alone: bool) {
         self.alone = alone;
         self.kept = None;
         self.counted = Counted::new();
         self.draft = Draft::new(self.alloc, rows);
-        Ok(())
-    }
-
-    /// The end of the site, if one is open.
-    pub fn close(&self, rt: &(impl Eprint + Wait)) -> anyhow::Result<()> {
-        match &self.kept {
-            Some(kept) => kept.end(rt),
-            None => Ok(()),
-        }
     }
 
     /// Ends the paragraph: its events are run, in one run as often as it says, and the last rows printed.
@@ -99,7 +88,7 @@ impl Table {
         if self.kept.is_none() {
             let draft = mem::replace(&mut self.draft, Draft::new(self.alloc, 0));
             let config = draft.into_config().context("the site isn't fit")?;
-            self.kept = Some(Kept::open(rt, self.alloc, config, self.alone)?);
+            self.kept = Some(Kept::open(rt, self.alloc, &config, self.alone)?);
         }
         self.kept.as_mut().context("no site")
     }
