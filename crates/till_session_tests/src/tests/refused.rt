@@ -1,0 +1,77 @@
+//! The session of two tills, in which each growth may be refused once.
+
+use super::calls::{TWO_TILLS, octets};
+use super::sessions::{Peer, Seen, session};
+use super::site::five_points;
+use site_base::{NoMemory, SiteConfig};
+use std::alloc::Global;
+use std::process::Abort;
+use std::sync::Wait;
+use std::test::Fail;
+use till_session::{SessionFault, TalkFault};
+
+/// What may be told: all is well; the SignOn found no memory, so that the till isn't signed on; or the
+/// Open found none.
+const MAY_BE_TOLD: [&str; 3] = [
+    "02 01 01 01 00 E1 00 08 01 01 01 01 00 03 01 00\
+ 02 01 01 01 00 E2 00 08 01 21 01 01 00 03 01 00 02 02 01 01 00 E3 00 05 01 01 01 01 39",
+    "02 01 01 01 00 E1 00 05 01 01 01 01 1F\
+ 02 01 01 01 00 E2 00 05 01 21 01 01 01 02 02 01 01 00 E3 00 05 01 01 01 01 39",
+    "02 01 01 01 00 E1 00 08 01 01 01 01 00 03 01 00\
+ 02 01 01 01 00 E2 00 05 01 21 01 01 1F 02 02 01 01 00 E3 00 05 01 01 01 01 39",
+];
+
+/// Says that a growth was refused in this run.
+fn said(rt: &impl Eprint) {
+    let _ = rt.eprintln("a growth was refused");
+}
+
+#[test]
+fn session_refused(rt: HostRuntime) -> Result<(), Fail> {
+    let seen = match one_run(&rt, rt.alloc()) {
+        Ok(seen) => seen,
+        Err(NoMemory) => {
+            said(&rt);
+            one_run(&rt, rt.alloc())?
+        }
+    };
+    if seen.end.fault == Some(SessionFault::NoMemory) {
+        said(&rt);
+        assert!(rt;
+            is_told(&rt, rt.alloc(), &seen, false)?,
+            "no front of a text"
+        );
+        return Ok(());
+    }
+    assert!(rt; seen.end.fault == Some(SessionFault::Talk(TalkFault::OriginatorChanged)));
+    assert!(rt; seen.end.asked == 2);
+    assert!(rt; is_told(&rt, rt.alloc(), &seen, true)?, "told otherwise");
+    if !is_first(&rt, rt.alloc(), &seen)? {
+        said(&rt);
+    }
+    Ok(())
+}
+
+fn one_run<R: Wait + Abort>(rt: &R, alloc: Global) -> Result<Seen, NoMemory> {
+    let config: SiteConfig = five_points(rt, alloc, 1_000_000)?;
+    let peer = Peer::of(octets(rt, alloc, TWO_TILLS)?);
+    session(rt, alloc, &config, &[], peer)
+}
+
+/// Was one of these texts told, whole or a front of it?
+fn is_told(rt: &impl Abort, alloc: Global, seen: &Seen, is_whole: bool) -> Result<bool, NoMemory> {
+    for text in MAY_BE_TOLD {
+        let text = octets(rt, alloc, text)?;
+        let is_front = text.starts_with(seen.told.as_slice());
+        if is_front && (!is_whole || text.len() == seen.told.len()) {
+            return Ok(true);
+        }
+    }
+    Ok(false)
+}
+
+/// Was the first of these texts told?
+fn is_first(rt: &impl Abort, alloc: Global, seen: &Seen) -> Result<bool, NoMemory> {
+    let text = octets(rt, alloc, MAY_BE_TOLD[0])?;
+    Ok(text == seen.told)
+}
