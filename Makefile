@@ -28,7 +28,7 @@ check:
 	rt all check
 
 test:
-	rt ci
+	RT_JOBS=$$(scripts/lanes) rt ci
 	scripts/test-program $(PROGRAM)
 	scripts/test-rows $(ROWS)
 	scripts/test-faults
