@@ -30,6 +30,7 @@ check:
 test:
 	rt ci
 	scripts/test-program $(PROGRAM)
+	scripts/test-server $(PROGRAM)
 	scripts/test-rows $(ROWS)
 	scripts/test-faults
 

@@ -23,11 +23,21 @@ pub fn command<'a>(alloc: Global) -> Result<Command<'a>, Error> {
         .about("Replays standard input on the site of a file, and prints the report of its rows")
         .arg(file(alloc))?;
     let serve = Command::new(alloc, "serve")
-        .about("Serves tills and dispensers on 127.0.0.1, settles, and prints the report of the day")
+        .about(
+            "Serves tills and dispensers on 127.0.0.1, settles, and prints the report of the day",
+        )
         .arg(file(alloc))?
         .arg(number(alloc, "port", "The port, from 0 (a free one) to 65535"))?
-        .arg(number(alloc, "workers", "How many sessions are served side by side, from 1 to 16"))?
-        .arg(number(alloc, "sessions", "How many sessions are served in all, from 1 to 10000"))?;
+        .arg(number(
+            alloc,
+            "workers",
+            "How many sessions are served side by side, from 1 to 16",
+        ))?
+        .arg(number(
+            alloc,
+            "sessions",
+            "How many sessions are served in all, from 1 to 10000",
+        ))?;
     let explain = Command::new(alloc, "explain").about(
         "Prints the messages of standard input in words, requests and replies",
     );

@@ -1,6 +1,6 @@
 //! Loopback: where tills and dispensers connect.
 
-ghost use Rattle.std.specs.Prelude.{◌≡◌, IfOk};
+ghost use Rattle.std.specs.Prelude.{◌≡◌, IfErr, IfOk};
 
 use crate::fault::ServerFault;
 use std::alloc::Global;
@@ -82,7 +82,9 @@ impl Accept for Loopback {
 }
 
 /// The two halves of a socket. Once both are let go, it is closed.
-fn halves(alloc: Global, stream: TcpStream) -> Result<(ReadHalf, WriteHalf), NoConnection> {
+fn halves(alloc: Global, stream: TcpStream) -> Result<(ReadHalf, WriteHalf), NoConnection>
+    ensures { IfErr result (λ e. e ≡ NoConnection.NoMemory) }
+{
     let Ok(stream) = Arc::new(alloc, stream) else {
         return Err(NoConnection::NoMemory);
     };
