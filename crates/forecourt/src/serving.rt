@@ -17,10 +17,16 @@ pub fn served<T: Threads + Wait + Sync>(
     words: &ArgMatches<'_>,
     turns: u64,
 ) -> ExitCode {
-    let word = |name| words.get_str(name).unwrap_or("");
-    match ServerPlan::read(word("port"), word("workers"), word("sessions")) {
-        Ok(plan) => match site_of(rt, word("FILE")) {
-            Ok(config) => day_ended(rt, day(rt, threads, &config, plan, turns)),
+    let file = words.get_str("FILE").unwrap_or("");
+    let port = words.get_str("port").unwrap_or("");
+    let workers = words.get_str("workers").unwrap_or("");
+    let sessions = words.get_str("sessions").unwrap_or("");
+    match ServerPlan::read(port, workers, sessions) {
+        Ok(plan) => match site_of(rt, file) {
+            Ok(config) => {
+                let end = day(rt, threads, &config, plan, turns);
+                day_ended(rt, end)
+            }
             Err(status) => status,
         },
         Err(fault) => told(eprintln!(rt; "error: {fault}"), COMMAND_LINE),
