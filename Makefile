@@ -4,6 +4,7 @@ PROGRAM := crates/forecourt/out/forecourt
 ROWS := crates/worked_rows/out/worked_rows
 COSTS := crates/parts_cost/out/parts_cost
 LOAD := crates/desk_load/out/desk_load
+ECHO := crates/loopback_echo/out/loopback_echo
 CRATES := $(patsubst crates/%/wrong-bodies,%,$(wildcard crates/*/wrong-bodies))
 
 .PHONY: help run build check test audit bench
@@ -16,7 +17,8 @@ help:
 	@echo '              the built programs, refused growths and failing devices'
 	@echo 'make audit    the wrong bodies of the second shelf, of every crate or of CRATES="a b"'
 	@echo 'make bench    messages a second, memory, and their growth with the input; what a call of a part costs,'
-	@echo '              a row of a book of a million, a call of a desk, and a receipt that is settled'
+	@echo '              a row of a book of a million, a call of a desk, a receipt that is settled, and a request'
+	@echo '              of a server beside an echo'
 
 run:
 	@cd crates/forecourt && rt try < stdin
@@ -30,6 +32,7 @@ check:
 test:
 	RT_JOBS=$$(scripts/lanes) rt ci
 	scripts/test-program $(PROGRAM)
+	scripts/test-server $(PROGRAM)
 	scripts/test-rows $(ROWS)
 	scripts/test-faults
 
@@ -45,3 +48,5 @@ bench: build
 	@scripts/parts-cost $(COSTS)
 	@cd crates/desk_load && rt run > /dev/null
 	@scripts/bench-desk $(LOAD)
+	@cd crates/loopback_echo && rt run > /dev/null
+	@scripts/bench-server $(PROGRAM) $(ECHO)

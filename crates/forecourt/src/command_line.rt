@@ -22,6 +22,22 @@ pub fn command<'a>(alloc: Global) -> Result<Command<'a>, Error> {
     let report = Command::new(alloc, "report")
         .about("Replays standard input on the site of a file, and prints the report of its rows")
         .arg(file(alloc))?;
+    let serve = Command::new(alloc, "serve")
+        .about(
+            "Serves tills and dispensers on 127.0.0.1, settles, and prints the report of the day",
+        )
+        .arg(file(alloc))?
+        .arg(number(alloc, "port", "The port, from 0 (a free one) to 65535"))?
+        .arg(number(
+            alloc,
+            "workers",
+            "How many sessions are served side by side, from 1 to 16",
+        ))?
+        .arg(number(
+            alloc,
+            "sessions",
+            "How many sessions are served in all, from 1 to 10000",
+        ))?;
     let explain = Command::new(alloc, "explain").about(
         "Prints the messages of standard input in words, requests and replies",
     );
@@ -35,6 +51,7 @@ pub fn command<'a>(alloc: Global) -> Result<Command<'a>, Error> {
             .subcommand(check)?
             .subcommand(replay)?
             .subcommand(report)?
+            .subcommand(serve)?
             .subcommand(explain)?,
     )
 }
@@ -42,6 +59,15 @@ pub fn command<'a>(alloc: Global) -> Result<Command<'a>, Error> {
 /// The site file that a command reads.
 fn file<'a>(alloc: Global) -> Arg<'a> {
     Arg::new(alloc, "FILE").help("The site file").required(true)
+}
+
+/// A number that a command asks for.
+fn number<'a>(alloc: Global, name: &'a str, help: &'a str) -> Arg<'a> {
+    Arg::new(alloc, name)
+        .long(name)
+        .value_name("N")
+        .help(help)
+        .required(true)
 }
 
 /// Prints what `clap` answers in place of matches: help and version on standard output, with status 0;

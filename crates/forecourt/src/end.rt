@@ -1,6 +1,7 @@
 //! How the program ends: its exit status, and its text on standard error.
 
 use forecourt_engines::ReplayFault;
+use forecourt_server::ServerFault;
 use std::io;
 use std::process::ExitCode;
 
@@ -15,6 +16,14 @@ pub fn ended(rt: &impl Eprint, fault: Option<ReplayFault>) -> ExitCode {
     match fault {
         None => ExitCode::SUCCESS,
         Some(fault) => told(eprintln!(rt; "{fault}"), fault.exit_status()),
+    }
+}
+
+/// Tells why a server's day ended without its report, if it did.
+pub fn day_ended(rt: &impl Eprint, end: Result<(), ServerFault>) -> ExitCode {
+    match end {
+        Ok(()) => ExitCode::SUCCESS,
+        Err(fault) => told(eprintln!(rt; "{fault}"), fault.exit_status()),
     }
 }
 

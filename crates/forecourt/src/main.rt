@@ -1,16 +1,18 @@
 //! The forecourt site controller's program: its words, its files and its texts on standard error.
-//! What it does stands in `forecourt_engines`, how a site file is read in `site_file`.
+//! What it does stands in `forecourt_engines` and `forecourt_server`, how a site file is read in `site_file`.
 #![tactic(auto)]
 
 mod command_line;
 mod end;
 mod explaining;
 mod files;
+mod serving;
 
 use crate::command_line::{answered, command};
 use crate::end::{COMMAND_LINE, ended, failed, told, unwritten};
 use crate::explaining::explained;
 use crate::files::site_of;
+use crate::serving::served;
 use clap::ArgMatches;
 use forecourt_engines::replay::replay;
 use forecourt_engines::reporting::replay_to_report;
@@ -19,13 +21,15 @@ use site_base::{Counted, SiteConfig};
 use std::env;
 use std::io::ErrorKind;
 use std::process::ExitCode;
+use std::sync::Wait;
+use std::thread::Threads;
 
-/// The read calls and interrupted write calls that a replay may make.
+/// The read calls and interrupted write calls that a replay, or a session of a server, may make.
 const TURNS: u64 = 1_000_000_000;
 
 fn main(rt: HostRuntime) -> ExitCode {
     match words(&rt) {
-        Ok(words) if words.len() > 1 => asked(&rt, words.as_slice()),
+        Ok(words) if words.len() > 1 => asked(&rt, &rt, words.as_slice()),
         Ok(_) => replayed_here(&rt),
         Err(status) => status,
     }
@@ -44,19 +48,23 @@ fn words(rt: &HostRuntime) -> Result<Vec<String>, ExitCode> {
     }
 }
 
-/// What these words ask for.
-fn asked(rt: &HostRuntime, words: &[String]) -> ExitCode {
+/// What these words ask for. Only a server starts `threads`.
+fn asked<T: Threads + Wait + Sync>(rt: &HostRuntime, threads: &T, words: &[String]) -> ExitCode {
     let built = match command(rt.alloc()) {
         Ok(built) => built,
         Err(error) => return answered(rt, &error),
     };
     match built.try_get_matches_from(words) {
-        Ok(matches) => done(rt, &matches),
+        Ok(matches) => done(rt, threads, &matches),
         Err(error) => answered(rt, &error),
     }
 }
 
-fn done(rt: &HostRuntime, matches: &ArgMatches<'_>) -> ExitCode {
+fn done<T: Threads + Wait + Sync>(
+    rt: &HostRuntime,
+    threads: &T,
+    matches: &ArgMatches<'_>,
+) -> ExitCode {
     match matches.subcommand() {
         Some(("check", words)) => checked(rt, words.get_str("FILE").unwrap_or("")),
         Some(("replay", words)) => {
@@ -71,6 +79,7 @@ fn done(rt: &HostRuntime, matches: &ArgMatches<'_>) -> ExitCode {
             Ok(config) => reported(rt, &config),
             Err(status) => status,
         },
+        Some(("serve", words)) => served(rt, threads, words, TURNS),
         Some(("explain", _)) => explained(rt),
         _ => replayed_here(rt),
     }

@@ -1,0 +1,24 @@
+-- What a day tells, from its two writes.
+use Rattle.std.proofs.Common.{◌≡◌, ℕ, List, Option, Result, Ok, Err, OnOk, subst, sym}
+use Rattle.std.specs.Io.KnownBytes.{Appends}
+use Rattle.site_base.specs.Configured.{Configured}
+use Rattle.site_base.proofs.Known.{Appends-then}
+use Rattle.counter_desk.specs.declared.settlement.Settled.{Settled}
+use Rattle.forecourt_engines.specs.Report.{report_text}
+use Rattle.forecourt_server.specs.Days.{IsSettledDay, listening_line, TellsDay}
+
+-- where it listens was written, and then, if it ended well, the report of a day that is settled
+pub tells_day : {X E : Type 0} (r : Result X E) (config named : Configured)
+    (u v w : Option (List ℕ)) (port : ℕ) (settled : Settled)
+    → config ≡ named → IsSettledDay named settled → Appends u v (listening_line port)
+    → OnOk r (Appends v w (report_text config settled.book settled.shares))
+    → OnOk r (TellsDay config u w)
+tells_day (Ok x) config named u v w port settled same adds_up line report =
+    record {
+      port = port;
+      settled = settled;
+      adds_up = subst (λ (c : Configured). IsSettledDay c settled) (sym same) adds_up;
+      told = Appends-then u v w (listening_line port)
+          (report_text config settled.book settled.shares) line report;
+    }
+tells_day (Err e) config named u v w port settled same adds_up line report = report

@@ -1,0 +1,39 @@
+-- What a server's day tells, and how the program ends with it.
+use Rattle.std.specs.Prelude.{ℕ, List, ◌++◌, codes, decimal, Option}
+use Rattle.std.specs.Io.KnownBytes.{Appends}
+use Rattle.site_base.specs.Configured.{Configured}
+use Rattle.counter_desk.specs.declared.receipt.Receipt.{Receipt}
+use Rattle.counter_desk.specs.declared.settlement.Settled.{Settled}
+use Rattle.counter_desk.specs.declared.settlement.SettleFault.{SettleFault}
+use Rattle.counter_desk.specs.declared.settlement.SettleFault.TheVariants as settle
+use Rattle.counter_desk.specs.Settlement.{Settles}
+use Rattle.forecourt_engines.specs.Report.{report_text}
+use Rattle.forecourt_server.specs.declared.fault.ServerFault.{ServerFault}
+use Rattle.forecourt_server.specs.declared.fault.ServerFault.TheVariants.{NoMemory, Unsettled}
+
+-- where the server listens
+abbrev pub listening_line : ℕ → List ℕ
+listening_line port = codes "listening 127.0.0.1:" ++ decimal port ++ codes "\n"
+
+-- the shares that came back add up to a legal history of this configuration
+abbrev pub IsSettledDay : Configured → Settled → Type 0
+IsSettledDay config settled = (lists : List (List Receipt)) × Settles config lists settled
+
+-- a line that tells where the server listens, and the report of a day that is settled
+pub record TellsDay (config : Configured) (holds holds' : Option (List ℕ)) : Type 0 where
+  pub port : ℕ
+  pub settled : Settled
+  pub adds_up : IsSettledDay config settled
+  pub told : Appends holds holds'
+      (listening_line port ++ report_text config settled.book settled.shares)
+
+-- why a day isn't settled, as the server tells it
+abbrev pub unsettled_by : SettleFault → ServerFault
+unsettled_by (settle.StrangeReceipt place) = Unsettled place
+unsettled_by settle.NoMemory = NoMemory
+
+-- 3 where the day isn't settled, 4 for want of memory, else 1
+abbrev pub day_status : ServerFault → ℕ
+day_status (Unsettled place) = 3
+day_status NoMemory = 4
+day_status fault = 1

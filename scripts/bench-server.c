@@ -1,0 +1,235 @@
+/* The clients of scripts/bench-server:
+ *
+ *   bench-server reads PORT CLIENTS REQUESTS    tills that read a fuelling point each
+ *   bench-server echo PORT CLIENTS REQUESTS     the same octets, to a server that sends them back
+ *   bench-server sales PORT PAIRS CYCLES        pairs of a till and a dispenser, whose sales are cleared
+ *
+ * Each client has one request outstanding, looks at every reply, and keeps how long it took. Printed are
+ * requests a second of them all, and microseconds that half, 99 of 100 and 999 of 1,000 replies took at most.
+ */
+#include <arpa/inet.h>
+#include <netinet/in.h>
+#include <netinet/tcp.h>
+#include <pthread.h>
+#include <stdint.h>
+#include <stdio.h>
+#include <stdlib.h>
+#include <string.h>
+#include <sys/socket.h>
+#include <time.h>
+#include <unistd.h>
+
+enum { MOST = 128, CLIENTS = 16, WARMING = 200 };
+
+struct client {
+    int number;
+    int *nanoseconds;
+    double seconds;
+};
+
+static const char *kind;
+static int port, clients, requests;
+static pthread_barrier_t begin;
+
+static void fail(const char *why)
+{
+    fprintf(stderr, "bench-server: %s\n", why);
+    exit(1);
+}
+
+static double now(void)
+{
+    struct timespec t;
+    clock_gettime(CLOCK_MONOTONIC, &t);
+    return t.tv_sec + t.tv_nsec * 1e-9;
+}
+
+static int connected(void)
+{
+    struct sockaddr_in here = {.sin_family = AF_INET, .sin_port = htons(port)};
+    int one = 1, s = socket(AF_INET, SOCK_STREAM, 0);
+    here.sin_addr.s_addr = htonl(INADDR_LOOPBACK);
+    if (s < 0 || connect(s, (struct sockaddr *)&here, sizeof here) != 0)
+        fail("can't connect");
+    setsockopt(s, IPPROTO_TCP, TCP_NODELAY, &one, sizeof one);
+    return s;
+}
+
+/* Octets of a text in hexadecimal; returns how many. */
+static int octets(const char *text, unsigned char *to)
+{
+    int n = 0;
+    for (unsigned value; sscanf(text, " %2x", &value) == 1; text += strspn(text, " "), text += 2)
+        to[n++] = value;
+    return n;
+}
+
+/* Sends a message, and looks whether the reply is the one that is wanted. */
+static void asks(int s, const unsigned char *sent, int length, const unsigned char *wanted, int due)
+{
+    unsigned char got[MOST];
+    if (send(s, sent, length, MSG_NOSIGNAL) != length)
+        fail("a request wasn't taken");
+    for (int n = 0; n < due;) {
+        int more = recv(s, got + n, due - n, 0);
+        if (more <= 0)
+            fail("a connection ended");
+        n += more;
+    }
+    if (memcmp(got, wanted, due) != 0)
+        fail("a reply isn't the one that is wanted");
+}
+
+static void told(int s, int node_place, int node, const char *request, const char *reply)
+{
+    unsigned char sent[MOST], wanted[MOST];
+    int length = octets(request, sent), due = octets(reply, wanted);
+    sent[node_place] = wanted[1] = node;
+    asks(s, sent, length, wanted, due);
+}
+
+/* Reads of a point, or the same octets to and fro. */
+static void reads(struct client *c)
+{
+    unsigned char sent[MOST], wanted[MOST];
+    int s = connected(), is_echo = strcmp(kind, "echo") == 0;
+    int length = octets("01 01 02 01 00 00 00 02 01 21", sent), due = length;
+    sent[3] = c->number;
+    if (is_echo) {
+        memcpy(wanted, sent, length);
+    } else {
+        told(s, 3, c->number, "01 01 02 01 00 41 00 04 01 01 31 00",
+             "02 01 01 01 00 E1 00 08 01 01 01 01 00 03 01 00");
+        due = octets("02 01 01 01 00 20 00 1E 01 21 10 01 02 11 01 00 12 01 00 13 01 00"
+                     " 72 04 00 00 00 00 73 08 00 00 00 00 00 00 00 00", wanted);
+        wanted[1] = c->number;
+    }
+    double start = 0;
+    for (int n = -WARMING; n < requests; n++) {
+        if (n == 0) {
+            pthread_barrier_wait(&begin);
+            start = now();
+        }
+        sent[5] = (unsigned)n % 32;
+        wanted[5] = is_echo ? sent[5] : 0x20 | sent[5];
+        double before = now();
+        asks(s, sent, length, wanted, due);
+        if (n >= 0)
+            c->nanoseconds[n] = (now() - before) * 1e9;
+    }
+    c->seconds = now() - start;
+    close(s);
+}
+
+/* The number n in packed decimal digits. */
+static void digits(int n, unsigned char *to)
+{
+    to[0] = n / 1000 << 4 | n / 100 % 10;
+    to[1] = n / 10 % 10 << 4 | n % 10;
+}
+
+static void reading(long n, unsigned char *to)
+{
+    for (int i = 7; i >= 0; i--, n >>= 8)
+        to[i] = n & 255;
+}
+
+/* Sales at a point: release, lift, hang up with 1,000 ml more, lock, clear; one request after the other. */
+static void sales(struct client *c)
+{
+    static const char *asked[] = {
+        "01 01 02 00 00 40 00 04 01 00 3E 00",
+        "01 01 03 00 00 60 00 11 01 00 62 00 70 01 01 71 08 00 00 00 00 00 00 00 00",
+        "01 01 03 00 00 60 00 11 01 00 64 00 70 01 01 71 08 00 00 00 00 00 00 00 00",
+        "01 01 02 00 00 40 00 07 04 00 21 00 00 80 00",
+        "01 01 02 00 00 40 00 07 04 00 21 00 00 82 00",
+    };
+    static const char *replied[] = {
+        "02 00 01 01 00 E0 00 08 01 00 01 01 00 03 01 00",
+        "03 00 01 01 00 E0 00 0E 01 00 01 01 00 03 01 02 72 04 00 00 05 DC",
+        "03 00 01 01 00 E0 00 16 01 00 01 01 00 03 01 06 73 08 00 00 00 00 00 00 03 E8 74 02 00 00",
+        "02 00 01 01 00 E0 00 0B 04 00 21 00 00 01 01 00 03 01 09",
+        "02 00 01 01 00 E0 00 15 04 00 21 00 00 01 01 00 03 01 0B 75 08 00 00 00 00 00 00 00 96",
+    };
+    unsigned char sent[5][MOST], wanted[5][MOST];
+    int length[5], due[5], till = connected(), pump = connected();
+    for (int i = 0; i < 5; i++) {
+        length[i] = octets(asked[i], sent[i]);
+        due[i] = octets(replied[i], wanted[i]);
+        sent[i][3] = wanted[i][1] = c->number;
+        sent[i][9] = wanted[i][9] = 0x20 + c->number;
+    }
+    told(till, 3, c->number, "01 01 02 01 00 41 00 04 01 01 31 00", "02 01 01 01 00 E1 00 08 01 01 01 01 00 03 01 00");
+    unsigned char open[MOST], opened[MOST];
+    int n_open = octets("01 01 02 00 00 42 00 04 01 00 3C 00", open);
+    int n_opened = octets("02 00 01 01 00 E2 00 08 01 00 01 01 00 03 01 00", opened);
+    open[3] = opened[1] = c->number;
+    open[9] = opened[9] = 0x20 + c->number;
+    asks(till, open, n_open, opened, n_opened);
+    pthread_barrier_wait(&begin);
+    double start = now();
+    for (int n = 0; n < requests; n++) {
+        reading(n * 1000L, sent[1] + 17);
+        reading((n + 1) * 1000L, sent[2] + 17);
+        digits(n + 1, wanted[2] + 28);
+        for (int i = 3; i < 5; i++) {
+            digits(n + 1, sent[i] + 11);
+            digits(n + 1, wanted[i] + 11);
+        }
+        double before = now();
+        for (int i = 0; i < 5; i++)
+            asks(i == 1 || i == 2 ? pump : till, sent[i], length[i], wanted[i], due[i]);
+        c->nanoseconds[n] = (now() - before) * 1e9;
+    }
+    c->seconds = now() - start;
+    close(till);
+    close(pump);
+}
+
+static void *run(void *client)
+{
+    if (strcmp(kind, "sales") == 0)
+        sales(client);
+    else
+        reads(client);
+    return NULL;
+}
+
+static int by_size(const void *a, const void *b)
+{
+    int x = *(const int *)a, y = *(const int *)b;
+    return (x > y) - (x < y);
+}
+
+int main(int count, char **words)
+{
+    if (count != 5)
+        fail("reads|echo|sales PORT CLIENTS REQUESTS");
+    kind = words[1];
+    port = atoi(words[2]);
+    clients = atoi(words[3]);
+    requests = atoi(words[4]);
+    if (clients < 1 || clients > CLIENTS || requests < 1000)
+        fail("1 to 16 clients, 1,000 requests at least");
+    struct client all[CLIENTS];
+    pthread_t threads[CLIENTS];
+    int *times = malloc(sizeof(int) * clients * requests);
+    if (!times)
+        fail("no memory");
+    pthread_barrier_init(&begin, NULL, clients);
+    for (int i = 0; i < clients; i++) {
+        all[i] = (struct client){.number = i + 1, .nanoseconds = times + (long)i * requests};
+        if (pthread_create(&threads[i], NULL, run, &all[i]) != 0)
+            fail("no thread");
+    }
+    double longest = 0;
+    for (int i = 0; i < clients; i++) {
+        pthread_join(threads[i], NULL);
+        longest = all[i].seconds > longest ? all[i].seconds : longest;
+    }
+    long sum = (long)clients * requests;
+    qsort(times, sum, sizeof(int), by_size);
+    printf("%.0f %.1f %.1f %.1f\n", sum / longest, times[sum / 2] / 1e3, times[sum * 99 / 100] / 1e3,
+           times[sum * 999 / 1000] / 1e3);
+    return 0;
+}
