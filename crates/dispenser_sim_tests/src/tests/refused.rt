@@ -2,7 +2,7 @@
 
 ghost use Rattle.std.specs.Prelude.{◌≡◌, ◌^◌};
 
-use super::site::{call, lift, one_point, point, pump, till};
+use super::site::{call, leave, lift, one_point, point, pump};
 use counter_desk::{Desk, Naming, SettleFault, Settled, Share, Unsettled};
 use dispenser_sim::{Dispenser, DispenserEnd, DispenserFault, Script, Step};
 use site_base::{Event, NoMemory, Preset, SiteConfig};
@@ -73,7 +73,7 @@ fn day_of<L: Ledger, C: Naming, R: Wait + Abort + Eprint>(
             call(rt, &desk, &mut share, &Event::Open(point(rt, 1)));
             call(rt, &desk, &mut share, &Event::Release(point(rt, 1), preset));
             let mut share = fuel(rt, alloc, &desk, share, config);
-            assert!(rt; desk.leave(rt, &mut share, till(rt)).is_some());
+            leave(rt, &desk, &mut share);
             root.take_back(share);
         }
         Err(NoMemory) => panic!(rt; "no share"),
@@ -139,12 +139,10 @@ fn script_from(rt: &(impl Abort + Eprint), alloc: Global, taken: u64) -> Script 
 fn steps_from(rt: &impl Abort, alloc: Global, taken: u64) -> Result<Script, AllocError> {
     let all = [lift(rt, 1), pump(rt, 2_000), pump(rt, 2_000), Step::HangUp];
     let mut steps = Vec::new(alloc);
-    let mut place = 0;
-    for step in &all {
-        if place >= taken {
+    for (place, step) in all.iter().enumerate() {
+        if place as u64 >= taken {
             steps.push(*step)?;
         }
-        place += 1;
     }
     Ok(Script::new(steps))
 }

@@ -2,7 +2,7 @@
 
 ghost use Rattle.std.specs.Prelude.{◌≡◌, ◌^◌};
 
-use super::site::{call, lift, one_point, point, pump, till};
+use super::site::{call, leave, lift, one_point, point, pump};
 use counter_desk::{Desk, Naming, Settled};
 use dispenser_sim::{Dispenser, DispenserEnd, DispenserFault, Script, Step};
 use site_base::{Event, NoMemory, PointState, Preset, SiteConfig};
@@ -99,7 +99,7 @@ fn day_of<L: Ledger, C: Naming, R: Wait + Abort + Eprint>(
             evening.refused = refused;
             evening.fault = fault;
             evening.reports = share.calls().saturating_sub(before);
-            assert!(rt; desk.leave(rt, &mut share, till(rt)).is_some());
+            leave(rt, &desk, &mut share);
             root.take_back(share);
         }
         Err(NoMemory) => panic!(rt; "no share"),

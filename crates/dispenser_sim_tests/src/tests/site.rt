@@ -76,3 +76,17 @@ pub fn call<L: Ledger, C: Naming, R: Wait + Abort + Eprint>(
         Err(_) => panic!(rt; "no row"),
     }
 }
+
+/// Signs off till 1, which the share owes.
+pub fn leave<L: Ledger, C: Naming, R: Wait + Abort>(
+    rt: &R,
+    desk: &Desk<L, C>,
+    share: &mut Share<L, C>,
+) {
+    let t = till(rt);
+    assert!(rt; share.owes(t), "the till isn't owed");
+    assert!(rt;
+        desk.leave(rt, share, t).is_some(),
+        "the till wasn't signed on"
+    );
+}
