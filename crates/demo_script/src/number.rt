@@ -1,10 +1,17 @@
 //! Words and numbers in a line.
 
-ghost use Rattle.std.specs.Prelude.{◌≡◌, ◌≢◌, ◌≤◌, ◌++◌, ◌∷◌, ℕ, List, decimal, IfSome, IfNone};
+ghost use Rattle.std.specs.Prelude.{◌≡◌, ◌≢◌, ◌≤◌, ◌++◌, ◌∷◌, ℕ, List, decimal, IfSome, IfNone, IsTrue, ◌↔◌};
 ghost use Rattle.demo_script.specs.Numbers.{is_signed_or_padded, IsWithoutSpace};
 
 use memchr::memchr;
 use std::str;
+
+/// Is the text this word?
+pub fn is_word(text: &[u8], word: &[u8]) -> bool
+    ensures { IsTrue result ↔ (text.now ≡ word.now) }
+{
+    text == word
+}
 
 /// The rest of a text that begins with this word.
 pub fn behind<'a>(word: &[u8], text: &'a [u8]) -> Option<&'a [u8]>
@@ -15,7 +22,7 @@ pub fn behind<'a>(word: &[u8], text: &'a [u8]) -> Option<&'a [u8]>
         return None;
     }
     let (front, rest) = text.split_at(word.len());
-    if front == word { Some(rest) } else { None }
+    if is_word(front, word) { Some(rest) } else { None }
 }
 
 /// The number that these octets write, from 0 to this one, without needless zeros in front.
@@ -57,7 +64,12 @@ pub fn number_behind(word: &[u8], text: &[u8], least: u32, most: u32) -> Option<
     ensures written { IfSome result (λ n. (text.now ≡ word.now ++ decimal n) × (least ≤ n) × (n ≤ most)) }
     ensures other { IfNone result ((n : ℕ) → least ≤ n → n ≤ most → text.now ≢ word.now ++ decimal n) }
 {
-    let n = number_of(behind(word, text)?, most)?;
+    let Some(digits) = behind(word, text) else {
+        return None;
+    };
+    let Some(n) = number_of(digits, most) else {
+        return None;
+    };
     if least <= n { Some(n) } else { None }
 }
 

@@ -1,6 +1,6 @@
 //! Lines in words.
 
-ghost use Rattle.std.specs.Prelude.{◌≡◌, ◌≢◌, ℕ, ◌≤◌, ◌++◌, ◌∷◌, ◌↔◌, IsTrue, IfSome, IfNone, codes, decimal};
+ghost use Rattle.std.specs.Prelude.{◌≡◌, ◌≢◌, ℕ, ◌≤◌, ◌++◌, ◌∷◌, IfSome, IfNone, codes, decimal};
 ghost use Rattle.site_base.specs.declared.limits.TheConstants.{NOZZLES, POINTS};
 ghost use Rattle.site_base.specs.States.{state_number};
 ghost use Rattle.dispenser_sim.specs.declared.script.Step.{Step};
@@ -11,7 +11,7 @@ ghost use Rattle.demo_script.specs.Script.{Begins, IsDispenserText, IsStepText};
 
 use crate::limits::{GREATEST_POLLS, GREATEST_PUMPED};
 use crate::line::Line;
-use crate::number::{behind, number_behind, number_of, parted};
+use crate::number::{behind, is_word, number_behind, number_of, parted};
 use dispenser_sim::Step;
 use site_base::{FpNo, Millilitres, NOZZLES, NozzleNo, POINTS, PointState};
 
@@ -20,7 +20,7 @@ pub fn section_begun(text: &[u8]) -> Option<Line>
     ensures found { IfSome result (λ line. Begins text.now line) }
     ensures other { IfNone result ((line : Line) → ¬ Begins text.now line) }
 {
-    if is(text, b"till") {
+    if is_word(text, b"till") {
         return Some(Line::Till);
     }
     let (p, polls) = dispenser_in(text)?;
@@ -32,13 +32,13 @@ pub fn step_of(text: &[u8]) -> Option<Step>
     ensures found { IfSome result (λ step. IsStepText text.now step) }
     ensures other { IfNone result ((step : Step) → ¬ IsStepText text.now step) }
 {
-    if is(text, b"online") {
+    if is_word(text, b"online") {
         return Some(Step::Online);
     }
-    if is(text, b"offline") {
+    if is_word(text, b"offline") {
         return Some(Step::Offline);
     }
-    if is(text, b"hang") {
+    if is_word(text, b"hang") {
         return Some(Step::HangUp);
     }
     if let Some(n) = nozzle_in(text) {
@@ -49,13 +49,6 @@ pub fn step_of(text: &[u8]) -> Option<Step>
     }
     let state = state_in(text)?;
     Some(Step::WaitFor(state))
-}
-
-/// Is the text this word?
-fn is(text: &[u8], word: &[u8]) -> bool
-    ensures { IsTrue result ↔ (text.now ≡ word.now) }
-{
-    text == word
 }
 
 /// The nozzle of `lift N`.
