@@ -13,7 +13,7 @@ mod engine;
 pub mod explain;
 mod fault;
 mod laws;
-mod line;
+pub mod line;
 pub mod replay;
 pub mod report;
 pub mod reporting;

@@ -1,0 +1,12 @@
+-- How a number isn't written, and where it ends.
+use Rattle.std.specs.Prelude.{ℕ, ◌==◌, ◌||◌, ◌<◌, ◌≢◌, Bool, false, List, [], ◌∷◌, length, slice_index}
+
+-- it begins with a plus, or with a zero that isn't all
+abbrev pub is_signed_or_padded : List ℕ → Bool
+is_signed_or_padded [] = false
+is_signed_or_padded (b ∷ []) = b == 43
+is_signed_or_padded (b ∷ c ∷ bs) = b == 43 || b == 48
+
+-- no octet is a space
+abbrev pub IsWithoutSpace : List ℕ → Type 0
+IsWithoutSpace text = (k : ℕ) → k < length text → slice_index text k ≢ 32

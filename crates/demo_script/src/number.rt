@@ -1,0 +1,84 @@
+//! Words and numbers in a line.
+
+ghost use Rattle.std.specs.Prelude.{◌≡◌, ◌≢◌, ◌≤◌, ◌++◌, ◌∷◌, ℕ, List, decimal, IfSome, IfNone, IsTrue, ◌↔◌};
+ghost use Rattle.demo_script.specs.Numbers.{is_signed_or_padded, IsWithoutSpace};
+
+use memchr::memchr;
+use std::str;
+
+/// Is the text this word?
+pub fn is_word(text: &[u8], word: &[u8]) -> bool
+    ensures { IsTrue result ↔ (text.now ≡ word.now) }
+{
+    text == word
+}
+
+/// The rest of a text that begins with this word.
+pub fn behind<'a>(word: &[u8], text: &'a [u8]) -> Option<&'a [u8]>
+    ensures found { IfSome result (λ rest. text.now ≡ word.now ++ rest.now) }
+    ensures other { IfNone result ((rest : List ℕ) → text.now ≢ word.now ++ rest) }
+{
+    if text.len() < word.len() {
+        return None;
+    }
+    let (front, rest) = text.split_at(word.len());
+    if is_word(front, word) { Some(rest) } else { None }
+}
+
+/// The number that these octets write, from 0 to this one, without needless zeros in front.
+pub fn number_of(digits: &[u8], most: u32) -> Option<u32>
+    ensures written { IfSome result (λ n. (digits.now ≡ decimal n) × (n ≤ most)) }
+    ensures other { IfNone result ((n : ℕ) → n ≤ most → digits.now ≢ decimal n) }
+{
+    let Ok(text) = str::from_utf8(digits) else {
+        return None;
+    };
+    if is_signed_or_padded(digits) {
+        return None;
+    }
+    match text.parse::<u32>() {
+        Ok(n) => {
+            if n <= most {
+                Some(n)
+            } else {
+                None
+            }
+        }
+        Err(_) => None,
+    }
+}
+
+/// Does it begin with a plus, or with a zero that isn't all?
+fn is_signed_or_padded(digits: &[u8]) -> bool
+    ensures { result ≡ is_signed_or_padded digits.now }
+{
+    match digits {
+        [] => false,
+        [first] => *first == b'+',
+        [first, ..] => *first == b'+' || *first == b'0',
+    }
+}
+
+/// The number behind this word, from the least to the greatest.
+pub fn number_behind(word: &[u8], text: &[u8], least: u32, most: u32) -> Option<u32>
+    ensures written { IfSome result (λ n. (text.now ≡ word.now ++ decimal n) × (least ≤ n) × (n ≤ most)) }
+    ensures other { IfNone result ((n : ℕ) → least ≤ n → n ≤ most → text.now ≢ word.now ++ decimal n) }
+{
+    let Some(digits) = behind(word, text) else {
+        return None;
+    };
+    let Some(n) = number_of(digits, most) else {
+        return None;
+    };
+    if least <= n { Some(n) } else { None }
+}
+
+/// What stands before the first space, and what stands behind it; None where there is no space.
+pub fn parted(text: &[u8]) -> Option<(&[u8], &[u8])>
+    ensures found { IfSome result (λ parts. (text.now ≡ parts.0.now ++ (32 ∷ parts.1.now)) × IsWithoutSpace parts.0.now) }
+    ensures other { IfNone result (IsWithoutSpace text.now) }
+{
+    let space = memchr(b' ', text)?;
+    let (front, rest) = text.split_at(space);
+    Some((front, &rest[1..]))
+}

@@ -1,0 +1,162 @@
+//! A run that a refused growth ends goes on with the steps that it left.
+
+ghost use Rattle.std.specs.Prelude.{◌≡◌, ◌^◌};
+
+use super::site::{call, leave, lift, one_point, point, pump};
+use counter_desk::{Desk, Naming, SettleFault, Settled, Share, Unsettled};
+use dispenser_sim::{Dispenser, DispenserEnd, DispenserFault, Script, Step};
+use site_base::{Event, NoMemory, Preset, SiteConfig};
+use std::alloc::{AllocError, Global};
+use std::marker::Brand;
+use std::process::Abort;
+use std::sync::Wait;
+use std::sync::ledger::{Blank, Ledger};
+use std::test::Fail;
+
+/// Says that a growth was refused in this run.
+fn said(rt: &impl Eprint) {
+    let _ = rt.eprintln("a growth was refused");
+}
+
+#[test]
+fn each_refused(rt: HostRuntime) -> Result<(), Fail> {
+    let config = match one_point(&rt, rt.alloc(), 10_000, 0) {
+        Ok(config) => config,
+        Err(NoMemory) => {
+            said(&rt);
+            one_point(&rt, rt.alloc(), 10_000, 0)?
+        }
+    };
+    let settled = match one_day(&rt, rt.alloc(), &config) {
+        Ok(settled) => settled,
+        Err(NoMemory) => {
+            said(&rt);
+            one_day(&rt, rt.alloc(), &config)?
+        }
+    };
+    assert_eq!(rt; settled.rows, 8);
+    assert_eq!(rt; settled.millilitres, 3_000);
+    Ok(())
+}
+
+fn one_day<R: Wait + Abort + Eprint>(
+    rt: &R,
+    alloc: Global,
+    config: &SiteConfig,
+) -> Result<Settled, NoMemory> {
+    day_of::<Brand, Brand, R>(rt, alloc, Blank::new(1 << 63), config)
+}
+
+fn day_of<L: Ledger, C: Naming, R: Wait + Abort + Eprint>(
+    rt: &R,
+    alloc: Global,
+    blank: Blank,
+    config: &SiteConfig,
+) -> Result<Settled, NoMemory>
+    requires ledger { (blank.name ≡ L.name) × (blank.parts ≡ L.parts) × (blank.parts ≡ 2 ^ 63) }
+    requires config { config.now ≡ C.config }
+{
+    let (desk, root) = Desk::<L, C>::try_open(alloc, blank, config)?;
+    let mut root = root;
+    let given = match root.give() {
+        Ok(share) => Ok(share),
+        Err(NoMemory) => {
+            said(rt);
+            root.give()
+        }
+    };
+    match given {
+        Ok(share) => {
+            let mut share = share;
+            let preset = Preset::Volume(3_000);
+            call(rt, &desk, &mut share, &Event::SignOn);
+            call(rt, &desk, &mut share, &Event::Open(point(rt, 1)));
+            call(rt, &desk, &mut share, &Event::Release(point(rt, 1), preset));
+            let mut share = fuel(rt, alloc, &desk, share, config);
+            leave(rt, &desk, &mut share);
+            root.take_back(share);
+        }
+        Err(NoMemory) => panic!(rt; "no share"),
+    }
+    assert!(rt; root.out() == 0, "a share is out");
+    match desk.settle(alloc, root) {
+        Ok(settled) => Ok(settled),
+        Err(unsettled) => {
+            said(rt);
+            Ok(settled_again(rt, alloc, unsettled))
+        }
+    }
+}
+
+/// The nozzle is lifted, 4,000 ml are asked for where the preset lets 3,000 through, and it is put
+/// back. Where a growth was refused, the run made a receipt for each step before that, and another
+/// run takes the rest.
+fn fuel<L: Ledger, C: Naming, R: Wait + Abort + Eprint>(
+    rt: &R,
+    alloc: Global,
+    desk: &Desk<L, C>,
+    share: Share<L, C>,
+    config: &SiteConfig,
+) -> Share<L, C> {
+    let before = share.calls();
+    let mut dispenser = Dispenser::new(config, point(rt, 1));
+    let DispenserEnd {
+        share,
+        sold,
+        refused,
+        fault,
+    } = dispenser.run(rt, desk, share, &script_from(rt, alloc, 0), 1);
+    assert!(rt; refused == 0 && sold <= 1);
+    let taken = share.calls().saturating_sub(before);
+    match fault {
+        None => {
+            assert!(rt; taken == 4 && sold == 1);
+            return share;
+        }
+        Some(fault) => assert!(rt; fault == DispenserFault::NoMemory && taken < 4 && sold == 0),
+    }
+    said(rt);
+    let DispenserEnd {
+        share,
+        sold,
+        refused,
+        fault,
+    } = dispenser.run(rt, desk, share, &script_from(rt, alloc, taken), 1);
+    assert!(rt; sold == 1 && refused == 0 && fault.is_none());
+    assert_eq!(rt; share.calls().saturating_sub(before), 4);
+    share
+}
+
+/// The steps but for the first ones.
+fn script_from(rt: &(impl Abort + Eprint), alloc: Global, taken: u64) -> Script {
+    match steps_from(rt, alloc, taken) {
+        Ok(script) => return script,
+        Err(_) => said(rt),
+    }
+    steps_from(rt, alloc, taken).expect(rt, "no script")
+}
+
+fn steps_from(rt: &impl Abort, alloc: Global, taken: u64) -> Result<Script, AllocError> {
+    let all = [lift(rt, 1), pump(rt, 2_000), pump(rt, 2_000), Step::HangUp];
+    let mut steps = Vec::new(alloc);
+    for (place, step) in all.iter().enumerate() {
+        if place as u64 >= taken {
+            steps.push(*step)?;
+        }
+    }
+    Ok(Script::new(steps))
+}
+
+fn settled_again<L: Ledger, C: Naming, R: Abort>(
+    rt: &R,
+    alloc: Global,
+    unsettled: Unsettled<L, C>,
+) -> Settled {
+    let Unsettled { fault, desk, root } = unsettled;
+    assert!(rt; fault == SettleFault::NoMemory, "a strange receipt");
+    assert!(rt; root.out() == 0, "a share is out");
+    match desk.settle(alloc, root) {
+        Ok(settled) => settled,
+        Err(_) => panic!(rt; "the day isn't settled"),
+    }
+}
