@@ -2,6 +2,7 @@
 
 PROGRAM := crates/forecourt/out/forecourt
 ROWS := crates/worked_rows/out/worked_rows
+DESK_ROWS := crates/desk_rows/out/desk_rows
 COSTS := crates/parts_cost/out/parts_cost
 LOAD := crates/desk_load/out/desk_load
 CRATES := $(patsubst crates/%/wrong-bodies,%,$(wildcard crates/*/wrong-bodies))
@@ -30,7 +31,7 @@ check:
 test:
 	rt ci
 	scripts/test-program $(PROGRAM)
-	scripts/test-rows $(ROWS)
+	scripts/test-rows $(ROWS) $(DESK_ROWS)
 	scripts/test-faults
 
 audit:
