@@ -2,6 +2,7 @@
 
 PROGRAM := crates/forecourt/out/forecourt
 ROWS := crates/worked_rows/out/worked_rows
+DESK_ROWS := crates/desk_rows/out/desk_rows
 COSTS := crates/parts_cost/out/parts_cost
 LOAD := crates/desk_load/out/desk_load
 ECHO := crates/loopback_echo/out/loopback_echo
@@ -33,7 +34,7 @@ test:
 	RT_JOBS=$$(scripts/lanes) rt ci
 	scripts/test-program $(PROGRAM)
 	scripts/test-server $(PROGRAM)
-	scripts/test-rows $(ROWS)
+	scripts/test-rows $(ROWS) $(DESK_ROWS)
 	scripts/test-faults
 
 audit:

@@ -1,10 +1,10 @@
 //! The site that a table runs, and its book.
 
 use crate::books::{apply_alone, apply_beside, audited, leave, open_book, print_changes};
-use crate::line::Line;
 use crate::running::{Replies, open_site, print_rows, replies_to};
 use crate::shown::{ensure_counted, print_point, print_sale, print_shift, print_totals};
 use anyhow::{bail, ensure};
+use row_words::Line;
 use site_base::{Actor, Event, FpNo, ShiftNo, SiteConfig, TillNo};
 use site_book::SiteBook;
 use site_core::Site;

@@ -2,17 +2,14 @@
 //! replies. Each paragraph of events is one run. docs/PROFILE.md has the grammar.
 #![tactic(auto)]
 
-mod asked;
 mod books;
-mod draft;
 mod kept;
-mod line;
 mod running;
 mod shown;
 mod table;
 
-use crate::line::Line;
 use crate::table::Table;
+use row_words::{Line, TableReader};
 use std::process::ExitCode;
 
 fn main(rt: HostRuntime) -> ExitCode {
@@ -28,10 +25,14 @@ fn main(rt: HostRuntime) -> ExitCode {
 /// Prints the table that standard input holds.
 fn printed(rt: &HostRuntime) -> anyhow::Result<()> {
     let alloc = rt.alloc();
-    let mut table = Table::new(alloc);
+    let mut reader = TableReader::new(alloc);
     for text in rt.lines(alloc) {
         let text = text?;
-        table.take(rt, Line::read(alloc, &text)?)?;
+        reader.take(Line::read(alloc, &text)?)?;
     }
-    table.end(rt)
+    let mut table = Table::new(alloc);
+    for step in reader.finish()? {
+        table.take(rt, &step)?;
+    }
+    Ok(())
 }
