@@ -59,7 +59,7 @@ impl Counter {
         let first = events.len().saturating_sub(last);
         for at in 0..events.len() {
             if let Some((actor, event)) = events.get(at) {
-                let told = submitted(rt, desk, share, *actor, *event)?;
+                let told = submitted(rt, desk, share, actor, event)?;
                 self.keep(rt, *actor, *event, told, at >= first)?;
             }
         }
@@ -122,13 +122,13 @@ fn submitted<L: Ledger, C: Naming>(
     rt: &(impl Eprint + Wait),
     desk: &Desk<L, C>,
     share: &mut Share<L, C>,
-    actor: Actor,
-    event: Event,
+    actor: &Actor,
+    event: &Event,
 ) -> anyhow::Result<Option<Placed>> {
-    let mut told = desk.submit(rt, share, actor, event);
+    let mut told = desk.submit(rt, share, *actor, *event);
     if told == Err(NoRow::NoMemory) {
         eprintln!(rt; "a growth was refused")?;
-        told = desk.submit(rt, share, actor, event);
+        told = desk.submit(rt, share, *actor, *event);
     }
     match told {
         Ok(placed) => Ok(Some(placed)),
