@@ -1,5 +1,5 @@
 -- How numbers are written: what `parse` reads of a text that is neither signed nor padded.
-use Rattle.std.proofs.Common.{◌≡◌, ◌≢◌, ℕ, zero, suc, ◌<◌, ◌≤◌, ◌^◌, ◌==◌, ◌||◌, Bool, true, false, List, [], ◌∷◌, ◌++◌, length, take, get_or, Result, Ok, Err, decimal, refl, sym, ap, subst, ◌∙◌, arith, lit<}
+use Rattle.std.proofs.Common.{◌≡◌, ◌≢◌, ℕ, zero, suc, ◌<◌, ◌≤◌, ◌^◌, ◌==◌, ◌||◌, true, false, List, [], ◌∷◌, ◌++◌, length, take, get_or, Ok, Err, decimal, refl, sym, ap, subst, ◌∙◌, arith, lit<}
 use Rattle.std.proofs.Math.Seq.{take-append_seam}
 use Rattle.std.proofs.lemmas.List.{append_cancel_left}
 use Rattle.std.proofs.lemmas.Bool.{eqb-false, eq-eqb, ne_eqb}
@@ -79,7 +79,7 @@ pub parsed_is_same : (bs text : List ℕ) (m most : ℕ) → most < 2 ^ 32 → t
 parsed_is_same bs text m most few same parsed n low is =
     let small : n < 2 ^ 64 = omega arith in
     let plain : without_leading_plus (decimal n) ≡ decimal n =
-        without_leading_plus_none (decimal n) (no_plus (decimal n) (decimal_plain n small)) in
+    without_leading_plus_none (decimal n) (no_plus (decimal n) (decimal_plain n small)) in
     let at : IsParsed (decimal n) m = subst (λ t. IsParsed t m) (same ∙ is) parsed in
     at.1 ∙ ap (digits_value 10) plain ∙ digits_value-decimal own n small
 

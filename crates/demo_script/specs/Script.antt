@@ -1,7 +1,7 @@
 -- What the lines of a script say, and which texts are scripts.
-use Rattle.std.specs.Prelude.{◌≡◌, ℕ, ◌+◌, ◌-◌, ◌<◌, ◌≤◌, true, ◌⊎◌, codes, decimal}
+use Rattle.std.specs.Prelude.{◌≡◌, ℕ, ◌-◌, ◌<◌, ◌≤◌, true, ◌⊎◌, codes, decimal}
 use Rattle.std.specs.Prelude.{List, [], ◌∷◌, ◌++◌, length, take, slice_index_or, option_to_list}
-use Rattle.std.specs.Prelude.{Option, None, Some, Result, Ok}
+use Rattle.std.specs.Prelude.{Option, None, Some, Ok}
 use Rattle.std.specs.Io.BufRead.{strip_last}
 use Rattle.hex.specs.Hex.{decode_of}
 use Rattle.site_base.specs.declared.actor.Actor.{Actor}

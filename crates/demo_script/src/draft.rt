@@ -166,22 +166,8 @@ impl Draft {
         ensures { OnOk result (self.new
             ≡ record self.old { current = with_step step self.old.current }) }
     {
-        match self.current.take() {
-            Some(Section::Dispenser {
-                point,
-                polls,
-                script,
-            }) => {
-                let mut steps = script.into_steps();
-                steps.push(step)?;
-                let script = Script::new(steps);
-                self.current = Some(Section::Dispenser {
-                    point,
-                    polls,
-                    script,
-                });
-            }
-            current => self.current = current,
+        if let Some(Section::Dispenser { script, .. }) = &mut self.current {
+            script.push(step)?;
         }
         Ok(())
     }
@@ -211,11 +197,11 @@ fn call_of(alloc: Global, text: &[u8]) -> Result<Option<Line>, NoMemory>
     ensures other { IfOk result (λ found.
         IfNone found ((line : Line) → ¬ IsWork None text.now line)) }
 {
-    match message_of(alloc, text)? {
-        Some(message) => match request_of(&message) {
-            Ok((actor, event)) => Ok(Some(Line::Call(actor, event))),
-            Err(_) => Ok(None),
-        },
-        None => Ok(None),
+    let Some(message) = message_of(alloc, text)? else {
+        return Ok(None);
+    };
+    match request_of(&message) {
+        Ok((actor, event)) => Ok(Some(Line::Call(actor, event))),
+        Err(_) => Ok(None),
     }
 }

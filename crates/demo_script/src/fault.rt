@@ -16,6 +16,8 @@ pub enum ScriptFault {
 }
 
 impl From<NoMemory> for ScriptFault {
+    ghost use Rattle.demo_script.specs.declared.fault.ScriptFault.{ScriptFault};
+
     ghost from_gives = { λ _ fault. fault ≡ ScriptFault.NoMemory };
 
     fn from(_: NoMemory) -> ScriptFault {

@@ -1,11 +1,11 @@
 //! A line that is one message.
 
-ghost use Rattle.std.specs.Prelude.{◌≡◌, [], ◌∷◌, None, IfOk, IfSome, IfNone};
+ghost use Rattle.std.specs.Prelude.{◌≡◌, ◌≢◌, [], ◌∷◌, None, IfOk, IfSome, IfNone};
 ghost use Rattle.app_message.specs.Stream.{stream, stream_of};
 ghost use Rattle.app_message.specs.Telegram.{Telegram};
 ghost use Rattle.demo_script.specs.Script.{IsMessageText};
 
-use app_message::{Decoder, Message};
+use app_message::{Decoder, Message, Messages};
 use forecourt_engines::line::{decode, put_without_spaces};
 use site_base::NoMemory;
 use std::alloc::Global;
@@ -20,10 +20,12 @@ pub fn message_of(alloc: Global, text: &[u8]) -> Result<Option<Message>, NoMemor
     let mut kept = Vec::new(alloc);
     put_without_spaces(text, &mut kept)?;
     let mut octets = Vec::new(alloc);
-    if decode(&kept, &mut octets)? {
-        whole_message(alloc, &octets)
-    } else {
-        Ok(None)
+    if !decode(&kept, &mut octets)? {
+        return Ok(None);
+    }
+    match whole_message(alloc, &octets)? {
+        Some(message) => Ok(Some(message)),
+        None => Ok(None),
     }
 }
 
@@ -35,14 +37,31 @@ fn whole_message(alloc: Global, octets: &[u8]) -> Result<Option<Message>, NoMemo
         ((m : Telegram) → ¬ (stream_of octets.now ≡ stream (m ∷ []) [] None))) }
 {
     let mut decoder = Decoder::new(alloc);
-    let fed = decoder.feed(octets)?;
-    if fed.fault.is_some() || decoder.held() > 0 {
-        return Ok(None);
+    match decoder.feed(octets) {
+        Ok(fed) => {
+            if fed.fault.is_some() {
+                return Ok(None);
+            }
+            if decoder.held() > 0 {
+                return Ok(None);
+            }
+            match only_one(fed.messages) {
+                Some(message) => Ok(Some(message)),
+                None => Ok(None),
+            }
+        }
+        Err(NoMemory) => Err(NoMemory),
     }
-    let mut messages = fed.messages.into_vec();
-    if messages.len() == 1 {
-        Ok(messages.pop())
-    } else {
-        Ok(None)
+}
+
+/// The message of a list that has just one.
+fn only_one(messages: Messages) -> Option<Message>
+    ensures found { IfSome result (λ m. messages ≡ m ∷ []) }
+    ensures other { IfNone result ((m : Telegram) → messages ≢ m ∷ []) }
+{
+    let mut messages = messages.into_vec();
+    if messages.len() != 1 {
+        return None;
     }
+    messages.pop()
 }

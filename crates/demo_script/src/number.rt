@@ -22,7 +22,11 @@ pub fn behind<'a>(word: &[u8], text: &'a [u8]) -> Option<&'a [u8]>
         return None;
     }
     let (front, rest) = text.split_at(word.len());
-    if is_word(front, word) { Some(rest) } else { None }
+    if is_word(front, word) {
+        Some(rest)
+    } else {
+        None
+    }
 }
 
 /// The number that these octets write, from 0 to this one, without needless zeros in front.
@@ -37,13 +41,7 @@ pub fn number_of(digits: &[u8], most: u32) -> Option<u32>
         return None;
     }
     match text.parse::<u32>() {
-        Ok(n) => {
-            if n <= most {
-                Some(n)
-            } else {
-                None
-            }
-        }
+        Ok(n) => { if n <= most { Some(n) } else { None } }
         Err(_) => None,
     }
 }

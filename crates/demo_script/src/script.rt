@@ -72,7 +72,10 @@ fn read_lines(draft: &mut Draft, text: &[u8]) -> Result<u64, ScriptFault>
     while !rest.is_empty() {
         let (line, others) = first_line(rest);
         number += 1;
-        read_line(draft, line, number)?;
+        match read_line(draft, line, number) {
+            Ok(()) => {}
+            Err(fault) => return Err(fault),
+        }
         rest = others;
     }
     Ok(number)
@@ -100,8 +103,9 @@ fn first_line(text: &[u8]) -> (&[u8], &[u8])
 {
     match memchr(b'\n', text) {
         Some(end) => {
-            let (line, others) = text.split_at(end);
-            (line, &others[1..])
+            let (line, _) = text.split_at(end);
+            let (_, others) = text.split_at(end + 1);
+            (line, others)
         }
         None => (text, &[]),
     }

@@ -5,13 +5,13 @@ ghost use Rattle.site_base.specs.declared.limits.TheConstants.{NOZZLES, POINTS};
 ghost use Rattle.site_base.specs.States.{state_number};
 ghost use Rattle.dispenser_sim.specs.declared.script.Step.{Step};
 ghost use Rattle.site_base.specs.declared.state.PointState.{PointState};
-ghost use Rattle.demo_script.specs.declared.limits.TheConstants.{GREATEST_PUMPED};
+ghost use Rattle.demo_script.specs.declared.limits.TheConstants.{GREATEST_POLLS, GREATEST_PUMPED};
 ghost use Rattle.demo_script.specs.declared.line.Line.{Line};
 ghost use Rattle.demo_script.specs.Script.{Begins, IsDispenserText, IsStepText};
 
 use crate::limits::{GREATEST_POLLS, GREATEST_PUMPED};
 use crate::line::Line;
-use crate::number::{behind, is_word, number_behind, number_of, parted};
+use crate::number::{behind, is_word, number_behind, parted};
 use dispenser_sim::Step;
 use site_base::{FpNo, Millilitres, NOZZLES, NozzleNo, POINTS, PointState};
 
@@ -109,13 +109,37 @@ fn dispenser_in(text: &[u8]) -> Option<(FpNo, u64)>
     ensures found { IfSome result (λ d. IsDispenserText text.now d.0 d.1) }
     ensures other { IfNone result ((p : ℕ) → (polls : ℕ) → ¬ IsDispenserText text.now p polls) }
 {
-    let numbers = behind(b"dispenser ", text)?;
-    let (first, last) = parted(numbers)?;
-    let p = number_of(first, u32::from(POINTS))?;
-    let polls = number_of(last, GREATEST_POLLS)?;
-    if polls == 0 {
+    let Some(numbers) = behind(b"dispenser ", text) else {
         return None;
-    }
-    let p = FpNo::new(p as u8)?;
-    Some((p, u64::from(polls)))
+    };
+    let Some((first, last)) = parted(numbers) else {
+        return None;
+    };
+    let Some(p) = point_of(first) else {
+        return None;
+    };
+    let Some(polls) = polls_of(last) else {
+        return None;
+    };
+    Some((p, polls))
+}
+
+/// The point of this number.
+fn point_of(digits: &[u8]) -> Option<FpNo>
+    ensures found { IfSome result (λ p. (digits.now ≡ decimal p) × (1 ≤ p) × (p ≤ POINTS)) }
+    ensures other { IfNone result ((p : ℕ) → 1 ≤ p → p ≤ POINTS → digits.now ≢ decimal p) }
+{
+    let p = number_behind(b"", digits, 1, u32::from(POINTS))?;
+    FpNo::new(p as u8)
+}
+
+/// How often a dispenser may look.
+fn polls_of(digits: &[u8]) -> Option<u64>
+    ensures found { IfSome result (λ polls.
+        (digits.now ≡ decimal polls) × (1 ≤ polls) × (polls ≤ GREATEST_POLLS)) }
+    ensures other { IfNone result ((polls : ℕ) → 1 ≤ polls → polls ≤ GREATEST_POLLS
+        → digits.now ≢ decimal polls) }
+{
+    let polls = number_behind(b"", digits, 1, GREATEST_POLLS)?;
+    Some(u64::from(polls))
 }

@@ -1,8 +1,8 @@
 //! Scripts: what a simulated dispenser is to do.
 
-ghost use Rattle.std.specs.Prelude.{◌≡◌};
+ghost use Rattle.std.specs.Prelude.{◌≡◌, [], ◌∷◌, ◌++◌, OnErr, OnOk};
 
-use site_base::{Millilitres, NozzleNo, PointState};
+use site_base::{Millilitres, NoMemory, NozzleNo, PointState};
 use std::marker::Model;
 
 /// One step of a script.
@@ -45,6 +45,15 @@ impl Script {
         Script { steps }
     }
 
+    /// Adds a step at the end.
+    pub fn push(&mut self, step: Step) -> Result<(), NoMemory>
+        ensures steps { OnOk result (self.new ≡ self.old ++ step ∷ []) }
+        ensures err { OnErr result (self.new ≡ self.old) }
+    {
+        self.steps.push(step)?;
+        Ok(())
+    }
+
     /// Its steps.
     pub fn steps(&self) -> &[Step]
         ensures { result.now ≡ self.now }
@@ -56,7 +65,6 @@ impl Script {
     pub fn into_steps(self) -> Vec<Step>
         ensures { result.items ≡ self }
     {
-        let Script { steps } = self;
-        steps
+        self.steps
     }
 }
