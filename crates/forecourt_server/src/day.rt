@@ -9,7 +9,7 @@ ghost use Rattle.forecourt_server.specs.Days.{IsSettledDay, listening_line, Tell
 use crate::fault::ServerFault;
 use crate::loopback::Loopback;
 use crate::plan::ServerPlan;
-use counter_desk::{Desk, Naming, OpenGate, Root, Settled};
+use counter_desk::{Desk, Naming, OpenGate, Root, SettleFault, Settled};
 use forecourt_engines::report::report;
 use site_base::{Counted, NoMemory, SiteConfig, write_whole};
 use std::alloc::Global;
@@ -70,21 +70,25 @@ fn day_of<L: Ledger + Send + Sync, C: Naming + Send + Sync, W: Write, R: Threads
     put_report(alloc, config, &settled, writer, turns)
 }
 
-/// Settles a desk whose server has ended. Where a share is out, it isn't settled.
-fn settle_all<L: Ledger, C: Naming, R: Wait>(
+/// Settles a desk whose workers have ended. Where a share is out it isn't settled, and the fault names the
+/// place behind the last row.
+pub fn settle_all<L: Ledger, C: Naming, R: Wait>(
     rt: &R,
     alloc: Global,
     desk: Desk<L, C>,
     root: Root<L, C>,
-) -> Result<Settled, ServerFault>
+) -> Result<Settled, SettleFault>
     ensures { IfOk result (λ settled. IsSettledDay C.config settled) }
 {
     if root.out() != 0 {
-        return Err(ServerFault::Unsettled(desk.snapshot(rt, alloc)?.rows));
+        return match desk.snapshot(rt, alloc) {
+            Ok(totals) => Err(SettleFault::StrangeReceipt(totals.rows)),
+            Err(NoMemory) => Err(SettleFault::NoMemory),
+        };
     }
     match desk.settle(alloc, root) {
         Ok(settled) => Ok(settled),
-        Err(unsettled) => Err(ServerFault::from(unsettled.fault)),
+        Err(unsettled) => Err(unsettled.fault),
     }
 }
 

@@ -10,7 +10,7 @@ mod fault;
 mod loopback;
 mod plan;
 
-pub use day::serve_day;
+pub use day::{serve_day, settle_all};
 pub use fault::ServerFault;
 pub use loopback::{Loopback, ReadHalf, WriteHalf};
 pub use plan::{OptionFault, ServerPlan};
