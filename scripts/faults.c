@@ -47,24 +47,33 @@ static int fails(const char *name, long *calls)
 static long growths, reads, file_reads, writes, taken;
 static int read_before, file_read_before, written_before;
 
+/* Is this the growth that is refused? The system says so, too. */
+static int refused(void)
+{
+    if (!fails("REFUSE_GROWTH", &growths))
+        return 0;
+    errno = ENOMEM;
+    return 1;
+}
+
 void *malloc(size_t size)
 {
-    return fails("REFUSE_GROWTH", &growths) ? NULL : __libc_malloc(size);
+    return refused() ? NULL : __libc_malloc(size);
 }
 
 void *calloc(size_t count, size_t size)
 {
-    return fails("REFUSE_GROWTH", &growths) ? NULL : __libc_calloc(count, size);
+    return refused() ? NULL : __libc_calloc(count, size);
 }
 
 void *realloc(void *old, size_t size)
 {
-    return fails("REFUSE_GROWTH", &growths) ? NULL : __libc_realloc(old, size);
+    return refused() ? NULL : __libc_realloc(old, size);
 }
 
 void *aligned_alloc(size_t alignment, size_t size)
 {
-    return fails("REFUSE_GROWTH", &growths) ? NULL : __libc_memalign(alignment, size);
+    return refused() ? NULL : __libc_memalign(alignment, size);
 }
 
 int posix_memalign(void **result, size_t alignment, size_t size)

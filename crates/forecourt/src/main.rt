@@ -1,5 +1,6 @@
 //! The forecourt site controller's program: its words, its files and its texts on standard error.
-//! What it does stands in `forecourt_engines` and `forecourt_server`, how a site file is read in `site_file`.
+//! What it does stands in `forecourt_engines` and `forecourt_server`, how a site file is read in
+//! `site_file`.
 #![tactic(auto)]
 
 mod command_line;

@@ -9,8 +9,8 @@ use std::process::ExitCode;
 use std::sync::Wait;
 use std::thread::Threads;
 
-/// Serves the sessions that these words ask for, and prints the report of them. Words that are wrong
-/// come before the site file, and its faults before the server's.
+/// Serves the sessions that these words ask for, and prints the report of the day. Wrong words come
+/// before the site file, and its faults before the server's.
 pub fn served<T: Threads + Wait + Sync>(
     rt: &HostRuntime,
     threads: &T,

@@ -23,9 +23,9 @@ use till_session::serve;
 /// How many shares a desk may give.
 const PARTS: u64 = 1 << 63;
 
-/// A day of a server on the site of this configuration, which listens already: it writes where, serves
-/// as many sessions as the plan says, each with so many turns, settles, and writes the report of what
-/// was settled. Each write has as many turns as a session.
+/// A day of a server on the site of this configuration, which listens already: it writes where,
+/// serves as many sessions as the plan says, each with so many turns, settles, and writes the report
+/// of what was settled. Each write has as many turns as a session.
 pub fn serve_day<W: Write, R: Threads + Wait + Sync>(
     rt: &R,
     alloc: Global,

@@ -19,8 +19,8 @@ pub enum ServerFault {
     /// Standard output took no more.
     #[error("fault {}", .0.number())]
     Write(WriteFault),
-    /// The day isn't settled: the receipt of this place is strange, or a share is out, and there are so
-    /// many rows.
+    /// The day isn't settled: the receipt of this place is strange, or a share is out, and there are
+    /// so many rows.
     #[error("unsettled 60 place {0}")]
     Unsettled(u64),
 }

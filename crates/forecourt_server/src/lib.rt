@@ -1,8 +1,9 @@
-//! The server of the forecourt program: a day of sessions over loopback, from the line that tells where
-//! it listens to the report of the day that is settled.
+//! The server of the forecourt program: a day of sessions over loopback, from the line that tells
+//! where it listens to the report of the day that is settled.
 //!
-//! `serve_day` listens on 127.0.0.1 alone, opens a desk, serves so many sessions by so many workers,
-//! settles the desk, and writes the report of what was settled: `specs/Days.antt` says what is told.
+//! A `Loopback` listens on 127.0.0.1 alone. `serve_day` opens a desk, serves so many sessions by so
+//! many workers, settles the desk, and writes the report of what was settled: `specs/Days.antt`
+//! says what is told.
 #![tactic(auto)]
 
 mod day;

@@ -62,7 +62,7 @@ impl Accept for Loopback {
 
     ghost failed = { λ l. l.failures };
 
-    /// The next connection. A socket that can't be told to hold nothing back is served all the same.
+    /// The next connection. A socket that can't be told to send at once is served all the same.
     fn accept(&mut self, alloc: Global) -> Result<(ReadHalf, WriteHalf), NoConnection> {
         match self.listener.accept() {
             Ok((stream, _peer)) => {

@@ -32,8 +32,8 @@ pub enum OptionFault {
 }
 
 impl ServerPlan {
-    /// The plan that these words tell, or the first of them that isn't a decimal number in its range:
-    /// the port from 0 (a free one) to 65535, workers from 1 to 16, sessions from 1 to 10,000.
+    /// The plan that these words tell, or the first of them that isn't a decimal number in its
+    /// range: the port from 0 (a free one) to 65535, workers from 1 to 16, sessions from 1 to 10,000.
     pub fn read(port: &str, workers: &str, sessions: &str) -> Result<ServerPlan, OptionFault> {
         let port = number_in(port, 0, u64::from(u16::MAX)).ok_or(OptionFault::Port)?;
         let workers = number_in(workers, 1, WORKERS as u64).ok_or(OptionFault::Workers)?;

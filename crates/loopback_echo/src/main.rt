@@ -1,6 +1,7 @@
 //! An echo over loopback: what each connection sends is sent back. `loopback_echo WORKERS SESSIONS`
-//! listens on a free port of 127.0.0.1, prints it, and serves so many sessions by each of so many workers.
-//! Without words it ends at once. scripts/bench-server measures the server of sessions beside it.
+//! listens on a free port of 127.0.0.1, prints it, and serves so many sessions by each of so many
+//! workers. Without words it ends at once. scripts/bench-server measures the server of sessions
+//! beside it.
 #![tactic(auto)]
 
 use anyhow::Context;

@@ -23,13 +23,19 @@ pub struct DeskCounter<'a, L: Ledger, C: Naming, G: Gate, R: Wait> {
 }
 
 impl<'a, L: Ledger, C: Naming, G: Gate, R: Wait> DeskCounter<'a, L, C, G, R> {
-    /// A counter of this desk, through this share, before this gate.
+    /// A counter of this desk, through this share, before this gate: its record is what the share's
+    /// receipts tell, and it owes what the share owes.
     pub fn new(
         rt: &'a R,
         desk: &'a Desk<L, C>,
         share: &'a mut Share<L, C>,
         gate: &'a G,
-    ) -> DeskCounter<'a, L, C, G, R> {
+    ) -> DeskCounter<'a, L, C, G, R>
+        ensures rows { ⟦<DeskCounter<'a, L, C, G, R> as Counter>⟧.rows result
+            ≡ map receipted_row share.old.receipts }
+        ensures owes { (t : ℕ) → ⟦<DeskCounter<'a, L, C, G, R> as Counter>⟧.owes result t
+            ≡ is_owed_by share.old t }
+    {
         DeskCounter {
             rt,
             desk,
