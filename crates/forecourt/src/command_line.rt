@@ -38,6 +38,18 @@ pub fn command<'a>(alloc: Global) -> Result<Command<'a>, Error> {
             "sessions",
             "How many sessions are served in all, from 1 to 10000",
         ))?;
+    let script = Arg::new(alloc, "SCRIPT")
+        .help("The script: a setup, and the sections of tills and dispensers")
+        .required(true);
+    let loopback = Arg::new(alloc, "loopback")
+        .long("loopback")
+        .help("The tills' sessions run over sockets, on 127.0.0.1")
+        .action(ArgAction::SetTrue);
+    let demo = Command::new(alloc, "demo")
+        .about("Runs a script, settles, and prints the report of the day")
+        .arg(file(alloc))?
+        .arg(script)?
+        .arg(loopback)?;
     let explain = Command::new(alloc, "explain").about(
         "Prints the messages of standard input in words, requests and replies",
     );
@@ -52,6 +64,7 @@ pub fn command<'a>(alloc: Global) -> Result<Command<'a>, Error> {
             .subcommand(replay)?
             .subcommand(report)?
             .subcommand(serve)?
+            .subcommand(demo)?
             .subcommand(explain)?,
     )
 }

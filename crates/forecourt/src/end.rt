@@ -1,7 +1,7 @@
 //! How the program ends: its exit status, and its text on standard error.
 
 use forecourt_engines::ReplayFault;
-use forecourt_server::ServerFault;
+use forecourt_server::DayFault;
 use std::io;
 use std::process::ExitCode;
 
@@ -20,7 +20,7 @@ pub fn ended(rt: &impl Eprint, fault: Option<ReplayFault>) -> ExitCode {
 }
 
 /// Tells why a server's day ended without its report, if it did.
-pub fn day_ended(rt: &impl Eprint, end: Result<(), ServerFault>) -> ExitCode {
+pub fn day_ended(rt: &impl Eprint, end: Result<(), DayFault>) -> ExitCode {
     match end {
         Ok(()) => ExitCode::SUCCESS,
         Err(fault) => told(eprintln!(rt; "{fault}"), fault.exit_status()),

@@ -1,15 +1,17 @@
 //! The forecourt site controller's program: its words, its files and its texts on standard error.
-//! What it does stands in `forecourt_engines` and `forecourt_server`, how a site file is read in
-//! `site_file`.
+//! What it does stands in `forecourt_engines`, `forecourt_server` and `forecourt_demo`, how a site file
+//! is read in `site_file`, how a script is in `demo_script`.
 #![tactic(auto)]
 
 mod command_line;
+mod demos;
 mod end;
 mod explaining;
 mod files;
 mod serving;
 
 use crate::command_line::{answered, command};
+use crate::demos::shown;
 use crate::end::{COMMAND_LINE, ended, failed, told, unwritten};
 use crate::explaining::explained;
 use crate::files::site_of;
@@ -25,7 +27,7 @@ use std::process::ExitCode;
 use std::sync::Wait;
 use std::thread::Threads;
 
-/// The read calls and interrupted write calls that a replay, or a session of a server, may make.
+/// The read calls and interrupted write calls that a replay, or a session, may make.
 const TURNS: u64 = 1_000_000_000;
 
 fn main(rt: HostRuntime) -> ExitCode {
@@ -49,7 +51,7 @@ fn words(rt: &HostRuntime) -> Result<Vec<String>, ExitCode> {
     }
 }
 
-/// What these words ask for. Only a server starts `threads`.
+/// What these words ask for. Only a server and a demo start `threads`.
 fn asked<T: Threads + Wait + Sync>(rt: &HostRuntime, threads: &T, words: &[String]) -> ExitCode {
     let built = match command(rt.alloc()) {
         Ok(built) => built,
@@ -81,6 +83,7 @@ fn done<T: Threads + Wait + Sync>(
             Err(status) => status,
         },
         Some(("serve", words)) => served(rt, threads, words, TURNS),
+        Some(("demo", words)) => shown(rt, threads, words, TURNS),
         Some(("explain", _)) => explained(rt),
         _ => replayed_here(rt),
     }

@@ -3,7 +3,7 @@
 use crate::end::{COMMAND_LINE, day_ended, told};
 use crate::files::site_of;
 use clap::ArgMatches;
-use forecourt_server::{Loopback, ServerFault, ServerPlan, serve_day};
+use forecourt_server::{Loopback, DayFault, ServerPlan, serve_day};
 use site_base::{Counted, SiteConfig};
 use std::process::ExitCode;
 use std::sync::Wait;
@@ -40,7 +40,7 @@ fn day<T: Threads + Wait + Sync>(
     config: &SiteConfig,
     plan: ServerPlan,
     turns: u64,
-) -> Result<(), ServerFault> {
+) -> Result<(), DayFault> {
     let listener = Loopback::bind(rt, plan.port())?;
     let mut writer = Counted::new(rt.stdout());
     serve_day(

@@ -5,9 +5,7 @@
 
 mod client;
 mod day;
-mod fault;
 mod loopback;
 mod sections;
 
-pub use day::demo;
-pub use fault::DemoFault;
+pub use day::{DemoPlan, demo, demo_day};

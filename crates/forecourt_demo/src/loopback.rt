@@ -3,12 +3,11 @@
 ghost use Rattle.std.specs.Prelude.{◌≤◌, ◌+◌, vec_capacity, vec_len};
 
 use crate::client::send_all;
-use crate::fault::DemoFault;
 use crate::sections::{Anything, Worker, join_all, room_for, run_over_memory, work_at};
 use app_message::Messages;
 use counter_desk::{Desk, Naming, OpenGate, Root, WORKERS};
 use demo_script::Section;
-use forecourt_server::Loopback;
+use forecourt_server::{DayFault, Loopback};
 use site_base::SiteConfig;
 use std::alloc::Global;
 use std::net::{Ipv4Addr, Net, SocketAddr, SocketAddrV4, TcpListener, TcpStream};
@@ -29,10 +28,12 @@ enum Part<'a> {
 /// sessions are served on a free port of 127.0.0.1, to clients that are connected before the first is
 /// served.
 pub fn run_over_loopback<
+    N: Net<Listener = TcpListener, Stream = TcpStream>,
     L: Ledger + Send + Sync,
     C: Naming + Send + Sync,
-    R: Threads + Wait + Net<Listener = TcpListener, Stream = TcpStream> + Sync,
+    R: Threads + Wait + Sync,
 >(
+    net: &N,
     rt: &R,
     alloc: Global,
     config: &SiteConfig,
@@ -40,19 +41,19 @@ pub fn run_over_loopback<
     root: &Mutex<Root<L, C>>,
     sections: &[Section],
     turns: u64,
-) -> Result<(), DemoFault> {
+) -> Result<(), DayFault> {
     let tills = tills_in(sections);
     if tills == 0 {
         return run_over_memory(rt, alloc, config, desk, root, sections, turns);
     }
-    let Ok(listener) = Loopback::bind(rt, 0) else {
-        return Err(DemoFault::NoConnection);
+    let Ok(listener) = Loopback::bind(net, 0) else {
+        return Err(DayFault::NoConnection);
     };
-    let parts = parts_of(rt, alloc, listener.port(), sections)?;
+    let parts = parts_of(net, alloc, listener.port(), sections)?;
     thread::scope(
         thread::scope_env(),
         rt,
-        |scope| -> Result<(), DemoFault>
+        |scope| -> Result<(), DayFault>
             requires { 1 ≤ tills }
         {
             let mut workers = room_for(alloc, parts.len())?;
@@ -84,35 +85,35 @@ fn tills_in(sections: &[Section]) -> usize {
 }
 
 /// The part of each section, with a connection for each till's.
-fn parts_of<'a, R: Net<Listener = TcpListener, Stream = TcpStream>>(
-    rt: &R,
+fn parts_of<'a, N: Net<Listener = TcpListener, Stream = TcpStream>>(
+    net: &N,
     alloc: Global,
     port: u16,
     sections: &'a [Section],
-) -> Result<Vec<Part<'a>>, DemoFault> {
+) -> Result<Vec<Part<'a>>, DayFault> {
     let mut parts = room_for(alloc, sections.len())?;
     for section in sections {
-        parts.push_reserved(part_of(rt, port, section)?);
+        parts.push_reserved(part_of(net, port, section)?);
     }
     Ok(parts)
 }
 
 /// The part of a section.
-fn part_of<'a, R: Net<Listener = TcpListener, Stream = TcpStream>>(
-    rt: &R,
+fn part_of<'a, N: Net<Listener = TcpListener, Stream = TcpStream>>(
+    net: &N,
     port: u16,
     section: &'a Section,
-) -> Result<Part<'a>, DemoFault> {
+) -> Result<Part<'a>, DayFault> {
     let Section::Till(messages) = section else {
         return Ok(Part::Section(section));
     };
     let there = SocketAddr::V4(SocketAddrV4::new(Ipv4Addr::LOCALHOST, port));
-    match TcpStream::connect(rt, there) {
+    match TcpStream::connect(net, there) {
         Ok(stream) => {
             let _ = stream.set_nodelay(true);
             Ok(Part::Client(messages, stream))
         }
-        Err(_) => Err(DemoFault::NoConnection),
+        Err(_) => Err(DayFault::NoConnection),
     }
 }
 
@@ -128,7 +129,7 @@ fn start_all<'s, E, L: Ledger + Send + Sync, C: Naming + Send + Sync, R: Threads
     parts: Vec<Part<'s>>,
     turns: u64,
     workers: &mut Vec<Worker>,
-) -> Result<(), DemoFault>
+) -> Result<(), DayFault>
     requires { vec_len workers.old + vec_len parts ≤ vec_capacity workers.old }
 {
     let mut started = Ok(());
@@ -136,7 +137,7 @@ fn start_all<'s, E, L: Ledger + Send + Sync, C: Naming + Send + Sync, R: Threads
         let job = move || { do_part(rt, alloc, config, desk, root, part, turns) };
         match scope.spawn_with(Anything, job) {
             Ok(handle) => workers.push_reserved(handle),
-            Err(_) => started = Err(DemoFault::NoWorker),
+            Err(_) => started = Err(DayFault::NoWorker),
         }
     }
     started
@@ -167,7 +168,7 @@ fn serve_tills<L: Ledger + Send + Sync, C: Naming + Send + Sync, R: Threads + Wa
     root: &Mutex<Root<L, C>>,
     tills: usize,
     turns: u64,
-) -> Result<(), DemoFault>
+) -> Result<(), DayFault>
     requires { 1 ≤ tills }
 {
     let (workers, sessions) = (tills.min(WORKERS), tills.min(SESSIONS));
@@ -179,15 +180,15 @@ fn serve_tills<L: Ledger + Send + Sync, C: Naming + Send + Sync, R: Threads + Wa
 }
 
 /// `NoWorker` where not every session was drawn, `NoConnection` where one had no connection.
-fn judge(ends: &[SessionEnd], sessions: usize) -> Result<(), DemoFault> {
+fn judge(ends: &[SessionEnd], sessions: usize) -> Result<(), DayFault> {
     if ends.len() < sessions {
-        return Err(DemoFault::NoWorker);
+        return Err(DayFault::NoWorker);
     }
     if ends
         .iter()
         .any(|end| end.fault == Some(SessionFault::Accept))
     {
-        return Err(DemoFault::NoConnection);
+        return Err(DayFault::NoConnection);
     }
     Ok(())
 }

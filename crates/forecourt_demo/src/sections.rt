@@ -2,11 +2,11 @@
 
 ghost use Rattle.std.specs.Prelude.{◌≡◌, ◌+◌, ◌≤◌, length, vec_capacity, vec_len, IfOk};
 
-use crate::fault::DemoFault;
 use app_message::{Messages, encode_into};
 use counter_desk::{Desk, Naming, OpenGate, Root, Share};
 use demo_script::Section;
 use dispenser_sim::{Dispenser, DispenserEnd};
+use forecourt_server::DayFault;
 use site_base::{Counted, NoMemory, SiteConfig};
 use std::alloc::Global;
 use std::sync::ledger::Ledger;
@@ -35,8 +35,8 @@ pub fn run_over_memory<L: Ledger + Send + Sync, C: Naming + Send + Sync, R: Thre
     root: &Mutex<Root<L, C>>,
     sections: &[Section],
     turns: u64,
-) -> Result<(), DemoFault> {
-    thread::scope(thread::scope_env(), rt, |scope| -> Result<(), DemoFault> {
+) -> Result<(), DayFault> {
+    thread::scope(thread::scope_env(), rt, |scope| -> Result<(), DayFault> {
         let mut workers = room_for(alloc, sections.len())?;
         let started = start_all(
             scope,
@@ -66,7 +66,7 @@ fn start_all<'s, E, L: Ledger + Send + Sync, C: Naming + Send + Sync, R: Threads
     sections: &'s [Section],
     turns: u64,
     workers: &mut Vec<Worker>,
-) -> Result<(), DemoFault>
+) -> Result<(), DayFault>
     requires { vec_len workers.old + length sections.now ≤ vec_capacity workers.old }
 {
     let mut started = Ok(());
@@ -74,7 +74,7 @@ fn start_all<'s, E, L: Ledger + Send + Sync, C: Naming + Send + Sync, R: Threads
         let job = move || { work_at(rt, alloc, config, desk, root, section, turns) };
         match scope.spawn_with(Anything, job) {
             Ok(handle) => workers.push_reserved(handle),
-            Err(_) => started = Err(DemoFault::NoWorker),
+            Err(_) => started = Err(DayFault::NoWorker),
         }
     }
     started

@@ -8,8 +8,8 @@ use Rattle.counter_desk.specs.declared.settlement.SettleFault.{SettleFault}
 use Rattle.counter_desk.specs.declared.settlement.SettleFault.TheVariants as settle
 use Rattle.counter_desk.specs.Settlement.{Settles}
 use Rattle.forecourt_engines.specs.Report.{report_text}
-use Rattle.forecourt_server.specs.declared.fault.ServerFault.{ServerFault}
-use Rattle.forecourt_server.specs.declared.fault.ServerFault.TheVariants.{NoMemory, Unsettled}
+use Rattle.forecourt_server.specs.declared.fault.DayFault.{DayFault}
+use Rattle.forecourt_server.specs.declared.fault.DayFault.TheVariants.{NoMemory, Unsettled}
 
 -- where the server listens
 abbrev pub listening_line : ℕ → List ℕ
@@ -28,12 +28,12 @@ pub record TellsDay (config : Configured) (holds holds' : Option (List ℕ)) : T
       (listening_line port ++ report_text config settled.book settled.shares)
 
 -- why a day isn't settled, as the server tells it
-abbrev pub unsettled_by : SettleFault → ServerFault
+abbrev pub unsettled_by : SettleFault → DayFault
 unsettled_by (settle.StrangeReceipt place) = Unsettled place
 unsettled_by settle.NoMemory = NoMemory
 
 -- 3 where the day isn't settled, 4 for want of memory, else 1
-abbrev pub day_status : ServerFault → ℕ
+abbrev pub day_status : DayFault → ℕ
 day_status (Unsettled place) = 3
 day_status NoMemory = 4
 day_status fault = 1

@@ -6,7 +6,7 @@ ghost use Rattle.site_base.specs.Counted.{device_of};
 ghost use Rattle.forecourt_engines.specs.Report.{report_text};
 ghost use Rattle.forecourt_server.specs.Days.{IsSettledDay, listening_line, TellsDay};
 
-use crate::fault::ServerFault;
+use crate::fault::DayFault;
 use crate::loopback::Loopback;
 use crate::plan::ServerPlan;
 use counter_desk::{Desk, Naming, OpenGate, Root, SettleFault, Settled};
@@ -34,7 +34,7 @@ pub fn serve_day<W: Write, R: Threads + Wait + Sync>(
     plan: ServerPlan,
     turns: u64,
     writer: &mut Counted<W>,
-) -> Result<(), ServerFault>
+) -> Result<(), DayFault>
     ensures { OnOk result (TellsDay config.now
         (W.contents (device_of writer.old)) (W.contents (device_of writer.new))) }
 {
@@ -52,7 +52,7 @@ fn day_of<L: Ledger + Send + Sync, C: Naming + Send + Sync, W: Write, R: Threads
     plan: ServerPlan,
     turns: u64,
     writer: &mut Counted<W>,
-) -> Result<(), ServerFault>
+) -> Result<(), DayFault>
     requires ledger { (blank.name ≡ L.name) × (blank.parts ≡ L.parts) × (blank.parts ≡ 2 ^ 63) }
     requires config { config.now ≡ C.config }
     ensures { OnOk result (TellsDay config.now
@@ -98,7 +98,7 @@ fn put_listening<W: Write>(
     port: u16,
     writer: &mut Counted<W>,
     mut turns: u64,
-) -> Result<(), ServerFault>
+) -> Result<(), DayFault>
     ensures { OnOk result (Appends (W.contents (device_of writer.old))
         (W.contents (device_of writer.new)) (listening_line port)) }
 {
@@ -114,14 +114,14 @@ fn line_of(alloc: Global, port: u16) -> Result<String, NoMemory>
     Ok(format!(in alloc; "listening 127.0.0.1:{port}\n")?)
 }
 
-/// Writes the report of a day that is settled.
-fn put_report<W: Write>(
+/// Writes the report of a day that is settled, in so many turns.
+pub fn put_report<W: Write>(
     alloc: Global,
     config: &SiteConfig,
     settled: &Settled,
     writer: &mut Counted<W>,
     mut turns: u64,
-) -> Result<(), ServerFault>
+) -> Result<(), DayFault>
     requires { length settled.now.book.products.items ≡ length config.now.products }
     ensures { OnOk result (Appends (W.contents (device_of writer.old))
         (W.contents (device_of writer.new))

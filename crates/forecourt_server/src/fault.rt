@@ -1,4 +1,4 @@
-//! Why a server's day ends without its report.
+//! Why a day ends without its report.
 
 ghost use Rattle.std.specs.Prelude.{◌≡◌};
 ghost use Rattle.forecourt_server.specs.Days.{day_status};
@@ -7,15 +7,19 @@ use counter_desk::SettleFault;
 use site_base::{NoMemory, WriteFault};
 use thiserror::Error;
 
-/// Why a server's day ends without its report. A session's fault ends that session alone.
+/// Why a day, of a server or of a demo, ends without its report. A session's fault ends that session
+/// alone, and so does a worker's its own work.
 #[derive(Clone, Copy, Debug, PartialEq, Eq, Error)]
-pub enum ServerFault {
+pub enum DayFault {
     /// A growth was refused.
     #[error("fault 31")]
     NoMemory,
-    /// It can't listen.
+    /// It can't listen, or a connection couldn't be made.
     #[error("fault 63")]
-    Listen,
+    NoConnection,
+    /// A worker of a demo couldn't be started.
+    #[error("fault 64")]
+    NoWorker,
     /// Standard output took no more.
     #[error("fault {}", .0.number())]
     Write(WriteFault),
@@ -25,53 +29,54 @@ pub enum ServerFault {
     Unsettled(u64),
 }
 
-impl ServerFault {
+impl DayFault {
     /// The exit status of a program that ends with this fault: 3 where the day isn't settled, 4 for
     /// want of memory, else 1.
     pub fn exit_status(self) -> u8
         ensures { result ≡ day_status self }
     {
         match self {
-            ServerFault::NoMemory => 4,
-            ServerFault::Unsettled(_) => 3,
-            ServerFault::Listen => 1,
-            ServerFault::Write(_) => 1,
+            DayFault::NoMemory => 4,
+            DayFault::Unsettled(_) => 3,
+            DayFault::NoConnection => 1,
+            DayFault::NoWorker => 1,
+            DayFault::Write(_) => 1,
         }
     }
 }
 
-impl From<NoMemory> for ServerFault {
+impl From<NoMemory> for DayFault {
     ghost use Rattle.std.specs.Prelude.{◌≡◌};
-    ghost use Rattle.forecourt_server.specs.declared.fault.ServerFault.{ServerFault};
+    ghost use Rattle.forecourt_server.specs.declared.fault.DayFault.{DayFault};
 
-    ghost from_gives = { λ _ e. e ≡ ServerFault.NoMemory };
+    ghost from_gives = { λ _ e. e ≡ DayFault.NoMemory };
 
-    fn from(_e: NoMemory) -> ServerFault {
-        ServerFault::NoMemory
+    fn from(_e: NoMemory) -> DayFault {
+        DayFault::NoMemory
     }
 }
 
-impl From<WriteFault> for ServerFault {
+impl From<WriteFault> for DayFault {
     ghost use Rattle.std.specs.Prelude.{◌≡◌};
-    ghost use Rattle.forecourt_server.specs.declared.fault.ServerFault.{ServerFault};
+    ghost use Rattle.forecourt_server.specs.declared.fault.DayFault.{DayFault};
 
-    ghost from_gives = { λ f e. e ≡ ServerFault.Write f };
+    ghost from_gives = { λ f e. e ≡ DayFault.Write f };
 
-    fn from(fault: WriteFault) -> ServerFault {
-        ServerFault::Write(fault)
+    fn from(fault: WriteFault) -> DayFault {
+        DayFault::Write(fault)
     }
 }
 
-impl From<SettleFault> for ServerFault {
+impl From<SettleFault> for DayFault {
     ghost use Rattle.std.specs.Prelude.{◌≡◌};
     ghost use Rattle.forecourt_server.specs.Days.{unsettled_by};
 
     ghost from_gives = { λ f e. e ≡ unsettled_by f };
 
-    fn from(fault: SettleFault) -> ServerFault {
+    fn from(fault: SettleFault) -> DayFault {
         match fault {
-            SettleFault::StrangeReceipt(place) => ServerFault::Unsettled(place),
-            SettleFault::NoMemory => ServerFault::NoMemory,
+            SettleFault::StrangeReceipt(place) => DayFault::Unsettled(place),
+            SettleFault::NoMemory => DayFault::NoMemory,
         }
     }
 }

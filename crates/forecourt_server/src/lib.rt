@@ -11,7 +11,7 @@ mod fault;
 mod loopback;
 mod plan;
 
-pub use day::{serve_day, settle_all};
-pub use fault::ServerFault;
+pub use day::{put_report, serve_day, settle_all};
+pub use fault::DayFault;
 pub use loopback::{Loopback, ReadHalf, WriteHalf};
 pub use plan::{OptionFault, ServerPlan};

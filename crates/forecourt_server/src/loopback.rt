@@ -2,7 +2,7 @@
 
 ghost use Rattle.std.specs.Prelude.{◌≡◌, IfErr, IfOk};
 
-use crate::fault::ServerFault;
+use crate::fault::DayFault;
 use std::alloc::Global;
 use std::io::{self, Read, Write};
 use std::net::{Ipv4Addr, Net, SocketAddr, SocketAddrV4, TcpListener, TcpStream};
@@ -19,11 +19,11 @@ pub struct Loopback {
 }
 
 impl Loopback {
-    /// Listens on this port of 127.0.0.1, on a free one where it is 0. `Listen` where that can't be.
+    /// Listens on this port of 127.0.0.1, on a free one where it is 0. `NoConnection` where that can't be.
     pub fn bind<R: Net<Listener = TcpListener, Stream = TcpStream>>(
         rt: &R,
         port: u16,
-    ) -> Result<Loopback, ServerFault>
+    ) -> Result<Loopback, DayFault>
         ensures { IfOk result (λ l. ⟦<Loopback as Accept>⟧.failed l ≡ 0) }
     {
         match listen(rt, port) {
@@ -32,7 +32,7 @@ impl Loopback {
                 port,
                 failures: 0,
             }),
-            Err(_) => Err(ServerFault::Listen),
+            Err(_) => Err(DayFault::NoConnection),
         }
     }
 

@@ -1,0 +1,17 @@
+-- What a demo tells, from its one write.
+use Rattle.std.proofs.Common.{ℕ, List, Option, Result, Ok, Err, OnOk}
+use Rattle.std.specs.Io.KnownBytes.{Appends}
+use Rattle.site_base.specs.Configured.{Configured}
+use Rattle.counter_desk.specs.declared.settlement.Settled.{Settled}
+use Rattle.forecourt_engines.specs.Report.{report_text}
+use Rattle.forecourt_server.specs.Days.{IsSettledDay}
+use Rattle.forecourt_demo.specs.Demos.{TellsReport}
+
+-- if it ended well, the report of a day that is settled
+pub tells_report : {X E : Type 0} (r : Result X E) (config : Configured) (u v : Option (List ℕ))
+    (settled : Settled) → IsSettledDay config settled
+    → OnOk r (Appends u v (report_text config settled.book settled.shares))
+    → OnOk r (TellsReport config u v)
+tells_report (Ok x) config u v settled adds_up report =
+    record { settled = settled; adds_up = adds_up; told = report }
+tells_report (Err e) config u v settled adds_up report = report
