@@ -34,6 +34,7 @@ test:
 	RT_JOBS=$$(scripts/lanes) rt ci
 	scripts/test-program $(PROGRAM)
 	scripts/test-server $(PROGRAM)
+	scripts/test-demos $(PROGRAM)
 	scripts/test-rows $(ROWS) $(DESK_ROWS)
 	scripts/test-faults
 
