@@ -41,7 +41,7 @@ class Till:
 
 
 def first_sale(till, pump):
-    """The address of the first transaction of the point that isn't locked or cleared."""
+    """The address of the point's first transaction that is payable, or of the one that isn't there yet."""
     for number in range(1, 10000):
         sale = pump + bytes([OPEN_SHIFT]) + bytes.fromhex(f"{number:04d}")
         if till.ask(READ, sale).get(STATUS, PAYABLE) == PAYABLE:

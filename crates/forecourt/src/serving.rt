@@ -41,7 +41,7 @@ fn day<T: Threads + Wait + Sync>(
     plan: ServerPlan,
     turns: u64,
 ) -> Result<(), DayFault> {
-    let listener = Loopback::bind(rt, plan.port())?;
+    let listener = Loopback::bind(rt, plan.port)?;
     let mut writer = Counted::new(rt.stdout());
     serve_day(
         threads,

@@ -61,7 +61,11 @@ fn day_of<L: Ledger + Send + Sync, C: Naming + Send + Sync, W: Write, R: Threads
     let (desk, root) = Desk::<L, C>::try_open(alloc, blank, config)?;
     put_listening(alloc, listener.port(), writer, turns)?;
     let root = Mutex::new(root);
-    let (workers, sessions) = (plan.workers(), plan.sessions());
+    let ServerPlan {
+        workers,
+        sessions,
+        ..
+    } = plan;
     let gate = OpenGate;
     serve(
         rt, alloc, listener, &desk, &root, &gate, workers, sessions, turns,

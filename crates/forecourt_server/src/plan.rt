@@ -8,12 +8,16 @@ use counter_desk::WORKERS;
 use thiserror::Error;
 use till_session::SESSIONS;
 
-/// The port on which a server listens, and how many workers serve how many sessions.
+/// The port on which a server listens, and how many workers serve how many sessions, within their
+/// limits.
 #[derive(Clone, Copy, Debug, PartialEq, Eq)]
 pub struct ServerPlan {
-    port: u16,
-    workers: usize,
-    sessions: usize,
+    /// The port, 0 for a free one.
+    pub port: u16,
+    /// How many workers serve side by side.
+    pub workers: usize,
+    /// How many sessions are served in all.
+    pub sessions: usize,
     ghost some_workers: { 1 ≤ workers },
     ghost few_workers: { workers ≤ WORKERS },
     ghost some_sessions: { 1 ≤ sessions },
@@ -43,27 +47,6 @@ impl ServerPlan {
             workers: workers as usize,
             sessions: sessions as usize,
         })
-    }
-
-    /// The port, 0 for a free one.
-    pub fn port(self) -> u16 {
-        self.port
-    }
-
-    /// How many workers serve side by side, from 1 to 16.
-    pub fn workers(self) -> usize
-        ensures some { 1 ≤ result }
-        ensures few { result ≤ WORKERS }
-    {
-        self.workers
-    }
-
-    /// How many sessions are served, from 1 to 10,000.
-    pub fn sessions(self) -> usize
-        ensures some { 1 ≤ result }
-        ensures few { result ≤ SESSIONS }
-    {
-        self.sessions
     }
 }
 
