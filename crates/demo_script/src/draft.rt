@@ -71,10 +71,12 @@ impl Draft {
         if skips(text) {
             return Ok(Some(Line::Skipped));
         }
-        if self.has_room() {
-            if let Some(line) = section_begun(text) {
-                return Ok(Some(line));
-            }
+        if let Some(line) = section_begun(text) {
+            return if self.has_room() {
+                Ok(Some(line))
+            } else {
+                Ok(None)
+            };
         }
         self.work_of(text)
     }
