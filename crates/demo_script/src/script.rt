@@ -49,7 +49,8 @@ impl DemoScript {
 /// empty text. `NoMemory` comes where a growth is refused.
 pub fn read_script(alloc: Global, text: &[u8]) -> Result<DemoScript, ScriptFault>
     ensures script { IfOk result (λ demo. IsScript text.now demo) }
-    ensures one { IfOk result (λ demo. (other : DemoFacts) → IsScript text.now other → other ≡ demo) }
+    ensures one { IfOk result (λ demo.
+        (other : DemoFacts) → IsScript text.now other → other ≡ demo) }
     ensures refused { IfErr result (λ fault. IsRefused text.now fault) }
     ensures none { IfErr result (λ fault. fault ≢ ScriptFault.NoMemory
         → (other : DemoFacts) → ¬ IsScript text.now other) }

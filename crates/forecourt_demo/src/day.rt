@@ -15,9 +15,9 @@ use std::sync::{Mutex, Wait};
 use std::thread::Threads;
 
 /// Runs a script on the opening site of a configuration, and settles. One worker makes the calls of
-/// the setup and signs its tills off. Then each section has a worker and a share of its own, all side
-/// by side: a till's messages are the input of a session, and a dispenser takes its steps. A worker
-/// that ends early doesn't end the demo.
+/// the setup and signs its tills off. Then each section has a worker and a share of its own, all
+/// side by side: a till's messages are the input of a session, and a dispenser takes its steps. A
+/// worker that ends early doesn't end the demo.
 pub fn demo<R: Threads + Wait + Sync>(
     rt: &R,
     alloc: Global,

@@ -1,4 +1,5 @@
-//! Demos: the script of a day is run at a desk, by a worker for each section, and the day is settled.
+//! Demos: the script of a day is run at a desk, by a worker for each section, and the day is
+//! settled.
 #![tactic(auto)]
 
 mod day;

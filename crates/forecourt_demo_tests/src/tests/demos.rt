@@ -69,8 +69,8 @@ fn side_by_side(rt: HostRuntime) -> Result<(), Fail> {
     Ok(())
 }
 
-/// Fifteen sections, each with a share beside that of the setup. The setup has six rows and its till's
-/// sign-off; five points go offline, and ten tills sign on and off.
+/// Fifteen sections, each with a share beside that of the setup. The setup has six rows and its
+/// till's sign-off; five points go offline, and ten tills sign on and off.
 #[test]
 fn fifteen_sections(rt: HostRuntime) -> Result<(), Fail> {
     let config = known_site(rt.alloc())?;

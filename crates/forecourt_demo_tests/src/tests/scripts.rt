@@ -84,8 +84,8 @@ till\n\
 010102020044000704252100028200\n\
 ";
 
-/// One simulator lifts a nozzle, waits for the idle point and lifts it again; another one waits until
-/// the point calls, and puts the nozzle back.
+/// One simulator lifts a nozzle, waits for the idle point and lifts it again; another one waits
+/// until the point calls, and puts the nozzle back.
 pub const NOZZLE_IN_AND_OUT: &[u8] = b"\
 010102010041000401013100\n\
 010102010042000401213C00\n\
