@@ -3,3 +3,4 @@ pub mod Messages
 pub mod Numerals
 pub mod Parted
 pub mod Reached
+pub mod Unique

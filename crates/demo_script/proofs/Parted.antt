@@ -7,14 +7,14 @@ use Rattle.demo_script.specs.Numbers.{IsWithoutSpace}
 use Rattle.demo_script.specs.Script.{IsDispenserText}
 use Rattle.demo_script.proofs.Numerals.{behind_is}
 
-decimal_unspaced : (n : ℕ) → n < 2 ^ 64 → IsWithoutSpace (decimal n)
+pub decimal_unspaced : (n : ℕ) → n < 2 ^ 64 → IsWithoutSpace (decimal n)
 decimal_unspaced n small = λ k within is.
     let digit : IsInRange 48 57 (get_or (decimal n) k 0) =
     digit_at (decimal n) k (decimal_is_IsNumeral n small).0.1 within in
     let low : 48 ≤ get_or (decimal n) k 0 = digit.0 in
     omega arith
 
-parts_are : (a b c d : List ℕ) → IsWithoutSpace a → IsWithoutSpace c
+pub parts_are : (a b c d : List ℕ) → IsWithoutSpace a → IsWithoutSpace c
     → a ++ (32 ∷ b) ≡ c ++ (32 ∷ d) → (a ≡ c) × (b ≡ d)
 parts_are [] b [] d one two is = (refl, cc)
 parts_are [] b (y ∷ c) d one two is =

@@ -1,5 +1,5 @@
 -- What the lines of a script say, and which texts are scripts.
-use Rattle.std.specs.Prelude.{◌≡◌, ℕ, ◌-◌, ◌<◌, ◌≤◌, true, ◌⊎◌, codes, decimal}
+use Rattle.std.specs.Prelude.{◌≡◌, ℕ, ◌-◌, ◌<◌, ◌≤◌, Bool, true, false, ◌⊎◌, codes, decimal}
 use Rattle.std.specs.Prelude.{List, [], ◌∷◌, ◌++◌, length, take, slice_index_or, option_to_list}
 use Rattle.std.specs.Prelude.{Option, None, Some, Ok}
 use Rattle.std.specs.Io.BufRead.{strip_last}
@@ -82,17 +82,25 @@ IsWork (Some (sections.Till messages)) text (lines.Message m) = IsMessageText te
 IsWork (Some (sections.Dispenser p polls script)) text (lines.Step step) = IsStepText text step
 IsWork current text line = ⊥
 
--- a line is skipped: an empty line, or a comment
-abbrev pub IsSkipped : List ℕ → Line → Type 0
-IsSkipped text lines.Skipped = is_skipped text ≡ true
-IsSkipped text line = ⊥
+-- a line begins no section
+abbrev pub BeginsNone : List ℕ → Type 0
+BeginsNone text = (line : Line) → ¬ Begins text line
 
--- What a text says behind what was read so far: it is skipped, it begins a section where there may
--- be one more, or it is work.
+-- A line that isn't skipped begins a section, where there may be one more, or it begins none and is
+-- work.
+abbrev pub IsTask : DraftFacts → List ℕ → Line → Type 0
+IsTask d text line =
+    (Begins text line × (length (sections_of d) < SECTIONS))
+    ⊎ (BeginsNone text × IsWork d.current text line)
+
+-- What a text says behind what was read so far, if it is skipped (an empty line, or a comment), or
+-- else: nothing, or a task.
+abbrev pub SaysIf : Bool → DraftFacts → List ℕ → Line → Type 0
+SaysIf true d text line = line ≡ lines.Skipped
+SaysIf false d text line = IsTask d text line
+
 abbrev pub TextSays : DraftFacts → List ℕ → Line → Type 0
-TextSays d text line =
-    IsSkipped text line ⊎ ((Begins text line × (length (sections_of d) < SECTIONS))
-    ⊎ IsWork d.current text line)
+TextSays d text line = SaysIf (is_skipped text) d text line
 
 -- the same of a line, which isn't too long; a carriage return that ends it isn't of its text
 abbrev pub Says : DraftFacts → List ℕ → Line → Type 0

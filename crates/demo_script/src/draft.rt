@@ -34,7 +34,11 @@ impl Model for Draft {
 
     ghost Value = { DraftFacts };
 
-    ghost view = { λ d. record { setup = d.setup.items; ended = d.ended.items; current = d.current } };
+    ghost view = { λ d. record {
+      setup = d.setup.items;
+      ended = d.ended.items;
+      current = d.current;
+    } };
 }
 
 impl Draft {
@@ -52,7 +56,8 @@ impl Draft {
 
     /// What a line says; None where it is faulty.
     pub fn line_of(&self, octets: &[u8]) -> Result<Option<Line>, NoMemory>
-        ensures found { IfOk result (λ found. IfSome found (λ line. Says self.now octets.now line)) }
+        ensures found { IfOk result (λ found.
+            IfSome found (λ line. Says self.now octets.now line)) }
         ensures other { IfOk result (λ found.
             IfNone found ((line : Line) → ¬ Says self.now octets.now line)) }
     {
@@ -64,24 +69,28 @@ impl Draft {
 
     /// What the text of a line says; None where it is faulty.
     fn text_says(&self, text: &[u8]) -> Result<Option<Line>, NoMemory>
-        ensures found { IfOk result (λ found. IfSome found (λ line. TextSays self.now text.now line)) }
+        ensures found { IfOk result (λ found.
+            IfSome found (λ line. TextSays self.now text.now line)) }
         ensures other { IfOk result (λ found.
             IfNone found ((line : Line) → ¬ TextSays self.now text.now line)) }
     {
         if skips(text) {
             return Ok(Some(Line::Skipped));
         }
-        if self.has_room() {
-            if let Some(line) = section_begun(text) {
-                return Ok(Some(line));
-            }
+        if let Some(line) = section_begun(text) {
+            return if self.has_room() {
+                Ok(Some(line))
+            } else {
+                Ok(None)
+            };
         }
         self.work_of(text)
     }
 
     /// The work that the text says for the open section, or for the setup.
     fn work_of(&self, text: &[u8]) -> Result<Option<Line>, NoMemory>
-        ensures found { IfOk result (λ found. IfSome found (λ line. IsWork self.now.current text.now line)) }
+        ensures found { IfOk result (λ found.
+            IfSome found (λ line. IsWork self.now.current text.now line)) }
         ensures other { IfOk result (λ found.
             IfNone found ((line : Line) → ¬ IsWork self.now.current text.now line)) }
     {

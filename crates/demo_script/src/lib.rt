@@ -1,5 +1,5 @@
-//! Scripts of demos: a text that sets a site up, and then has sections, each the work of one till or
-//! of one simulated dispenser.
+//! Scripts of demos: a text that sets a site up, and then has sections, each the work of one till
+//! or of one simulated dispenser.
 //!
 //! `read_script` accepts exactly the texts that `specs/Script.antt` calls scripts, want of memory
 //! aside, and tells the number of the first faulty line of any other.

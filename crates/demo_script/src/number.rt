@@ -59,8 +59,10 @@ fn is_signed_or_padded(digits: &[u8]) -> bool
 
 /// The number behind this word, from the least to the greatest.
 pub fn number_behind(word: &[u8], text: &[u8], least: u32, most: u32) -> Option<u32>
-    ensures written { IfSome result (λ n. (text.now ≡ word.now ++ decimal n) × (least ≤ n) × (n ≤ most)) }
-    ensures other { IfNone result ((n : ℕ) → least ≤ n → n ≤ most → text.now ≢ word.now ++ decimal n) }
+    ensures written { IfSome result (λ n.
+        (text.now ≡ word.now ++ decimal n) × (least ≤ n) × (n ≤ most)) }
+    ensures other { IfNone result ((n : ℕ) → least ≤ n → n ≤ most
+        → text.now ≢ word.now ++ decimal n) }
 {
     let Some(digits) = behind(word, text) else {
         return None;
@@ -73,7 +75,8 @@ pub fn number_behind(word: &[u8], text: &[u8], least: u32, most: u32) -> Option<
 
 /// What stands before the first space, and what stands behind it; None where there is no space.
 pub fn parted(text: &[u8]) -> Option<(&[u8], &[u8])>
-    ensures found { IfSome result (λ parts. (text.now ≡ parts.0.now ++ (32 ∷ parts.1.now)) × IsWithoutSpace parts.0.now) }
+    ensures found { IfSome result (λ parts.
+        (text.now ≡ parts.0.now ++ (32 ∷ parts.1.now)) × IsWithoutSpace parts.0.now) }
     ensures other { IfNone result (IsWithoutSpace text.now) }
 {
     let space = memchr(b' ', text)?;

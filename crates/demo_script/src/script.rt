@@ -1,8 +1,8 @@
 //! The script of a demo, and how it is read.
 
-ghost use Rattle.std.specs.Prelude.{◌≡◌, ◌≤◌, ◌<◌, ◌∷◌, length, IfOk, IfErr, OnOk};
+ghost use Rattle.std.specs.Prelude.{◌≡◌, ◌≢◌, ◌≤◌, ◌<◌, ◌∷◌, length, IfOk, IfErr, OnOk};
 ghost use Rattle.demo_script.specs.Lines.{lines_of};
-ghost use Rattle.demo_script.specs.Script.{nothing_read, AreRead, IsRefused, IsScript};
+ghost use Rattle.demo_script.specs.Script.{nothing_read, AreRead, DemoFacts, IsRefused, IsScript};
 ghost use Rattle.demo_script.specs.Reading.{IsFaultyLine, IsReadBy, IsRefusedBy};
 
 use crate::draft::Draft;
@@ -48,6 +48,21 @@ impl DemoScript {
 /// from 1; where there is none, and no section either, it is the number of the last line, 0 for an
 /// empty text. `NoMemory` comes where a growth is refused.
 pub fn read_script(alloc: Global, text: &[u8]) -> Result<DemoScript, ScriptFault>
+    ensures script { IfOk result (λ demo. IsScript text.now demo) }
+    ensures one { IfOk result (λ demo.
+        (other : DemoFacts) → IsScript text.now other → other ≡ demo) }
+    ensures refused { IfErr result (λ fault. IsRefused text.now fault) }
+    ensures none { IfErr result (λ fault. fault ≢ ScriptFault.NoMemory
+        → (other : DemoFacts) → ¬ IsScript text.now other) }
+{
+    match read_text(alloc, text) {
+        Ok(demo) => Ok(demo),
+        Err(fault) => Err(fault),
+    }
+}
+
+/// Reads a text, and says what was found.
+fn read_text(alloc: Global, text: &[u8]) -> Result<DemoScript, ScriptFault>
     ensures script { IfOk result (λ demo. IsScript text.now demo) }
     ensures refused { IfErr result (λ fault. IsRefused text.now fault) }
 {

@@ -9,8 +9,8 @@ use site_base::FpNo;
 pub enum Section {
     /// These messages are the input of one session.
     Till(Messages),
-    /// The dispenser of this point takes the steps of a script. Where it waits for a state, it looks
-    /// at the point so many times at most.
+    /// The dispenser of this point takes the steps of a script. Where it waits for a state, it
+    /// looks at the point so many times at most.
     Dispenser {
         point: FpNo,
         polls: u64,

@@ -21,7 +21,8 @@ is_under_way state = false
 abbrev pub IsWithin : Preset → ℕ → ℕ → Type 0
 IsWithin Unset price volume = Unit {0}
 IsWithin (Volume most) price volume = volume ≤ most
-IsWithin (Money cents) price volume = 1 ≤ price → price ≤ GREATEST_PRICE → amount volume price ≤ cents
+IsWithin (Money cents) price volume =
+    1 ≤ price → price ≤ GREATEST_PRICE → amount volume price ≤ cents
 
 -- so much more may flow at a point that is seen so: the preset of a fuelling under way allows it
 abbrev pub IsAllowed : PointView → ℕ → Type 0
@@ -34,8 +35,8 @@ IsAllowedAt None flow = Unit {0}
 IsAllowedAt (Some view) flow = IsAllowed view flow
 
 -- The flow where so much was asked for, the meter reads this and the point is seen so: of the flows
--- that aren't above what was asked for, that the meter can count and that are allowed, the greatest;
--- 0 where none is.
+-- that aren't above what was asked for, that the meter can count and that are allowed, the
+-- greatest; 0 where none is.
 pub record IsFlow (asked reading : ℕ) (seen : Option PointView) (flow : ℕ) : Type 0 where
   pub asked_for : flow ≤ asked
   pub readable : reading + flow ≤ GREATEST_READING

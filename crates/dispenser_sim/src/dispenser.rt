@@ -175,8 +175,8 @@ impl Dispenser {
         self.readings[usize::from(n.get()) - 1]
     }
 
-    /// The report was answered so: the nozzle that it lifted is the one last lifted, and a flow that
-    /// was accepted is kept.
+    /// The report was answered so: the nozzle that it lifted is the one last lifted, and a flow
+    /// that was accepted is kept.
     fn keep(&mut self, event: &Event, reply: &Reply)
         ensures { self.new ≡ kept_after event.now reply.now self.old }
     {

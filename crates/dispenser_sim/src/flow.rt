@@ -25,7 +25,8 @@ pub fn flow_of(asked: Millilitres, reading: Millilitres, seen: &Option<PointView
     }
 }
 
-/// How much more may flow within the preset of the fuelling under way; None where nothing limits it.
+/// How much more may flow within the preset of the fuelling under way; None where nothing limits
+/// it.
 fn room_left(view: &PointView) -> Option<u64>
     ensures limited { IfSome result (λ room. IsRoom view.now room) }
     ensures free { IfNone result (IsUnlimited view.now) }

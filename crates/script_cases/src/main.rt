@@ -1,7 +1,7 @@
-//! Cases of scripts: a table comes on standard input, in which a line `== NAME` begins a case, and the
-//! lines up to the next one are its script. Of each case a line is printed: what the script has, or its
-//! fault. `== NAME cr` ends each line of the script with a carriage return too, `== NAME cut` leaves out
-//! the last line feed, and `== NAME comment N` adds a comment of N octets.
+//! Cases of scripts: a table comes on standard input, in which a line `== NAME` begins a case, and
+//! the lines up to the next one are its script. Of each case a line is printed: what the script
+//! has, or its fault. `== NAME cr` ends each line of the script with a carriage return too, `==
+//! NAME cut` leaves out the last line feed, and `== NAME comment N` adds a comment of N octets.
 #![tactic(auto)]
 
 mod case;

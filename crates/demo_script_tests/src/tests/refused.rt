@@ -1,13 +1,21 @@
-//! Made for runs in which one growth is refused: the call says so, and the same call then answers as
-//! ever.
+//! Made for runs in which one growth is refused: the call says so, and the same call then answers
+//! as ever.
 
 use demo_script::{DemoScript, ScriptFault, Section, read_script};
 use std::alloc::Global;
 use std::process::Abort;
 
 /// Till 1 signs on in the setup; a till's session of two messages, and a dispenser of three steps.
-const SCRIPT: &[u8] =
-    b"# a demo\n01 01 02 01 00 41 00 04 01 01 31 00\r\n\ntill\n010102020041000401013100\n0101020200420004010132 00\ndispenser 1 1000000\nlift 1\npump 1000000\nwait 9";
+const SCRIPT: &[u8] = b"# a demo\n\
+01 01 02 01 00 41 00 04 01 01 31 00\r\n\
+\n\
+till\n\
+010102020041000401013100\n\
+0101020200420004010132 00\n\
+dispenser 1 1000000\n\
+lift 1\n\
+pump 1000000\n\
+wait 9";
 
 /// Reads a text, once more if a growth was refused.
 fn read(rt: &(impl Abort + Eprint), alloc: Global, text: &[u8]) -> Result<DemoScript, ScriptFault> {

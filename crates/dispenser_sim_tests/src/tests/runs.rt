@@ -13,8 +13,8 @@ use std::sync::Wait;
 use std::sync::ledger::{Blank, Ledger};
 use std::test::Fail;
 
-/// A day of one fuelling point: till 1 signs on, opens the point, and releases it within this preset,
-/// where there is one. Then a dispenser takes these steps.
+/// A day of one fuelling point: till 1 signs on, opens the point, and releases it within this
+/// preset, where there is one. Then a dispenser takes these steps.
 #[derive(Drop)]
 struct Day {
     release: Option<Preset>,
@@ -188,8 +188,8 @@ fn offline_and_online(rt: HostRuntime) -> Result<(), Fail> {
     Ok(())
 }
 
-/// A flow at a point that calls is refused, and not kept: the nozzle is put back at the reading that
-/// the site knows. So is one of more than a report may grow by.
+/// A flow at a point that calls is refused, and not kept: the nozzle is put back at the reading
+/// that the site knows. So is one of more than a report may grow by.
 #[test]
 fn refused_flows(rt: HostRuntime) -> Result<(), Fail> {
     let steps = [lift(&rt, 1), pump(&rt, 500), Step::HangUp];
