@@ -15,7 +15,10 @@ pub enum Step {
     /// An empty line or a comment, printed as it is.
     Text(String),
     /// A site of this configuration opens. It is run with a book beside it, or its book is kept alone.
-    Site { config: SiteConfig, alone: bool },
+    Site {
+        config: SiteConfig,
+        alone: bool,
+    },
     /// A paragraph: its events, as often as it says, of which the last rows are printed.
     Run {
         events: Vec<(Actor, Event)>,
