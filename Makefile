@@ -43,7 +43,6 @@ audit:
 
 bench: build
 	@scripts/bench $(PROGRAM)
-	@scripts/instructions $(PROGRAM)
 	@scripts/bench-fuellings $(PROGRAM)
 	@scripts/bench-book $(PROGRAM)
 	@cd crates/parts_cost && rt run > /dev/null
@@ -52,3 +51,4 @@ bench: build
 	@scripts/bench-desk $(LOAD)
 	@cd crates/loopback_echo && rt run > /dev/null
 	@scripts/bench-server $(PROGRAM) $(ECHO)
+	@scripts/instructions $(PROGRAM)
