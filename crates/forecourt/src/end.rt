@@ -19,7 +19,7 @@ pub fn ended(rt: &impl Eprint, fault: Option<ReplayFault>) -> ExitCode {
     }
 }
 
-/// Tells why a server's day ended without its report, if it did.
+/// Tells why the day of a server or of a demo ended without its report, if it did.
 pub fn day_ended(rt: &impl Eprint, end: Result<(), DayFault>) -> ExitCode {
     match end {
         Ok(()) => ExitCode::SUCCESS,

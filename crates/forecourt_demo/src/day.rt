@@ -26,7 +26,9 @@ const PARTS: u64 = 1 << 63;
 /// so many turns.
 #[derive(Clone, Copy, Debug, PartialEq, Eq)]
 pub struct DemoPlan {
+    /// Do the tills' sessions run over sockets?
     pub loopback: bool,
+    /// The read calls and interrupted write calls of a session, and of the report.
     pub turns: u64,
 }
 

@@ -9,16 +9,17 @@ use Rattle.forecourt_server.specs.Days.{IsSettledDay, listening_line, TellsDay}
 
 -- where it listens was written, and then, if it ended well, the report of a day that is settled
 pub tells_day : {X E : Type 0} (r : Result X E) (config named : Configured)
-    (u v w : Option (List ℕ)) (port : ℕ) (settled : Settled)
-    → config ≡ named → IsSettledDay named settled → Appends u v (listening_line port)
+    (u v w : Option (List ℕ)) (said port : ℕ) (settled : Settled)
+    → said ≡ port → config ≡ named → IsSettledDay named settled
+    → Appends u v (listening_line said)
     → OnOk r (Appends v w (report_text config settled.book settled.shares))
-    → OnOk r (TellsDay config u w)
-tells_day (Ok x) config named u v w port settled same adds_up line report =
+    → OnOk r (TellsDay config port u w)
+tells_day (Ok x) config named u v w said port settled same_port same adds_up line report =
     record {
-      port = port;
       settled = settled;
       adds_up = subst (λ (c : Configured). IsSettledDay c settled) (sym same) adds_up;
       told = Appends-then u v w (listening_line port)
-          (report_text config settled.book settled.shares) line report;
+          (report_text config settled.book settled.shares)
+          (subst (λ (n : ℕ). Appends u v (listening_line n)) same_port line) report;
     }
-tells_day (Err e) config named u v w port settled same adds_up line report = report
+tells_day (Err e) config named u v w said port settled same_port same adds_up line report = report

@@ -19,9 +19,8 @@ listening_line port = codes "listening 127.0.0.1:" ++ decimal port ++ codes "\n"
 abbrev pub IsSettledDay : Configured → Settled → Type 0
 IsSettledDay config settled = (lists : List (List Receipt)) × Settles config lists settled
 
--- a line that tells where the server listens, and the report of a day that is settled
-pub record TellsDay (config : Configured) (holds holds' : Option (List ℕ)) : Type 0 where
-  pub port : ℕ
+-- a line that tells on which port the server listens, and the report of a day that is settled
+pub record TellsDay (config : Configured) (port : ℕ) (holds holds' : Option (List ℕ)) : Type 0 where
   pub settled : Settled
   pub adds_up : IsSettledDay config settled
   pub told : Appends holds holds'

@@ -35,7 +35,7 @@ pub fn serve_day<W: Write, R: Threads + Wait + Sync>(
     turns: u64,
     writer: &mut Counted<W>,
 ) -> Result<(), DayFault>
-    ensures { OnOk result (TellsDay config.now
+    ensures { OnOk result (TellsDay config.now listener.port
         (W.contents (device_of writer.old)) (W.contents (device_of writer.new))) }
 {
     let blank = Blank::new(PARTS);
@@ -55,7 +55,7 @@ fn day_of<L: Ledger + Send + Sync, C: Naming + Send + Sync, W: Write, R: Threads
 ) -> Result<(), DayFault>
     requires ledger { (blank.name ≡ L.name) × (blank.parts ≡ L.parts) × (blank.parts ≡ 2 ^ 63) }
     requires config { config.now ≡ C.config }
-    ensures { OnOk result (TellsDay config.now
+    ensures { OnOk result (TellsDay config.now listener.port
         (W.contents (device_of writer.old)) (W.contents (device_of writer.new))) }
 {
     let (desk, root) = Desk::<L, C>::try_open(alloc, blank, config)?;

@@ -27,10 +27,13 @@ pub struct ServerPlan {
 /// A word of the command line that isn't a decimal number in its range.
 #[derive(Clone, Copy, Debug, PartialEq, Eq, Error)]
 pub enum OptionFault {
+    /// The port.
     #[error("--port is a decimal number from 0 to {max}", max = u16::MAX)]
     Port,
+    /// The workers.
     #[error("--workers is a decimal number from 1 to {max}", max = WORKERS)]
     Workers,
+    /// The sessions.
     #[error("--sessions is a decimal number from 1 to {max}", max = SESSIONS)]
     Sessions,
 }

@@ -21,7 +21,9 @@ pub enum Step {
     },
     /// A paragraph: its events, as often as it says, of which the last rows are printed.
     Run {
+        /// Each as often as the paragraph says.
         events: Vec<(Actor, Event)>,
+        /// How many rows are printed.
         last: usize,
     },
     /// A line that asks the site something else.
