@@ -61,6 +61,6 @@ fn at_desk<L: Ledger, C: Naming, R: Print + Eprint + Wait>(
     told?;
     match desk.settle(alloc, root) {
         Ok(settled) => Ok((counter.placed(), settled)),
-        Err(_) => bail!("the desk isn't settled"),
+        Err(unsettled) => bail!("the desk isn't settled: {}", unsettled.fault),
     }
 }
