@@ -53,6 +53,8 @@ fn the_reader_fails(rt: HostRuntime) -> Result<(), Fail> {
         peer.read_fails = k;
         let seen = session(&rt, alloc, &config, &[], peer)?;
         assert!(rt; seen.end.fault == Some(SessionFault::Read(ReadFault::Failed)));
+        let left = Call::Left(TillNo::new(1).expect(&rt, "till 1"));
+        assert!(rt; (seen.last == Some(left)) == (k == 2), "not left last");
         let size = if k == 2 { 32 } else { 0 };
         assert!(rt; seen.told.as_slice() == &told[..size] && seen.end.signed_off == (k == 2));
     }

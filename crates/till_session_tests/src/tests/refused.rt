@@ -1,9 +1,10 @@
 //! The session of two tills, in which each growth may be refused once.
 
 use super::calls::{TWO_TILLS, octets};
+use super::noting::Call;
 use super::sessions::{Peer, Seen, session};
 use super::site::five_points;
-use site_base::{NoMemory, SiteConfig};
+use site_base::{NoMemory, SiteConfig, TillNo};
 use std::alloc::Global;
 use std::process::Abort;
 use std::sync::Wait;
@@ -40,6 +41,10 @@ fn session_refused(rt: HostRuntime) -> Result<(), Fail> {
         assert!(rt; seen.end.fault == Some(SessionFault::Talk(TalkFault::OriginatorChanged)));
         assert!(rt; seen.end.asked == 2);
     }
+    // A SignOn that was accepted is acknowledged by 8 octets behind the header; then till 1 is left.
+    let left = seen.last == Some(Call::Left(TillNo::new(1).expect(&rt, "till 1")));
+    assert!(rt; seen.end.signed_off == left, "left, and not told so");
+    assert!(rt; left || seen.told.get(7) != Some(&8), "not left last");
     // The comparison wants memory, too.
     let told = match is_told(&rt, rt.alloc(), &seen, !is_cut) {
         Ok(told) => told,

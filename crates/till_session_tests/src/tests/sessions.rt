@@ -3,7 +3,7 @@
 ghost use Rattle.std.specs.Prelude.{◌≡◌, ◌^◌};
 
 use super::noting::{Call, Noting};
-use counter_desk::{Desk, Naming, OpenGate, Settled, Share};
+use counter_desk::{Desk, Naming, OpenGate, SettleFault, Settled, Share};
 use site_base::{Actor, Counted, Event, NoMemory, SiteConfig, TillNo};
 use std::alloc::Global;
 use std::marker::Brand;
@@ -101,7 +101,10 @@ fn session_of<L: Ledger, C: Naming, R: Wait + Abort>(
             written,
             settled,
         }),
-        Err(_) => Err(NoMemory),
+        Err(unsettled) => {
+            assert!(rt; unsettled.fault == SettleFault::NoMemory, "not settled");
+            Err(NoMemory)
+        }
     }
 }
 
