@@ -6,8 +6,11 @@
  *   FAIL_WRITE=K       the Kth write to standard output fails
  *   SHORT_WRITE=M      a write to standard output takes at most M octets
  *   TAKE_ALL=M         standard output takes M octets in all, and then none
- *   INTERRUPT=1        every second read, of any file, and every second write to standard output is
- *                      interrupted
+ *   FAIL_RECEIVE=K     the Kth read of a socket fails
+ *   FAIL_SEND=K        the Kth write to a socket fails
+ *   SHORT_SEND=M       a write to a socket takes at most M octets
+ *   INTERRUPT=1        every second read, of any file or socket, and every second write, to standard
+ *                      output or a socket, is interrupted
  *   MET=FILE           is made when a growth, a read or a write met its fault
  */
 #include <errno.h>
@@ -44,8 +47,8 @@ static int fails(const char *name, long *calls)
     return 1;
 }
 
-static long growths, reads, file_reads, writes, taken;
-static int read_before, file_read_before, written_before;
+static long growths, reads, file_reads, writes, taken, received, sent;
+static int read_before, file_read_before, written_before, received_before, sent_before;
 
 /* Is this the growth that is refused? The system says so, too. */
 static int refused(void)
@@ -142,4 +145,30 @@ ssize_t write(int file, const void *text, size_t size)
         }
     }
     return syscall(SYS_write, file, text, size);
+}
+
+ssize_t recv(int socket, void *room, size_t size, int flags)
+{
+    if (interrupted(&received_before))
+        return -1;
+    if (fails("FAIL_RECEIVE", &received)) {
+        errno = EIO;
+        return -1;
+    }
+    return syscall(SYS_recvfrom, socket, room, size, flags, NULL, NULL);
+}
+
+ssize_t send(int socket, const void *text, size_t size, int flags)
+{
+    if (interrupted(&sent_before))
+        return -1;
+    if (fails("FAIL_SEND", &sent)) {
+        errno = EIO;
+        return -1;
+    }
+    if (number("SHORT_SEND") && size > (size_t)number("SHORT_SEND")) {
+        size = number("SHORT_SEND");
+        met();
+    }
+    return syscall(SYS_sendto, socket, text, size, flags, NULL, 0);
 }
