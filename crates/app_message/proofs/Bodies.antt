@@ -1,9 +1,9 @@
 -- What octets of a body list, and that bodies list what was written.
 use Rattle.std.proofs.Common.{◌≡◌, ℕ, zero, suc, ◌+◌, ◌-◌, ◌<◌, ◌≤◌, true, false, eqb, refl, sym, ap}
-use Rattle.std.proofs.Common.{subst, ◌∙◌, Some, List, [], ◌∷◌, ◌++◌, length, get_or, take, drop, Ok}
-use Rattle.std.proofs.Common.{append_assoc, arith}
+use Rattle.std.proofs.Common.{subst, ◌∙◌, Some, None, List, [], ◌∷◌, ◌++◌, length, get_or, take, drop, Ok}
+use Rattle.std.proofs.Common.{append_assoc, arith, inl, inr}
 use Rattle.std.specs.List.{flat_map, AllByRecursion}
-use Rattle.std.proofs.lemmas.Bool.{ne_eqb, le-ltb, lt-ltb}
+use Rattle.std.proofs.lemmas.Bool.{ne_eqb, le-ltb, lt-ltb, cases_lt, cases_Bool}
 use Rattle.std.proofs.lemmas.List.{length-append, length-take, take_at, drop_at, take_all}
 use Rattle.std.proofs.lemmas.List.{append-nil}
 use Rattle.std.proofs.lemmas.List.Concat.{flat_map-append}
@@ -284,3 +284,14 @@ draft_fits m s d short rise =
         most = omega (arith, size, short);
       };
     }
+
+pub draft_faultless : (m : Telegram) (s : List ℕ) → IsDraft m s
+    → parts_fault m.address m.items ≡ None → IsBody m s
+draft_faultless m s d none =
+    elim (cases_lt 1024 (length s)) [
+      | inl long ↦ let fault = draft_long m s d long in absurd (cc (none, fault))
+      | inr short ↦ elim (cases_Bool (do_rise 0 m.items)) [
+        | inl rise ↦ draft_fits m s d short rise
+        | inr falls ↦ let fault = draft_falls m s d short falls in absurd (cc (none, fault))
+      ]
+    ]

@@ -69,26 +69,32 @@ impl Decoder {
         // After a fault no memory is taken, and the answer is that fault for good.
         ensures after_fault { IfSome self.old.fault (λ f. IsOkAnd result (λ fed. (fed.messages ≡ []) × (fed.fault ≡ Some f))) }
     {
-        self.feed_into(piece, Messages::new(self.alloc))
+        let mut messages = Messages::new(self.alloc);
+        let fault = self.feed_into(piece, &mut messages)?;
+        Ok(Fed { messages, fault })
     }
 
-    /// Takes a piece of the stream as `feed` does. The messages that end in it take the place of those
-    /// in the list that is handed in, which is lost after `NoMemory`; so its room can serve again.
+    /// Takes a piece of the stream as `feed` does, and answers the fault of the stream, if it has
+    /// one by now. The messages that end in the piece take the place of those in the list, whose
+    /// room serves again. After `NoMemory` the piece isn't taken, and the list has some of the
+    /// messages.
     #[inline(always)]
-    pub fn feed_into(&mut self, piece: &[u8], list: Messages) -> Result<Fed, NoMemory>
-        ensures messages { IfOk result (λ fed. fed.messages ≡ (fed_by self.old piece.now).messages) }
-        ensures fault { IfOk result (λ fed. fed.fault ≡ (fed_by self.old piece.now).fault) }
+    pub fn feed_into(
+        &mut self,
+        piece: &[u8],
+        messages: &mut Messages,
+    ) -> Result<Option<StreamFault>, NoMemory>
+        ensures messages { OnOk result (messages.new ≡ (fed_by self.old piece.now).messages) }
+        ensures fault { IfOk result (λ fault. fault ≡ (fed_by self.old piece.now).fault) }
         ensures held { OnOk result (self.new ≡ held (fed_by self.old piece.now)) }
         ensures err { OnErr result (self.new ≡ self.old) }
-        ensures after_fault { IfSome self.old.fault (λ f. IsOkAnd result (λ fed. (fed.messages ≡ []) × (fed.fault ≡ Some f))) }
+
+        // After a fault no memory is taken, and the answer is that fault for good.
+        ensures after_fault { IfSome self.old.fault (λ f. (messages.new ≡ []) × IsOkAnd result (λ fault. fault ≡ Some f)) }
     {
-        let mut messages = list;
         messages.clear();
         if self.fault.is_some() {
-            return Ok(Fed {
-                messages,
-                fault: self.fault,
-            });
+            return Ok(self.fault);
         }
         if self.rest.is_empty() {
             return self.take(piece, messages);
@@ -102,22 +108,57 @@ impl Decoder {
         self.take(&octets, messages)
     }
 
-    /// Takes these octets in place of those that are held, where they lie: only the rest is copied.
-    fn take(&mut self, octets: &[u8], messages: Messages) -> Result<Fed, NoMemory>
-        requires { messages ≡ [] }
-        ensures messages { IfOk result (λ fed. fed.messages ≡ (stream_of octets.now).messages) }
-        ensures fault { IfOk result (λ fed. fed.fault ≡ (stream_of octets.now).fault) }
+    /// Takes these octets in place of those that are held, where they lie, and puts the messages
+    /// that end in them into an empty list. The answer is the fault of the stream, if it has one.
+    fn take(
+        &mut self,
+        octets: &[u8],
+        messages: &mut Messages,
+    ) -> Result<Option<StreamFault>, NoMemory>
+        requires { messages.old ≡ [] }
+        ensures messages { OnOk result (messages.new ≡ (stream_of octets.now).messages) }
+        ensures fault { IfOk result (λ fault. fault ≡ (stream_of octets.now).fault) }
         ensures held { OnOk result (self.new ≡ held (stream_of octets.now)) }
         ensures err { OnErr result (self.new ≡ self.old) }
     {
-        let (fed, rest) = walk(self.alloc, octets, messages)?;
+        let mut rest = octets;
+        loop {
+            match reading::front(rest) {
+                Ok((message, after)) => {
+                    messages.push(self.alloc, message)?;
+                    rest = after;
+                }
+                Err(Stop::Short) => return self.hold(rest),
+                Err(Stop::Fault(fault)) => return Ok(self.end(fault_in(fault, rest))),
+            }
+        }
+    }
+
+    /// Holds these octets of a message to come, in place of those that are held. The answer is that
+    /// the stream has no fault.
+    fn hold(&mut self, rest: &[u8]) -> Result<Option<StreamFault>, NoMemory>
+        requires { length rest.now ≤ 1031 }
+        ensures fault { IfOk result (λ fault. fault ≡ None) }
+        ensures held { OnOk result (self.new ≡ record { rest = rest.now; fault = None }) }
+        ensures err { OnErr result (self.new ≡ self.old) }
+    {
         if rest.is_empty() {
             self.rest.clear();
         } else {
             self.rest = Vec::from_slice(self.alloc, rest)?;
         }
-        self.fault = fed.fault;
-        Ok(fed)
+        self.fault = None;
+        Ok(None)
+    }
+
+    /// The stream has ended with this fault, which is the answer: nothing is held.
+    fn end(&mut self, fault: StreamFault) -> Option<StreamFault>
+        ensures fault { result ≡ Some fault }
+        ensures held { self.new ≡ record { rest = []; fault = Some fault } }
+    {
+        self.rest = Vec::new(self.alloc);
+        self.fault = Some(fault);
+        self.fault
     }
 
     /// Whether the stream may end here: the stream's fault, if it has one; else `Truncated`, if it
@@ -145,35 +186,6 @@ impl Decoder {
         ensures after_fault { IsSome self.now.fault → result ≡ 0 }
     {
         self.rest.len() as u16
-    }
-}
-
-/// Puts the messages of a stream into an empty list: the list with the stream's fault, and what is
-/// left of the stream.
-fn walk(alloc: Global, octets: &[u8], list: Messages) -> Result<(Fed, &[u8]), NoMemory>
-    requires { list ≡ [] }
-    ensures exact { IfOk result (λ x. stream x.0.messages x.1.now x.0.fault ≡ stream_of octets.now) }
-    ensures kept { IfOk result (λ x. IsHeld (record { rest = x.1.now; fault = x.0.fault })) }
-{
-    let mut messages = list;
-    let mut rest = octets;
-    loop {
-        match reading::front(rest) {
-            Ok((message, after)) => {
-                messages.push(alloc, message)?;
-                rest = after;
-            }
-            Err(stop) => match stop {
-                Stop::Short => {
-                    let fault = None;
-                    return Ok((Fed { messages, fault }, rest));
-                }
-                Stop::Fault(fault) => {
-                    let fault = Some(fault_in(fault, rest));
-                    return Ok((Fed { messages, fault }, &rest[..0]));
-                }
-            },
-        }
     }
 }
 

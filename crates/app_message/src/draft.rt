@@ -1,6 +1,6 @@
 //! A message in the making.
 
-ghost use Rattle.std.specs.Prelude.{◌≡◌, ◌≢◌, ◌≤◌, ◌<◌, ◌⊎◌, [], ◌++◌, Some, length, IfOk, IfErr, OnOk};
+ghost use Rattle.std.specs.Prelude.{◌≡◌, ◌≢◌, ◌≤◌, ◌<◌, ◌⊎◌, [], ◌++◌, Some, None, length, IfOk, IfErr, OnOk};
 ghost use Rattle.std.specs.Prelude.{OnErr};
 ghost use Rattle.std.specs.Result.{IsErrOf};
 ghost use Rattle.app_message.specs.Telegram.{telegram, entry};
@@ -43,8 +43,9 @@ impl Model for Draft {
 impl Draft {
     /// A message without items: the recipient and the originator as subnet and node, and the
     /// database address, which is copied, with room for so many octets of items (an item takes two
-    /// and its content), so that putting these is meant to take no memory. It is refused with `BadLength` if the
-    /// address is empty or above 8 octets; `NoMemory` comes where the allocator refuses the room.
+    /// and its content), so that putting these is meant to take no memory. It is refused with
+    /// `BadLength` if the address is empty or above 8 octets; `NoMemory` comes where the allocator
+    /// refuses the room.
     pub fn try_new(
         alloc: Global,
         to: [u8; 2],
@@ -74,11 +75,11 @@ impl Draft {
         })
     }
 
-    /// A message without items that goes back to the originator of another one: its recipient is that
-    /// originator, and its token and database address are that message's. It is written into the
-    /// buffer, whose content goes, with room for so many octets of items, so that a buffer that served
-    /// before is meant to take no memory. `NoMemory` comes where the allocator refuses the room; the
-    /// buffer is lost then.
+    /// A message without items that goes back to the originator of another one: its recipient is
+    /// that originator, and its token and database address are that message's. It is written into
+    /// the buffer, whose content goes, with room for so many octets of items, so that a buffer that
+    /// served before is meant to take no memory. `NoMemory` comes where the allocator refuses the
+    /// room; the buffer is lost then.
     #[inline(always)]
     pub fn back(
         request: &Message,
@@ -96,7 +97,7 @@ impl Draft {
         let mut body = buffer;
         body.clear();
         body.reserve(room.saturating_add(9))?;
-        body.extend_from_slice(request.spelled_address())?;
+        put_address(&mut body, request.spelled_address())?;
         Ok(Draft {
             to,
             from,
@@ -106,9 +107,9 @@ impl Draft {
         })
     }
 
-    /// Puts an item behind the others. It is refused with `BadItem` if its content has more than 254
-    /// octets; `NoMemory` comes where there was no room and the allocator refuses it. A refused item
-    /// changes nothing.
+    /// Puts an item behind the others. It is refused with `BadItem` if its content has more than
+    /// 254 octets; `NoMemory` comes where there was no room and the allocator refuses it. A refused
+    /// item changes nothing.
     #[inline(always)]
     pub fn put(&mut self, id: u8, content: &[u8]) -> Result<(), MessageFault>
         ensures added { OnOk result (self.new ≡ with_item self.old (entry id content.now)) }
@@ -123,10 +124,10 @@ impl Draft {
         Ok(())
     }
 
-    /// The message, if it can be spelled. It is refused with `BadLength` if the address and the items
-    /// take more than 1,024 octets in all (each has one octet for its length, and an item one for its
-    /// identifier), else with `BadItem` if an identifier isn't above the one before it. It takes no
-    /// memory.
+    /// The message, if it can be spelled. It is refused with `BadLength` if the address and the
+    /// items take more than 1,024 octets in all (each has one octet for its length, and an item one
+    /// for its identifier), else with `BadItem` if an identifier isn't above the one before it. It
+    /// takes no memory.
     pub fn finish(self) -> Result<Message, MessageFault>
         ensures made { IfOk result (λ m. m ≡ self) }
         ensures accepted { OnOk result (IsMessage self) }
@@ -139,6 +140,15 @@ impl Draft {
             return Err(MessageFault::BadItem);
         }
         Ok(Message::of_body(self.to, self.from, self.kind, self.token, self.body))
+    }
+
+    /// The message, where its parts are known to have no fault, so that they aren't judged. It
+    /// takes no memory.
+    pub fn into_message(self) -> Message
+        requires { parts_fault self.address self.items ≡ None }
+        ensures { result ≡ self }
+    {
+        Message::of_body(self.to, self.from, self.kind, self.token, self.body)
     }
 
     /// The items so far.
@@ -163,6 +173,17 @@ fn rise(items: Items<'_>) -> bool
         low = u16::from(item.id()) + 1;
     }
     true
+}
+
+/// Appends an address as it is spelled. Most have one octet, which is put without a call.
+#[inline(always)]
+fn put_address(out: &mut Vec<u8>, spelled: &[u8]) -> Result<(), AllocError>
+    ensures { OnOk result (out.new.items ≡ out.old.items ++ spelled.now) }
+{
+    match spelled {
+        [size, octet] => out.extend_from_slice(&[*size, *octet]),
+        _ => out.extend_from_slice(spelled),
+    }
 }
 
 /// Appends an item: its identifier, its length and its content.

@@ -7,7 +7,8 @@ ghost use Rattle.app_message.specs.Bodies.{listed, AreItems};
 use crate::item::Item;
 use std::marker::Model;
 
-/// The items of a message, or of one in the making, from one on, read where they lie. A contract sees them as a list.
+/// The items of a message, or of one in the making, from one on, read where they lie. A contract
+/// sees them as a list.
 #[derive(Drop)]
 pub struct Items<'a> {
     rest: &'a [u8],

@@ -1,6 +1,6 @@
 //! A message, valid by its type.
 
-ghost use Rattle.std.specs.Prelude.{◌≡◌, ◌≢◌, ◌≤◌, ◌∷◌, true, false, IfOk, OnOk, IfErr, length, List, Some};
+ghost use Rattle.std.specs.Prelude.{◌≡◌, ◌≢◌, ◌≤◌, ◌∷◌, true, false, IfOk, OnOk, OnErr, IfErr, length, List, Some};
 ghost use Rattle.app_message.specs.Telegram.{telegram, entries};
 ghost use Rattle.app_message.specs.Spelling.{IsMessage, body, head_text};
 ghost use Rattle.app_message.specs.Bodies.{of_body, with_items, IsBody};
@@ -11,7 +11,9 @@ use crate::fault::MessageFault;
 use crate::items::Items;
 use crate::kind::Kind;
 use crate::parts;
+use crate::reading::Head;
 use crate::token::Token;
+use site_base::NoMemory;
 use std::alloc::Global;
 use std::marker::Model;
 
@@ -88,6 +90,28 @@ impl Message {
             token,
             body,
         }
+    }
+
+    /// Takes the place of this message: that of this head and these octets of a body, which are copied
+    /// into its room. After `NoMemory` it is as it was.
+    pub(crate) fn set(&mut self, head: Head, body: &[u8]) -> Result<(), NoMemory>
+        requires { IsBody (of_body head.to head.from head.kind head.token body.now) body.now }
+        ensures set { OnOk result (self.new ≡ of_body head.to head.from head.kind head.token body.now) }
+        ensures err { OnErr result (self.new ≡ self.old) }
+    {
+        self.body
+            .reserve(body.len().saturating_sub(self.body.len()))?;
+        self.body.clear();
+        match self.body.extend_from_slice(body) {
+            Ok(()) => {}
+            Err(_) => unreachable!(),
+        }
+        let (to, from) = (head.to, head.from);
+        self.to = to;
+        self.from = from;
+        self.kind = head.kind;
+        self.token = head.token;
+        Ok(())
     }
 
     /// The recipient, as subnet and node.

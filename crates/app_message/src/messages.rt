@@ -7,23 +7,25 @@ use crate::spelled_message::SpelledMessage;
 use site_base::NoMemory;
 use std::alloc::Global;
 use std::marker::Model;
-use std::mem;
 
-/// Messages in their order. A contract sees them as a list. Beside them it keeps messages that were
+/// Messages in their order. A contract sees them as a list. Behind them lie messages that were
 /// cleared, since their room serves again.
 #[derive(Debug, Drop)]
 pub struct Messages {
     items: Vec<Message>,
-    cleared: Vec<Message>,
+    // So many of these are the list.
+    len: usize,
 }
 
 impl Model for Messages {
-    ghost use Rattle.std.specs.Prelude.{List};
+    ghost use Rattle.std.specs.Prelude.{List, ◌≤◌, length, take};
     ghost use Rattle.app_message.specs.Telegram.{Telegram};
 
     ghost Value = { List Telegram };
 
-    ghost view = { λ m. m.items.items };
+    ghost view = { λ m. take m.len m.items.items };
+
+    ghost invariant = { λ m. m.len ≤ length m.items.items };
 }
 
 impl Messages {
@@ -33,31 +35,32 @@ impl Messages {
     {
         Messages {
             items: Vec::new(alloc),
-            cleared: Vec::new(alloc),
+            len: 0,
         }
     }
 
     /// These messages. It takes no memory.
-    pub fn from_vec(alloc: Global, items: Vec<Message>) -> Messages
+    pub fn from_vec(items: Vec<Message>) -> Messages
         ensures { result ≡ items.items }
     {
-        let cleared = Vec::new(alloc);
-        Messages { items, cleared }
+        let len = items.len();
+        Messages { items, len }
     }
 
     /// The messages as a `Vec`. It takes no memory.
     pub fn into_vec(self) -> Vec<Message>
         ensures { result.items ≡ self }
     {
-        self.items
+        let mut items = self.items;
+        items.truncate(self.len);
+        items
     }
 
     /// Clears the list. The room of its messages serves those that come next.
     pub fn clear(&mut self)
         ensures { self.new ≡ [] }
     {
-        mem::swap(&mut self.items, &mut self.cleared);
-        self.items.clear();
+        self.len = 0;
     }
 
     /// Copies a message behind the others, into the room of one that was cleared where there is one.
@@ -68,11 +71,13 @@ impl Messages {
     ) -> Result<(), NoMemory>
         ensures { OnOk result (self.new ≡ self.old ++ spelled.entry ∷ []) }
     {
-        let room = match self.cleared.pop() {
-            Some(message) => message.into_buffer(),
-            None => Vec::new(alloc),
-        };
-        self.items.push(spelled.copied(room)?)?;
+        if self.len < self.items.len() {
+            let cleared = &mut self.items[self.len];
+            spelled.copy_to(cleared)?;
+        } else {
+            self.items.push(spelled.copied(alloc)?)?;
+        }
+        self.len += 1;
         Ok(())
     }
 
@@ -80,20 +85,20 @@ impl Messages {
     pub fn as_slice(&self) -> &[Message]
         ensures { result.now ≡ self.now }
     {
-        self.items.as_slice()
+        &self.items[..self.len]
     }
 
     /// The number of messages.
     pub fn len(&self) -> usize
         ensures { result ≡ length self.now }
     {
-        self.items.len()
+        self.len
     }
 
     /// Whether there are none.
     pub fn is_empty(&self) -> bool
         ensures { result ≡ (length self.now == 0) }
     {
-        self.items.is_empty()
+        self.len == 0
     }
 }

@@ -1,15 +1,16 @@
 //! A message where it lies.
 
-ghost use Rattle.std.specs.Prelude.{◌≡◌, IfOk};
+ghost use Rattle.std.specs.Prelude.{◌≡◌, IfOk, OnOk, OnErr};
 ghost use Rattle.app_message.specs.Bodies.{of_body, IsBody};
 
 use crate::message::Message;
 use crate::reading::Head;
 use site_base::NoMemory;
+use std::alloc::Global;
 use std::marker::Model;
 
-/// A message that was read and not copied yet: its head, and its body in the octets that it was read
-/// from.
+/// A message that was read and not copied yet: its head, and its body in the octets that it was
+/// read from.
 #[derive(Drop)]
 pub struct SpelledMessage<'a> {
     head: Head,
@@ -36,14 +37,22 @@ impl<'a> SpelledMessage<'a> {
         SpelledMessage { head, body }
     }
 
-    /// The message, copied into this buffer, whose content goes. The buffer is lost after `NoMemory`.
-    pub fn copied(self, buffer: Vec<u8>) -> Result<Message, NoMemory>
+    /// The message, copied.
+    pub fn copied(self, alloc: Global) -> Result<Message, NoMemory>
         ensures { IfOk result (λ m. m ≡ self.entry) }
     {
         let SpelledMessage { head, body: octets } = self;
-        let mut body = buffer;
-        body.clear();
-        body.extend_from_slice(octets)?;
+        let body = Vec::from_slice(alloc, octets)?;
         Ok(Message::of_body(head.to, head.from, head.kind, head.token, body))
+    }
+
+    /// The message, copied to the place of another one, whose room serves again. After `NoMemory`
+    /// that one is as it was.
+    pub fn copy_to(self, place: &mut Message) -> Result<(), NoMemory>
+        ensures copied { OnOk result (place.new ≡ self.entry) }
+        ensures err { OnErr result (place.new ≡ place.old) }
+    {
+        let SpelledMessage { head, body } = self;
+        place.set(head, body)
     }
 }

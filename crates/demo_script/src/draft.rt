@@ -162,7 +162,7 @@ impl Draft {
             Some(Section::Till(messages)) => {
                 let mut messages = messages.into_vec();
                 messages.push(message)?;
-                let messages = Messages::from_vec(self.alloc, messages);
+                let messages = Messages::from_vec(messages);
                 self.current = Some(Section::Till(messages));
             }
             current => self.current = current,

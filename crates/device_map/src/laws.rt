@@ -1,5 +1,5 @@
-//! What holds of requests and changes. The laws have no code: they are proved of the definitions that
-//! the contracts of `request_of` and `change_of` cite.
+//! What holds of requests and changes. The laws have no code: they are proved of the definitions
+//! that the contracts of `request_of` and `change_of` cite.
 
 ghost use Rattle.device_map.specs.Changes.{ChangesAreTold, ChangesRepeatRequests};
 ghost use Rattle.device_map.specs.Laws.{IsOneRequest};
@@ -10,8 +10,8 @@ pub fn one_request()
     ensures { IsOneRequest }
 {}
 
-/// A change has the address and the items of the request that made it: in a till's command they ask for
-/// the event of the row.
+/// A change has the address and the items of the request that made it: in a till's command they ask
+/// for the event of the row.
 pub fn changes_repeat_requests()
     ensures { ChangesRepeatRequests }
 {}

@@ -1,8 +1,8 @@
 //! Messages and events: which event a message asks for, and which message tells a reply.
 //!
 //! `request_of` answers the pair of actor and event that a request means, or its first fault.
-//! `reply_of`, `refusal_of` and `stream_refusal` make the message that goes back, `change_of` the one
-//! that a dispenser is told.
+//! `reply_of`, `refusal_of` and `stream_refusal` make the message that goes back, `change_of` the
+//! one that a dispenser is told.
 //!
 //! The requests stand in one table, `specs/Commands.antt`, each with the shape of what it carries:
 //! `request.rt` has an arm for each request, `further.rt` a function for each shape. Worked

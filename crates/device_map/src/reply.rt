@@ -33,7 +33,9 @@ pub fn reply_of(alloc: Global, request: &Message, reply: &Reply) -> Result<Messa
     reply_in(Vec::new(alloc), request, reply)
 }
 
-/// The same message, written into a buffer, whose content goes. The buffer is lost after `NoMemory`.
+/// The same message, written into a buffer, whose content goes. The buffer is lost after
+/// `NoMemory`.
+#[inline(always)]
 pub fn reply_in(buffer: Vec<u8>, request: &Message, reply: &Reply) -> Result<Message, NoMemory>
     ensures { IfOk result (λ message. message ≡ reply_message request.now reply.now) }
 {
@@ -50,7 +52,8 @@ pub fn refusal_of(alloc: Global, request: &Message, number: u8) -> Result<Messag
     refusal_in(Vec::new(alloc), request, number)
 }
 
-/// The same message, written into a buffer, whose content goes. The buffer is lost after `NoMemory`.
+/// The same message, written into a buffer, whose content goes. The buffer is lost after
+/// `NoMemory`.
 pub fn refusal_in(buffer: Vec<u8>, request: &Message, number: u8) -> Result<Message, NoMemory>
     ensures { IfOk result (λ message. message ≡ number_message request.now number) }
 {
@@ -76,8 +79,8 @@ pub fn reply_like(alloc: Global, message: &Message, reply: &Reply) -> Result<Mes
     Ok(finished(again))
 }
 
-/// The message that tells this number to the recipient of another message, with that one's token and
-/// address.
+/// The message that tells this number to the recipient of another message, with that one's token
+/// and address.
 pub fn number_like(alloc: Global, message: &Message, number: u8) -> Result<Message, NoMemory>
     ensures { IfOk result (λ m. m ≡ told_number message.now number) }
 {
@@ -137,10 +140,7 @@ pub fn finished(draft: Draft) -> Message
     requires most { length draft.address ≤ 8 }
     ensures { result ≡ draft }
 {
-    match draft.finish() {
-        Ok(message) => message,
-        Err(_) => unreachable!(),
-    }
+    draft.into_message()
 }
 
 fn kind_of(reply: &Reply) -> Kind
@@ -175,6 +175,7 @@ fn put_refusal(draft: &mut Draft, refusal: &Refusal) -> Result<(), NoMemory>
     Ok(())
 }
 
+#[inline(always)]
 fn put_answer(draft: &mut Draft, answer: &Answer) -> Result<(), NoMemory>
     ensures { OnOk result (draft.new ≡ with_items draft.old (answer_items answer.now)) }
 {

@@ -13,8 +13,8 @@ use site_base::{
 };
 use std::alloc::Global;
 
-/// The reply that a message from the site tells, if it tells one: of a reply that is answered the message
-/// is just the profile's.
+/// The reply that a message from the site tells, if it tells one: of a reply that is answered the
+/// message is just the profile's.
 pub fn reply_told(alloc: Global, message: &Message) -> Result<Option<Reply>, NoMemory>
     ensures { IfOk result (λ told. IfSome told (λ reply. message.now ≡ told_message message.now reply)) }
 {
@@ -30,8 +30,8 @@ pub fn reply_told(alloc: Global, message: &Message) -> Result<Option<Reply>, NoM
     }
 }
 
-/// The number that a message from the site tells in place of a reply, if it tells one: of a number that is
-/// answered the message is just the profile's.
+/// The number that a message from the site tells in place of a reply, if it tells one: of a number
+/// that is answered the message is just the profile's.
 pub fn number_told(alloc: Global, message: &Message) -> Result<Option<u8>, NoMemory>
     ensures { IfOk result (λ told. IfSome told (λ number. message.now ≡ told_number message.now number)) }
 {

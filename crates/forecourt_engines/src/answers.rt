@@ -80,8 +80,7 @@ impl Answerer {
             Err(fault) => return tell(refusal_in(buffer, message, fault.number())?, out),
             Ok(request) => request,
         };
-        let told = self.book.apply(actor, event);
-        let placed = match &told {
+        let placed = match self.book.apply(actor, event) {
             Ok(placed) => placed,
             Err(NoRow::BookFull) => return tell(
                 refusal_in(buffer, message, NoRow::BookFull.number())?,
@@ -89,12 +88,13 @@ impl Answerer {
             ),
             Err(NoRow::NoMemory) => return Err(NoMemory),
         };
-        let room = tell(reply_in(buffer, message, &placed.reply)?, out)?;
+        let reply = placed.reply;
+        let room = tell(reply_in(buffer, message, &reply)?, out)?;
         if self.changes {
             let row = Row {
                 actor,
                 event,
-                reply: placed.reply,
+                reply,
             };
             put_change(alloc, &row, out)?;
             return Ok(room);

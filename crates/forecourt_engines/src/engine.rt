@@ -11,7 +11,7 @@ ghost use Rattle.forecourt_engines.specs.Laws.{IsLine};
 use crate::answers::{Answerer, put_line};
 use crate::fault::TextFault;
 use crate::line::{LINE_OCTETS, decode, put_without_spaces, skips, text_of};
-use app_message::{Decoder, Fed, Messages, StreamFault};
+use app_message::{Decoder, Messages, StreamFault};
 use device_map::stream_refusal;
 use memchr::memchr;
 use site_base::NoMemory;
@@ -21,9 +21,9 @@ use std::marker::Model;
 use std::mem;
 
 /// A replay between two octets of its input. Beside what its text depends on it has buffers that
-/// stay, so that a line no longer, and with no more messages, than the line before it
-/// takes no growth of its own: for a line without its spaces, for its octets, for its messages, and for
-/// a reply.
+/// stay, so that a line no longer, and with no more messages, than the line before it takes no
+/// growth of its own: for a line without its spaces, for its octets, for its messages, and for a
+/// reply.
 #[derive(Drop)]
 pub struct Engine {
     alloc: Global,
@@ -51,8 +51,8 @@ impl Model for Engine {
 }
 
 impl Engine {
-    /// The engine before the first octet, over this book; it tells the changes of its rows or not. It
-    /// takes no memory.
+    /// The engine before the first octet, over this book; it tells the changes of its rows or not.
+    /// It takes no memory.
     pub fn new(alloc: Global, book: SiteBook, changes: bool) -> Engine
         ensures { result ≡ start (record { book = book; changes = changes }) }
     {
@@ -98,7 +98,8 @@ impl Engine {
         self.begin_line(rest)
     }
 
-    /// The end of the input: it ends the last line. Appends its text, and answers why the text ends.
+    /// The end of the input: it ends the last line. Appends its text, and answers why the text
+    /// ends.
     pub fn finish(&mut self, out: &mut Vec<u8>) -> Result<Option<TextFault>, NoMemory>
         ensures fault { IfOk result (λ fault. fault ≡ last_fault self.old) }
         ensures state { OnOk result (self.new ≡ ended self.old) }
@@ -215,18 +216,17 @@ impl Engine {
         self.answer(octets, out)
     }
 
-    /// The messages that these octets end, each answered over the book by a line, and the refusal of a
-    /// stream's fault. The answer is why the text ends with them, if it does.
+    /// The messages that these octets end, each answered over the book by a line, and the refusal
+    /// of a stream's fault. The answer is why the text ends with them, if it does.
     fn answer(&mut self, octets: &[u8], out: &mut Vec<u8>) -> Result<Option<TextFault>, NoMemory>
         ensures stop { IfOk result (λ stop. stop ≡ (answered self.old.answerer (fed_by self.old.stream octets.now)).stop) }
         ensures state { OnOk result (self.new ≡ talked self.old (answered self.old.answerer (fed_by self.old.stream octets.now))) }
         ensures text { OnOk result (out.new.items ≡ out.old.items ++ (answered self.old.answerer (fed_by self.old.stream octets.now)).text) }
     {
-        let room = mem::replace(&mut self.messages, Messages::new(self.alloc));
-        let Fed { messages, fault } = self.decoder.feed_into(octets, room)?;
+        let fault = self.decoder.feed_into(octets, &mut self.messages)?;
+        let messages = self.messages.as_slice();
         self.answerer
-            .answer_all(self.alloc, messages.as_slice(), &mut self.reply, out)?;
-        self.messages = messages;
+            .answer_all(self.alloc, messages, &mut self.reply, out)?;
         match fault {
             None => Ok(None),
             Some(fault) => {

@@ -38,8 +38,8 @@ pub struct Explanation {
     pub meaning: Meaning,
 }
 
-/// What a message means: the event that it asks for, or what the site tells by it. No meaning is told
-/// that the profile spells otherwise.
+/// What a message means: the event that it asks for, or what the site tells by it. No meaning is
+/// told that the profile spells otherwise.
 pub fn explain(alloc: Global, message: &Message) -> Result<Explanation, NoMemory>
     ensures to { IfOk result (λ told. told.to ≡ message.now.to) }
     ensures from { IfOk result (λ told. told.from ≡ message.now.from) }
@@ -105,8 +105,8 @@ impl fmt::Display for Explanation {
     }
 }
 
-/// A node: `t1` is that of till 1, `d3` that of the dispenser of point 3, others as subnet and node in
-/// hexadecimal.
+/// A node: `t1` is that of till 1, `d3` that of the dispenser of point 3, others as subnet and node
+/// in hexadecimal.
 #[derive(Clone, Copy)]
 struct Node([u8; 2]);
 

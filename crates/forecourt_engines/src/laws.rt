@@ -4,9 +4,9 @@
 ghost use Rattle.forecourt_engines.specs.WholeText.{IsOneStreamOfLines};
 ghost use Rattle.forecourt_engines.specs.Laws.{LineSays, LastLineSays, LongLineSays, NothingFollows};
 
-/// A line of at most `LINE_OCTETS` octets and a line feed say what the line says as a whole: nothing
-/// where it is skipped, a bad line where it isn't hexadecimal, else the answers to the messages that
-/// its octets end.
+/// A line of at most `LINE_OCTETS` octets and a line feed say what the line says as a whole:
+/// nothing where it is skipped, a bad line where it isn't hexadecimal, else the answers to the
+/// messages that its octets end.
 pub fn a_line_says()
     ensures { LineSays }
 {}
@@ -27,10 +27,10 @@ pub fn nothing_follows()
 {}
 
 /// The text of a replay as a whole. The lines before the first bad one spell one stream of octets,
-/// wherever they cut it. The text is the answers to the messages of that stream, each a line, with the
-/// changes where they are told, and then the
-/// line of the stream's fault, if it has one; the replay's fault is that one, else the bad line, else 44
-/// where octets of the stream are left; the rows are those of its messages.
+/// wherever they cut it. The text is the answers to the messages of that stream, each a line, with
+/// the changes where they are told, and then the line of the stream's fault, if it has one; the
+/// replay's fault is that one, else the bad line, else 44 where octets of the stream are left; the
+/// rows are those of its messages.
 pub fn one_stream_of_lines()
     ensures { IsOneStreamOfLines }
 {}

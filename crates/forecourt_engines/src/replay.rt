@@ -28,10 +28,12 @@ pub struct ReplayEnd {
 pub const PIECE_OCTETS: usize = 4_096;
 
 /// Replays lines of messages on the opening site of this configuration: each message is answered by
-/// a line, in order, and, with `changes`, the change that its row stands for follows as a line. It ends at the end of the input, at the first fault of the text, where a growth
-/// is refused, a device fails, or `turns` are used up (each read call and each interrupted write call
-/// is a turn), so that no more than a piece a turn is read. Whatever it ends with, what was written is a front of the text of what was read. It ends
-/// with a fault of the text only where the text stops at what was read, or the input is at its end.
+/// a line, in order, and, with `changes`, the change that its row stands for follows as a line. It
+/// ends at the end of the input, at the first fault of the text, where a growth is refused, a
+/// device fails, or `turns` are used up (each read call and each interrupted write call is a turn),
+/// so that no more than a piece a turn is read. Whatever it ends with, what was written is a front
+/// of the text of what was read. It ends with a fault of the text only where the text stops at what
+/// was read, or the input is at its end.
 pub fn replay<R: Read, W: Write>(
     alloc: Global,
     config: &SiteConfig,

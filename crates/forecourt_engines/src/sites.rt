@@ -9,8 +9,9 @@ use site_base::{
 };
 use std::alloc::Global;
 
-/// Two products (diesel at 1500 mills, petrol at 1799), five fuelling points that each have a nozzle of
-/// diesel from reading 0 and a nozzle of petrol from reading 1000, and till 1 as a manager.
+/// Two products (diesel at 1500 mills, petrol at 1799), five fuelling points that each have a
+/// nozzle of diesel from reading 0 and a nozzle of petrol from reading 1000, and till 1 as a
+/// manager.
 pub fn known_site(alloc: Global) -> Result<SiteConfig, NoMemory>
     ensures { IfOk result (λ config. config ≡ known_site) }
 {

@@ -52,8 +52,9 @@ impl Trace {
         }
     }
 
-    /// Takes a line, which comes without its line feed, and gives the messages that end in it. It ends the trace where it ends a replay, with
-    /// the same fault, whatever book the replay is over. After `NoMemory` the trace is of no use.
+    /// Takes a line, which comes without its line feed, and gives the messages that end in it. It
+    /// ends the trace where it ends a replay, with the same fault, whatever book the replay is
+    /// over. After `NoMemory` the trace is of no use.
     pub fn line(&mut self, line: &[u8]) -> Result<Explained, NoMemory>
         ensures number { OnOk result (self.new.number ≡ next_number self.old.number) }
         ensures messages { IfOk result (λ told. length line.now ≤ LINE_OCTETS

@@ -79,10 +79,10 @@ impl Model for SiteConfig {
 }
 
 impl SiteConfig {
-    /// The site with at most `rows` rows by calls that look for a full book, these managers, products
-    /// and points. None exactly where a number of rows, products, points or nozzles is out of range,
-    /// a name isn't fit, a till, product number, product name or point number stands twice, or a
-    /// nozzle's product isn't there. It takes no memory.
+    /// The site with at most `rows` rows by calls that look for a full book, these managers,
+    /// products and points. None exactly where a number of rows, products, points or nozzles is out
+    /// of range, a name isn't fit, a till, product number, product name or point number stands
+    /// twice, or a nozzle's product isn't there. It takes no memory.
     pub fn try_new(
         rows: u32,
         managers: Vec<TillNo>,
@@ -125,8 +125,8 @@ impl SiteConfig {
         &self.managers
     }
 
-    /// The products, in configured order: 1 to `PRODUCTS`, each with a fit name, none of one number or
-    /// one name with another.
+    /// The products, in configured order: 1 to `PRODUCTS`, each with a fit name, none of one number
+    /// or one name with another.
     pub fn products(&self) -> &[ProductEntry]
         ensures value { result.now ≡ self.now.products }
         ensures fit { are_products self.now.products ≡ true }
@@ -134,8 +134,8 @@ impl SiteConfig {
         &self.products
     }
 
-    /// The fuelling points, in configured order: 1 to `POINTS`, none of one number with another, each
-    /// with 1 to `NOZZLES` nozzles of products that are there.
+    /// The fuelling points, in configured order: 1 to `POINTS`, none of one number with another,
+    /// each with 1 to `NOZZLES` nozzles of products that are there.
     pub fn points(&self) -> &[PointEntry]
         ensures value { result.now ≡ self.now.points }
         ensures fit { are_points self.now.products self.now.points ≡ true }

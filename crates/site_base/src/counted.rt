@@ -10,9 +10,9 @@ use std::io::{self, ErrorKind, Read, Write};
 /// A reader or a writer with the number of its failed calls, from 0 up to the greatest `u64`, where
 /// the count stays.
 ///
-/// A call that answers an error is a failed call, unless a signal interrupted it. So is a write that
-/// takes no octet, since the writer takes no more. A read of no octet is not: it is the end of the
-/// input. Between the calls the device is as it would be by itself.
+/// A call that answers an error is a failed call, unless a signal interrupted it. So is a write
+/// that takes no octet, since the writer takes no more. A read of no octet is not: it is the end of
+/// the input. Between the calls the device is as it would be by itself.
 #[derive(Debug, Drop)]
 pub struct Counted<D> {
     device: D,

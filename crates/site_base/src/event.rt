@@ -30,11 +30,11 @@ pub enum Event {
     /// The till takes the hold of a fuelling point and releases it for one fuelling, within this
     /// preset.
     Release(FpNo, Preset),
-    /// The till takes the hold of a fuelling point and releases it for one fuelling that is prepaid,
-    /// within these cents.
+    /// The till takes the hold of a fuelling point and releases it for one fuelling that is
+    /// prepaid, within these cents.
     Prepay(FpNo, u32),
-    /// A manager takes the hold of a fuelling point and releases it for a test, whose fuel goes back
-    /// to the tank.
+    /// A manager takes the hold of a fuelling point and releases it for a test, whose fuel goes
+    /// back to the tank.
     TestRelease(FpNo),
     /// Suspends the fuelling at a point.
     Suspend(FpNo),
@@ -146,7 +146,8 @@ impl Event {
         }
     }
 
-    /// The reading of a meter that the event carries, if it carries one. It is one that a meter can show.
+    /// The reading of a meter that the event carries, if it carries one. It is one that a meter can
+    /// show.
     pub fn reading(&self) -> Option<Millilitres>
         ensures reading { result ≡ reading_carried self.now }
         ensures range { IfSome (reading_carried self.now) (λ reading. reading ≤ GREATEST_READING) }

@@ -118,6 +118,7 @@ impl Model for KeptRow {
 
 impl KeptRow {
     /// The row, as it is kept where its figures, if it has any, stand at this place.
+    #[inline(always)]
     pub fn new(row: &Row, at: usize) -> KeptRow
         ensures { result ≡ kept_row at row.now }
     {
@@ -218,6 +219,7 @@ pub fn figures_told(reply: &Reply) -> Option<Figures>
 }
 
 /// A reply, as it is kept where its figures, if it has any, stand at this place.
+#[inline(always)]
 fn keep(reply: &Reply, at: usize) -> KeptReply
     ensures { result ≡ kept_reply at reply.now }
 {

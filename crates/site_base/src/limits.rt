@@ -46,8 +46,8 @@ pub const GREATEST_PRICE: u32 = 99_999;
 /// The greatest preset volume (in millilitres), preset money or prepayment (in cents).
 pub const GREATEST_PRESET: u32 = 99_999_999;
 
-/// The greatest single amount, in cents. The greatest volume at the greatest price, 9,999,899,999,990
-/// cents, is below it.
+/// The greatest single amount, in cents. The greatest volume at the greatest price,
+/// 9,999,899,999,990 cents, is below it.
 pub const GREATEST_CENTS: u64 = 9_999_900_000_000;
 
 /// The greatest number of a shift.

@@ -64,8 +64,8 @@ impl PriceBook {
         &self.rows
     }
 
-    /// Gives product q this price; every other price stays. False where q isn't there, and then nothing
-    /// changes.
+    /// Gives product q this price; every other price stays. False where q isn't there, and then
+    /// nothing changes.
     pub fn set(&mut self, q: ProductNo, price: Mills) -> bool
         ensures there { result ≡ is_some (row_of q self.old) }
         ensures prices { self.new ≡ with_row q price self.old }

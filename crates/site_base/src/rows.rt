@@ -87,6 +87,7 @@ impl Rows {
     }
 
     /// Adds a row at the end, where room is reserved.
+    #[inline(always)]
     pub fn push(&mut self, row: &Row)
         requires { 0 < self.old.room }
         ensures rows { self.new.rows ≡ self.old.rows ++ row.now ∷ [] }

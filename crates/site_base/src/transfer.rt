@@ -80,10 +80,10 @@ impl Error for WriteFault {}
 
 /// Reads one piece into the front of `buf`, and answers its length. 0 is the end of the input.
 ///
-/// Each call of the reader takes one of `turns`, and an interrupted call is made again. It ends with
-/// `TurnLimit` where no turn is left before a call, and with `Failed` where a call failed in another
-/// way; no call is made after that. After either the input is as it was, and what `buf` holds is of
-/// no use. The reader's count rises by one at `Failed` and stays at every other end.
+/// Each call of the reader takes one of `turns`, and an interrupted call is made again. It ends
+/// with `TurnLimit` where no turn is left before a call, and with `Failed` where a call failed in
+/// another way; no call is made after that. After either the input is as it was, and what `buf`
+/// holds is of no use. The reader's count rises by one at `Failed` and stays at every other end.
 pub fn read_piece<R: Read>(
     reader: &mut Counted<R>,
     buf: &mut [u8],
@@ -126,11 +126,11 @@ pub fn read_piece<R: Read>(
 
 /// Writes the whole text, in as many calls as the writer needs. An empty text needs none.
 ///
-/// An interrupted call takes one of `turns` and is made again; no other call takes one. It ends with
-/// `TurnLimit` where a call was interrupted and no turn is left for it, and with `Failed` where a call
-/// failed in another way or took no octet; no call is made after that. After either a front of the
-/// text is written, which may be empty. The writer's count rises by one at `Failed` and stays at
-/// every other end.
+/// An interrupted call takes one of `turns` and is made again; no other call takes one. It ends
+/// with `TurnLimit` where a call was interrupted and no turn is left for it, and with `Failed`
+/// where a call failed in another way or took no octet; no call is made after that. After either a
+/// front of the text is written, which may be empty. The writer's count rises by one at `Failed`
+/// and stays at every other end.
 #[tactic(auto, using(crate::proofs::Known::known))]
 pub fn write_whole<W: Write>(
     writer: &mut Counted<W>,

@@ -1,5 +1,5 @@
-//! The words in which actors, events, answers, refusals and rows are written, for people and for tables of
-//! cases: one grammar for all, which docs/PROFILE.md explains.
+//! The words in which actors, events, answers, refusals and rows are written, for people and for
+//! tables of cases: one grammar for all, which docs/PROFILE.md explains.
 
 use crate::actor::Actor;
 use crate::amounts::Millilitres;

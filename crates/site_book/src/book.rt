@@ -59,6 +59,7 @@ impl SiteBook {
     /// as its configuration allows, or more, then `NoMemory` where a growth is refused; neither
     /// makes a row or changes the site. Else the row has the written step's reply, and is answered
     /// with its place. A SignOn that is accepted reserves the row of the till's sign-off.
+    #[inline(always)]
     pub fn apply(&mut self, actor: Actor, event: Event) -> Result<Placed, NoRow>
         ensures row { OnOk result (self.new ≡ with_row_of self.old actor event) }
         ensures reply { IfOk result (λ placed. placed.reply ≡ book_reply self.old actor event) }
@@ -127,6 +128,7 @@ impl SiteBook {
 }
 
 /// Takes the written step, and adds its row. Room for both was made; it takes no memory.
+#[inline(always)]
 fn add_row(site: &mut Site, rows: &mut Rows, actor: &Actor, event: &Event) -> Placed
     requires step { HasRoom site.old.room event.now }
     requires row { 0 < rows.old.room }

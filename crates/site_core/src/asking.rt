@@ -60,8 +60,8 @@ impl SiteParts {
         self.not_yours(event)
     }
 
-    /// Why a till is refused what dispensers report: that it is signed on and the numbers are looked at
-    /// first.
+    /// Why a till is refused what dispensers report: that it is signed on and the numbers are
+    /// looked at first.
     pub(crate) fn not_a_tills(&self, t: TillNo, event: &Event) -> Refusal
         requires reported { is_none (reported_by event.now) ≡ false }
         requires signs { signing (site_of self.now) (Till t) event.now

@@ -15,6 +15,7 @@ use site_base::{Answer, Event, FpNo, Reply, TillNo};
 impl SiteParts {
     /// The till's command to the point, to which it is `own`: the point does what its table says, and
     /// nothing else changes.
+    #[inline(always)]
     pub(crate) fn command(&mut self, t: TillNo, p: FpNo, event: &Event, own: PointEvent) -> Reply
         requires { IsCommand (site_of self.old) (Till t) p event.now own }
         ensures steps { Steps (site_of self.old) (Till t) event.now (site_of self.new) result }

@@ -20,8 +20,8 @@ use site_base::{
 use till_claims::Claims;
 
 impl SiteParts {
-    /// Tells a step of the point, which took this growth. Where it ends a fuelling, its sale or its draw
-    /// is noted; the hold is looked at for the sale's locker, and stays.
+    /// Tells a step of the point, which took this growth. Where it ends a fuelling, its sale or its
+    /// draw is noted; the hold is looked at for the sale's locker, and stays.
     pub(crate) fn end(&mut self, p: FpNo, growth: u64, step: &PointStep) -> Answer
         requires room { 0 < room_at p self.old.accounts.rooms }
         requires place { MayEnd (site_of self.old) p step.now }
@@ -53,8 +53,8 @@ impl SiteParts {
         }
     }
 
-    /// The sale of a fuelling of the point, as it begins: a prepaid one is locked by the holder of the
-    /// point, where that till is signed on.
+    /// The sale of a fuelling of the point, as it begins: a prepaid one is locked by the holder of
+    /// the point, where that till is signed on.
     fn sale_view(
         &self,
         p: FpNo,
@@ -85,8 +85,8 @@ impl SiteParts {
         }
     }
 
-    /// The till that has locked a sale from its beginning: of a prepaid one the holder, where it is signed
-    /// on.
+    /// The till that has locked a sale from its beginning: of a prepaid one the holder, where it is
+    /// signed on.
     fn first_locker(&self, p: FpNo, prepaid: Option<u32>) -> Option<TillNo>
         ensures { result ≡ first_locker (site_of self.now) p prepaid }
     {

@@ -58,8 +58,8 @@ impl SiteParts {
         }))
     }
 
-    /// The product at this price, as a read shows it. What is in fuellings under way is what the meters
-    /// have counted and no sale or draw has.
+    /// The product at this price, as a read shows it. What is in fuellings under way is what the
+    /// meters have counted and no sale or draw has.
     pub(crate) fn product_view(&self, q: ProductNo, price: Mills) -> ProductView
         requires { Sound (site_of self.now) }
         ensures { result ≡ product_view (site_of self.now) q price }

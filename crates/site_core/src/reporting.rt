@@ -30,8 +30,8 @@ impl SiteParts {
         Ok(Answer::Done)
     }
 
-    /// A nozzle is taken out: the point calls, or its fuelling starts at today's price and the nozzle's
-    /// last reading, which the meter has to read.
+    /// A nozzle is taken out: the point calls, or its fuelling starts at today's price and the
+    /// nozzle's last reading, which the meter has to read.
     pub(crate) fn lift(&mut self, d: FpNo, p: FpNo, n: NozzleNo, reading: Millilitres) -> Reply
         ensures steps { Steps (site_of self.old) (Dispenser d) (Event.Lift p n reading)
             (site_of self.new) result }
@@ -50,7 +50,8 @@ impl SiteParts {
         Ok(told(step))
     }
 
-    /// The dispenser isn't reached any more: a fuelling under way is over, and the hold of the point ends.
+    /// The dispenser isn't reached any more: a fuelling under way is over, and the hold of the
+    /// point ends.
     pub(crate) fn offline(&mut self, d: FpNo, p: FpNo) -> Reply
         requires sound { Sound (site_of self.old) }
         requires room { 0 < room_at p self.old.accounts.rooms }
@@ -82,8 +83,8 @@ impl SiteParts {
         Ok(told(step))
     }
 
-    /// The nozzle is put back: a fuelling under way is over, with what the meter has grown since its last
-    /// reading. Where the point only calls, the meter hasn't grown.
+    /// The nozzle is put back: a fuelling under way is over, with what the meter has grown since
+    /// its last reading. Where the point only calls, the meter hasn't grown.
     pub(crate) fn hang_up(&mut self, d: FpNo, p: FpNo, n: NozzleNo, reading: Millilitres) -> Reply
         requires sound { Sound (site_of self.old) }
         requires room { 0 < room_at p self.old.accounts.rooms }
@@ -105,8 +106,8 @@ impl SiteParts {
         Ok(answer)
     }
 
-    /// What has flowed by a nozzle that is there since its last reading, where it reads this; 0 where it
-    /// reads less.
+    /// What has flowed by a nozzle that is there since its last reading, where it reads this; 0
+    /// where it reads less.
     fn growth(&self, p: FpNo, n: NozzleNo, reading: Millilitres) -> u64
         requires { has_nozzle p n (site_of self.now).nozzles ≡ true }
         ensures value { result ≡ flowed (site_of self.now) p n reading }

@@ -18,7 +18,8 @@ pub struct RunStopped {
     pub done: usize,
 }
 
-/// The types that a reply tells of. The prover looks for them in a function whose loop carries replies.
+/// The types that a reply tells of. The prover looks for them in a function whose loop carries
+/// replies.
 type Told = (
     Answer,
     Refusal,
@@ -35,8 +36,9 @@ type Told = (
     Mills,
 );
 
-/// Takes the written step for each event in turn, from the site as it stands, and answers the replies.
-/// Where a growth is refused it stops: the events before that one are done, and the others aren't.
+/// Takes the written step for each event in turn, from the site as it stands, and answers the
+/// replies. Where a growth is refused it stops: the events before that one are done, and the others
+/// aren't.
 pub fn run(
     alloc: Global,
     site: &mut Site,

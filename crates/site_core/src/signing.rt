@@ -37,8 +37,8 @@ impl SiteParts {
         Ok(Answer::Done)
     }
 
-    /// The till leaves: its locked transactions are payable again, its holds of points that are closed,
-    /// idle or calling end, and it isn't signed on any more.
+    /// The till leaves: its locked transactions are payable again, its holds of points that are
+    /// closed, idle or calling end, and it isn't signed on any more.
     pub(crate) fn leave(&mut self, t: TillNo)
         ensures site { site_of self.new ≡ accepted_site (site_of self.old) (Till t) SignOff }
         ensures room { room_of self.new ≡ room_of self.old }

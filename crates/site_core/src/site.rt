@@ -81,6 +81,7 @@ impl Site {
     /// refusal the site is as it was. The room of `prepare` for the event is there; it takes no
     /// memory. A sale uses one place of its point's room, a shift that is closed one of the closes;
     /// all other room stays.
+    #[inline(always)]
     pub fn step(&mut self, actor: Actor, event: Event) -> Reply
         requires room { HasRoom self.old.room event }
         ensures step { Steps self.old.site actor event self.new.site result }

@@ -1,6 +1,6 @@
-//! What the site keeps, and which event is whose: the events themselves stand in `signing`, `commanding`,
-//! `holding`, `releasing`, `reporting`, `ending`, `paying`, `managing` and `figures`. `totalling`
-//! reads the totals that are kept, `counting` counts them from the lists.
+//! What the site keeps, and which event is whose: the events themselves stand in `signing`,
+//! `commanding`, `holding`, `releasing`, `reporting`, `ending`, `paying`, `managing` and `figures`.
+//! `totalling` reads the totals that are kept, `counting` counts them from the lists.
 
 ghost use Rattle.std.specs.Prelude.{◌≡◌, ℕ, ◌≤◌, IfOk, OnOk, OnErr};
 ghost use Rattle.transaction_buffer.specs.Rooms.{room_at};
@@ -20,8 +20,8 @@ use site_base::{Actor, Event, FpNo, NoMemory, PriceBook, Refusal, Reply, SiteCon
 use std::alloc::Global;
 use till_claims::Claims;
 
-/// The points, their nozzles' meters, which till holds which point, the prices, the tills that are managers
-/// and those that are signed on, and the sales with the figures of the shifts.
+/// The points, their nozzles' meters, which till holds which point, the prices, the tills that are
+/// managers and those that are signed on, and the sales with the figures of the shifts.
 #[derive(Drop)]
 pub struct SiteParts {
     pub(crate) points: Points,
@@ -70,6 +70,7 @@ impl SiteParts {
     }
 
     /// The written step.
+    #[inline(always)]
     pub fn step(&mut self, actor: Actor, event: &Event) -> Reply
         requires sound { Sound (site_of self.old) }
         requires room { HasRoom (room_of self.old) event.now }
@@ -82,6 +83,7 @@ impl SiteParts {
         }
     }
 
+    #[inline(always)]
     fn till_step(&mut self, t: TillNo, event: &Event) -> Reply
         requires sound { Sound (site_of self.old) }
         requires room { HasRoom (room_of self.old) event.now }

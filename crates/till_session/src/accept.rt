@@ -14,7 +14,8 @@ pub enum NoConnection {
     Failed,
 }
 
-/// A listener. It counts the calls that failed, from 0 up to the greatest `u64`, where the count stays.
+/// A listener. It counts the calls that failed, from 0 up to the greatest `u64`, where the count
+/// stays.
 pub trait Accept {
     ghost use Rattle.std.specs.Prelude.{◌≡◌, ℕ, OnOk};
     ghost use Rattle.std.specs.Result.{IsErrOf};

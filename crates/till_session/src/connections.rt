@@ -10,8 +10,8 @@ use std::mem;
 /// The octets of replies that a connection over memory takes without a growth.
 const REPLY_ROOM: usize = 4_096;
 
-/// A listener over memory: its connections' octets stand ready. One of its calls may fail; one after the
-/// last connection does.
+/// A listener over memory: its connections' octets stand ready. One of its calls may fail; one
+/// after the last connection does.
 #[derive(Drop)]
 pub struct Connections {
     ready: Vec<Vec<u8>>,
@@ -22,8 +22,8 @@ pub struct Connections {
 }
 
 impl Connections {
-    /// A listener of connections with these octets. Its call of this number fails, counted from 1; none
-    /// before the last connection where it is 0.
+    /// A listener of connections with these octets. Its call of this number fails, counted from 1;
+    /// none before the last connection where it is 0.
     pub fn new(ready: Vec<Vec<u8>>, fails_at: u64) -> Connections
         ensures { ⟦<Connections as Accept>⟧.failed result ≡ 0 }
     {

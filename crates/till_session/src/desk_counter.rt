@@ -11,9 +11,9 @@ use site_base::{Actor, Event, NoRow, Reply, TillNo};
 use std::sync::Wait;
 use std::sync::ledger::Ledger;
 
-/// What a session asks of a desk: each request is submitted through the share, between the gate's two
-/// calls; the second one comes once the reply was written. Its record is what the share's receipts
-/// tell, and it owes what the share owes.
+/// What a session asks of a desk: each request is submitted through the share, between the gate's
+/// two calls; the second one comes once the reply was written. Its record is what the share's
+/// receipts tell, and it owes what the share owes.
 #[derive(Drop)]
 pub struct DeskCounter<'a, L: Ledger, C: Naming, G: Gate, R: Wait> {
     rt: &'a R,

@@ -4,8 +4,8 @@ ghost use Rattle.std.specs.Prelude.{◌≡◌, ◌≤◌, Some, drop, vec_len};
 
 use std::io::{self, ErrorKind, Read, Write};
 
-/// A reader or a writer over memory: a reader of the octets that it holds, or a writer behind them. One
-/// of its calls may fail, and a write moves no more than so many octets.
+/// A reader or a writer over memory: a reader of the octets that it holds, or a writer behind them.
+/// One of its calls may fail, and a write moves no more than so many octets.
 #[derive(Debug, Drop)]
 pub struct Faulty {
     octets: Vec<u8>,
@@ -17,8 +17,8 @@ pub struct Faulty {
 }
 
 impl Faulty {
-    /// A device over these octets. Its call of this number fails, counted from 1; none where it is 0.
-    /// A write takes at most `most` octets.
+    /// A device over these octets. Its call of this number fails, counted from 1; none where it is
+    /// 0. A write takes at most `most` octets.
     pub fn new(octets: Vec<u8>, fails_at: u64, most: usize) -> Faulty
         ensures reads { ⟦<Faulty as Read>⟧.remaining result ≡ Some octets.items }
         ensures writes { ⟦<Faulty as Write>⟧.contents result ≡ Some octets.items }

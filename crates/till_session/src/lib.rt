@@ -1,9 +1,9 @@
 //! Sessions of tills and dispensers: octets in, replies out.
 //!
-//! A `Session` reads the messages of one peer, asks a `Counter` for each request, and writes the reply
-//! before it asks for the next one. What it writes is the text of what it read, as `specs/Text.antt`
-//! defines it; the counter's record has a row for each request that was answered with one, and a till
-//! that the session signed on and didn't sign off is signed off at its end.
+//! A `Session` reads the messages of one peer, asks a `Counter` for each request, and writes the
+//! reply before it asks for the next one. What it writes is the text of what it read, as
+//! `specs/Text.antt` defines it; the counter's record has a row for each request that was answered
+//! with one, and a till that the session signed on and didn't sign off is signed off at its end.
 #![tactic(auto)]
 
 mod accept;

@@ -75,9 +75,9 @@ type Started = Option<PromisedHandle<Vec<NumberedEnd>, AnyEnds>>;
 /// Serves so many sessions by so many workers, all side by side. Each worker takes a share from the
 /// root, draws the numbers of sessions, accepts one connection for each, serves it at the desk, and
 /// hands the share back. The ends come in the order of the sessions' numbers, one for each that was
-/// drawn; a connection that the listener didn't give ends with `Accept` or `NoMemory`. A worker that
-/// can't be started, or finds no memory for its share or its ends, draws none. A growth that is refused
-/// here is answered before any worker starts.
+/// drawn; a connection that the listener didn't give ends with `Accept` or `NoMemory`. A worker
+/// that can't be started, or finds no memory for its share or its ends, draws none. A growth that
+/// is refused here is answered before any worker starts.
 pub fn serve<
     A: Accept + Send + Sync + Drop,
     L: Ledger + Send + Sync,

@@ -13,11 +13,10 @@ ghost use Rattle.till_session.specs.Text.{left_over};
 use crate::counter::Counter;
 use crate::fault::{SessionFault, TalkFault};
 use crate::talk::Talk;
-use app_message::{Decoder, Fed, Messages};
+use app_message::{Decoder, Messages};
 use site_base::{Counted, ReadFault, WriteFault, read_piece};
 use std::alloc::Global;
 use std::io::{Read, Write};
-use std::mem;
 
 /// The octets of one read, at most.
 pub const PIECE_OCTETS: usize = 4_096;
@@ -38,14 +37,14 @@ pub struct SessionEnd {
 pub struct Session;
 
 impl Session {
-    /// Serves one peer: reads its messages, asks the counter for each request, and writes each reply
-    /// before the next request is asked. It serves the originator of the first message: a message of
-    /// another one is refused, and ends it. A message that means no event is refused, and the session
-    /// goes on; so it does where the counter has no row for a request. A fault of the octets is
-    /// refused, and ends it. It ends too at the end of the octets, where a growth is refused, where a
-    /// device fails, and where `turns` are used up: each read call and each interrupted write call is a
-    /// turn. Whatever it ends with, what was written is a front of the text of what was read, and a till
-    /// that it signed on and didn't sign off is left.
+    /// Serves one peer: reads its messages, asks the counter for each request, and writes each
+    /// reply before the next request is asked. It serves the originator of the first message: a
+    /// message of another one is refused, and ends it. A message that means no event is refused,
+    /// and the session goes on; so it does where the counter has no row for a request. A fault of
+    /// the octets is refused, and ends it. It ends too at the end of the octets, where a growth is
+    /// refused, where a device fails, and where `turns` are used up: each read call and each
+    /// interrupted write call is a turn. Whatever it ends with, what was written is a front of the
+    /// text of what was read, and a till that it signed on and didn't sign off is left.
     pub fn run<R: Read, W: Write, C: Counter>(
         alloc: Global,
         reader: &mut Counted<R>,
@@ -118,20 +117,18 @@ fn converse<R: Read, W: Write, C: Counter>(
         → Rose (failures_of writer.old) (failures_of writer.new) }
 {
     let mut decoder = Decoder::new(alloc);
-    let mut list = Messages::new(alloc);
+    let mut messages = Messages::new(alloc);
     let mut piece = [0u8; PIECE_OCTETS];
     loop {
         let n = read_piece(reader, &mut piece, &mut turns)?;
         if n == 0 {
             return end_of(&decoder);
         }
-        let room = mem::replace(&mut list, Messages::new(alloc));
-        let Fed { messages, fault } = decoder.feed_into(&piece[..n], room)?;
+        let fault = decoder.feed_into(&piece[..n], &mut messages)?;
         talk.hear(counter, writer, messages.as_slice(), &mut turns)?;
         if let Some(fault) = fault {
             return talk.refuse_stream(writer, &fault, &mut turns);
         }
-        list = messages;
     }
 }
 

@@ -21,9 +21,9 @@ use std::io::Write;
 use std::marker::Model;
 use std::mem;
 
-/// What a session keeps between two messages: whom it serves, the till that it signed on and didn't sign
-/// off, and how many requests it asked. Beside that it has buffers that stay: for a reply's body, and for
-/// the octets that are written.
+/// What a session keeps between two messages: whom it serves, the till that it signed on and didn't
+/// sign off, and how many requests it asked. Beside that it has buffers that stay: for a reply's
+/// body, and for the octets that are written.
 #[derive(Drop)]
 pub(crate) struct Talk {
     alloc: Global,
@@ -97,8 +97,8 @@ impl Talk {
         Ok(())
     }
 
-    /// Answers messages, in order, each whole before the next one is looked at. It ends at a message of
-    /// another originator, where a growth is refused, or where the writer takes no more.
+    /// Answers messages, in order, each whole before the next one is looked at. It ends at a
+    /// message of another originator, where a growth is refused, or where the writer takes no more.
     pub(crate) fn hear<C: Counter, W: Write>(
         &mut self,
         counter: &mut C,
@@ -144,8 +144,8 @@ impl Talk {
     }
 
     /// Answers a message. One of another originator than the first one's is refused, and ends the
-    /// session; one that means no event is refused; else the counter is asked, its reply is written, and
-    /// the counter is told so.
+    /// session; one that means no event is refused; else the counter is asked, its reply is
+    /// written, and the counter is told so.
     fn answer<C: Counter, W: Write>(
         &mut self,
         counter: &mut C,
