@@ -14,14 +14,14 @@ const CALLS: usize = 10_000;
 /// Fuel is sold at the points up to this one, twice at each. The tills fight for the others.
 const LAST_SELLING: u8 = 48;
 
-/// One till opens every point and makes 96 sales of 10,000 ml. Then 16 workers with two tills each go
-/// round these sales and the other points, each from a place of its own.
+/// One till opens every point and makes 96 sales of 10,000 ml. Then 16 workers with two tills each
+/// go round these sales and the other points, each from a place of its own.
 ///
 /// Whatever the order is, each sale is cleared once, so that 96 clears make 144,000 cents. The till
 /// that locks a sale first is the first one of its worker, whose second one is told next that it is
-/// locked by another, and after the clear that it is cleared; and a point that is free is taken first
-/// by the first till of a worker, whose second one is told next that it is assigned to another. So
-/// each of these refusals is met.
+/// locked by another, and after the clear that it is cleared; and a point that is free is taken
+/// first by the first till of a worker, whose second one is told next that it is assigned to
+/// another. So each of these refusals is met.
 pub fn day(alloc: Global) -> anyhow::Result<Day> {
     let mut lists = Vec::new(alloc);
     for worker in 0..WORKERS {

@@ -1,7 +1,7 @@
-//! A desk under load: the words of the command line choose how. Without words a crew of 16 lists of 10,000
-//! calls each works side by side on one site, in which tills collide; what has to be so whatever the order
-//! is printed. `submits WORKERS CALLS` makes so many reads by so many workers, and `settled WORKERS CALLS`
-//! settles the desk after them. scripts/bench-desk measures both.
+//! A desk under load: the words of the command line choose how. Without words a crew of 16 lists of
+//! 10,000 calls each works side by side on one site, in which tills collide; what has to be so
+//! whatever the order is printed. `submits WORKERS CALLS` makes so many reads by so many workers,
+//! and `settled WORKERS CALLS` settles the desk after them. scripts/bench-desk measures both.
 #![tactic(auto)]
 
 mod crowd;

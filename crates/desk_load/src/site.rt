@@ -13,8 +13,8 @@ pub const POINTS: u8 = 64;
 /// As many tills as a site may have.
 pub const TILLS: u8 = 32;
 
-/// Diesel at 1500 mills, 64 fuelling points that each have a nozzle of diesel from reading 0, no manager,
-/// and as many rows as a site may have.
+/// Diesel at 1500 mills, 64 fuelling points that each have a nozzle of diesel from reading 0, no
+/// manager, and as many rows as a site may have.
 pub fn large_site(alloc: Global) -> anyhow::Result<SiteConfig> {
     let mut products = Vec::new(alloc);
     products.push(ProductEntry {

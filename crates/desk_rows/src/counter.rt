@@ -116,8 +116,8 @@ impl Counter {
     }
 }
 
-/// Submits an event: its row, or None where the book is full. After a refused growth, which has left the desk
-/// as it was, it is submitted again.
+/// Submits an event: its row, or None where the book is full. After a refused growth, which has
+/// left the desk as it was, it is submitted again.
 fn submitted<L: Ledger, C: Naming>(
     rt: &(impl Eprint + Wait),
     desk: &Desk<L, C>,

@@ -26,8 +26,8 @@ pub fn run_all(
     Ok(())
 }
 
-/// Opens a desk, submits the events up to the next site, and settles. The settlement has as many rows as
-/// were placed.
+/// Opens a desk, submits the events up to the next site, and settles. The settlement has as many
+/// rows as were placed.
 fn run_site(
     rt: &(impl Print + Eprint + Wait),
     alloc: Global,

@@ -1,6 +1,6 @@
-//! Worked rows at a desk: the events of a table in words, submitted by one share at a desk for each of its
-//! sites, and printed with the replies. docs/PROFILE.md has the grammar; of the lines that ask a site something
-//! else only `leave` is answered, since a desk doesn't show the others.
+//! Worked rows at a desk: the events of a table in words, submitted by one share at a desk for each
+//! of its sites, and printed with the replies. docs/PROFILE.md has the grammar; of the lines that
+//! ask a site something else only `leave` is answered, since a desk doesn't show the others.
 #![tactic(auto)]
 
 mod counter;

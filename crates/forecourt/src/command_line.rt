@@ -83,8 +83,8 @@ fn number<'a>(alloc: Global, name: &'a str, help: &'a str) -> Arg<'a> {
         .required(true)
 }
 
-/// Prints what `clap` answers in place of matches: help and version on standard output, with status 0;
-/// a mistake on standard error, with status 2.
+/// Prints what `clap` answers in place of matches: help and version on standard output, with status
+/// 0; a mistake on standard error, with status 2.
 pub fn answered(rt: &HostRuntime, error: &Error) -> ExitCode {
     if error.kind() == ErrorKind::OutOfMemory {
         return failed(rt);

@@ -10,8 +10,8 @@ use std::process::ExitCode;
 use std::sync::Wait;
 use std::thread::Threads;
 
-/// Runs the demo that these words ask for, and prints its report. The site file's faults come before
-/// the script's.
+/// Runs the demo that these words ask for, and prints its report. The site file's faults come
+/// before the script's.
 pub fn shown<T: Threads + Wait + Sync>(
     rt: &HostRuntime,
     threads: &T,

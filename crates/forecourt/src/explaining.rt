@@ -7,8 +7,8 @@ use site_base::{NoMemory, ReadFault};
 use std::io::{BufRead, BufReader, ErrorKind, Read};
 use std::process::ExitCode;
 
-/// Prints each message of standard input in words, and tells why the trace ended, if it ended with a
-/// fault.
+/// Prints each message of standard input in words, and tells why the trace ended, if it ended with
+/// a fault.
 pub fn explained(rt: &HostRuntime) -> ExitCode {
     let alloc = rt.alloc();
     let mut trace = Trace::new(alloc);
@@ -64,7 +64,8 @@ fn printed(rt: &HostRuntime, brought: Result<Explained, NoMemory>) -> Result<(),
     }
 }
 
-/// Tells why the trace ended; a fault of its octets by its name, too, where the messages are printed.
+/// Tells why the trace ended; a fault of its octets by its name, too, where the messages are
+/// printed.
 fn stopped(rt: &HostRuntime, fault: TextFault) -> ExitCode {
     if let TextFault::Stream(grammar) = fault {
         let number = grammar.number();

@@ -1,6 +1,6 @@
 //! The forecourt site controller's program: its words, its files and its texts on standard error.
-//! What it does stands in `forecourt_engines`, `forecourt_server` and `forecourt_demo`, how a site file
-//! is read in `site_file`, how a script is in `demo_script`.
+//! What it does stands in `forecourt_engines`, `forecourt_server` and `forecourt_demo`, how a site
+//! file is read in `site_file`, how a script is in `demo_script`.
 #![tactic(auto)]
 
 mod command_line;

@@ -22,8 +22,8 @@ use std::thread::Threads;
 /// How many shares a desk may give.
 const PARTS: u64 = 1 << 63;
 
-/// How a demo is run: its tills' sessions over memory, or over sockets; each session, and each write, has
-/// so many turns.
+/// How a demo is run: its tills' sessions over memory, or over sockets; each session, and each
+/// write, has so many turns.
 #[derive(Clone, Copy, Debug, PartialEq, Eq)]
 pub struct DemoPlan {
     /// Do the tills' sessions run over sockets?
@@ -54,11 +54,11 @@ pub fn demo_day<
     put_report(alloc, config, &settled, writer, plan.turns)
 }
 
-/// Runs the demo of a script on the site of this configuration. One worker makes the calls of the setup,
-/// and leaves the tills that it owes; then the sections are worked at side by side, each by a worker and
-/// through a share of its own, and the desk is settled. What ends one worker's work early doesn't end
-/// the demo, but `NoWorker` where one couldn't be started, and `NoConnection` where a socket couldn't be
-/// had.
+/// Runs the demo of a script on the site of this configuration. One worker makes the calls of the
+/// setup, and leaves the tills that it owes; then the sections are worked at side by side, each by
+/// a worker and through a share of its own, and the desk is settled. What ends one worker's work
+/// early doesn't end the demo, but `NoWorker` where one couldn't be started, and `NoConnection`
+/// where a socket couldn't be had.
 pub fn demo<N: Net<Listener = TcpListener, Stream = TcpStream>, R: Threads + Wait + Sync>(
     net: &N,
     rt: &R,

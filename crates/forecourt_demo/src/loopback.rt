@@ -17,7 +17,8 @@ use std::thread;
 use std::thread::{Scope, Threads};
 use till_session::{SESSIONS, SessionEnd, SessionFault, serve};
 
-/// A worker's part: the section of a dispenser, or the client of a till's section with its connection.
+/// A worker's part: the section of a dispenser, or the client of a till's section with its
+/// connection.
 #[derive(Drop)]
 enum Part<'a> {
     Section(&'a Section),
@@ -25,8 +26,8 @@ enum Part<'a> {
 }
 
 /// Works at the sections side by side, each by a worker and through a share of its own. The till's
-/// sessions are served on a free port of 127.0.0.1, to clients that are connected before the first is
-/// served.
+/// sessions are served on a free port of 127.0.0.1, to clients that are connected before the first
+/// is served.
 pub fn run_over_loopback<
     N: Net<Listener = TcpListener, Stream = TcpStream>,
     L: Ledger + Send + Sync,
@@ -117,8 +118,8 @@ fn part_of<'a, N: Net<Listener = TcpListener, Stream = TcpStream>>(
     }
 }
 
-/// Starts a worker for each part. `NoWorker` where one couldn't be started: then a client's connection is
-/// closed, and the others work all the same.
+/// Starts a worker for each part. `NoWorker` where one couldn't be started: then a client's
+/// connection is closed, and the others work all the same.
 fn start_all<'s, E, L: Ledger + Send + Sync, C: Naming + Send + Sync, R: Threads + Wait + Sync>(
     scope: &Scope<'s, E>,
     rt: &'s R,

@@ -54,8 +54,8 @@ pub fn run_over_memory<L: Ledger + Send + Sync, C: Naming + Send + Sync, R: Thre
     })
 }
 
-/// Starts a worker for each section. `NoWorker` where one couldn't be started; the others work all the
-/// same.
+/// Starts a worker for each section. `NoWorker` where one couldn't be started; the others work all
+/// the same.
 fn start_all<'s, E, L: Ledger + Send + Sync, C: Naming + Send + Sync, R: Threads + Wait + Sync>(
     scope: &Scope<'s, E>,
     rt: &'s R,
@@ -95,8 +95,8 @@ pub fn join_all<R: Threads>(rt: &R, workers: Vec<Worker>) {
     }
 }
 
-/// Takes a share, works at a section, and hands the share back. Without memory for a share the section
-/// isn't worked at.
+/// Takes a share, works at a section, and hands the share back. Without memory for a share the
+/// section isn't worked at.
 pub fn work_at<L: Ledger, C: Naming, R: Wait>(
     rt: &R,
     alloc: Global,

@@ -24,8 +24,8 @@ use till_session::serve;
 const PARTS: u64 = 1 << 63;
 
 /// A day of a server on the site of this configuration, which listens already: it writes where,
-/// serves as many sessions as the plan says, each with so many turns, settles, and writes the report
-/// of what was settled. Each write has as many turns as a session.
+/// serves as many sessions as the plan says, each with so many turns, settles, and writes the
+/// report of what was settled. Each write has as many turns as a session.
 pub fn serve_day<W: Write, R: Threads + Wait + Sync>(
     rt: &R,
     alloc: Global,
@@ -74,8 +74,8 @@ fn day_of<L: Ledger + Send + Sync, C: Naming + Send + Sync, W: Write, R: Threads
     put_report(alloc, config, &settled, writer, turns)
 }
 
-/// Settles a desk whose workers have ended. Where a share is out it isn't settled, and the fault names the
-/// place behind the last row.
+/// Settles a desk whose workers have ended. Where a share is out it isn't settled, and the fault
+/// names the place behind the last row.
 pub fn settle_all<L: Ledger, C: Naming, R: Wait>(
     rt: &R,
     alloc: Global,

@@ -7,8 +7,8 @@ use counter_desk::SettleFault;
 use site_base::{NoMemory, WriteFault};
 use thiserror::Error;
 
-/// Why a day, of a server or of a demo, ends without its report. A session's fault ends that session
-/// alone, and so does a worker's its own work.
+/// Why a day, of a server or of a demo, ends without its report. A session's fault ends that
+/// session alone, and so does a worker's its own work.
 #[derive(Clone, Copy, Debug, PartialEq, Eq, Error)]
 pub enum DayFault {
     /// A growth was refused.
@@ -23,8 +23,8 @@ pub enum DayFault {
     /// Standard output took no more.
     #[error("fault {}", .0.number())]
     Write(WriteFault),
-    /// The day isn't settled: the receipt of this place is strange, or a share is out, and there are
-    /// so many rows.
+    /// The day isn't settled: the receipt of this place is strange, or a share is out, and there
+    /// are so many rows.
     #[error("unsettled 60 place {0}")]
     Unsettled(u64),
 }

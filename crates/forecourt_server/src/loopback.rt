@@ -19,7 +19,8 @@ pub struct Loopback {
 }
 
 impl Loopback {
-    /// Listens on this port of 127.0.0.1, on a free one where it is 0. `NoConnection` where that can't be.
+    /// Listens on this port of 127.0.0.1, on a free one where it is 0. `NoConnection` where that
+    /// can't be.
     pub fn bind<R: Net<Listener = TcpListener, Stream = TcpStream>>(
         rt: &R,
         port: u16,

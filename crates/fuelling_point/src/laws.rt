@@ -50,8 +50,9 @@ pub fn nothing_is_never_sold()
     ensures { IsNeverNothing }
 {}
 
-/// A point is a test just from its test release until the fuelling ends or the release is taken back. It
-/// has neither preset nor prepayment; a test is never sold, and what isn't a test is never drawn.
+/// A point is a test just from its test release until the fuelling ends or the release is taken
+/// back. It has neither preset nor prepayment; a test is never sold, and what isn't a test is never
+/// drawn.
 pub fn tests_are_drawn()
     ensures { AreTestsDrawn }
 {}

@@ -22,8 +22,8 @@ pub fn reports_are_metered()
     ensures { ReportsAreMetered }
 {}
 
-/// A product's total is no more than what all nozzles have metered, which is at most what a site can
-/// meter.
+/// A product's total is no more than what all nozzles have metered, which is at most what a site
+/// can meter.
 pub fn totals_are_metered()
     ensures { TotalsAreMetered }
 {}

@@ -5,8 +5,8 @@ use site_base::{
     Actor, Event, FpNo, Millilitres, NozzleNo, Preset, ProductNo, SaleId, Seq, ShiftNo, TillNo,
 };
 
-/// The reading and the number of a sale that events named last. A number behind a `+` is counted from
-/// there, so that a repeated paragraph goes on where it ended.
+/// The reading and the number of a sale that events named last. A number behind a `+` is counted
+/// from there, so that a repeated paragraph goes on where it ended.
 #[derive(Clone, Copy)]
 pub struct Counted {
     reading: u64,
@@ -156,7 +156,8 @@ fn preset_of(word: &str) -> Option<Preset> {
     }
 }
 
-/// `2@1000`: nozzle 2, whose meter reads 1000; `2@+5`: whose meter reads 5 more than was named before.
+/// `2@1000`: nozzle 2, whose meter reads 1000; `2@+5`: whose meter reads 5 more than was named
+/// before.
 fn meter_of(word: &str, counted: &mut Counted) -> Option<(NozzleNo, Millilitres)> {
     let (nozzle, reading) = word.split_once('@')?;
     let nozzle = NozzleNo::new(nozzle.parse().ok()?)?;
@@ -168,8 +169,8 @@ pub fn sale_named(word: &str) -> Option<(FpNo, SaleId)> {
     sale_of(word, &mut Counted::new())
 }
 
-/// `3/1`: sale 1 of point 3 in the open shift; `3/2/1`: that of shift 2; `3/+1`: the sale behind the one
-/// that was named before.
+/// `3/1`: sale 1 of point 3 in the open shift; `3/2/1`: that of shift 2; `3/+1`: the sale behind
+/// the one that was named before.
 fn sale_of(word: &str, counted: &mut Counted) -> Option<(FpNo, SaleId)> {
     let (point, sale) = word.split_once('/')?;
     let point = point_of(point)?;

@@ -1,5 +1,5 @@
-//! The words of worked rows: a table of sites and events in words, read into what its sites are asked, in
-//! order. docs/PROFILE.md has the grammar.
+//! The words of worked rows: a table of sites and events in words, read into what its sites are
+//! asked, in order. docs/PROFILE.md has the grammar.
 #![tactic(auto)]
 
 mod asked;

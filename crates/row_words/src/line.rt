@@ -23,8 +23,8 @@ pub enum Line {
     Product(ProductEntry),
     /// `point 2 1@0 2@1000`: each nozzle's product and opening reading.
     Point(PointEntry),
-    /// `repeat 998`: the paragraph of events that follows is run so often, in one run; its last rows are
-    /// printed.
+    /// `repeat 998`: the paragraph of events that follows is run so often, in one run; its last
+    /// rows are printed.
     Repeat(u32),
     /// `show 3`: the point as the site shows it.
     Show(FpNo),
@@ -34,7 +34,8 @@ pub enum Line {
     Shift(ShiftNo),
     /// `sale 3/1`, `sale 3/2/1`: the sale as the site shows it.
     Sale(FpNo, SaleId),
-    /// `changes 2`: the rows from place 2 on that a dispenser is told of, and how many rows there are.
+    /// `changes 2`: the rows from place 2 on that a dispenser is told of, and how many rows there
+    /// are.
     Changes(u64),
     /// `leave 1`: the till is signed off, if it is signed on.
     Leave(TillNo),

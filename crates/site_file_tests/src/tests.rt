@@ -1,5 +1,5 @@
-//! The site file of five fuelling points, and one of sixty-four. What their texts say is computed by
-//! theorems of site_file; here they are read.
+//! The site file of five fuelling points, and one of sixty-four. What their texts say is computed
+//! by theorems of site_file; here they are read.
 
 mod refused;
 

@@ -16,8 +16,8 @@ pub fn open_book(rt: &impl Eprint, alloc: Global, config: &SiteConfig) -> anyhow
     }
 }
 
-/// Applies an event to the book. After a refused growth, which has left the book as it was, it is applied
-/// again.
+/// Applies an event to the book. After a refused growth, which has left the book as it was, it is
+/// applied again.
 fn applied(
     rt: &impl Eprint,
     book: &mut SiteBook,
@@ -38,7 +38,8 @@ fn applied(
     }
 }
 
-/// Applies an event to the book beside a site, which has to answer what the site did, as the next row.
+/// Applies an event to the book beside a site, which has to answer what the site did, as the next
+/// row.
 pub fn apply_beside(
     rt: &impl Eprint,
     book: &mut SiteBook,
@@ -59,8 +60,8 @@ pub fn apply_beside(
     Ok(())
 }
 
-/// Applies an event to the book that is kept alone, and prints the row, or that the book is full, if it is
-/// to be shown.
+/// Applies an event to the book that is kept alone, and prints the row, or that the book is full,
+/// if it is to be shown.
 pub fn apply_alone(
     rt: &(impl Print + Eprint),
     book: &mut SiteBook,

@@ -10,7 +10,8 @@ use site_book::SiteBook;
 use site_core::Site;
 use std::alloc::Global;
 
-/// A site and its book, which have to answer alike; or the book alone, beside a site that isn't run.
+/// A site and its book, which have to answer alike; or the book alone, beside a site that isn't
+/// run.
 #[derive(Drop)]
 pub struct Kept {
     alloc: Global,

@@ -1,5 +1,5 @@
-//! Worked rows: a table of sites and events in words comes on standard input, and is printed with the site's
-//! replies. Each paragraph of events is one run. docs/PROFILE.md has the grammar.
+//! Worked rows: a table of sites and events in words comes on standard input, and is printed with
+//! the site's replies. Each paragraph of events is one run. docs/PROFILE.md has the grammar.
 #![tactic(auto)]
 
 mod books;

@@ -53,8 +53,8 @@ pub fn ensure_counted(kept: &Totals, counted: &Totals) -> anyhow::Result<()> {
     Ok(())
 }
 
-/// Prints what each till cleared in a shift, if it did, and of each product what was cleared and drawn, if
-/// there was something.
+/// Prints what each till cleared in a shift, if it did, and of each product what was cleared and
+/// drawn, if there was something.
 pub fn print_shift(rt: &impl Print, n: ShiftNo, row: Option<ShiftRow>) -> anyhow::Result<()> {
     let Some(row) = row else {
         println!(rt; "shift {}: none", n.get())?;

@@ -5,7 +5,8 @@ use std::alloc::Global;
 use std::io::{self, Read, Write};
 use std::test::Fail;
 
-/// Is interrupted a number of times, then fails in another way or gives its text. It counts its calls.
+/// Is interrupted a number of times, then fails in another way or gives its text. It counts its
+/// calls.
 #[derive(Drop)]
 struct FakeReader<'a> {
     text: &'a [u8],

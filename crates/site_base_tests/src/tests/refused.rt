@@ -1,5 +1,5 @@
-//! Made for runs in which one growth is refused: what was there stays, and the same call then answers
-//! as ever.
+//! Made for runs in which one growth is refused: what was there stays, and the same call then
+//! answers as ever.
 
 use site_base::{
     Actor, Answer, Event, FpNo, Millilitres, Mills, NoMemory, NozzleEntry, PointEntry, PriceBook,

@@ -1,5 +1,5 @@
-//! Made for runs in which one growth is refused: the call says so, and the same call then answers as
-//! ever.
+//! Made for runs in which one growth is refused: the call says so, and the same call then answers
+//! as ever.
 
 use super::{assert_known, text_of};
 use site_file::{ConfigFault, read_config};

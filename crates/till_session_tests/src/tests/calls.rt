@@ -64,8 +64,8 @@ fn report(rt: &impl Abort, reading: u64) -> (FpNo, NozzleNo, Millilitres) {
     )
 }
 
-/// Tills 1 and 2 sign on; till 1 opens point 1 and releases it, 10,000 ml of diesel flow there, and till 1
-/// locks the sale and clears it.
+/// Tills 1 and 2 sign on; till 1 opens point 1 and releases it, 10,000 ml of diesel flow there, and
+/// till 1 locks the sale and clears it.
 pub fn one_sale(rt: &impl Abort, alloc: Global) -> Result<Calls, NoMemory> {
     let mut calls = Vec::new(alloc);
     calls.push((by_till(rt, 1), Event::SignOn))?;

@@ -11,8 +11,8 @@ use std::sync::Wait;
 use std::test::Fail;
 use till_session::{SessionFault, TalkFault};
 
-/// What may be told: all is well; the SignOn found no memory, so that the till isn't signed on; or the
-/// Open found none.
+/// What may be told: all is well; the SignOn found no memory, so that the till isn't signed on; or
+/// the Open found none.
 const MAY_BE_TOLD: [&str; 3] = [
     "02 01 01 01 00 E1 00 08 01 01 01 01 00 03 01 00\
  02 01 01 01 00 E2 00 08 01 21 01 01 00 03 01 00 02 02 01 01 00 E3 00 05 01 01 01 01 39",
@@ -41,7 +41,8 @@ fn session_refused(rt: HostRuntime) -> Result<(), Fail> {
         assert!(rt; seen.end.fault == Some(SessionFault::Talk(TalkFault::OriginatorChanged)));
         assert!(rt; seen.end.asked == 2);
     }
-    // A SignOn that was accepted is acknowledged by 8 octets behind the header; then till 1 is left.
+    // A SignOn that was accepted is acknowledged by 8 octets behind the header; then till 1 is
+    // left.
     let left = seen.last == Some(Call::Left(TillNo::new(1).expect(&rt, "till 1")));
     assert!(rt; seen.end.signed_off == left, "left, and not told so");
     assert!(rt; left || seen.told.get(7) != Some(&8), "not left last");

@@ -12,7 +12,8 @@ use std::sync::Wait;
 use std::sync::ledger::{Blank, Ledger};
 use till_session::{DeskCounter, Faulty, Session, SessionEnd};
 
-/// What a session is served, and how its devices fail: at their call of that number, if there is one.
+/// What a session is served, and how its devices fail: at their call of that number, if there is
+/// one.
 pub struct Peer {
     pub octets: Vec<u8>,
     pub read_fails: u64,
