@@ -1,7 +1,8 @@
 //! A stream of octets that comes in pieces.
 
-ghost use Rattle.std.specs.Prelude.{◌≡◌, ◌≢◌, ◌≤◌, [], length, IfOk, OnOk, OnErr, IfSome, IsSome};
+ghost use Rattle.std.specs.Prelude.{◌≡◌, ◌≢◌, ◌≤◌, ◌<◌, ◌+◌, [], length, IfOk, OnOk, OnErr, IfSome, IsSome};
 ghost use Rattle.std.specs.Prelude.{IsOk, IsOkAnd, Err, Some, None};
+ghost use Rattle.app_message.specs.declared.sizes.TheConstants.{HEADER, LONGEST_BODY};
 ghost use Rattle.app_message.specs.Numbers.{as_message_fault};
 ghost use Rattle.app_message.specs.Stream.{IsHeld, fault_of, stream, stream_of, fed_by, held};
 ghost use Rattle.app_message.specs.Stream.{held_after};
@@ -76,8 +77,8 @@ impl Decoder {
 
     /// Takes a piece of the stream as `feed` does, and answers the fault of the stream, if it has
     /// one by now. The messages that end in the piece take the place of those in the list, whose
-    /// room serves again. After `NoMemory` the piece isn't taken, and the list has some of the
-    /// messages.
+    /// room serves again. After `NoMemory` the piece isn't taken, and what the list has means
+    /// nothing.
     #[inline(always)]
     pub fn feed_into(
         &mut self,
@@ -137,7 +138,7 @@ impl Decoder {
     /// Holds these octets of a message to come, in place of those that are held. The answer is that
     /// the stream has no fault.
     fn hold(&mut self, rest: &[u8]) -> Result<Option<StreamFault>, NoMemory>
-        requires { length rest.now ≤ 1031 }
+        requires { length rest.now < HEADER + LONGEST_BODY }
         ensures fault { IfOk result (λ fault. fault ≡ None) }
         ensures held { OnOk result (self.new ≡ record { rest = rest.now; fault = None }) }
         ensures err { OnErr result (self.new ≡ self.old) }
@@ -182,7 +183,7 @@ impl Decoder {
     /// fault.
     pub fn held(&self) -> u16
         ensures value { result ≡ length self.now.rest }
-        ensures most { result ≤ 1031 }
+        ensures most { result < HEADER + LONGEST_BODY }
         ensures after_fault { IsSome self.now.fault → result ≡ 0 }
     {
         self.rest.len() as u16
@@ -191,7 +192,7 @@ impl Decoder {
 
 /// A fault with the originator and the token of the header at the front of these octets.
 fn fault_in(fault: GrammarFault, octets: &[u8]) -> StreamFault
-    requires { 8 ≤ length octets.now }
+    requires { HEADER ≤ length octets.now }
     ensures { result ≡ fault_of fault octets.now }
 {
     StreamFault {

@@ -3,6 +3,7 @@
 ghost use Rattle.std.specs.Prelude.{◌≡◌, ◌≢◌, ◌≤◌, ◌<◌, ◌⊎◌, [], ◌++◌, Some, None, length, IfOk, IfErr, OnOk};
 ghost use Rattle.std.specs.Prelude.{OnErr};
 ghost use Rattle.std.specs.Result.{IsErrOf};
+ghost use Rattle.app_message.specs.declared.sizes.TheConstants.{LONGEST_ADDRESS, LONGEST_CONTENT};
 ghost use Rattle.app_message.specs.Telegram.{telegram, entry};
 ghost use Rattle.app_message.specs.Spelling.{item_text, IsMessage};
 ghost use Rattle.app_message.specs.Parts.{parts_fault, do_rise};
@@ -13,6 +14,7 @@ use crate::items::Items;
 use crate::kind::Kind;
 use crate::message::Message;
 use crate::parts;
+use crate::sizes::{LONGEST_ADDRESS, LONGEST_BODY, LONGEST_CONTENT};
 use crate::token::Token;
 use site_base::NoMemory;
 use std::alloc::{AllocError, Global};
@@ -57,9 +59,9 @@ impl Draft {
     ) -> Result<Draft, MessageFault>
         ensures made { IfOk result (λ d. d ≡ telegram to from kind token address.now []) }
         ensures least { OnOk result (1 ≤ length address.now) }
-        ensures most { OnOk result (length address.now ≤ 8) }
+        ensures most { OnOk result (length address.now ≤ LONGEST_ADDRESS) }
         ensures fault { IfErr result (λ e. e ≢ MessageFault.NoMemory
-            → (e ≡ MessageFault.BadLength) × ((length address.now ≡ 0) ⊎ (8 < length address.now))) }
+            → (e ≡ MessageFault.BadLength) × ((length address.now ≡ 0) ⊎ (LONGEST_ADDRESS < length address.now))) }
     {
         parts::check_address(address)?;
         parts::typed(&to, &from, token);
@@ -90,13 +92,13 @@ impl Draft {
     ) -> Result<Draft, NoMemory>
         ensures made { IfOk result (λ d. d ≡ telegram request.now.from from kind request.now.token request.now.address []) }
         ensures least { OnOk result (1 ≤ length request.now.address) }
-        ensures most { OnOk result (length request.now.address ≤ 8) }
+        ensures most { OnOk result (length request.now.address ≤ LONGEST_ADDRESS) }
     {
         let (to, token) = (request.from(), request.token());
         parts::typed(&to, &from, token);
         let mut body = buffer;
         body.clear();
-        body.reserve(room.saturating_add(9))?;
+        body.reserve(room.saturating_add(1 + LONGEST_ADDRESS))?;
         put_address(&mut body, request.spelled_address())?;
         Ok(Draft {
             to,
@@ -114,10 +116,10 @@ impl Draft {
     pub fn put(&mut self, id: u8, content: &[u8]) -> Result<(), MessageFault>
         ensures added { OnOk result (self.new ≡ with_item self.old (entry id content.now)) }
         ensures err { OnErr result (self.new ≡ self.old) }
-        ensures long { 254 < length content.now → IsErrOf result MessageFault.BadItem }
-        ensures fault { IfErr result (λ e. length content.now ≤ 254 → e ≡ MessageFault.NoMemory) }
+        ensures long { LONGEST_CONTENT < length content.now → IsErrOf result MessageFault.BadItem }
+        ensures fault { IfErr result (λ e. length content.now ≤ LONGEST_CONTENT → e ≡ MessageFault.NoMemory) }
     {
-        if content.len() > 254 {
+        if content.len() > LONGEST_CONTENT {
             return Err(MessageFault::BadItem);
         }
         put_item(&mut self.body, id, content)?;
@@ -133,7 +135,7 @@ impl Draft {
         ensures accepted { OnOk result (IsMessage self) }
         ensures fault { IfErr result (λ e. parts_fault self.address self.items ≡ Some e) }
     {
-        if self.body.len() > 1024 {
+        if self.body.len() > LONGEST_BODY {
             return Err(MessageFault::BadLength);
         }
         if !rise(self.items()) {
@@ -189,7 +191,7 @@ fn put_address(out: &mut Vec<u8>, spelled: &[u8]) -> Result<(), AllocError>
 /// Appends an item: its identifier, its length and its content.
 #[inline(always)]
 fn put_item(out: &mut Vec<u8>, id: u8, content: &[u8]) -> Result<(), AllocError>
-    requires { length content.now ≤ 254 }
+    requires { length content.now ≤ LONGEST_CONTENT }
     ensures ok { OnOk result (out.new.items ≡ out.old.items ++ item_text (entry id content.now)) }
     ensures err { OnErr result (out.new.items ≡ out.old.items) }
 {

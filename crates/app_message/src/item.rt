@@ -1,6 +1,7 @@
 //! One item of a message.
 
 ghost use Rattle.std.specs.Prelude.{◌≡◌, ◌≤◌, length};
+ghost use Rattle.app_message.specs.declared.sizes.TheConstants.{LONGEST_CONTENT};
 ghost use Rattle.app_message.specs.Telegram.{entry, IsEntry};
 
 use std::marker::Model;
@@ -25,7 +26,7 @@ impl<'a> Model for Item<'a> {
 impl<'a> Item<'a> {
     /// An item of this content.
     pub(crate) fn new(id: u8, content: &'a [u8]) -> Item<'a>
-        requires { length content.now ≤ 254 }
+        requires { length content.now ≤ LONGEST_CONTENT }
         ensures value { result ≡ entry id content.now }
         ensures valid { IsEntry result }
     {
@@ -42,7 +43,7 @@ impl<'a> Item<'a> {
     /// The content, at most 254 octets.
     pub fn content(&self) -> &'a [u8]
         ensures value { result.now ≡ self.now.content }
-        ensures bound { length result.now ≤ 254 }
+        ensures bound { length result.now ≤ LONGEST_CONTENT }
     {
         self.content
     }

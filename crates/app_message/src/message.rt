@@ -1,6 +1,7 @@
 //! A message, valid by its type.
 
 ghost use Rattle.std.specs.Prelude.{◌≡◌, ◌≢◌, ◌≤◌, ◌∷◌, true, false, IfOk, OnOk, OnErr, IfErr, length, List, Some};
+ghost use Rattle.app_message.specs.declared.sizes.TheConstants.{LONGEST_ADDRESS, LONGEST_BODY};
 ghost use Rattle.app_message.specs.Telegram.{telegram, entries};
 ghost use Rattle.app_message.specs.Spelling.{IsMessage, body, head_text};
 ghost use Rattle.app_message.specs.Bodies.{of_body, with_items, IsBody};
@@ -146,7 +147,7 @@ impl Message {
     pub fn address(&self) -> &[u8]
         ensures value { result.now ≡ self.now.address }
         ensures least { 1 ≤ length result.now }
-        ensures most { length result.now ≤ 8 }
+        ensures most { length result.now ≤ LONGEST_ADDRESS }
     {
         parts::split(&self.body).0
     }
@@ -199,7 +200,7 @@ impl Message {
     /// The rest of its spelling, the body: the address behind the number of its octets, and the items.
     pub fn body(&self) -> &[u8]
         ensures text { result.now ≡ body self.now }
-        ensures most { length result.now ≤ 1024 }
+        ensures most { length result.now ≤ LONGEST_BODY }
     {
         &self.body
     }

@@ -2,11 +2,13 @@
 
 ghost use Rattle.std.specs.Prelude.{◌≡◌, ◌≤◌, ◌<◌, ◌⊎◌, List, length, take, drop, slice_index, nat_le};
 ghost use Rattle.std.specs.Prelude.{true, Option, Some, None, IfErr, OnOk};
+ghost use Rattle.app_message.specs.declared.sizes.TheConstants.{LONGEST_ADDRESS, LONGEST_BODY};
 ghost use Rattle.app_message.specs.Telegram.{Entry, entries, AreOctets};
 ghost use Rattle.app_message.specs.Spelling.{body_text, IsHead};
 ghost use Rattle.app_message.specs.Parts.{parts_fault, do_rise};
 
 use crate::fault::MessageFault;
+use crate::sizes::{LONGEST_ADDRESS, LONGEST_BODY, LONGEST_CONTENT};
 use crate::token::Token;
 
 /// Answers the first fault of these parts, if they have one.
@@ -29,14 +31,14 @@ pub fn check(address: &[u8], items: &[(u8, &[u8])]) -> Result<(), MessageFault>
 #[tactic(auto, unfolding(crate::specs::Parts::parts_fault))]
 pub fn check_address(address: &[u8]) -> Result<(), MessageFault>
     ensures least { OnOk result (1 ≤ length address.now) }
-    ensures most { OnOk result (length address.now ≤ 8) }
+    ensures most { OnOk result (length address.now ≤ LONGEST_ADDRESS) }
     ensures err { IfErr result (λ e. (items : List Entry) → parts_fault address.now items ≡ Some e) }
-    ensures fault { IfErr result (λ e. (e ≡ MessageFault.BadLength) × ((length address.now ≡ 0) ⊎ (8 < length address.now))) }
+    ensures fault { IfErr result (λ e. (e ≡ MessageFault.BadLength) × ((length address.now ≡ 0) ⊎ (LONGEST_ADDRESS < length address.now))) }
 {
     if address.is_empty() {
         return Err(MessageFault::BadLength);
     }
-    if address.len() > 8 {
+    if address.len() > LONGEST_ADDRESS {
         return Err(MessageFault::BadLength);
     }
     Ok(())
@@ -44,10 +46,10 @@ pub fn check_address(address: &[u8]) -> Result<(), MessageFault>
 
 /// Whether the address and the items take at most 1,024 octets in all.
 fn fit(address: &[u8], items: &[(u8, &[u8])]) -> bool
-    requires { length address.now ≤ 8 }
-    ensures { result ≡ nat_le (length (body_text address.now (entries items.now))) 1024 }
+    requires { length address.now ≤ LONGEST_ADDRESS }
+    ensures { result ≡ nat_le (length (body_text address.now (entries items.now))) LONGEST_BODY }
 {
-    let mut left = 1023 - address.len();
+    let mut left = LONGEST_BODY - 1 - address.len();
     for (_, content) in items {
         let size = content.len().saturating_add(2);
         if left < size {
@@ -67,7 +69,7 @@ fn rise(items: &[(u8, &[u8])]) -> bool
         if u16::from(*id) < low {
             return false;
         }
-        if content.len() > 254 {
+        if content.len() > LONGEST_CONTENT {
             return false;
         }
         low = u16::from(*id) + 1;

@@ -2,6 +2,7 @@
 
 ghost use Rattle.std.specs.Prelude.{◌≡◌, ◌+◌, ◌*◌, ◌%◌, ◌≤◌, ◌<◌, length, slice_index};
 ghost use Rattle.std.specs.Prelude.{IfOk, OnOk};
+ghost use Rattle.app_message.specs.declared.sizes.TheConstants.{HEADER, LONGEST_BODY, SHORTEST_BODY};
 ghost use Rattle.app_message.specs.Spelling.{IsHead};
 ghost use Rattle.app_message.specs.Grammar.{kind_at, length_at, header_at, item_at, items_at};
 ghost use Rattle.app_message.specs.Grammar.{address_at, body_at, front_at};
@@ -12,6 +13,7 @@ use crate::fault::GrammarFault;
 use crate::item::Item;
 use crate::kind::Kind;
 use crate::parts;
+use crate::sizes::{HEADER, LONGEST_ADDRESS, LONGEST_BODY, LONGEST_CONTENT, SHORTEST_BODY};
 use crate::spelled_message::SpelledMessage;
 use crate::token::Token;
 
@@ -31,7 +33,7 @@ pub struct Head {
     pub from: [u8; 2],
     pub kind: Kind,
     pub token: Token,
-    pub len: u16,
+    pub len: usize,
 }
 
 fn kind_of(bits: u8) -> Result<Kind, Stop>
@@ -48,14 +50,14 @@ fn kind_of(bits: u8) -> Result<Kind, Stop>
     }
 }
 
-fn length_of(high: u8, low: u8) -> Result<u16, Stop>
+fn length_of(high: u8, low: u8) -> Result<usize, Stop>
     ensures { Gives (λ n. n) result (length_at (high * 256 + low)) }
 {
-    let len = u16::from(high) * 256 + u16::from(low);
-    if len < 2 {
+    let len = usize::from(high) * 256 + usize::from(low);
+    if len < SHORTEST_BODY {
         return Err(Stop::Fault(GrammarFault::BadLength));
     }
-    if len > 1024 {
+    if len > LONGEST_BODY {
         return Err(Stop::Fault(GrammarFault::BadLength));
     }
     Ok(len)
@@ -64,9 +66,9 @@ fn length_of(high: u8, low: u8) -> Result<u16, Stop>
 #[tactic(auto, unfolding(crate::specs::Grammar::header_at))]
 fn head_of(octets: &[u8]) -> Result<Head, Stop>
     ensures exact { Gives header result (header_at octets.now) }
-    ensures long { IfOk result (λ h. 8 ≤ length octets.now) }
+    ensures long { IfOk result (λ h. HEADER ≤ length octets.now) }
 {
-    if octets.len() < 8 {
+    if octets.len() < HEADER {
         return Err(Stop::Short);
     }
     if octets[4] != 0 {
@@ -94,11 +96,11 @@ fn item_of(low: u16, octets: &[u8]) -> Result<(Item<'_>, &[u8]), Stop>
     if u16::from(octets[0]) < low {
         return Err(Stop::Fault(GrammarFault::BadItem));
     }
-    if octets[1] == 255 {
+    let size = usize::from(octets[1]);
+    if size > LONGEST_CONTENT {
         return Err(Stop::Fault(GrammarFault::BadItem));
     }
     let after = &octets[2..];
-    let size = usize::from(octets[1]);
     if after.len() < size {
         return Err(Stop::Fault(GrammarFault::BadItem));
     }
@@ -130,7 +132,7 @@ fn check_address(octets: &[u8]) -> Result<(), Stop>
     if octets[0] == 0 {
         return Err(Stop::Fault(GrammarFault::BadLength));
     }
-    if octets[0] > 8 {
+    if usize::from(octets[0]) > LONGEST_ADDRESS {
         return Err(Stop::Fault(GrammarFault::BadLength));
     }
     if octets.len() < usize::from(octets[0]) + 1 {
@@ -142,8 +144,8 @@ fn check_address(octets: &[u8]) -> Result<(), Stop>
 #[tactic(auto, unfolding(crate::specs::Grammar::body_at))]
 fn body_of(head: Head, octets: &[u8]) -> Result<SpelledMessage<'_>, Stop>
     requires head { IsHead head.to head.from head.token }
-    requires least { 2 ≤ length octets.now }
-    requires most { length octets.now ≤ 1024 }
+    requires least { SHORTEST_BODY ≤ length octets.now }
+    requires most { length octets.now ≤ LONGEST_BODY }
     ensures { Gives (λ m. m) result (body_at (header head) octets.now) }
 {
     check_address(octets)?;
@@ -159,11 +161,10 @@ pub fn front(octets: &[u8]) -> Result<(SpelledMessage<'_>, &[u8]), Stop>
     ensures shorter { IfOk result (λ x. length x.1.now < length octets.now) }
 {
     let head = head_of(octets)?;
-    let after = &octets[8..];
-    let size = usize::from(head.len);
-    if after.len() < size {
+    let after = &octets[HEADER..];
+    if after.len() < head.len {
         return Err(Stop::Short);
     }
-    let (body, rest) = after.split_at(size);
+    let (body, rest) = after.split_at(head.len);
     Ok((body_of(head, body)?, rest))
 }

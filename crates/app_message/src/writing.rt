@@ -1,9 +1,11 @@
 //! Messages to octets.
 
-ghost use Rattle.std.specs.Prelude.{◌≡◌, ◌≤◌, [], length, IfOk, OnOk, OnErr};
+ghost use Rattle.std.specs.Prelude.{◌≡◌, ◌≤◌, ◌+◌, [], length, IfOk, OnOk, OnErr};
+ghost use Rattle.app_message.specs.declared.sizes.TheConstants.{HEADER, LONGEST_BODY};
 ghost use Rattle.app_message.specs.Spelling.{spelling};
 
 use crate::message::Message;
+use crate::sizes::HEADER;
 use site_base::NoMemory;
 use std::alloc::Global;
 
@@ -20,12 +22,12 @@ pub fn encode(alloc: Global, message: &Message) -> Result<Vec<u8>, NoMemory>
 /// the allocator refuses room for it; the buffer is empty then.
 pub fn encode_into(message: &Message, out: &mut Vec<u8>) -> Result<(), NoMemory>
     ensures ok { OnOk result (out.new.items ≡ spelling message.now) }
-    ensures most { length out.new.items ≤ 1032 }
+    ensures most { length out.new.items ≤ HEADER + LONGEST_BODY }
     ensures err { OnErr result (out.new.items ≡ []) }
 {
     let body = message.body();
     out.clear();
-    out.reserve(body.len() + 8)?;
+    out.reserve(HEADER + body.len())?;
     out.extend_from_slice(&message.head())?;
     out.extend_from_slice(body)?;
     Ok(())

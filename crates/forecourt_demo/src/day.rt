@@ -6,7 +6,7 @@ ghost use Rattle.forecourt_server.specs.Days.{IsSettledDay};
 ghost use Rattle.forecourt_demo.specs.Demos.{TellsReport};
 
 use crate::loopback::run_over_loopback;
-use crate::sections::run_over_memory;
+use crate::memory::run_over_memory;
 use counter_desk::{Desk, Naming, OpenGate, Settled, work};
 use demo_script::DemoScript;
 use forecourt_server::{DayFault, put_report, settle_all};
@@ -55,10 +55,10 @@ pub fn demo_day<
 }
 
 /// Runs the demo of a script on the site of this configuration. One worker makes the calls of the
-/// setup, and leaves the tills that it owes; then the sections are worked at side by side, each by
-/// a worker and through a share of its own, and the desk is settled. What ends one worker's work
-/// early doesn't end the demo, but `NoWorker` where one couldn't be started, and `NoConnection`
-/// where a socket couldn't be had.
+/// setup, and leaves the tills that it owes; then the sections are worked at side by side, each
+/// through a share of its own (over sockets a till's section has a client too, a worker without a
+/// share), and the desk is settled. What ends one worker's work early doesn't end the demo, but
+/// `NoWorker` where one couldn't be started, and `NoConnection` where a socket couldn't be had.
 pub fn demo<N: Net<Listener = TcpListener, Stream = TcpStream>, R: Threads + Wait + Sync>(
     net: &N,
     rt: &R,

@@ -3,7 +3,9 @@
 ghost use Rattle.std.specs.Prelude.{◌≤◌, ◌+◌, vec_capacity, vec_len};
 
 use crate::client::send_all;
-use crate::sections::{Anything, Worker, join_all, room_for, run_over_memory, work_at};
+use crate::memory::run_over_memory;
+use crate::section::work_at;
+use crate::workers::{Anything, Worker, join_all, room_for};
 use app_message::Messages;
 use counter_desk::{Desk, Naming, OpenGate, Root, WORKERS};
 use demo_script::Section;
@@ -25,9 +27,9 @@ enum Part<'a> {
     Client(&'a Messages, TcpStream),
 }
 
-/// Works at the sections side by side, each by a worker and through a share of its own. The till's
-/// sessions are served on a free port of 127.0.0.1, to clients that are connected before the first
-/// is served.
+/// Works at the sections side by side. A dispenser's has a worker, with a share of its own; a
+/// till's has two: a client, and the one that serves its session through a share, on a free port
+/// of 127.0.0.1. All clients are connected before the first session is served.
 pub fn run_over_loopback<
     N: Net<Listener = TcpListener, Stream = TcpStream>,
     L: Ledger + Send + Sync,

@@ -5,6 +5,7 @@ ghost use Rattle.hex.specs.Hex.{encode_lower};
 ghost use Rattle.forecourt_engines.specs.Answers.{line_of, change_line, lines_for, after_message};
 ghost use Rattle.forecourt_engines.specs.Answers.{answers_to, after_messages};
 ghost use Rattle.device_map.specs.Changes.{change_of};
+ghost use Rattle.app_message.specs.declared.sizes.TheConstants.{HEADER, LONGEST_BODY};
 
 use app_message::Message;
 use device_map::{change_of, refusal_in, reply_in, request_of};
@@ -131,8 +132,8 @@ pub fn put_line(out: &mut Vec<u8>, message: &Message) -> Result<(), NoMemory>
 
 /// Appends the octets of two parts as a line of hexadecimal. It takes one growth at most.
 fn put_spelling(out: &mut Vec<u8>, head: &[u8], body: &[u8]) -> Result<(), NoMemory>
-    requires head { length head.now ≤ 8 }
-    requires body { length body.now ≤ 1024 }
+    requires head { length head.now ≤ HEADER }
+    requires body { length body.now ≤ LONGEST_BODY }
     ensures { OnOk result (out.new.items
         ≡ out.old.items ++ (encode_lower (head.now ++ body.now) ++ 10 ∷ [])) }
 {

@@ -21,9 +21,9 @@ use std::marker::Model;
 use std::mem;
 
 /// A replay between two octets of its input. Beside what its text depends on it has buffers that
-/// stay, so that a line no longer, and with no more messages, than the line before it takes no
-/// growth of its own: for a line without its spaces, for its octets, for its messages, and for a
-/// reply.
+/// stay, for a line without its spaces, for its octets, for its messages, and for a reply, so that
+/// a line no longer, and with no more messages, than the line before it is meant to take no growth
+/// of its own.
 #[derive(Drop)]
 pub struct Engine {
     alloc: Global,

@@ -20,7 +20,7 @@ pub enum DayFault {
     /// A worker of a demo couldn't be started.
     #[error("fault 64")]
     NoWorker,
-    /// Standard output took no more.
+    /// A write of what the day tells failed, or was interrupted too often.
     #[error("fault {}", .0.number())]
     Write(WriteFault),
     /// The day isn't settled: the receipt of this place is strange, or a share is out, and there

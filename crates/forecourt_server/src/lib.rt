@@ -3,15 +3,21 @@
 //!
 //! A `Loopback` listens on 127.0.0.1 alone. `serve_day` opens a desk, serves so many sessions by so
 //! many workers, settles the desk, and writes the report of what was settled: `specs/Days.antt`
-//! says what is told.
+//! says what is told. `ServerPlan::read` reads what the command line asks: `specs/Plans.antt`.
 #![tactic(auto)]
 
 mod day;
 mod fault;
 mod loopback;
+mod options;
 mod plan;
+mod settling;
+mod writing;
 
-pub use day::{put_report, serve_day, settle_all};
+pub use day::serve_day;
 pub use fault::DayFault;
 pub use loopback::{Loopback, ReadHalf, WriteHalf};
-pub use plan::{OptionFault, ServerPlan};
+pub use options::OptionFault;
+pub use plan::ServerPlan;
+pub use settling::settle_all;
+pub use writing::put_report;

@@ -7,4 +7,5 @@ mod refused;
 mod served;
 mod sessions;
 mod site;
+mod spelling;
 mod streams;

@@ -38,10 +38,12 @@ fault_in-requires c =
 pub hold-requires : goal.hold-requires
 hold-requires c =
     let h = rw c.in-Err-Short.field-0-is at c.in-Err-Short.ensures.exact in
-    (kept_is c.args.octets.now c.loop-message.messages c.loop-message.rest.now None
+    let kept =
+    kept_is c.args.octets.now c.loop-message.messages c.loop-message.rest.now None
     (λ i. omega (arith, c.type_inv.octets i))
     (walk_short c.loop-message.messages c.loop-message.rest.now (stream_of c.args.octets.now) h
-    c.loop-message.invariant.total)).few
+    c.loop-message.invariant.total) in
+    omega (arith, kept.few)
 
 pub returns-in-Err-Short-clause-messages : goal.returns-in-Err-Short-clause-messages
 returns-in-Err-Short-clause-messages c =

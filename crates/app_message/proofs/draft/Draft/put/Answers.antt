@@ -8,7 +8,7 @@ invariant_of-self-2 c =
     let valid : IsEntry (entry c.args.id c.args.content.now) =
     record {
       id = omega (arith, c.ranges.id.fits);
-      size = omega (arith, c.if-content-gt254.false);
+      size = omega (arith, c.if-content-gt-LONGEST_CONTENT.false);
       octets = λ i. omega (arith, c.type_inv.content i);
     } in
     (item_put _ c.self.inside.body.items (entry c.args.id c.args.content.now)
@@ -19,7 +19,7 @@ returns-clause-added c =
     let valid : IsEntry (entry c.args.id c.args.content.now) =
     record {
       id = omega (arith, c.ranges.id.fits);
-      size = omega (arith, c.if-content-gt254.false);
+      size = omega (arith, c.if-content-gt-LONGEST_CONTENT.false);
       octets = λ i. omega (arith, c.type_inv.content i);
     } in
     rw (← c.self.view_is) (item_put _ c.self.inside.body.items (entry c.args.id c.args.content.now)

@@ -1,5 +1,5 @@
 use Rattle.std.proofs.Common.{◌+◌, ◌≤◌, length, vec_capacity, vec_len}
-use Rattle.forecourt_demo.proofs.sections.start_all.Given as goal
+use Rattle.forecourt_demo.proofs.memory.start_all.Given as goal
 
 -- there is room for the workers that may still be started
 abbrev pub invariant-loop-section : goal.invariant-loop-section

@@ -1,0 +1,33 @@
+//! Workers, each with a thread of its own.
+
+ghost use Rattle.std.specs.Prelude.{◌≡◌, ◌≤◌, vec_capacity, vec_len, IfOk};
+
+use site_base::NoMemory;
+use std::alloc::Global;
+use std::thread::{Promise, PromisedHandle, Threads};
+
+/// What a worker promises: nothing, since what it did stands at the desk.
+#[derive(Clone, Copy)]
+pub struct Anything;
+
+impl Promise<()> for Anything {
+    ghost kept_by = { λ promise end. Unit {0} };
+}
+
+/// A worker's thread.
+pub type Worker = PromisedHandle<(), Anything>;
+
+/// An empty list with room for so many.
+pub fn room_for<T>(alloc: Global, count: usize) -> Result<Vec<T>, NoMemory>
+    ensures empty { IfOk result (λ list. vec_len list ≡ 0) }
+    ensures room { IfOk result (λ list. count ≤ vec_capacity list) }
+{
+    Ok(Vec::with_capacity(alloc, count)?)
+}
+
+/// Waits for workers.
+pub fn join_all<R: Threads>(rt: &R, workers: Vec<Worker>) {
+    for worker in workers {
+        worker.join(rt);
+    }
+}
