@@ -62,6 +62,9 @@ impl Draft {
         ensures most { OnOk result (length address.now ≤ LONGEST_ADDRESS) }
         ensures fault { IfErr result (λ e. e ≢ MessageFault.NoMemory
             → (e ≡ MessageFault.BadLength) × ((length address.now ≡ 0) ⊎ (LONGEST_ADDRESS < length address.now))) }
+
+        // Whatever memory there is, such an address is refused.
+        ensures faulty { (length address.now ≡ 0) ⊎ (LONGEST_ADDRESS < length address.now) → IsErrOf result MessageFault.BadLength }
     {
         parts::check_address(address)?;
         parts::typed(&to, &from, token);

@@ -1,6 +1,7 @@
 //! A message, valid by its type.
 
-ghost use Rattle.std.specs.Prelude.{◌≡◌, ◌≢◌, ◌≤◌, ◌∷◌, true, false, IfOk, OnOk, OnErr, IfErr, length, List, Some};
+ghost use Rattle.std.specs.Prelude.{◌≡◌, ◌≢◌, ◌≤◌, ◌∷◌, true, false, IfOk, OnOk, OnErr, IfErr, IfSome, length, List, Some};
+ghost use Rattle.std.specs.Result.{IsErrOf};
 ghost use Rattle.app_message.specs.declared.sizes.TheConstants.{LONGEST_ADDRESS, LONGEST_BODY};
 ghost use Rattle.app_message.specs.Telegram.{telegram, entries};
 ghost use Rattle.app_message.specs.Spelling.{IsMessage, body, head_text};
@@ -66,6 +67,9 @@ impl Message {
         // Want of memory aside, refused parts can't be spelled, and the first fault is told.
         ensures refused { IfErr result (λ e. e ≢ MessageFault.NoMemory → ¬ IsMessage (telegram to from kind token address.now (entries items.now))) }
         ensures fault { IfErr result (λ e. e ≢ MessageFault.NoMemory → parts_fault address.now (entries items.now) ≡ Some e) }
+
+        // Whatever memory there is, faulty parts are told their first fault.
+        ensures faulty { IfSome (parts_fault address.now (entries items.now)) (λ e. IsErrOf result e) }
     {
         parts::check(address, items)?;
         let mut draft = Draft::try_new(alloc, to, from, kind, token, address, room_of(items))?;
