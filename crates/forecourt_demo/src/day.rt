@@ -3,7 +3,7 @@
 ghost use Rattle.std.specs.Prelude.{◌≡◌, ◌^◌, IfOk, OnOk};
 ghost use Rattle.site_base.specs.Counted.{device_of};
 ghost use Rattle.forecourt_server.specs.Days.{IsSettledDay};
-ghost use Rattle.forecourt_demo.specs.Demos.{TellsReport};
+ghost use Rattle.forecourt_demo.specs.Demos.{TellsReport, TellsFront};
 
 use crate::loopback::run_over_loopback;
 use crate::memory::run_over_memory;
@@ -33,7 +33,7 @@ pub struct DemoPlan {
 }
 
 /// Runs the demo of a script on the site of this configuration, and writes the report of what was
-/// settled.
+/// settled. However it ends, what it wrote is a front of that.
 pub fn demo_day<
     W: Write,
     N: Net<Listener = TcpListener, Stream = TcpStream>,
@@ -47,8 +47,10 @@ pub fn demo_day<
     plan: DemoPlan,
     writer: &mut Counted<W>,
 ) -> Result<(), DayFault>
-    ensures { OnOk result (TellsReport config.now
+    ensures told { OnOk result (TellsReport config.now
         (W.contents (device_of writer.old)) (W.contents (device_of writer.new))) }
+    ensures front { TellsFront config.now
+        (W.contents (device_of writer.old)) (W.contents (device_of writer.new)) }
 {
     let settled = demo(net, rt, alloc, config, script, plan)?;
     put_report(alloc, config, &settled, writer, plan.turns)

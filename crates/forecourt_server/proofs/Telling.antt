@@ -1,11 +1,12 @@
 -- What a day tells, from its two writes.
-use Rattle.std.proofs.Common.{◌≡◌, ℕ, List, Option, Result, Ok, Err, OnOk, subst, sym}
+use Rattle.std.proofs.Common.{◌≡◌, ℕ, List, Option, Result, Ok, Err, OnOk, inl, inr, subst, sym}
 use Rattle.std.specs.Io.KnownBytes.{Appends}
 use Rattle.site_base.specs.Configured.{Configured}
-use Rattle.site_base.proofs.Known.{Appends-then}
+use Rattle.site_base.specs.Devices.{AppendsFront}
+use Rattle.site_base.proofs.Known.{Appends-then, Appends-front}
 use Rattle.counter_desk.specs.declared.settlement.Settled.{Settled}
 use Rattle.forecourt_engines.specs.Report.{report_text}
-use Rattle.forecourt_server.specs.Days.{IsSettledDay, listening_line, TellsDay}
+use Rattle.forecourt_server.specs.Days.{IsSettledDay, listening_line, TellsDay, TellsFront}
 
 -- where it listens was written, and then, if it ended well, the report of a day that is settled
 pub tells_day : {X E : Type 0} (r : Result X E) (config named : Configured)
@@ -23,3 +24,23 @@ tells_day (Ok x) config named u v w said port settled same_port same adds_up lin
           (subst (λ (n : ℕ). Appends u v (listening_line n)) same_port line) report;
     }
 tells_day (Err e) config named u v w said port settled same_port same adds_up line report = report
+
+-- a front of the line
+pub tells_line : (config : Configured) (u v : Option (List ℕ)) (said port : ℕ) → said ≡ port
+    → AppendsFront u v (listening_line said) → TellsFront config port u v
+tells_line config u v said port same_port line =
+    inl (subst (λ (n : ℕ). AppendsFront u v (listening_line n)) same_port line)
+
+-- the line, and then a front of the report
+pub tells_front : (config named : Configured) (u v w : Option (List ℕ)) (said port : ℕ)
+    (settled : Settled) → said ≡ port → config ≡ named → IsSettledDay named settled
+    → Appends u v (listening_line said)
+    → AppendsFront v w (report_text config settled.book settled.shares)
+    → TellsFront config port u w
+tells_front config named u v w said port settled same_port same adds_up line report =
+    inr (
+      settled,
+      subst (λ (c : Configured). IsSettledDay c settled) (sym same) adds_up,
+      Appends-front u v w (listening_line port) (report_text config settled.book settled.shares)
+          (subst (λ (n : ℕ). Appends u v (listening_line n)) same_port line) report,
+    )

@@ -2,7 +2,7 @@
 
 ghost use Rattle.std.specs.Prelude.{◌≡◌, ◌^◌, OnOk};
 ghost use Rattle.site_base.specs.Counted.{device_of};
-ghost use Rattle.forecourt_server.specs.Days.{TellsDay};
+ghost use Rattle.forecourt_server.specs.Days.{TellsDay, TellsFront};
 
 use crate::fault::DayFault;
 use crate::loopback::Loopback;
@@ -24,7 +24,8 @@ const PARTS: u64 = 1 << 63;
 
 /// A day of a server on the site of this configuration, which listens already: it writes where,
 /// serves as many sessions as the plan says, each with so many turns, settles, and writes the
-/// report of what was settled. Each write has as many turns as a session.
+/// report of what was settled. Each write has as many turns as a session. However it ends, what it
+/// wrote is a front of that.
 pub fn serve_day<W: Write, R: Threads + Wait + Sync>(
     rt: &R,
     alloc: Global,
@@ -34,8 +35,10 @@ pub fn serve_day<W: Write, R: Threads + Wait + Sync>(
     turns: u64,
     writer: &mut Counted<W>,
 ) -> Result<(), DayFault>
-    ensures { OnOk result (TellsDay config.now listener.port
+    ensures told { OnOk result (TellsDay config.now listener.port
         (W.contents (device_of writer.old)) (W.contents (device_of writer.new))) }
+    ensures front { TellsFront config.now listener.port
+        (W.contents (device_of writer.old)) (W.contents (device_of writer.new)) }
 {
     let blank = Blank::new(PARTS);
     day_of::<Brand, Brand, W, R>(rt, alloc, blank, config, listener, plan, turns, writer)
@@ -54,8 +57,10 @@ fn day_of<L: Ledger + Send + Sync, C: Naming + Send + Sync, W: Write, R: Threads
 ) -> Result<(), DayFault>
     requires ledger { (blank.name ≡ L.name) × (blank.parts ≡ L.parts) × (blank.parts ≡ 2 ^ 63) }
     requires config { config.now ≡ C.config }
-    ensures { OnOk result (TellsDay config.now listener.port
+    ensures told { OnOk result (TellsDay config.now listener.port
         (W.contents (device_of writer.old)) (W.contents (device_of writer.new))) }
+    ensures front { TellsFront config.now listener.port
+        (W.contents (device_of writer.old)) (W.contents (device_of writer.new)) }
 {
     let (desk, root) = Desk::<L, C>::try_open(alloc, blank, config)?;
     put_listening(alloc, listener.port(), writer, turns)?;

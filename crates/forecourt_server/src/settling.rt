@@ -1,7 +1,8 @@
 //! The end of a day: its desk is settled.
 
-ghost use Rattle.std.specs.Prelude.{IfOk};
-ghost use Rattle.forecourt_server.specs.Days.{IsSettledDay};
+ghost use Rattle.std.specs.Prelude.{◌≡◌, ◌≢◌, IfOk, IfErr, OnOk};
+ghost use Rattle.counter_desk.specs.Settlement.{Settles, IsFaultIn};
+ghost use Rattle.forecourt_server.specs.Days.{TellsRows};
 
 use counter_desk::{Desk, Naming, Root, SettleFault, Settled};
 use site_base::NoMemory;
@@ -9,15 +10,19 @@ use std::alloc::Global;
 use std::sync::Wait;
 use std::sync::ledger::Ledger;
 
-/// Settles a desk whose workers have ended. Where a share is out it isn't settled, and the fault
-/// names the place behind the last row.
+/// Settles a desk whose workers have ended: what it answers are the figures of the receipts that
+/// came back. It fails where a receipt is strange, and where a share is out, with the place behind
+/// the last row, or with want of memory.
 pub fn settle_all<L: Ledger, C: Naming, R: Wait>(
     rt: &R,
     alloc: Global,
     desk: Desk<L, C>,
     root: Root<L, C>,
 ) -> Result<Settled, SettleFault>
-    ensures { IfOk result (λ settled. IsSettledDay C.config settled) }
+    ensures all_back { OnOk result (root.out ≡ 0) }
+    ensures settled { IfOk result (λ settled. Settles C.config root.lists settled) }
+    ensures fault { root.out ≡ 0 → IfErr result (λ fault. IsFaultIn C.config root.lists fault) }
+    ensures out { root.out ≢ 0 → IfErr result (λ fault. TellsRows C.config fault) }
 {
     if root.out() != 0 {
         return match desk.snapshot(rt, alloc) {

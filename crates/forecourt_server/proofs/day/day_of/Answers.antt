@@ -1,8 +1,26 @@
-use Rattle.forecourt_server.proofs.Telling.{tells_day}
+use Rattle.forecourt_server.proofs.Telling.{tells_day, tells_line, tells_front}
 use Rattle.forecourt_server.proofs.day.day_of.Goals as goal
 
-pub returns : goal.returns
-returns g c =
+pub returns-in_err-put_listening-clause-front : goal.returns-in_err-put_listening-clause-front
+returns-in_err-put_listening-clause-front g c =
+    tells_line _ _ _ _ _ c.port.ensures c.put_listening.ensures.front
+
+pub returns-in_err-serve-clause-front : goal.returns-in_err-serve-clause-front
+returns-in_err-serve-clause-front g c =
+    tells_line _ _ _ _ _ c.port.ensures c.put_listening.ensures.front
+
+pub returns-in_err-settled-clause-front : goal.returns-in_err-settled-clause-front
+returns-in_err-settled-clause-front g c =
+    tells_line _ _ _ _ _ c.port.ensures c.put_listening.ensures.front
+
+pub returns-clause-told : goal.returns-clause-told
+returns-clause-told g c =
     tells_day c.put_report.result _ _ _ _ _ _ _ _ c.port.ensures c.requires.config
-    c.in_ok-settled.ensures
-    c.in_ok-put_listening.ensures c.put_report.ensures
+    (_, c.in_ok-settled.ensures.settled)
+    c.in_ok-put_listening.ensures.written c.put_report.ensures.written
+
+pub returns-clause-front : goal.returns-clause-front
+returns-clause-front g c =
+    tells_front _ _ _ _ _ _ _ _ c.port.ensures c.requires.config
+    (_, c.in_ok-settled.ensures.settled)
+    c.in_ok-put_listening.ensures.written c.put_report.ensures.front
