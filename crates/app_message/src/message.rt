@@ -97,8 +97,8 @@ impl Message {
         }
     }
 
-    /// Takes the place of this message: that of this head and these octets of a body, which are copied
-    /// into its room. After `NoMemory` it is as it was.
+    /// Takes the place of this message: that of this head and these octets of a body, which are
+    /// copied into its room. After `NoMemory` it is as it was.
     pub(crate) fn set(&mut self, head: Head, body: &[u8]) -> Result<(), NoMemory>
         requires { IsBody (of_body head.to head.from head.kind head.token body.now) body.now }
         ensures set { OnOk result (self.new ≡ of_body head.to head.from head.kind head.token body.now) }
@@ -184,8 +184,8 @@ impl Message {
             && self.body == other.body
     }
 
-    /// The room that the message has, for another one. Its octets mean nothing any more. It takes no
-    /// memory.
+    /// The room that the message has, for another one. Its octets mean nothing any more. It takes
+    /// no memory.
     pub fn into_buffer(self) -> Vec<u8> {
         self.body
     }
@@ -201,7 +201,8 @@ impl Message {
         [to[0], to[1], from[0], from[1], 0, status, high, low]
     }
 
-    /// The rest of its spelling, the body: the address behind the number of its octets, and the items.
+    /// The rest of its spelling, the body: the address behind the number of its octets, and the
+    /// items.
     pub fn body(&self) -> &[u8]
         ensures text { result.now ≡ body self.now }
         ensures most { length result.now ≤ LONGEST_BODY }

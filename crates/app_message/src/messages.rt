@@ -63,7 +63,8 @@ impl Messages {
         self.len = 0;
     }
 
-    /// Copies a message behind the others, into the room of one that was cleared where there is one.
+    /// Copies a message behind the others, into the room of one that was cleared where there is
+    /// one.
     pub(crate) fn push(
         &mut self,
         alloc: Global,

@@ -53,8 +53,8 @@ impl Calls {
         Ok(())
     }
 
-    /// Two tills are after one sale: the first locks it, the second is told so, can't clear it, and is
-    /// told that it is cleared once the first one has.
+    /// Two tills are after one sale: the first locks it, the second is told so, can't clear it, and
+    /// is told that it is cleared once the first one has.
     pub fn contend_for_sale(
         &mut self,
         first: TillNo,

@@ -45,8 +45,8 @@ impl Answerer {
         self.book
     }
 
-    /// Appends the lines for messages, in order: for each its answer, and, where changes are told, the
-    /// change of its row. Each answer is made in the buffer.
+    /// Appends the lines for messages, in order: for each its answer, and, where changes are told,
+    /// the change of its row. Each answer is made in the buffer.
     #[inline(always)]
     pub fn answer_all(
         &mut self,

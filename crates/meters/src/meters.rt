@@ -153,8 +153,8 @@ impl Meters {
     }
 
     /// Nozzle n of point p, which is there, gets another meter, which begins with this reading. Its
-    /// meter was replaced fewer than `REPLACEMENT_LIMIT` times. What the nozzle has metered stays as
-    /// it is, and no other meter moves.
+    /// meter was replaced fewer than `REPLACEMENT_LIMIT` times. What the nozzle has metered stays
+    /// as it is, and no other meter moves.
     pub fn replace(&mut self, p: FpNo, n: NozzleNo, reading: Millilitres)
         requires there { has_nozzle p n self.old ≡ true }
         requires fewer { times_replaced p n self.old < REPLACEMENT_LIMIT }

@@ -14,7 +14,8 @@ use std::mem;
 pub enum Step {
     /// An empty line or a comment, printed as it is.
     Text(String),
-    /// A site of this configuration opens. It is run with a book beside it, or its book is kept alone.
+    /// A site of this configuration opens. It is run with a book beside it, or its book is kept
+    /// alone.
     Site {
         config: SiteConfig,
         alone: bool,

@@ -10,6 +10,7 @@ pub struct Totals {
     pub rows: u64,
     /// Each product as a read shows it, in configured order.
     pub products: Vec<ProductView>,
-    /// Each till that a site may have, from 1 on: how many transactions it cleared, and their cents.
+    /// Each till that a site may have, from 1 on: how many transactions it cleared, and their
+    /// cents.
     pub tills: Vec<(TillNo, u64, u64)>,
 }

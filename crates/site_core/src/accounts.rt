@@ -118,8 +118,8 @@ impl Accounts {
         self.sales.row(p, shift, s)
     }
 
-    /// The millilitres of product q in the transactions of this status. Those of all transactions fit
-    /// in 64 bits.
+    /// The millilitres of product q in the transactions of this status. Those of all transactions
+    /// fit in 64 bits.
     pub fn sum(&self, q: ProductNo, status: Status) -> u64
         ensures value { result ≡ volume_by q status self.now.sales }
         ensures fits { volume_of q self.now.sales < 2 ^ 64 }

@@ -13,8 +13,8 @@ use fuelling_point::PointEvent;
 use site_base::{Answer, Event, FpNo, Reply, TillNo};
 
 impl SiteParts {
-    /// The till's command to the point, to which it is `own`: the point does what its table says, and
-    /// nothing else changes.
+    /// The till's command to the point, to which it is `own`: the point does what its table says,
+    /// and nothing else changes.
     #[inline(always)]
     pub(crate) fn command(&mut self, t: TillNo, p: FpNo, event: &Event, own: PointEvent) -> Reply
         requires { IsCommand (site_of self.old) (Till t) p event.now own }
@@ -26,8 +26,8 @@ impl SiteParts {
         Ok(Answer::Done)
     }
 
-    /// A till ends the release of a point, or its fuelling. Where the release is taken back, the hold
-    /// ends.
+    /// A till ends the release of a point, or its fuelling. Where the release is taken back, the
+    /// hold ends.
     pub(crate) fn terminate(&mut self, t: TillNo, p: FpNo) -> Reply
         ensures steps { Steps (site_of self.old) (Till t) (Event.Terminate p)
             (site_of self.new) result }

@@ -100,8 +100,8 @@ impl Ledger {
         self.shifts.drawn(q)
     }
 
-    /// Adds a clear by a till to the open shift: of this product, so many millilitres and cents. The
-    /// sums with it stay in u64.
+    /// Adds a clear by a till to the open shift: of this product, so many millilitres and cents.
+    /// The sums with it stay in u64.
     pub fn note_cleared(&mut self, t: TillNo, q: ProductNo, volume: u64, cents: u64)
         requires row { FitsClear t q volume cents self.old.shifts.current }
         requires clears { (total_of t self.old.tills).0 + 1 < 2 ^ 64 }

@@ -51,7 +51,8 @@ impl Points {
         Ok(Points { rows, hints })
     }
 
-    /// Where the row of a point stands: where its cell says, if it is there, else where it is found.
+    /// Where the row of a point stands: where its cell says, if it is there, else where it is
+    /// found.
     fn place(&self, p: FpNo) -> Option<usize>
         ensures found { IfSome result (IsPlace (λ n. n) p self.now) }
         ensures there { is_some result ≡ is_some (row_of p self.now) }

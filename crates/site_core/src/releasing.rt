@@ -57,8 +57,8 @@ impl SiteParts {
         Ok(Answer::Done)
     }
 
-    /// A manager takes the hold of the point and releases it for a test. No sale comes of it, so the
-    /// point's sales aren't looked at.
+    /// A manager takes the hold of the point and releases it for a test. No sale comes of it, so
+    /// the point's sales aren't looked at.
     pub(crate) fn test_release(&mut self, t: TillNo, p: FpNo) -> Reply
         ensures steps { Steps (site_of self.old) (Till t) (Event.TestRelease p)
             (site_of self.new) result }
@@ -90,7 +90,8 @@ impl SiteParts {
         }
     }
 
-    /// The point may make one more sale: fewer than two are unpaid, and the open shift has a number.
+    /// The point may make one more sale: fewer than two are unpaid, and the open shift has a
+    /// number.
     fn may_sell(&self, p: FpNo) -> Result<(), Refusal>
         ensures { MatchResult result
             (λ _. may_sell (site_of self.now) p ≡ None)

@@ -64,8 +64,8 @@ impl Site {
         let _ = &self.parts;
     }
 
-    /// Makes the room that this event needs, so that its step takes no memory. The site stays, and so
-    /// does all room that was made before. After `NoMemory` nothing has changed.
+    /// Makes the room that this event needs, so that its step takes no memory. The site stays, and
+    /// so does all room that was made before. After `NoMemory` nothing has changed.
     pub fn prepare(&mut self, actor: Actor, event: &Event) -> Result<(), NoMemory>
         ensures site { self.new.site ≡ self.old.site }
         ensures room { OnOk result (HasRoom self.new.room event.now) }
@@ -77,10 +77,10 @@ impl Site {
         self.parts.prepare(event)
     }
 
-    /// The written step: the reply to this event of this actor, and the site that it leads to. After a
-    /// refusal the site is as it was. The room of `prepare` for the event is there; it takes no
-    /// memory. A sale uses one place of its point's room, a shift that is closed one of the closes;
-    /// all other room stays.
+    /// The written step: the reply to this event of this actor, and the site that it leads to.
+    /// After a refusal the site is as it was. The room of `prepare` for the event is there; it
+    /// takes no memory. A sale uses one place of its point's room, a shift that is closed one of
+    /// the closes; all other room stays.
     #[inline(always)]
     pub fn step(&mut self, actor: Actor, event: Event) -> Reply
         requires room { HasRoom self.old.room event }
@@ -118,15 +118,16 @@ impl Site {
     }
 
     /// The figures of shift n, the open one's too: of each till its clears and their cents, of each
-    /// product the millilitres that were cleared and those that tests drew. None for shifts to come.
+    /// product the millilitres that were cleared and those that tests drew. None for shifts to
+    /// come.
     pub fn shift(&self, n: ShiftNo) -> Option<ShiftRow>
         ensures { result ≡ shift_row n self.now.site.sales self.now.site.drawn }
     {
         self.parts.accounts.shift(n)
     }
 
-    /// The same as `shift`, counted from the site's lists alone: of the shift's clears no figure that
-    /// is kept is read.
+    /// The same as `shift`, counted from the site's lists alone: of the shift's clears no figure
+    /// that is kept is read.
     pub fn counted_shift(&self, n: ShiftNo) -> Option<ShiftRow>
         ensures { result ≡ shift_row n self.now.site.sales self.now.site.drawn }
     {

@@ -16,7 +16,8 @@ pub enum TalkFault {
     /// The octets have a fault; the refusal of it was written last.
     #[error("a faulty header or body")]
     Stream(GrammarFault),
-    /// A message came from another originator than the first one; the refusal of it was written last.
+    /// A message came from another originator than the first one; the refusal of it was written
+    /// last.
     #[error("another originator")]
     OriginatorChanged,
     /// The octets end inside a message.
