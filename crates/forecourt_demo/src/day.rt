@@ -57,10 +57,11 @@ pub fn demo_day<
 }
 
 /// Runs the demo of a script on the site of this configuration. One worker makes the calls of the
-/// setup, and leaves the tills that it owes; then the sections are worked at side by side, each
-/// through a share of its own (over sockets a till's section has a client too, a worker without a
-/// share), and the desk is settled. What ends one worker's work early doesn't end the demo, but
-/// `NoWorker` where one couldn't be started, and `NoConnection` where a socket couldn't be had.
+/// setup, and leaves the tills that it owes; then the sections are worked at side by side, each by
+/// a worker with a share of its own (over sockets a till's section has a client, and the tills'
+/// sessions are drawn by a server's workers, at most 16, each with a share), and the desk is
+/// settled. What ends one worker's work early doesn't end the demo, but `NoWorker` where one
+/// couldn't be started, and `NoConnection` where a socket couldn't be had.
 pub fn demo<N: Net<Listener = TcpListener, Stream = TcpStream>, R: Threads + Wait + Sync>(
     net: &N,
     rt: &R,

@@ -1,6 +1,6 @@
-//! Demos: the whole station in one call. A setup is worked through by one worker; then each section
-//! of the script is worked at through a share of its own, a till's section as a session, a
-//! dispenser's by a simulated dispenser; at the end the desk is settled.
+//! Demos: the whole station in one call. A setup is worked through by one worker; then the sections
+//! of the script are worked at side by side, a till's as a session, a dispenser's by a simulated
+//! dispenser; at the end the desk is settled.
 #![tactic(auto)]
 
 mod client;

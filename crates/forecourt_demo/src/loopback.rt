@@ -27,9 +27,9 @@ enum Part<'a> {
     Client(&'a Messages, TcpStream),
 }
 
-/// Works at the sections side by side. A dispenser's has a worker, with a share of its own; a
-/// till's has two: a client, and the one that serves its session through a share, on a free port
-/// of 127.0.0.1. All clients are connected before the first session is served.
+/// Works at the sections side by side. A dispenser's has a worker with a share of its own; a till's
+/// has a client, whose session is served on a free port of 127.0.0.1 by the worker that draws it.
+/// All clients are connected before the first session is served.
 pub fn run_over_loopback<
     N: Net<Listener = TcpListener, Stream = TcpStream>,
     L: Ledger + Send + Sync,
@@ -162,7 +162,7 @@ fn do_part<'a, L: Ledger, C: Naming, R: Wait>(
     }
 }
 
-/// Serves the tills' sessions, each by a worker of its own.
+/// Serves the tills' sessions, by as many workers, at most 16, which draw them.
 fn serve_tills<L: Ledger + Send + Sync, C: Naming + Send + Sync, R: Threads + Wait + Sync>(
     rt: &R,
     alloc: Global,

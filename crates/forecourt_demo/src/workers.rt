@@ -1,4 +1,4 @@
-//! Workers, each with a thread of its own.
+//! Workers, each with a thread of its own, and the lists that they are kept in.
 
 ghost use Rattle.std.specs.Prelude.{◌≡◌, ◌≤◌, vec_capacity, vec_len, IfOk};
 

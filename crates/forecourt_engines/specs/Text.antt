@@ -55,7 +55,7 @@ abbrev pub fault_text : Option StreamFault → List ℕ
 fault_text None = []
 fault_text (Some f) = line_of (fault_message f)
 
--- what a piece of the stream leads to: its messages are answered in their order, and then its fault is
+-- what a piece of the stream leads to: its messages are answered in order, and then its fault
 abbrev pub answered : Answerer → Stream → Told
 answered b s = record { stream = held s; answerer = after_messages b s.messages; stop = stop_of s.fault; text = answers_to b s.messages ++ fault_text s.fault }
 

@@ -1,14 +1,12 @@
 -- What a server's day tells, and how the program ends with it.
-use Rattle.std.specs.Prelude.{◌≡◌, ◌⊎◌, ℕ, List, ◌++◌, codes, decimal, Option}
+use Rattle.std.specs.Prelude.{◌⊎◌, ℕ, List, ◌++◌, codes, decimal, Option}
 use Rattle.std.specs.Io.KnownBytes.{Appends}
-use Rattle.site_base.specs.declared.totals.Totals.{Totals}
 use Rattle.site_base.specs.Configured.{Configured}
 use Rattle.site_base.specs.Devices.{AppendsFront}
 use Rattle.counter_desk.specs.declared.receipt.Receipt.{Receipt}
 use Rattle.counter_desk.specs.declared.settlement.Settled.{Settled}
 use Rattle.counter_desk.specs.declared.settlement.SettleFault.{SettleFault}
 use Rattle.counter_desk.specs.declared.settlement.SettleFault.TheVariants as settle
-use Rattle.counter_desk.specs.Kept.{AreFiguresInLegal}
 use Rattle.counter_desk.specs.Settlement.{Settles}
 use Rattle.forecourt_engines.specs.Report.{report_text}
 use Rattle.forecourt_server.specs.declared.fault.DayFault.{DayFault}
@@ -37,12 +35,6 @@ TellsFront config port holds holds' =
     ⊎ ((settled : Settled) × IsSettledDay config settled
     × AppendsFront holds holds'
     (listening_line port ++ report_text config settled.book settled.shares))
-
--- where a share is out the fault tells how many rows some legal history has
-abbrev pub TellsRows : Configured → SettleFault → Type 0
-TellsRows config (settle.StrangeReceipt place) =
-    (totals : Totals) × AreFiguresInLegal config totals × (place ≡ totals.rows)
-TellsRows config settle.NoMemory = Unit {0}
 
 -- why a day isn't settled, as the server tells it
 abbrev pub unsettled_by : SettleFault → DayFault

@@ -12,12 +12,15 @@ abbrev pub TellsNumber : ℕ → ℕ → List ℕ → ℕ → Type 0
 TellsNumber least most word n =
     IsNumeral 10 word × (digits_value 10 word ≡ n) × (least ≤ n) × (n ≤ most)
 
+-- a port, 0 for a free one
 abbrev pub TellsPort : List ℕ → ℕ → Type 0
 TellsPort word n = TellsNumber 0 65535 word n
 
+-- how many workers serve side by side, 1 to 16
 abbrev pub TellsWorkers : List ℕ → ℕ → Type 0
 TellsWorkers word n = TellsNumber 1 WORKERS word n
 
+-- how many sessions are served in all, 1 to 10,000
 abbrev pub TellsSessions : List ℕ → ℕ → Type 0
 TellsSessions word n = TellsNumber 1 SESSIONS word n
 

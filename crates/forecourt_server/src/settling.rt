@@ -1,8 +1,7 @@
 //! The end of a day: its desk is settled.
 
-ghost use Rattle.std.specs.Prelude.{◌≡◌, ◌≢◌, IfOk, IfErr, OnOk};
+ghost use Rattle.std.specs.Prelude.{◌≡◌, IfOk, IfErr, OnOk};
 ghost use Rattle.counter_desk.specs.Settlement.{Settles, IsFaultIn};
-ghost use Rattle.forecourt_server.specs.Days.{TellsRows};
 
 use counter_desk::{Desk, Naming, Root, SettleFault, Settled};
 use site_base::NoMemory;
@@ -22,7 +21,6 @@ pub fn settle_all<L: Ledger, C: Naming, R: Wait>(
     ensures all_back { OnOk result (root.out ≡ 0) }
     ensures settled { IfOk result (λ settled. Settles C.config root.lists settled) }
     ensures fault { root.out ≡ 0 → IfErr result (λ fault. IsFaultIn C.config root.lists fault) }
-    ensures out { root.out ≢ 0 → IfErr result (λ fault. TellsRows C.config fault) }
 {
     if root.out() != 0 {
         return match desk.snapshot(rt, alloc) {
