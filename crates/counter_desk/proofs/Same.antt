@@ -10,6 +10,10 @@ use Rattle.site_base.specs.contracts.event.EventPartialEq.TheImpl as events
 use Rattle.site_base.specs.contracts.sale.SaleIdPartialEq.TheImpl as sales
 use Rattle.site_base.specs.contracts.state.PresetPartialEq.TheImpl as presets
 
+-- what isn't the same isn't found equal
+pub clash : {A : Type 0} → false ≡ true → A
+clash is = cc
+
 pub both : (a b : Bool) → (a && b) ≡ true → (a ≡ true) × (b ≡ true)
 both true true is = (refl, refl)
 both true false is = cc
@@ -25,14 +29,14 @@ pub same_presets : (a b : Preset) → presets.ghosts.eq a b ≡ true → a ≡ b
 same_presets Unset Unset is = refl
 same_presets (Volume n) (Volume m) is = one Volume n m is
 same_presets (Money n) (Money m) is = one Money n m is
-same_presets a b is = cc
+same_presets a b is = clash is
 
 same_shifts : (a b : Option ℕ) (n m : ℕ) → sales.ghosts.eq (record { shift = a; seq = n }) (record { shift = b; seq = m }) ≡ true → (a ≡ b) × (n ≡ m)
 same_shifts (Some h) (Some k) n m is =
     let parts = both (h == k) (n == m) is in
     (one Some h k parts.0, eqb-true n m parts.1)
 same_shifts None None n m is = (refl, eqb-true n m is)
-same_shifts a b n m is = cc
+same_shifts a b n m is = clash is
 
 same_sales : (a b : SaleId) → sales.ghosts.eq a b ≡ true → a ≡ b
 same_sales a b is =
@@ -94,4 +98,4 @@ same_events (HangUp p n x) (HangUp q m y) is =
     let parts = both (p == q) (n == m && x == y) is in
     let rest = both (n == m) (x == y) parts.1 in
     let point = eqb-true p q parts.0 in let nozzle = eqb-true n m rest.0 in let reading = eqb-true x y rest.1 in cc
-same_events a b is = cc
+same_events a b is = clash is

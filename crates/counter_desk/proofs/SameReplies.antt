@@ -26,18 +26,18 @@ use Rattle.site_base.specs.contracts.view.PointViewPartialEq.TheImpl as points
 use Rattle.site_base.specs.contracts.view.ProductViewPartialEq.TheImpl as products
 use Rattle.site_base.specs.contracts.view.SiteViewPartialEq.TheImpl as sites
 use Rattle.site_base.specs.contracts.view.TransactionViewPartialEq.TheImpl as transactions
-use Rattle.counter_desk.proofs.Same.{both, one, same_presets}
+use Rattle.counter_desk.proofs.Same.{both, clash, one, same_presets}
 
 same_options : (a b : Option ℕ) → option_eq nat_eq a b ≡ true → a ≡ b
 same_options None None is = refl
 same_options (Some n) (Some m) is = one Some n m is
-same_options a b is = cc
+same_options a b is = clash is
 
 same_bools : (a b : Bool) → beq a b ≡ true → a ≡ b
 same_bools true true is = refl
 same_bools false false is = refl
-same_bools true false is = cc
-same_bools false true is = cc
+same_bools true false is = clash is
+same_bools false true is = clash is
 
 same_states : (a b : PointState) → states.ghosts.eq a b ≡ true → a ≡ b
 same_states Inoperative Inoperative is = refl
@@ -49,13 +49,13 @@ same_states Started Started is = refl
 same_states SuspendedStarted SuspendedStarted is = refl
 same_states Fuelling Fuelling is = refl
 same_states SuspendedFuelling SuspendedFuelling is = refl
-same_states a b is = cc
+same_states a b is = clash is
 
 same_statuses : (a b : Status) → statuses.ghosts.eq a b ≡ true → a ≡ b
 same_statuses Cleared Cleared is = refl
 same_statuses Payable Payable is = refl
 same_statuses Locked Locked is = refl
-same_statuses a b is = cc
+same_statuses a b is = clash is
 
 -- ---- views
 
@@ -163,7 +163,7 @@ same_answers (answers.PointIs x) (answers.PointIs y) is = ap answers.PointIs (sa
 same_answers (answers.TransactionIs x) (answers.TransactionIs y) is = ap answers.TransactionIs (same_transactions x y is)
 same_answers (answers.ProductIs x) (answers.ProductIs y) is = ap answers.ProductIs (same_products x y is)
 same_answers (answers.SiteIs x) (answers.SiteIs y) is = ap answers.SiteIs (same_sites x y is)
-same_answers a b is = cc
+same_answers a b is = clash is
 
 same_refusals : (a b : Refusal) → refusal.ghosts.eq a b ≡ true → a ≡ b
 same_refusals refusals.NotSignedOn refusals.NotSignedOn is = refl
@@ -191,10 +191,10 @@ same_refusals (refusals.AlreadyCleared t) (refusals.AlreadyCleared u) is = one r
 same_refusals refusals.Ending refusals.Ending is = refl
 same_refusals refusals.ShiftsSpent refusals.ShiftsSpent is = refl
 same_refusals refusals.MeterSpent refusals.MeterSpent is = refl
-same_refusals a b is = cc
+same_refusals a b is = clash is
 
 pub same_replies : (a b : Result Answer Refusal)
     → result_eq answer.ghosts.eq refusal.ghosts.eq a b ≡ true → a ≡ b
 same_replies (Ok x) (Ok y) is = ap Ok (same_answers x y is)
 same_replies (Err x) (Err y) is = ap Err (same_refusals x y is)
-same_replies a b is = cc
+same_replies a b is = clash is

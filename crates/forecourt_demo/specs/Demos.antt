@@ -15,8 +15,8 @@ pub record TellsReport (config : Configured) (holds holds' : Option (List ℕ)) 
 
 -- However a demo ends, nothing else was written: nothing, or a front of the report of a day that is
 -- settled.
-abbrev pub TellsFront : Configured → Option (List ℕ) → Option (List ℕ) → Type 0
-TellsFront config holds holds' =
+abbrev pub TellsReportFront : Configured → Option (List ℕ) → Option (List ℕ) → Type 0
+TellsReportFront config holds holds' =
     Appends holds holds' []
     ⊎ ((settled : Settled) × IsSettledDay config settled
     × AppendsFront holds holds' (report_text config settled.book settled.shares))

@@ -3,7 +3,7 @@
 ghost use Rattle.std.specs.Prelude.{◌≡◌, ◌^◌, IfOk, OnOk};
 ghost use Rattle.site_base.specs.Counted.{device_of};
 ghost use Rattle.forecourt_server.specs.Days.{IsSettledDay};
-ghost use Rattle.forecourt_demo.specs.Demos.{TellsReport, TellsFront};
+ghost use Rattle.forecourt_demo.specs.Demos.{TellsReport, TellsReportFront};
 
 use crate::loopback::run_over_loopback;
 use crate::memory::run_over_memory;
@@ -49,7 +49,7 @@ pub fn demo_day<
 ) -> Result<(), DayFault>
     ensures told { OnOk result (TellsReport config.now
         (W.contents (device_of writer.old)) (W.contents (device_of writer.new))) }
-    ensures front { TellsFront config.now
+    ensures front { TellsReportFront config.now
         (W.contents (device_of writer.old)) (W.contents (device_of writer.new)) }
 {
     let settled = demo(net, rt, alloc, config, script, plan)?;

@@ -6,7 +6,7 @@ use Rattle.site_base.specs.Devices.{AppendsFront}
 use Rattle.site_base.proofs.Known.{Appends-then, Appends-front}
 use Rattle.counter_desk.specs.declared.settlement.Settled.{Settled}
 use Rattle.forecourt_engines.specs.Report.{report_text}
-use Rattle.forecourt_server.specs.Days.{IsSettledDay, listening_line, TellsDay, TellsFront}
+use Rattle.forecourt_server.specs.Days.{IsSettledDay, listening_line, TellsDay, TellsDayFront}
 
 -- where it listens was written, and then, if it ended well, the report of a day that is settled
 pub tells_day : {X E : Type 0} (r : Result X E) (config named : Configured)
@@ -27,7 +27,7 @@ tells_day (Err e) config named u v w said port settled same_port same adds_up li
 
 -- a front of the line
 pub tells_line : (config : Configured) (u v : Option (List ℕ)) (said port : ℕ) → said ≡ port
-    → AppendsFront u v (listening_line said) → TellsFront config port u v
+    → AppendsFront u v (listening_line said) → TellsDayFront config port u v
 tells_line config u v said port same_port line =
     inl (subst (λ (n : ℕ). AppendsFront u v (listening_line n)) same_port line)
 
@@ -36,7 +36,7 @@ pub tells_front : (config named : Configured) (u v w : Option (List ℕ)) (said 
     (settled : Settled) → said ≡ port → config ≡ named → IsSettledDay named settled
     → Appends u v (listening_line said)
     → AppendsFront v w (report_text config settled.book settled.shares)
-    → TellsFront config port u w
+    → TellsDayFront config port u w
 tells_front config named u v w said port settled same_port same adds_up line report =
     inr (
       settled,

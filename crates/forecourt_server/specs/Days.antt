@@ -29,8 +29,8 @@ pub record TellsDay (config : Configured) (port : ℕ) (holds holds' : Option (L
 
 -- However a day ends, nothing else was written: a front of that line, or that line and a front of
 -- the report of a day that is settled.
-abbrev pub TellsFront : Configured → ℕ → Option (List ℕ) → Option (List ℕ) → Type 0
-TellsFront config port holds holds' =
+abbrev pub TellsDayFront : Configured → ℕ → Option (List ℕ) → Option (List ℕ) → Type 0
+TellsDayFront config port holds holds' =
     AppendsFront holds holds' (listening_line port)
     ⊎ ((settled : Settled) × IsSettledDay config settled
     × AppendsFront holds holds'

@@ -2,7 +2,7 @@
 
 ghost use Rattle.std.specs.Prelude.{◌≡◌, ◌^◌, OnOk};
 ghost use Rattle.site_base.specs.Counted.{device_of};
-ghost use Rattle.forecourt_server.specs.Days.{TellsDay, TellsFront};
+ghost use Rattle.forecourt_server.specs.Days.{TellsDay, TellsDayFront};
 
 use crate::fault::DayFault;
 use crate::loopback::Loopback;
@@ -37,7 +37,7 @@ pub fn serve_day<W: Write, R: Threads + Wait + Sync>(
 ) -> Result<(), DayFault>
     ensures told { OnOk result (TellsDay config.now listener.port
         (W.contents (device_of writer.old)) (W.contents (device_of writer.new))) }
-    ensures front { TellsFront config.now listener.port
+    ensures front { TellsDayFront config.now listener.port
         (W.contents (device_of writer.old)) (W.contents (device_of writer.new)) }
 {
     let blank = Blank::new(PARTS);
@@ -59,7 +59,7 @@ fn day_of<L: Ledger + Send + Sync, C: Naming + Send + Sync, W: Write, R: Threads
     requires config { config.now ≡ C.config }
     ensures told { OnOk result (TellsDay config.now listener.port
         (W.contents (device_of writer.old)) (W.contents (device_of writer.new))) }
-    ensures front { TellsFront config.now listener.port
+    ensures front { TellsDayFront config.now listener.port
         (W.contents (device_of writer.old)) (W.contents (device_of writer.new)) }
 {
     let (desk, root) = Desk::<L, C>::try_open(alloc, blank, config)?;
