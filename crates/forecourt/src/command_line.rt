@@ -3,70 +3,88 @@
 use crate::end::{COMMAND_LINE, failed, told, unwritten};
 use clap::error::ErrorKind;
 use clap::{Arg, ArgAction, Command, Error};
-use std::alloc::Global;
+use std::alloc::{AllocError, Global};
 use std::process::ExitCode;
 
 /// The commands of the program.
 pub fn command<'a>(alloc: Global) -> Result<Command<'a>, Error> {
-    let check = Command::new(alloc, "check")
+    let program = Command::new(alloc, "forecourt")
+        .version("0.1.0")
+        .subcommand_required(true)
+        .about("The forecourt site controller; without words it replays on a site that it knows")
+        .subcommand(check(alloc)?)?
+        .subcommand(replay(alloc)?)?
+        .subcommand(report(alloc)?)?
+        .subcommand(serve(alloc)?)?
+        .subcommand(demo(alloc)?)?
+        .subcommand(explain(alloc))?;
+    Ok(program)
+}
+
+fn check<'a>(alloc: Global) -> Result<Command<'a>, AllocError> {
+    Command::new(alloc, "check")
         .about("Reads a site file, and tells its first fault or how large the site is")
-        .arg(file(alloc))?;
-    let changes = Arg::new(alloc, "changes")
-        .long("changes")
-        .help("Prints the changes that dispensers are told, too")
-        .action(ArgAction::SetTrue);
-    let replay = Command::new(alloc, "replay")
+        .arg(file(alloc))
+}
+
+fn replay<'a>(alloc: Global) -> Result<Command<'a>, AllocError> {
+    Command::new(alloc, "replay")
         .about("Answers the messages of standard input on the site of a file")
         .arg(file(alloc))?
-        .arg(changes)?;
-    let report = Command::new(alloc, "report")
+        .arg(flag(
+            alloc,
+            "changes",
+            "Prints the changes that dispensers are told, too",
+        ))
+}
+
+fn report<'a>(alloc: Global) -> Result<Command<'a>, AllocError> {
+    Command::new(alloc, "report")
         .about("Replays standard input on the site of a file, and prints the report of its rows")
-        .arg(file(alloc))?;
-    let serve = Command::new(alloc, "serve")
+        .arg(file(alloc))
+}
+
+fn serve<'a>(alloc: Global) -> Result<Command<'a>, AllocError> {
+    let workers = "How many sessions are served side by side, from 1 to 16";
+    let sessions = "How many sessions are served in all, from 1 to 10000";
+    Command::new(alloc, "serve")
         .about(
             "Serves tills and dispensers on 127.0.0.1, settles, and prints the report of the day",
         )
         .arg(file(alloc))?
         .arg(number(alloc, "port", "The port, from 0 (a free one) to 65535"))?
-        .arg(number(
-            alloc,
-            "workers",
-            "How many sessions are served side by side, from 1 to 16",
-        ))?
-        .arg(number(
-            alloc,
-            "sessions",
-            "How many sessions are served in all, from 1 to 10000",
-        ))?;
-    let script = Arg::new(alloc, "SCRIPT")
-        .help("The script: a setup, and the sections of tills and dispensers")
-        .required(true);
-    let loopback = Arg::new(alloc, "loopback")
-        .long("loopback")
-        .help("The tills' sessions run over sockets, on 127.0.0.1")
-        .action(ArgAction::SetTrue);
-    let demo = Command::new(alloc, "demo")
+        .arg(number(alloc, "workers", workers))?
+        .arg(number(alloc, "sessions", sessions))
+}
+
+fn demo<'a>(alloc: Global) -> Result<Command<'a>, AllocError> {
+    let loopback = "The tills' sessions run over sockets, on 127.0.0.1";
+    Command::new(alloc, "demo")
         .about("Runs a script, settles, and prints the report of the day")
         .arg(file(alloc))?
-        .arg(script)?
-        .arg(loopback)?;
-    let explain = Command::new(alloc, "explain").about(
+        .arg(script(alloc))?
+        .arg(flag(alloc, "loopback", loopback))
+}
+
+fn explain<'a>(alloc: Global) -> Command<'a> {
+    Command::new(alloc, "explain").about(
         "Prints the messages of standard input in words, requests and replies",
-    );
-    Ok(
-        Command::new(alloc, "forecourt")
-            .version("0.1.0")
-            .subcommand_required(true)
-            .about(
-                "The forecourt site controller; without words it replays on a site that it knows",
-            )
-            .subcommand(check)?
-            .subcommand(replay)?
-            .subcommand(report)?
-            .subcommand(serve)?
-            .subcommand(demo)?
-            .subcommand(explain)?,
     )
+}
+
+/// The script that a demo runs.
+fn script<'a>(alloc: Global) -> Arg<'a> {
+    Arg::new(alloc, "SCRIPT")
+        .help("The script: a setup, and the sections of tills and dispensers")
+        .required(true)
+}
+
+/// A word that is there or not.
+fn flag<'a>(alloc: Global, name: &'a str, help: &'a str) -> Arg<'a> {
+    Arg::new(alloc, name)
+        .long(name)
+        .help(help)
+        .action(ArgAction::SetTrue)
 }
 
 /// The site file that a command reads.

@@ -82,48 +82,64 @@ pub fn asked_of(words: &[&str], counted: &mut Counted) -> anyhow::Result<(Actor,
 /// The event that these words name: its own, and what it carries behind it.
 fn event_of(words: &[&str], counted: &mut Counted) -> Option<Event> {
     match *words {
-        ["SignOn"] => Some(Event::SignOn),
-        ["SignOff"] => Some(Event::SignOff),
-        ["CloseShift"] => Some(Event::CloseShift),
-        ["ReadSite"] => Some(Event::ReadSite),
-        ["Release", p] => Some(Event::Release(point_of(p)?, Preset::Unset)),
-        ["Release", p, preset] => Some(Event::Release(point_of(p)?, preset_of(preset)?)),
-        ["Prepay", p, cents] => Some(Event::Prepay(point_of(p)?, cents.parse().ok()?)),
-        ["ReplaceMeter", p, meter] => {
-            let (nozzle, reading) = meter_of(meter, counted)?;
-            Some(Event::ReplaceMeter(point_of(p)?, nozzle, reading))
-        }
-        ["Lift", p, meter] => {
-            let (nozzle, reading) = meter_of(meter, counted)?;
-            Some(Event::Lift(point_of(p)?, nozzle, reading))
-        }
-        ["Flow", p, meter] => {
-            let (nozzle, reading) = meter_of(meter, counted)?;
-            Some(Event::Flow(point_of(p)?, nozzle, reading))
-        }
-        ["HangUp", p, meter] => {
-            let (nozzle, reading) = meter_of(meter, counted)?;
-            Some(Event::HangUp(point_of(p)?, nozzle, reading))
-        }
-        ["SetPrice", q, price] => Some(Event::SetPrice(product_of(q)?, price.parse().ok()?)),
-        ["ReadProduct", q] => Some(Event::ReadProduct(product_of(q)?)),
-        ["Lock", sale] => {
-            let (point, sale) = sale_of(sale, counted)?;
-            Some(Event::Lock(point, sale))
-        }
-        ["Unlock", sale] => {
-            let (point, sale) = sale_of(sale, counted)?;
-            Some(Event::Unlock(point, sale))
-        }
-        ["Clear", sale] => {
-            let (point, sale) = sale_of(sale, counted)?;
-            Some(Event::Clear(point, sale))
-        }
-        ["ReadTransaction", sale] => {
-            let (point, sale) = sale_of(sale, counted)?;
-            Some(Event::ReadTransaction(point, sale))
-        }
-        [name, p] => at_point(name, point_of(p)?),
+        [name] => alone(name),
+        [name, word] => with_one(name, word, counted),
+        [name, first, second] => with_two(name, first, second, counted),
+        _ => None,
+    }
+}
+
+/// The event of this name that carries nothing.
+fn alone(name: &str) -> Option<Event> {
+    match name {
+        "SignOn" => Some(Event::SignOn),
+        "SignOff" => Some(Event::SignOff),
+        "CloseShift" => Some(Event::CloseShift),
+        "ReadSite" => Some(Event::ReadSite),
+        _ => None,
+    }
+}
+
+/// The event of this name with one word behind it.
+fn with_one(name: &str, word: &str, counted: &mut Counted) -> Option<Event> {
+    match name {
+        "Release" => Some(Event::Release(point_of(word)?, Preset::Unset)),
+        "ReadProduct" => Some(Event::ReadProduct(product_of(word)?)),
+        "Lock" | "Unlock" | "Clear" | "ReadTransaction" => of_sale(name, word, counted),
+        _ => at_point(name, point_of(word)?),
+    }
+}
+
+/// The event of this name with two words behind it.
+fn with_two(name: &str, first: &str, second: &str, counted: &mut Counted) -> Option<Event> {
+    match name {
+        "Release" => Some(Event::Release(point_of(first)?, preset_of(second)?)),
+        "Prepay" => Some(Event::Prepay(point_of(first)?, second.parse().ok()?)),
+        "SetPrice" => Some(Event::SetPrice(product_of(first)?, second.parse().ok()?)),
+        _ => at_meter(name, point_of(first)?, second, counted),
+    }
+}
+
+/// The event of this name at a sale.
+fn of_sale(name: &str, word: &str, counted: &mut Counted) -> Option<Event> {
+    let (p, sale) = sale_of(word, counted)?;
+    match name {
+        "Lock" => Some(Event::Lock(p, sale)),
+        "Unlock" => Some(Event::Unlock(p, sale)),
+        "Clear" => Some(Event::Clear(p, sale)),
+        "ReadTransaction" => Some(Event::ReadTransaction(p, sale)),
+        _ => None,
+    }
+}
+
+/// The event of this name at a point's meter.
+fn at_meter(name: &str, p: FpNo, meter: &str, counted: &mut Counted) -> Option<Event> {
+    let (nozzle, reading) = meter_of(meter, counted)?;
+    match name {
+        "ReplaceMeter" => Some(Event::ReplaceMeter(p, nozzle, reading)),
+        "Lift" => Some(Event::Lift(p, nozzle, reading)),
+        "Flow" => Some(Event::Flow(p, nozzle, reading)),
+        "HangUp" => Some(Event::HangUp(p, nozzle, reading)),
         _ => None,
     }
 }
@@ -135,10 +151,24 @@ fn at_point(name: &str, p: FpNo) -> Option<Event> {
         "Close" => Some(Event::Close(p)),
         "Assign" => Some(Event::Assign(p)),
         "Unassign" => Some(Event::Unassign(p)),
+        _ => of_fuelling(name, p),
+    }
+}
+
+/// Those of them that begin, hold or end a fuelling.
+fn of_fuelling(name: &str, p: FpNo) -> Option<Event> {
+    match name {
         "TestRelease" => Some(Event::TestRelease(p)),
         "Suspend" => Some(Event::Suspend(p)),
         "Resume" => Some(Event::Resume(p)),
         "Terminate" => Some(Event::Terminate(p)),
+        _ => of_dispenser(name, p),
+    }
+}
+
+/// Those of them that read the point, or tell whether its dispenser answers.
+fn of_dispenser(name: &str, p: FpNo) -> Option<Event> {
+    match name {
         "ReadPoint" => Some(Event::ReadPoint(p)),
         "Online" => Some(Event::Online(p)),
         "Offline" => Some(Event::Offline(p)),

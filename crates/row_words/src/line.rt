@@ -49,29 +49,49 @@ impl Line {
         let words: Vec<&str> = text.split_whitespace().collect(alloc)?;
         match *words {
             [] => Ok(Line::Text(String::new(alloc))),
-            ["rows", rows] => Ok(Line::Rows(rows.parse()?)),
-            ["book", rows] => Ok(Line::Book(rows.parse()?)),
-            ["changes", place] => Ok(Line::Changes(place.parse()?)),
-            ["manager", t] => Ok(Line::Manager(till_of(t).context("no till")?)),
+            ["totals"] => Ok(Line::Totals),
+            [name, word] => of_number(alloc, text, name, word),
             ["product", q, name, price] => Ok(Line::Product(product_of(alloc, q, name, price)?)),
             ["point", p, ref nozzles @ ..] => Ok(Line::Point(entry_of(alloc, p, nozzles)?)),
-            ["repeat", times] => Ok(Line::Repeat(times.parse()?)),
-            ["show", p] => Ok(Line::Show(point_of(p).context("no point")?)),
-            ["totals"] => Ok(Line::Totals),
-            ["shift", n] => Ok(Line::Shift(shift_of(n).context("no shift")?)),
-            ["sale", sale] => {
-                let (p, id) = sale_named(sale).context("no sale")?;
-                Ok(Line::Sale(p, id))
-            }
-            ["leave", t] => Ok(Line::Leave(till_of(t).context("no till")?)),
-            [first, ..] => {
-                if first.starts_with('#') {
-                    return Ok(Line::Text(String::from_str(alloc, text)?));
-                }
-                Ok(Line::Asked(String::from_str(alloc, text)?))
-            }
+            [first, ..] => as_it_stands(alloc, text, first),
         }
     }
+}
+
+/// A line of a name and a number; of another name, what it says otherwise.
+fn of_number(alloc: Global, text: &str, name: &str, word: &str) -> anyhow::Result<Line> {
+    match name {
+        "rows" => Ok(Line::Rows(word.parse()?)),
+        "book" => Ok(Line::Book(word.parse()?)),
+        "changes" => Ok(Line::Changes(word.parse()?)),
+        "repeat" => Ok(Line::Repeat(word.parse()?)),
+        "point" => Ok(Line::Point(entry_of(alloc, word, &[])?)),
+        _ => of_part(alloc, text, name, word),
+    }
+}
+
+/// A line of a name and a part of the site; of another name, what it says otherwise.
+fn of_part(alloc: Global, text: &str, name: &str, word: &str) -> anyhow::Result<Line> {
+    match name {
+        "manager" => Ok(Line::Manager(till_of(word).context("no till")?)),
+        "leave" => Ok(Line::Leave(till_of(word).context("no till")?)),
+        "show" => Ok(Line::Show(point_of(word).context("no point")?)),
+        "shift" => Ok(Line::Shift(shift_of(word).context("no shift")?)),
+        "sale" => {
+            let (p, id) = sale_named(word).context("no sale")?;
+            Ok(Line::Sale(p, id))
+        }
+        _ => as_it_stands(alloc, text, name),
+    }
+}
+
+/// A comment, or an event in its words.
+fn as_it_stands(alloc: Global, text: &str, first: &str) -> anyhow::Result<Line> {
+    let text = String::from_str(alloc, text)?;
+    if first.starts_with('#') {
+        return Ok(Line::Text(text));
+    }
+    Ok(Line::Asked(text))
 }
 
 fn product_of(alloc: Global, q: &str, name: &str, price: &str) -> anyhow::Result<ProductEntry> {

@@ -41,11 +41,7 @@ fn steps_of(rt: &HostRuntime) -> anyhow::Result<Vec<Step>> {
 }
 
 /// Does the steps, and prints what each shows.
-fn take_all(
-    rt: &(impl Print + Eprint),
-    table: &mut Table,
-    steps: &[Step],
-) -> anyhow::Result<()> {
+fn take_all(rt: &(impl Print + Eprint), table: &mut Table, steps: &[Step]) -> anyhow::Result<()> {
     for step in steps {
         table.take(rt, step)?;
     }

@@ -4,7 +4,7 @@ ghost use Rattle.std.specs.Prelude.{◌≡◌, ◌^◌};
 
 use super::calls::{clears, setup};
 use super::site::five_points;
-use counter_desk::{Desk, Naming, OpenGate, Settled, crew};
+use counter_desk::{Desk, Naming, OpenGate, Root, Settled, crew};
 use site_base::{NoMemory, SiteConfig};
 use std::alloc::Global;
 use std::marker::Brand;
@@ -47,23 +47,44 @@ fn day_of<L: Ledger + Send + Sync, C: Naming + Send + Sync, R: Threads + Wait + 
 {
     let (desk, root) = Desk::<L, C>::try_open(alloc, blank, config)?;
     let root = Mutex::new(root);
-    let mut first = Vec::new(alloc);
-    first.push(setup(rt, alloc, 3)?)?;
-    let ends = crew(rt, alloc, &desk, &root, &OpenGate, &first)?;
-    assert_eq!(rt; ends.len(), 1);
-    assert!(rt; ends[0].placed == 36 && ends[0].accepted == 36 && ends[0].fault.is_none());
-    let mut both = Vec::new(alloc);
-    both.push(clears(rt, alloc, 1)?)?;
-    both.push(clears(rt, alloc, 2)?)?;
-    let ends = crew(rt, alloc, &desk, &root, &OpenGate, &both)?;
-    assert_eq!(rt; ends.len(), 2);
-    assert!(rt; ends[0].placed == 21 && ends[1].placed == 21);
-    assert!(rt; ends[0].accepted <= 21 && ends[1].accepted <= 21);
-    assert_eq!(rt; ends[0].accepted.saturating_add(ends[1].accepted), 22);
+    set_up(rt, alloc, &desk, &root)?;
+    clear_side_by_side(rt, alloc, &desk, &root)?;
     let root = root.into_inner();
     assert!(rt; root.out() == 0, "a share is out");
     match desk.settle(alloc, root) {
         Ok(settled) => Ok(settled),
         Err(_) => panic!(rt; "the day isn't settled"),
     }
+}
+
+/// A crew of one sets the site up.
+fn set_up<L: Ledger + Send + Sync, C: Naming + Send + Sync, R: Threads + Wait + Abort + Sync>(
+    rt: &R,
+    alloc: Global,
+    desk: &Desk<L, C>,
+    root: &Mutex<Root<L, C>>,
+) -> Result<(), NoMemory> {
+    let mut lists = Vec::new(alloc);
+    lists.push(setup(rt, alloc, 3)?)?;
+    let ends = crew(rt, alloc, desk, root, &OpenGate, &lists)?;
+    assert_eq!(rt; ends.len(), 1);
+    assert!(rt; ends[0].placed == 36 && ends[0].accepted == 36 && ends[0].fault.is_none());
+    Ok(())
+}
+
+/// A crew of two clears the same sales, of which each is cleared once.
+fn clear_side_by_side<
+    L: Ledger + Send + Sync,
+    C: Naming + Send + Sync,
+    R: Threads + Wait + Abort + Sync,
+>(rt: &R, alloc: Global, desk: &Desk<L, C>, root: &Mutex<Root<L, C>>) -> Result<(), NoMemory> {
+    let mut lists = Vec::new(alloc);
+    lists.push(clears(rt, alloc, 1)?)?;
+    lists.push(clears(rt, alloc, 2)?)?;
+    let ends = crew(rt, alloc, desk, root, &OpenGate, &lists)?;
+    assert_eq!(rt; ends.len(), 2);
+    assert!(rt; ends[0].placed == 21 && ends[1].placed == 21);
+    assert!(rt; ends[0].accepted <= 21 && ends[1].accepted <= 21);
+    assert_eq!(rt; ends[0].accepted.saturating_add(ends[1].accepted), 22);
+    Ok(())
 }

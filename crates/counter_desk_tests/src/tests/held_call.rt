@@ -3,9 +3,9 @@
 
 ghost use Rattle.std.specs.Prelude.{◌≡◌, ◌^◌};
 
-use super::calls::by_till;
+use super::calls::{Calls, by_till};
 use super::site::five_points;
-use counter_desk::{Desk, Gate, Naming, Settled, crew};
+use counter_desk::{Desk, Gate, Naming, Root, Settled, crew};
 use site_base::{Actor, Event, NoMemory, SiteConfig};
 use std::alloc::Global;
 use std::marker::Brand;
@@ -80,30 +80,46 @@ fn day_of<L: Ledger + Send + Sync, C: Naming + Send + Sync, R: Threads + Wait + 
 {
     let (desk, root) = Desk::<L, C>::try_open(alloc, blank, config)?;
     let root = Mutex::new(root);
-    let gate = HoldingGate {
-        held: by_till(rt, held),
-        answered: AtomicU64::new(0),
-        gave_up: AtomicU64::new(0),
-    };
-    let mut lists = Vec::new(alloc);
-    for t in 1..3 {
-        let mut calls = Vec::new(alloc);
-        calls.push((by_till(rt, t), Event::SignOn))?;
-        lists.push(calls)?;
-    }
-    assert!(rt; lists.len() <= 2);
-    let ends = crew(rt, alloc, &desk, &root, &gate, &lists)?;
-    assert!(rt;
-        gate.gave_up.load(Ordering::SeqCst) == 0,
-        "the other worker didn't run"
-    );
-    for end in &ends {
-        assert!(rt; end.placed == 1 && end.accepted == 1 && end.fault.is_none());
-    }
+    sign_both_on(rt, alloc, &desk, &root, held)?;
     let root = root.into_inner();
     assert!(rt; root.out() == 0, "a share is out");
     match desk.settle(alloc, root) {
         Ok(settled) => Ok(settled),
         Err(_) => panic!(rt; "the day isn't settled"),
     }
+}
+
+/// A crew of two signs its tills on; the calls of the one that is held wait for the other's.
+fn sign_both_on<L: Ledger + Send + Sync, C: Naming + Send + Sync, R: Threads + Wait + Abort + Sync>(
+    rt: &R,
+    alloc: Global,
+    desk: &Desk<L, C>,
+    root: &Mutex<Root<L, C>>,
+    held: u8,
+) -> Result<(), NoMemory> {
+    let gate = HoldingGate {
+        held: by_till(rt, held),
+        answered: AtomicU64::new(0),
+        gave_up: AtomicU64::new(0),
+    };
+    let mut lists = Vec::new(alloc);
+    lists.push(sign_on(rt, alloc, 1)?)?;
+    lists.push(sign_on(rt, alloc, 2)?)?;
+    let ends = crew(rt, alloc, desk, root, &gate, &lists)?;
+    assert!(rt;
+        gate.gave_up.load(Ordering::SeqCst) == 0,
+        "the other worker didn't run"
+    );
+    assert_eq!(rt; ends.len(), 2);
+    for end in &ends {
+        assert!(rt; end.placed == 1 && end.accepted == 1 && end.fault.is_none());
+    }
+    Ok(())
+}
+
+/// The one call of a worker's list.
+fn sign_on(rt: &impl Abort, alloc: Global, t: u8) -> Result<Calls, NoMemory> {
+    let mut calls = Vec::new(alloc);
+    calls.push((by_till(rt, t), Event::SignOn))?;
+    Ok(calls)
 }
