@@ -11,14 +11,31 @@ pub fn command<'a>(alloc: Global) -> Result<Command<'a>, Error> {
     let program = Command::new(alloc, "forecourt")
         .version("0.1.0")
         .subcommand_required(true)
-        .about("The forecourt site controller; without words it replays on a site that it knows")
-        .subcommand(check(alloc)?)?
-        .subcommand(replay(alloc)?)?
-        .subcommand(report(alloc)?)?
-        .subcommand(serve(alloc)?)?
-        .subcommand(demo(alloc)?)?
-        .subcommand(explain(alloc))?;
-    Ok(program)
+        .about("The forecourt site controller; without words it replays on a site that it knows");
+    let program = with_replays(alloc, program)?;
+    let program = with_days(alloc, program)?;
+    Ok(program.subcommand(explain(alloc))?)
+}
+
+/// The commands that read a site file, and what is recorded.
+fn with_replays<'a>(alloc: Global, program: Command<'a>) -> Result<Command<'a>, AllocError> {
+    let program = with(program, check(alloc))?;
+    let program = with(program, replay(alloc))?;
+    with(program, report(alloc))
+}
+
+/// The commands that open a desk for a day.
+fn with_days<'a>(alloc: Global, program: Command<'a>) -> Result<Command<'a>, AllocError> {
+    let program = with(program, serve(alloc))?;
+    with(program, demo(alloc))
+}
+
+/// The program with one command more.
+fn with<'a>(
+    program: Command<'a>,
+    made: Result<Command<'a>, AllocError>,
+) -> Result<Command<'a>, AllocError> {
+    program.subcommand(made?)
 }
 
 fn check<'a>(alloc: Global) -> Result<Command<'a>, AllocError> {
