@@ -5,7 +5,6 @@ ROWS := crates/worked_rows/out/worked_rows
 DESK_ROWS := crates/desk_rows/out/desk_rows
 COSTS := crates/parts_cost/out/parts_cost
 LOAD := crates/desk_load/out/desk_load
-ECHO := crates/loopback_echo/out/loopback_echo
 CRATES := $(patsubst crates/%/wrong-bodies,%,$(wildcard crates/*/wrong-bodies))
 
 .PHONY: help run build check test audit bench
@@ -49,6 +48,5 @@ bench: build
 	@scripts/parts-cost $(COSTS)
 	@cd crates/desk_load && rt run > /dev/null
 	@scripts/bench-desk $(LOAD)
-	@cd crates/loopback_echo && rt run > /dev/null
-	@scripts/bench-server $(PROGRAM) $(ECHO)
+	@scripts/bench-server $(PROGRAM)
 	@scripts/instructions $(PROGRAM)
