@@ -4,7 +4,6 @@ PROGRAM := crates/forecourt/out/forecourt
 ROWS := crates/worked_rows/out/worked_rows
 DESK_ROWS := crates/desk_rows/out/desk_rows
 COSTS := crates/parts_cost/out/parts_cost
-LOAD := crates/desk_load/out/desk_load
 CRATES := $(patsubst crates/%/wrong-bodies,%,$(wildcard crates/*/wrong-bodies))
 
 .PHONY: help run build check test audit bench
@@ -16,9 +15,9 @@ help:
 	@echo 'make test     the gate: every proof from nothing, the wrong bodies of the first shelf, every test,'
 	@echo '              the built programs, refused growths and failing devices'
 	@echo 'make audit    the wrong bodies of the second shelf, of every crate or of CRATES="a b"'
-	@echo 'make bench    messages a second, memory, and their growth with the input; what a call of a part costs,'
-	@echo '              a row of a book of a million, a call of a desk, a receipt that is settled, and a request'
-	@echo '              of a server beside an echo'
+	@echo 'make bench    messages a second, memory, and their growth with the input; calls a second of tills that'
+	@echo '              collide; what a call of a part costs, a row of a book of a million, and a request of a'
+	@echo '              server beside an echo'
 
 run:
 	@cd crates/forecourt && rt try < stdin
@@ -46,7 +45,5 @@ bench: build
 	@scripts/bench-book $(PROGRAM)
 	@cd crates/parts_cost && rt run > /dev/null
 	@scripts/parts-cost $(COSTS)
-	@cd crates/desk_load && rt run > /dev/null
-	@scripts/bench-desk $(LOAD)
 	@scripts/bench-server $(PROGRAM)
 	@scripts/instructions $(PROGRAM)

@@ -9,13 +9,25 @@
  *   FAIL_RECEIVE=K     the Kth read of a socket fails
  *   FAIL_SEND=K        the Kth write to a socket fails
  *   SHORT_SEND=M       a write to a socket takes at most M octets
+ *   FAIL_SOCKET=K      the Kth socket isn't made
+ *   FAIL_BIND=K        the Kth socket gets no address
+ *   FAIL_LISTEN=K      the Kth socket that is to listen doesn't
+ *   FAIL_NAME=K        the Kth question for a socket's address fails
+ *   FAIL_CONNECT=K     the Kth connection isn't made
+ *   FAIL_ACCEPT=K      the Kth connection isn't accepted
+ *   FAIL_THREAD=K      the Kth thread isn't started
+ *   FAIL_THREADS=K     no thread is started from the Kth on
  *   INTERRUPT=1        every second read, of any file or socket, and every second write, to standard
  *                      output or a socket, is interrupted
- *   MET=FILE           is made when a growth, a read or a write met its fault
+ *   MET=FILE           is made when a call met its fault
  */
+#define _GNU_SOURCE
+#include <dlfcn.h>
 #include <errno.h>
 #include <fcntl.h>
+#include <pthread.h>
 #include <stdlib.h>
+#include <sys/socket.h>
 #include <sys/syscall.h>
 #include <unistd.h>
 
@@ -171,4 +183,77 @@ ssize_t send(int socket, const void *text, size_t size, int flags)
         met();
     }
     return syscall(SYS_sendto, socket, text, size, flags, NULL, 0);
+}
+
+static long sockets, bound, listening, named, connected, accepted, threads;
+
+/* Does this call fail, with this error? */
+static int fails_with(const char *name, long *calls, int error)
+{
+    if (!fails(name, calls))
+        return 0;
+    errno = error;
+    return 1;
+}
+
+int socket(int domain, int type, int protocol)
+{
+    if (fails_with("FAIL_SOCKET", &sockets, EMFILE))
+        return -1;
+    return syscall(SYS_socket, domain, type, protocol);
+}
+
+int bind(int socket, const struct sockaddr *address, socklen_t size)
+{
+    if (fails_with("FAIL_BIND", &bound, EADDRINUSE))
+        return -1;
+    return syscall(SYS_bind, socket, address, size);
+}
+
+int listen(int socket, int backlog)
+{
+    if (fails_with("FAIL_LISTEN", &listening, EADDRINUSE))
+        return -1;
+    return syscall(SYS_listen, socket, backlog);
+}
+
+int getsockname(int socket, struct sockaddr *address, socklen_t *size)
+{
+    if (fails_with("FAIL_NAME", &named, ENOBUFS))
+        return -1;
+    return syscall(SYS_getsockname, socket, address, size);
+}
+
+int connect(int socket, const struct sockaddr *address, socklen_t size)
+{
+    if (fails_with("FAIL_CONNECT", &connected, ECONNREFUSED))
+        return -1;
+    return syscall(SYS_connect, socket, address, size);
+}
+
+int accept4(int socket, struct sockaddr *address, socklen_t *size, int flags)
+{
+    if (fails_with("FAIL_ACCEPT", &accepted, EMFILE))
+        return -1;
+    return syscall(SYS_accept4, socket, address, size, flags);
+}
+
+int accept(int socket, struct sockaddr *address, socklen_t *size)
+{
+    return accept4(socket, address, size, 0);
+}
+
+/* Threads are started by the main thread alone, so that they are counted in their order. */
+int pthread_create(pthread_t *thread, const pthread_attr_t *how, void *(*run)(void *), void *given)
+{
+    int (*real)(pthread_t *, const pthread_attr_t *, void *(*)(void *), void *) =
+        dlsym(RTLD_NEXT, "pthread_create");
+    long first = number("FAIL_THREADS");
+    if (fails("FAIL_THREAD", &threads))
+        return EAGAIN;
+    if (first != 0 && ++threads >= first) {
+        met();
+        return EAGAIN;
+    }
+    return real(thread, how, run, given);
 }

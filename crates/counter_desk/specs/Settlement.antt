@@ -14,7 +14,7 @@ use Rattle.counter_desk.specs.declared.receipt.Receipt.{Receipt}
 use Rattle.counter_desk.specs.declared.settlement.Settled.{Settled}
 use Rattle.counter_desk.specs.declared.settlement.SettleFault.{SettleFault}
 use Rattle.counter_desk.specs.declared.settlement.SettleFault.TheVariants.{StrangeReceipt, NoMemory}
-use Rattle.counter_desk.specs.Kept.{book_of}
+use Rattle.counter_desk.specs.Kept.{IsSoundHistory, book_of}
 use Rattle.counter_desk.specs.Receipts.{cents_receipted, growth_receipted, StandsAt}
 use Rattle.counter_desk.specs.Roots.{calls_in}
 
@@ -80,13 +80,16 @@ pub record IsStrange (history : List Row) (lists : List (List Receipt)) (place :
 abbrev pub IsNoneStrange : List Row → List (List Receipt) → Type 0
 IsNoneStrange history lists = (place : ℕ) → IsStrange history lists place → ⊥
 
--- The shares add up to the history: it is dealt among them; there are as many rows as calls; the
--- cents are those of the rows' Cleared answers, of the shares, and of all tills in the book's
--- figures; the millilitres are those that the rows tell, those of the shares, what all meters have
--- counted, and what was metered of all products in the book's figures; and these are the history's
--- figures, with one member for each configured product.
+-- The shares add up to the history: it is sound (a run of the written one-thread site with just
+-- these replies, in which no fuelling point has two tills at once, no transaction two lockers at
+-- once or two clears, and each product's metered volume is somewhere) and dealt among them; there
+-- are as many rows as calls; the cents are those of the rows' Cleared answers, of the shares, and of
+-- all tills in the book's figures; the millilitres are those that the rows tell, those of the
+-- shares, what all meters have counted, and what was metered of all products in the book's figures;
+-- and these are the history's figures, with one member for each configured product.
 pub record AddsUp (config : Configured) (history : List Row) (lists : List (List Receipt))
     (settled : Settled) : Type 0 where
+  pub sound : IsSoundHistory config history
   pub dealt : IsDealt history lists
   pub rows : settled.rows ≡ length history
   pub calls : settled.rows ≡ calls_in lists
@@ -99,7 +102,7 @@ pub record AddsUp (config : Configured) (history : List Row) (lists : List (List
   pub millilitres_booked : settled.millilitres ≡ metered_in settled.book
   pub shares : settled.shares ≡ length lists
   pub book : AreFiguresOf (book_of config history) settled.book
-  pub products : length settled.book.products.items ≡ length config.products
+  pub products : length settled.book.products ≡ length config.products
 
 -- the shares add up to a legal history of this configuration
 abbrev pub Settles : Configured → List (List Receipt) → Settled → Type 0
@@ -116,6 +119,13 @@ abbrev pub IsFaultIn : Configured → List (List Receipt) → SettleFault → Ty
 IsFaultIn config lists fault =
     (history : List Row) × IsLegal (opening config) history × (calls_in lists ≡ length history)
     × IsFaultOf history lists fault
+
+-- what is told where a share is out: the place behind the last row of a legal history of this
+-- configuration, or want of memory
+abbrev pub IsFaultOut : Configured → SettleFault → Type 0
+IsFaultOut config (StrangeReceipt place) =
+    (history : List Row) × IsLegal (opening config) history × (place ≡ length history)
+IsFaultOut config NoMemory = Unit {0}
 
 -- its number, as a program tells it
 abbrev pub settle_fault_number : SettleFault → ℕ

@@ -102,7 +102,7 @@ impl<L: Ledger, C: Naming> Desk<L, C> {
     pub fn snapshot<R: Wait>(&self, rt: &R, alloc: Global) -> Result<Totals, NoMemory>
         ensures figures { IfOk result (λ totals. AreFiguresInLegal C.config totals) }
         ensures products { IfOk result (λ totals.
-            length totals.products.items ≡ length C.config.products) }
+            length totals.products ≡ length C.config.products) }
     {
         self.site.lock(rt).totals(alloc)
     }

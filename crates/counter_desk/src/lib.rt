@@ -14,6 +14,7 @@ mod owed;
 mod receipt;
 mod root;
 mod settlement;
+mod settling;
 mod share;
 mod worker;
 
@@ -25,5 +26,6 @@ pub use naming::Naming;
 pub use receipt::Receipt;
 pub use root::Root;
 pub use settlement::{SettleFault, Settled, Unsettled};
+pub use settling::settle_all;
 pub use share::Share;
 pub use worker::{ListEnd, WorkFault, work};

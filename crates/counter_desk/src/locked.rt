@@ -158,7 +158,7 @@ impl<L: Ledger, C: Naming> Locked<L, C> {
         ensures totals { IfOk result (λ totals.
             AreFiguresOf (book_of C.config self.now) totals) }
         ensures products { IfOk result (λ totals.
-            length totals.products.items ≡ length C.config.products) }
+            length totals.products ≡ length C.config.products) }
         ensures sums { IfOk result (λ totals. AddUp (book_of C.config self.now) totals) }
         ensures legal { IsLegal (opening C.config) self.now }
     {

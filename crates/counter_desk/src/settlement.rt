@@ -7,16 +7,16 @@ ghost use Rattle.counter_desk.specs.Roots.{calls_in};
 ghost use Rattle.counter_desk.specs.Settlement.{AddsUp, IsFaultIn, IsFaultOf, IsNoneStrange, settle_fault_number, Settles};
 
 use crate::desk::Desk;
+use crate::laws::kept_histories_are_sound;
 use crate::locked::Locked;
 use crate::marking::{amounts, mark_all, no_marks};
 use crate::naming::Naming;
 use crate::root::Root;
 use site_base::Totals;
 use std::alloc::Global;
-use std::fmt;
 use std::sync::Mutex;
 use std::sync::ledger::Ledger;
-use written_site::volumes_are_conserved;
+use thiserror::Error;
 
 /// The figures of a day that is settled.
 #[derive(Drop)]
@@ -34,12 +34,14 @@ pub struct Settled {
 }
 
 /// Why a day isn't settled.
-#[derive(Clone, Copy, Debug, PartialEq, Eq)]
+#[derive(Clone, Copy, Debug, PartialEq, Eq, Error)]
 pub enum SettleFault {
     /// A receipt of this place isn't its row, or the place was receipted before or isn't above the
     /// one before it in its share.
+    #[error("a receipt of place {0} is strange")]
     StrangeReceipt(u64),
     /// A growth was refused.
+    #[error("no memory")]
     NoMemory,
 }
 
@@ -51,18 +53,6 @@ impl SettleFault {
         match self {
             SettleFault::StrangeReceipt(_) => 60,
             SettleFault::NoMemory => 31,
-        }
-    }
-}
-
-/// `a receipt of place 7 is strange`, or `no memory`.
-impl fmt::Display for SettleFault {
-    fn fmt<W: fmt::Write>(&self, f: &mut fmt::Formatter<W>) -> fmt::Result {
-        match self {
-            SettleFault::StrangeReceipt(place) => {
-                write!(f, "a receipt of place {} is strange", place)
-            }
-            SettleFault::NoMemory => f.write_str("no memory"),
         }
     }
 }
@@ -83,6 +73,10 @@ impl<L: Ledger, C: Naming> Desk<L, C> {
     /// answers the figures, the shares add up to the history: each row is told by one receipt of
     /// one share, and each share's calls stand there in the order in which it made them. It fails
     /// where a receipt is strange, or a growth is refused; then nothing has changed.
+    ///
+    /// The rows stand behind the desk's lock, which forgets all but their type, so `fault` speaks of
+    /// a legal history of this configuration with as many rows as the shares made calls, and can't
+    /// say that it is the desk's own. Under the lock it is: `Locked::settle` compares its own rows.
     pub fn settle(self, alloc: Global, root: Root<L, C>) -> Result<Settled, Unsettled<L, C>>
         requires { root.out ≡ 0 }
         ensures ok { IfOk result (λ settled. Settles C.config root.lists settled) }
@@ -150,7 +144,7 @@ fn figures<L: Ledger, C: Naming>(
         Ok(book) => book,
         Err(_) => return Err(SettleFault::NoMemory),
     };
-    volumes_are_conserved();
+    kept_histories_are_sound();
     let (cents, millilitres) = amounts(returned);
     Ok(Settled {
         rows,

@@ -11,18 +11,21 @@ use crate::gate::Gate;
 use crate::naming::Naming;
 use crate::share::Share;
 use site_base::{Actor, Event, NoRow, TILL_CELLS, TillNo};
-use std::fmt;
 use std::sync::Wait;
 use std::sync::ledger::Ledger;
+use thiserror::Error;
 
 /// Why a worker ended before its list did.
-#[derive(Clone, Copy, Debug, PartialEq, Eq)]
+#[derive(Clone, Copy, Debug, PartialEq, Eq, Error)]
 pub enum WorkFault {
     /// The book has as many rows as the configuration allows.
+    #[error("the book is full")]
     BookFull,
     /// A growth was refused.
+    #[error("no memory")]
     NoMemory,
     /// The worker couldn't be started; it was given no share.
+    #[error("the worker wasn't started")]
     NoWorker,
 }
 
@@ -46,17 +49,6 @@ impl WorkFault {
             WorkFault::NoMemory => 31,
             WorkFault::NoWorker => 64,
         }
-    }
-}
-
-/// `the book is full`, `no memory`, or `the worker wasn't started`.
-impl fmt::Display for WorkFault {
-    fn fmt<W: fmt::Write>(&self, f: &mut fmt::Formatter<W>) -> fmt::Result {
-        f.write_str(match self {
-            WorkFault::BookFull => "the book is full",
-            WorkFault::NoMemory => "no memory",
-            WorkFault::NoWorker => "the worker wasn't started",
-        })
     }
 }
 

@@ -6,7 +6,7 @@ use Rattle.site_base.specs.declared.event.Event.TheVariants as events
 use Rattle.site_base.specs.declared.refusal.Refusal.{Refusal}
 use Rattle.site_base.specs.declared.limits.TheConstants.{TILLS}
 use Rattle.site_base.specs.declared.actor.Actor.TheVariants.{Till}
-use Rattle.site_base.specs.Configured.{is_between}
+use Rattle.site_base.specs.Ranges.{is_between}
 use Rattle.app_message.specs.Telegram.{Telegram}
 use Rattle.device_map.specs.Laws.{is_in_range}
 use Rattle.device_map.specs.Requests.{request_at}

@@ -12,7 +12,7 @@ use Rattle.std.proofs.lemmas.Nat.{from_be_bytes-to_be_bytes_4, from_be_bytes-to_
 use Rattle.site_base.specs.declared.limits.TheConstants.{NOZZLES, GREATEST_READING}
 use Rattle.site_base.specs.declared.state.Preset.{Preset}
 use Rattle.site_base.specs.declared.state.Preset.TheVariants.{Unset, Volume, Money}
-use Rattle.site_base.specs.Configured.{is_between}
+use Rattle.site_base.specs.Ranges.{is_between}
 use Rattle.app_message.specs.Telegram.{Entry, entry, IsEntry, Rises, AreOctets}
 use Rattle.app_message.specs.Spelling.{item_text}
 use Rattle.device_map.specs.declared.fault.MapFault.{MapFault}

@@ -10,7 +10,7 @@ use Rattle.site_base.specs.declared.limits.TheConstants.{TILLS, POINTS}
 use Rattle.site_base.specs.declared.actor.Actor.{Actor}
 use Rattle.site_base.specs.declared.actor.Actor.TheVariants.{Till, Dispenser}
 use Rattle.site_base.specs.declared.event.Event.{Event}
-use Rattle.site_base.specs.Configured.{is_between}
+use Rattle.site_base.specs.Ranges.{is_between}
 use Rattle.site_base.specs.Events.{reported_by}
 use Rattle.app_message.specs.declared.kind.Kind.{Kind}
 use Rattle.app_message.specs.declared.kind.Kind.TheVariants as kinds

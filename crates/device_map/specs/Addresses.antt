@@ -2,7 +2,7 @@
 use Rattle.std.specs.Prelude.{ℕ, ◌+◌, ◌-◌, Bool, List, length, ◌&&◌, ◌==◌, slice_index}
 use Rattle.std.specs.Prelude.{Some, None, Result, Ok, Err, if◌then◌else◌}
 use Rattle.site_base.specs.declared.limits.TheConstants.{POINTS, PRODUCTS}
-use Rattle.site_base.specs.Configured.{is_between}
+use Rattle.site_base.specs.Ranges.{is_between}
 use Rattle.device_map.specs.declared.address.Database.{Database}
 use Rattle.device_map.specs.declared.address.Database.TheVariants.{Site, Point, Transaction}
 use Rattle.device_map.specs.declared.address.Database.TheVariants.{Product}

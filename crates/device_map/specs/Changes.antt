@@ -8,7 +8,7 @@ use Rattle.site_base.specs.declared.event.Event.{Event}
 use Rattle.site_base.specs.declared.event.Event.TheVariants as events
 use Rattle.site_base.specs.declared.refusal.Refusal.{Refusal}
 use Rattle.site_base.specs.declared.row.Row.{Row}
-use Rattle.site_base.specs.Configured.{is_between}
+use Rattle.site_base.specs.Ranges.{is_between}
 use Rattle.site_base.specs.Events.{has_change}
 use Rattle.app_message.specs.declared.kind.Kind.TheVariants as kinds
 use Rattle.app_message.specs.Telegram.{Entry, entry, Telegram, telegram}

@@ -3,7 +3,7 @@ use Rattle.std.specs.Prelude.{ℕ, ◌+◌, ◌*◌, ◌/◌, ◌%◌, Bool, ◌
 use Rattle.std.specs.Prelude.{Result, Ok, Err, if◌then◌else◌}
 use Rattle.site_base.specs.declared.limits.TheConstants.{GREATEST_SEQ, GREATEST_SHIFT}
 use Rattle.site_base.specs.declared.sale.SaleId.{SaleId}
-use Rattle.site_base.specs.Configured.{is_between}
+use Rattle.site_base.specs.Ranges.{is_between}
 use Rattle.device_map.specs.declared.decimal.Digits.{Digits}
 use Rattle.device_map.specs.declared.decimal.SaleDigits.{SaleDigits}
 use Rattle.device_map.specs.declared.fault.MapFault.{MapFault}

@@ -11,7 +11,7 @@ use Rattle.site_base.specs.declared.event.Event.TheVariants as events
 use Rattle.site_base.specs.declared.sale.SaleId.{SaleId}
 use Rattle.site_base.specs.declared.state.Preset.{Preset}
 use Rattle.site_base.specs.declared.state.Preset.TheVariants.{Unset, Volume, Money}
-use Rattle.site_base.specs.Configured.{is_between}
+use Rattle.site_base.specs.Ranges.{is_between}
 use Rattle.site_base.specs.Events.{point_named, reported_by}
 use Rattle.app_message.specs.Telegram.{Telegram}
 use Rattle.app_message.specs.Spelling.{IsMessage}

@@ -11,7 +11,8 @@ use Rattle.site_base.specs.declared.event.Event.TheVariants as events
 use Rattle.site_base.specs.declared.refusal.Refusal.{Refusal}
 use Rattle.site_base.specs.declared.state.PointState.{PointState}
 use Rattle.site_base.specs.declared.view.PointView.{PointView}
-use Rattle.site_base.specs.Configured.{Configured, ConfiguredPoint}
+use Rattle.site_base.specs.declared.config.PointEntry.{PointEntry}
+use Rattle.site_base.specs.Configured.{Configured}
 use Rattle.counter_desk.specs.declared.receipt.Receipt.{Receipt}
 use Rattle.counter_desk.specs.Kept.{IsFullInLegal, IsShownInLegal}
 use Rattle.dispenser_sim.specs.declared.end.DispenserFault.{DispenserFault}
@@ -37,7 +38,7 @@ meter d = meter_of d d.nozzle
 -- ---- before its first step
 
 -- the nozzles of the point of this number; none where it isn't there
-abbrev pub nozzles_of : ℕ → List ConfiguredPoint → List NozzleEntry
+abbrev pub nozzles_of : ℕ → List PointEntry → List NozzleEntry
 nozzles_of p [] = []
 nozzles_of p (point ∷ points) = if point.number == p then point.nozzles else nozzles_of p points
 

@@ -290,7 +290,7 @@ fn nozzles_of(points: &[PointEntry], p: FpNo) -> &[NozzleEntry]
         [] => &[],
         [first, rest @ ..] => {
             if first.number.get() == p.get() {
-                &first.nozzles
+                first.nozzles.as_slice()
             } else {
                 nozzles_of(rest, p)
             }

@@ -6,17 +6,20 @@ ghost use Rattle.dispenser_sim.specs.Faults.{dispenser_fault_number};
 
 use counter_desk::{Naming, Share};
 use site_base::NoRow;
-use std::fmt;
 use std::sync::ledger::Ledger;
+use thiserror::Error;
 
 /// Why a run ended before its script did.
-#[derive(Clone, Copy, Debug, PartialEq, Eq)]
+#[derive(Clone, Copy, Debug, PartialEq, Eq, Error)]
 pub enum DispenserFault {
     /// The book has as many rows as the configuration allows.
+    #[error("the book is full")]
     BookFull,
     /// A growth was refused.
+    #[error("no memory")]
     NoMemory,
     /// The point wasn't seen in the state that a step waits for, in as many looks as there may be.
+    #[error("the polls are spent")]
     PollsSpent,
 }
 
@@ -40,17 +43,6 @@ impl DispenserFault {
             DispenserFault::NoMemory => 31,
             DispenserFault::PollsSpent => 65,
         }
-    }
-}
-
-/// `the book is full`, `no memory`, or `the polls are spent`.
-impl fmt::Display for DispenserFault {
-    fn fmt<W: fmt::Write>(&self, f: &mut fmt::Formatter<W>) -> fmt::Result {
-        f.write_str(match self {
-            DispenserFault::BookFull => "the book is full",
-            DispenserFault::NoMemory => "no memory",
-            DispenserFault::PollsSpent => "the polls are spent",
-        })
     }
 }
 

@@ -38,6 +38,16 @@ fn run<T: Threads + Wait + Sync>(
     plan: DemoPlan,
 ) -> ExitCode {
     let mut writer = Counted::new(rt.stdout());
-    let end = demo_day(rt, threads, rt.alloc(), config, script, plan, &mut writer);
+    let mut left = plan.turns;
+    let end = demo_day(
+        rt,
+        threads,
+        rt.alloc(),
+        config,
+        script,
+        plan,
+        &mut left,
+        &mut writer,
+    );
     day_ended(rt, end)
 }

@@ -43,13 +43,14 @@ fn day<T: Threads + Wait + Sync>(
 ) -> Result<(), DayFault> {
     let listener = Loopback::bind(rt, plan.port)?;
     let mut writer = Counted::new(rt.stdout());
+    let mut left = turns;
     serve_day(
         threads,
         rt.alloc(),
         config,
         listener,
         plan,
-        turns,
+        &mut left,
         &mut writer,
     )
 }

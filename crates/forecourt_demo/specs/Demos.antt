@@ -1,22 +1,39 @@
--- What a demo tells.
-use Rattle.std.specs.Prelude.{◌⊎◌, ℕ, List, [], Option}
+-- What a demo has done, and what it tells.
+use Rattle.std.specs.Prelude.{◌⊎◌, ℕ, List, [], ◌∷◌, ◌++◌, Option}
 use Rattle.std.specs.Io.KnownBytes.{Appends}
+use Rattle.site_base.specs.declared.actor.Actor.{Actor}
+use Rattle.site_base.specs.declared.event.Event.{Event}
 use Rattle.site_base.specs.Configured.{Configured}
 use Rattle.site_base.specs.Devices.{AppendsFront}
+use Rattle.counter_desk.specs.declared.receipt.Receipt.{Receipt}
 use Rattle.counter_desk.specs.declared.settlement.Settled.{Settled}
+use Rattle.counter_desk.specs.declared.worker.ListEnd.{ListEnd}
+use Rattle.counter_desk.specs.Settlement.{Settles}
+use Rattle.counter_desk.specs.Work.{Works}
 use Rattle.forecourt_engines.specs.Report.{report_text}
-use Rattle.forecourt_server.specs.Days.{IsSettledDay}
 
--- the report of a day that is settled
-pub record TellsReport (config : Configured) (holds holds' : Option (List ℕ)) : Type 0 where
+-- A demo's day is settled: the receipts of the sections' workers, and last those of the worker that
+-- made the setup's calls, add up to a legal history of this configuration.
+pub record IsSettledDemo (config : Configured) (setup : List (Actor × Event))
+    (settled : Settled) : Type 0 where
+  pub sections : List (List Receipt)
+  pub receipts : List Receipt
+  pub end : ListEnd
+  pub worked : Works config setup [] receipts end
+  pub adds_up : Settles config (sections ++ receipts ∷ []) settled
+
+-- the report of a demo that is settled
+pub record TellsReport (config : Configured) (setup : List (Actor × Event))
+    (holds holds' : Option (List ℕ)) : Type 0 where
   pub settled : Settled
-  pub adds_up : IsSettledDay config settled
+  pub adds_up : IsSettledDemo config setup settled
   pub told : Appends holds holds' (report_text config settled.book settled.shares)
 
--- However a demo ends, nothing else was written: nothing, or a front of the report of a day that is
--- settled.
-abbrev pub TellsReportFront : Configured → Option (List ℕ) → Option (List ℕ) → Type 0
-TellsReportFront config holds holds' =
+-- However a demo ends, nothing else was written: nothing, or a front of the report of a demo that
+-- is settled.
+abbrev pub TellsReportFront : Configured → List (Actor × Event) → Option (List ℕ)
+    → Option (List ℕ) → Type 0
+TellsReportFront config setup holds holds' =
     Appends holds holds' []
-    ⊎ ((settled : Settled) × IsSettledDay config settled
+    ⊎ ((settled : Settled) × IsSettledDemo config setup settled
     × AppendsFront holds holds' (report_text config settled.book settled.shares))

@@ -1,1 +1,3 @@
 pub mod Demos
+pub mod Faults
+pub mod Sections

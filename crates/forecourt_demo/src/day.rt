@@ -1,16 +1,18 @@
 //! A demo, from its setup to its report.
 
 ghost use Rattle.std.specs.Prelude.{◌≡◌, ◌^◌, IfOk, OnOk};
-ghost use Rattle.site_base.specs.Counted.{device_of};
-ghost use Rattle.forecourt_server.specs.Days.{IsSettledDay};
-ghost use Rattle.forecourt_demo.specs.Demos.{TellsReport, TellsReportFront};
+ghost use Rattle.std.specs.Result.{IsErrOf};
+ghost use Rattle.site_base.specs.Counted.{device_of, failures_of};
+ghost use Rattle.site_base.specs.Devices.{one_more};
+ghost use Rattle.forecourt_demo.specs.Demos.{IsSettledDemo, TellsReport, TellsReportFront};
 
+use crate::fault::DemoFault;
 use crate::loopback::run_over_loopback;
 use crate::memory::run_over_memory;
-use counter_desk::{Desk, Naming, OpenGate, Settled, work};
+use counter_desk::{Desk, Naming, OpenGate, Root, Settled, settle_all, work};
 use demo_script::DemoScript;
-use forecourt_server::{DayFault, put_report, settle_all};
-use site_base::{Counted, SiteConfig};
+use forecourt_server::{DayFault, put_report};
+use site_base::{Counted, SiteConfig, WriteFault};
 use std::alloc::Global;
 use std::io::Write;
 use std::marker::Brand;
@@ -22,18 +24,20 @@ use std::thread::Threads;
 /// How many shares a desk may give.
 const PARTS: u64 = 1 << 63;
 
-/// How a demo is run: its tills' sessions over memory, or over sockets; each session, and each
-/// write, has so many turns.
+/// How a demo is run: its tills' sessions over memory, or over sockets; each session has so many
+/// turns.
 #[derive(Clone, Copy, Debug, PartialEq, Eq)]
 pub struct DemoPlan {
     /// Do the tills' sessions run over sockets?
     pub loopback: bool,
-    /// The read calls and interrupted write calls of a session, and of the report.
+    /// The read calls and interrupted write calls of a session.
     pub turns: u64,
 }
 
 /// Runs the demo of a script on the site of this configuration, and writes the report of what was
-/// settled. However it ends, what it wrote is a front of that.
+/// settled, whose interrupted calls take `turns`. However it ends, what it wrote is a front of
+/// that. `Write` comes where the writer failed in the call, or was interrupted until no turn was
+/// left.
 pub fn demo_day<
     W: Write,
     N: Net<Listener = TcpListener, Stream = TcpStream>,
@@ -45,15 +49,22 @@ pub fn demo_day<
     config: &SiteConfig,
     script: &DemoScript,
     plan: DemoPlan,
+    turns: &mut u64,
     writer: &mut Counted<W>,
 ) -> Result<(), DayFault>
-    ensures told { OnOk result (TellsReport config.now
+    ensures told { OnOk result (TellsReport config.now script.now.setup
         (W.contents (device_of writer.old)) (W.contents (device_of writer.new))) }
-    ensures front { TellsReportFront config.now
+    ensures front { TellsReportFront config.now script.now.setup
         (W.contents (device_of writer.old)) (W.contents (device_of writer.new)) }
+
+    // What its write does to the writer's count, and to the turns.
+    ensures counted { OnOk result (failures_of writer.new ≡ failures_of writer.old) }
+    ensures failed { IsErrOf result (DayFault.Write WriteFault.Failed)
+        → failures_of writer.new ≡ one_more (failures_of writer.old) }
+    ensures limit { IsErrOf result (DayFault.Write WriteFault.TurnLimit) → turns.new ≡ 0 }
 {
     let settled = demo(net, rt, alloc, config, script, plan)?;
-    put_report(alloc, config, &settled, writer, plan.turns)
+    put_report(alloc, config, &settled, writer, turns)
 }
 
 /// Runs the demo of a script on the site of this configuration. One worker makes the calls of the
@@ -62,6 +73,11 @@ pub fn demo_day<
 /// sessions are drawn by a server's workers, at most 16, each with a share), and the desk is
 /// settled. What ends one worker's work early doesn't end the demo, but `NoWorker` where one
 /// couldn't be started, and `NoConnection` where a socket couldn't be had.
+///
+/// What is settled ends with the receipts of the setup's worker, which did the setup's calls. Of
+/// the sections' receipts a contract can't say more than that they add up with these: their shares
+/// come back through the root's lock, which forgets all but its type. What each worker does through
+/// its share stands at `work_through` (`IsWorkedAt`).
 pub fn demo<N: Net<Listener = TcpListener, Stream = TcpStream>, R: Threads + Wait + Sync>(
     net: &N,
     rt: &R,
@@ -69,8 +85,8 @@ pub fn demo<N: Net<Listener = TcpListener, Stream = TcpStream>, R: Threads + Wai
     config: &SiteConfig,
     script: &DemoScript,
     plan: DemoPlan,
-) -> Result<Settled, DayFault>
-    ensures settled { IfOk result (λ settled. IsSettledDay config.now settled) }
+) -> Result<Settled, DemoFault>
+    ensures settled { IfOk result (λ settled. IsSettledDemo config.now script.now.setup settled) }
 {
     let blank = Blank::new(PARTS);
     day_of::<Brand, Brand, N, R>(net, rt, alloc, blank, config, script, plan)
@@ -90,21 +106,42 @@ fn day_of<
     config: &SiteConfig,
     script: &DemoScript,
     plan: DemoPlan,
-) -> Result<Settled, DayFault>
+) -> Result<Settled, DemoFault>
     requires ledger { (blank.name ≡ L.name) × (blank.parts ≡ L.parts) × (blank.parts ≡ 2 ^ 63) }
     requires config { config.now ≡ C.config }
-    ensures settled { IfOk result (λ settled. IsSettledDay config.now settled) }
+    ensures settled { IfOk result (λ settled. IsSettledDemo config.now script.now.setup settled) }
 {
     let (desk, mut root) = Desk::<L, C>::try_open(alloc, blank, config)?;
     let mut share = root.give()?;
     let _end = work(rt, &desk, &mut share, &OpenGate, script.setup());
-    root.take_back(share);
     let root = Mutex::new(root);
+    let worked = run_sections(net, rt, alloc, config, &desk, &root, script, plan);
+    let mut root = root.into_inner();
+    root.take_back(share);
+    worked?;
+    Ok(settle_all(rt, alloc, desk, root)?)
+}
+
+/// Works at the sections side by side, each through a share of its own.
+fn run_sections<
+    L: Ledger + Send + Sync,
+    C: Naming + Send + Sync,
+    N: Net<Listener = TcpListener, Stream = TcpStream>,
+    R: Threads + Wait + Sync,
+>(
+    net: &N,
+    rt: &R,
+    alloc: Global,
+    config: &SiteConfig,
+    desk: &Desk<L, C>,
+    root: &Mutex<Root<L, C>>,
+    script: &DemoScript,
+    plan: DemoPlan,
+) -> Result<(), DemoFault> {
     let (sections, turns) = (script.sections(), plan.turns);
     if plan.loopback {
-        run_over_loopback(net, rt, alloc, config, &desk, &root, sections, turns)?;
+        run_over_loopback(net, rt, alloc, config, desk, root, sections, turns)
     } else {
-        run_over_memory(rt, alloc, config, &desk, &root, sections, turns)?;
+        run_over_memory(rt, alloc, config, desk, root, sections, turns)
     }
-    Ok(settle_all(rt, alloc, desk, root.into_inner())?)
 }

@@ -5,9 +5,11 @@
 
 mod client;
 mod day;
+mod fault;
 mod loopback;
 mod memory;
 mod section;
 mod workers;
 
 pub use day::{DemoPlan, demo, demo_day};
+pub use fault::DemoFault;

@@ -3,13 +3,14 @@
 ghost use Rattle.std.specs.Prelude.{◌≤◌, ◌+◌, vec_capacity, vec_len};
 
 use crate::client::send_all;
+use crate::fault::DemoFault;
 use crate::memory::run_over_memory;
 use crate::section::work_at;
 use crate::workers::{Anything, Worker, join_all, room_for};
 use app_message::Messages;
 use counter_desk::{Desk, Naming, OpenGate, Root, WORKERS};
 use demo_script::Section;
-use forecourt_server::{DayFault, Loopback};
+use forecourt_server::Loopback;
 use site_base::SiteConfig;
 use std::alloc::Global;
 use std::net::{Ipv4Addr, Net, SocketAddr, SocketAddrV4, TcpListener, TcpStream};
@@ -44,19 +45,19 @@ pub fn run_over_loopback<
     root: &Mutex<Root<L, C>>,
     sections: &[Section],
     turns: u64,
-) -> Result<(), DayFault> {
+) -> Result<(), DemoFault> {
     let tills = tills_in(sections);
     if tills == 0 {
         return run_over_memory(rt, alloc, config, desk, root, sections, turns);
     }
     let Ok(listener) = Loopback::bind(net, 0) else {
-        return Err(DayFault::NoConnection);
+        return Err(DemoFault::NoConnection);
     };
     let parts = parts_of(net, alloc, listener.port(), sections)?;
     thread::scope(
         thread::scope_env(),
         rt,
-        |scope| -> Result<(), DayFault>
+        |scope| -> Result<(), DemoFault>
             requires { 1 ≤ tills }
         {
             let mut workers = room_for(alloc, parts.len())?;
@@ -93,7 +94,7 @@ fn parts_of<'a, N: Net<Listener = TcpListener, Stream = TcpStream>>(
     alloc: Global,
     port: u16,
     sections: &'a [Section],
-) -> Result<Vec<Part<'a>>, DayFault> {
+) -> Result<Vec<Part<'a>>, DemoFault> {
     let mut parts = room_for(alloc, sections.len())?;
     for section in sections {
         parts.push_reserved(part_of(net, port, section)?);
@@ -106,7 +107,7 @@ fn part_of<'a, N: Net<Listener = TcpListener, Stream = TcpStream>>(
     net: &N,
     port: u16,
     section: &'a Section,
-) -> Result<Part<'a>, DayFault> {
+) -> Result<Part<'a>, DemoFault> {
     let Section::Till(messages) = section else {
         return Ok(Part::Section(section));
     };
@@ -116,7 +117,7 @@ fn part_of<'a, N: Net<Listener = TcpListener, Stream = TcpStream>>(
             let _ = stream.set_nodelay(true);
             Ok(Part::Client(messages, stream))
         }
-        Err(_) => Err(DayFault::NoConnection),
+        Err(_) => Err(DemoFault::NoConnection),
     }
 }
 
@@ -132,7 +133,7 @@ fn start_all<'s, E, L: Ledger + Send + Sync, C: Naming + Send + Sync, R: Threads
     parts: Vec<Part<'s>>,
     turns: u64,
     workers: &mut Vec<Worker>,
-) -> Result<(), DayFault>
+) -> Result<(), DemoFault>
     requires { vec_len workers.old + vec_len parts ≤ vec_capacity workers.old }
 {
     let mut started = Ok(());
@@ -140,7 +141,7 @@ fn start_all<'s, E, L: Ledger + Send + Sync, C: Naming + Send + Sync, R: Threads
         let job = move || { do_part(rt, alloc, config, desk, root, part, turns) };
         match scope.spawn_with(Anything, job) {
             Ok(handle) => workers.push_reserved(handle),
-            Err(_) => started = Err(DayFault::NoWorker),
+            Err(_) => started = Err(DemoFault::NoWorker),
         }
     }
     started
@@ -171,7 +172,7 @@ fn serve_tills<L: Ledger + Send + Sync, C: Naming + Send + Sync, R: Threads + Wa
     root: &Mutex<Root<L, C>>,
     tills: usize,
     turns: u64,
-) -> Result<(), DayFault>
+) -> Result<(), DemoFault>
     requires { 1 ≤ tills }
 {
     let (workers, sessions) = (tills.min(WORKERS), tills.min(SESSIONS));
@@ -183,15 +184,15 @@ fn serve_tills<L: Ledger + Send + Sync, C: Naming + Send + Sync, R: Threads + Wa
 }
 
 /// `NoWorker` where not every session was drawn, `NoConnection` where one had no connection.
-fn judge(ends: &[SessionEnd], sessions: usize) -> Result<(), DayFault> {
+fn judge(ends: &[SessionEnd], sessions: usize) -> Result<(), DemoFault> {
     if ends.len() < sessions {
-        return Err(DayFault::NoWorker);
+        return Err(DemoFault::NoWorker);
     }
     if ends
         .iter()
         .any(|end| end.fault == Some(SessionFault::Accept))
     {
-        return Err(DayFault::NoConnection);
+        return Err(DemoFault::NoConnection);
     }
     Ok(())
 }

@@ -2,11 +2,11 @@
 
 ghost use Rattle.std.specs.Prelude.{◌+◌, ◌≤◌, length, vec_capacity, vec_len};
 
+use crate::fault::DemoFault;
 use crate::section::work_at;
 use crate::workers::{Anything, Worker, join_all, room_for};
 use counter_desk::{Desk, Naming, Root};
 use demo_script::Section;
-use forecourt_server::DayFault;
 use site_base::SiteConfig;
 use std::alloc::Global;
 use std::sync::ledger::Ledger;
@@ -23,8 +23,8 @@ pub fn run_over_memory<L: Ledger + Send + Sync, C: Naming + Send + Sync, R: Thre
     root: &Mutex<Root<L, C>>,
     sections: &[Section],
     turns: u64,
-) -> Result<(), DayFault> {
-    thread::scope(thread::scope_env(), rt, |scope| -> Result<(), DayFault> {
+) -> Result<(), DemoFault> {
+    thread::scope(thread::scope_env(), rt, |scope| -> Result<(), DemoFault> {
         let mut workers = room_for(alloc, sections.len())?;
         let started = start_all(
             scope,
@@ -54,7 +54,7 @@ fn start_all<'s, E, L: Ledger + Send + Sync, C: Naming + Send + Sync, R: Threads
     sections: &'s [Section],
     turns: u64,
     workers: &mut Vec<Worker>,
-) -> Result<(), DayFault>
+) -> Result<(), DemoFault>
     requires { vec_len workers.old + length sections.now ≤ vec_capacity workers.old }
 {
     let mut started = Ok(());
@@ -62,7 +62,7 @@ fn start_all<'s, E, L: Ledger + Send + Sync, C: Naming + Send + Sync, R: Threads
         let job = move || { work_at(rt, alloc, config, desk, root, section, turns) };
         match scope.spawn_with(Anything, job) {
             Ok(handle) => workers.push_reserved(handle),
-            Err(_) => started = Err(DayFault::NoWorker),
+            Err(_) => started = Err(DemoFault::NoWorker),
         }
     }
     started

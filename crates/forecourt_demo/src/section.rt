@@ -1,5 +1,8 @@
 //! One section, worked at through a share of its own.
 
+ghost use Rattle.std.specs.Prelude.{◌≡◌, [], ◌∷◌, ◌++◌, IfOk, OnErr, OnOk};
+ghost use Rattle.forecourt_demo.specs.Sections.{AreServed, IsWorkedAt, octets_of};
+
 use app_message::{Messages, encode_into};
 use counter_desk::{Desk, Naming, OpenGate, Root, Share};
 use demo_script::Section;
@@ -11,7 +14,7 @@ use std::sync::{Mutex, Wait};
 use till_session::{DeskCounter, Session};
 
 /// Takes a share, works at a section, and hands the share back. Without memory for a share the
-/// section isn't worked at.
+/// section isn't worked at. No clause can say what the root is given: its lock forgets it.
 pub fn work_at<L: Ledger, C: Naming, R: Wait>(
     rt: &R,
     alloc: Global,
@@ -23,13 +26,14 @@ pub fn work_at<L: Ledger, C: Naming, R: Wait>(
 ) {
     let given = root.lock(rt).give();
     if let Ok(share) = given {
-        let share = worked(rt, alloc, config, desk, share, section, turns);
+        let share = work_through(rt, alloc, config, desk, share, section, turns);
         root.lock(rt).take_back(share);
     }
 }
 
-/// Works at a section through a share.
-fn worked<L: Ledger, C: Naming, R: Wait>(
+/// Works at a section through a share. A dispenser's meters read what this configuration says,
+/// which is the desk's.
+fn work_through<L: Ledger, C: Naming, R: Wait>(
     rt: &R,
     alloc: Global,
     config: &SiteConfig,
@@ -37,7 +41,9 @@ fn worked<L: Ledger, C: Naming, R: Wait>(
     share: Share<L, C>,
     section: &Section,
     turns: u64,
-) -> Share<L, C> {
+) -> Share<L, C>
+    ensures { IsWorkedAt C.config config.now turns section.now share.receipts result.receipts }
+{
     match section {
         Section::Till(messages) => {
             let mut share = share;
@@ -69,8 +75,12 @@ fn serve_messages<L: Ledger, C: Naming, R: Wait>(
     share: &mut Share<L, C>,
     messages: &Messages,
     turns: u64,
-) -> Result<(), NoMemory> {
-    let octets = spelled(alloc, messages)?;
+) -> Result<(), NoMemory>
+    ensures served { OnOk result
+        (AreServed turns messages.now share.old.receipts) }
+    ensures err { OnErr result (share.new.receipts ≡ share.old.receipts) }
+{
+    let octets = spell_all(alloc, messages)?;
     let mut reader = Counted::new(octets.as_slice());
     let mut writer = Counted::new(Vec::new(alloc));
     let mut counter = DeskCounter::new(rt, desk, share, &OpenGate);
@@ -79,7 +89,9 @@ fn serve_messages<L: Ledger, C: Naming, R: Wait>(
 }
 
 /// The octets of messages, one behind the other.
-fn spelled(alloc: Global, messages: &Messages) -> Result<Vec<u8>, NoMemory> {
+fn spell_all(alloc: Global, messages: &Messages) -> Result<Vec<u8>, NoMemory>
+    ensures { IfOk result (λ octets. octets.items ≡ octets_of messages.now) }
+{
     let mut octets = Vec::new(alloc);
     let mut one = Vec::new(alloc);
     for message in messages.as_slice() {

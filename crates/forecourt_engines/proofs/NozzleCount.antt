@@ -5,10 +5,13 @@ use Rattle.std.specs.List.{list_all}
 use Rattle.std.proofs.lemmas.Bool.{and_parts}
 use Rattle.std.proofs.lemmas.Bool.Decides.{nat_tests}
 use Rattle.site_base.specs.declared.limits.TheConstants.{NOZZLES, POINTS}
-use Rattle.site_base.specs.Configured.{ConfiguredProduct, ConfiguredPoint, is_between, are_nozzles, are_points}
+use Rattle.site_base.specs.Ranges.{is_between}
+use Rattle.site_base.specs.declared.config.PointEntry.{PointEntry}
+use Rattle.site_base.specs.declared.config.ProductEntry.{ProductEntry}
+use Rattle.site_base.specs.Configured.{are_nozzles, are_points}
 use Rattle.forecourt_engines.specs.SiteSizes.{nozzle_count}
 
-few_nozzles : (products : List ConfiguredProduct) (ps : List ConfiguredPoint)
+few_nozzles : (products : List ProductEntry) (ps : List PointEntry)
     → list_all (λ p. are_nozzles products p.nozzles) ps ≡ true
     → nozzle_count ps ≤ NOZZLES * length ps
 few_nozzles products [] fit = omega arith
@@ -18,7 +21,7 @@ few_nozzles products (p ∷ ps) fit =
     let most : length p.nozzles ≤ NOZZLES = grind (arith, nat_tests) in
     omega (arith, most, few_nozzles products ps parts.1)
 
-pub as_many_nozzles : (products : List ConfiguredProduct) (ps : List ConfiguredPoint)
+pub as_many_nozzles : (products : List ProductEntry) (ps : List PointEntry)
     → are_points products ps ≡ true → nozzle_count ps ≤ POINTS * NOZZLES
 as_many_nozzles products ps fit =
     let fits : Bool = list_all (λ p. are_nozzles products p.nozzles) ps in

@@ -1,6 +1,7 @@
 -- The report of a site's figures, as a text.
 use Rattle.std.specs.Prelude.{ℕ, List, [], ◌∷◌, ◌++◌, codes, decimal, length, sum_by}
-use Rattle.site_base.specs.Configured.{Configured, ConfiguredProduct}
+use Rattle.site_base.specs.declared.config.ProductEntry.{ProductEntry}
+use Rattle.site_base.specs.Configured.{Configured}
 use Rattle.site_base.specs.declared.totals.Totals.{Totals}
 use Rattle.site_base.specs.declared.view.ProductView.{ProductView}
 use Rattle.written_site.specs.ShiftFigures.{product_totals, till_totals}
@@ -13,7 +14,7 @@ head_lines rows tills =
     ++ codes " cents " ++ decimal (sum_by (λ t. t.2) tills) ++ codes "\n"
 
 -- which product a line is of: its number and its name
-abbrev pub product_title : ConfiguredProduct → List ℕ
+abbrev pub product_title : ProductEntry → List ℕ
 product_title p = codes "product " ++ decimal p.number ++ codes " " ++ p.name
 
 -- what was metered of a product, and what of it is in a fuelling under way
@@ -28,11 +29,11 @@ sold_words v =
     ++ codes "\n"
 
 -- the line of a product with its figures
-abbrev pub product_line : ConfiguredProduct → ProductView → List ℕ
+abbrev pub product_line : ProductEntry → ProductView → List ℕ
 product_line p v = product_title p ++ metered_words v ++ sold_words v
 
 -- a line for each product with its figures, in this order
-abbrev pub product_lines : List ConfiguredProduct → List ProductView → List ℕ
+abbrev pub product_lines : List ProductEntry → List ProductView → List ℕ
 product_lines (p ∷ ps) (v ∷ vs) = product_line p v ++ product_lines ps vs
 product_lines ps vs = []
 
@@ -47,7 +48,7 @@ report_of c rows views tills shares =
 
 -- the report of these totals
 abbrev pub report_text : Configured → Totals → ℕ → List ℕ
-report_text c totals shares = report_of c totals.rows totals.products.items totals.tills.items shares
+report_text c totals shares = report_of c totals.rows totals.products totals.tills shares
 
 -- the report of a book's figures, before any share settled
 abbrev pub book_report : Book → List ℕ

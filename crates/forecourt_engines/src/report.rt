@@ -18,12 +18,12 @@ pub fn report(
     totals: &Totals,
     shares: u64,
 ) -> Result<String, NoMemory>
-    requires { length totals.now.products.items ≡ length config.now.products }
+    requires { length totals.now.products ≡ length config.now.products }
     ensures { IfOk result (λ text. string_bytes text ≡ report_text config.now totals.now shares) }
 {
     let mut text = String::new(alloc);
-    put_head(&mut text, totals.rows, &totals.tills)?;
-    put_products(&mut text, config.products(), &totals.products)?;
+    put_head(&mut text, totals.rows, totals.tills.as_slice())?;
+    put_products(&mut text, config.products(), totals.products.as_slice())?;
     put_shares(&mut text, shares)?;
     Ok(text)
 }

@@ -1,11 +1,13 @@
 //! The site that the program knows by itself.
 
-ghost use Rattle.std.specs.Prelude.{◌≡◌, ◌≤◌, IfOk};
+ghost use Rattle.std.specs.Prelude.{◌≡◌, ◌≤◌, true, IfOk};
+ghost use Rattle.site_base.specs.Names.{is_name};
 ghost use Rattle.forecourt_engines.specs.Sites.{known_site, known_points, known_point};
 
 use site_base::{
-    FpNo, GREATEST_PRICE, GREATEST_READING, GREATEST_ROWS, Millilitres, Mills, NoMemory,
-    NozzleEntry, POINTS, PRODUCTS, PointEntry, ProductEntry, ProductNo, SiteConfig, TillNo,
+    FpNo, GREATEST_PRICE, GREATEST_READING, GREATEST_ROWS, Listing, Millilitres, Mills, NoMemory,
+    NozzleEntry, POINTS, PRODUCTS, PointEntry, ProductEntry, ProductName, ProductNo, SiteConfig,
+    TillNo,
 };
 use std::alloc::Global;
 
@@ -26,10 +28,11 @@ pub fn known_site(alloc: Global) -> Result<SiteConfig, NoMemory>
 
 fn product(alloc: Global, number: u8, name: &str, price: u32) -> Result<ProductEntry, NoMemory>
     requires number { (1 ≤ number) × (number ≤ PRODUCTS) }
+    requires name { is_name name.now ≡ true }
     requires price { (1 ≤ price) × (price ≤ GREATEST_PRICE) }
     ensures { IfOk result (λ e. e ≡ record { number = number; name = name.now; price = price }) }
 {
-    let name = String::from_str(alloc, name)?;
+    let name = ProductName::new(String::from_str(alloc, name)?).unwrap();
     Ok(ProductEntry {
         number: ProductNo::new(number).unwrap(),
         name,
@@ -58,7 +61,7 @@ fn point(alloc: Global, number: u8) -> Result<PointEntry, NoMemory>
     nozzles.push(nozzle(2, 1000))?;
     Ok(PointEntry {
         number: FpNo::new(number).unwrap(),
-        nozzles,
+        nozzles: Listing::from(nozzles),
     })
 }
 

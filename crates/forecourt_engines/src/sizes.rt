@@ -47,7 +47,7 @@ fn nozzles_of(points: &[PointEntry]) -> usize
 {
     let mut nozzles = 0;
     for point in points {
-        nozzles += point.nozzles.len();
+        nozzles += point.nozzles.as_slice().len();
     }
     nozzles
 }

@@ -3,8 +3,9 @@
 ghost use Rattle.std.specs.Prelude.{◌≡◌};
 ghost use Rattle.forecourt_server.specs.Days.{day_status};
 
-use counter_desk::SettleFault;
+use counter_desk::{Naming, SettleFault, Unsettled};
 use site_base::{NoMemory, WriteFault};
+use std::sync::ledger::Ledger;
 use thiserror::Error;
 
 /// Why a day, of a server or of a demo, ends without its report. A session's fault ends that
@@ -78,5 +79,16 @@ impl From<SettleFault> for DayFault {
             SettleFault::StrangeReceipt(place) => DayFault::Unsettled(place),
             SettleFault::NoMemory => DayFault::NoMemory,
         }
+    }
+}
+
+impl<L: Ledger, C: Naming> From<Unsettled<L, C>> for DayFault {
+    ghost use Rattle.std.specs.Prelude.{◌≡◌};
+    ghost use Rattle.forecourt_server.specs.Days.{unsettled_by};
+
+    ghost from_gives = { λ unsettled e. e ≡ unsettled_by unsettled.fault };
+
+    fn from(unsettled: Unsettled<L, C>) -> DayFault {
+        DayFault::from(unsettled.fault)
     }
 }

@@ -11,7 +11,6 @@ mod fault;
 mod loopback;
 mod options;
 mod plan;
-mod settling;
 mod writing;
 
 pub use day::serve_day;
@@ -19,5 +18,4 @@ pub use fault::DayFault;
 pub use loopback::{Loopback, ReadHalf, WriteHalf};
 pub use options::OptionFault;
 pub use plan::ServerPlan;
-pub use settling::settle_all;
 pub use writing::put_report;

@@ -6,7 +6,7 @@ use Rattle.std.proofs.lemmas.Bool.Decides.{nat_tests}
 use Rattle.std.proofs.lemmas.Grind.{get_or-set_at}
 use Rattle.std.proofs.lemmas.List.{get_or-set_other, get_or-replicate}
 use Rattle.site_base.specs.declared.limits.TheConstants.{GREATEST_READING, PRODUCT_CELLS, REPLACEMENT_LIMIT}
-use Rattle.site_base.specs.Configured.{ConfiguredPoint}
+use Rattle.site_base.specs.declared.config.PointEntry.{PointEntry}
 use Rattle.meters.specs.Nozzles.{Nozzle, nozzle_of, nozzles_of_points, with_last, with_meter, with_nozzle, read_at, replaced_at, times_replaced, AreNozzles}
 use Rattle.meters.specs.Metered.{product_total, product_alone, most_of_a_site}
 use Rattle.meters.specs.Places.{AreKept, ArePlaces, AreTotals}
@@ -97,7 +97,7 @@ kept_replaced xs cells sums p n reading kept fewer high = record {
 }
 
 -- a site that opens has metered nothing
-pub kept_opened : (points : List ConfiguredPoint) (xs : List Nozzle) (cells : List (Option ℕ))
+pub kept_opened : (points : List PointEntry) (xs : List Nozzle) (cells : List (Option ℕ))
     → xs ≡ nozzles_of_points points → AreNozzles xs → ArePlaces xs cells
     → AreKept xs cells (replicate PRODUCT_CELLS 0)
 kept_opened points xs cells are nozzles places = record {

@@ -7,7 +7,7 @@ use Rattle.site_base.specs.declared.config.NozzleEntry.{NozzleEntry}
 use Rattle.site_base.specs.declared.limits.TheConstants.{GROWTH_LIMIT}
 use Rattle.site_base.specs.declared.refusal.Refusal.{Refusal}
 use Rattle.site_base.specs.declared.refusal.Refusal.TheVariants.{MeterGap, MeterBack, MeterJump}
-use Rattle.site_base.specs.Configured.{ConfiguredPoint}
+use Rattle.site_base.specs.declared.config.PointEntry.{PointEntry}
 use Rattle.meters.specs.declared.report.Report.{Report}
 use Rattle.meters.specs.declared.report.Report.TheVariants.{Still, Growing}
 use Rattle.meters.specs.Nozzles.{Nozzle, is_nozzle, nozzle_of, numbered, nozzles_of_point, nozzles_of_points, product_of, reading_of, with_nozzle, with_last, with_meter, read_at, replaced_at, EachMetered}
@@ -34,7 +34,7 @@ both w (x ∷ xs) ys =
     let rest : metered_by w (xs ++ ys) ≡ metered_by w xs + metered_by w ys = both w xs ys in
     omega (arith, rest)
 
-pub open_nothing : (w : ℕ → ℕ) (cs : List ConfiguredPoint) → metered_by w (nozzles_of_points cs) ≡ 0
+pub open_nothing : (w : ℕ → ℕ) (cs : List PointEntry) → metered_by w (nozzles_of_points cs) ≡ 0
 open_nothing w [] = refl
 open_nothing w (c ∷ cs) =
     both w (nozzles_of_point c) (nozzles_of_points cs)

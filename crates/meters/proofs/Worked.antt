@@ -5,7 +5,7 @@ use Rattle.std.specs.List.{range_with_len}
 use Rattle.site_base.specs.declared.limits.TheConstants.{GROWTH_LIMIT, NOZZLES, POINTS}
 use Rattle.site_base.specs.declared.refusal.Refusal.{Refusal}
 use Rattle.site_base.specs.declared.refusal.Refusal.TheVariants.{MeterGap, MeterBack, MeterJump}
-use Rattle.site_base.specs.Configured.{ConfiguredPoint}
+use Rattle.site_base.specs.declared.config.PointEntry.{PointEntry}
 use Rattle.meters.specs.declared.report.Report.{Report}
 use Rattle.meters.specs.declared.report.Report.TheVariants.{Still, Growing}
 use Rattle.meters.specs.Nozzles.{Nozzle, nozzles_of_points, product_of, last_of, reading_of, replacements_of, with_meter}
@@ -47,7 +47,7 @@ told (r ∷ rs) xs =
 
 -- ---- two points
 
-abbrev two_nozzles : ℕ → ConfiguredPoint
+abbrev two_nozzles : ℕ → PointEntry
 two_nozzles p = record {
   number = p;
   nozzles = record { product = 1; reading = 0 } ∷ record { product = 2; reading = 1000 } ∷ [];
@@ -180,7 +180,7 @@ abbrev up_to : ℕ → List ℕ
 up_to count = range_with_len 1 count
 
 -- as many nozzles of product 1 as point p may have
-abbrev all_nozzles : ℕ → ConfiguredPoint
+abbrev all_nozzles : ℕ → PointEntry
 all_nozzles p = record {
   number = p;
   nozzles = map (λ (n : ℕ). record { product = 1; reading = p * 100 + n }) (up_to NOZZLES);

@@ -2,7 +2,8 @@
 use Rattle.std.specs.Prelude.{ℕ, ◌+◌, ◌-◌, ◌*◌, ◌≤◌, Bool, List, [], ◌∷◌, ◌++◌, length, Option, Some, None, option_map, is_some, unwrap_or, ◌&&◌, ◌==◌, if◌then◌else◌}
 use Rattle.site_base.specs.declared.config.NozzleEntry.{NozzleEntry}
 use Rattle.site_base.specs.declared.limits.TheConstants.{GREATEST_READING, NOZZLES, POINTS, REPLACEMENT_LIMIT}
-use Rattle.site_base.specs.Configured.{Configured, ConfiguredPoint}
+use Rattle.site_base.specs.declared.config.PointEntry.{PointEntry}
+use Rattle.site_base.specs.Configured.{Configured}
 
 -- a nozzle: its fuelling point, its number there, its product, the reading that its meter began
 -- with and the meter's last one, how often its meter was replaced, and the millilitres of its
@@ -38,11 +39,11 @@ numbered p n [] = []
 numbered p n (e ∷ es) = opened p n e ∷ numbered p (n + 1) es
 
 -- a configured point's nozzles when the site opens, numbered from 1
-abbrev pub nozzles_of_point : ConfiguredPoint → List Nozzle
+abbrev pub nozzles_of_point : PointEntry → List Nozzle
 nozzles_of_point c = numbered c.number 1 c.nozzles
 
 -- the nozzles of the points, in configured order
-abbrev pub nozzles_of_points : List ConfiguredPoint → List Nozzle
+abbrev pub nozzles_of_points : List PointEntry → List Nozzle
 nozzles_of_points [] = []
 nozzles_of_points (c ∷ cs) = nozzles_of_point c ++ nozzles_of_points cs
 

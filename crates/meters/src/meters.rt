@@ -204,7 +204,7 @@ fn add_point(meters: &mut Vec<Meter>, entry: &PointEntry) -> Result<(), NoMemory
     ensures few { OnOk result (length meters.new.items ≤ length meters.old.items + NOZZLES) }
     ensures bounds { OnOk result (EachMetered meters.new.items) }
 {
-    for (place, nozzle) in entry.nozzles.iter().enumerate() {
+    for (place, nozzle) in entry.nozzles.as_slice().iter().enumerate() {
         let Some(number) = NozzleNo::new(place as u8 + 1) else {
             unreachable!();
         };

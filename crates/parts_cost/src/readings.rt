@@ -3,8 +3,8 @@
 use crate::scenario::{point_in_turn, product_in_turn};
 use meters::{Meters, Report};
 use site_base::{
-    FpNo, Millilitres, Mills, NOZZLES, NozzleEntry, NozzleNo, PointEntry, ProductEntry, ProductNo,
-    SiteConfig,
+    FpNo, Listing, Millilitres, Mills, NOZZLES, NozzleEntry, NozzleNo, PointEntry, ProductEntry,
+    ProductName, ProductNo, SiteConfig,
 };
 use std::alloc::Global;
 
@@ -53,7 +53,7 @@ fn site(alloc: Global, last: FpNo) -> Option<SiteConfig> {
     products
         .push(ProductEntry {
             number: ProductNo::new(1)?,
-            name: String::from_str(alloc, "diesel").ok()?,
+            name: ProductName::new(String::from_str(alloc, "diesel").ok()?)?,
             price: Mills::new(1500)?,
         })
         .ok()?;
@@ -62,7 +62,7 @@ fn site(alloc: Global, last: FpNo) -> Option<SiteConfig> {
         points
             .push(PointEntry {
                 number: FpNo::new(number)?,
-                nozzles: nozzles(alloc)?,
+                nozzles: Listing::from(nozzles(alloc)?),
             })
             .ok()?;
     }

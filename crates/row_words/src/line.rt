@@ -3,8 +3,8 @@
 use crate::asked::{point_of, sale_named, shift_of, till_of};
 use anyhow::Context;
 use site_base::{
-    FpNo, Millilitres, Mills, NozzleEntry, PointEntry, ProductEntry, ProductNo, SaleId, ShiftNo,
-    TillNo,
+    FpNo, Listing, Millilitres, Mills, NozzleEntry, PointEntry, ProductEntry, ProductName,
+    ProductNo, SaleId, ShiftNo, TillNo,
 };
 use std::alloc::Global;
 
@@ -97,7 +97,7 @@ fn as_it_stands(alloc: Global, text: &str, first: &str) -> anyhow::Result<Line> 
 fn product_of(alloc: Global, q: &str, name: &str, price: &str) -> anyhow::Result<ProductEntry> {
     Ok(ProductEntry {
         number: ProductNo::new(q.parse()?).context("no product")?,
-        name: String::from_str(alloc, name)?,
+        name: ProductName::new(String::from_str(alloc, name)?).context("no name")?,
         price: Mills::new(price.parse()?).context("no price")?,
     })
 }
@@ -109,7 +109,7 @@ fn entry_of(alloc: Global, p: &str, words: &[&str]) -> anyhow::Result<PointEntry
     }
     Ok(PointEntry {
         number: point_of(p).context("no point")?,
-        nozzles,
+        nozzles: Listing::from(nozzles),
     })
 }
 

@@ -63,7 +63,7 @@ row_drawn q ml row is = record {
   adjusted = length-with_numbered q _ row.adjusted ∙ is.adjusted;
 }
 
-empty_row : IsRow empty_figures
+pub empty_row : IsRow empty_figures
 empty_row = record { tills = refl; products = refl; adjusted = refl }
 
 alone : (row : ShiftRow) → IsRow row → All IsRow (row ∷ [])

@@ -14,7 +14,7 @@ all_same zero i d = refl
 all_same (suc k) zero d = refl
 all_same (suc k) (suc i) d = all_same k i d
 
-nothing : {A : Type 0} (k n : ℕ) (d : A) → unwrap_or (numbered n (replicate k d)) d ≡ d
+pub nothing : {A : Type 0} (k n : ℕ) (d : A) → unwrap_or (numbered n (replicate k d)) d ≡ d
 nothing k zero d = refl
 nothing k (suc n) d = ap (λ o. unwrap_or o d) (numbered_place (suc n) (replicate k d) (omega arith))
     ∙ all_same k (suc n - 1) d
@@ -29,12 +29,12 @@ is_opened_empty = record {
   drawn = λ q s. nothing PRODUCT_CELLS q 0;
 }
 
-next : (s : Shifts) → open_number (after_close s) ≡ open_number s + 1
+pub next : (s : Shifts) → open_number (after_close s) ≡ open_number s + 1
 next s = let one_more : length (s.closed ++ s.current ∷ []) ≡ length s.closed + 1 =
     length-append s.closed (s.current ∷ []) in omega arith
 
 -- one clear, draw or close
-closed_once : (change : ShiftChange) (n : ℕ) (s : Shifts) → n < open_number s
+pub closed_once : (change : ShiftChange) (n : ℕ) (s : Shifts) → n < open_number s
     → figures_of n (after_change change s) ≡ figures_of n s
 closed_once (clears t q ml cents) n s below =
     numbered_push_other n s.closed _ (omega arith)

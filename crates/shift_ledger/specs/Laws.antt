@@ -1,6 +1,6 @@
 -- What holds of the shifts by their definitions, whatever is cleared, drawn and closed.
-use Rattle.std.specs.Prelude.{◌≡◌, ℕ, ◌+◌, ◌<◌, ◌≤◌, List, [], ◌∷◌, length, Some, ◌==◌, if◌then◌else◌}
-use Rattle.std.specs.List.{All}
+use Rattle.std.specs.Prelude.{◌≡◌, ℕ, ◌+◌, ◌<◌, ◌≤◌, List, [], ◌∷◌, length, sum_by, Some, ◌==◌, if◌then◌else◌}
+use Rattle.std.specs.List.{All, AllByRecursion}
 use Rattle.site_base.specs.declared.limits.TheConstants.{TILL_CELLS, PRODUCT_CELLS}
 use Rattle.shift_ledger.specs.declared.row.ShiftRow.{ShiftRow}
 use Rattle.shift_ledger.specs.Figures.{till_figures, product_figure, adjusted_figure, one_clear_more}
@@ -86,3 +86,52 @@ pub record IsOpenedEmpty : Type 0 where
 pub record HasEveryFigure : Type 0 where
   pub first : HaveRows first_shift
   pub after : (change : ShiftChange) (s : Shifts) → HaveRows s → HaveRows (after_change change s)
+
+-- ---- each shift's figures are sums
+
+-- it speaks of tills and products that there may be
+abbrev pub IsInRange : ShiftChange → Type 0
+IsInRange (clears t q ml cents) = (1 ≤ t) × (t ≤ TILL_CELLS) × (1 ≤ q) × (q ≤ PRODUCT_CELLS)
+IsInRange (draws q ml) = (1 ≤ q) × (q ≤ PRODUCT_CELLS)
+IsInRange closes = Unit {0}
+
+-- what of these was noted while shift n was open, where this shift is open before them
+abbrev pub noted_in : ℕ → ℕ → List ShiftChange → List ShiftChange
+noted_in n opened [] = []
+noted_in n opened (closes ∷ changes) = noted_in n (opened + 1) changes
+noted_in n opened (change ∷ changes) =
+    if n == opened then change ∷ noted_in n opened changes else noted_in n opened changes
+
+-- 1 of a clear by this till, 0 of any other change
+abbrev pub clear_noted : ℕ → ShiftChange → ℕ
+clear_noted u (clears t q ml cents) = if u == t then 1 else 0
+clear_noted u change = 0
+
+-- the cents of a clear by this till
+abbrev pub cents_noted : ℕ → ShiftChange → ℕ
+cents_noted u (clears t q ml cents) = if u == t then cents else 0
+cents_noted u change = 0
+
+-- the millilitres of a clear of this product
+abbrev pub clear_of : ℕ → ShiftChange → ℕ
+clear_of r (clears t q ml cents) = if r == q then ml else 0
+clear_of r change = 0
+
+-- the millilitres of a draw of this product
+abbrev pub draw_of : ℕ → ShiftChange → ℕ
+draw_of r (draws q ml) = if r == q then ml else 0
+draw_of r change = 0
+
+-- a row's figures are the counts and sums of what was noted
+pub record IsSumOf (noted : List ShiftChange) (row : ShiftRow) : Type 0 where
+  pub clears : (t : ℕ) → (till_figures t row).0 ≡ sum_by (clear_noted t) noted
+  pub cents : (t : ℕ) → (till_figures t row).1 ≡ sum_by (cents_noted t) noted
+  pub products : (q : ℕ) → product_figure q row ≡ sum_by (clear_of q) noted
+  pub adjusted : (q : ℕ) → adjusted_figure q row ≡ sum_by (draw_of q) noted
+
+-- Whatever is cleared, drawn and closed from the first shift on: the figures of each shift are the
+-- counts and sums of what was noted while it was open.
+abbrev pub AreFiguresSums : Type 0
+AreFiguresSums = (changes : List ShiftChange) (n : ℕ) (row : ShiftRow)
+    → AllByRecursion IsInRange changes → figures_of n (after_changes changes first_shift) ≡ Some row
+    → IsSumOf (noted_in n 1 changes) row

@@ -1,7 +1,7 @@
 //! Laws of the shifts' figures. They have no code: each is proved of the definitions that the
 //! contracts of this crate cite.
 
-ghost use Rattle.shift_ledger.specs.Laws.{DoStay, HasEveryFigure, IsCounted, IsDrawn, IsOpenedEmpty};
+ghost use Rattle.shift_ledger.specs.Laws.{AreFiguresSums, DoStay, HasEveryFigure, IsCounted, IsDrawn, IsOpenedEmpty};
 
 /// A clear raises in the open shift its till's count by one and that till's cents by its own, and
 /// its product's millilitres by its own. Every other till's figures stay, and every other
@@ -32,4 +32,11 @@ pub fn opened_empty()
 /// each clear, draw and close the closed ones' and the open one's.
 pub fn has_every_figure()
     ensures { HasEveryFigure }
+{}
+
+/// Whatever is cleared, drawn and closed from the first shift on: of each shift, closed or open,
+/// the clears of each till and their cents, and the millilitres cleared and drawn of each product,
+/// are the count and the sums of what was noted while the shift was open, and of nothing else.
+pub fn figures_are_sums()
+    ensures { AreFiguresSums }
 {}

@@ -8,6 +8,7 @@ mod row;
 
 pub use book::ShiftBook;
 pub use laws::{
-    adjusted_by_a_draw, closed_for_good, counted_by_a_clear, has_every_figure, opened_empty,
+    adjusted_by_a_draw, closed_for_good, counted_by_a_clear, figures_are_sums, has_every_figure,
+    opened_empty,
 };
 pub use row::ShiftRow;

@@ -5,7 +5,7 @@ use Rattle.std.proofs.lemmas.Bool.{and_parts}
 use Rattle.std.proofs.lemmas.Bool.Decides.{nat_tests}
 use Rattle.std.proofs.Math.ListN.{set}
 use Rattle.site_base.specs.declared.limits.TheConstants.{GREATEST_PRICE}
-use Rattle.site_base.specs.Configured.{is_between}
+use Rattle.site_base.specs.Ranges.{is_between}
 use Rattle.site_base.specs.Prices.{are_in_range}
 
 fits : (m : ℕ) → 1 ≤ m → m ≤ GREATEST_PRICE → is_between 1 GREATEST_PRICE m ≡ true

@@ -3,7 +3,10 @@ use Rattle.std.specs.Prelude.{codes}
 use Rattle.std.proofs.Common.{◌≡◌, ℕ, zero, suc, true, false, List, [], ◌∷◌, Some, None, Ok, Err, refl}
 use Rattle.site_base.specs.declared.config.NozzleEntry.{NozzleEntry}
 use Rattle.site_base.specs.Amounts.{amount}
-use Rattle.site_base.specs.Configured.{Configured, ConfiguredProduct, ConfiguredPoint, is_between, is_site}
+use Rattle.site_base.specs.Ranges.{is_between}
+use Rattle.site_base.specs.declared.config.PointEntry.{PointEntry}
+use Rattle.site_base.specs.declared.config.ProductEntry.{ProductEntry}
+use Rattle.site_base.specs.Configured.{Configured, is_site}
 use Rattle.site_base.specs.declared.limits.TheConstants.{POINTS, TILLS, GREATEST_SHIFT}
 use Rattle.site_base.specs.declared.answer.Answer.TheVariants.{Flowed, Sold, Drawn}
 use Rattle.site_base.specs.declared.refusal.Refusal.TheVariants.{MeterSpent}
@@ -71,14 +74,14 @@ above_5 = refl
 
 -- ---- configurations
 
-abbrev product : ℕ → List ℕ → ConfiguredProduct
+abbrev product : ℕ → List ℕ → ProductEntry
 product number name = record { number = number; name = name; price = 1500 }
 
 abbrev nozzles : ℕ → ℕ → List NozzleEntry
 nozzles zero q = []
 nozzles (suc n) q = record { product = q; reading = 0 } ∷ nozzles n q
 
-abbrev point : ℕ → List NozzleEntry → ConfiguredPoint
+abbrev point : ℕ → List NozzleEntry → PointEntry
 point number of = record { number = number; nozzles = of }
 
 -- diesel and petrol-95 at the points 1 and 64, each with eight nozzles of petrol
@@ -90,7 +93,7 @@ fit_site = record {
   points = point 1 (nozzles 8 2) ∷ point 64 (nozzles 8 2) ∷ [];
 }
 
-abbrev named : List ℕ → List ℕ → List ConfiguredProduct
+abbrev named : List ℕ → List ℕ → List ProductEntry
 named first second = product 1 first ∷ product 2 second ∷ []
 
 fit : is_site fit_site ≡ true
@@ -148,7 +151,7 @@ no_points : is_site (record fit_site { points = [] }) ≡ false
 no_points = refl
 
 -- so many points, each with one nozzle
-abbrev points : ℕ → List ConfiguredPoint
+abbrev points : ℕ → List PointEntry
 points zero = []
 points (suc n) = point (suc n) (nozzles 1 2) ∷ points n
 

@@ -7,9 +7,11 @@ pub mod Devices
 pub mod Events
 pub mod History
 pub mod KeptRows
+pub mod Names
 pub mod Numbered
 pub mod PointSets
 pub mod Prices
+pub mod Ranges
 pub mod Refusals
 pub mod States
 pub mod Table

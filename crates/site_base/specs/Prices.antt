@@ -2,10 +2,11 @@
 use Rattle.std.specs.Prelude.{ℕ, Bool, List, map}
 use Rattle.std.specs.List.{list_all}
 use Rattle.site_base.specs.declared.limits.TheConstants.{GREATEST_PRICE}
-use Rattle.site_base.specs.Configured.{ConfiguredProduct, is_between}
+use Rattle.site_base.specs.Ranges.{is_between}
+use Rattle.site_base.specs.declared.config.ProductEntry.{ProductEntry}
 
 -- the products' numbers with their configured prices, in configured order
-abbrev pub prices_of : List ConfiguredProduct → List (ℕ × ℕ)
+abbrev pub prices_of : List ProductEntry → List (ℕ × ℕ)
 prices_of products = map (λ p. (p.number, p.price)) products
 
 -- each product's price is one that a product may have

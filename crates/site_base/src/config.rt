@@ -2,12 +2,16 @@
 
 ghost use Rattle.std.specs.Prelude.{◌≡◌, ◌≤◌, ◌==◌, nat_eq, is_some, true, IfOk, IfSome};
 ghost use Rattle.std.specs.List.{list_any, list_all};
-ghost use Rattle.site_base.specs.Configured.{is_between, is_name_octet, is_name, none_alike, same_product, same_point, are_products, has_product, are_nozzles, are_points, is_site};
+ghost use Rattle.site_base.specs.Configured.{none_alike, same_product, same_point, are_products, has_product, are_nozzles, are_points, is_site};
+ghost use Rattle.site_base.specs.Names.{is_name};
+ghost use Rattle.site_base.specs.Ranges.{is_between};
 
 use crate::amounts::{Millilitres, Mills};
-use crate::limits::{GREATEST_ROWS, NAME_OCTETS, NOZZLES, POINTS, PRODUCTS};
+use crate::limits::{GREATEST_ROWS, NOZZLES, POINTS, PRODUCTS};
+use crate::listing::Listing;
 use crate::memory::NoMemory;
 use crate::numbers::{FpNo, ProductNo, TillNo};
+use crate::product_name::ProductName;
 use std::alloc::Global;
 use std::marker::Model;
 
@@ -16,19 +20,10 @@ use std::marker::Model;
 pub struct ProductEntry {
     /// Its number.
     pub number: ProductNo,
-    /// Its name: 1 to `NAME_OCTETS` of a to z, 0 to 9 and hyphen.
-    pub name: String,
+    /// Its name.
+    pub name: ProductName,
     /// Its price when the site opens.
     pub price: Mills,
-}
-
-impl Model for ProductEntry {
-    ghost use Rattle.std.specs.Prelude.{string_bytes};
-    ghost use Rattle.site_base.specs.Configured.{ConfiguredProduct};
-
-    ghost Value = { ConfiguredProduct };
-
-    ghost view = { λ e. record { number = e.number; name = string_bytes e.name; price = e.price } };
 }
 
 /// A nozzle of a fuelling point.
@@ -46,15 +41,7 @@ pub struct PointEntry {
     /// Its number.
     pub number: FpNo,
     /// Its nozzles, 1 to `NOZZLES`: nozzle n is the nth.
-    pub nozzles: Vec<NozzleEntry>,
-}
-
-impl Model for PointEntry {
-    ghost use Rattle.site_base.specs.Configured.{ConfiguredPoint};
-
-    ghost Value = { ConfiguredPoint };
-
-    ghost view = { λ e. record { number = e.number; nozzles = e.nozzles.items } };
+    pub nozzles: Listing<NozzleEntry>,
 }
 
 /// The configuration of a site, fit by its type: each number in its range, no till, product number,
@@ -173,18 +160,10 @@ impl ProductEntry {
         others.iter().any(|other| self.is_like(other))
     }
 
-    /// Is this fit as a product's name: 1 to `NAME_OCTETS` of a to z, 0 to 9 and hyphen?
-    pub fn is_name(name: &str) -> bool
-        ensures { result ≡ is_name name.now }
-    {
-        let octets = name.as_bytes();
-        is_count(octets.len(), NAME_OCTETS) && are_in_names(octets)
-    }
-
     fn copy(&self, alloc: Global) -> Result<ProductEntry, NoMemory>
         ensures { IfOk result (λ e. e ≡ self.now) }
     {
-        let name = String::from_str(alloc, self.name.as_str())?;
+        let name = self.name.copy(alloc)?;
         Ok(ProductEntry {
             number: self.number,
             name,
@@ -205,16 +184,17 @@ impl PointEntry {
     fn is_fit(&self, products: &[ProductEntry]) -> bool
         ensures { result ≡ are_nozzles products.now self.now.nozzles }
     {
-        is_count(self.nozzles.len(), NOZZLES as usize) && are_supplied(products, &self.nozzles)
+        let nozzles = self.nozzles.as_slice();
+        is_count(nozzles.len(), NOZZLES as usize) && are_supplied(products, nozzles)
     }
 
     fn copy(&self, alloc: Global) -> Result<PointEntry, NoMemory>
         ensures { IfOk result (λ e. e ≡ self.now) }
     {
-        let nozzles = Vec::from_slice(alloc, &self.nozzles)?;
+        let nozzles = Vec::from_slice(alloc, self.nozzles.as_slice())?;
         Ok(PointEntry {
             number: self.number,
-            nozzles,
+            nozzles: Listing::from(nozzles),
         })
     }
 }
@@ -224,18 +204,6 @@ fn is_count(count: usize, most: usize) -> bool
     ensures { result ≡ is_between 1 most count }
 {
     1 <= count && count <= most
-}
-
-fn are_in_names(octets: &[u8]) -> bool
-    ensures { result ≡ list_all is_name_octet octets.now }
-{
-    octets.iter().all(|octet| is_in_names(*octet))
-}
-
-fn is_in_names(octet: u8) -> bool
-    ensures { result ≡ is_name_octet octet }
-{
-    (97 <= octet && octet <= 122) || (48 <= octet && octet <= 57) || octet == 45
 }
 
 fn is_product(products: &[ProductEntry], number: ProductNo) -> bool
@@ -254,12 +222,13 @@ fn are_supplied(products: &[ProductEntry], nozzles: &[NozzleEntry]) -> bool
         .all(|nozzle| is_product(products, nozzle.product))
 }
 
-fn are_named(products: &[ProductEntry]) -> bool
-    ensures { result ≡ list_all (λ p. is_name p.name) products.now }
+/// Each name is fit, by its type.
+fn tell_names(products: &[ProductEntry])
+    ensures { list_all (λ p. is_name p.name) products.now ≡ true }
 {
-    products
-        .iter()
-        .all(|product| ProductEntry::is_name(product.name.as_str()))
+    for product in products {
+        let _fit = product.name.as_str();
+    }
 }
 
 fn have_fit_nozzles(products: &[ProductEntry], points: &[PointEntry]) -> bool
@@ -304,7 +273,8 @@ fn no_point_twice(points: &[PointEntry]) -> bool
 fn are_fit_products(products: &[ProductEntry]) -> bool
     ensures { result ≡ are_products products.now }
 {
-    is_count(products.len(), PRODUCTS as usize) && are_named(products) && no_product_twice(products)
+    tell_names(products);
+    is_count(products.len(), PRODUCTS as usize) && no_product_twice(products)
 }
 
 fn are_fit_points(products: &[ProductEntry], points: &[PointEntry]) -> bool

@@ -10,10 +10,12 @@ mod counted;
 mod event;
 mod kept;
 mod limits;
+mod listing;
 mod memory;
 mod numbers;
 mod point_set;
 mod prices;
+mod product_name;
 mod refusal;
 mod row;
 mod rows;
@@ -36,10 +38,12 @@ pub use limits::{
     GREATEST_SHIFT, GROWTH_LIMIT, NAME_OCTETS, NOZZLE_CELLS, NOZZLES, POINT_CELLS, POINTS,
     PRODUCT_CELLS, PRODUCTS, REPLACEMENT_LIMIT, TILL_CELLS, TILLS, UNPAID_LIMIT,
 };
+pub use listing::Listing;
 pub use memory::NoMemory;
 pub use numbers::{FpNo, NozzleNo, Number, ProductNo, Seq, ShiftNo, TillNo};
 pub use point_set::PointSet;
 pub use prices::PriceBook;
+pub use product_name::ProductName;
 pub use refusal::{NoRow, Refusal};
 pub use row::{Placed, Reply, Row, cents_told, growth_told};
 pub use rows::Rows;

@@ -1,5 +1,6 @@
 //! The totals of a site.
 
+use crate::listing::Listing;
 use crate::numbers::TillNo;
 use crate::view::ProductView;
 
@@ -9,8 +10,8 @@ pub struct Totals {
     /// How many rows the history has.
     pub rows: u64,
     /// Each product as a read shows it, in configured order.
-    pub products: Vec<ProductView>,
+    pub products: Listing<ProductView>,
     /// Each till that a site may have, from 1 on: how many transactions it cleared, and their
     /// cents.
-    pub tills: Vec<(TillNo, u64, u64)>,
+    pub tills: Listing<(TillNo, u64, u64)>,
 }

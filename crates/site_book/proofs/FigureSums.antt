@@ -5,11 +5,11 @@ use Rattle.site_base.specs.Configured.{are_points, are_products}
 use Rattle.written_site.specs.RowWords.{total}
 use Rattle.written_site.specs.SiteRun.{IsLegal}
 use Rattle.written_site.specs.SiteState.{opening}
+use Rattle.written_site.proofs.ProductSums.{metered_of_products}
 use Rattle.written_site.proofs.ShiftLaws.{clears_counted}
 use Rattle.written_site.proofs.VolumeLaws.{volumes_conserved}
 use Rattle.site_book.specs.Book.{AreRowsInRange, Book}
 use Rattle.site_book.specs.Figures.{DoFiguresAddUp}
-use Rattle.site_book.proofs.ProductSums.{metered_of_products}
 use Rattle.site_book.proofs.TillSums.{cents_of_tills}
 
 pub figures_add_up : (b : Book) → IsLegal (opening b.config) b.rows → AreRowsInRange b.rows

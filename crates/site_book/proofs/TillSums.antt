@@ -15,8 +15,6 @@ use Rattle.site_base.specs.declared.view.TransactionView.{TransactionView}
 use Rattle.site_base.specs.Configured.{Configured}
 use Rattle.site_base.specs.Events.{cents_told}
 use Rattle.site_base.specs.Table.{row_of}
-use Rattle.fuelling_point.specs.declared.step.PointStep.{PointStep}
-use Rattle.fuelling_point.specs.declared.step.PointStep.TheVariants.{Moved}
 use Rattle.written_site.specs.Histories.{Moment, moments_after, moments_of}
 use Rattle.written_site.specs.RowWords.{total}
 use Rattle.written_site.specs.ShiftFigures.{cents_by, clears_by, till_totals, tills}
@@ -24,11 +22,12 @@ use Rattle.written_site.specs.ShiftLaws.{AreClearsCounted, cents_cleared, cents_
 use Rattle.written_site.specs.SiteChecks.{Passed, flowed}
 use Rattle.written_site.specs.SiteRun.{IsLegal}
 use Rattle.written_site.specs.SiteState.{SiteState, opening, sale_shown}
-use Rattle.written_site.specs.SiteStep.{product_told, reply_to, sale_told, site_after, site_answer, step_at, step_told}
+use Rattle.written_site.specs.SiteStep.{product_told, reply_to, sale_told, site_after, site_answer, step_at}
+use Rattle.written_site.proofs.ListSums.{total_map, total_same, total_swapped, total_zero}
 use Rattle.written_site.proofs.RowWords.{of_row}
+use Rattle.written_site.proofs.ToldCents.{told_step}
 use Rattle.site_book.specs.Book.{AreActors, site_at}
 use Rattle.site_book.specs.Signed.{IsTillActor}
-use Rattle.site_book.proofs.Sums.{total_map, total_same, total_swapped, total_zero}
 
 -- ---- one till among all
 
@@ -66,11 +65,6 @@ one_till u cents from (suc n) low high =
         let rest = later (omega (arith, low, apart)) in omega (arith, rest)
 
 -- ---- a dispenser is told nothing cleared
-
-told_step : (s : SiteState) (p growth : ℕ) (step : PointStep)
-    → cents_told (Ok (step_told s p growth step)) ≡ 0
-told_step s p growth Moved = refl
-told_step s p growth step = refl
 
 told_sale : (view : Option TransactionView) → cents_told (Ok (sale_told view)) ≡ 0
 told_sale None = refl

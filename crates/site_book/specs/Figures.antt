@@ -10,16 +10,16 @@ use Rattle.site_book.specs.Book.{Book, site_of_book}
 -- to each product's figures in configured order, and each till's clears and their cents
 pub record AreFiguresOf (b : Book) (totals : Totals) : Type 0 where
   pub rows : totals.rows ≡ length b.rows
-  pub products : totals.products.items ≡ product_totals (site_of_book b)
-  pub tills : totals.tills.items ≡ till_totals (site_of_book b)
+  pub products : totals.products ≡ product_totals (site_of_book b)
+  pub tills : totals.tills ≡ till_totals (site_of_book b)
 
 -- the millilitres that were metered of all products
 abbrev pub metered_in : Totals → ℕ
-metered_in totals = total (λ q. q.metered) totals.products.items
+metered_in totals = total (λ q. q.metered) totals.products
 
 -- the cents that all tills cleared
 abbrev pub cents_in : Totals → ℕ
-cents_in totals = total (λ t. t.2) totals.tills.items
+cents_in totals = total (λ t. t.2) totals.tills
 
 -- The totals add up to what the book's rows tell: the products' metered volumes to the growths, the
 -- tills' cents to those of the Cleared answers.

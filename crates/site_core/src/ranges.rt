@@ -4,7 +4,7 @@
 ghost use Rattle.std.specs.Prelude.{◌≡◌, true, nat_le};
 ghost use Rattle.std.specs.List.{list_all};
 ghost use Rattle.site_base.specs.declared.limits.TheConstants.{GREATEST_READING, PRODUCTS};
-ghost use Rattle.site_base.specs.Configured.{is_between};
+ghost use Rattle.site_base.specs.Ranges.{is_between};
 ghost use Rattle.site_base.specs.Prices.{prices_of, are_in_range};
 ghost use Rattle.written_site.specs.Sound.{IsFit};
 
@@ -37,7 +37,7 @@ fn point_ranges(points: &[PointEntry])
         ≡ true }
 {
     for point in points {
-        nozzle_ranges(&point.nozzles);
+        nozzle_ranges(point.nozzles.as_slice());
     }
 }
 

@@ -13,8 +13,8 @@ use crate::ranges::are_fit;
 use crate::site_parts::SiteParts;
 use shift_ledger::ShiftRow;
 use site_base::{
-    Actor, Answer, Event, FpNo, NoMemory, PointView, Reply, SaleId, ShiftNo, SiteConfig, TillNo,
-    Totals, TransactionView,
+    Actor, Answer, Event, FpNo, Listing, NoMemory, PointView, Reply, SaleId, ShiftNo, SiteConfig,
+    TillNo, Totals, TransactionView,
 };
 use std::alloc::Global;
 use std::marker::Model;
@@ -139,27 +139,28 @@ impl Site {
     pub fn totals(&self, alloc: Global, rows: u64) -> Result<Totals, NoMemory>
         ensures rows { IfOk result (λ totals. totals.rows ≡ rows) }
         ensures products { IfOk result (λ totals.
-            totals.products.items ≡ product_totals self.now.site) }
-        ensures tills { IfOk result (λ totals. totals.tills.items ≡ till_totals self.now.site) }
+            totals.products ≡ product_totals self.now.site) }
+        ensures tills { IfOk result (λ totals. totals.tills ≡ till_totals self.now.site) }
     {
         Ok(Totals {
             rows,
-            products: self.parts.product_totals(alloc)?,
-            tills: self.parts.till_totals(alloc)?,
+            products: Listing::from(self.parts.product_totals(alloc)?),
+            tills: Listing::from(self.parts.till_totals(alloc)?),
         })
     }
 
-    /// The same as `totals`, counted from the site's lists alone: no total that is kept is read.
-    pub fn counted_totals(&self, alloc: Global, count: u64) -> Result<Totals, NoMemory>
+    /// The same as `totals`, of a site that nobody else holds: counted from its lists alone, no
+    /// total that it kept is read.
+    pub fn count_totals(self, alloc: Global, count: u64) -> Result<Totals, NoMemory>
         ensures rows { IfOk result (λ totals. totals.rows ≡ count) }
         ensures products { IfOk result (λ totals.
-            totals.products.items ≡ product_totals self.now.site) }
-        ensures tills { IfOk result (λ totals. totals.tills.items ≡ till_totals self.now.site) }
+            totals.products ≡ product_totals self.site) }
+        ensures tills { IfOk result (λ totals. totals.tills ≡ till_totals self.site) }
     {
         Ok(Totals {
             rows: count,
-            products: self.parts.counted_products(alloc)?,
-            tills: self.parts.counted_tills(alloc)?,
+            products: Listing::from(self.parts.counted_products(alloc)?),
+            tills: Listing::from(self.parts.counted_tills(alloc)?),
         })
     }
 

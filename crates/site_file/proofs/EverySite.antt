@@ -6,7 +6,11 @@ use Rattle.std.specs.Str.{bytes_eq}
 use Rattle.toml.specs.Data.{Data}
 use Rattle.site_base.specs.declared.config.NozzleEntry.{NozzleEntry}
 use Rattle.site_base.specs.declared.limits.TheConstants.{GREATEST_PRICE, GREATEST_READING, GREATEST_ROWS, NOZZLES, POINTS, PRODUCTS, TILLS}
-use Rattle.site_base.specs.Configured.{Configured, ConfiguredProduct, ConfiguredPoint, is_between, is_name, none_alike, same_product, same_point, are_products, has_product, are_nozzles, are_points, is_site}
+use Rattle.site_base.specs.Names.{is_name}
+use Rattle.site_base.specs.Ranges.{is_between}
+use Rattle.site_base.specs.declared.config.PointEntry.{PointEntry}
+use Rattle.site_base.specs.declared.config.ProductEntry.{ProductEntry}
+use Rattle.site_base.specs.Configured.{Configured, none_alike, same_product, same_point, are_products, has_product, are_nozzles, are_points, is_site}
 use Rattle.site_file.specs.declared.key.Key.{Key}
 use Rattle.site_file.specs.declared.key.Key.TheVariants.{Rows, Managers, Number, Price, Reading}
 use Rattle.site_file.specs.Laws.{list_tree, number_tree, product_tree, nozzle_tree, point_tree, site_tree, is_product_in_range, is_nozzle_in_range, is_point_in_range, IsInRange}
@@ -44,7 +48,7 @@ managers-said taken (t ∷ rest) between apart =
 
 -- ---- products
 
-product-said : (taken : List ConfiguredProduct) (p : ConfiguredProduct)
+product-said : (taken : List ProductEntry) (p : ProductEntry)
     → is_between 1 PRODUCTS p.number ≡ true → is_between 1 GREATEST_PRICE p.price ≡ true
     → is_name p.name ≡ true → has_product taken p.number ≡ false → has_name taken p.name ≡ false
     → product_of taken (product_tree p) ≡ Ok p
@@ -58,7 +62,7 @@ product-said taken p number price name new_number new_name =
       number-said Price 1 GREATEST_PRICE p.price price,
     ) refl
 
-products-said : (taken rest : List ConfiguredProduct)
+products-said : (taken rest : List ProductEntry)
     → list_all is_product_in_range rest ≡ true
     → list_all (λ p. is_name p.name) rest ≡ true → none_alike same_product (taken ++ rest) ≡ true
     → products_from taken (list_tree product_tree rest) ≡ Ok (taken ++ rest)
@@ -77,14 +81,14 @@ products-said taken (p ∷ rest) between named apart =
 
 -- ---- points
 
-nozzle-said : (products : List ConfiguredProduct) (n : NozzleEntry)
+nozzle-said : (products : List ProductEntry) (n : NozzleEntry)
     → has_product products n.product ≡ true → is_between 0 GREATEST_READING n.reading ≡ true
     → nozzle_of products (nozzle_tree n) ≡ Ok n
 unfolding nozzle_of with_keys value_at number_at
 nozzle-said products n there reading =
     rw (there, number-said Reading 0 GREATEST_READING n.reading reading) refl
 
-nozzles-said : (products : List ConfiguredProduct) (taken rest : List NozzleEntry)
+nozzles-said : (products : List ProductEntry) (taken rest : List NozzleEntry)
     → list_all (λ n. has_product products n.product) rest ≡ true
     → list_all is_nozzle_in_range rest ≡ true
     → nozzles_from products taken (list_tree nozzle_tree rest) ≡ Ok (taken ++ rest)
@@ -96,7 +100,7 @@ nozzles-said products taken (n ∷ rest) supplied between =
     (nozzles-said products (taken ++ n ∷ []) rest others readings
     ∙ ap Ok (append_assoc taken (n ∷ []) rest))
 
-point-said : (products : List ConfiguredProduct) (taken : List ConfiguredPoint) (p : ConfiguredPoint)
+point-said : (products : List ProductEntry) (taken : List PointEntry) (p : PointEntry)
     → is_between 1 POINTS p.number ≡ true
     → list_all is_nozzle_in_range p.nozzles ≡ true
     → are_nozzles products p.nozzles ≡ true → has_point taken p.number ≡ false
@@ -112,7 +116,7 @@ point-said products taken p number readings fit new =
       nozzles-said products [] p.nozzles supplied readings,
     ) refl
 
-points-said : (products : List ConfiguredProduct) (taken rest : List ConfiguredPoint)
+points-said : (products : List ProductEntry) (taken rest : List PointEntry)
     → list_all is_point_in_range rest ≡ true
     → list_all (λ p. are_nozzles products p.nozzles) rest ≡ true
     → none_alike same_point (taken ++ rest) ≡ true

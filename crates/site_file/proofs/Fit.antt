@@ -6,7 +6,11 @@ use Rattle.std.specs.Str.{bytes_eq}
 use Rattle.toml.specs.Data.{Data, Items, no_items, item, Members, get_member}
 use Rattle.site_base.specs.declared.config.NozzleEntry.{NozzleEntry}
 use Rattle.site_base.specs.declared.limits.TheConstants.{GREATEST_PRICE, GREATEST_READING, GREATEST_ROWS, NOZZLES, POINTS, PRODUCTS, TILLS}
-use Rattle.site_base.specs.Configured.{Configured, ConfiguredProduct, ConfiguredPoint, is_between, is_name, none_alike, same_product, same_point, are_products, has_product, are_nozzles, are_points, is_site}
+use Rattle.site_base.specs.Names.{is_name}
+use Rattle.site_base.specs.Ranges.{is_between}
+use Rattle.site_base.specs.declared.config.PointEntry.{PointEntry}
+use Rattle.site_base.specs.declared.config.ProductEntry.{ProductEntry}
+use Rattle.site_base.specs.Configured.{Configured, none_alike, same_product, same_point, are_products, has_product, are_nozzles, are_points, is_site}
 use Rattle.site_file.proofs.Lists.{all-push, alike-push, any_or, any_turned, length-push}
 use Rattle.site_file.specs.declared.fault.ConfigFault.{ConfigFault}
 use Rattle.site_file.specs.declared.key.Key.{Key}
@@ -97,17 +101,17 @@ managers_of-fit (Some value) =
 
 -- ---- products
 
-product_number-fit : (taken : List ConfiguredProduct) (file : Members)
+product_number-fit : (taken : List ProductEntry) (file : Members)
     → IfOk (product_number taken file) (λ n. has_product taken n ≡ false)
 unfolding product_number
 product_number-fit taken file =
     later (number_at Number 1 PRODUCTS file) _ _ (λ n. failed (has_product taken) _ n)
 
 -- a fit name that is new
-abbrev IsNewName : List ConfiguredProduct → List ℕ → Type 0
+abbrev IsNewName : List ProductEntry → List ℕ → Type 0
 IsNewName taken name = (is_name name ≡ true) × (has_name taken name ≡ false)
 
-named : (taken : List ConfiguredProduct) (fault : ConfigFault) (name : List ℕ) → is_name name ≡ true
+named : (taken : List ProductEntry) (fault : ConfigFault) (name : List ℕ) → is_name name ≡ true
     → IfOk (only_if (not (has_name taken name)) fault name) (IsNewName taken)
 named taken fault name fit = by (has_name taken name) refl
   where
@@ -115,7 +119,7 @@ named taken fault name fit = by (has_name taken name) refl
     by true is = tt
     by false is = (fit, is)
 
-product_name-fit : (taken : List ConfiguredProduct) (file : Members)
+product_name-fit : (taken : List ProductEntry) (file : Members)
     → IfOk (product_name taken file) (IsNewName taken)
 unfolding product_name
 product_name-fit taken file =
@@ -124,11 +128,11 @@ product_name-fit taken file =
     named taken _ name fit)))
 
 -- a product that may follow those taken
-abbrev IsNewProduct : List ConfiguredProduct → ConfiguredProduct → Type 0
+abbrev IsNewProduct : List ProductEntry → ProductEntry → Type 0
 IsNewProduct taken p =
     (is_name p.name ≡ true) × (has_product taken p.number ≡ false) × (has_name taken p.name ≡ false)
 
-product_of-fit : (taken : List ConfiguredProduct) (value : Data)
+product_of-fit : (taken : List ProductEntry) (value : Data)
     → IfOk (product_of taken value) (IsNewProduct taken)
 unfolding product_of
 product_of-fit taken value =
@@ -137,10 +141,10 @@ product_of-fit taken value =
     stage (product_name taken file) _ _ _ (product_name-fit taken file) (λ name fit.
     later (number_at Price 1 GREATEST_PRICE file) _ _ (λ price. (fit.0, new, fit.1))))))
 
-abbrev FitProducts : List ConfiguredProduct → Type 0
+abbrev FitProducts : List ProductEntry → Type 0
 FitProducts ps = (list_all (λ p. is_name p.name) ps ≡ true) × (none_alike same_product ps ≡ true)
 
-FitProducts-push : (ps : List ConfiguredProduct) (p : ConfiguredProduct) → FitProducts ps
+FitProducts-push : (ps : List ProductEntry) (p : ProductEntry) → FitProducts ps
     → IsNewProduct ps p → FitProducts (ps ++ p ∷ [])
 FitProducts-push ps p fit new = (
   all-push (λ q. is_name q.name) ps p fit.0 new.0,
@@ -156,7 +160,7 @@ one_more : {A : Type 0} (taken : List A) (x : A) (more : Items)
     → length (taken ++ x ∷ []) + count more ≡ length taken + (1 + count more)
 one_more taken x more = omega (arith, length-push taken x)
 
-products_from-fit : (taken : List ConfiguredProduct) (items : Items) → FitProducts taken
+products_from-fit : (taken : List ProductEntry) (items : Items) → FitProducts taken
     → IfOk (products_from taken items) (Counted FitProducts (length taken + count items))
 products_from-fit taken no_items fit = (omega arith, fit)
 products_from-fit taken (item value more) fit =
@@ -165,7 +169,7 @@ products_from-fit taken (item value more) fit =
     (one_more taken p more)
     (products_from-fit (taken ++ p ∷ []) more (FitProducts-push taken p fit new)))
 
-are_products-made : (n : ℕ) (ps : List ConfiguredProduct) → is_between 1 PRODUCTS n ≡ true
+are_products-made : (n : ℕ) (ps : List ProductEntry) → is_between 1 PRODUCTS n ≡ true
     → Counted FitProducts (0 + n) ps → are_products ps ≡ true
 are_products-made n ps between (long, (names, apart)) =
     let as_many : length ps ≡ n = omega (arith, long) in
@@ -181,12 +185,12 @@ products_of-fit file =
 
 -- ---- points
 
-product_in-fit : (products : List ConfiguredProduct) (z : ℤ)
+product_in-fit : (products : List ProductEntry) (z : ℤ)
     → IfOk (product_in products z) (λ n. has_product products n ≡ true)
 product_in-fit products (pos n) = passed (has_product products) _ n
 product_in-fit products (negsuc n) = tt
 
-nozzle_of-fit : (products : List ConfiguredProduct) (value : Data)
+nozzle_of-fit : (products : List ProductEntry) (value : Data)
     → IfOk (nozzle_of products value) (λ n. has_product products n.product ≡ true)
 unfolding nozzle_of
 nozzle_of-fit products value =
@@ -195,10 +199,10 @@ nozzle_of-fit products value =
     stage (product_in products z) _ _ _ (product_in-fit products z) (λ n there.
     later (number_at Reading 0 GREATEST_READING file) _ _ (λ reading. there))))))
 
-abbrev Supplied : List ConfiguredProduct → List NozzleEntry → Type 0
+abbrev Supplied : List ProductEntry → List NozzleEntry → Type 0
 Supplied products ns = list_all (λ n. has_product products n.product) ns ≡ true
 
-nozzles_from-fit : (products : List ConfiguredProduct) (taken : List NozzleEntry) (items : Items)
+nozzles_from-fit : (products : List ProductEntry) (taken : List NozzleEntry) (items : Items)
     → Supplied products taken
     → IfOk (nozzles_from products taken items) (Counted (Supplied products) (length taken + count items))
 nozzles_from-fit products taken no_items fit = (omega arith, fit)
@@ -210,14 +214,14 @@ nozzles_from-fit products taken (item value more) fit =
     (one_more taken n more)
     (nozzles_from-fit products (taken ++ n ∷ []) more supplied))
 
-are_nozzles-made : (products : List ConfiguredProduct) (n : ℕ) (ns : List NozzleEntry)
+are_nozzles-made : (products : List ProductEntry) (n : ℕ) (ns : List NozzleEntry)
     → is_between 1 NOZZLES n ≡ true → Counted (Supplied products) (0 + n) ns
     → are_nozzles products ns ≡ true
 are_nozzles-made products n ns between (long, supplied) =
     let as_many : length ns ≡ n = omega (arith, long) in
     rw (as_many, between, supplied) refl
 
-nozzles_of-fit : (products : List ConfiguredProduct) (file : Members)
+nozzles_of-fit : (products : List ProductEntry) (file : Members)
     → IfOk (nozzles_of products file) (λ ns. are_nozzles products ns ≡ true)
 unfolding nozzles_of
 nozzles_of-fit products file =
@@ -226,18 +230,18 @@ nozzles_of-fit products file =
     (λ ns made. are_nozzles-made products (count items) ns between made)
     (nozzles_from-fit products [] items refl))
 
-point_number-fit : (taken : List ConfiguredPoint) (file : Members)
+point_number-fit : (taken : List PointEntry) (file : Members)
     → IfOk (point_number taken file) (λ n. has_point taken n ≡ false)
 unfolding point_number
 point_number-fit taken file =
     later (number_at Number 1 POINTS file) _ _ (λ n. failed (has_point taken) _ n)
 
 -- a point that may follow those taken
-abbrev IsNewPoint : List ConfiguredProduct → List ConfiguredPoint → ConfiguredPoint → Type 0
+abbrev IsNewPoint : List ProductEntry → List PointEntry → PointEntry → Type 0
 IsNewPoint products taken p =
     (has_point taken p.number ≡ false) × (are_nozzles products p.nozzles ≡ true)
 
-point_of-fit : (products : List ConfiguredProduct) (taken : List ConfiguredPoint) (value : Data)
+point_of-fit : (products : List ProductEntry) (taken : List PointEntry) (value : Data)
     → IfOk (point_of products taken value) (IsNewPoint products taken)
 unfolding point_of
 point_of-fit products taken value =
@@ -246,18 +250,18 @@ point_of-fit products taken value =
     stage (nozzles_of products file) _ _ _ (nozzles_of-fit products file) (λ nozzles fit.
     (new, fit)))))
 
-abbrev FitPoints : List ConfiguredProduct → List ConfiguredPoint → Type 0
+abbrev FitPoints : List ProductEntry → List PointEntry → Type 0
 FitPoints products ps =
     (list_all (λ p. are_nozzles products p.nozzles) ps ≡ true) × (none_alike same_point ps ≡ true)
 
-FitPoints-push : (products : List ConfiguredProduct) (ps : List ConfiguredPoint) (p : ConfiguredPoint)
+FitPoints-push : (products : List ProductEntry) (ps : List PointEntry) (p : PointEntry)
     → FitPoints products ps → IsNewPoint products ps p → FitPoints products (ps ++ p ∷ [])
 FitPoints-push products ps p fit new = (
   all-push (λ q. are_nozzles products q.nozzles) ps p fit.0 new.1,
   alike-push same_point ps p fit.1 new.0,
 )
 
-points_from-fit : (products : List ConfiguredProduct) (taken : List ConfiguredPoint) (items : Items)
+points_from-fit : (products : List ProductEntry) (taken : List PointEntry) (items : Items)
     → FitPoints products taken
     → IfOk (points_from products taken items) (Counted (FitPoints products) (length taken + count items))
 points_from-fit products taken no_items fit = (omega arith, fit)
@@ -267,14 +271,14 @@ points_from-fit products taken (item value more) fit =
     (one_more taken p more)
     (points_from-fit products (taken ++ p ∷ []) more (FitPoints-push products taken p fit new)))
 
-are_points-made : (products : List ConfiguredProduct) (n : ℕ) (ps : List ConfiguredPoint)
+are_points-made : (products : List ProductEntry) (n : ℕ) (ps : List PointEntry)
     → is_between 1 POINTS n ≡ true → Counted (FitPoints products) (0 + n) ps
     → are_points products ps ≡ true
 are_points-made products n ps between (long, (supplied, apart)) =
     let as_many : length ps ≡ n = omega (arith, long) in
     rw (as_many, between, supplied, apart) refl
 
-points_of-fit : (products : List ConfiguredProduct) (file : Members)
+points_of-fit : (products : List ProductEntry) (file : Members)
     → IfOk (points_of products file) (λ ps. are_points products ps ≡ true)
 unfolding points_of
 points_of-fit products file =

@@ -5,11 +5,11 @@ use Rattle.std.proofs.Math.Seq.{drop-cons}
 use Rattle.toml.specs.declared.value.Value.{Value}
 use Rattle.toml.specs.View.{view, items_view}
 use Rattle.site_base.specs.declared.config.NozzleEntry.{NozzleEntry}
-use Rattle.site_base.specs.Configured.{ConfiguredProduct}
+use Rattle.site_base.specs.declared.config.ProductEntry.{ProductEntry}
 use Rattle.site_file.specs.SiteFile.{nozzle_of, nozzles_from}
 
 -- one nozzle more is taken from the front of the rest
-pub nozzles-more : (products : List ConfiguredProduct) (taken : List NozzleEntry)
+pub nozzles-more : (products : List ProductEntry) (taken : List NozzleEntry)
     (members : List Value) (i : ℕ) (value : Value) (nozzle : NozzleEntry) → i < length members
     → value ≡ get_or members i value → nozzle_of products (view value) ≡ Ok nozzle
     → nozzles_from products taken (items_view (drop i members))

@@ -3,14 +3,15 @@ use Rattle.std.proofs.Common.{◌≡◌, ℕ, true, false, List, [], ◌∷◌, 
 use Rattle.std.proofs.lemmas.Bool.{cases_Bool, and_parts}
 use Rattle.std.proofs.lemmas.Bool.Decides.{nat_tests}
 use Rattle.std.specs.Map.{lookup, values_of}
-use Rattle.site_base.specs.Configured.{ConfiguredProduct, has_product}
+use Rattle.site_base.specs.declared.config.ProductEntry.{ProductEntry}
+use Rattle.site_base.specs.Configured.{has_product}
 use Rattle.site_file.specs.ByNumber.{are_by_number}
 use Rattle.indexmap.specs.IndexMap.{IndexMap, insert_entry, values}
 use Rattle.indexmap.proofs.CallerLemmas.{insert_entry-new}
 use borrow.Author.Tests.{eqb-true}
 
 abbrev Entry : Type 0
-Entry = ℕ × ConfiguredProduct
+Entry = ℕ × ProductEntry
 
 -- a product is found where one has the number
 pub found_there : (k : ℕ) (es : List Entry) → are_by_number es ≡ true
@@ -29,7 +30,7 @@ found_there k (e ∷ es) by =
     ]
 
 -- what is found has the number
-pub found_number : (k : ℕ) (es : List Entry) (p : ConfiguredProduct) → are_by_number es ≡ true
+pub found_number : (k : ℕ) (es : List Entry) (p : ProductEntry) → are_by_number es ≡ true
     → lookup (nat_eq k) es ≡ Some p → p.number ≡ k
 found_number k [] p by found = cc
 found_number k (e ∷ es) p by found =
@@ -39,29 +40,29 @@ found_number k (e ∷ es) p by found =
       | inl is ↦
           let at : Some e.1 ≡ Some p = rw is at found in
           let seen : e.1 ≡ p = cc in
-          ap (λ (q : ConfiguredProduct). q.number) (sym seen) ∙ sym key ∙ sym (eqb-true _ _ is)
+          ap (λ (q : ProductEntry). q.number) (sym seen) ∙ sym key ∙ sym (eqb-true _ _ is)
       | inr is ↦ found_number k es p rest (rw is at found)
     ]
 
 -- one more product at its number
-pub are_by_number-push : (es : List Entry) (p : ConfiguredProduct) → are_by_number es ≡ true
+pub are_by_number-push : (es : List Entry) (p : ProductEntry) → are_by_number es ≡ true
     → are_by_number (es ++ (p.number, p) ∷ []) ≡ true
 are_by_number-push [] p by = grind (arith, nat_tests)
 are_by_number-push (e ∷ es) p by =
     let (here, rest) = and_parts (e.0 == e.1.number) (are_by_number es) by in
     rw (here, are_by_number-push es p rest)
 
-pub values_of-push : (es : List Entry) (k : ℕ) (p : ConfiguredProduct)
+pub values_of-push : (es : List Entry) (k : ℕ) (p : ProductEntry)
     → values_of (es ++ (k, p) ∷ []) ≡ values_of es ++ p ∷ []
 values_of-push [] k p = refl
-values_of-push (e ∷ es) k p = ap (λ (t : List ConfiguredProduct). e.1 ∷ t) (values_of-push es k p)
+values_of-push (e ∷ es) k p = ap (λ (t : List ProductEntry). e.1 ∷ t) (values_of-push es k p)
 
 none_from_is_some : {A : Type 0} (o : Option A) → is_some o ≡ false → o ≡ None
 none_from_is_some None is = refl
 none_from_is_some (Some x) is = cc
 
 -- a new product goes last
-pub inserted : {S : Type 0} (m : IndexMap ℕ ConfiguredProduct S) (k : ℕ) (p : ConfiguredProduct)
+pub inserted : {S : Type 0} (m : IndexMap ℕ ProductEntry S) (k : ℕ) (p : ProductEntry)
     → k ≡ p.number → are_by_number m.entries ≡ true
     → has_product (values m) p.number ≡ false
     → insert_entry nat_eq m.entries k p ≡ m.entries ++ (p.number, p) ∷ []

@@ -8,7 +8,10 @@ use Rattle.toml.specs.Data.{Data, string, integer, float, boolean, datetime, arr
 use Rattle.toml.specs.Parse.{parse_document}
 use Rattle.site_base.specs.declared.config.NozzleEntry.{NozzleEntry}
 use Rattle.site_base.specs.declared.limits.TheConstants.{GREATEST_PRICE, GREATEST_READING, GREATEST_ROWS, NOZZLES, POINTS, PRODUCTS, TILLS}
-use Rattle.site_base.specs.Configured.{Configured, ConfiguredProduct, ConfiguredPoint, is_name}
+use Rattle.site_base.specs.Names.{is_name}
+use Rattle.site_base.specs.declared.config.PointEntry.{PointEntry}
+use Rattle.site_base.specs.declared.config.ProductEntry.{ProductEntry}
+use Rattle.site_base.specs.Configured.{Configured}
 use Rattle.site_file.specs.declared.fault.ConfigFault.{ConfigFault}
 use Rattle.site_file.specs.declared.fault.ConfigFault.TheVariants.{NoMemory, NotToml, OutOfRange}
 use Rattle.site_file.specs.declared.key.Key.{Key}
@@ -131,14 +134,14 @@ managers_of-tree (Some value) =
 
 -- ---- products
 
-product_number-tree : (taken : List ConfiguredProduct) (file : Members)
+product_number-tree : (taken : List ProductEntry) (file : Members)
     → OfTree (product_number taken file)
 unfolding product_number
 product_number-tree taken file =
     stages (number_at Number 1 PRODUCTS file) _ (number_at-tree Number 1 PRODUCTS file) (λ n.
     only_if-tree _ _ n refl)
 
-product_name-tree : (taken : List ConfiguredProduct) (file : Members)
+product_name-tree : (taken : List ProductEntry) (file : Members)
     → OfTree (product_name taken file)
 unfolding product_name
 product_name-tree taken file =
@@ -148,7 +151,7 @@ product_name-tree taken file =
     stages fit _ (only_if-tree (is_name octets) (OutOfRange Name) octets refl) (λ name.
     only_if-tree _ _ name refl)))
 
-product_of-tree : (taken : List ConfiguredProduct) (value : Data) → OfTree (product_of taken value)
+product_of-tree : (taken : List ProductEntry) (value : Data) → OfTree (product_of taken value)
 unfolding product_of
 product_of-tree taken value =
     stages (table_of Product value) _ (table-tree Product value) (λ members.
@@ -158,7 +161,7 @@ product_of-tree taken value =
     stages (number_at Price 1 GREATEST_PRICE file) _ (number_at-tree Price 1 GREATEST_PRICE file)
     (λ price. tt)))))
 
-products_from-tree : (taken : List ConfiguredProduct) (items : Items)
+products_from-tree : (taken : List ProductEntry) (items : Items)
     → OfTree (products_from taken items)
 products_from-tree taken no_items = tt
 products_from-tree taken (item value more) =
@@ -173,11 +176,11 @@ products_of-tree file =
 
 -- ---- points
 
-product_in-tree : (products : List ConfiguredProduct) (z : ℤ) → OfTree (product_in products z)
+product_in-tree : (products : List ProductEntry) (z : ℤ) → OfTree (product_in products z)
 product_in-tree products (pos n) = only_if-tree _ _ n refl
 product_in-tree products (negsuc n) = refl
 
-nozzle_of-tree : (products : List ConfiguredProduct) (value : Data)
+nozzle_of-tree : (products : List ProductEntry) (value : Data)
     → OfTree (nozzle_of products value)
 unfolding nozzle_of
 nozzle_of-tree products value =
@@ -189,27 +192,27 @@ nozzle_of-tree products value =
     stages (number_at Reading 0 GREATEST_READING file) _
     (number_at-tree Reading 0 GREATEST_READING file) (λ reading. tt))))))
 
-nozzles_from-tree : (products : List ConfiguredProduct) (taken : List NozzleEntry) (items : Items)
+nozzles_from-tree : (products : List ProductEntry) (taken : List NozzleEntry) (items : Items)
     → OfTree (nozzles_from products taken items)
 nozzles_from-tree products taken no_items = tt
 nozzles_from-tree products taken (item value more) =
     stages (nozzle_of products value) _ (nozzle_of-tree products value) (λ n.
     nozzles_from-tree products (taken ++ n ∷ []) more)
 
-nozzles_of-tree : (products : List ConfiguredProduct) (file : Members)
+nozzles_of-tree : (products : List ProductEntry) (file : Members)
     → OfTree (nozzles_of products file)
 unfolding nozzles_of
 nozzles_of-tree products file =
     stages (list_at Nozzles NOZZLES file) _ (list_at-tree Nozzles NOZZLES file) (λ items.
     nozzles_from-tree products [] items)
 
-point_number-tree : (taken : List ConfiguredPoint) (file : Members) → OfTree (point_number taken file)
+point_number-tree : (taken : List PointEntry) (file : Members) → OfTree (point_number taken file)
 unfolding point_number
 point_number-tree taken file =
     stages (number_at Number 1 POINTS file) _ (number_at-tree Number 1 POINTS file) (λ n.
     only_if-tree _ _ n refl)
 
-point_of-tree : (products : List ConfiguredProduct) (taken : List ConfiguredPoint) (value : Data)
+point_of-tree : (products : List ProductEntry) (taken : List PointEntry) (value : Data)
     → OfTree (point_of products taken value)
 unfolding point_of
 point_of-tree products taken value =
@@ -218,14 +221,14 @@ point_of-tree products taken value =
     stages (point_number taken file) _ (point_number-tree taken file) (λ number.
     stages (nozzles_of products file) _ (nozzles_of-tree products file) (λ nozzles. tt))))
 
-points_from-tree : (products : List ConfiguredProduct) (taken : List ConfiguredPoint) (items : Items)
+points_from-tree : (products : List ProductEntry) (taken : List PointEntry) (items : Items)
     → OfTree (points_from products taken items)
 points_from-tree products taken no_items = tt
 points_from-tree products taken (item value more) =
     stages (point_of products taken value) _ (point_of-tree products taken value) (λ p.
     points_from-tree products (taken ++ p ∷ []) more)
 
-points_of-tree : (products : List ConfiguredProduct) (file : Members)
+points_of-tree : (products : List ProductEntry) (file : Members)
     → OfTree (points_of products file)
 unfolding points_of
 points_of-tree products file =

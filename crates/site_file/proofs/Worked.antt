@@ -4,7 +4,9 @@ use Rattle.std.proofs.Common.{◌≡◌, ℕ, zero, suc, List, [], ◌∷◌, �
 use Rattle.std.specs.Str.{is_utf8, chars}
 use Rattle.toml.proofs.OnLiterals.{toml_on_literals}
 use Rattle.site_base.specs.declared.config.NozzleEntry.{NozzleEntry}
-use Rattle.site_base.specs.Configured.{Configured, ConfiguredProduct, ConfiguredPoint}
+use Rattle.site_base.specs.declared.config.PointEntry.{PointEntry}
+use Rattle.site_base.specs.declared.config.ProductEntry.{ProductEntry}
+use Rattle.site_base.specs.Configured.{Configured}
 use Rattle.site_file.specs.declared.fault.ConfigFault.TheVariants.{UnknownKey, MissingKey, OutOfRange}
 use Rattle.site_file.specs.declared.key.Key.TheVariants.{Product, Number, Price}
 use Rattle.site_file.specs.Keys.{printed_key}
@@ -49,16 +51,16 @@ point_text number =
 abbrev nozzles : List NozzleEntry
 nozzles = record { product = 1; reading = 0 } ∷ record { product = 2; reading = 1000 } ∷ []
 
-abbrev point : ℕ → ConfiguredPoint
+abbrev point : ℕ → PointEntry
 point number = record { number = number; nozzles = nozzles }
 
-abbrev diesel : ConfiguredProduct
+abbrev diesel : ProductEntry
 diesel = record { number = 1; name = codes "diesel"; price = 1500 }
 
-abbrev petrol : ConfiguredProduct
+abbrev petrol : ProductEntry
 petrol = record { number = 2; name = codes "petrol"; price = 1799 }
 
-abbrev site : List ConfiguredPoint → Configured
+abbrev site : List PointEntry → Configured
 site points = record {
   rows = 1000000;
   managers = 1 ∷ [];

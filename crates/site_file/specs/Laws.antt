@@ -7,7 +7,10 @@ use Rattle.toml.specs.Data.{Data, string, integer, array, table, Items, no_items
 use Rattle.toml.specs.Parse.{parse_document}
 use Rattle.site_base.specs.declared.config.NozzleEntry.{NozzleEntry}
 use Rattle.site_base.specs.declared.limits.TheConstants.{GREATEST_PRICE, GREATEST_READING, POINTS, PRODUCTS, TILLS}
-use Rattle.site_base.specs.Configured.{Configured, ConfiguredProduct, ConfiguredPoint, is_between, is_site}
+use Rattle.site_base.specs.Ranges.{is_between}
+use Rattle.site_base.specs.declared.config.PointEntry.{PointEntry}
+use Rattle.site_base.specs.declared.config.ProductEntry.{ProductEntry}
+use Rattle.site_base.specs.Configured.{Configured, is_site}
 use Rattle.site_file.specs.declared.fault.ConfigFault.{ConfigFault}
 use Rattle.site_file.specs.declared.fault.ConfigFault.TheVariants.{NoMemory, NotToml}
 use Rattle.site_file.specs.SiteFile.{site_of, config_of}
@@ -22,7 +25,7 @@ list_tree tree (x ∷ xs) = item (tree x) (list_tree tree xs)
 abbrev pub number_tree : ℕ → Data
 number_tree n = integer (pos n)
 
-abbrev pub product_tree : ConfiguredProduct → Data
+abbrev pub product_tree : ProductEntry → Data
 product_tree p =
     table (member (codes "name") (string p.name)
     (member (codes "number") (number_tree p.number)
@@ -33,7 +36,7 @@ nozzle_tree n =
     table (member (codes "product") (number_tree n.product)
     (member (codes "reading") (number_tree n.reading) no_members))
 
-abbrev pub point_tree : ConfiguredPoint → Data
+abbrev pub point_tree : PointEntry → Data
 point_tree p =
     table (member (codes "nozzles") (array (list_tree nozzle_tree p.nozzles))
     (member (codes "number") (number_tree p.number) no_members))
@@ -48,13 +51,13 @@ site_tree c =
 -- ---- the laws
 
 -- the numbers of a configuration are in the ranges of their types
-abbrev pub is_product_in_range : ConfiguredProduct → Bool
+abbrev pub is_product_in_range : ProductEntry → Bool
 is_product_in_range p = is_between 1 PRODUCTS p.number && is_between 1 GREATEST_PRICE p.price
 
 abbrev pub is_nozzle_in_range : NozzleEntry → Bool
 is_nozzle_in_range n = is_between 0 GREATEST_READING n.reading
 
-abbrev pub is_point_in_range : ConfiguredPoint → Bool
+abbrev pub is_point_in_range : PointEntry → Bool
 is_point_in_range p = is_between 1 POINTS p.number && list_all is_nozzle_in_range p.nozzles
 
 pub record IsInRange (c : Configured) : Type 0 where

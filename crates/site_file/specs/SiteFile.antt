@@ -7,7 +7,11 @@ use Rattle.toml.specs.Parse.{parse_document}
 use Rattle.toml.specs.Data.{Data, string, integer, array, table, Items, no_items, item, Members, no_members, member, get_member}
 use Rattle.site_base.specs.declared.config.NozzleEntry.{NozzleEntry}
 use Rattle.site_base.specs.declared.limits.TheConstants.{GREATEST_PRICE, GREATEST_READING, GREATEST_ROWS, NOZZLES, POINTS, PRODUCTS, TILLS}
-use Rattle.site_base.specs.Configured.{Configured, ConfiguredProduct, ConfiguredPoint, is_between, is_name, has_product}
+use Rattle.site_base.specs.Names.{is_name}
+use Rattle.site_base.specs.Ranges.{is_between}
+use Rattle.site_base.specs.declared.config.PointEntry.{PointEntry}
+use Rattle.site_base.specs.declared.config.ProductEntry.{ProductEntry}
+use Rattle.site_base.specs.Configured.{Configured, has_product}
 use Rattle.site_file.specs.declared.fault.ConfigFault.{ConfigFault}
 use Rattle.site_file.specs.declared.fault.ConfigFault.TheVariants.{NotToml, UnknownKey, MissingKey, WrongKind, OutOfRange, Repeated, UnknownProduct}
 use Rattle.site_file.specs.declared.key.Key.{Key}
@@ -117,17 +121,17 @@ managers_of (Some value) = list Managers value >>= managers_from []
 -- ---- products
 
 -- number: 1 to 8, not repeated
-unfoldable pub product_number : List ConfiguredProduct → Members → Result ℕ ConfigFault
+unfoldable pub product_number : List ProductEntry → Members → Result ℕ ConfigFault
 product_number taken product = do
   number ← number_at Number 1 PRODUCTS product
   only_if (not (has_product taken number)) (Repeated Number) number
 
 -- a product of this name is there
-abbrev pub has_name : List ConfiguredProduct → List ℕ → Bool
+abbrev pub has_name : List ProductEntry → List ℕ → Bool
 has_name products name = list_any (λ p. bytes_eq p.name name) products
 
 -- name: 1 to 20 of a to z, 0 to 9 and hyphen, not repeated
-unfoldable pub product_name : List ConfiguredProduct → Members → Result (List ℕ) ConfigFault
+unfoldable pub product_name : List ProductEntry → Members → Result (List ℕ) ConfigFault
 product_name taken product = do
   value ← value_at Name product
   octets ← text Name value
@@ -135,7 +139,7 @@ product_name taken product = do
   only_if (not (has_name taken name)) (Repeated Name) name
 
 -- a product, after those taken: number, name, price
-unfoldable pub product_of : List ConfiguredProduct → Data → Result ConfiguredProduct ConfigFault
+unfoldable pub product_of : List ProductEntry → Data → Result ProductEntry ConfigFault
 product_of taken value = do
   entries ← table_of Product value
   product ← with_keys (Number ∷ Name ∷ Price ∷ []) entries
@@ -144,25 +148,25 @@ product_of taken value = do
   price ← number_at Price 1 GREATEST_PRICE product
   Ok (record { number = number; name = name; price = price })
 
-abbrev pub products_from : List ConfiguredProduct → Items
-    → Result (List ConfiguredProduct) ConfigFault
+abbrev pub products_from : List ProductEntry → Items
+    → Result (List ProductEntry) ConfigFault
 products_from taken no_items = Ok taken
 products_from taken (item value more) =
     product_of taken value >>= λ product. products_from (taken ++ product ∷ []) more
 
 -- product: a list of 1 to 8 tables
-unfoldable pub products_of : Members → Result (List ConfiguredProduct) ConfigFault
+unfoldable pub products_of : Members → Result (List ProductEntry) ConfigFault
 products_of file = list_at Product PRODUCTS file >>= products_from []
 
 -- ---- points
 
 -- a nozzle's product: the number of a product of the file
-abbrev pub product_in : List ConfiguredProduct → ℤ → Result ℕ ConfigFault
+abbrev pub product_in : List ProductEntry → ℤ → Result ℕ ConfigFault
 product_in products (pos n) = only_if (has_product products n) UnknownProduct n
 product_in products (negsuc n) = Err UnknownProduct
 
 -- a nozzle: product, reading
-unfoldable pub nozzle_of : List ConfiguredProduct → Data → Result NozzleEntry ConfigFault
+unfoldable pub nozzle_of : List ProductEntry → Data → Result NozzleEntry ConfigFault
 nozzle_of products value = do
   entries ← table_of Nozzles value
   nozzle ← with_keys (Product ∷ Reading ∷ []) entries
@@ -172,29 +176,29 @@ nozzle_of products value = do
   reading ← number_at Reading 0 GREATEST_READING nozzle
   Ok (record { product = product; reading = reading })
 
-abbrev pub nozzles_from : List ConfiguredProduct → List NozzleEntry → Items
+abbrev pub nozzles_from : List ProductEntry → List NozzleEntry → Items
     → Result (List NozzleEntry) ConfigFault
 nozzles_from products taken no_items = Ok taken
 nozzles_from products taken (item value more) =
     nozzle_of products value >>= λ nozzle. nozzles_from products (taken ++ nozzle ∷ []) more
 
 -- nozzles: a list of 1 to 8 tables; nozzle n is the nth
-unfoldable pub nozzles_of : List ConfiguredProduct → Members → Result (List NozzleEntry) ConfigFault
+unfoldable pub nozzles_of : List ProductEntry → Members → Result (List NozzleEntry) ConfigFault
 nozzles_of products point = list_at Nozzles NOZZLES point >>= nozzles_from products []
 
 -- a point of this number is there
-abbrev pub has_point : List ConfiguredPoint → ℕ → Bool
+abbrev pub has_point : List PointEntry → ℕ → Bool
 has_point points number = list_any (λ p. p.number == number) points
 
 -- number: 1 to 64, not repeated
-unfoldable pub point_number : List ConfiguredPoint → Members → Result ℕ ConfigFault
+unfoldable pub point_number : List PointEntry → Members → Result ℕ ConfigFault
 point_number taken point = do
   number ← number_at Number 1 POINTS point
   only_if (not (has_point taken number)) (Repeated Number) number
 
 -- a point, after those taken: number, nozzles
-unfoldable pub point_of : List ConfiguredProduct → List ConfiguredPoint → Data
-    → Result ConfiguredPoint ConfigFault
+unfoldable pub point_of : List ProductEntry → List PointEntry → Data
+    → Result PointEntry ConfigFault
 point_of products taken value = do
   entries ← table_of Point value
   point ← with_keys (Number ∷ Nozzles ∷ []) entries
@@ -202,15 +206,15 @@ point_of products taken value = do
   nozzles ← nozzles_of products point
   Ok (record { number = number; nozzles = nozzles })
 
-abbrev pub points_from : List ConfiguredProduct → List ConfiguredPoint → Items
-    → Result (List ConfiguredPoint) ConfigFault
+abbrev pub points_from : List ProductEntry → List PointEntry → Items
+    → Result (List PointEntry) ConfigFault
 points_from products taken no_items = Ok taken
 points_from products taken (item value more) =
     point_of products taken value >>= λ point. points_from products (taken ++ point ∷ []) more
 
 -- point: a list of 1 to 64 tables
-unfoldable pub points_of : List ConfiguredProduct → Members
-    → Result (List ConfiguredPoint) ConfigFault
+unfoldable pub points_of : List ProductEntry → Members
+    → Result (List PointEntry) ConfigFault
 points_of products file = list_at Point POINTS file >>= points_from products []
 
 -- ---- the site: rows, managers, product, point

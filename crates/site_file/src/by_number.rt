@@ -18,10 +18,10 @@ pub struct Products {
 impl Model for Products {
     ghost use Rattle.std.specs.Prelude.{◌≡◌, List, true};
     ghost use Rattle.indexmap.specs.IndexMap.{values};
-    ghost use Rattle.site_base.specs.Configured.{ConfiguredProduct};
+    ghost use Rattle.site_base.specs.declared.config.ProductEntry.{ProductEntry};
     ghost use Rattle.site_file.specs.ByNumber.{are_by_number};
 
-    ghost Value = { List ConfiguredProduct };
+    ghost Value = { List ProductEntry };
 
     ghost view = { λ p. values p.by_number };
 

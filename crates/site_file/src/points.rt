@@ -12,7 +12,8 @@ use crate::key::Key;
 use crate::known::with_keys;
 use crate::values::{list_at, number_at, table, value_at, whole};
 use site_base::{
-    FpNo, GREATEST_READING, Millilitres, NOZZLES, NozzleEntry, POINTS, PointEntry, ProductNo,
+    FpNo, GREATEST_READING, Listing, Millilitres, NOZZLES, NozzleEntry, POINTS, PointEntry,
+    ProductNo,
 };
 use std::alloc::Global;
 use toml::{Table, Value};
@@ -60,7 +61,10 @@ fn point_of(
     with_keys(alloc, point, &[Key::Number, Key::Nozzles])?;
     let number = point_number(taken, point)?;
     let nozzles = nozzles_of(alloc, products, point)?;
-    Ok(PointEntry { number, nozzles })
+    Ok(PointEntry {
+        number,
+        nozzles: Listing::from(nozzles),
+    })
 }
 
 /// A number that none of the points taken has.

@@ -12,7 +12,7 @@ use crate::fault::ConfigFault;
 use crate::key::Key;
 use crate::known::with_keys;
 use crate::values::{list_at, number_at, table, text, value_at};
-use site_base::{GREATEST_PRICE, Mills, PRODUCTS, ProductEntry, ProductNo};
+use site_base::{GREATEST_PRICE, Mills, PRODUCTS, ProductEntry, ProductName, ProductNo};
 use std::alloc::Global;
 use toml::{Table, Value};
 
@@ -44,11 +44,11 @@ fn product_of(alloc: Global, taken: &Products, value: &Value) -> Result<ProductE
     let product = table(value, Key::Product)?;
     with_keys(alloc, product, &[Key::Number, Key::Name, Key::Price])?;
     let number = product_number(taken, product)?;
-    let name = product_name(taken, product)?;
+    let name = product_name(alloc, taken, product)?;
     let price = product_price(product)?;
     Ok(ProductEntry {
         number,
-        name: String::from_str(alloc, name)?,
+        name,
         price,
     })
 }
@@ -68,14 +68,19 @@ fn product_number(taken: &Products, product: &Table) -> Result<ProductNo, Config
 
 /// A fit name that none of the products taken has.
 #[tactic(auto, unfolding(crate::specs::SiteFile::product_name))]
-fn product_name<'a>(taken: &Products, product: &'a Table) -> Result<&'a str, ConfigFault>
-    ensures { Gives (λ s. s.now) result (spec.product_name taken.now (table_view product.now)) }
+fn product_name(
+    alloc: Global,
+    taken: &Products,
+    product: &Table,
+) -> Result<ProductName, ConfigFault>
+    ensures { Gives (λ name. name) result
+        (spec.product_name taken.now (table_view product.now)) }
 {
-    let name = text(value_at(product, Key::Name)?, Key::Name)?.as_str();
-    if !ProductEntry::is_name(name) {
+    let octets = text(value_at(product, Key::Name)?, Key::Name)?.as_str();
+    let Some(name) = ProductName::new(String::from_str(alloc, octets)?) else {
         return Err(ConfigFault::OutOfRange(Key::Name));
-    }
-    if taken.has_name(name) {
+    };
+    if taken.has_name(name.as_str()) {
         return Err(ConfigFault::Repeated(Key::Name));
     }
     Ok(name)

@@ -49,8 +49,8 @@ fn assert_points(rt: &impl Abort, config: &SiteConfig, points: u8) {
     assert_eq!(rt; config.points().len(), usize::from(points));
     for (point, number) in config.points().iter().zip(1..=points) {
         assert_eq!(rt; point.number.get(), number);
-        assert_eq!(rt; point.nozzles.len(), known.len());
-        for (nozzle, (product, reading)) in point.nozzles.iter().zip(known) {
+        assert_eq!(rt; point.nozzles.as_slice().len(), known.len());
+        for (nozzle, (product, reading)) in point.nozzles.as_slice().iter().zip(known) {
             assert_eq!(rt; nozzle.product.get(), product);
             assert_eq!(rt; nozzle.reading.get(), reading);
         }

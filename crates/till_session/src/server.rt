@@ -1,8 +1,10 @@
 //! The server: workers that serve sessions side by side.
 
-ghost use Rattle.std.specs.Prelude.{◌≡◌, ◌+◌, ◌≤◌, false, length, vec_capacity, vec_len, IfOk, Some};
+ghost use Rattle.std.specs.Prelude.{◌≡◌, ◌+◌, ◌≤◌, ◌<◌, false, length, vec_capacity, vec_len, IfOk, IfSome, Some};
+ghost use Rattle.std.specs.List.{All};
 ghost use Rattle.counter_desk.specs.declared.crews.TheConstants.{WORKERS};
 ghost use Rattle.till_session.specs.declared.server.TheConstants.{SESSIONS};
+ghost use Rattle.till_session.specs.Drawn.{IsDrawnEnd, IsEndOf, IsSlotOf};
 
 use crate::accept::{Accept, NoConnection};
 use crate::desk_counter::DeskCounter;
@@ -32,13 +34,15 @@ struct Plan {
 struct Queue<A: Accept + Drop> {
     listener: A,
     next: usize,
-    sessions: usize,
 }
 
 impl<A: Accept + Drop> Queue<A> {
-    /// Draws the number of a session, and accepts its connection. None where all are drawn.
-    fn draw(&mut self, alloc: Global) -> Option<Drawn<A>> {
-        if self.next >= self.sessions {
+    /// Draws the number of one of so many sessions, and accepts its connection. None where all are
+    /// drawn.
+    fn draw(&mut self, alloc: Global, sessions: usize) -> Option<Drawn<A>>
+        ensures { IfSome result (λ drawn. drawn.number < sessions) }
+    {
+        if self.next >= sessions {
             return None;
         }
         let number = self.next;
@@ -61,21 +65,26 @@ struct NumberedEnd {
     end: SessionEnd,
 }
 
-/// What a worker promises of its ends: nothing, since what it drew stood under a lock.
+/// What a worker promises of its ends: each is that of a session of this plan which it drew. That
+/// no two workers drew the same one can't be said, since the queue stands under a lock.
 #[derive(Clone, Copy)]
-struct AnyEnds;
+struct DrawnEnds(Plan);
 
-impl Promise<Vec<NumberedEnd>> for AnyEnds {
-    ghost kept_by = { λ promise ends. Unit {0} };
+impl Promise<Vec<NumberedEnd>> for DrawnEnds {
+    ghost use Rattle.std.specs.List.{All};
+    ghost use Rattle.till_session.specs.Drawn.{IsEndOf};
+
+    ghost kept_by = { λ promise ends. All (IsEndOf promise.0) ends.items };
 }
 
 /// A worker's thread, if it was started.
-type Started = Option<PromisedHandle<Vec<NumberedEnd>, AnyEnds>>;
+type Started = Option<PromisedHandle<Vec<NumberedEnd>, DrawnEnds>>;
 
 /// Serves so many sessions by so many workers, all side by side. Each worker takes a share from the
 /// root, draws the numbers of sessions, accepts one connection for each, serves it at the desk, and
 /// hands the share back. The ends come in the order of the sessions' numbers, one for each that was
-/// drawn; a connection that the listener didn't give ends with `Accept` or `NoMemory`. A worker
+/// drawn: that of a session of so many turns, or of a connection that the listener didn't give, with
+/// `Accept` or `NoMemory`. A worker
 /// that can't be started, or finds no memory for its share or its ends, draws none. A growth that
 /// is refused here is answered before any worker starts.
 pub fn serve<
@@ -97,13 +106,10 @@ pub fn serve<
 ) -> Result<Vec<SessionEnd>, NoMemory>
     requires workers { (1 ≤ workers) × (workers ≤ WORKERS) }
     requires sessions { (1 ≤ sessions) × (sessions ≤ SESSIONS) }
-    ensures { IfOk result (λ ends. vec_len ends ≤ sessions) }
+    ensures few { IfOk result (λ ends. vec_len ends ≤ sessions) }
+    ensures drawn { IfOk result (λ ends. All (IsDrawnEnd turns) ends.items) }
 {
-    let queue = Mutex::new(Queue {
-        listener,
-        next: 0,
-        sessions,
-    });
+    let queue = Mutex::new(Queue { listener, next: 0 });
     let plan = Plan {
         workers,
         sessions,
@@ -128,13 +134,15 @@ fn serve_queue<
     gate: &G,
     plan: Plan,
 ) -> Result<Vec<SessionEnd>, NoMemory>
-    ensures { IfOk result (λ ends. vec_len ends ≤ plan.sessions) }
+    ensures few { IfOk result (λ ends. vec_len ends ≤ plan.sessions) }
+    ensures drawn { IfOk result (λ ends. All (IsDrawnEnd plan.turns) ends.items) }
 {
     thread::scope(
         thread::scope_env(),
         rt,
         |scope| -> Result<Vec<SessionEnd>, NoMemory>
-            ensures { IfOk result (λ ends. vec_len ends ≤ plan.sessions) }
+            ensures few { IfOk result (λ ends. vec_len ends ≤ plan.sessions) }
+            ensures drawn { IfOk result (λ ends. All (IsDrawnEnd plan.turns) ends.items) }
         { run_all(scope, rt, alloc, queue, desk, root, gate, plan) },
     )
 }
@@ -158,50 +166,59 @@ fn run_all<
     gate: &'s G,
     plan: Plan,
 ) -> Result<Vec<SessionEnd>, NoMemory>
-    ensures { IfOk result (λ ends. vec_len ends ≤ plan.sessions) }
+    ensures few { IfOk result (λ ends. vec_len ends ≤ plan.sessions) }
+    ensures drawn { IfOk result (λ ends. All (IsDrawnEnd plan.turns) ends.items) }
 {
     // What can fail for memory comes before any worker starts.
     let mut started: Vec<Started> = Vec::with_capacity(alloc, plan.workers)?;
     let mut slots: Vec<Option<SessionEnd>> = vec![in alloc; None; plan.sessions]?;
     let ends = Vec::with_capacity(alloc, plan.sessions)?;
     for _ in 0..plan.workers {
-        let job = move || -> Vec<NumberedEnd> {
-            work_once(rt, alloc, queue, desk, root, gate, plan)
-        };
-        match scope.spawn_with(AnyEnds, job) {
+        let job = move || -> Vec<NumberedEnd>
+            ensures { All (IsEndOf plan) result.items }
+        { work_once(rt, alloc, queue, desk, root, gate, plan) };
+        match scope.spawn_with(DrawnEnds(plan), job) {
             Ok(handle) => started.push_reserved(Some(handle)),
             Err(_) => started.push_reserved(None),
         }
     }
     for handle in started {
         if let Some(handle) = handle {
-            keep(&handle.join(rt), &mut slots);
+            plan.keep(&handle.join(rt), &mut slots);
         }
     }
-    Ok(in_order(&slots, ends))
+    Ok(plan.put_in_order(&slots, ends))
 }
 
-/// The ends in the slots, put into an empty list that has room for them.
-fn in_order(slots: &[Option<SessionEnd>], room: Vec<SessionEnd>) -> Vec<SessionEnd>
-    requires none { vec_len room ≡ 0 }
-    requires room { length slots.now ≤ vec_capacity room }
-    ensures { vec_len result ≤ length slots.now }
-{
-    let mut ends = room;
-    for slot in slots {
-        if let Some(end) = slot {
-            ends.push_reserved(*end);
+impl Plan {
+    /// Keeps ends of this plan's sessions, each in the slot of its number.
+    fn keep(self, ends: &[NumberedEnd], slots: &mut Vec<Option<SessionEnd>>)
+        requires size { vec_len slots.old ≡ self.sessions }
+        requires ends { All (IsEndOf self) ends.now }
+        requires slots { All (IsSlotOf self) slots.old.items }
+        ensures size { vec_len slots.new ≡ vec_len slots.old }
+        ensures slots { All (IsSlotOf self) slots.new.items }
+    {
+        for numbered in ends {
+            slots[numbered.number] = Some(numbered.end);
         }
     }
-    ends
-}
 
-/// Keeps ends, each in the slot of its number.
-fn keep(ends: &[NumberedEnd], slots: &mut [Option<SessionEnd>]) {
-    for numbered in ends {
-        if let Some(slot) = slots.get_mut(numbered.number) {
-            *slot = Some(numbered.end);
+    /// The ends in the slots, put into an empty list that has room for them.
+    fn put_in_order(self, slots: &[Option<SessionEnd>], room: Vec<SessionEnd>) -> Vec<SessionEnd>
+        requires none { vec_len room ≡ 0 }
+        requires room { length slots.now ≤ vec_capacity room }
+        requires slots { All (IsSlotOf self) slots.now }
+        ensures few { vec_len result ≤ length slots.now }
+        ensures drawn { All (IsDrawnEnd self.turns) result.items }
+    {
+        let mut ends = room;
+        for slot in slots {
+            if let Some(end) = slot {
+                ends.push_reserved(*end);
+            }
         }
+        ends
     }
 }
 
@@ -214,7 +231,9 @@ fn work_once<A: Accept + Drop, L: Ledger, C: Naming, G: Gate, R: Wait>(
     root: &Mutex<Root<L, C>>,
     gate: &G,
     plan: Plan,
-) -> Vec<NumberedEnd> {
+) -> Vec<NumberedEnd>
+    ensures { All (IsEndOf plan) result.items }
+{
     let mut ends = Vec::new(alloc);
     if ends.reserve(plan.sessions).is_err() {
         return ends;
@@ -241,10 +260,12 @@ fn serve_drawn<A: Accept + Drop, L: Ledger, C: Naming, G: Gate, R: Wait>(
     plan: Plan,
     ends: &mut Vec<NumberedEnd>,
 )
-    requires { vec_len ends.old + plan.sessions ≤ vec_capacity ends.old }
+    requires room { vec_len ends.old + plan.sessions ≤ vec_capacity ends.old }
+    requires ends { All (IsEndOf plan) ends.old.items }
+    ensures { All (IsEndOf plan) ends.new.items }
 {
     for _ in 0..plan.sessions {
-        let drawn = queue.lock(rt).draw(alloc);
+        let drawn = queue.lock(rt).draw(alloc, plan.sessions);
         match drawn {
             Some(drawn) => {
                 let Drawn { number, connection } = drawn;
@@ -267,7 +288,9 @@ fn serve_one<A: Accept, L: Ledger, C: Naming, G: Gate, R: Wait>(
     share: &mut Share<L, C>,
     gate: &G,
     turns: u64,
-) -> SessionEnd {
+) -> SessionEnd
+    ensures { IsDrawnEnd turns result }
+{
     match connection {
         Ok((reader, writer)) => {
             let mut reader = Counted::new(reader);

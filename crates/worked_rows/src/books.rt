@@ -125,11 +125,11 @@ pub fn audited(alloc: Global, book: &SiteBook) -> anyhow::Result<Totals> {
         "the rows aren't those counted"
     );
     ensure!(
-        totals.products == audit.products,
+        totals.products.as_slice() == audit.products.as_slice(),
         "the products' totals aren't those of the audit"
     );
     ensure!(
-        totals.tills == audit.tills,
+        totals.tills.as_slice() == audit.tills.as_slice(),
         "the tills' totals aren't those of the audit"
     );
     Ok(totals)

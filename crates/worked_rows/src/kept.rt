@@ -74,7 +74,6 @@ impl Kept {
         if !self.alone {
             let rows = self.book.len();
             ensure_counted(totals, &self.site.totals(self.alloc, rows)?)?;
-            ensure_counted(totals, &self.site.counted_totals(self.alloc, rows)?)?;
         }
         print_totals(rt, totals)
     }

@@ -29,12 +29,12 @@ pub fn print_sale(
 
 /// Prints what each till has cleared, if it has, and each product.
 pub fn print_totals(rt: &impl Print, totals: &Totals) -> anyhow::Result<()> {
-    for (till, clears, cents) in &totals.tills {
+    for (till, clears, cents) in totals.tills.as_slice() {
         if *clears > 0 {
             println!(rt; "totals t{}: clears {clears}, cents {cents}", till.get())?;
         }
     }
-    for view in &totals.products {
+    for view in totals.products.as_slice() {
         println!(rt; "totals: {view}")?;
     }
     Ok(())
@@ -43,11 +43,11 @@ pub fn print_totals(rt: &impl Print, totals: &Totals) -> anyhow::Result<()> {
 /// The totals that are kept have to be those that are counted.
 pub fn ensure_counted(kept: &Totals, counted: &Totals) -> anyhow::Result<()> {
     ensure!(
-        kept.products == counted.products,
+        kept.products.as_slice() == counted.products.as_slice(),
         "the products' totals aren't those counted"
     );
     ensure!(
-        kept.tills == counted.tills,
+        kept.tills.as_slice() == counted.tills.as_slice(),
         "the tills' totals aren't those counted"
     );
     Ok(())

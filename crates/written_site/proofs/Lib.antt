@@ -76,3 +76,8 @@ pub mod MeteredRows
 pub mod UnpaidRows
 pub mod TestLaws
 pub mod Growths
+pub mod ListSums
+pub mod ProductNumbers
+pub mod ProductSums
+pub mod ToldCents
+pub mod RefusedLaws

@@ -8,7 +8,8 @@ use Rattle.site_base.specs.declared.config.NozzleEntry.{NozzleEntry}
 use Rattle.site_base.specs.declared.event.Event.{Event}
 use Rattle.site_base.specs.declared.event.Event.TheVariants.{ReplaceMeter, Lift, Flow, HangUp}
 use Rattle.site_base.specs.declared.row.Row.{Row}
-use Rattle.site_base.specs.Configured.{Configured, ConfiguredPoint}
+use Rattle.site_base.specs.declared.config.PointEntry.{PointEntry}
+use Rattle.site_base.specs.Configured.{Configured}
 use Rattle.meters.specs.Nozzles.{Nozzle, is_nozzle, numbered, nozzles_of_point, nozzles_of_points, opening_nozzles, nozzle_of, has_nozzle, reading_of, with_nozzle, with_last, read_at, replaced_at}
 use Rattle.meters.proofs.Looked.{KeepsName, nozzle_of-here, nozzle_of-other, reading_is}
 use Rattle.written_site.specs.Histories.{Moment, moments_of}
@@ -200,7 +201,7 @@ fresh_both : (xs ys : List Nozzle) → EachFresh xs → EachFresh ys → EachFre
 fresh_both [] ys fresh rest = rest
 fresh_both (x ∷ xs) ys fresh rest = (fresh.0, fresh_both xs ys fresh.1 rest)
 
-pub fresh_points : (cs : List ConfiguredPoint) → EachFresh (nozzles_of_points cs)
+pub fresh_points : (cs : List PointEntry) → EachFresh (nozzles_of_points cs)
 fresh_points [] = tt
 fresh_points (c ∷ cs) =
     fresh_both (nozzles_of_point c) (nozzles_of_points cs) (fresh_numbered c.number 1 c.nozzles)

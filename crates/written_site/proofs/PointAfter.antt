@@ -4,7 +4,8 @@ use Rattle.std.proofs.lemmas.Bool.{false≢true}
 use Rattle.site_base.specs.declared.actor.Actor.{Actor}
 use Rattle.site_base.specs.declared.event.Event.{Event}
 use Rattle.site_base.specs.declared.state.PointState.TheVariants.{Closed}
-use Rattle.site_base.specs.Configured.{Configured, ConfiguredPoint}
+use Rattle.site_base.specs.declared.config.PointEntry.{PointEntry}
+use Rattle.site_base.specs.Configured.{Configured}
 use Rattle.fuelling_point.specs.declared.event.PointEvent.{PointEvent}
 use Rattle.fuelling_point.specs.Kept.{Facts, fresh}
 use Rattle.fuelling_point.specs.PointChecks.{refusal_of}
@@ -65,7 +66,7 @@ facts_after s a e passes q = by_own (own_event s e) refl
     by_own (Some x) is = by_test x.0 x.1 is (q == x.0) refl
 
 -- when the site opens, each point is closed
-closed_in : (entries : List ConfiguredPoint) (p : ℕ) → facts_in (points_of entries) p ≡ fresh Closed
+closed_in : (entries : List PointEntry) (p : ℕ) → facts_in (points_of entries) p ≡ fresh Closed
 closed_in [] p = refl
 closed_in (x ∷ xs) p = by_test (x.number == p) refl (closed_in xs p)
   where

@@ -11,7 +11,10 @@ use Rattle.std.specs.FinMap.{get-empty}
 use Rattle.site_base.specs.declared.config.NozzleEntry.{NozzleEntry}
 use Rattle.site_base.specs.declared.limits.TheConstants.{GREATEST_READING, GREATEST_ROWS, NOZZLES, POINTS, PRODUCTS}
 use Rattle.site_base.specs.declared.state.PointState.TheVariants.{Closed}
-use Rattle.site_base.specs.Configured.{Configured, ConfiguredPoint, ConfiguredProduct, is_between, none_alike, same_point, are_points, are_nozzles, are_products, has_product, is_site}
+use Rattle.site_base.specs.Ranges.{is_between}
+use Rattle.site_base.specs.declared.config.PointEntry.{PointEntry}
+use Rattle.site_base.specs.declared.config.ProductEntry.{ProductEntry}
+use Rattle.site_base.specs.Configured.{Configured, none_alike, same_point, are_points, are_nozzles, are_products, has_product, is_site}
 use Rattle.site_base.specs.Prices.{prices_of}
 use Rattle.site_base.specs.Table.{row_of}
 use Rattle.fuelling_point.specs.Kept.{Facts, fresh}
@@ -29,20 +32,20 @@ use Rattle.written_site.proofs.SoundTables.{same, told_once}
 
 -- ---- the points
 
-found_alike : (p : ConfiguredPoint) (ps : List ConfiguredPoint)
+found_alike : (p : PointEntry) (ps : List PointEntry)
     → list_any (λ q. nat_eq p.number q) (numbers_of (points_of ps))
     ≡ list_any (λ q. same_point p q) ps
 found_alike p [] = refl
 found_alike p (q ∷ qs) = ap (λ (b : Bool). (p.number == q.number) || b) (found_alike p qs)
 
-pub numbers_alone : (ps : List ConfiguredPoint)
+pub numbers_alone : (ps : List PointEntry)
     → none_alike nat_eq (numbers_of (points_of ps)) ≡ none_alike same_point ps
 numbers_alone [] = refl
 numbers_alone (p ∷ ps) =
     ap (λ (b : Bool). not b && none_alike nat_eq (numbers_of (points_of ps))) (found_alike p ps)
     ∙ ap (λ (b : Bool). not (list_any (λ q. same_point p q) ps) && b) (numbers_alone ps)
 
-closed_rows : (p : ℕ) (f : Facts) (ps : List ConfiguredPoint) → row_of p (points_of ps) ≡ Some f
+closed_rows : (p : ℕ) (f : Facts) (ps : List PointEntry) → row_of p (points_of ps) ≡ Some f
     → fresh Closed ≡ f
 closed_rows p f [] is = cc
 closed_rows p f (q ∷ qs) is = by_test (q.number == p) refl (closed_rows p f qs)
@@ -102,7 +105,7 @@ numbered_products test p n (e ∷ es) all =
     and_from (test e.product) (each_product test (numbered p (n + 1) es)) parts.0
     (numbered_products test p (n + 1) es parts.1)
 
-opening_products : (products : List ConfiguredProduct) (ps : List ConfiguredPoint)
+opening_products : (products : List ProductEntry) (ps : List PointEntry)
     → list_all (λ p. are_nozzles products p.nozzles) ps ≡ true
     → each_product (has_product products) (nozzles_of_points ps) ≡ true
 opening_products products [] all = refl
@@ -119,7 +122,7 @@ opening_products products (p ∷ ps) all =
     (opening_products products ps parts.1)
 
 -- a product that is there has a price, and a number that a product may have
-product_there : (q : ℕ) (ps : List ConfiguredProduct) → has_product ps q ≡ true
+product_there : (q : ℕ) (ps : List ProductEntry) → has_product ps q ≡ true
     → are_numbered ps ≡ true
     → (is_some (row_of q (prices_of ps)) ≡ true) × (is_between 1 PRODUCTS q ≡ true)
 product_there q [] has all = cc
@@ -153,7 +156,7 @@ opened_metered p n (e ∷ es) all =
       opened_metered p (n + 1) es parts.1,
     )
 
-opening_metered : (ps : List ConfiguredPoint)
+opening_metered : (ps : List PointEntry)
     → list_all (λ p. are_readable p.nozzles) ps ≡ true
     → EachMetered (nozzles_of_points ps)
 opening_metered [] all = tt
@@ -177,7 +180,7 @@ metered_readable p n (e ∷ es) each =
     and_from (nat_le e.reading GREATEST_READING) (are_readable es)
     (le-leb e.reading GREATEST_READING each.0.within) (metered_readable p (n + 1) es each.1)
 
-pub readable_when_metered : (ps : List ConfiguredPoint) → EachMetered (nozzles_of_points ps)
+pub readable_when_metered : (ps : List PointEntry) → EachMetered (nozzles_of_points ps)
     → list_all (λ p. are_readable p.nozzles) ps ≡ true
 readable_when_metered [] each = refl
 readable_when_metered (p ∷ ps) each =
@@ -195,7 +198,7 @@ between_high low high n is = grind (arith, nat_tests)
 between_low : (low high n : ℕ) → is_between low high n ≡ true → low ≤ n
 between_low low high n is = grind (arith, nat_tests)
 
-opening_length : (products : List ConfiguredProduct) (ps : List ConfiguredPoint)
+opening_length : (products : List ProductEntry) (ps : List PointEntry)
     → list_all (λ p. are_nozzles products p.nozzles) ps ≡ true
     → length (nozzles_of_points ps) ≤ length ps * NOZZLES
 opening_length products [] all = omega arith
@@ -215,7 +218,7 @@ opening_length products (p ∷ ps) all =
 no_sale : (p : ℕ) → sales_at p no_sales ≡ []
 no_sale p = ap (λ (o : Option (List Sale)). unwrap_or o []) (get-empty nat_cmp p)
 
-pub closed_volumes : (w : ℕ → ℕ) (nozzles : List Nozzle) (ps : List ConfiguredPoint)
+pub closed_volumes : (w : ℕ → ℕ) (nozzles : List Nozzle) (ps : List PointEntry)
     → running_by w nozzles (points_of ps) ≡ 0
 closed_volumes w nozzles [] = refl
 closed_volumes w nozzles (p ∷ ps) = omega (arith, mul-zero (w 0), closed_volumes w nozzles ps)

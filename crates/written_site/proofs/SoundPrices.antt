@@ -7,7 +7,7 @@ use Rattle.site_base.specs.declared.limits.TheConstants.{GREATEST_PRICE}
 use Rattle.site_base.specs.declared.refusal.Refusal.{Refusal}
 use Rattle.site_base.specs.declared.refusal.Refusal.TheVariants.{BadPrice}
 use Rattle.site_base.specs.Checks.{unless}
-use Rattle.site_base.specs.Configured.{is_between}
+use Rattle.site_base.specs.Ranges.{is_between}
 use Rattle.site_base.specs.Prices.{are_in_range}
 use Rattle.site_base.specs.Table.{row_of, with_row}
 use Rattle.written_site.specs.SiteState.{SiteState}

@@ -10,7 +10,7 @@ use Rattle.site_base.specs.declared.actor.Actor.{Actor}
 use Rattle.site_base.specs.declared.event.Event.{Event}
 use Rattle.site_base.specs.declared.event.Event.TheVariants.{ReplaceMeter, Flow, HangUp}
 use Rattle.site_base.specs.declared.state.PointState.TheVariants as states
-use Rattle.site_base.specs.Configured.{ConfiguredPoint}
+use Rattle.site_base.specs.declared.config.PointEntry.{PointEntry}
 use Rattle.site_base.specs.Table.{row_of, with_row}
 use Rattle.fuelling_point.specs.declared.event.PointEvent.{PointEvent}
 use Rattle.fuelling_point.specs.Kept.{Facts, is_under_way, volume_of, growth_of}
@@ -124,7 +124,7 @@ Quiet seen (e ∷ es) =
     (list_any (λ q. nat_eq e.0 q) seen ≡ true → is_under_way e.1.state ≡ false)
     × Quiet (e.0 ∷ seen) es
 
-pub quiet_first : (seen : List ℕ) (cs : List ConfiguredPoint) → Quiet seen (points_of cs)
+pub quiet_first : (seen : List ℕ) (cs : List PointEntry) → Quiet seen (points_of cs)
 quiet_first seen [] = tt
 quiet_first seen (c ∷ cs) = (λ is. refl, quiet_first (c.number ∷ seen) cs)
 

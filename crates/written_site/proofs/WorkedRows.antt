@@ -16,12 +16,14 @@ use Rattle.site_base.specs.declared.state.Status.TheVariants.{Payable}
 use Rattle.site_base.specs.declared.view.PointView.{PointView}
 use Rattle.site_base.specs.declared.view.ProductView.{ProductView}
 use Rattle.site_base.specs.declared.view.TransactionView.{TransactionView}
-use Rattle.site_base.specs.Configured.{Configured, ConfiguredProduct, ConfiguredPoint}
+use Rattle.site_base.specs.declared.config.PointEntry.{PointEntry}
+use Rattle.site_base.specs.declared.config.ProductEntry.{ProductEntry}
+use Rattle.site_base.specs.Configured.{Configured}
 use Rattle.written_site.specs.SiteState.{opening}
 use Rattle.written_site.specs.SiteRun.{replies_to, events_of, replies_of}
 
 -- product 1, diesel, at this price
-abbrev pub diesel : ℕ → ConfiguredProduct
+abbrev pub diesel : ℕ → ProductEntry
 diesel price = record {
   number = 1;
   name = 100 ∷ 105 ∷ 101 ∷ 115 ∷ 101 ∷ 108 ∷ [];
@@ -29,7 +31,7 @@ diesel price = record {
 }
 
 -- product 2, petrol, at this price
-abbrev pub petrol : ℕ → ConfiguredProduct
+abbrev pub petrol : ℕ → ProductEntry
 petrol price = record {
   number = 2;
   name = 112 ∷ 101 ∷ 116 ∷ 114 ∷ 111 ∷ 108 ∷ [];
@@ -37,7 +39,7 @@ petrol price = record {
 }
 
 -- a point with nozzle 1 of diesel, from reading 0, and nozzle 2 of petrol, from reading 1000
-abbrev pub point_with_two : ℕ → ConfiguredPoint
+abbrev pub point_with_two : ℕ → PointEntry
 point_with_two p = record {
   number = p;
   nozzles = record { product = 1; reading = 0 } ∷ record { product = 2; reading = 1000 } ∷ [];

@@ -4,6 +4,7 @@ pub mod ShiftFigures
 pub mod SiteChecks
 pub mod SiteStep
 pub mod SiteRun
+pub mod StepLaws
 pub mod Histories
 pub mod Bridge
 pub mod Slots

@@ -13,7 +13,7 @@ use Rattle.site_base.specs.declared.state.PointState.TheVariants.{Calling}
 use Rattle.site_base.specs.declared.state.Preset.{Preset}
 use Rattle.site_base.specs.declared.state.Preset.TheVariants.{Unset, Volume, Money}
 use Rattle.site_base.specs.Checks.{◌or_else◌, unless}
-use Rattle.site_base.specs.Configured.{is_between}
+use Rattle.site_base.specs.Ranges.{is_between}
 use Rattle.site_base.specs.Table.{row_of}
 use Rattle.site_base.specs.Events.{point_named, nozzle_named, sale_named, product_named, reported_by, needs_free_point, needs_manager}
 use Rattle.fuelling_point.specs.declared.event.PointEvent.{PointEvent}

@@ -9,7 +9,8 @@ use Rattle.site_base.specs.declared.state.PointState.{PointState}
 use Rattle.site_base.specs.declared.state.PointState.TheVariants.{Closed, Idle, Calling}
 use Rattle.site_base.specs.declared.view.PointView.{PointView}
 use Rattle.site_base.specs.declared.view.TransactionView.{TransactionView}
-use Rattle.site_base.specs.Configured.{Configured, ConfiguredPoint}
+use Rattle.site_base.specs.declared.config.PointEntry.{PointEntry}
+use Rattle.site_base.specs.Configured.{Configured}
 use Rattle.site_base.specs.Prices.{prices_of}
 use Rattle.site_base.specs.Table.{row_of}
 use Rattle.fuelling_point.specs.Kept.{Facts, fresh, point_view}
@@ -31,7 +32,7 @@ pub record SiteState : Type 0 where
   pub drawn : List (List ℕ)
 
 -- each configured point, closed
-abbrev pub points_of : List ConfiguredPoint → List (ℕ × Facts)
+abbrev pub points_of : List PointEntry → List (ℕ × Facts)
 points_of entries = map (λ p. (p.number, fresh Closed)) entries
 
 -- tests have drawn nothing of any product

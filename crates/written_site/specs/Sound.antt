@@ -7,7 +7,9 @@ use Rattle.site_base.specs.declared.config.NozzleEntry.{NozzleEntry}
 use Rattle.site_base.specs.declared.event.Event.{Event}
 use Rattle.site_base.specs.declared.limits.TheConstants.{GREATEST_PRICE, GREATEST_READING, GREATEST_SEQ, GREATEST_SHIFT, PRODUCT_CELLS, PRODUCTS, UNPAID_LIMIT}
 use Rattle.site_base.specs.Amounts.{amount}
-use Rattle.site_base.specs.Configured.{Configured, ConfiguredProduct, is_between, none_alike, is_site}
+use Rattle.site_base.specs.Ranges.{is_between}
+use Rattle.site_base.specs.declared.config.ProductEntry.{ProductEntry}
+use Rattle.site_base.specs.Configured.{Configured, none_alike, is_site}
 use Rattle.site_base.specs.Events.{reading_carried}
 use Rattle.site_base.specs.Prices.{prices_of, are_in_range}
 use Rattle.site_base.specs.Table.{row_of}
@@ -105,7 +107,7 @@ abbrev pub InRange : Event → Type 0
 InRange event = IfSome (reading_carried event) (λ reading. reading ≤ GREATEST_READING)
 
 -- each product's number is one that a product may have
-abbrev pub are_numbered : List ConfiguredProduct → Bool
+abbrev pub are_numbered : List ProductEntry → Bool
 are_numbered products = list_all (λ p. is_between 1 PRODUCTS p.number) products
 
 -- each of these nozzles has an opening reading that a meter can show

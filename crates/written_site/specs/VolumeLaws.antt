@@ -1,16 +1,18 @@
 -- The law of volumes: what the meters count is somewhere.
-use Rattle.std.specs.Prelude.{◌≡◌, ℕ, ◌+◌, ◌≤◌, List}
+use Rattle.std.specs.Prelude.{◌≡◌, ℕ, ◌+◌, ◌≤◌, List, true}
 use Rattle.site_base.specs.declared.limits.TheConstants.{PRODUCTS}
 use Rattle.site_base.specs.declared.row.Row.{Row}
 use Rattle.site_base.specs.declared.state.Status.TheVariants.{Payable, Locked, Cleared}
-use Rattle.site_base.specs.Configured.{Configured}
+use Rattle.site_base.specs.Configured.{Configured, are_points, are_products}
 use Rattle.site_base.specs.Events.{growth_told}
 use Rattle.meters.specs.Metered.{every_product, metered_by, product_total}
 use Rattle.transaction_buffer.specs.Sums.{volume_by}
 use Rattle.written_site.specs.MeteredRows.{metered_rows}
 use Rattle.written_site.specs.RowWords.{total}
-use Rattle.written_site.specs.SiteState.{SiteState}
-use Rattle.written_site.specs.Volumes.{running, adjusted}
+use Rattle.written_site.specs.ShiftFigures.{product_totals}
+use Rattle.written_site.specs.SiteRun.{site_of_rows}
+use Rattle.written_site.specs.SiteState.{SiteState, opening}
+use Rattle.written_site.specs.Volumes.{adjusted, all_metered, running}
 
 -- What the site shows as metered of a product is what the rows tell of its nozzles' meters. For
 -- each product number that a product may have, this is in the fuellings under way, in sales that
@@ -23,3 +25,11 @@ pub record AreVolumesConserved (c : Configured) (rows : List Row) (s : SiteState
       ≡ running s q + volume_by q Payable s.sales + volume_by q Locked s.sales
       + volume_by q Cleared s.sales + adjusted s q
   pub grown : total (λ r. growth_told r.reply) rows ≡ metered_by every_product s.nozzles
+
+-- of fit products and points: at the site that any rows lead to, what is metered of the products adds up
+-- to what all meters have counted
+abbrev pub DoProductsAddUp : Type 0
+DoProductsAddUp = (c : Configured) (rows : List Row)
+    → are_products c.products ≡ true → are_points c.products c.points ≡ true
+    → total (λ v. v.metered) (product_totals (site_of_rows (opening c) rows))
+    ≡ all_metered (site_of_rows (opening c) rows)

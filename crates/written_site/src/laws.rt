@@ -8,6 +8,7 @@ mod pointing;
 mod selling;
 mod shifts;
 mod signing;
+mod stepping;
 mod testing;
 
 ghost use Rattle.written_site.specs.Bridge.{AreLegalHistoriesRuns};
@@ -19,13 +20,14 @@ ghost use Rattle.written_site.specs.SoundRuns.{RunsStaySound};
 ghost use Rattle.written_site.specs.SoundSteps.{DoVolumesAddUp, FindsRoom};
 
 pub use fitting::every_figure_fits;
-pub use metering::{meters_by_rows, volumes_are_conserved};
+pub use metering::{meters_by_rows, products_add_up, volumes_are_conserved};
 pub use numbering::sales_are_numbered;
 pub use paying::{cleared_once, locked_by_one};
 pub use pointing::points_are_their_own;
 pub use selling::{priced_at_start, sales_are_kept};
 pub use shifts::{clears_are_counted, draws_are_counted, volumes_cleared_are_counted};
 pub use signing::{shift_by_rows, signed_on_by_rows};
+pub use stepping::{clears_are_told, refusals_leave_the_site};
 pub use testing::tests_are_apart;
 
 /// An event that isn't refused has passed each of the checks.

@@ -8,10 +8,11 @@
 mod laws;
 
 pub use laws::{
-    books_held_by_one, cleared_once, clears_are_counted, draws_are_counted, every_figure_fits,
-    figures_fit, figures_move, finds_room, held_by_one, holds_are_unended_takes,
+    books_held_by_one, cleared_once, clears_are_counted, clears_are_told, draws_are_counted,
+    every_figure_fits, figures_fit, figures_move, finds_room, held_by_one, holds_are_unended_takes,
     legal_histories_are_runs, locked_by_one, meters_by_rows, passes_each_check,
-    points_are_their_own, priced_at_start, runs_stay_sound, sales_are_kept, sales_are_numbered,
-    shift_by_rows, signed_on_by_rows, stays_sound, tests_are_apart, volumes_add_up,
-    volumes_are_conserved, volumes_cleared_are_counted,
+    points_are_their_own, priced_at_start, products_add_up, refusals_leave_the_site,
+    runs_stay_sound, sales_are_kept, sales_are_numbered, shift_by_rows, signed_on_by_rows,
+    stays_sound, tests_are_apart, volumes_add_up, volumes_are_conserved,
+    volumes_cleared_are_counted,
 };

@@ -7,7 +7,7 @@ use super::site::five_points;
 use counter_desk::{Desk, Naming, SettleFault, Settled, Share, Unsettled};
 use site_base::{
     Actor, Answer, Cents, Event, NoMemory, NoRow, PointState, Preset, ProductView, Refusal, Reply,
-    SiteConfig, growth_told,
+    SiteConfig, TILLS, growth_told,
 };
 use std::alloc::Global;
 use std::marker::Brand;
@@ -73,8 +73,8 @@ fn day_of<L: Ledger, C: Naming, R: Wait + Abort + Eprint>(
     match given {
         Ok(share) => {
             let mut share = share;
-            pay(rt, &desk, &mut share);
-            see(rt, alloc, &desk);
+            pay(rt, alloc, &desk, &mut share);
+            see(rt, alloc, &desk, 10);
             leave(rt, &desk, &mut share, 1);
             leave(rt, &desk, &mut share, 2);
             assert!(rt; share.calls() == 12 && share.cents() == 1_500);
@@ -107,103 +107,91 @@ fn settled_again<L: Ledger, C: Naming, R: Abort>(
     }
 }
 
-/// Makes a call. After a refused growth the share is as before, and the call is made again.
+/// Makes a call. After a refused growth the share and the site are as before, and the call is made
+/// again.
 fn told<L: Ledger, C: Naming, R: Wait + Abort + Eprint>(
     rt: &R,
+    alloc: Global,
     desk: &Desk<L, C>,
     share: &mut Share<L, C>,
     actor: &Actor,
     event: &Event,
 ) -> Reply {
-    let calls = share.calls();
+    let (calls, cents, millilitres) = (share.calls(), share.cents(), share.millilitres());
+    owes_both(rt, share, calls);
     match &desk.submit(rt, share, *actor, *event) {
         Ok(placed) => return placed.reply,
         Err(NoRow::NoMemory) => said(rt),
         Err(NoRow::BookFull) => panic!(rt; "the book is full"),
     }
     assert_eq!(rt; share.calls(), calls);
+    assert!(rt; share.cents() == cents && share.millilitres() == millilitres);
+    owes_both(rt, share, calls);
+    see(rt, alloc, desk, calls);
     match &desk.submit(rt, share, *actor, *event) {
         Ok(placed) => placed.reply,
         Err(_) => panic!(rt; "no row"),
     }
 }
 
+/// After the first call of the day the share owes till 1, after the second till 2 as well, and no
+/// other till.
+fn owes_both<L: Ledger, C: Naming, R: Abort>(rt: &R, share: &Share<L, C>, calls: u64) {
+    for number in 1..=TILLS {
+        let is_owed = u64::from(number) <= calls.min(2);
+        assert!(rt; share.owes(till(rt, number)) == is_owed, "another debt");
+    }
+}
+
 /// Tills 1 and 2 sign on. Till 1 sells 10,000 ml of diesel at point 1, and the sale is paid once.
 pub fn pay<L: Ledger, C: Naming, R: Wait + Abort + Eprint>(
     rt: &R,
+    alloc: Global,
     desk: &Desk<L, C>,
     share: &mut Share<L, C>,
 ) {
+    let open = Event::Open(point(rt, 1));
+    let release = Event::Release(point(rt, 1), Preset::Unset);
+    let lock = Event::Lock(point(rt, 1), sale(rt, 1));
+    let clear = Event::Clear(point(rt, 1), sale(rt, 1));
     let done = Ok(Answer::Done);
-    expect(rt, desk, share, 1, &Event::SignOn, &done);
-    expect(rt, desk, share, 2, &Event::SignOn, &done);
-    expect(rt, desk, share, 1, &Event::Open(point(rt, 1)), &done);
-    expect(
-        rt,
-        desk,
-        share,
-        1,
-        &Event::Release(point(rt, 1), Preset::Unset),
-        &done,
-    );
+    expect(rt, alloc, desk, share, 1, &Event::SignOn, &done);
+    expect(rt, alloc, desk, share, 2, &Event::SignOn, &done);
+    expect(rt, alloc, desk, share, 1, &open, &done);
+    expect(rt, alloc, desk, share, 1, &release, &done);
     let (dispenser, lifted) = &lift(rt, 1, 0);
-    assert!(rt; told(rt, desk, share, dispenser, lifted).is_ok());
+    assert!(rt; told(rt, alloc, desk, share, dispenser, lifted).is_ok());
     let (dispenser, hung_up) = &hang_up(rt, 1, 10_000);
-    assert!(rt; growth_told(&told(rt, desk, share, dispenser, hung_up)) == 10_000);
-    expect(
-        rt,
-        desk,
-        share,
-        1,
-        &Event::Lock(point(rt, 1), sale(rt, 1)),
-        &Ok(Answer::Locked),
-    );
+    assert!(rt; growth_told(&told(rt, alloc, desk, share, dispenser, hung_up)) == 10_000);
+    expect(rt, alloc, desk, share, 1, &lock, &Ok(Answer::Locked));
     let cleared = Ok(Answer::Cleared(Cents::new(1_500).expect(rt, "cents")));
-    expect(
-        rt,
-        desk,
-        share,
-        1,
-        &Event::Clear(point(rt, 1), sale(rt, 1)),
-        &cleared,
-    );
+    expect(rt, alloc, desk, share, 1, &clear, &cleared);
     let twice = Err(Refusal::AlreadyCleared(till(rt, 1)));
-    expect(
-        rt,
-        desk,
-        share,
-        1,
-        &Event::Clear(point(rt, 1), sale(rt, 1)),
-        &twice,
-    );
-    expect(
-        rt,
-        desk,
-        share,
-        2,
-        &Event::Lock(point(rt, 1), sale(rt, 1)),
-        &twice,
-    );
+    expect(rt, alloc, desk, share, 1, &clear, &twice);
+    expect(rt, alloc, desk, share, 2, &lock, &twice);
 }
 
 /// A call of a till is answered so.
 fn expect<L: Ledger, C: Naming, R: Wait + Abort + Eprint>(
     rt: &R,
+    alloc: Global,
     desk: &Desk<L, C>,
     share: &mut Share<L, C>,
     number: u8,
     event: &Event,
     reply: &Reply,
 ) {
-    let found = &told(rt, desk, share, &by_till(rt, number), event);
+    let found = &told(rt, alloc, desk, share, &by_till(rt, number), event);
     assert!(rt; found == reply, "answered otherwise");
 }
 
-/// The snapshot has the figures of that sale, and the point is idle.
+/// The snapshot has the figures of so many calls of that day, and the point is in the state that
+/// these led to.
 pub fn see<L: Ledger, C: Naming, R: Wait + Abort + Eprint>(
     rt: &R,
     alloc: Global,
     desk: &Desk<L, C>,
+    calls: u64,
 ) {
     let totals = match desk.snapshot(rt, alloc) {
         Ok(totals) => Ok(totals),
@@ -214,26 +202,46 @@ pub fn see<L: Ledger, C: Naming, R: Wait + Abort + Eprint>(
     };
     match totals {
         Ok(totals) => {
-            assert_eq!(rt; totals.rows, 10);
-            assert!(rt; totals.products.len() == 2 && totals.tills.len() == 32);
-            volumes(rt, &totals.products[0], 10_000);
-            volumes(rt, &totals.products[1], 0);
-            assert!(rt; totals.tills[0].1 == 1 && totals.tills[0].2 == 1_500);
-            assert!(rt; totals.tills[1].1 == 0 && totals.tills[1].2 == 0);
+            assert_eq!(rt; totals.rows, calls);
+            let (products, tills) = (totals.products.as_slice(), totals.tills.as_slice());
+            assert!(rt; products.len() == 2 && tills.len() == 32);
+            volumes(rt, &products[0], calls);
+            volumes(rt, &products[1], 0);
+            let (clears, cents) = if calls < 8 { (0, 0) } else { (1, 1_500) };
+            assert!(rt; tills[0].1 == clears && tills[0].2 == cents);
+            assert!(rt; tills[1].1 == 0 && tills[1].2 == 0);
         }
         Err(NoMemory) => panic!(rt; "no figures"),
     }
     match &desk.point(rt, point(rt, 1)) {
-        Some(view) => assert!(rt; view.state == PointState::Idle),
+        Some(view) => assert!(rt; view.state == state_after(calls)),
         None => panic!(rt; "no point"),
     }
 }
 
-/// All that was metered of the product is cleared.
-fn volumes(rt: &impl Abort, product: &ProductView, metered: u64) {
-    assert!(rt; product.metered == metered && product.cleared == metered);
-    assert!(rt; product.running == 0 && product.payable == 0);
-    assert!(rt; product.locked == 0 && product.adjusted == 0);
+/// The state of point 1 after so many calls: the third opens it, the fourth releases it, then a
+/// nozzle is lifted and put back.
+fn state_after(calls: u64) -> PointState {
+    match calls {
+        0..=2 => PointState::Closed,
+        4 => PointState::Authorised,
+        5 => PointState::Started,
+        _ => PointState::Idle,
+    }
+}
+
+/// The product's volumes after so many calls: the sixth makes a sale of 10,000 ml, the seventh
+/// locks it, and the eighth clears it.
+fn volumes(rt: &impl Abort, product: &ProductView, calls: u64) {
+    let (payable, locked, cleared) = match calls {
+        0..=5 => (0, 0, 0),
+        6 => (10_000, 0, 0),
+        7 => (0, 10_000, 0),
+        _ => (0, 0, 10_000),
+    };
+    assert!(rt; product.payable == payable && product.locked == locked);
+    assert!(rt; product.cleared == cleared && product.running == 0 && product.adjusted == 0);
+    assert!(rt; product.metered == if calls < 6 { 0 } else { 10_000 });
 }
 
 /// Signs off a till that the share owes.

@@ -47,8 +47,8 @@ fn day_of<L: Ledger, C: Naming, R: Wait + Abort + Eprint>(
     match root.give() {
         Ok(share) => {
             let mut share = share;
-            pay(rt, &desk, &mut share);
-            see(rt, alloc, &desk);
+            pay(rt, alloc, &desk, &mut share);
+            see(rt, alloc, &desk, 10);
             leave(rt, &desk, &mut share, 1);
             leave(rt, &desk, &mut share, 2);
             root.take_back(share);

@@ -2,10 +2,10 @@
 
 ghost use Rattle.std.specs.Prelude.{◌≡◌, ◌^◌};
 
-use super::site::{call, leave, lift, one_point, point, pump};
+use super::site::{call, leave, lift, one_point, point, pump, till};
 use counter_desk::{Desk, Naming, SettleFault, Settled, Share, Unsettled};
 use dispenser_sim::{Dispenser, DispenserEnd, DispenserFault, Script, Step};
-use site_base::{Event, NoMemory, Preset, SiteConfig};
+use site_base::{Event, NoMemory, PointState, Preset, SiteConfig};
 use std::alloc::{AllocError, Global};
 use std::marker::Brand;
 use std::process::Abort;
@@ -116,6 +116,7 @@ fn fuel<L: Ledger, C: Naming, R: Wait + Abort + Eprint>(
         Some(fault) => assert!(rt; fault == DispenserFault::NoMemory && taken < 4 && sold == 0),
     }
     said(rt);
+    see(rt, alloc, desk, &share, taken);
     let DispenserEnd {
         share,
         sold,
@@ -125,6 +126,46 @@ fn fuel<L: Ledger, C: Naming, R: Wait + Abort + Eprint>(
     assert!(rt; sold == 1 && refused == 0 && fault.is_none());
     assert_eq!(rt; share.calls().saturating_sub(before), 4);
     share
+}
+
+/// After so many steps of the run: the share made a call for each behind the three that released the
+/// point, it owes till 1, and the site has what these calls led to.
+fn see<L: Ledger, C: Naming, R: Wait + Abort>(
+    rt: &R,
+    alloc: Global,
+    desk: &Desk<L, C>,
+    share: &Share<L, C>,
+    taken: u64,
+) {
+    assert!(rt; share.calls() == taken.saturating_add(3) && share.owes(till(rt)));
+    assert!(rt; share.millilitres() == flowed(taken) && share.cents() == 0);
+    let state = match taken {
+        0 => PointState::Authorised,
+        1 => PointState::Started,
+        _ => PointState::Fuelling,
+    };
+    match &desk.point(rt, point(rt, 1)) {
+        Some(view) => assert!(rt; view.state == state && view.volume == flowed(taken)),
+        None => panic!(rt; "no point"),
+    }
+    match desk.snapshot(rt, alloc) {
+        Ok(totals) => {
+            assert_eq!(rt; totals.rows, share.calls());
+            let products = totals.products.as_slice();
+            assert!(rt; products.len() == 1 && products[0].running == flowed(taken));
+            assert!(rt; products[0].metered == flowed(taken) && products[0].payable == 0);
+        }
+        Err(NoMemory) => panic!(rt; "no figures"),
+    }
+}
+
+/// The millilitres that flowed in so many steps.
+fn flowed(taken: u64) -> u64 {
+    match taken {
+        0..=1 => 0,
+        2 => 2_000,
+        _ => 3_000,
+    }
 }
 
 /// The steps but for the first ones.

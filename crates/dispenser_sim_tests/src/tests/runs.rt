@@ -116,8 +116,9 @@ fn day_of<L: Ledger, C: Naming, R: Wait + Abort + Eprint>(
 
 /// The millilitres of diesel that are payable.
 fn payable(rt: &impl Abort, settled: &Settled) -> u64 {
-    assert_eq!(rt; settled.book.products.len(), 1);
-    settled.book.products[0].payable
+    let products = settled.book.products.as_slice();
+    assert_eq!(rt; products.len(), 1);
+    products[0].payable
 }
 
 #[test]

@@ -3,8 +3,8 @@
 use counter_desk::{Desk, Naming, Share};
 use dispenser_sim::Step;
 use site_base::{
-    Actor, Event, FpNo, Millilitres, Mills, NoMemory, NoRow, NozzleEntry, NozzleNo, PointEntry,
-    ProductEntry, ProductNo, SiteConfig, TillNo,
+    Actor, Event, FpNo, Listing, Millilitres, Mills, NoMemory, NoRow, NozzleEntry, NozzleNo,
+    PointEntry, ProductEntry, ProductName, ProductNo, SiteConfig, TillNo,
 };
 use std::alloc::Global;
 use std::process::Abort;
@@ -38,7 +38,7 @@ pub fn one_point(
     let mut products = Vec::new(alloc);
     products.push(ProductEntry {
         number,
-        name: String::from_str(alloc, "diesel")?,
+        name: ProductName::new(String::from_str(alloc, "diesel")?).expect(rt, "a name"),
         price: Mills::new(1500).expect(rt, "a price"),
     })?;
     let mut nozzles = Vec::new(alloc);
@@ -49,18 +49,20 @@ pub fn one_point(
     let mut points = Vec::new(alloc);
     points.push(PointEntry {
         number: point(rt, 1),
-        nozzles,
+        nozzles: Listing::from(nozzles),
     })?;
     Ok(SiteConfig::try_new(rows, Vec::new(alloc), products, points).expect(rt, "a site"))
 }
 
-/// Till 1 makes a call, which is accepted; once more, if a growth was refused.
+/// Till 1 makes a call, which is accepted; once more, if a growth was refused, and the share is as
+/// before.
 pub fn call<L: Ledger, C: Naming, R: Wait + Abort + Eprint>(
     rt: &R,
     desk: &Desk<L, C>,
     share: &mut Share<L, C>,
     event: &Event,
 ) {
+    let (calls, owes) = (share.calls(), share.owes(till(rt)));
     match &desk.submit(rt, share, Actor::Till(till(rt)), *event) {
         Ok(placed) => {
             assert!(rt; placed.reply.is_ok(), "refused");
@@ -71,6 +73,7 @@ pub fn call<L: Ledger, C: Naming, R: Wait + Abort + Eprint>(
         }
         Err(NoRow::BookFull) => panic!(rt; "the book is full"),
     }
+    assert!(rt; share.calls() == calls && share.owes(till(rt)) == owes);
     match &desk.submit(rt, share, Actor::Till(till(rt)), *event) {
         Ok(placed) => assert!(rt; placed.reply.is_ok(), "refused"),
         Err(_) => panic!(rt; "no row"),

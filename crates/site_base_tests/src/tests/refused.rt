@@ -2,8 +2,8 @@
 //! answers as ever.
 
 use site_base::{
-    Actor, Answer, Event, FpNo, Millilitres, Mills, NoMemory, NozzleEntry, PointEntry, PriceBook,
-    ProductEntry, ProductNo, Row, Rows, SiteConfig, TillNo,
+    Actor, Answer, Event, FpNo, Listing, Millilitres, Mills, NoMemory, NozzleEntry, PointEntry,
+    PriceBook, ProductEntry, ProductName, ProductNo, Row, Rows, SiteConfig, TillNo,
 };
 use std::alloc::Global;
 
@@ -17,16 +17,22 @@ fn site_of_petrol(alloc: Global) -> Result<Option<SiteConfig>, NoMemory> {
     ) else {
         return Ok(None);
     };
+    let Some(name) = ProductName::new(String::from_str(alloc, "petrol")?) else {
+        return Ok(None);
+    };
     let mut products = Vec::new(alloc);
     products.push(ProductEntry {
         number: product,
-        name: String::from_str(alloc, "petrol")?,
+        name,
         price,
     })?;
     let mut nozzles = Vec::new(alloc);
     nozzles.push(NozzleEntry { product, reading })?;
     let mut points = Vec::new(alloc);
-    points.push(PointEntry { number, nozzles })?;
+    points.push(PointEntry {
+        number,
+        nozzles: Listing::from(nozzles),
+    })?;
     Ok(SiteConfig::try_new(10, Vec::new(alloc), products, points))
 }
 

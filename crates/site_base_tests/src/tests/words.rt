@@ -1,8 +1,8 @@
 //! Words that no table of events shows yet, and the ends of the ranges of numbers.
 
 use site_base::{
-    Answer, FpNo, Mills, NozzleNo, PointState, PointView, Preset, ProductNo, ProductView, Refusal,
-    SaleId, Seq, ShiftNo, SiteView, TillNo,
+    Answer, Cents, FpNo, Millilitres, Mills, NozzleNo, PointState, PointView, Preset, ProductNo,
+    ProductView, Refusal, SaleId, Seq, ShiftNo, SiteView, TillNo,
 };
 use std::test::Fail;
 
@@ -94,4 +94,18 @@ fn ranges_end_where_the_profile_says(rt: HostRuntime) {
     assert_eq!(rt; ShiftNo::new(1), Some(ShiftNo::FIRST));
     assert!(rt; ShiftNo::new(999).is_some());
     assert!(rt; ShiftNo::new(1000).is_none());
+}
+
+#[test]
+fn amounts_end_where_the_profile_says(rt: HostRuntime) {
+    assert!(rt; Millilitres::new(0).is_some());
+    assert!(rt; Millilitres::new(999_999_999_999).is_some());
+    assert!(rt; Millilitres::new(1_000_000_000_000).is_none());
+    assert!(rt; Mills::new(0).is_none());
+    assert!(rt; Mills::new(1).is_some());
+    assert!(rt; Mills::new(99_999).is_some());
+    assert!(rt; Mills::new(100_000).is_none());
+    assert!(rt; Cents::new(0).is_some());
+    assert!(rt; Cents::new(9_999_900_000_000).is_some());
+    assert!(rt; Cents::new(9_999_900_000_001).is_none());
 }

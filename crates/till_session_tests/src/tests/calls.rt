@@ -15,6 +15,16 @@ pub const TWO_TILLS: &str = "01 01 02 01 00 41 00 04 01 01 31 00\
 pub const TWO_TILLS_TOLD: &str = "02 01 01 01 00 E1 00 08 01 01 01 01 00 03 01 00\
  02 01 01 01 00 E2 00 08 01 21 01 01 00 03 01 00 02 02 01 01 00 E3 00 05 01 01 01 01 39";
 
+/// Till 1 signs on, opens point 3, and reads it.
+pub const THREE_REQUESTS: &str = "01 01 02 01 00 41 00 04 01 01 31 00\
+ 01 01 02 01 00 42 00 04 01 23 3C 00 01 01 02 01 00 03 00 02 01 23";
+
+/// Both are acknowledged, and the point is shown: it is idle.
+pub const THREE_TOLD: &str = "02 01 01 01 00 E1 00 08 01 01 01 01 00 03 01 00\
+ 02 01 01 01 00 E2 00 08 01 23 01 01 00 03 01 00\
+ 02 01 01 01 00 23 00 1E 01 23 10 01 03 11 01 00 12 01 00 13 01 00 72 04 00 00 00 00\
+ 73 08 00 00 00 00 00 00 00 00";
+
 /// The octets that a text spells in hexadecimal, with spaces between them.
 pub fn octets(rt: &impl Abort, alloc: Global, text: &str) -> Result<Vec<u8>, NoMemory> {
     let mut digits = Vec::new(alloc);
@@ -65,7 +75,8 @@ fn report(rt: &impl Abort, reading: u64) -> (FpNo, NozzleNo, Millilitres) {
 }
 
 /// Tills 1 and 2 sign on; till 1 opens point 1 and releases it, 10,000 ml of diesel flow there, and
-/// till 1 locks the sale and clears it.
+/// till 1 locks the sale and clears it. Then till 1 clears it again, and till 2 locks it; both are
+/// refused.
 pub fn one_sale(rt: &impl Abort, alloc: Global) -> Result<Calls, NoMemory> {
     let mut calls = Vec::new(alloc);
     calls.push((by_till(rt, 1), Event::SignOn))?;
@@ -76,5 +87,7 @@ pub fn one_sale(rt: &impl Abort, alloc: Global) -> Result<Calls, NoMemory> {
     calls.push(hang_up(rt, 10_000))?;
     calls.push((by_till(rt, 1), Event::Lock(point(rt), sale(rt))))?;
     calls.push((by_till(rt, 1), Event::Clear(point(rt), sale(rt))))?;
+    calls.push((by_till(rt, 1), Event::Clear(point(rt), sale(rt))))?;
+    calls.push((by_till(rt, 2), Event::Lock(point(rt), sale(rt))))?;
     Ok(calls)
 }

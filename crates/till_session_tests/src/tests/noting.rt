@@ -1,6 +1,7 @@
 //! A counter that notes its calls.
 
 use site_base::{Actor, Event, NoRow, Reply, TillNo};
+use std::cell::Cell;
 use till_session::Counter;
 
 /// A call of a counter.
@@ -11,51 +12,83 @@ pub enum Call {
     Left(TillNo),
 }
 
-/// A counter that hands its calls on, and notes the last one and how many replies were written.
-pub struct Noting<K> {
-    counter: K,
-    last: Option<Call>,
-    written: u64,
+/// Of so many requests, the first ones, it is noted how much the peer was told by then.
+const FIRST: usize = 3;
+
+/// What was noted.
+#[derive(Clone, Copy, Debug)]
+pub struct Noted {
+    /// The last call.
+    pub last: Option<Call>,
+    /// How many requests were asked.
+    pub asked: usize,
+    /// How many replies were written.
+    pub written: usize,
+    /// How many octets the peer was told when each of the first requests was asked.
+    pub told_before: [u64; FIRST],
+    /// How many it was told when the reply to it was said to be written.
+    pub told_after: [u64; FIRST],
 }
 
-impl<K: Counter> Noting<K> {
-    pub fn new(counter: K) -> Noting<K> {
+/// A counter that hands its calls on, and notes them.
+pub struct Noting<'a, K> {
+    counter: K,
+    told: &'a Cell<u64>,
+    noted: Noted,
+}
+
+impl<'a, K: Counter> Noting<'a, K> {
+    /// A counter that hands its calls on to another, of a session whose peer was told so much.
+    pub fn new(counter: K, told: &'a Cell<u64>) -> Noting<'a, K> {
         Noting {
             counter,
-            last: None,
-            written: 0,
+            told,
+            noted: Noted {
+                last: None,
+                asked: 0,
+                written: 0,
+                told_before: [0; FIRST],
+                told_after: [0; FIRST],
+            },
         }
     }
 
-    /// The last call, the number of replies that were written, and the counter.
-    pub fn into_parts(self) -> (Option<Call>, u64, K) {
+    /// What was noted, and the counter.
+    pub fn into_parts(self) -> (Noted, K) {
         let Noting {
             counter,
-            last,
-            written,
+            told: _,
+            noted,
         } = self;
-        (last, written, counter)
+        (noted, counter)
     }
 }
 
-impl<K: Counter> Counter for Noting<K> {
+impl<'a, K: Counter> Counter for Noting<'a, K> {
     ghost rows = { λ n. K.rows n.counter };
 
     ghost owes = { λ n. K.owes n.counter };
 
     fn ask(&mut self, actor: Actor, event: Event) -> Result<Reply, NoRow> {
-        self.last = Some(Call::Asked);
+        self.noted.last = Some(Call::Asked);
+        if let Some(told) = self.noted.told_before.get_mut(self.noted.asked) {
+            *told = self.told.get();
+        }
+        self.noted.asked = self.noted.asked.saturating_add(1);
         self.counter.ask(actor, event)
     }
 
     fn written(&mut self, actor: Actor) {
-        self.last = Some(Call::Written);
-        self.written = self.written.saturating_add(1);
+        self.noted.last = Some(Call::Written);
+        if let Some(told) = self.noted.told_after.get_mut(self.noted.written) {
+            *told = self.told.get();
+        }
+        self.noted.written = self.noted.written.saturating_add(1);
         self.counter.written(actor);
     }
 
     fn leave(&mut self, till: TillNo) {
-        self.last = Some(Call::Left(till));
+        self.noted.last = Some(Call::Left(till));
         self.counter.leave(till);
     }
 }

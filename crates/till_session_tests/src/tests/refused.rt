@@ -2,7 +2,8 @@
 
 use super::calls::{TWO_TILLS, octets};
 use super::noting::Call;
-use super::sessions::{Peer, Seen, session};
+use super::peers::Peer;
+use super::sessions::{Seen, session};
 use super::site::five_points;
 use site_base::{NoMemory, SiteConfig, TillNo};
 use std::alloc::Global;
@@ -43,7 +44,7 @@ fn session_refused(rt: HostRuntime) -> Result<(), Fail> {
     }
     // A SignOn that was accepted is acknowledged by 8 octets behind the header; then till 1 is
     // left.
-    let left = seen.last == Some(Call::Left(TillNo::new(1).expect(&rt, "till 1")));
+    let left = seen.noted.last == Some(Call::Left(TillNo::new(1).expect(&rt, "till 1")));
     assert!(rt; seen.end.signed_off == left, "left, and not told so");
     assert!(rt; left || seen.told.get(7) != Some(&8), "not left last");
     // The comparison wants memory, too.

@@ -2,46 +2,27 @@
 
 ghost use Rattle.std.specs.Prelude.{◌≡◌, ◌^◌};
 
-use super::noting::{Call, Noting};
+use super::noting::{Noted, Noting};
+use super::peers::Peer;
 use counter_desk::{Desk, Naming, OpenGate, SettleFault, Settled, Share};
-use site_base::{Actor, Counted, Event, NoMemory, SiteConfig, TillNo};
+use site_base::{Actor, Counted, Event, NoMemory, SiteConfig, TILLS, TillNo};
 use std::alloc::Global;
+use std::cell::Cell;
+use std::io::{Read, Write};
 use std::marker::Brand;
 use std::process::Abort;
 use std::sync::Wait;
 use std::sync::ledger::{Blank, Ledger};
-use till_session::{DeskCounter, Faulty, Session, SessionEnd};
-
-/// What a session is served, and how its devices fail: at their call of that number, if there is
-/// one.
-pub struct Peer {
-    pub octets: Vec<u8>,
-    pub read_fails: u64,
-    pub write_fails: u64,
-    pub most: usize,
-    pub turns: u64,
-}
-
-impl Peer {
-    /// A peer whose devices don't fail.
-    pub fn of(octets: Vec<u8>) -> Peer {
-        Peer {
-            octets,
-            read_fails: 0,
-            write_fails: 0,
-            most: usize::MAX,
-            turns: 1_000_000,
-        }
-    }
-}
+use till_session::{DeskCounter, Session, SessionEnd};
 
 /// What was seen of a session.
 #[derive(Drop)]
 pub struct Seen {
     pub end: SessionEnd,
+    /// What the peer was told, and in how many calls of its writer.
     pub told: Vec<u8>,
-    pub last: Option<Call>,
-    pub written: u64,
+    pub calls: u64,
+    pub noted: Noted,
     pub settled: Settled,
 }
 
@@ -67,16 +48,11 @@ fn session_of<L: Ledger, C: Naming, R: Wait + Abort>(
     requires ledger { (blank.name ≡ L.name) × (blank.parts ≡ L.parts) × (blank.parts ≡ 2 ^ 63) }
     requires config { config.now ≡ C.config }
 {
-    let Peer {
-        octets,
-        read_fails,
-        write_fails,
-        most,
-        turns,
-    } = peer;
-    let room = Vec::with_capacity(alloc, 1_000)?;
-    let mut reader = Counted::new(Faulty::new(octets, read_fails, most));
-    let mut writer = Counted::new(Faulty::new(room, write_fails, most));
+    let turns = peer.turns;
+    let octets_told = Cell::new(0u64);
+    let (sender, taker) = peer.into_ends(Vec::with_capacity(alloc, 1_000)?, &octets_told);
+    let mut reader = Counted::new(sender);
+    let mut writer = Counted::new(taker);
     let (desk, root) = Desk::<L, C>::try_open(alloc, blank, config)?;
     let mut root = root;
     let mut share = root.give()?;
@@ -87,19 +63,27 @@ fn session_of<L: Ledger, C: Naming, R: Wait + Abort>(
             "no row"
         );
     }
-    let mut counter = Noting::new(DeskCounter::new(rt, &desk, &mut share, &OpenGate));
-    let end = Session::run(alloc, &mut reader, &mut writer, &mut counter, turns);
-    let (last, written, _counter) = counter.into_parts();
+    let (end, noted) = serve_noting(
+        rt,
+        alloc,
+        &desk,
+        &mut share,
+        &mut reader,
+        &mut writer,
+        &octets_told,
+        turns,
+    );
     leave_all(rt, &desk, &mut share);
     root.take_back(share);
     assert!(rt; root.out() == 0, "a share is out");
     let told = Vec::from_slice(alloc, writer.get_ref().octets())?;
+    let calls = writer.get_ref().calls();
     match desk.settle(alloc, root) {
         Ok(settled) => Ok(Seen {
             end,
             told,
-            last,
-            written,
+            calls,
+            noted,
             settled,
         }),
         Err(unsettled) => {
@@ -109,9 +93,27 @@ fn session_of<L: Ledger, C: Naming, R: Wait + Abort>(
     }
 }
 
+/// Serves a session by a counter that notes its calls.
+fn serve_noting<'a, L: Ledger, C: Naming, R: Wait, I: Read, O: Write>(
+    rt: &'a R,
+    alloc: Global,
+    desk: &'a Desk<L, C>,
+    share: &'a mut Share<L, C>,
+    reader: &mut Counted<I>,
+    writer: &mut Counted<O>,
+    octets_told: &Cell<u64>,
+    turns: u64,
+) -> (SessionEnd, Noted) {
+    let counter = DeskCounter::new(rt, desk, share, &OpenGate);
+    let mut counter = Noting::new(counter, octets_told);
+    let end = Session::run(alloc, reader, writer, &mut counter, turns);
+    let (noted, _counter) = counter.into_parts();
+    (end, noted)
+}
+
 /// Signs off each till that the share owes.
 fn leave_all<L: Ledger, C: Naming, R: Wait>(rt: &R, desk: &Desk<L, C>, share: &mut Share<L, C>) {
-    for number in 1..9 {
+    for number in 1..=TILLS {
         if let Some(till) = TillNo::new(number) {
             if share.owes(till) {
                 let _ = desk.leave(rt, share, till);

@@ -1,8 +1,8 @@
 //! The site of the tests.
 
 use site_base::{
-    FpNo, Millilitres, Mills, NoMemory, NozzleEntry, PointEntry, ProductEntry, ProductNo,
-    SiteConfig, TillNo,
+    FpNo, Listing, Millilitres, Mills, NoMemory, NozzleEntry, PointEntry, ProductEntry,
+    ProductName, ProductNo, SiteConfig, TillNo,
 };
 use std::alloc::Global;
 use std::process::Abort;
@@ -30,7 +30,7 @@ fn product(
     name: &str,
     price: u32,
 ) -> Result<ProductEntry, NoMemory> {
-    let name = String::from_str(alloc, name)?;
+    let name = ProductName::new(String::from_str(alloc, name)?).expect(rt, "a name");
     Ok(ProductEntry {
         number: ProductNo::new(number).expect(rt, "a product"),
         name,
@@ -44,7 +44,7 @@ fn point(rt: &impl Abort, alloc: Global, number: u8) -> Result<PointEntry, NoMem
     nozzles.push(nozzle(rt, 2, 1000))?;
     Ok(PointEntry {
         number: FpNo::new(number).expect(rt, "a point"),
-        nozzles,
+        nozzles: Listing::from(nozzles),
     })
 }
 

@@ -2,9 +2,10 @@
 
 ghost use Rattle.std.specs.Prelude.{◌≤◌};
 
-use super::calls::{TWO_TILLS, TWO_TILLS_TOLD, octets, one_sale};
+use super::calls::{THREE_REQUESTS, THREE_TOLD, TWO_TILLS, TWO_TILLS_TOLD, octets, one_sale};
 use super::noting::Call;
-use super::sessions::{Peer, session};
+use super::peers::Peer;
+use super::sessions::session;
 use super::site::five_points;
 use app_message::GrammarFault;
 use site_base::TillNo;
@@ -23,9 +24,9 @@ fn another_originator(rt: HostRuntime) -> Result<(), Fail> {
     );
     let changed = SessionFault::Talk(TalkFault::OriginatorChanged);
     assert!(rt; seen.end.fault == Some(changed) && changed.number() == 57);
-    assert!(rt; seen.end.asked == 2 && seen.end.signed_off && seen.written == 2);
+    assert!(rt; seen.end.asked == 2 && seen.end.signed_off && seen.noted.written == 2);
     assert!(rt;
-        seen.last == Some(Call::Left(TillNo::new(1).expect(&rt, "till 1"))),
+        seen.noted.last == Some(Call::Left(TillNo::new(1).expect(&rt, "till 1"))),
         "not left last"
     );
     assert!(rt; seen.settled.rows == 3 && seen.settled.shares == 1);
@@ -58,7 +59,7 @@ fn faults(rt: HostRuntime) -> Result<(), Fail> {
         let seen = session(&rt, alloc, &config, &[], peer)?;
         assert!(rt; seen.told == octets(&rt, alloc, told)?, "told otherwise");
         assert!(rt; seen.end.fault == Some(SessionFault::Talk(TalkFault::Stream(fault))));
-        assert!(rt; seen.end.asked == 0 && !seen.end.signed_off && seen.last.is_none());
+        assert!(rt; seen.end.asked == 0 && !seen.end.signed_off && seen.noted.last.is_none());
     }
     Ok(())
 }
@@ -97,9 +98,11 @@ fn flood(rt: HostRuntime) -> Result<(), Fail> {
     let seen = session(&rt, alloc, &config, &calls, Peer::of(input))?;
     assert!(rt; seen.told == told, "told otherwise");
     assert!(rt; seen.end.fault.is_none() && seen.end.asked == 10_000 && !seen.end.signed_off);
-    assert!(rt; seen.settled.cents == 1_500 && seen.settled.book.tills.len() == 32);
-    assert!(rt; seen.settled.book.tills[0].1 == 1);
-    assert_eq!(rt; seen.settled.rows, 10_010);
+    let tills = seen.settled.book.tills.as_slice();
+    assert!(rt; seen.settled.cents == 1_500 && tills.len() == 32);
+    assert!(rt; tills[0].1 == 1 && tills[0].2 == 1_500);
+    // Ten calls, ten thousand requests, and the sign-offs of both tills.
+    assert_eq!(rt; seen.settled.rows, 10_012);
     Ok(())
 }
 
@@ -107,20 +110,8 @@ fn flood(rt: HostRuntime) -> Result<(), Fail> {
 fn cut(rt: HostRuntime) -> Result<(), Fail> {
     let alloc = rt.alloc();
     let config = five_points(&rt, alloc, 1_000_000)?;
-    let input = octets(
-        &rt,
-        alloc,
-        "01 01 02 01 00 41 00 04 01 01 31 00 01 01 02 01 00 42 00 04 01 23 3C 00\
- 01 01 02 01 00 03 00 02 01 23",
-    )?;
-    let told = octets(
-        &rt,
-        alloc,
-        "02 01 01 01 00 E1 00 08 01 01 01 01 00 03 01 00\
- 02 01 01 01 00 E2 00 08 01 23 01 01 00 03 01 00\
- 02 01 01 01 00 23 00 1E 01 23 10 01 03 11 01 00 12 01 00 13 01 00 72 04 00 00 00 00\
- 73 08 00 00 00 00 00 00 00 00",
-    )?;
+    let input = octets(&rt, alloc, THREE_REQUESTS)?;
+    let told = octets(&rt, alloc, THREE_TOLD)?;
     assert!(rt; input.len() == 34 && told.len() == 70);
     for length in 0..35usize {
         let peer = Peer::of(Vec::from_slice(alloc, &input[..length])?);

@@ -2,7 +2,7 @@
 
 ghost use Rattle.written_site.specs.MeterLaws.{AreMetersRead};
 ghost use Rattle.written_site.specs.RowWords.{OfEvents, OfBooks};
-ghost use Rattle.written_site.specs.VolumeLaws.{AreVolumesConserved};
+ghost use Rattle.written_site.specs.VolumeLaws.{AreVolumesConserved, DoProductsAddUp};
 
 /// After every list of events from the opening site of any configuration each nozzle's meter began
 /// with the reading of its last accepted ReplaceMeter, else the configured one, and reads its last
@@ -22,4 +22,10 @@ pub fn meters_by_rows()
 pub fn volumes_are_conserved()
     ensures events { OfEvents AreVolumesConserved }
     ensures books { OfBooks AreVolumesConserved }
+{}
+
+/// Of a configuration whose products and points are fit: at the site that any rows lead to, the
+/// volumes metered of its products add up to what all its meters have counted.
+pub fn products_add_up()
+    ensures { DoProductsAddUp }
 {}

@@ -1,8 +1,9 @@
-use Rattle.std.proofs.Common.{◌≡◌, length, ap, sym, subst, ◌∙◌}
+use Rattle.std.proofs.Common.{◌≡◌, length, ap, refl, sym, subst, ◌∙◌}
 use Rattle.std.proofs.lemmas.List.{length-map}
 use Rattle.site_base.specs.declared.row.Row.{Row}
 use Rattle.site_base.specs.Events.{cents_told, growth_told}
 use Rattle.written_site.specs.RowWords.{total}
+use Rattle.counter_desk.specs.Kept.{book_of}
 use Rattle.counter_desk.specs.Marks.{AreAllMarked}
 use Rattle.counter_desk.specs.Receipts.{ReceiptList, cents_receipted, growth_receipted}
 use Rattle.counter_desk.specs.Roots.{lists_of}
@@ -22,7 +23,11 @@ returns-clause-ok g c =
     let cents = c.amounts-cents.ensures.cents ∙ ap (total cents_receipted) returned in
     let millilitres = c.amounts-cents.ensures.millilitres ∙ ap (total growth_receipted) returned in
     let grown = millilitres ∙ adds_up (λ (r : Row). growth_told r.reply) rows marks lists all as_long c.requires in
+    let config = g.C.Naming.config in
+    let sound = c.kept_histories_are_sound.ensures config (book_of config rows) (length rows)
+    (record { of = refl; legal = c.len-rows.ensures.legal; counted = refl }) in
     record {
+      sound = sound;
       dealt = dealt rows marks lists all as_long c.requires;
       rows = c.len-rows.ensures.rows;
       calls = c.len-rows.ensures.rows ∙ sym c.requires;
@@ -34,7 +39,7 @@ returns-clause-ok g c =
           ∙ sym c.in-Ok-totals.ensures.sums.cleared;
       millilitres = grown;
       millilitres_shared = millilitres;
-      metered = grown ∙ (c.volumes_are_conserved.ensures.books g.C.Naming.config rows c.len-rows.ensures.legal).grown;
+      metered = grown ∙ sound.conserved.grown;
       millilitres_booked = grown ∙ sym c.in-Ok-totals.ensures.sums.metered;
       shares = sym (length-map c.returned-returned.result.now (λ (l : ReceiptList). l.receipts)) ∙ ap length returned;
       book = c.in-Ok-totals.ensures.totals;

@@ -7,13 +7,13 @@ use Rattle.meters.proofs.meters.add_point.Goals as goal
 
 pub loop-place-preserved : goal.loop-place-preserved
 loop-place-preserved c =
-    let p = c.entry.inside.number in
+    let p = c.args.entry.now.number in
     let i = c.loop-place.place in
-    let es : List NozzleEntry = c.entry.inside.nozzles.items in
+    let es : List NozzleEntry = c.args.entry.now.nozzles in
     let e : NozzleEntry = c.nozzle-item.result in
     let items : List Nozzle = c.loop-place.meters.items in
-    let same = c.deref-nozzle-items.ensures.value in
-    let kept = rw (← c.entry.view_is) at c.loop-place.invariant in
+    let same = c.as_slice-nozzle-items.ensures in
+    let kept = c.loop-place.invariant in
     let left : drop i es ≡ get_or es i e ∷ drop (i + 1) es =
     rw add-one (drop-cons es i e (omega (arith, ap length same))) in
     let first : c.opened.result ≡ opened p (i + 1) (get_or es i e) =
@@ -23,7 +23,7 @@ loop-place-preserved c =
     ≡ numbered p (i + 1) (drop i es) =
     ap (λ x. x ∷ numbered p (i + 1 + 1) (drop (i + 1) es)) first
     ∙ sym (ap (numbered p (i + 1)) left) in
-    rw (← c.entry.view_is) (record {
+    record {
       added = ap (λ xs. xs ++ numbered p (i + 1 + 1) (drop (i + 1) es)) c.in_ok-push.ensures.items
           ∙ append_assoc items (c.opened.result ∷ []) (numbered p (i + 1 + 1) (drop (i + 1) es))
           ∙ ap (λ xs. items ++ xs) step ∙ kept.added;
@@ -31,4 +31,4 @@ loop-place-preserved c =
       bounds = subst EachMetered (sym c.in_ok-push.ensures.items)
           (each_joined items (c.opened.result ∷ []) c.loop-place.invariant.bounds
           (c.opened.ensures.bounds, tt));
-    })
+    }

@@ -1,14 +1,14 @@
 use Rattle.std.proofs.Common.{ap, ◌∙◌, List, refl}
 use Rattle.std.specs.Map.{values_of}
-use Rattle.site_base.specs.Configured.{ConfiguredProduct, has_product}
+use Rattle.site_base.specs.declared.config.ProductEntry.{ProductEntry}
+use Rattle.site_base.specs.Configured.{has_product}
 use Rattle.site_file.proofs.Numbered.{inserted, are_by_number-push, values_of-push}
 use Rattle.site_file.proofs.by_number.Products.push.Goals as goal
 
 pub invariant_of-self-2 : goal.invariant_of-self-2
 invariant_of-self-2 c =
-    let key = c.from-number.ensures ∙ c.get.ensures.value
-    ∙ ap (λ (p : ConfiguredProduct). p.number) c.product.view_is in
-    let new = ap (λ (ps : List ConfiguredProduct). has_product ps c.args.product.number) c.self.view_is
+    let key = c.from-number.ensures ∙ c.get.ensures.value in
+    let new = ap (λ (ps : List ProductEntry). has_product ps c.args.product.number) c.self.view_is
     ∙ c.requires.new in
     let added = c.in_ok-insert.ensures.entries
     ∙ inserted c.self.inside.by_number _ c.args.product key c.self.invariant new in
@@ -16,9 +16,8 @@ invariant_of-self-2 c =
 
 pub returns-clause-ok : goal.returns-clause-ok
 returns-clause-ok c =
-    let key = c.from-number.ensures ∙ c.get.ensures.value
-    ∙ ap (λ (p : ConfiguredProduct). p.number) c.product.view_is in
-    let new = ap (λ (ps : List ConfiguredProduct). has_product ps c.args.product.number) c.self.view_is
+    let key = c.from-number.ensures ∙ c.get.ensures.value in
+    let new = ap (λ (ps : List ProductEntry). has_product ps c.args.product.number) c.self.view_is
     ∙ c.requires.new in
     let added = c.in_ok-insert.ensures.entries
     ∙ inserted c.self.inside.by_number _ c.args.product key c.self.invariant new in

@@ -1,0 +1,47 @@
+//! The end of a day: its desk is settled, whatever came back.
+
+ghost use Rattle.std.specs.Prelude.{◌≡◌, ◌≢◌, IfErr, IfOk, OnOk};
+ghost use Rattle.counter_desk.specs.Settlement.{IsFaultIn, IsFaultOut, Settles};
+
+use crate::desk::Desk;
+use crate::naming::Naming;
+use crate::root::Root;
+use crate::settlement::{SettleFault, Settled, Unsettled};
+use site_base::NoMemory;
+use std::alloc::Global;
+use std::sync::Wait;
+use std::sync::ledger::Ledger;
+
+/// Settles a desk whose workers have ended: what it answers are the figures of the receipts that
+/// came back. It fails where a receipt is strange, and where a share is out: then the place behind
+/// the last row is told, or want of memory. Where it fails, desk and root are handed back.
+pub fn settle_all<L: Ledger, C: Naming, R: Wait>(
+    rt: &R,
+    alloc: Global,
+    desk: Desk<L, C>,
+    root: Root<L, C>,
+) -> Result<Settled, Unsettled<L, C>>
+    ensures all_back { OnOk result (root.out ≡ 0) }
+    ensures settled { IfOk result (λ settled. Settles C.config root.lists settled) }
+    ensures fault { root.out ≡ 0
+        → IfErr result (λ unsettled. IsFaultIn C.config root.lists unsettled.fault) }
+    ensures out { root.out ≢ 0
+        → IfErr result (λ unsettled. IsFaultOut C.config unsettled.fault) }
+    ensures root { IfErr result (λ unsettled. unsettled.root ≡ root) }
+{
+    if root.out() == 0 {
+        return desk.settle(alloc, root);
+    }
+    let fault = fault_out(rt, alloc, &desk);
+    Err(Unsettled { fault, desk, root })
+}
+
+/// What is told where a share is out.
+fn fault_out<L: Ledger, C: Naming, R: Wait>(rt: &R, alloc: Global, desk: &Desk<L, C>) -> SettleFault
+    ensures { IsFaultOut C.config result }
+{
+    match desk.snapshot(rt, alloc) {
+        Ok(totals) => SettleFault::StrangeReceipt(totals.rows),
+        Err(NoMemory) => SettleFault::NoMemory,
+    }
+}

@@ -1,0 +1,4 @@
+//! What no clause says.
+
+mod days;
+mod turns;

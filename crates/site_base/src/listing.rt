@@ -1,0 +1,46 @@
+//! Lists that a record holds as one of its fields.
+
+use std::marker::Model;
+
+/// The members of a list, in their order. It is made from a `Vec` and gives it back, both without
+/// memory; contracts see the list, and nothing of the room that it is kept in.
+#[derive(Debug, Drop)]
+pub struct Listing<T> {
+    members: Vec<T>,
+}
+
+impl<T> Model for Listing<T> {
+    ghost use Rattle.std.specs.Prelude.{List};
+
+    ghost Value = { List T };
+
+    ghost view = { λ l. l.members.items };
+}
+
+impl<T> Listing<T> {
+    ghost use Rattle.std.specs.Prelude.{◌≡◌};
+
+    /// The members, in order.
+    pub fn as_slice(&self) -> &[T]
+        ensures { result.now ≡ self.now }
+    {
+        &self.members
+    }
+
+    /// The members, as a `Vec` again.
+    pub fn into_vec(self) -> Vec<T>
+        ensures { result.items ≡ self }
+    {
+        self.members
+    }
+}
+
+impl<T> From<Vec<T>> for Listing<T> {
+    ghost use Rattle.std.specs.Prelude.{◌≡◌};
+
+    ghost from_gives = { λ members l. l ≡ members.items };
+
+    fn from(members: Vec<T>) -> Self {
+        Listing { members }
+    }
+}

@@ -1,0 +1,151 @@
+//! The peer of a session: what it sends and when, what it takes, and how its devices fail.
+
+use std::cell::Cell;
+use std::io::{self, ErrorKind, Read, Write};
+use till_session::Faulty;
+
+/// A client that doesn't wait for replies: all that it has is there to be read at once.
+const AT_ONCE: &[(u64, usize)] = &[(0, usize::MAX)];
+
+/// What a session is served, and how its devices fail: at their call of that number, if there is
+/// one.
+#[derive(Drop)]
+pub struct Peer {
+    /// What it sends in all.
+    pub octets: Vec<u8>,
+    /// Once it was told so many octets, it has sent so many.
+    pub sends: &'static [(u64, usize)],
+    pub read_fails: u64,
+    pub write_fails: u64,
+    /// No read, and no write, moves more octets.
+    pub read_most: usize,
+    pub write_most: usize,
+    /// From its write call of this number on, so many are interrupted.
+    pub interrupted_from: u64,
+    pub interruptions: u64,
+    pub turns: u64,
+}
+
+impl Peer {
+    /// A peer that doesn't wait for replies, and whose devices don't fail.
+    pub fn of(octets: Vec<u8>) -> Peer {
+        Peer {
+            octets,
+            sends: AT_ONCE,
+            read_fails: 0,
+            write_fails: 0,
+            read_most: usize::MAX,
+            write_most: usize::MAX,
+            interrupted_from: 1,
+            interruptions: 0,
+            turns: 1_000_000,
+        }
+    }
+
+    /// The same peer, whose calls move at most so many octets.
+    pub fn in_pieces(self, most: usize) -> Peer {
+        let mut peer = self;
+        peer.read_most = most;
+        peer.write_most = most;
+        peer
+    }
+
+    /// What the session reads, and what it writes to: it takes what it is told in this room, and
+    /// counts there how much it was told.
+    pub fn into_ends<'a>(self, room: Vec<u8>, told: &'a Cell<u64>) -> (Sender<'a>, Taker<'a>) {
+        let sender = Sender {
+            size: self.octets.len(),
+            memory: Faulty::new(self.octets, self.read_fails, self.read_most),
+            sends: self.sends,
+            most: self.read_most,
+            read: 0,
+            told,
+        };
+        let taker = Taker {
+            memory: Faulty::new(room, self.write_fails, self.write_most),
+            interrupted_from: self.interrupted_from,
+            interruptions: self.interruptions,
+            calls: 0,
+            told,
+        };
+        (sender, taker)
+    }
+}
+
+/// What a peer sends.
+#[derive(Drop)]
+pub struct Sender<'a> {
+    memory: Faulty,
+    size: usize,
+    sends: &'static [(u64, usize)],
+    most: usize,
+    read: usize,
+    told: &'a Cell<u64>,
+}
+
+impl<'a> Sender<'a> {
+    /// How many octets it has sent by now.
+    fn sent(&self) -> usize {
+        let mut sent = 0;
+        for (told, size) in self.sends {
+            if *told <= self.told.get() {
+                sent = *size;
+            }
+        }
+        sent.min(self.size)
+    }
+}
+
+impl<'a> Read for Sender<'a> {
+    /// A read that would wait for good, for octets that the peer doesn't send before it is told
+    /// more, fails.
+    fn read(&mut self, buf: &mut [u8]) -> io::Result<usize> {
+        let rest = self.sent().saturating_sub(self.read);
+        if rest == 0 && self.read < self.size {
+            return Err(io::Error::from(ErrorKind::WouldBlock));
+        }
+        let most = buf.len().min(self.most).min(rest);
+        let n = self.memory.read(&mut buf[..most])?;
+        self.read = self.read.saturating_add(n);
+        Ok(n)
+    }
+}
+
+/// What a peer takes.
+#[derive(Drop)]
+pub struct Taker<'a> {
+    memory: Faulty,
+    interrupted_from: u64,
+    interruptions: u64,
+    calls: u64,
+    told: &'a Cell<u64>,
+}
+
+impl<'a> Taker<'a> {
+    /// What it was told.
+    pub fn octets(&self) -> &[u8] {
+        self.memory.octets()
+    }
+
+    /// How often it was called, interrupted calls too.
+    pub fn calls(&self) -> u64 {
+        self.calls
+    }
+}
+
+impl<'a> Write for Taker<'a> {
+    fn write(&mut self, buf: &[u8]) -> io::Result<usize> {
+        self.calls = self.calls.saturating_add(1);
+        let is_due = self.calls >= self.interrupted_from;
+        if is_due && self.calls.saturating_sub(self.interrupted_from) < self.interruptions {
+            return Err(io::Error::from(ErrorKind::Interrupted));
+        }
+        let n = self.memory.write(buf)?;
+        self.told.set(self.told.get().saturating_add(n as u64));
+        Ok(n)
+    }
+
+    fn flush(&mut self) -> io::Result<()> {
+        Ok(())
+    }
+}
