@@ -109,7 +109,7 @@ fn settled_again<L: Ledger, C: Naming, R: Abort>(
 
 /// Makes a call. After a refused growth the share and the site are as before, and the call is made
 /// again.
-fn told<L: Ledger, C: Naming, R: Wait + Abort + Eprint>(
+fn make_call<L: Ledger, C: Naming, R: Wait + Abort + Eprint>(
     rt: &R,
     alloc: Global,
     desk: &Desk<L, C>,
@@ -160,9 +160,9 @@ pub fn pay<L: Ledger, C: Naming, R: Wait + Abort + Eprint>(
     expect(rt, alloc, desk, share, 1, &open, &done);
     expect(rt, alloc, desk, share, 1, &release, &done);
     let (dispenser, lifted) = &lift(rt, 1, 0);
-    assert!(rt; told(rt, alloc, desk, share, dispenser, lifted).is_ok());
+    assert!(rt; make_call(rt, alloc, desk, share, dispenser, lifted).is_ok());
     let (dispenser, hung_up) = &hang_up(rt, 1, 10_000);
-    assert!(rt; growth_told(&told(rt, alloc, desk, share, dispenser, hung_up)) == 10_000);
+    assert!(rt; growth_told(&make_call(rt, alloc, desk, share, dispenser, hung_up)) == 10_000);
     expect(rt, alloc, desk, share, 1, &lock, &Ok(Answer::Locked));
     let cleared = Ok(Answer::Cleared(Cents::new(1_500).expect(rt, "cents")));
     expect(rt, alloc, desk, share, 1, &clear, &cleared);
@@ -181,7 +181,7 @@ fn expect<L: Ledger, C: Naming, R: Wait + Abort + Eprint>(
     event: &Event,
     reply: &Reply,
 ) {
-    let found = &told(rt, alloc, desk, share, &by_till(rt, number), event);
+    let found = &make_call(rt, alloc, desk, share, &by_till(rt, number), event);
     assert!(rt; found == reply, "answered otherwise");
 }
 
