@@ -20,9 +20,9 @@ pub fn ended(rt: &impl Eprint, fault: Option<ReplayFault>) -> ExitCode {
 }
 
 /// Tells why the day of a server or of a demo ended without its report, if it did.
-pub fn day_ended(rt: &impl Eprint, end: Result<(), DayFault>) -> ExitCode {
+pub fn day_ended<E: Drop>(rt: &impl Eprint, end: Result<E, DayFault>) -> ExitCode {
     match end {
-        Ok(()) => ExitCode::SUCCESS,
+        Ok(_) => ExitCode::SUCCESS,
         Err(fault) => told(eprintln!(rt; "{fault}"), fault.exit_status()),
     }
 }

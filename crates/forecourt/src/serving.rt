@@ -44,7 +44,7 @@ fn day<T: Threads + Wait + Sync>(
     let listener = Loopback::bind(rt, plan.port)?;
     let mut writer = Counted::new(rt.stdout());
     let mut left = turns;
-    serve_day(
+    let _settled = serve_day(
         threads,
         rt.alloc(),
         config,
@@ -52,5 +52,6 @@ fn day<T: Threads + Wait + Sync>(
         plan,
         &mut left,
         &mut writer,
-    )
+    )?;
+    Ok(())
 }

@@ -12,13 +12,12 @@ pub are_served : (turns : ℕ) (messages : List Telegram) (octets begun : List �
     (left told : Option (List ℕ)) (rows rows_new : List Row) (old : List Receipt) (end : SessionEnd)
     → octets ≡ octets_of messages → begun ≡ [] → rows ≡ map receipted_row old
     → Served turns (Some octets) left (Some begun) told rows rows_new end
-    → AreServed turns messages old
+    → AreServed turns messages old end
 are_served turns messages octets begun left told rows rows_new old end spelled empty receipted served =
     record {
       left = left;
       told = told;
       rows = rows_new;
-      end = end;
       served =
           subst (λ r. Served turns (Some r) left (Some []) told (map receipted_row old) rows_new end)
           spelled

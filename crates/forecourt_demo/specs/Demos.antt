@@ -6,28 +6,19 @@ use Rattle.site_base.specs.declared.event.Event.{Event}
 use Rattle.site_base.specs.Configured.{Configured}
 use Rattle.site_base.specs.Devices.{AppendsFront}
 use Rattle.counter_desk.specs.declared.receipt.Receipt.{Receipt}
-use Rattle.counter_desk.specs.declared.settlement.Settled.{Settled}
-use Rattle.counter_desk.specs.declared.worker.ListEnd.{ListEnd}
 use Rattle.counter_desk.specs.Settlement.{Settles}
 use Rattle.counter_desk.specs.Work.{Works}
 use Rattle.forecourt_engines.specs.Report.{report_text}
+use Rattle.forecourt_demo.specs.declared.day.DemoEnd.{DemoEnd}
 
 -- A demo's day is settled: the receipts of the sections' workers, and last those of the worker that
--- made the setup's calls, add up to a legal history of this configuration.
-pub record IsSettledDemo (config : Configured) (setup : List (Actor × Event))
-    (settled : Settled) : Type 0 where
+-- made the setup's calls and ended so, add up to a legal history of this configuration.
+pub record IsSettledDemo (config : Configured) (setup : List (Actor × Event)) (end : DemoEnd)
+    : Type 0 where
   pub sections : List (List Receipt)
   pub receipts : List Receipt
-  pub end : ListEnd
-  pub worked : Works config setup [] receipts end
-  pub adds_up : Settles config (sections ++ receipts ∷ []) settled
-
--- the report of a demo that is settled
-pub record TellsReport (config : Configured) (setup : List (Actor × Event))
-    (holds holds' : Option (List ℕ)) : Type 0 where
-  pub settled : Settled
-  pub adds_up : IsSettledDemo config setup settled
-  pub told : Appends holds holds' (report_text config settled.book settled.shares)
+  pub worked : Works config setup [] receipts end.setup
+  pub adds_up : Settles config (sections ++ receipts ∷ []) end.settled
 
 -- However a demo ends, nothing else was written: nothing, or a front of the report of a demo that
 -- is settled.
@@ -35,5 +26,5 @@ abbrev pub TellsReportFront : Configured → List (Actor × Event) → Option (L
     → Option (List ℕ) → Type 0
 TellsReportFront config setup holds holds' =
     Appends holds holds' []
-    ⊎ ((settled : Settled) × IsSettledDemo config setup settled
-    × AppendsFront holds holds' (report_text config settled.book settled.shares))
+    ⊎ ((end : DemoEnd) × IsSettledDemo config setup end
+    × AppendsFront holds holds' (report_text config end.settled.book end.settled.shares))

@@ -1,15 +1,17 @@
 //! A demo, from its setup to its report.
 
 ghost use Rattle.std.specs.Prelude.{◌≡◌, ◌^◌, IfOk, OnOk};
+ghost use Rattle.std.specs.Io.KnownBytes.{Appends};
 ghost use Rattle.std.specs.Result.{IsErrOf};
 ghost use Rattle.site_base.specs.Counted.{device_of, failures_of};
 ghost use Rattle.site_base.specs.Devices.{one_more};
-ghost use Rattle.forecourt_demo.specs.Demos.{IsSettledDemo, TellsReport, TellsReportFront};
+ghost use Rattle.forecourt_engines.specs.Report.{report_text};
+ghost use Rattle.forecourt_demo.specs.Demos.{IsSettledDemo, TellsReportFront};
 
 use crate::fault::DemoFault;
 use crate::loopback::run_over_loopback;
 use crate::memory::run_over_memory;
-use counter_desk::{Desk, Naming, OpenGate, Root, Settled, settle_all, work};
+use counter_desk::{Desk, ListEnd, Naming, OpenGate, Root, Settled, settle_all, work};
 use demo_script::DemoScript;
 use forecourt_server::{DayFault, put_report};
 use site_base::{Counted, SiteConfig, WriteFault};
@@ -34,10 +36,19 @@ pub struct DemoPlan {
     pub turns: u64,
 }
 
-/// Runs the demo of a script on the site of this configuration, and writes the report of what was
-/// settled, whose interrupted calls take `turns`. However it ends, what it wrote is a front of
-/// that. `Write` comes where the writer failed in the call, or was interrupted until no turn was
-/// left.
+/// How a demo ended.
+#[derive(Drop)]
+pub struct DemoEnd {
+    /// How the calls of its setup ended.
+    pub setup: ListEnd,
+    /// What was settled.
+    pub settled: Settled,
+}
+
+/// Runs the demo of a script on the site of this configuration, writes the report of what was
+/// settled, and answers with it. The interrupted calls of the report's write take `turns`. However
+/// it ends, what it wrote is a front of that report. `Write` comes where the writer failed in the
+/// call, or was interrupted until no turn was left.
 pub fn demo_day<
     W: Write,
     N: Net<Listener = TcpListener, Stream = TcpStream>,
@@ -51,9 +62,11 @@ pub fn demo_day<
     plan: DemoPlan,
     turns: &mut u64,
     writer: &mut Counted<W>,
-) -> Result<(), DayFault>
-    ensures told { OnOk result (TellsReport config.now script.now.setup
-        (W.contents (device_of writer.old)) (W.contents (device_of writer.new))) }
+) -> Result<DemoEnd, DayFault>
+    ensures settled { IfOk result (λ end. IsSettledDemo config.now script.now.setup end) }
+    ensures told { IfOk result (λ end. Appends
+        (W.contents (device_of writer.old)) (W.contents (device_of writer.new))
+        (report_text config.now end.settled.book end.settled.shares)) }
     ensures front { TellsReportFront config.now script.now.setup
         (W.contents (device_of writer.old)) (W.contents (device_of writer.new)) }
 
@@ -63,8 +76,9 @@ pub fn demo_day<
         → failures_of writer.new ≡ one_more (failures_of writer.old) }
     ensures limit { IsErrOf result (DayFault.Write WriteFault.TurnLimit) → turns.new ≡ 0 }
 {
-    let settled = demo(net, rt, alloc, config, script, plan)?;
-    put_report(alloc, config, &settled, writer, turns)
+    let end = demo(net, rt, alloc, config, script, plan)?;
+    put_report(alloc, config, &end.settled, writer, turns)?;
+    Ok(end)
 }
 
 /// Runs the demo of a script on the site of this configuration. One worker makes the calls of the
@@ -74,7 +88,8 @@ pub fn demo_day<
 /// settled. What ends one worker's work early doesn't end the demo, but `NoWorker` where one
 /// couldn't be started, and `NoConnection` where a socket couldn't be had.
 ///
-/// What is settled ends with the receipts of the setup's worker, which did the setup's calls. Of
+/// What is settled ends with the receipts of the setup's worker, which did the setup's calls, all of
+/// them where its end has no fault. Of
 /// the sections' receipts a contract can't say more than that they add up with these: their shares
 /// come back through the root's lock, which forgets all but its type. What each worker does through
 /// its share stands at `work_through` (`IsWorkedAt`).
@@ -85,8 +100,8 @@ pub fn demo<N: Net<Listener = TcpListener, Stream = TcpStream>, R: Threads + Wai
     config: &SiteConfig,
     script: &DemoScript,
     plan: DemoPlan,
-) -> Result<Settled, DemoFault>
-    ensures settled { IfOk result (λ settled. IsSettledDemo config.now script.now.setup settled) }
+) -> Result<DemoEnd, DemoFault>
+    ensures settled { IfOk result (λ end. IsSettledDemo config.now script.now.setup end) }
 {
     let blank = Blank::new(PARTS);
     day_of::<Brand, Brand, N, R>(net, rt, alloc, blank, config, script, plan)
@@ -106,20 +121,21 @@ fn day_of<
     config: &SiteConfig,
     script: &DemoScript,
     plan: DemoPlan,
-) -> Result<Settled, DemoFault>
+) -> Result<DemoEnd, DemoFault>
     requires ledger { (blank.name ≡ L.name) × (blank.parts ≡ L.parts) × (blank.parts ≡ 2 ^ 63) }
     requires config { config.now ≡ C.config }
-    ensures settled { IfOk result (λ settled. IsSettledDemo config.now script.now.setup settled) }
+    ensures settled { IfOk result (λ end. IsSettledDemo config.now script.now.setup end) }
 {
     let (desk, mut root) = Desk::<L, C>::try_open(alloc, blank, config)?;
     let mut share = root.give()?;
-    let _end = work(rt, &desk, &mut share, &OpenGate, script.setup());
+    let setup = work(rt, &desk, &mut share, &OpenGate, script.setup());
     let root = Mutex::new(root);
     let worked = run_sections(net, rt, alloc, config, &desk, &root, script, plan);
     let mut root = root.into_inner();
     root.take_back(share);
     worked?;
-    Ok(settle_all(rt, alloc, desk, root)?)
+    let settled = settle_all(rt, alloc, desk, root)?;
+    Ok(DemoEnd { setup, settled })
 }
 
 /// Works at the sections side by side, each through a share of its own.

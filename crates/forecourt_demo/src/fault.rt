@@ -13,7 +13,8 @@ pub enum DemoFault {
     /// A growth was refused.
     #[error("fault 31")]
     NoMemory,
-    /// The receipt of this place is strange.
+    /// It isn't settled: the receipt of this place is strange, or a share is out, and there are so
+    /// many rows.
     #[error("unsettled 60 place {0}")]
     Unsettled(u64),
     /// It can't listen, or a connection couldn't be made.

@@ -11,5 +11,5 @@ mod memory;
 mod section;
 mod workers;
 
-pub use day::{DemoPlan, demo, demo_day};
+pub use day::{DemoEnd, DemoPlan, demo, demo_day};
 pub use fault::DemoFault;

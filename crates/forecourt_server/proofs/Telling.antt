@@ -1,29 +1,27 @@
 -- What a day tells, from its two writes.
-use Rattle.std.proofs.Common.{◌≡◌, ℕ, List, Option, Result, Ok, Err, OnOk, inl, inr, subst, sym}
+use Rattle.std.proofs.Common.{◌≡◌, ℕ, List, Option, inl, inr, subst, sym}
 use Rattle.std.specs.Io.KnownBytes.{Appends}
 use Rattle.site_base.specs.Configured.{Configured}
 use Rattle.site_base.specs.Devices.{AppendsFront}
 use Rattle.site_base.proofs.Known.{Appends-then, Appends-front}
 use Rattle.counter_desk.specs.declared.settlement.Settled.{Settled}
 use Rattle.forecourt_engines.specs.Report.{report_text}
-use Rattle.forecourt_server.specs.Days.{IsSettledDay, listening_line, TellsDay, TellsDayFront}
+use Rattle.forecourt_server.specs.Days.{IsSettledDay, TellsDayFront, day_text, listening_line}
 
--- where it listens was written, and then, if it ended well, the report of a day that is settled
-pub tells_day : {X E : Type 0} (r : Result X E) (config named : Configured)
-    (u v w : Option (List ℕ)) (said port : ℕ) (settled : Settled)
-    → said ≡ port → config ≡ named → IsSettledDay named settled
-    → Appends u v (listening_line said)
-    → OnOk r (Appends v w (report_text config settled.book settled.shares))
-    → OnOk r (TellsDay config port u w)
-tells_day (Ok x) config named u v w said port settled same_port same adds_up line report =
-    record {
-      settled = settled;
-      adds_up = subst (λ (c : Configured). IsSettledDay c settled) (sym same) adds_up;
-      told = Appends-then u v w (listening_line port)
-          (report_text config settled.book settled.shares)
-          (subst (λ (n : ℕ). Appends u v (listening_line n)) same_port line) report;
-    }
-tells_day (Err e) config named u v w said port settled same_port same adds_up line report = report
+-- a day of the configuration of this name
+pub settled_day : (config named : Configured) (settled : Settled) → config ≡ named
+    → IsSettledDay named settled → IsSettledDay config settled
+settled_day config named settled same adds_up =
+    subst (λ (c : Configured). IsSettledDay c settled) (sym same) adds_up
+
+-- where it listens was written, and then the report
+pub tells_day : (config : Configured) (u v w : Option (List ℕ)) (said port : ℕ) (settled : Settled)
+    → said ≡ port → Appends u v (listening_line said)
+    → Appends v w (report_text config settled.book settled.shares)
+    → Appends u w (day_text config port settled)
+tells_day config u v w said port settled same_port line report =
+    Appends-then u v w (listening_line port) (report_text config settled.book settled.shares)
+    (subst (λ (n : ℕ). Appends u v (listening_line n)) same_port line) report
 
 -- a front of the line
 pub tells_line : (config : Configured) (u v : Option (List ℕ)) (said port : ℕ) → said ≡ port
@@ -40,7 +38,7 @@ pub tells_front : (config named : Configured) (u v w : Option (List ℕ)) (said 
 tells_front config named u v w said port settled same_port same adds_up line report =
     inr (
       settled,
-      subst (λ (c : Configured). IsSettledDay c settled) (sym same) adds_up,
+      settled_day config named settled same adds_up,
       Appends-front u v w (listening_line port) (report_text config settled.book settled.shares)
           (subst (λ (n : ℕ). Appends u v (listening_line n)) same_port line) report,
     )

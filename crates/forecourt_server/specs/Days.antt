@@ -1,6 +1,5 @@
 -- What a server's day tells, and how the program ends with it.
 use Rattle.std.specs.Prelude.{◌⊎◌, ℕ, List, ◌++◌, codes, decimal, Option}
-use Rattle.std.specs.Io.KnownBytes.{Appends}
 use Rattle.site_base.specs.Configured.{Configured}
 use Rattle.site_base.specs.Devices.{AppendsFront}
 use Rattle.counter_desk.specs.declared.receipt.Receipt.{Receipt}
@@ -20,12 +19,10 @@ listening_line port = codes "listening 127.0.0.1:" ++ decimal port ++ codes "\n"
 abbrev pub IsSettledDay : Configured → Settled → Type 0
 IsSettledDay config settled = (lists : List (List Receipt)) × Settles config lists settled
 
--- a line that tells on which port the server listens, and the report of a day that is settled
-pub record TellsDay (config : Configured) (port : ℕ) (holds holds' : Option (List ℕ)) : Type 0 where
-  pub settled : Settled
-  pub adds_up : IsSettledDay config settled
-  pub told : Appends holds holds'
-      (listening_line port ++ report_text config settled.book settled.shares)
+-- a line that tells on which port the server listens, and the report of what is settled
+abbrev pub day_text : Configured → ℕ → Settled → List ℕ
+day_text config port settled =
+    listening_line port ++ report_text config settled.book settled.shares
 
 -- However a day ends, nothing else was written: a front of that line, or that line and a front of
 -- the report of a day that is settled.
@@ -33,8 +30,7 @@ abbrev pub TellsDayFront : Configured → ℕ → Option (List ℕ) → Option (
 TellsDayFront config port holds holds' =
     AppendsFront holds holds' (listening_line port)
     ⊎ ((settled : Settled) × IsSettledDay config settled
-    × AppendsFront holds holds'
-    (listening_line port ++ report_text config settled.book settled.shares))
+    × AppendsFront holds holds' (day_text config port settled))
 
 -- why a day isn't settled, as the server tells it
 abbrev pub unsettled_by : SettleFault → DayFault

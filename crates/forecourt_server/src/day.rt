@@ -1,16 +1,17 @@
 //! A day of a server.
 
-ghost use Rattle.std.specs.Prelude.{◌≡◌, ◌^◌, OnOk};
+ghost use Rattle.std.specs.Prelude.{◌≡◌, ◌^◌, IfOk, OnOk};
+ghost use Rattle.std.specs.Io.KnownBytes.{Appends};
 ghost use Rattle.std.specs.Result.{IsErrOf};
 ghost use Rattle.site_base.specs.Counted.{device_of, failures_of};
 ghost use Rattle.site_base.specs.Devices.{one_more};
-ghost use Rattle.forecourt_server.specs.Days.{TellsDay, TellsDayFront};
+ghost use Rattle.forecourt_server.specs.Days.{IsSettledDay, TellsDayFront, day_text};
 
 use crate::fault::DayFault;
 use crate::loopback::Loopback;
 use crate::plan::ServerPlan;
 use crate::writing::{put_listening, put_report};
-use counter_desk::{Desk, Naming, OpenGate, settle_all};
+use counter_desk::{Desk, Naming, OpenGate, Settled, settle_all};
 use site_base::{Counted, SiteConfig, WriteFault};
 use std::alloc::Global;
 use std::io::Write;
@@ -24,8 +25,8 @@ use till_session::serve;
 const PARTS: u64 = 1 << 63;
 
 /// A day of a server on the site of this configuration, which listens already: it writes where,
-/// serves as many sessions as the plan says, each with so many turns, settles, and writes the
-/// report of what was settled. What it writes itself takes its turns from those that are handed in.
+/// serves as many sessions as the plan says, each with so many turns, settles, writes the report of
+/// what was settled, and answers with it. What it writes itself takes its turns from those that are handed in.
 /// However it ends, what it wrote is a front of that. `Write` comes where the writer failed in the
 /// call, or was interrupted until no turn was left.
 pub fn serve_day<W: Write, R: Threads + Wait + Sync>(
@@ -36,9 +37,11 @@ pub fn serve_day<W: Write, R: Threads + Wait + Sync>(
     plan: ServerPlan,
     turns: &mut u64,
     writer: &mut Counted<W>,
-) -> Result<(), DayFault>
-    ensures told { OnOk result (TellsDay config.now listener.port
-        (W.contents (device_of writer.old)) (W.contents (device_of writer.new))) }
+) -> Result<Settled, DayFault>
+    ensures settled { IfOk result (λ settled. IsSettledDay config.now settled) }
+    ensures told { IfOk result (λ settled. Appends
+        (W.contents (device_of writer.old)) (W.contents (device_of writer.new))
+        (day_text config.now listener.port settled)) }
     ensures front { TellsDayFront config.now listener.port
         (W.contents (device_of writer.old)) (W.contents (device_of writer.new)) }
 
@@ -62,11 +65,13 @@ fn day_of<L: Ledger + Send + Sync, C: Naming + Send + Sync, W: Write, R: Threads
     plan: ServerPlan,
     turns: &mut u64,
     writer: &mut Counted<W>,
-) -> Result<(), DayFault>
+) -> Result<Settled, DayFault>
     requires ledger { (blank.name ≡ L.name) × (blank.parts ≡ L.parts) × (blank.parts ≡ 2 ^ 63) }
     requires config { config.now ≡ C.config }
-    ensures told { OnOk result (TellsDay config.now listener.port
-        (W.contents (device_of writer.old)) (W.contents (device_of writer.new))) }
+    ensures settled { IfOk result (λ settled. IsSettledDay config.now settled) }
+    ensures told { IfOk result (λ settled. Appends
+        (W.contents (device_of writer.old)) (W.contents (device_of writer.new))
+        (day_text config.now listener.port settled)) }
     ensures front { TellsDayFront config.now listener.port
         (W.contents (device_of writer.old)) (W.contents (device_of writer.new)) }
 
@@ -89,5 +94,6 @@ fn day_of<L: Ledger + Send + Sync, C: Naming + Send + Sync, W: Write, R: Threads
         rt, alloc, listener, &desk, &root, &gate, workers, sessions, *turns,
     )?;
     let settled = settle_all(rt, alloc, desk, root.into_inner())?;
-    put_report(alloc, config, &settled, writer, turns)
+    put_report(alloc, config, &settled, writer, turns)?;
+    Ok(settled)
 }

@@ -1,7 +1,7 @@
 //! A counter that notes its calls.
 
+use super::peers::Told;
 use site_base::{Actor, Event, NoRow, Reply, TillNo};
-use std::cell::Cell;
 use till_session::Counter;
 
 /// A call of a counter.
@@ -31,15 +31,15 @@ pub struct Noted {
 }
 
 /// A counter that hands its calls on, and notes them.
-pub struct Noting<'a, K> {
+pub struct Noting<K> {
     counter: K,
-    told: &'a Cell<u64>,
+    told: Told,
     noted: Noted,
 }
 
-impl<'a, K: Counter> Noting<'a, K> {
+impl<K: Counter> Noting<K> {
     /// A counter that hands its calls on to another, of a session whose peer was told so much.
-    pub fn new(counter: K, told: &'a Cell<u64>) -> Noting<'a, K> {
+    pub fn new(counter: K, told: Told) -> Noting<K> {
         Noting {
             counter,
             told,
@@ -64,7 +64,7 @@ impl<'a, K: Counter> Noting<'a, K> {
     }
 }
 
-impl<'a, K: Counter> Counter for Noting<'a, K> {
+impl<K: Counter> Counter for Noting<K> {
     ghost rows = { λ n. K.rows n.counter };
 
     ghost owes = { λ n. K.owes n.counter };

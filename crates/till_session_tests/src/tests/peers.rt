@@ -1,8 +1,22 @@
 //! The peer of a session: what it sends and when, what it takes, and how its devices fail.
 
+use site_base::NoMemory;
+use std::alloc::Global;
 use std::cell::Cell;
 use std::io::{self, ErrorKind, Read, Write};
+use std::rc::Rc;
 use till_session::Faulty;
+
+/// How many octets a peer was told. Its two ends and the session's counter look at it.
+pub type Told = Rc<Cell<u64>>;
+
+/// The count of a peer that was told nothing.
+pub fn new_told(alloc: Global) -> Result<Told, NoMemory> {
+    match Rc::new(alloc, Cell::new(0)) {
+        Ok(told) => Ok(told),
+        Err(_) => Err(NoMemory),
+    }
+}
 
 /// A client that doesn't wait for replies: all that it has is there to be read at once.
 const AT_ONCE: &[(u64, usize)] = &[(0, usize::MAX)];
@@ -52,38 +66,38 @@ impl Peer {
 
     /// What the session reads, and what it writes to: it takes what it is told in this room, and
     /// counts there how much it was told.
-    pub fn into_ends<'a>(self, room: Vec<u8>, told: &'a Cell<u64>) -> (Sender<'a>, Taker<'a>) {
+    pub fn into_ends(self, room: Vec<u8>, told: &Told) -> Result<(Sender, Taker), NoMemory> {
         let sender = Sender {
             size: self.octets.len(),
             memory: Faulty::new(self.octets, self.read_fails, self.read_most),
             sends: self.sends,
             most: self.read_most,
             read: 0,
-            told,
+            told: told.clone()?,
         };
         let taker = Taker {
             memory: Faulty::new(room, self.write_fails, self.write_most),
             interrupted_from: self.interrupted_from,
             interruptions: self.interruptions,
             calls: 0,
-            told,
+            told: told.clone()?,
         };
-        (sender, taker)
+        Ok((sender, taker))
     }
 }
 
 /// What a peer sends.
 #[derive(Drop)]
-pub struct Sender<'a> {
+pub struct Sender {
     memory: Faulty,
     size: usize,
     sends: &'static [(u64, usize)],
     most: usize,
     read: usize,
-    told: &'a Cell<u64>,
+    told: Told,
 }
 
-impl<'a> Sender<'a> {
+impl Sender {
     /// How many octets it has sent by now.
     fn sent(&self) -> usize {
         let mut sent = 0;
@@ -96,7 +110,7 @@ impl<'a> Sender<'a> {
     }
 }
 
-impl<'a> Read for Sender<'a> {
+impl Read for Sender {
     /// A read that would wait for good, for octets that the peer doesn't send before it is told
     /// more, fails.
     fn read(&mut self, buf: &mut [u8]) -> io::Result<usize> {
@@ -113,15 +127,15 @@ impl<'a> Read for Sender<'a> {
 
 /// What a peer takes.
 #[derive(Drop)]
-pub struct Taker<'a> {
+pub struct Taker {
     memory: Faulty,
     interrupted_from: u64,
     interruptions: u64,
     calls: u64,
-    told: &'a Cell<u64>,
+    told: Told,
 }
 
-impl<'a> Taker<'a> {
+impl Taker {
     /// What it was told.
     pub fn octets(&self) -> &[u8] {
         self.memory.octets()
@@ -133,7 +147,7 @@ impl<'a> Taker<'a> {
     }
 }
 
-impl<'a> Write for Taker<'a> {
+impl Write for Taker {
     fn write(&mut self, buf: &[u8]) -> io::Result<usize> {
         self.calls = self.calls.saturating_add(1);
         let is_due = self.calls >= self.interrupted_from;

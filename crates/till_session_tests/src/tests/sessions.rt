@@ -3,11 +3,10 @@
 ghost use Rattle.std.specs.Prelude.{◌≡◌, ◌^◌};
 
 use super::noting::{Noted, Noting};
-use super::peers::Peer;
+use super::peers::{Peer, Told, new_told};
 use counter_desk::{Desk, Naming, OpenGate, SettleFault, Settled, Share};
 use site_base::{Actor, Counted, Event, NoMemory, SiteConfig, TILLS, TillNo};
 use std::alloc::Global;
-use std::cell::Cell;
 use std::io::{Read, Write};
 use std::marker::Brand;
 use std::process::Abort;
@@ -49,8 +48,8 @@ fn session_of<L: Ledger, C: Naming, R: Wait + Abort>(
     requires config { config.now ≡ C.config }
 {
     let turns = peer.turns;
-    let octets_told = Cell::new(0u64);
-    let (sender, taker) = peer.into_ends(Vec::with_capacity(alloc, 1_000)?, &octets_told);
+    let told = new_told(alloc)?;
+    let (sender, taker) = peer.into_ends(Vec::with_capacity(alloc, 1_000)?, &told)?;
     let mut reader = Counted::new(sender);
     let mut writer = Counted::new(taker);
     let (desk, root) = Desk::<L, C>::try_open(alloc, blank, config)?;
@@ -70,7 +69,7 @@ fn session_of<L: Ledger, C: Naming, R: Wait + Abort>(
         &mut share,
         &mut reader,
         &mut writer,
-        &octets_told,
+        told,
         turns,
     );
     leave_all(rt, &desk, &mut share);
@@ -101,11 +100,11 @@ fn serve_noting<'a, L: Ledger, C: Naming, R: Wait, I: Read, O: Write>(
     share: &'a mut Share<L, C>,
     reader: &mut Counted<I>,
     writer: &mut Counted<O>,
-    octets_told: &Cell<u64>,
+    told: Told,
     turns: u64,
 ) -> (SessionEnd, Noted) {
     let counter = DeskCounter::new(rt, desk, share, &OpenGate);
-    let mut counter = Noting::new(counter, octets_told);
+    let mut counter = Noting::new(counter, told);
     let end = Session::run(alloc, reader, writer, &mut counter, turns);
     let (noted, _counter) = counter.into_parts();
     (end, noted)
