@@ -48,6 +48,12 @@ suspended Started = SuspendedStarted
 suspended Fuelling = SuspendedFuelling
 suspended state = state
 
+-- a suspended fuelling in this state that goes on
+abbrev pub resumed : PointState → PointState
+resumed SuspendedStarted = Started
+resumed SuspendedFuelling = Fuelling
+resumed state = state
+
 -- a fuelling in this state once fuel has flowed
 abbrev pub flowing : PointState → PointState
 flowing Started = Fuelling

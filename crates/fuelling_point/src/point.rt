@@ -6,7 +6,7 @@ ghost use Rattle.site_base.specs.declared.state.PointState.TheVariants.{Closed, 
 ghost use Rattle.fuelling_point.specs.Table.{is_listed};
 ghost use Rattle.fuelling_point.specs.Kept.{fresh, point_view, FitsGrowth, is_under_way, has_nozzle_out, start_of, volume_of};
 ghost use Rattle.fuelling_point.specs.Whole.{IsWhole};
-ghost use Rattle.fuelling_point.specs.Fields.{suspended, flowing};
+ghost use Rattle.fuelling_point.specs.Fields.{suspended, resumed, flowing};
 ghost use Rattle.fuelling_point.specs.PointChecks.{refusal_of, is_out};
 ghost use Rattle.fuelling_point.specs.Step.{step_of, after, told_over};
 
@@ -124,11 +124,8 @@ impl Point {
         }
     }
 
-    /// Does what the point table says of the event, and answers what it did; a sale or a start with
-    /// the values that stood before the point forgot them. A fuelling that starts takes the price
-    /// and the reading handed in, and nothing touches these until it is over. A terminated fuelling
-    /// takes flow until hang up or offline. Where a fuelling is sold, a test is drawn. The refusal
-    /// is that of `judge`, and leaves the point as it was.
+    /// Does what the point table says of the event, and answers what it did. The refusal is that of
+    /// `judge`, and leaves the point as it was; what an accepted event does is what `perform` says.
     ///
     /// The fuelling's volume with the growth handed in has to be one that a meter can show.
     pub fn on(&mut self, event: PointEvent) -> Result<PointStep, Refusal>
@@ -140,40 +137,49 @@ impl Point {
         ensures err { OnErr result (self.new ≡ self.old) }
     {
         self.judge(&event)?;
+        Ok(self.perform(event))
+    }
+
+    /// Does what the point table says of an event that `judge` accepts, and answers what it did; a
+    /// sale or a start with the values that stood before the point forgot them. A fuelling that
+    /// starts takes the price and the reading handed in, and nothing touches these until it is
+    /// over. A terminated fuelling takes flow until hang up or offline. Where a fuelling is sold, a
+    /// test is drawn.
+    pub fn perform(&mut self, event: PointEvent) -> PointStep
+        requires accepted { refusal_of event self.old ≡ None }
+        requires fits { FitsGrowth event self.old }
+        ensures step { result ≡ step_of event self.old }
+        ensures facts { self.new ≡ after event self.old }
+    {
         match event {
-            PointEvent::Online => Ok(self.online()),
-            PointEvent::Offline => Ok(self.offline()),
-            PointEvent::Open => Ok(self.open()),
-            PointEvent::Close => Ok(self.close()),
-            PointEvent::Assign => Ok(PointStep::Moved),
-            PointEvent::Unassign => Ok(PointStep::Moved),
+            PointEvent::Online => self.state = PointState::Closed,
+            PointEvent::Offline => return self.offline(),
+            PointEvent::Open => self.forget_in(PointState::Idle),
+            PointEvent::Close => self.state = PointState::Closed,
+            PointEvent::Assign => {}
+            PointEvent::Unassign => {}
             PointEvent::Lift {
                 nozzle,
                 last,
                 price,
-            } => Ok(self.lift(nozzle, last, price)),
+            } => return self.lift(nozzle, last, price),
             PointEvent::Release {
                 preset,
                 prepaid,
                 last,
                 price,
-            } => Ok(self.release(preset, prepaid, last, price)),
-            PointEvent::TestRelease { last, price } => Ok(self.test_release(last, price)),
-            PointEvent::ReplaceMeter => Ok(PointStep::Moved),
-            PointEvent::Suspend => Ok(self.suspend()),
-            PointEvent::Resume => Ok(self.resume()),
-            PointEvent::Terminate => Ok(self.terminate()),
-            PointEvent::Flow { growth, .. } => Ok(self.flow(growth)),
-            PointEvent::HangUp { growth, .. } => Ok(self.hang_up(growth)),
+            } => self.release(preset, prepaid, last, price),
+            PointEvent::TestRelease { last, price } => {
+                self.release(Preset::Unset, None, last, price);
+                self.test = true;
+            }
+            PointEvent::ReplaceMeter => {}
+            PointEvent::Suspend => self.state = suspended(self.state),
+            PointEvent::Resume => self.state = resumed(self.state),
+            PointEvent::Terminate => return self.terminate(),
+            PointEvent::Flow { growth, .. } => return self.flow(growth),
+            PointEvent::HangUp { growth, .. } => return self.hang_up(growth),
         }
-    }
-
-    fn online(&mut self) -> PointStep
-        requires { is_listed PointEvent.Online self.old.state ≡ true }
-        ensures step { result ≡ step_of PointEvent.Online self.old }
-        ensures facts { self.new ≡ after PointEvent.Online self.old }
-    {
-        self.state = PointState::Closed;
         PointStep::Moved
     }
 
@@ -188,24 +194,6 @@ impl Point {
         };
         self.forget_in(PointState::Inoperative);
         step
-    }
-
-    fn open(&mut self) -> PointStep
-        requires { is_listed PointEvent.Open self.old.state ≡ true }
-        ensures step { result ≡ step_of PointEvent.Open self.old }
-        ensures facts { self.new ≡ after PointEvent.Open self.old }
-    {
-        self.forget_in(PointState::Idle);
-        PointStep::Moved
-    }
-
-    fn close(&mut self) -> PointStep
-        requires { is_listed PointEvent.Close self.old.state ≡ true }
-        ensures step { result ≡ step_of PointEvent.Close self.old }
-        ensures facts { self.new ≡ after PointEvent.Close self.old }
-    {
-        self.state = PointState::Closed;
-        PointStep::Moved
     }
 
     fn lift(&mut self, nozzle: NozzleNo, last: Millilitres, price: Mills) -> PointStep
@@ -236,10 +224,9 @@ impl Point {
         prepaid: Option<u32>,
         last: Millilitres,
         price: Mills,
-    ) -> PointStep
+    )
         requires { is_listed (PointEvent.Release preset prepaid last price) self.old.state ≡ true }
-        ensures step { result ≡ step_of (PointEvent.Release preset prepaid last price) self.old }
-        ensures facts { self.new ≡ after (PointEvent.Release preset prepaid last price) self.old }
+        ensures { self.new ≡ after (PointEvent.Release preset prepaid last price) self.old }
     {
         self.preset = preset;
         self.prepaid = prepaid;
@@ -250,38 +237,6 @@ impl Point {
             }
             _ => self.state = PointState::Authorised,
         }
-        PointStep::Moved
-    }
-
-    fn test_release(&mut self, last: Millilitres, price: Mills) -> PointStep
-        requires { is_listed (PointEvent.TestRelease last price) self.old.state ≡ true }
-        ensures step { result ≡ step_of (PointEvent.TestRelease last price) self.old }
-        ensures facts { self.new ≡ after (PointEvent.TestRelease last price) self.old }
-    {
-        let step = self.release(Preset::Unset, None, last, price);
-        self.test = true;
-        step
-    }
-
-    fn suspend(&mut self) -> PointStep
-        requires { is_listed PointEvent.Suspend self.old.state ≡ true }
-        ensures step { result ≡ step_of PointEvent.Suspend self.old }
-        ensures facts { self.new ≡ after PointEvent.Suspend self.old }
-    {
-        self.state = suspended(self.state);
-        PointStep::Moved
-    }
-
-    fn resume(&mut self) -> PointStep
-        requires { refusal_of PointEvent.Resume self.old ≡ None }
-        ensures step { result ≡ step_of PointEvent.Resume self.old }
-        ensures facts { self.new ≡ after PointEvent.Resume self.old }
-    {
-        match self.state {
-            PointState::SuspendedStarted => self.state = PointState::Started,
-            _ => self.state = PointState::Fuelling,
-        }
-        PointStep::Moved
     }
 
     fn terminate(&mut self) -> PointStep
@@ -410,6 +365,17 @@ fn flowing(state: PointState) -> PointState
     match state {
         PointState::Started => PointState::Fuelling,
         PointState::SuspendedStarted => PointState::SuspendedFuelling,
+        _ => state,
+    }
+}
+
+/// The state of a suspended fuelling once it goes on.
+fn resumed(state: PointState) -> PointState
+    ensures { result ≡ resumed state }
+{
+    match state {
+        PointState::SuspendedStarted => PointState::Started,
+        PointState::SuspendedFuelling => PointState::Fuelling,
         _ => state,
     }
 }
