@@ -1,5 +1,5 @@
 -- The sales of a site with the figures of its shifts, as contracts see them and as they are kept.
-use Rattle.std.specs.Prelude.{◌≡◌, ℕ, ◌≤◌, List, length, map, Option, option_map, unwrap_or, refl}
+use Rattle.std.specs.Prelude.{◌≡◌, ℕ, ◌≤◌, List, length, map, true, Option, Some, option_map, unwrap_or, refl}
 use Rattle.std.specs.Coded.{Coded, code_by, coded_ℕ, coded×, coded_list}
 use Rattle.std.specs.List.{range_with_len}
 use Rattle.site_base.specs.declared.limits.TheConstants.{PRODUCTS, TILLS, TILL_CELLS}
@@ -9,7 +9,10 @@ use Rattle.shift_ledger.specs.Figures.{empty_figures, till_figures, product_figu
 use Rattle.shift_ledger.specs.Laws.{HaveRows}
 use Rattle.shift_ledger.specs.Shifts.{Shifts, figures_of}
 use Rattle.transaction_buffer.specs.Codes.{sales_code}
-use Rattle.transaction_buffer.specs.Sales.{Sales}
+use Rattle.transaction_buffer.specs.declared.request.Request.{Request}
+use Rattle.transaction_buffer.specs.declared.request.Request.TheVariants.{Clear}
+use Rattle.transaction_buffer.specs.Clears.{FitsOneClear}
+use Rattle.transaction_buffer.specs.Sales.{Key, Sale, Sales, is_unpaid, sale_of}
 use Rattle.written_site.specs.ShiftFigures.{cents_by, cents_in, cleared_in, clears_by, clears_in, tills}
 use Rattle.site_core.specs.Ledger.{total_of}
 
@@ -67,3 +70,12 @@ pub record AreFigures (sales : Sales) (shifts : Shifts) (totals : List (ℕ × �
   pub cleared : (h q : ℕ) → 1 ≤ q → q ≤ PRODUCTS
       → product_figure q (row_in h shifts) ≡ cleared_in h q sales
   pub all : (t : ℕ) → 1 ≤ t → t ≤ TILLS → total_of t totals ≡ (clears_by t sales, cents_by t sales)
+
+-- What the till asks fits: a clear is made in the open shift, and with it the figures fit in 64
+-- bits.
+abbrev pub FitsGrant : Request → ℕ → Key → Sales → List (List ℕ) → Type 0
+FitsGrant (Clear h) t k sales drawn =
+    (h ≡ length drawn)
+    × ((x : Sale) → sale_of k sales ≡ Some x → is_unpaid x.standing ≡ true
+    → FitsOneClear (length drawn) t x sales)
+FitsGrant request t k sales drawn = Unit {0}

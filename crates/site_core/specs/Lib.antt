@@ -5,4 +5,6 @@ pub mod Telling
 pub mod Ledger
 pub mod Accounts
 pub mod Endings
-pub mod Commands
+pub mod FoundPoints
+pub mod Performed
+pub mod Ready

@@ -1,22 +1,19 @@
 //! The sales of a site, with the figures of its shifts.
 
-ghost use Rattle.std.specs.Prelude.{◌≡◌, ℕ, ◌+◌, ◌-◌, ◌^◌, ◌<◌, ◌≤◌, ◌==◌, [], ◌∷◌, ◌++◌, Some, true, false, is_some, length, sum_by, OnOk, OnErr, IfOk, IfErr};
+ghost use Rattle.std.specs.Prelude.{◌≡◌, ℕ, ◌+◌, ◌-◌, ◌^◌, ◌<◌, ◌≤◌, ◌==◌, [], ◌∷◌, ◌++◌, None, Some, true, false, is_some, length, sum_by, OnOk, OnErr, IfErr, IfSome};
 ghost use Rattle.site_base.specs.declared.limits.TheConstants.{GREATEST_SHIFT, UNPAID_LIMIT};
-ghost use Rattle.site_base.specs.declared.refusal.Refusal.TheVariants.{ShiftsSpent};
 ghost use Rattle.site_base.specs.Numbered.{numbered};
-ghost use Rattle.transaction_buffer.specs.declared.request.Request.{Request};
-ghost use Rattle.transaction_buffer.specs.Asked.{Asked};
-ghost use Rattle.transaction_buffer.specs.Clears.{FitsOneClear};
 ghost use Rattle.transaction_buffer.specs.Figures.{figure_of};
+ghost use Rattle.transaction_buffer.specs.FoundSales.{IsPlaced, key_of};
 ghost use Rattle.transaction_buffer.specs.Rooms.{one_taken, room_at};
-ghost use Rattle.transaction_buffer.specs.Sales.{HasNoneLater, Sale, is_new, is_unpaid, key, new_sale, next_number, no_sales, sale_of, shown, unpaid_at, with_new};
+ghost use Rattle.transaction_buffer.specs.Sales.{HasNoneLater, has_sale, is_new, key, new_sale, next_number, no_sales, shown, unpaid_at, with_new};
 ghost use Rattle.transaction_buffer.specs.Sums.{volume_by, volume_of};
-ghost use Rattle.transaction_buffer.specs.TransactionTable.{after_sign_off};
+ghost use Rattle.transaction_buffer.specs.TransactionTable.{after_request, after_sign_off, answer_of, refusal_of};
 ghost use Rattle.written_site.specs.SiteState.{nothing_drawn};
 ghost use Rattle.written_site.specs.SiteStep.{draw_noted};
 ghost use Rattle.written_site.specs.ShiftFigures.{cents_by, clears_by, takings_in};
 ghost use Rattle.written_site.specs.Volumes.{drawn_of};
-ghost use Rattle.site_core.specs.Accounts.{shift_row};
+ghost use Rattle.site_core.specs.Accounts.{FitsGrant, shift_row};
 
 use crate::ledger::Ledger;
 use shift_ledger::ShiftRow;
@@ -26,7 +23,7 @@ use site_base::{
 };
 use std::alloc::Global;
 use std::marker::Model;
-use transaction_buffer::{Buffer, Figure};
+use transaction_buffer::{Buffer, Figure, FoundSale, Request};
 
 /// The sales of a site and the figures of its shifts. The figures are those of the sales that were
 /// cleared and of what tests drew: the type keeps it. Contracts see the sales and the draws alone.
@@ -111,11 +108,32 @@ impl Accounts {
         self.sales.next_seq(p, self.ledger.open_shift())
     }
 
-    /// The transaction as a read shows it. None where it isn't there.
-    pub fn row(&self, p: FpNo, shift: ShiftNo, s: Seq) -> Option<TransactionView>
-        ensures { result ≡ shown (key shift p s) self.now.sales }
+    /// The transaction, if it is there.
+    pub fn find(&self, p: FpNo, shift: ShiftNo, s: Seq) -> Option<FoundSale>
+        ensures there { is_some result ≡ has_sale (key shift p s) self.now.sales }
+        ensures key { IfSome result (λ sale. key_of sale ≡ key shift p s) }
+        ensures placed { IfSome result (λ sale. IsPlaced sale self.now.sales) }
     {
-        self.sales.row(p, shift, s)
+        self.sales.find(p, shift, s)
+    }
+
+    /// The transaction as a read shows it.
+    pub fn view(&self, sale: &FoundSale) -> TransactionView
+        requires { IsPlaced sale.now self.now.sales }
+        ensures { shown (key_of sale.now) self.now.sales ≡ Some result }
+    {
+        self.sales.view(sale)
+    }
+
+    /// Why the transaction table would refuse what the till asks of the transaction, if it would.
+    pub fn judge(&self, sale: &FoundSale, request: &Request, t: TillNo) -> Result<(), Refusal>
+        requires { IsPlaced sale.now self.now.sales }
+        ensures accepted { OnOk result (
+            refusal_of request.now t (key_of sale.now) self.now.sales ≡ None) }
+        ensures refused { IfErr result (λ refusal.
+            refusal_of request.now t (key_of sale.now) self.now.sales ≡ Some refusal) }
+    {
+        self.sales.judge(sale, request, t)
     }
 
     /// The millilitres of product q in the transactions of this status. Those of all transactions
@@ -183,50 +201,25 @@ impl Accounts {
         self.ledger.note_drawn(q, volume);
     }
 
-    /// The till locks a transaction, as the transaction table says.
-    pub fn lock(&mut self, p: FpNo, shift: ShiftNo, s: Seq, t: TillNo) -> Result<Answer, Refusal>
-        ensures asked { Asked Request.Lock t (key shift p s) self.old.sales self.new.sales result }
+    /// Does what the transaction table says of a request that it accepts. A clear counts in the
+    /// open shift, and the figures with it fit in 64 bits.
+    pub fn grant(&mut self, sale: &FoundSale, request: &Request, t: TillNo) -> Answer
+        requires placed { IsPlaced sale.now self.old.sales }
+        requires accepted { refusal_of request.now t (key_of sale.now) self.old.sales ≡ None }
+        requires fits { FitsGrant request.now t (key_of sale.now) self.old.sales self.old.drawn }
+        ensures answer { result ≡ answer_of request.now t (key_of sale.now) self.old.sales }
+        ensures sales { self.new.sales
+            ≡ after_request request.now t (key_of sale.now) self.old.sales }
         ensures drawn { self.new.drawn ≡ self.old.drawn }
         ensures rooms { self.new.rooms ≡ self.old.rooms }
         ensures closes { self.new.closes ≡ self.old.closes }
     {
-        self.sales.lock(p, shift, s, t)
-    }
-
-    /// The till makes a transaction that it has locked payable again, as the transaction table
-    /// says.
-    pub fn unlock(&mut self, p: FpNo, shift: ShiftNo, s: Seq, t: TillNo) -> Result<Answer, Refusal>
-        ensures asked { Asked Request.Unlock t (key shift p s) self.old.sales self.new.sales
-            result }
-        ensures drawn { self.new.drawn ≡ self.old.drawn }
-        ensures rooms { self.new.rooms ≡ self.old.rooms }
-        ensures closes { self.new.closes ≡ self.old.closes }
-    {
-        self.sales.unlock(p, shift, s, t)
-    }
-
-    /// The till clears a transaction that it has locked, as the transaction table says, and the
-    /// clear counts in the open shift. The figures with it fit in 64 bits.
-    pub fn clear(&mut self, p: FpNo, shift: ShiftNo, s: Seq, t: TillNo) -> Result<Answer, Refusal>
-        requires { (x : Sale) → sale_of (key shift p s) self.old.sales ≡ Some x
-            → is_unpaid x.standing ≡ true
-            → FitsOneClear (length self.old.drawn) t x self.old.sales }
-        ensures asked { Asked (Request.Clear (length self.old.drawn)) t (key shift p s)
-            self.old.sales self.new.sales result }
-        ensures drawn { self.new.drawn ≡ self.old.drawn }
-        ensures rooms { self.new.rooms ≡ self.old.rooms }
-        ensures closes { self.new.closes ≡ self.old.closes }
-    {
-        let shown = self.sales.row(p, shift, s);
-        let answer = self.sales.clear(p, shift, s, t, self.ledger.open_shift())?;
-        match shown {
-            Some(view) => {
-                self.ledger
-                    .note_cleared(t, view.product, view.volume.get(), view.cents.get());
-                Ok(answer)
-            }
-            None => unreachable!(),
+        if let Request::Clear(_) = request {
+            let view = self.sales.view(sale);
+            self.ledger
+                .note_cleared(t, view.product, view.volume.get(), view.cents.get());
         }
+        self.sales.grant(sale, request, t)
     }
 
     /// Makes every transaction that the till has locked payable; every other stays.
@@ -239,22 +232,22 @@ impl Accounts {
         self.sales.release_all(t);
     }
 
-    /// Closes the open shift and opens the next, with nothing in it; the answer is the number of
-    /// the shift that was closed. The last shift that may be isn't closed: it is refused with
-    /// `ShiftsSpent`, and nothing changes. The room for it is reserved; it takes no memory.
-    pub fn close(&mut self) -> Result<ShiftNo, Refusal>
-        requires { 0 < self.old.closes }
-        ensures accepted { OnOk result ((length self.old.drawn == GREATEST_SHIFT) ≡ false) }
-        ensures number { IfOk result (λ n. n ≡ length self.old.drawn) }
+    /// Closes the open shift, which isn't the last one that may be, and opens the next, with
+    /// nothing in it; the answer is the number of the shift that was closed. The room for it is
+    /// reserved; it takes no memory.
+    pub fn close(&mut self) -> ShiftNo
+        requires room { 0 < self.old.closes }
+        requires next { (length self.old.drawn == GREATEST_SHIFT) ≡ false }
+        ensures number { result ≡ length self.old.drawn }
         ensures sales { self.new.sales ≡ self.old.sales }
-        ensures drawn { OnOk result (self.new.drawn ≡ self.old.drawn ++ nothing_drawn ∷ []) }
+        ensures drawn { self.new.drawn ≡ self.old.drawn ++ nothing_drawn ∷ [] }
         ensures rooms { self.new.rooms ≡ self.old.rooms }
-        ensures closes { OnOk result (self.new.closes ≡ self.old.closes - 1) }
-        ensures spent { OnErr result ((length self.old.drawn == GREATEST_SHIFT) ≡ true) }
-        ensures refused { IfErr result (λ refusal. refusal ≡ ShiftsSpent) }
-        ensures err { OnErr result (self.new ≡ self.old) }
+        ensures closes { self.new.closes ≡ self.old.closes - 1 }
     {
-        self.ledger.close()
+        match self.ledger.close() {
+            Ok(shift) => shift,
+            Err(_) => unreachable!(),
+        }
     }
 
     /// The figures of shift n, the open one's too. None for shifts to come.

@@ -4,23 +4,24 @@
 #![tactic(auto)]
 
 mod accounts;
-mod asking;
-mod commanding;
+mod check;
+mod check_commands;
+mod check_payments;
+mod check_reports;
+mod check_site;
+mod checks;
 mod counting;
 mod ending;
 mod figures;
-mod holding;
 mod ledger;
-mod managing;
-mod paying;
+mod perform;
 mod points;
 mod ranges;
-mod releasing;
-mod reporting;
+mod ready;
 mod runs;
-mod signing;
 mod site;
 mod site_parts;
+mod starting;
 mod telling;
 mod tills;
 mod totalling;

@@ -1,19 +1,27 @@
 //! The fuelling points of a site, by their numbers.
 
-ghost use Rattle.std.specs.Prelude.{◌≡◌, true, is_some, option_and_then, Option, Some, None, IfSome, IfOk, OnOk, IfErr, OnErr};
+ghost use Rattle.std.specs.Prelude.{◌≡◌, true, is_some, None, Some, IfSome, IfOk, OnOk, IfErr};
 ghost use Rattle.fuelling_point.specs.PointChecks.{refusal_of};
 ghost use Rattle.fuelling_point.specs.Kept.{point_view, FitsGrowth};
 ghost use Rattle.fuelling_point.specs.Step.{step_of, after};
 ghost use Rattle.site_base.specs.Configured.{none_alike, same_point};
 ghost use Rattle.site_base.specs.Table.{IsPlace, row_of, with_row};
 ghost use Rattle.written_site.specs.SiteState.{points_of, facts_in, rests, is_resting};
+ghost use Rattle.site_core.specs.FoundPoints.{IsFound};
 
 use fuelling_point::{Point, PointEvent, PointStep};
-use site_base::{
-    FpNo, NoMemory, NozzleNo, POINT_CELLS, PointEntry, PointState, PointView, Refusal, place_of,
-};
+use site_base::{FpNo, NoMemory, POINT_CELLS, PointEntry, PointState, PointView, Refusal, place_of};
 use std::alloc::Global;
 use std::marker::Model;
+
+/// A point that was found: its number, and where its row stands.
+#[derive(Clone, Copy, Debug, PartialEq, Eq)]
+pub struct FoundPoint {
+    /// Its number.
+    pub number: FpNo,
+    /// The place of its row.
+    pub place: usize,
+}
 
 /// The points in configured order. What is asked of one costs the same for one point and for all.
 #[derive(Drop)]
@@ -64,80 +72,58 @@ impl Points {
         place_of(&self.rows, p)
     }
 
-    /// Is there a point with this number?
-    pub fn contains(&self, p: FpNo) -> bool
-        ensures { result ≡ is_some (row_of p self.now) }
-    {
-        self.place(p).is_some()
-    }
-
-    /// The point with this number as a read shows it; its holder isn't known here.
-    pub fn view(&self, p: FpNo) -> Option<PointView>
-        ensures { result ≡ option_and_then (λ f. Some (point_view f None)) (row_of p self.now) }
+    /// The point with this number, if it is there.
+    pub fn find(&self, p: FpNo) -> Option<FoundPoint>
+        ensures there { is_some result ≡ is_some (row_of p self.now) }
+        ensures number { IfSome result (λ point. point.number ≡ p) }
+        ensures found { IfSome result (λ point. IsFound point self.now) }
     {
         match self.place(p) {
-            Some(place) => Some(self.rows[place].1.view()),
+            Some(place) => Some(FoundPoint { number: p, place }),
             None => None,
         }
     }
 
-    /// The state of a point that is there.
-    pub fn state(&self, p: FpNo) -> PointState
-        requires { is_some (row_of p self.now) ≡ true }
-        ensures { result ≡ (facts_in self.now p).state }
+    /// The point as a read shows it; its holder isn't known here.
+    pub fn view(&self, point: &FoundPoint) -> PointView
+        requires { IsFound point.now self.now }
+        ensures { result ≡ point_view (facts_in self.now point.now.number) None }
     {
-        match self.view(p) {
-            Some(view) => view.state,
-            None => unreachable!(),
-        }
-    }
-
-    /// The nozzle that is out at the point; None where the point isn't there.
-    pub fn out(&self, p: FpNo) -> Option<NozzleNo>
-        ensures { result ≡ (facts_in self.now p).out }
-    {
-        match self.view(p) {
-            Some(view) => view.out,
-            None => None,
-        }
+        self.rows[point.place].1.view()
     }
 
     /// Is the point there, and closed, idle or calling?
     pub fn rests(&self, p: FpNo) -> bool
         ensures { result ≡ rests self.now p }
     {
-        match self.view(p) {
-            Some(view) => is_resting(view.state),
+        match self.find(p) {
+            Some(point) => is_resting(self.view(&point).state),
             None => false,
         }
     }
 
     /// Why the point would refuse the event, if it would.
-    pub fn judge(&self, p: FpNo, event: &PointEvent) -> Result<(), Refusal>
-        requires { is_some (row_of p self.now) ≡ true }
-        ensures accepted { OnOk result (refusal_of event.now (facts_in self.now p) ≡ None) }
-        ensures refused { IfErr result (λ refusal. refusal_of event.now (facts_in self.now p) ≡ Some refusal) }
+    pub fn judge(&self, point: &FoundPoint, event: &PointEvent) -> Result<(), Refusal>
+        requires { IsFound point.now self.now }
+        ensures accepted { OnOk result (
+            refusal_of event.now (facts_in self.now point.now.number) ≡ None) }
+        ensures refused { IfErr result (λ refusal.
+            refusal_of event.now (facts_in self.now point.now.number) ≡ Some refusal) }
     {
-        match self.place(p) {
-            Some(place) => self.rows[place].1.judge(event),
-            None => unreachable!(),
-        }
+        self.rows[point.place].1.judge(event)
     }
 
-    /// Does at the point what the point table says of the event.
-    pub fn on(&mut self, p: FpNo, event: PointEvent) -> Result<PointStep, Refusal>
-        requires there { is_some (row_of p self.old) ≡ true }
-        requires fits { FitsGrowth event (facts_in self.old p) }
-        ensures accepted { OnOk result (refusal_of event (facts_in self.old p) ≡ None) }
-        ensures step { IfOk result (λ step. step ≡ step_of event (facts_in self.old p)) }
-        ensures points { OnOk result (self.new ≡ with_row p (after event (facts_in self.old p)) self.old) }
-        ensures refused { IfErr result (λ refusal. refusal_of event (facts_in self.old p) ≡ Some refusal) }
-        ensures err { OnErr result (self.new ≡ self.old) }
+    /// Does at the point what the point table says of an event that it takes.
+    pub fn perform(&mut self, point: &FoundPoint, event: PointEvent) -> PointStep
+        requires found { IsFound point.now self.old }
+        requires accepted { refusal_of event (facts_in self.old point.now.number) ≡ None }
+        requires fits { FitsGrowth event (facts_in self.old point.now.number) }
+        ensures step { result ≡ step_of event (facts_in self.old point.now.number) }
+        ensures points { self.new
+            ≡ with_row point.now.number (after event (facts_in self.old point.now.number))
+            self.old }
     {
-        match self.place(p) {
-            Some(place) => self.rows[place].1.on(event),
-            None => unreachable!(),
-        }
+        self.rows[point.place].1.perform(event)
     }
 
     /// The points with their numbers, in configured order.

@@ -1,6 +1,5 @@
-//! What the site keeps, and which event is whose: the events themselves stand in `signing`,
-//! `commanding`, `holding`, `releasing`, `reporting`, `ending`, `paying`, `managing` and `figures`.
-//! `totalling` reads the totals that are kept, `counting` counts them from the lists.
+//! What the site keeps, and its step: `check` finds the first refusal or what is `Ready`, and
+//! `perform` does that.
 
 ghost use Rattle.std.specs.Prelude.{◌≡◌, ℕ, ◌≤◌, IfOk, OnOk, OnErr};
 ghost use Rattle.transaction_buffer.specs.Rooms.{room_at};
@@ -9,14 +8,12 @@ ghost use Rattle.written_site.specs.SiteStep.{Steps};
 ghost use Rattle.written_site.specs.Sound.{Sound};
 ghost use Rattle.site_core.specs.SiteParts.{site_of, room_of};
 ghost use Rattle.site_core.specs.Shown.{HasRoom, room_left};
-ghost use Rattle.std.specs.FinSet as set;
 
 use crate::accounts::Accounts;
 use crate::points::Points;
 use crate::tills::Tills;
-use fuelling_point::PointEvent;
 use meters::Meters;
-use site_base::{Actor, Event, FpNo, NoMemory, PriceBook, Refusal, Reply, SiteConfig, TillNo};
+use site_base::{Actor, Event, NoMemory, PriceBook, Reply, SiteConfig, TillNo};
 use std::alloc::Global;
 use till_claims::Claims;
 
@@ -69,7 +66,7 @@ impl SiteParts {
         }
     }
 
-    /// The written step.
+    /// The written step: the first refusal, or what the event changes.
     #[inline(always)]
     pub fn step(&mut self, actor: Actor, event: &Event) -> Reply
         requires sound { Sound (site_of self.old) }
@@ -77,65 +74,9 @@ impl SiteParts {
         ensures steps { Steps (site_of self.old) actor event.now (site_of self.new) result }
         ensures room { room_of self.new ≡ room_left event.now result (room_of self.old) }
     {
-        match actor {
-            Actor::Till(t) => self.till_step(t, event),
-            Actor::Dispenser(d) => self.dispenser_step(d, event),
-        }
-    }
-
-    #[inline(always)]
-    fn till_step(&mut self, t: TillNo, event: &Event) -> Reply
-        requires sound { Sound (site_of self.old) }
-        requires room { HasRoom (room_of self.old) event.now }
-        ensures steps { Steps (site_of self.old) (Actor.Till t) event.now
-            (site_of self.new) result }
-        ensures room { room_of self.new ≡ room_left event.now result (room_of self.old) }
-    {
-        match event {
-            Event::SignOn => self.sign_on(t),
-            Event::SignOff => self.sign_off(t),
-            Event::Open(p) => self.command(t, *p, event, PointEvent::Open),
-            Event::Close(p) => self.command(t, *p, event, PointEvent::Close),
-            Event::Assign(p) => self.assign(t, *p),
-            Event::Unassign(p) => self.unassign(t, *p),
-            Event::Release(p, preset) => self.release(t, *p, *preset),
-            Event::Prepay(p, cents) => self.prepay(t, *p, *cents),
-            Event::TestRelease(p) => self.test_release(t, *p),
-            Event::Suspend(p) => self.command(t, *p, event, PointEvent::Suspend),
-            Event::Resume(p) => self.command(t, *p, event, PointEvent::Resume),
-            Event::Terminate(p) => self.terminate(t, *p),
-            Event::ReplaceMeter(p, n, reading) => self.replace_meter(t, *p, *n, *reading),
-            Event::ReadPoint(p) => self.read_point(t, *p),
-            Event::Lock(p, id) => self.lock(t, *p, id),
-            Event::Unlock(p, id) => self.unlock(t, *p, id),
-            Event::Clear(p, id) => self.clear(t, *p, id),
-            Event::ReadTransaction(p, id) => self.read_sale(t, *p, *id),
-            Event::SetPrice(q, price) => self.set_price(t, *q, *price),
-            Event::ReadProduct(q) => self.read_product(t, *q),
-            Event::CloseShift => self.close_shift(t),
-            Event::ReadSite => self.read_site(t),
-            Event::Online(_) => Err(self.not_a_tills(t, event)),
-            Event::Offline(_) => Err(self.not_a_tills(t, event)),
-            Event::Lift(_, _, _) => Err(self.not_a_tills(t, event)),
-            Event::Flow(_, _, _) => Err(self.not_a_tills(t, event)),
-            Event::HangUp(_, _, _) => Err(self.not_a_tills(t, event)),
-        }
-    }
-
-    fn dispenser_step(&mut self, d: FpNo, event: &Event) -> Reply
-        requires sound { Sound (site_of self.old) }
-        requires room { HasRoom (room_of self.old) event.now }
-        ensures steps { Steps (site_of self.old) (Actor.Dispenser d) event.now
-            (site_of self.new) result }
-        ensures room { room_of self.new ≡ room_left event.now result (room_of self.old) }
-    {
-        match event {
-            Event::Online(p) => self.online(d, *p),
-            Event::Offline(p) => self.offline(d, *p),
-            Event::Lift(p, n, reading) => self.lift(d, *p, *n, *reading),
-            Event::Flow(p, n, reading) => self.flow(d, *p, *n, *reading),
-            Event::HangUp(p, n, reading) => self.hang_up(d, *p, *n, *reading),
-            _ => Err(self.strange(d, event)),
+        match self.check(actor, event) {
+            Ok(ready) => Ok(self.perform(&ready)),
+            Err(refusal) => Err(refusal),
         }
     }
 

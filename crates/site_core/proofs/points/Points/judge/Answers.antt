@@ -6,11 +6,12 @@ use Rattle.site_core.proofs.points.Points.judge.Goals as goal
 use Rattle.site_core.proofs.points.Points.judge.Goals.{After-judge}
 
 -- what is judged is what the point keeps
-judged : (c : After-judge) → facts_in c.args.self.now c.args.p ≡ c.index.result.now.1
+judged : (c : After-judge)
+    → facts_in c.args.self.now c.args.point.now.number ≡ c.index.result.now.1
 judged c =
     let d = c.index.result.now in
-    facts_there c.args.self.now c.args.p d.1 (c.in-Some.ensures.found.row d
-    ∙ ap (λ (ys : List (ℕ × Facts)). Some (get_or ys c.in-Some.place d).1) (sym c.self.view_is)
+    facts_there c.args.self.now c.args.point.now.number d.1 (c.requires.row d
+    ∙ ap (λ (ys : List (ℕ × Facts)). Some (get_or ys c.args.point.now.place d).1) (sym c.self.view_is)
     ∙ ap (λ (x : ℕ × Facts). Some x.1) (sym c.index.ensures))
 
 pub returns-clause-accepted : goal.returns-clause-accepted

@@ -1,7 +1,7 @@
 use Rattle.std.proofs.Common.{◌≡◌, ℕ, drop}
 use Rattle.std.specs.FinMap as finite
 use Rattle.site_core.proofs.SignOffs.{left}
-use Rattle.site_core.proofs.signing.let_go.Given as goal
+use Rattle.site_core.proofs.perform.let_go.Given as goal
 
 abbrev pub invariant-loop-row : goal.invariant-loop-row
 invariant-loop-row l = record {

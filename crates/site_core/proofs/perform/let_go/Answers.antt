@@ -2,7 +2,7 @@ use Rattle.std.proofs.Common.{◌≡◌, ◌+◌, ◌∷◌, drop, sym, ap, ◌�
 use Rattle.std.proofs.lemmas.List.{drop_more, drop_all}
 use Rattle.std.specs.FinMap as finite
 use Rattle.site_core.proofs.SignOffs.{left, left_next, all_left}
-use Rattle.site_core.proofs.signing.let_go.Goals as goal
+use Rattle.site_core.proofs.perform.let_go.Goals as goal
 
 pub loop-row-preserved : goal.loop-row-preserved
 loop-row-preserved c = record {

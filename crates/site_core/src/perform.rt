@@ -1,0 +1,187 @@
+//! The performance of an event that has passed its checks. It can't be refused, and nothing is
+//! looked up again.
+
+ghost use Rattle.std.specs.Prelude.{◌≡◌, if◌then◌else◌};
+ghost use Rattle.std.specs.FinMap as finite;
+ghost use Rattle.site_base.specs.declared.actor.Actor.TheVariants.{Till};
+ghost use Rattle.site_base.specs.declared.event.Event.TheVariants.{SignOff};
+ghost use Rattle.written_site.specs.SiteStep.{accepted_site, ends_at_sign_off, holds_without};
+ghost use Rattle.site_core.specs.Ready.{CanPerform, HasRoomFor, answer_by, room_by, site_by};
+ghost use Rattle.site_core.specs.SiteParts.{room_of, site_of};
+
+use crate::ending::give_back;
+use crate::points::{FoundPoint, Points};
+use crate::ready::Ready;
+use crate::site_parts::SiteParts;
+use crate::telling::told;
+use fuelling_point::PointEvent;
+use site_base::{Answer, FpNo, Millilitres, NozzleNo, TillNo};
+use till_claims::Claims;
+
+impl SiteParts {
+    /// Does what has passed its checks, and answers it.
+    #[inline(always)]
+    pub(crate) fn perform(&mut self, ready: &Ready) -> Answer
+        requires can { CanPerform (site_of self.old) ready.now }
+        requires room { HasRoomFor (room_of self.old) ready.now }
+        ensures site { site_of self.new ≡ site_by (site_of self.old) ready.now }
+        ensures answer { result ≡ answer_by (site_of self.old) ready.now }
+        ensures room { room_of self.new ≡ room_by ready.now result (room_of self.old) }
+    {
+        match ready {
+            Ready::Tell(answer) => return *answer,
+            Ready::SignOn(t) => self.signed_on.insert(*t),
+            Ready::SignOff(t) => self.leave(*t),
+            Ready::Command { point, event } => {
+                self.points.perform(point, *event);
+            }
+            Ready::Take { point, event, till } => {
+                self.points.perform(point, *event);
+                self.claims.take(point.number, *till);
+            }
+            Ready::GiveBack(point) => {
+                self.points.perform(point, PointEvent::Unassign);
+                self.claims.free(point.number);
+            }
+            Ready::Terminate(point) => return self.terminate(point),
+            Ready::Lift { point, event } => return told(&self.points.perform(point, *event)),
+            Ready::Flow {
+                point,
+                nozzle,
+                reading,
+                growth,
+            } => return self.flow(point, *nozzle, *reading, *growth),
+            Ready::HangUp {
+                point,
+                nozzle,
+                reading,
+                growth,
+            } => return self.hang_up(point, *nozzle, *reading, *growth),
+            Ready::Offline(point) => return self.go_offline(point),
+            Ready::ReplaceMeter {
+                point,
+                nozzle,
+                reading,
+            } => {
+                self.points.perform(point, PointEvent::ReplaceMeter);
+                self.meters.replace(point.number, *nozzle, *reading);
+            }
+            Ready::Ask {
+                sale,
+                request,
+                till,
+            } => return self.accounts.grant(sale, request, *till),
+            Ready::SetPrice(q, price) => {
+                self.prices.set(*q, *price);
+            }
+            Ready::CloseShift => return Answer::ShiftClosed(self.accounts.close()),
+        }
+        Answer::Done
+    }
+
+    /// The till leaves: its locked transactions are payable again, its holds of points that are
+    /// closed, idle or calling end, and it isn't signed on any more.
+    pub(crate) fn leave(&mut self, t: TillNo)
+        ensures site { site_of self.new ≡ accepted_site (site_of self.old) (Till t) SignOff }
+        ensures room { room_of self.new ≡ room_of self.old }
+    {
+        self.accounts.release_all(t);
+        let_go(&self.points, &mut self.claims, t);
+        self.signed_on.remove(t);
+    }
+
+    /// The release of the point is taken back, and its hold ends; or its fuelling is ending.
+    fn terminate(&mut self, point: &FoundPoint) -> Answer
+        requires { CanPerform (site_of self.old) (Ready.Terminate point.now) }
+        ensures site { site_of self.new ≡ site_by (site_of self.old) (Ready.Terminate point.now) }
+        ensures answer { result ≡ answer_by (site_of self.old) (Ready.Terminate point.now) }
+        ensures room { room_of self.new ≡ room_of self.old }
+    {
+        let step = self.points.perform(point, PointEvent::Terminate);
+        give_back(&mut self.claims, point.number, &step);
+        told(&step)
+    }
+
+    /// Fuel has flowed.
+    fn flow(
+        &mut self,
+        point: &FoundPoint,
+        nozzle: NozzleNo,
+        reading: Millilitres,
+        growth: u64,
+    ) -> Answer
+        requires { CanPerform (site_of self.old) (Ready.Flow point.now nozzle reading growth) }
+        ensures site { site_of self.new
+            ≡ site_by (site_of self.old) (Ready.Flow point.now nozzle reading growth) }
+        ensures answer { result
+            ≡ answer_by (site_of self.old) (Ready.Flow point.now nozzle reading growth) }
+        ensures room { room_of self.new ≡ room_of self.old }
+    {
+        let step = self
+            .points
+            .perform(point, PointEvent::Flow { nozzle, growth });
+        self.meters.advance(point.number, nozzle, reading);
+        told(&step)
+    }
+
+    /// The nozzle is put back: a fuelling under way is over.
+    fn hang_up(
+        &mut self,
+        point: &FoundPoint,
+        nozzle: NozzleNo,
+        reading: Millilitres,
+        growth: u64,
+    ) -> Answer
+        requires can { CanPerform (site_of self.old)
+            (Ready.HangUp point.now nozzle reading growth) }
+        requires room { HasRoomFor (room_of self.old)
+            (Ready.HangUp point.now nozzle reading growth) }
+        ensures site { site_of self.new
+            ≡ site_by (site_of self.old) (Ready.HangUp point.now nozzle reading growth) }
+        ensures answer { result
+            ≡ answer_by (site_of self.old) (Ready.HangUp point.now nozzle reading growth) }
+        ensures room { room_of self.new
+            ≡ room_by (Ready.HangUp point.now nozzle reading growth) result (room_of self.old) }
+    {
+        let step = self
+            .points
+            .perform(point, PointEvent::HangUp { nozzle, growth });
+        self.meters.advance(point.number, nozzle, reading);
+        let answer = self.end(point.number, growth, &step);
+        give_back(&mut self.claims, point.number, &step);
+        answer
+    }
+
+    /// The point isn't reached any more: a fuelling under way is over, and the hold ends.
+    fn go_offline(&mut self, point: &FoundPoint) -> Answer
+        requires can { CanPerform (site_of self.old) (Ready.Offline point.now) }
+        requires room { HasRoomFor (room_of self.old) (Ready.Offline point.now) }
+        ensures site { site_of self.new ≡ site_by (site_of self.old) (Ready.Offline point.now) }
+        ensures answer { result ≡ answer_by (site_of self.old) (Ready.Offline point.now) }
+        ensures room { room_of self.new
+            ≡ room_by (Ready.Offline point.now) result (room_of self.old) }
+    {
+        let step = self.points.perform(point, PointEvent::Offline);
+        let answer = self.end(point.number, 0, &step);
+        self.claims.free(point.number);
+        answer
+    }
+}
+
+/// Ends the till's holds of points that are closed, idle or calling. Every other hold stays.
+fn let_go(points: &Points, claims: &mut Claims, t: TillNo)
+    ensures { claims.new ≡ holds_without points.now claims.old t }
+{
+    for row in points.rows() {
+        let_go_of(points, claims, t, row.0);
+    }
+}
+
+/// Ends the till's hold of the point, if it has one and the point is closed, idle or calling.
+fn let_go_of(points: &Points, claims: &mut Claims, t: TillNo, p: FpNo)
+    ensures { claims.new ≡ (if ends_at_sign_off points.now claims.old t p then finite.remove claims.old p else claims.old) }
+{
+    if points.rests(p) && claims.holder(p) == Some(t) {
+        claims.free(p);
+    }
+}

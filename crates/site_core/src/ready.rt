@@ -1,0 +1,70 @@
+//! An event that has passed its checks.
+
+use crate::points::FoundPoint;
+use fuelling_point::PointEvent;
+use site_base::{Answer, Millilitres, Mills, NozzleNo, ProductNo, TillNo};
+use transaction_buffer::{FoundSale, Request};
+
+/// An event that has passed its checks, with what was found on the way: whatever its performance
+/// needs.
+#[derive(Clone, Copy, Debug)]
+pub enum Ready {
+    /// It is answered so, and nothing changes.
+    Tell(Answer),
+    /// The till signs on.
+    SignOn(TillNo),
+    /// The till signs off.
+    SignOff(TillNo),
+    /// The point does this, and nothing else changes.
+    Command {
+        point: FoundPoint,
+        event: PointEvent,
+    },
+    /// The point does this, and the till takes its hold.
+    Take {
+        point: FoundPoint,
+        event: PointEvent,
+        till: TillNo,
+    },
+    /// The hold of the point is given back.
+    GiveBack(FoundPoint),
+    /// The release of the point, or its fuelling, is terminated.
+    Terminate(FoundPoint),
+    /// A nozzle of the point is taken out: the point does this.
+    Lift {
+        point: FoundPoint,
+        event: PointEvent,
+    },
+    /// So much fuel has flowed by this nozzle of the point, whose meter reads this.
+    Flow {
+        point: FoundPoint,
+        nozzle: NozzleNo,
+        reading: Millilitres,
+        growth: u64,
+    },
+    /// This nozzle of the point is put back, whose meter reads this; so much fuel has flowed.
+    HangUp {
+        point: FoundPoint,
+        nozzle: NozzleNo,
+        reading: Millilitres,
+        growth: u64,
+    },
+    /// The point isn't reached any more.
+    Offline(FoundPoint),
+    /// The meter of this nozzle of the point is replaced by one that begins with this reading.
+    ReplaceMeter {
+        point: FoundPoint,
+        nozzle: NozzleNo,
+        reading: Millilitres,
+    },
+    /// The till asks this of a transaction.
+    Ask {
+        sale: FoundSale,
+        request: Request,
+        till: TillNo,
+    },
+    /// The product gets this price.
+    SetPrice(ProductNo, Mills),
+    /// The open shift is closed.
+    CloseShift,
+}
