@@ -2,6 +2,7 @@ pub mod Asked
 pub mod Clears
 pub mod Codes
 pub mod Figures
+pub mod FoundSales
 pub mod KeptSums
 pub mod Kept
 pub mod LetGo

@@ -1,18 +1,20 @@
 //! The transaction buffer of a site.
 
-ghost use Rattle.std.specs.Prelude.{◌≡◌, ◌≢◌, ℕ, ◌+◌, ◌^◌, ◌<◌, ◌≤◌, true, Some, is_some, length, OnErr, OnOk};
+ghost use Rattle.std.specs.Prelude.{◌≡◌, ◌≢◌, ℕ, ◌+◌, ◌^◌, ◌<◌, ◌≤◌, true, Some, None, is_some, length, IfErr, IfSome, OnErr, OnOk};
 ghost use Rattle.site_base.specs.declared.limits.TheConstants.{POINT_CELLS, UNPAID_LIMIT};
-ghost use Rattle.transaction_buffer.specs.Sales.{key, no_sales, HasNoneLater, sale_of, next_number, unpaid_at, with_new, is_new, new_sale, shown};
+ghost use Rattle.transaction_buffer.specs.Sales.{key, no_sales, HasNoneLater, has_sale, sale_of, next_number, unpaid_at, with_new, is_new, new_sale, shown};
 ghost use Rattle.transaction_buffer.specs.Asked.{Asked};
 ghost use Rattle.transaction_buffer.specs.Figures.{figure_of};
+ghost use Rattle.transaction_buffer.specs.FoundSales.{key_of, IsPlaced};
 ghost use Rattle.transaction_buffer.specs.LetGo.{AreLetGo};
-ghost use Rattle.transaction_buffer.specs.TransactionTable.{after_sign_off};
+ghost use Rattle.transaction_buffer.specs.TransactionTable.{after_request, after_sign_off, answer_of, refusal_of};
 ghost use Rattle.transaction_buffer.specs.Sums.{volume_of, volume_by};
 ghost use Rattle.transaction_buffer.specs.Rooms.{one_taken, room_at};
 ghost use Rattle.transaction_buffer.specs.Shelves.{sales_on};
 ghost use Rattle.transaction_buffer.specs.KeptSums.{AreSums};
 
 use crate::figure::Figure;
+use crate::found_sale::FoundSale;
 use crate::locked_points::LockedPoints;
 use crate::recount::counted_on;
 use crate::request::Request;
@@ -124,9 +126,69 @@ impl Buffer {
         let before = shelf.lockers();
         shelf.push(sale);
         let after = shelf.lockers();
-        self.sums = self.sums.with(&sale);
+        self.sums.add(&sale);
         self.locked.note(p, before, after);
         seq
+    }
+
+    /// The transaction, where it is. None where it isn't there.
+    pub fn find(&self, p: FpNo, shift: ShiftNo, s: Seq) -> Option<FoundSale>
+        ensures there { is_some result ≡ has_sale (key shift p s) self.now.sales }
+        ensures key { IfSome result (λ found. key_of found ≡ key shift p s) }
+        ensures placed { IfSome result (λ found. IsPlaced found self.now.sales) }
+    {
+        let shelf = &self.shelves[p.cell()];
+        let place = shelf.find(shift, s)?;
+        Some(FoundSale {
+            shift,
+            point: p,
+            number: s,
+            place,
+        })
+    }
+
+    /// The transaction as a read shows it.
+    pub fn view(&self, found: &FoundSale) -> TransactionView
+        requires placed { IsPlaced found.now self.now.sales }
+        ensures { shown (key_of found.now) self.now.sales ≡ Some result }
+    {
+        let sale = self.sale(found);
+        sale.view()
+    }
+
+    /// Why the till's request for the transaction would be refused, if it would: `AlreadyCleared`
+    /// where a till has cleared it, `LockedByOther` where another till has locked it, and
+    /// `NotLocked` where none has, but the request isn't to lock it.
+    pub fn judge(&self, found: &FoundSale, request: &Request, t: TillNo) -> Result<(), Refusal>
+        requires placed { IsPlaced found.now self.now.sales }
+        ensures accepted { OnOk result
+            (refusal_of request.now t (key_of found.now) self.now.sales ≡ None) }
+        ensures refused { IfErr result (λ refusal.
+            refusal_of request.now t (key_of found.now) self.now.sales ≡ Some refusal) }
+    {
+        let sale = self.sale(found);
+        sale.judge(request, t)
+    }
+
+    /// Does what the transaction table says of a request that `judge` accepts. It can't be refused.
+    pub fn grant(&mut self, found: &FoundSale, request: &Request, t: TillNo) -> Answer
+        requires placed { IsPlaced found.now self.old.sales }
+        requires accepted { refusal_of request.now t (key_of found.now) self.old.sales ≡ None }
+        ensures answer { result ≡ answer_of request.now t (key_of found.now) self.old.sales }
+        ensures sales { self.new.sales
+            ≡ after_request request.now t (key_of found.now) self.old.sales }
+        ensures rooms { self.new.rooms ≡ self.old.rooms }
+    {
+        let old = self.sale(found);
+        let (new, answer) = old.grant(request, t);
+        let shelf = &mut self.shelves[found.point.cell()];
+        let before = shelf.lockers();
+        shelf.put(found.place, new);
+        let after = shelf.lockers();
+        self.sums.remove(&old);
+        self.sums.add(&new);
+        self.locked.note(found.point, before, after);
+        answer
     }
 
     /// The till locks a transaction, so that no other till can clear it: Locked. Where it has
@@ -178,8 +240,8 @@ impl Buffer {
     {
         let cell = t.cell();
         let (one, other) = (self.locked.one[cell], self.locked.other[cell]);
-        self.sums = let_go_at(&mut self.shelves, one, &self.sums, t);
-        self.sums = let_go_at(&mut self.shelves, other, &self.sums, t);
+        let_go_at(&mut self.shelves, one, &mut self.sums, t);
+        let_go_at(&mut self.shelves, other, &mut self.sums, t);
         self.locked.forget(t);
     }
 
@@ -187,11 +249,8 @@ impl Buffer {
     pub fn row(&self, p: FpNo, shift: ShiftNo, s: Seq) -> Option<TransactionView>
         ensures { result ≡ shown (key shift p s) self.now.sales }
     {
-        let shelf = &self.shelves[p.cell()];
-        match shelf.get(shift, s) {
-            Some(sale) => Some(sale.view()),
-            None => None,
-        }
+        let found = self.find(p, shift, s)?;
+        Some(self.view(&found))
     }
 
     /// The millilitres of product q in the transactions of this status. Those of all transactions
@@ -225,36 +284,36 @@ impl Buffer {
         ensures asked { Asked request.now t (key shift p s) self.old.sales self.new.sales result }
         ensures rooms { self.new.rooms ≡ self.old.rooms }
     {
-        let shelf = &mut self.shelves[p.cell()];
-        let Some(old) = shelf.get(shift, s) else {
+        let Some(found) = self.find(p, shift, s) else {
             return Err(Refusal::NoSuchTransaction);
         };
-        let (new, answer) = old.asked(request, t)?;
-        let before = shelf.lockers();
-        shelf.put(s, new);
-        let after = shelf.lockers();
-        let left = self.sums.without(&old);
-        self.sums = left.with(&new);
-        self.locked.note(p, before, after);
-        Ok(answer)
+        self.judge(&found, request, t)?;
+        Ok(self.grant(&found, request, t))
+    }
+
+    /// The found sale.
+    fn sale(&self, found: &FoundSale) -> Sale
+        requires { IsPlaced found.now self.now.sales }
+        ensures { sale_of (key_of found.now) self.now.sales ≡ Some result }
+    {
+        let shelf = &self.shelves[found.point.cell()];
+        shelf.at(found.place)
     }
 }
 
-/// Makes the sales of these points that this till has locked payable, and answers the sums then.
-fn let_go_at(shelves: &mut [Shelf], points: PointSet, sums: &Sums, t: TillNo) -> Sums
+/// Makes the sales of these points that this till has locked payable, in the sums too.
+fn let_go_at(shelves: &mut [Shelf], points: PointSet, sums: &mut Sums, t: TillNo)
     requires cells { length shelves.old ≡ POINT_CELLS }
-    requires sums { AreSums (sales_on shelves.old) sums.now }
+    requires sums { AreSums (sales_on shelves.old) sums.old }
     ensures cells { length shelves.new ≡ POINT_CELLS }
     ensures shelves { AreLetGo t points shelves.old shelves.new }
-    ensures sums { AreSums (sales_on shelves.new) result }
+    ensures sums { AreSums (sales_on shelves.new) sums.new }
 {
-    let mut new = *sums;
     let mut left = points;
     while let Some(p) = left.first() {
         let shelf = &mut shelves[p.cell()];
-        new = shelf.let_go_sums(&new, t);
+        shelf.let_go_sums(sums, t);
         shelf.let_go(t);
         left.remove(p);
     }
-    new
 }

@@ -31,10 +31,10 @@ impl Figure {
         match self {
             Figure::Volume(q, status) if sale.has_status(*status) => sale.volume_in(*q),
             Figure::Clears(t) if sale.is_cleared_by(*t) => 1,
-            Figure::Cents(t) if sale.is_cleared_by(*t) => sale.cents(),
+            Figure::Cents(t) if sale.is_cleared_by(*t) => sale.cents.get(),
             Figure::ClearsIn(h, t) if sale.is_cleared_in(*h) && sale.is_cleared_by(*t) => 1,
             Figure::CentsIn(h, t) if sale.is_cleared_in(*h) && sale.is_cleared_by(*t) => {
-                sale.cents()
+                sale.cents.get()
             }
             Figure::ClearedIn(h, q) if sale.is_cleared_in(*h) => sale.volume_in(*q),
             _ => 0,

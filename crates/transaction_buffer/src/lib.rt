@@ -5,6 +5,7 @@
 
 mod buffer;
 mod figure;
+mod found_sale;
 mod laws;
 mod locked_points;
 mod recount;
@@ -18,6 +19,7 @@ mod unpaid_places;
 
 pub use buffer::Buffer;
 pub use figure::Figure;
+pub use found_sale::FoundSale;
 pub use laws::{
     cleared_by_its_locker, cleared_for_good, counted_after, one_locker, read_after, replies_tell,
     summed_after, volumes_add_up, volumes_move,

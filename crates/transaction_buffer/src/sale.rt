@@ -1,10 +1,9 @@
 //! One sale.
 
-ghost use Rattle.std.specs.Prelude.{◌≡◌, ◌≤◌};
+ghost use Rattle.std.specs.Prelude.{◌≡◌, ◌≤◌, None, Some, IfErr, OnOk};
 ghost use Rattle.site_base.specs.declared.limits.TheConstants.{PRODUCTS};
 ghost use Rattle.transaction_buffer.specs.Sales.{is_unpaid, new_sale, status_of, view_of};
-ghost use Rattle.transaction_buffer.specs.Asked.{outcome};
-ghost use Rattle.transaction_buffer.specs.TransactionTable.{line_for, let_go, locker};
+ghost use Rattle.transaction_buffer.specs.TransactionTable.{answer_in, let_go, line_for, locker, refusal_in, sale_after_request};
 ghost use Rattle.transaction_buffer.specs.Clears.{is_cleared_by, is_cleared_in};
 ghost use Rattle.transaction_buffer.specs.Sums.{has_status, volume_in, volume_locked_by};
 
@@ -22,13 +21,20 @@ const _: () = prove!(size_of::<Sale>() <= 48);
 /// A sale, and how it stands.
 #[derive(Clone, Copy, Drop)]
 pub struct Sale {
-    shift: ShiftNo,
-    price: Mills,
-    volume: Millilitres,
-    cents: Cents,
-    prepaid: Option<u32>,
-    product: ProductNo,
-    standing: Standing,
+    /// The shift in which it was sold.
+    pub shift: ShiftNo,
+    /// The price taken.
+    pub price: Mills,
+    /// What flowed.
+    pub volume: Millilitres,
+    /// The amount due.
+    pub cents: Cents,
+    /// The prepaid cents, where it was prepaid.
+    pub prepaid: Option<u32>,
+    /// Its product.
+    pub product: ProductNo,
+    /// How it stands.
+    pub standing: Standing,
 }
 
 impl Model for Sale {
@@ -111,34 +117,6 @@ impl Sale {
         }
     }
 
-    /// The shift in which it was sold.
-    pub fn shift(&self) -> ShiftNo
-        ensures { result ≡ self.now.shift }
-    {
-        self.shift
-    }
-
-    /// Its product.
-    pub fn product(&self) -> ProductNo
-        ensures { result ≡ self.now.product }
-    {
-        self.product
-    }
-
-    /// Its millilitres.
-    pub fn volume(&self) -> u64
-        ensures { result ≡ self.now.volume }
-    {
-        self.volume.get()
-    }
-
-    /// Its cents.
-    pub fn cents(&self) -> u64
-        ensures { result ≡ self.now.cents }
-    {
-        self.cents.get()
-    }
-
     /// Its millilitres, if it is of this product; else 0.
     pub fn volume_in(&self, q: ProductNo) -> u64
         ensures { result ≡ volume_in q self.now }
@@ -203,29 +181,47 @@ impl Sale {
         }
     }
 
-    /// Its millilitres, if it is of this product and this till has locked it; else 0.
-    pub fn volume_locked(&self, q: ProductNo, t: TillNo) -> u64
-        ensures { result ≡ volume_locked_by q t self.now }
+    /// Its millilitres, if this till has locked it; else 0.
+    pub fn volume_locked(&self, t: TillNo) -> u64
+        ensures { result ≡ volume_locked_by self.now.product t self.now }
     {
-        let volume = self.volume.get();
         match self.standing {
-            Standing::LockedBy(u) if u.get() == t.get() && self.product.get() == q.get() => volume,
+            Standing::LockedBy(u) if u.get() == t.get() => self.volume.get(),
             _ => 0,
         }
     }
 
-    /// What the transaction table says of the till's request: the sale afterwards and the answer,
-    /// or the refusal.
-    pub fn asked(&self, request: &Request, t: TillNo) -> Result<(Sale, Answer), Refusal>
-        ensures outcome { result ≡ outcome (line_for request.now t self.now) self.now }
+    /// Why the transaction table would refuse the till's request, if it would.
+    pub fn judge(&self, request: &Request, t: TillNo) -> Result<(), Refusal>
+        ensures accepted { OnOk result (refusal_in (line_for request.now t self.now) ≡ None) }
+        ensures refused { IfErr result (λ refusal.
+            refusal_in (line_for request.now t self.now) ≡ Some refusal) }
+    {
+        match self.standing {
+            Standing::Payable => match request {
+                Request::Lock => Ok(()),
+                _ => Err(Refusal::NotLocked),
+            },
+            Standing::LockedBy(u) if u.get() == t.get() => Ok(()),
+            Standing::LockedBy(u) => Err(Refusal::LockedByOther(u)),
+            Standing::ClearedBy(u, _) => Err(Refusal::AlreadyCleared(u)),
+        }
+    }
+
+    /// The sale after a request that `judge` accepts, and the answer.
+    pub fn grant(&self, request: &Request, t: TillNo) -> (Sale, Answer)
+        requires { refusal_in (line_for request.now t self.now) ≡ None }
+        ensures sale { result.0 ≡ sale_after_request request.now t self.now }
+        ensures answer { result.1 ≡ answer_in (line_for request.now t self.now) }
         ensures range { (1 ≤ self.now.product) × (self.now.product ≤ PRODUCTS) }
     {
         let _ = self.product.get();
-        match request {
-            Request::Lock => self.locked(t),
-            Request::Unlock => self.unlocked(t),
-            Request::Clear(shift) => self.cleared(t, *shift),
-        }
+        let (standing, answer) = match request {
+            Request::Lock => (Standing::LockedBy(t), Answer::Locked),
+            Request::Unlock => (Standing::Payable, Answer::Unlocked),
+            Request::Clear(shift) => (Standing::ClearedBy(t, *shift), Answer::Cleared(self.cents)),
+        };
+        (Sale { standing, ..*self }, answer)
     }
 
     /// The sale after the sign-off of a till: payable where this till has locked it.
@@ -233,66 +229,11 @@ impl Sale {
         ensures { result ≡ let_go t self.now }
     {
         match self.standing {
-            Standing::LockedBy(u) => {
-                if u.get() == t.get() {
-                    self.standing_so(Standing::Payable)
-                } else {
-                    *self
-                }
-            }
+            Standing::LockedBy(u) if u.get() == t.get() => Sale {
+                standing: Standing::Payable,
+                ..*self
+            },
             _ => *self,
-        }
-    }
-
-    fn standing_so(&self, standing: Standing) -> Sale
-        ensures { result ≡ record self.now { standing = standing } }
-    {
-        Sale { standing, ..*self }
-    }
-
-    fn locked(&self, t: TillNo) -> Result<(Sale, Answer), Refusal>
-        ensures { result ≡ outcome (line_for Request.Lock t self.now) self.now }
-    {
-        match self.standing {
-            Standing::Payable => Ok((self.standing_so(Standing::LockedBy(t)), Answer::Locked)),
-            Standing::LockedBy(u) => {
-                if u.get() != t.get() {
-                    return Err(Refusal::LockedByOther(u));
-                }
-                Ok((*self, Answer::Locked))
-            }
-            Standing::ClearedBy(u, _) => Err(Refusal::AlreadyCleared(u)),
-        }
-    }
-
-    fn unlocked(&self, t: TillNo) -> Result<(Sale, Answer), Refusal>
-        ensures { result ≡ outcome (line_for Request.Unlock t self.now) self.now }
-    {
-        match self.standing {
-            Standing::Payable => Err(Refusal::NotLocked),
-            Standing::LockedBy(u) => {
-                if u.get() != t.get() {
-                    return Err(Refusal::LockedByOther(u));
-                }
-                Ok((self.standing_so(Standing::Payable), Answer::Unlocked))
-            }
-            Standing::ClearedBy(u, _) => Err(Refusal::AlreadyCleared(u)),
-        }
-    }
-
-    fn cleared(&self, t: TillNo, shift: ShiftNo) -> Result<(Sale, Answer), Refusal>
-        ensures { result ≡ outcome (line_for (Request.Clear shift) t self.now) self.now }
-    {
-        match self.standing {
-            Standing::Payable => Err(Refusal::NotLocked),
-            Standing::LockedBy(u) => {
-                if u.get() != t.get() {
-                    return Err(Refusal::LockedByOther(u));
-                }
-                let sale = self.standing_so(Standing::ClearedBy(t, shift));
-                Ok((sale, Answer::Cleared(self.cents)))
-            }
-            Standing::ClearedBy(u, _) => Err(Refusal::AlreadyCleared(u)),
         }
     }
 }

@@ -1,8 +1,8 @@
 //! The sales of one fuelling point.
 
-ghost use Rattle.std.specs.Prelude.{◌≡◌, ℕ, ◌+◌, ◌-◌, ◌^◌, ◌<◌, ◌≤◌, [], ◌∷◌, ◌++◌, true, is_some, IfSome, length, map, OnErr, OnOk, slice_index_or};
+ghost use Rattle.std.specs.Prelude.{◌≡◌, ℕ, ◌+◌, ◌-◌, ◌^◌, ◌<◌, ◌≤◌, [], ◌∷◌, ◌++◌, true, IfSome, length, map, OnErr, OnOk, slice_index_or, slice_set};
 ghost use Rattle.site_base.specs.declared.limits.TheConstants.{GREATEST_SEQ, GREATEST_SHIFT, UNPAID_LIMIT};
-ghost use Rattle.transaction_buffer.specs.Sales.{is_unpaid, made_in, next_after, sale_in, unpaid_among, with_in};
+ghost use Rattle.transaction_buffer.specs.Sales.{Sale, is_unpaid, made_in, next_after, unpaid_among};
 ghost use Rattle.transaction_buffer.specs.Shelves.{NoneAfter, no_span, place_in, shifts_of};
 ghost use Rattle.transaction_buffer.specs.TransactionTable.{let_go};
 ghost use Rattle.transaction_buffer.specs.UnpaidPlaces.{figure_at, AreUnpaid, IsLetGoAt};
@@ -94,14 +94,25 @@ impl Shelf {
         self.unpaid.count()
     }
 
-    /// The sale of this shift with this number, if there is one.
-    pub fn get(&self, shift: ShiftNo, s: Seq) -> Option<Sale>
-        ensures { result ≡ sale_in shift s self.now.sales }
+    /// The place of the sale of this shift with this number, if there is one.
+    pub fn find(&self, shift: ShiftNo, number: Seq) -> Option<usize>
+        ensures { result ≡ place_in shift number (shifts_of self.now.sales) }
     {
-        match self.place(shift, s) {
-            Some(place) => Some(self.sales[place]),
-            None => None,
+        let span = span_of(&self.spans, shift);
+        let number = number.get();
+        if number <= span.count {
+            Some(span.first + (usize::from(number) - 1))
+        } else {
+            None
         }
+    }
+
+    /// The sale at this place.
+    pub fn at(&self, place: usize) -> Sale
+        requires { place < length self.now.sales }
+        ensures { (d : Sale) → result ≡ slice_index_or self.now.sales place d }
+    {
+        self.sales[place]
     }
 
     /// Adds a sale, where room is reserved, no sale is of a later shift, its shift has a number
@@ -114,7 +125,7 @@ impl Shelf {
         ensures sales { self.new.sales ≡ self.old.sales ++ sale ∷ [] }
         ensures room { self.new.room + 1 ≡ self.old.room }
     {
-        let cell = usize::from(sale.shift().get()) - 1;
+        let cell = usize::from(sale.shift.get()) - 1;
         let span = self.spans[cell];
         let place = self.sales.len();
         self.spans[cell] = span.grown(place);
@@ -122,18 +133,16 @@ impl Shelf {
         self.sales.push_reserved(sale);
     }
 
-    /// Puts a sale in the place of the one of the same shift with this number, which is there and
-    /// unpaid.
-    pub fn put(&mut self, s: Seq, sale: Sale)
-        requires there { is_some (sale_in sale.shift s self.old.sales) ≡ true }
-        requires unpaid { IfSome (sale_in sale.shift s self.old.sales) (λ x.
-            is_unpaid x.standing ≡ true) }
-        ensures sales { self.new.sales ≡ with_in sale.shift s sale self.old.sales }
+    /// Puts a sale in the place of an unpaid one of the same shift.
+    pub fn put(&mut self, place: usize, sale: Sale)
+        requires within { place < length self.old.sales }
+        requires unpaid { (d : Sale)
+            → is_unpaid (slice_index_or self.old.sales place d).standing ≡ true }
+        requires shift { (d : Sale)
+            → (slice_index_or self.old.sales place d).shift ≡ sale.shift }
+        ensures sales { self.new.sales ≡ slice_set self.old.sales place sale }
         ensures room { self.new.room ≡ self.old.room }
     {
-        let Some(place) = self.place(sale.shift(), s) else {
-            unreachable!();
-        };
         self.unpaid = self.unpaid.after_change(place, sale.is_unpaid());
         self.sales[place] = sale;
     }
@@ -158,14 +167,15 @@ impl Shelf {
         let_go_unpaid(&mut self.sales, unpaid, t);
     }
 
-    /// The sums, in which the sales that this till has locked are, once they are payable.
-    pub fn let_go_sums(&self, sums: &Sums, t: TillNo) -> Sums
-        requires { CanMove (λ q. sum_among (volume_locked_by q t) self.now.sales) sums.now }
-        ensures { AreMoved (λ q. sum_among (volume_locked_by q t) self.now.sales) sums.now result }
+    /// Moves what this till has locked from the locked sums to the payable ones.
+    pub fn let_go_sums(&self, sums: &mut Sums, t: TillNo)
+        requires { CanMove (λ q. sum_among (volume_locked_by q t) self.now.sales) sums.old }
+        ensures { AreMoved (λ q. sum_among (volume_locked_by q t) self.now.sales) sums.old
+            sums.new }
     {
         let sales: &[Sale] = &self.sales;
-        let left = let_go_sum_at(sales, self.unpaid.one, sums, t);
-        let_go_sum_at(sales, self.unpaid.other, &left, t)
+        let_go_sum_at(sales, self.unpaid.one, sums, t);
+        let_go_sum_at(sales, self.unpaid.other, sums, t);
     }
 
     /// The figure over its sales, which fits.
@@ -174,19 +184,6 @@ impl Shelf {
         ensures { result ≡ sum_among (figure_in figure.now) self.now.sales }
     {
         counted_among(&self.sales, figure)
-    }
-
-    /// The place of the sale of this shift with this number, if there is one.
-    fn place(&self, shift: ShiftNo, s: Seq) -> Option<usize>
-        ensures { result ≡ place_in shift s (shifts_of self.now.sales) }
-    {
-        let span = span_of(&self.spans, shift);
-        let number = s.get();
-        if number <= span.count {
-            Some(span.first + (usize::from(number) - 1))
-        } else {
-            None
-        }
     }
 }
 
@@ -246,16 +243,15 @@ fn locker_at(sales: &[Sale], place: Option<usize>) -> Option<TillNo>
     }
 }
 
-/// The sums once the sale at this place is payable, if this till has locked it.
-fn let_go_sum_at(sales: &[Sale], place: Option<usize>, sums: &Sums, t: TillNo) -> Sums
-    requires { CanMove (λ q. figure_at (volume_locked_by q t) place sales.now) sums.now }
-    ensures { AreMoved (λ q. figure_at (volume_locked_by q t) place sales.now) sums.now result }
+/// Moves the volume of the sale at this place from the locked sums to the payable ones, if this
+/// till has locked it.
+fn let_go_sum_at(sales: &[Sale], place: Option<usize>, sums: &mut Sums, t: TillNo)
+    requires { CanMove (λ q. figure_at (volume_locked_by q t) place sales.now) sums.old }
+    ensures { AreMoved (λ q. figure_at (volume_locked_by q t) place sales.now) sums.old sums.new }
 {
-    let Some(i) = place else {
-        return *sums;
-    };
-    match sales.get(i) {
-        Some(sale) => sums.let_go(sale, t),
-        None => *sums,
+    if let Some(i) = place {
+        if let Some(sale) = sales.get(i) {
+            sums.let_go(sale, t);
+        }
     }
 }

@@ -46,88 +46,45 @@ impl Sums {
         }
     }
 
-    /// The sums with this sale's volume too, which fits.
-    pub fn with(&self, sale: &Sale) -> Sums
-        requires { kept_sum sale.now.product (status_of sale.now.standing) self.now
+    /// Adds this sale's volume, which fits.
+    pub fn add(&mut self, sale: &Sale)
+        requires { kept_sum sale.now.product (status_of sale.now.standing) self.old
             + sale.now.volume < 2 ^ 64 }
-        ensures { AreWith sale.now self.now result }
+        ensures { AreWith sale.now self.old self.new }
     {
-        let cell = sale.product().cell();
-        let volume = sale.volume();
+        let cell = sale.product.cell();
+        let volume = sale.volume.get();
         match sale.status() {
-            Status::Payable => Sums {
-                payable: raised(&self.payable, cell, volume),
-                ..*self
-            },
-            Status::Locked => Sums {
-                locked: raised(&self.locked, cell, volume),
-                ..*self
-            },
-            Status::Cleared => Sums {
-                cleared: raised(&self.cleared, cell, volume),
-                ..*self
-            },
+            Status::Payable => self.payable[cell] += volume,
+            Status::Locked => self.locked[cell] += volume,
+            Status::Cleared => self.cleared[cell] += volume,
         }
     }
 
-    /// The sums without this sale's volume, which is among them.
-    pub fn without(&self, sale: &Sale) -> Sums
+    /// Takes this sale's volume out, which is among them.
+    pub fn remove(&mut self, sale: &Sale)
         requires { sale.now.volume
-            ≤ kept_sum sale.now.product (status_of sale.now.standing) self.now }
-        ensures { AreWithout sale.now self.now result }
+            ≤ kept_sum sale.now.product (status_of sale.now.standing) self.old }
+        ensures { AreWithout sale.now self.old self.new }
     {
-        let cell = sale.product().cell();
-        let volume = sale.volume();
+        let cell = sale.product.cell();
+        let volume = sale.volume.get();
         match sale.status() {
-            Status::Payable => Sums {
-                payable: lowered(&self.payable, cell, volume),
-                ..*self
-            },
-            Status::Locked => Sums {
-                locked: lowered(&self.locked, cell, volume),
-                ..*self
-            },
-            Status::Cleared => Sums {
-                cleared: lowered(&self.cleared, cell, volume),
-                ..*self
-            },
+            Status::Payable => self.payable[cell] -= volume,
+            Status::Locked => self.locked[cell] -= volume,
+            Status::Cleared => self.cleared[cell] -= volume,
         }
     }
 
-    /// The sums once this sale is payable, if this till has locked it.
-    pub fn let_go(&self, sale: &Sale, t: TillNo) -> Sums
-        requires { CanMove (λ q. volume_locked_by q t sale.now) self.now }
-        ensures { AreMoved (λ q. volume_locked_by q t sale.now) self.now result }
+    /// Moves this sale's volume from the locked sums to the payable ones, if this till has locked
+    /// it.
+    pub fn let_go(&mut self, sale: &Sale, t: TillNo)
+        requires { CanMove (λ q. volume_locked_by q t sale.now) self.old }
+        ensures { AreMoved (λ q. volume_locked_by q t sale.now) self.old self.new }
     {
-        let q = sale.product();
-        let volume = sale.volume_locked(q, t);
-        let cell = q.cell();
-        Sums {
-            payable: raised(&self.payable, cell, volume),
-            locked: lowered(&self.locked, cell, volume),
-            ..*self
-        }
+        let cell = sale.product.cell();
+        let volume = sale.volume_locked(t);
+        self.payable[cell] += volume;
+        self.locked[cell] -= volume;
     }
-}
-
-/// One cell raised by so much.
-fn raised(cells: &[u64; PRODUCT_CELLS], cell: usize, volume: u64) -> [u64; PRODUCT_CELLS]
-    requires within { cell < PRODUCT_CELLS }
-    requires fits { slice_index cells.now cell + volume < 2 ^ 64 }
-    ensures { result ≡ slice_set cells.now cell (slice_index cells.now cell + volume) }
-{
-    let mut new = *cells;
-    new[cell] += volume;
-    new
-}
-
-/// One cell lowered by so much.
-fn lowered(cells: &[u64; PRODUCT_CELLS], cell: usize, volume: u64) -> [u64; PRODUCT_CELLS]
-    requires within { cell < PRODUCT_CELLS }
-    requires among { volume ≤ slice_index cells.now cell }
-    ensures { result ≡ slice_set cells.now cell (slice_index cells.now cell - volume) }
-{
-    let mut new = *cells;
-    new[cell] -= volume;
-    new
 }

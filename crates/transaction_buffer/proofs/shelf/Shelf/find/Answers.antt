@@ -2,8 +2,8 @@ use Rattle.std.proofs.Common.{◌≡◌, ◌+◌, ◌-◌, ◌<◌, length, get_
 use Rattle.transaction_buffer.specs.declared.span.Span.{Span}
 use Rattle.transaction_buffer.specs.Shelves.{no_span, shifts_of, place_in, IsSpan}
 use Rattle.transaction_buffer.proofs.Spans.{stands, no_place}
-use Rattle.transaction_buffer.proofs.shelf.Shelf.place.Goals as goal
-use Rattle.transaction_buffer.proofs.shelf.Shelf.place.Goals.{After-get-number}
+use Rattle.transaction_buffer.proofs.shelf.Shelf.find.Goals as goal
+use Rattle.transaction_buffer.proofs.shelf.Shelf.find.Goals.{After-get-number}
 
 -- the shift's span
 its_span : (c : After-get-number)
