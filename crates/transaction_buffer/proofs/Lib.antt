@@ -3,6 +3,7 @@ pub mod Counting
 pub mod InShift
 pub mod Kept
 pub mod LetGo
+pub mod FoundSales
 pub mod Lockers
 pub mod Maps
 pub mod Numbers

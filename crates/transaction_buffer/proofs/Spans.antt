@@ -103,6 +103,13 @@ stands h n (x ∷ xs) i is =
         ((one_further (place_in h n (shifts_of xs)) (suc i) (sym at ∙ is)).1 i refl))
 
 -- the shifts stay, where a sale is replaced by one of its shift
+pub shifts_put : (xs : List Sale) (i : ℕ) (y d : Sale) → i < length xs
+    → (get_or xs i d).shift ≡ y.shift → shifts_of (set xs i y) ≡ shifts_of xs
+shifts_put [] i y d within same = absurd (omega arith)
+shifts_put (x ∷ xs) zero y d within same = ap (λ (k : ℕ). k ∷ shifts_of xs) (sym same)
+shifts_put (x ∷ xs) (suc i) y d within same =
+    ap (λ ks. x.shift ∷ ks) (shifts_put xs i y d (omega arith) same)
+
 pub shifts_with : (h n : ℕ) (xs : List Sale) (y : Sale) → y.shift ≡ h
     → shifts_of (with_in h n y xs) ≡ shifts_of xs
 shifts_with h n [] y its = refl

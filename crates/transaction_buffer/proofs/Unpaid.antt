@@ -68,15 +68,17 @@ unpaid_let_go t (x ∷ xs) =
     ∙ ap (λ (n : ℕ). cond (is_unpaid x.standing) 1 0 + n) (unpaid_let_go t xs)
 
 -- how many are unpaid, once a sale is in the place of an unpaid one
-pub unpaid_moved : (h n : ℕ) (xs : List Sale) (x y : Sale) → sale_in h n xs ≡ Some x
-    → is_unpaid x.standing ≡ true
-    → unpaid_among (with_in h n y xs) + 1 ≡ unpaid_among xs + cond (is_unpaid y.standing) 1 0
-unpaid_moved h n xs x y is unpaid =
-    let all = unpaid_sum xs in
-    let new = unpaid_sum (with_in h n y xs) in
-    let moved = with_sum one_if_unpaid h n xs x y is in
-    let was : one_if_unpaid x ≡ 1 = ap (λ (b : Bool). cond b 1 0) unpaid in
-    omega (arith, all, new, moved, was)
+pub unpaid_put : (xs : List Sale) (i : ℕ) (y d : Sale) → i < length xs
+    → is_unpaid (get_or xs i d).standing ≡ true
+    → unpaid_among (set xs i y) + 1 ≡ unpaid_among xs + cond (is_unpaid y.standing) 1 0
+unpaid_put [] i y d within is = absurd (omega arith)
+unpaid_put (x ∷ xs) zero y d within is =
+    let was : one_if_unpaid x ≡ 1 = ap (λ (b : Bool). cond b 1 0) is in
+    omega (arith, was)
+unpaid_put (x ∷ xs) (suc i) y d within is =
+    let rest : unpaid_among (set xs i y) + 1 ≡ unpaid_among xs + cond (is_unpaid y.standing) 1 0 =
+    unpaid_put xs i y d (omega arith) is in
+    omega (arith, rest)
 
 -- any sale in the place of the unpaid one of its shift and number
 pub unpaid_with : (h n : ℕ) (xs : List Sale) (x y : Sale) → sale_in h n xs ≡ Some x

@@ -138,13 +138,15 @@ impl Buffer {
         ensures placed { IfSome result (λ found. IsPlaced found self.now.sales) }
     {
         let shelf = &self.shelves[p.cell()];
-        let place = shelf.find(shift, s)?;
-        Some(FoundSale {
-            shift,
-            point: p,
-            number: s,
-            place,
-        })
+        match shelf.find(shift, s) {
+            Some(place) => Some(FoundSale {
+                shift,
+                point: p,
+                number: s,
+                place,
+            }),
+            None => None,
+        }
     }
 
     /// The transaction as a read shows it.

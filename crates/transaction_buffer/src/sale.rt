@@ -117,6 +117,13 @@ impl Sale {
         }
     }
 
+    /// The shift in which it was sold.
+    pub fn shift(&self) -> ShiftNo
+        ensures { result ≡ self.now.shift }
+    {
+        self.shift
+    }
+
     /// Its millilitres, if it is of this product; else 0.
     pub fn volume_in(&self, q: ProductNo) -> u64
         ensures { result ≡ volume_in q self.now }

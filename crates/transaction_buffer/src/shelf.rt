@@ -125,7 +125,7 @@ impl Shelf {
         ensures sales { self.new.sales ≡ self.old.sales ++ sale ∷ [] }
         ensures room { self.new.room + 1 ≡ self.old.room }
     {
-        let cell = usize::from(sale.shift.get()) - 1;
+        let cell = usize::from(sale.shift().get()) - 1;
         let span = self.spans[cell];
         let place = self.sales.len();
         self.spans[cell] = span.grown(place);
@@ -249,9 +249,9 @@ fn let_go_sum_at(sales: &[Sale], place: Option<usize>, sums: &mut Sums, t: TillN
     requires { CanMove (λ q. figure_at (volume_locked_by q t) place sales.now) sums.old }
     ensures { AreMoved (λ q. figure_at (volume_locked_by q t) place sales.now) sums.old sums.new }
 {
-    if let Some(i) = place {
-        if let Some(sale) = sales.get(i) {
-            sums.let_go(sale, t);
-        }
+    if let Some(i) = place
+        && let Some(sale) = sales.get(i)
+    {
+        sums.let_go(sale, t);
     }
 }

@@ -3,9 +3,9 @@ use Rattle.transaction_buffer.proofs.Kept.{can_let_go, kept_let_go}
 use Rattle.transaction_buffer.proofs.LetGo.{stages_next}
 use Rattle.transaction_buffer.proofs.buffer.let_go_at.Goals as goal
 
-pub let_go_sums-new-requires : goal.let_go_sums-new-requires
-let_go_sums-new-requires c =
-    can_let_go c.args.t c.loop-p.shelves c.cell.result c.index-shelves-cell.result c.loop-p.new
+pub let_go_sums-requires : goal.let_go_sums-requires
+let_go_sums-requires c =
+    can_let_go c.args.t c.loop-p.shelves c.cell.result c.index-shelves-cell.result c.loop-p.sums
     (omega (arith, c.loop-p.invariant.cells)) c.loop-p.invariant.sums
 
 pub loop-p-preserved : goal.loop-p-preserved
@@ -19,7 +19,7 @@ loop-p-preserved c =
           c.args.shelves.now old d c.let_go.new.self c.requires.cells c.loop-p.invariant.cells
           c.cell.ensures.place (omega arith) c.in-Some.ensures.member c.remove.ensures.others
           c.let_go.ensures c.loop-p.invariant.stages;
-      sums = kept_let_go c.args.t old i d c.loop-p.new (omega (arith, c.loop-p.invariant.cells))
-          c.loop-p.invariant.sums c.let_go.new.self c.let_go.ensures.sales c.let_go_sums-new.result
-          c.let_go_sums-new.ensures;
+      sums = kept_let_go c.args.t old i d c.loop-p.sums (omega (arith, c.loop-p.invariant.cells))
+          c.loop-p.invariant.sums c.let_go.new.self c.let_go.ensures.sales c.let_go_sums.new.sums
+          c.let_go_sums.ensures;
     }

@@ -9,7 +9,7 @@ abbrev pub invariant-loop-p : goal.invariant-loop-p
 invariant-loop-p l = record {
   cells : length l.shelves ≡ POINT_CELLS;
   stages : AreStages l.t l.initial.left l.left l.fn.shelves l.shelves;
-  sums : AreSums (sales_on l.shelves) l.new;
+  sums : AreSums (sales_on l.shelves) l.sums;
 }
 
 abbrev pub decreases-loop-p : goal.decreases-loop-p

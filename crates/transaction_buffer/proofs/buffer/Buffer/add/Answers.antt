@@ -86,12 +86,12 @@ returns-clause-rooms c =
     rw (← c.self.view_is) (room_taken c.self.inside.shelves c.cell.result c.args.p c.push.new.self
     c.index-self-cell.result c.cell.ensures.place (omega arith) c.push.ensures.room)
 
-pub with-self-inside-requires : goal.with-self-inside-requires
-with-self-inside-requires c =
+pub add-requires : goal.add-requires
+add-requires c =
     let product : c.new-sale.result.product ≡ c.args.view.product =
     ap (λ (x : Sale). x.product) c.new-sale.ensures.value in
     fits_more (sales_on c.self.inside.shelves) c.self.inside.sums c.args.p c.new-sale.result
-    c.self.invariant.sums (fitting (goal.at.with-self-inside-requires c).After-push)
+    c.self.invariant.sums (fitting (goal.at.add-requires c).After-push)
     (omega (arith, product, c.new-sale.ensures.range)) (omega (arith, product, c.new-sale.ensures.range))
 
 pub note-requires : goal.note-requires
@@ -104,9 +104,9 @@ pub invariant_of-self : goal.invariant_of-self
 invariant_of-self c =
     let d = (goal.at.invariant_of-self c).After-push in
     record {
-      sums = subst (λ s. AreSums s c.with-self-inside.result) (sym (sold d))
+      sums = subst (λ s. AreSums s c.add.new.self) (sym (sold d))
           (kept_sold (sales_on c.self.inside.shelves) c.self.inside.sums c.args.p c.new-sale.result
-          c.self.invariant.sums (fitting d) c.with-self-inside.result c.with-self-inside.ensures);
+          c.self.invariant.sums (fitting d) c.add.new.self c.add.ensures);
       noted = noted_after c.self.inside.shelves c.cell.result c.args.p c.push.new.self
           c.self.inside.locked c.note.new.self c.lockers-after.result c.self.invariant.noted
           c.cell.ensures.place (omega arith) c.lockers-after.ensures.value

@@ -29,12 +29,12 @@ pub returns-then-number-span : goal.returns-then-number-span
 returns-then-number-span c =
     let span = its_span (goal.at.returns-then-number-span c).After-get-number in
     let number : c.from.result - 1 < c.span_of-span.result.count = omega arith in
-    let back : c.from.result - 1 + 1 ≡ c.args.s = omega arith in
+    let back : c.from.result - 1 + 1 ≡ c.args.number = omega arith in
     rw (← c.self.view_is) (sym (span.places (c.from.result - 1) number)
     ∙ ap (λ n. place_in c.args.shift n (shifts_of c.self.inside.sales.items)) back)
 
 pub returns-else-number-span : goal.returns-else-number-span
 returns-else-number-span c =
     let span = its_span (goal.at.returns-else-number-span c).After-get-number in
-    rw (← c.self.view_is) (sym (no_place c.args.shift c.args.s
+    rw (← c.self.view_is) (sym (no_place c.args.shift c.args.number
     (shifts_of c.self.inside.sales.items) (omega (arith, span.counts))))

@@ -28,23 +28,23 @@ parts c q = subst
     (locked_at_places q c.args.t c.self.inside.sales.items c.self.inside.unpaid.one
     c.self.inside.unpaid.other c.self.invariant.places)
 
-pub let_go_sum_at-left-requires : goal.let_go_sum_at-left-requires
-let_go_sum_at-left-requires c =
-    let d = (goal.at.let_go_sum_at-left-requires c).After-deref-sales in
-    let required = rw (← c.self.view_is) at c.requires in
-    can_first (at_one d) (at_other d) (at_both d) (parts d) c.args.sums.now c.args.sums.now required
-
 pub let_go_sum_at-requires : goal.let_go_sum_at-requires
 let_go_sum_at-requires c =
     let d = (goal.at.let_go_sum_at-requires c).After-deref-sales in
     let required = rw (← c.self.view_is) at c.requires in
+    can_first (at_one d) (at_other d) (at_both d) (parts d) c.args.sums.now c.args.sums.now required
+
+pub let_go_sum_at-requires-2 : goal.let_go_sum_at-requires-2
+let_go_sum_at-requires-2 c =
+    let d = (goal.at.let_go_sum_at-requires-2 c).After-deref-sales in
+    let required = rw (← c.self.view_is) at c.requires in
     can_second (at_one d) (at_other d) (at_both d) (parts d) c.args.sums.now
-    c.let_go_sum_at-left.result required c.let_go_sum_at-left.ensures
+    c.let_go_sum_at.new.sums required c.let_go_sum_at.ensures
 
 pub returns : goal.returns
 returns c =
     let d = (goal.at.returns c).After-deref-sales in
     rw (← c.self.view_is)
     (moved_twice (at_one d) (at_other d) (at_both d) (parts d) c.args.sums.now
-    c.let_go_sum_at-left.result c.let_go_sum_at.result c.let_go_sum_at-left.ensures
-    c.let_go_sum_at.ensures)
+    c.let_go_sum_at.new.sums c.let_go_sum_at-2.new.sums c.let_go_sum_at.ensures
+    c.let_go_sum_at-2.ensures)
