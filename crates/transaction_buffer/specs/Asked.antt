@@ -17,8 +17,3 @@ pub record Asked (request : Request) (t : ℕ) (k : Key) (old new : Sales)
     (reply : Result Answer Refusal) : Type 0 where
   pub replies : reply ≡ reply_of request t k old
   pub leads : new ≡ after_request request t k old
-
--- one sale: how the line leaves it and the line's answer, or the line's refusal
-abbrev pub outcome : Result Line Refusal → Sale → Result (Sale × Answer) Refusal
-outcome (Ok l) x = Ok (record x { standing = l.leaves }, l.answer)
-outcome (Err refusal) x = Err refusal
