@@ -80,6 +80,17 @@ unpaid_put (x ∷ xs) (suc i) y d within is =
     unpaid_put xs i y d (omega arith) is in
     omega (arith, rest)
 
+-- the same of the sale of its shift and number
+pub unpaid_moved : (h n : ℕ) (xs : List Sale) (x y : Sale) → sale_in h n xs ≡ Some x
+    → is_unpaid x.standing ≡ true
+    → unpaid_among (with_in h n y xs) + 1 ≡ unpaid_among xs + cond (is_unpaid y.standing) 1 0
+unpaid_moved h n xs x y is unpaid =
+    let all = unpaid_sum xs in
+    let new = unpaid_sum (with_in h n y xs) in
+    let moved = with_sum one_if_unpaid h n xs x y is in
+    let was : one_if_unpaid x ≡ 1 = ap (λ (b : Bool). cond b 1 0) unpaid in
+    omega (arith, all, new, moved, was)
+
 -- any sale in the place of the unpaid one of its shift and number
 pub unpaid_with : (h n : ℕ) (xs : List Sale) (x y : Sale) → sale_in h n xs ≡ Some x
     → is_unpaid x.standing ≡ true → unpaid_among (with_in h n y xs) ≤ unpaid_among xs
