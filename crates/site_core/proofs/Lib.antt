@@ -3,7 +3,6 @@ pub mod Reports
 pub mod MarkedTills
 pub mod SignOffs
 pub mod RunSteps
-pub mod Payments
 pub mod PointPlaces
 pub mod NumberedCells
 pub mod AccountFigures
@@ -14,3 +13,5 @@ pub mod CountedDraws
 pub mod ToldInOrder
 pub mod CountedFigures
 pub mod RoomsLeft
+pub mod ReadyReports
+pub mod ReadyClears

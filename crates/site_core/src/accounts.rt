@@ -214,11 +214,12 @@ impl Accounts {
         ensures rooms { self.new.rooms ≡ self.old.rooms }
         ensures closes { self.new.closes ≡ self.old.closes }
     {
-        if let Request::Clear(_) = request {
-            let view = self.sales.view(sale);
-            self.ledger
-                .note_cleared(t, view.product, view.volume.get(), view.cents.get());
-        }
+        let Request::Clear(_) = request else {
+            return self.sales.grant(sale, request, t);
+        };
+        let view = self.sales.view(sale);
+        self.ledger
+            .note_cleared(t, view.product, view.volume.get(), view.cents.get());
         self.sales.grant(sale, request, t)
     }
 
