@@ -11,7 +11,7 @@ use Rattle.transaction_buffer.specs.declared.found_sale.FoundSale.{FoundSale}
 use Rattle.transaction_buffer.specs.declared.request.Request.TheVariants as requests
 use Rattle.transaction_buffer.specs.FoundSales.{IsPlaced, key_of}
 use Rattle.transaction_buffer.specs.Sales.{Key}
-use Rattle.transaction_buffer.specs.TransactionTable.{answer_of, refusal_of}
+use Rattle.transaction_buffer.specs.TransactionTable.{after_request, answer_of, refusal_of}
 use Rattle.written_site.specs.SiteState.{SiteState, is_signed_on, key_named, open_shift}
 use Rattle.written_site.specs.SiteChecks.{first_refusal, is_sale_there, is_there, may_ask}
 use Rattle.written_site.specs.SiteStep.{reply_to, site_answer}
@@ -31,22 +31,30 @@ pub clear_ready : (s : SiteState) (t p : ℕ) (id : SaleId) (h : ℕ) (sale : Fo
     → key_of sale ≡ key_named s p id → IsPlaced sale s.sales → h ≡ open_shift s
     → refusal_of (requests.Clear h) t (key_of sale) s.sales ≡ None
     → IsReady s (Till t) (events.Clear p id) (ready.Ask sale (requests.Clear h) t)
-clear_ready s t p id h sale sound signed names own placed open takes =
+clear_ready s t p id h sale sound signed names own placed shift takes =
     let event = events.Clear p id in
     let k : Key = key_named s p id in
     let may : may_ask s (Till t) event ≡ None = rw (signed, names) refl in
     let taken : refusal_of (requests.Clear (open_shift s)) t k s.sales ≡ None =
     subst (λ j. refusal_of (requests.Clear (open_shift s)) t j s.sales ≡ None) own
-    (subst (λ (g : ℕ). refusal_of (requests.Clear g) t (key_of sale) s.sales ≡ None) open takes) in
+    (subst (λ (g : ℕ). refusal_of (requests.Clear g) t (key_of sale) s.sales ≡ None) shift takes) in
     let accepted : first_refusal s (Till t) event ≡ None = rw (may, taken) refl in
     let told : reply_to s (Till t) event
     ≡ reply_or (refusal_of (requests.Clear (open_shift s)) t k s.sales)
     (answer_of (requests.Clear (open_shift s)) t k s.sales) = (asks_clear s t p id may).replies in
     record {
       accepted = accepted;
-      leads = rw (open, own) refl;
+      leads =
+          ap (λ (g : ℕ). record s {
+            sales = after_request (requests.Clear g) t (key_of sale) s.sales;
+          }) shift
+          ∙ ap (λ (j : Key). record s {
+            sales = after_request (requests.Clear (open_shift s)) t j s.sales;
+          }) own;
       answers =
-          rw (open, own) (sym (one_answer (site_answer s event)
+          ap (λ (g : ℕ). answer_of (requests.Clear g) t (key_of sale) s.sales) shift
+          ∙ ap (λ (j : Key). answer_of (requests.Clear (open_shift s)) t j s.sales) own
+          ∙ (sym (one_answer (site_answer s event)
           (answer_of (requests.Clear (open_shift s)) t k s.sales)
           (ap (λ o. reply_or o (site_answer s event)) (sym accepted) ∙ told
           ∙ ap (λ o. reply_or o (answer_of (requests.Clear (open_shift s)) t k s.sales)) taken)));
@@ -54,7 +62,7 @@ clear_ready s t p id h sale sound signed names own placed open takes =
         placed,
         takes,
         (
-          open,
+          shift,
           λ x is unpaid. figures_fit.clears s t (open_shift s) (key_of sale) x sound is unpaid,
         ),
       );
