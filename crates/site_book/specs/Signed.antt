@@ -14,11 +14,11 @@ use Rattle.written_site.specs.SiteState.{SiteState, is_signed_on}
 abbrev pub tills_on : SiteState → ℕ
 tills_on s = set.len s.signed_on
 
--- the same after an event that is answered so, where it was so many before
-abbrev pub tills_after : Event → Result Answer Refusal → ℕ → ℕ
-tills_after SignOn (Ok answer) on = on + 1
-tills_after SignOff (Ok answer) on = on - 1
-tills_after event reply on = on
+-- the same after such a change, where it was so many before
+abbrev pub with_change : Option SignChange → ℕ → ℕ
+with_change (Some (On t)) on = on + 1
+with_change (Some (Off t)) on = on - 1
+with_change None on = on
 
 -- a till that acts is one that may be
 abbrev pub IsTillActor : Actor → Type 0
