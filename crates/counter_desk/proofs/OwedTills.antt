@@ -1,5 +1,5 @@
 -- How many tills are owed once one of them is set.
-use Rattle.std.proofs.Common.{◌≡◌, ℕ, zero, suc, ◌+◌, ◌-◌, ◌<◌, ◌≤◌, Bool, true, false, cond, List, [], ◌∷◌, length, set, get_or, Result, Ok, refl, arith}
+use Rattle.std.proofs.Common.{◌≡◌, ℕ, zero, suc, ◌+◌, ◌-◌, ◌<◌, ◌≤◌, Bool, true, false, cond, List, [], ◌∷◌, length, set, get_or, Option, Some, None, Result, Ok, refl, arith}
 use Rattle.std.proofs.lemmas.List.{length-set}
 use Rattle.std.proofs.lemmas.List.Sums.{sum_by-cons}
 use Rattle.site_base.specs.declared.actor.Actor.{Actor}
@@ -8,7 +8,10 @@ use Rattle.site_base.specs.declared.answer.Answer.{Answer}
 use Rattle.site_base.specs.declared.event.Event.{Event}
 use Rattle.site_base.specs.declared.event.Event.TheVariants.{SignOn, SignOff}
 use Rattle.site_base.specs.declared.refusal.Refusal.{Refusal}
-use Rattle.counter_desk.specs.Shares.{owed_after, receipts_asked, tills_owed}
+use Rattle.site_base.specs.declared.signing.SignChange.{SignChange}
+use Rattle.site_base.specs.declared.signing.SignChange.TheVariants.{On, Off}
+use Rattle.site_base.specs.SignChanges.{sign_change}
+use Rattle.counter_desk.specs.Shares.{owed_after, owed_with, receipts_asked, tills_owed}
 
 -- no more are owed without one
 pub set_fewer : (owed : List Bool) (i : ℕ) → tills_owed (set owed i false) ≤ tills_owed owed
@@ -42,12 +45,15 @@ set_one_more (o ∷ owed) (suc i) =
     omega (arith, rest, sum_by-cons (λ (x : Bool). cond x 1 0) o (set owed i true), sum_by-cons (λ (x : Bool). cond x 1 0) o owed)
 
 -- there is a cell for each till, as before
+cells_with : (change : Option SignChange) (owed : List Bool)
+    → length (owed_with change owed) ≡ length owed
+cells_with (Some (On t)) owed = length-set owed (t - 1) true
+cells_with (Some (Off t)) owed = length-set owed (t - 1) false
+cells_with None owed = refl
+
 pub cells_after : (a : Actor) (e : Event) (reply : Result Answer Refusal) (owed : List Bool)
     → length (owed_after a e reply owed) ≡ length owed
-cells_after (Till t) SignOn (Ok answer) owed = length-set owed (t - 1) true
-cells_after (Till t) SignOff (Ok answer) owed = length-set owed (t - 1) false
-cells_after a SignOn reply owed = refl
-cells_after a e reply owed = refl
+cells_after a e reply owed = cells_with (sign_change a e reply) owed
 
 -- what an event asks room for is enough for its receipt and for the tills owed then
 pub room_asked : (a : Actor) (e : Event) (reply : Result Answer Refusal) (owed : List Bool)

@@ -1,12 +1,14 @@
 -- A share as contracts see it, and what it owes.
-use Rattle.std.specs.Prelude.{◌≡◌, ℕ, ◌-◌, ◌≤◌, Bool, true, false, List, length, replicate, Result, Ok, count_by, slice_index_or, slice_set}
+use Rattle.std.specs.Prelude.{◌≡◌, ℕ, ◌-◌, ◌≤◌, Bool, true, false, List, length, replicate, Option, Some, None, Result, count_by, slice_index_or, slice_set}
 use Rattle.site_base.specs.declared.actor.Actor.{Actor}
-use Rattle.site_base.specs.declared.actor.Actor.TheVariants.{Till}
 use Rattle.site_base.specs.declared.answer.Answer.{Answer}
 use Rattle.site_base.specs.declared.event.Event.{Event}
-use Rattle.site_base.specs.declared.event.Event.TheVariants.{SignOn, SignOff}
+use Rattle.site_base.specs.declared.event.Event.TheVariants.{SignOn}
 use Rattle.site_base.specs.declared.limits.TheConstants.{TILL_CELLS}
 use Rattle.site_base.specs.declared.refusal.Refusal.{Refusal}
+use Rattle.site_base.specs.declared.signing.SignChange.{SignChange}
+use Rattle.site_base.specs.declared.signing.SignChange.TheVariants.{On, Off}
+use Rattle.site_base.specs.SignChanges.{sign_change}
 use Rattle.counter_desk.specs.declared.receipt.Receipt.{Receipt}
 
 -- its receipts in their order; of each till, from till 1 on, whether it is owed a sign-off; and the
@@ -28,12 +30,16 @@ nobody_owed = replicate TILL_CELLS false
 abbrev pub tills_owed : List Bool → ℕ
 tills_owed owed = count_by (λ o. o) owed
 
--- which tills are owed once an actor's event is answered so: an accepted SignOn makes its till
--- owed, an accepted SignOff ends that, and nothing else changes it
+-- which tills are owed after such a change of who is signed on: a till that signs on is owed, one
+-- that signs off isn't any more
+abbrev pub owed_with : Option SignChange → List Bool → List Bool
+owed_with (Some (On t)) owed = slice_set owed (t - 1) true
+owed_with (Some (Off t)) owed = slice_set owed (t - 1) false
+owed_with None owed = owed
+
+-- .. and once an actor's event is answered so
 abbrev pub owed_after : Actor → Event → Result Answer Refusal → List Bool → List Bool
-owed_after (Till t) SignOn (Ok answer) owed = slice_set owed (t - 1) true
-owed_after (Till t) SignOff (Ok answer) owed = slice_set owed (t - 1) false
-owed_after actor event reply owed = owed
+owed_after actor event reply owed = owed_with (sign_change actor event reply) owed
 
 -- how many receipts an event asks room for: its own, and that of the sign-off that a SignOn will
 -- owe

@@ -2,9 +2,9 @@
 
 ghost use Rattle.std.specs.Prelude.{◌≡◌, ◌-◌, ◌≤◌, false, length, slice_index_or, slice_set};
 ghost use Rattle.site_base.specs.declared.limits.TheConstants.{TILL_CELLS, TILLS};
-ghost use Rattle.counter_desk.specs.Shares.{nobody_owed, owed_after, tills_owed};
+ghost use Rattle.counter_desk.specs.Shares.{nobody_owed, owed_with, tills_owed};
 
-use site_base::{Actor, Event, Reply, TILL_CELLS, TillNo};
+use site_base::{SignChange, TILL_CELLS, TillNo};
 use std::marker::Model;
 
 /// Of each till whether it is owed a sign-off, from till 1 on. It takes no memory.
@@ -67,15 +67,14 @@ impl Owed {
         }
     }
 
-    /// An event of an actor was answered so: an accepted SignOn makes its till owed, an accepted
-    /// SignOff ends that.
-    pub(crate) fn note(&mut self, actor: &Actor, event: &Event, reply: &Reply)
-        ensures { self.new ≡ owed_after actor.now event.now reply.now self.old }
+    /// Who is signed on changed so: a till that signs on is owed, one that signs off isn't any more.
+    pub(crate) fn note(&mut self, change: &Option<SignChange>)
+        ensures { self.new ≡ owed_with change.now self.old }
     {
-        match (actor, event, reply) {
-            (Actor::Till(t), Event::SignOn, Ok(_)) => self.set(*t, true),
-            (Actor::Till(t), Event::SignOff, Ok(_)) => self.set(*t, false),
-            _ => {}
+        match change {
+            Some(SignChange::On(t)) => self.set(*t, true),
+            Some(SignChange::Off(t)) => self.set(*t, false),
+            None => {}
         }
     }
 }

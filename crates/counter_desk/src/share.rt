@@ -9,7 +9,7 @@ ghost use Rattle.counter_desk.specs.Shares.{owes, nobody_owed, owed_after, tills
 use crate::naming::Naming;
 use crate::owed::Owed;
 use crate::receipt::{Receipt, Receipts};
-use site_base::{Event, NoMemory, TillNo};
+use site_base::{Event, NoMemory, TillNo, sign_change};
 use std::alloc::Global;
 use std::marker::{Model, PhantomData};
 use std::sync::ledger;
@@ -117,8 +117,7 @@ impl<L: Ledger, C: Naming> Share<L, C> {
         calls.audit(&mut self.mark);
         calls.add(&mut self.mark, 1);
         self.receipts.push(receipt);
-        self.owed
-            .note(&receipt.actor, &receipt.event, &receipt.reply);
+        self.owed.note(&sign_change(&receipt.actor, &receipt.event, &receipt.reply));
     }
 
     /// The till is owed nothing any more.

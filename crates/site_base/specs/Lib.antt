@@ -13,6 +13,7 @@ pub mod PointSets
 pub mod Prices
 pub mod Ranges
 pub mod Refusals
+pub mod SignChanges
 pub mod States
 pub mod Table
 pub mod Transfer

@@ -1,23 +1,21 @@
 -- A book with one more row.
-use Rattle.std.proofs.Common.{◌≡◌, ℕ, ◌+◌, ◌≤◌, false, List, [], ◌∷◌, ◌++◌, length, length-append, Result, Ok, ap, sym, subst, ◌∙◌, arith}
+use Rattle.std.proofs.Common.{◌≡◌, ℕ, ◌+◌, ◌≤◌, false, List, [], ◌∷◌, ◌++◌, length, length-append, Option, Some, None, ap, sym, subst, ◌∙◌, arith}
 use Rattle.std.proofs.lemmas.Bool.{false≢true}
 use Rattle.std.specs.List.{AllByRecursion}
 use Rattle.std.specs.Ordering.{nat_cmp}
 use Rattle.std.specs.FinSet as set
-use Rattle.site_base.specs.declared.answer.Answer.{Answer}
-use Rattle.site_base.specs.declared.event.Event.{Event}
-use Rattle.site_base.specs.declared.event.Event.TheVariants.{SignOn, SignOff}
 use Rattle.site_base.specs.declared.limits.TheConstants.{TILLS}
-use Rattle.site_base.specs.declared.refusal.Refusal.{Refusal}
 use Rattle.site_base.specs.declared.row.Row.{Row}
+use Rattle.site_base.specs.declared.signing.SignChange.{SignChange}
+use Rattle.site_base.specs.declared.signing.SignChange.TheVariants.{On, Off}
 use Rattle.site_base.specs.Configured.{Configured}
 use Rattle.written_site.specs.SiteState.{SiteState, is_signed_on, opening}
 use Rattle.written_site.specs.SiteStep.{Steps, reply_to, site_after}
 use Rattle.written_site.specs.Sound.{InRange}
 use Rattle.written_site.proofs.Histories.{site_of_rows-push, IsLegal-push}
 use Rattle.site_book.specs.Book.{IsBook}
-use Rattle.site_book.specs.Signed.{AreTills, IsTillActor, tills_after, tills_on}
-use Rattle.site_book.proofs.Signed.{counted_row, no_more, tills_row}
+use Rattle.site_book.specs.Signed.{AreTills, IsTillActor, tills_on, tills_with}
+use Rattle.site_book.proofs.Signed.{counted_row, no_more, tills_after, tills_row}
 
 -- what is so of each row, of one row more
 each-push : (P : Row → Type 0) (rows : List Row) (r : Row) → AllByRecursion P rows → P r
@@ -26,27 +24,26 @@ each-push P [] r all one = (one, tt)
 each-push P (x ∷ xs) r all one = (all.0, each-push P xs r all.1 one)
 
 -- at most one till more is signed on
-pub tills_after-most : (e : Event) (reply : Result Answer Refusal) (on : ℕ)
-    → tills_after e reply on ≤ on + 1
-tills_after-most SignOn (Ok answer) on = omega arith
-tills_after-most SignOff (Ok answer) on = omega arith
-tills_after-most e reply on = omega arith
+pub tills_with-most : (change : Option SignChange) (on : ℕ) → tills_with change on ≤ on + 1
+tills_with-most (Some (On t)) on = omega arith
+tills_with-most (Some (Off t)) on = omega arith
+tills_with-most None on = omega arith
 
 -- the book's row of a step
 pub IsBook-push : (config : Configured) (rows : List Row) (site new : SiteState) (on room left : ℕ) (r : Row)
     → IsBook config rows site on room → Steps site r.actor r.event new r.reply
     → InRange r.event → IsTillActor r.actor
-    → tills_after r.event r.reply on ≤ left
-    → ((most : tills_after r.event r.reply on ≤ TILLS)
-    → length rows + 1 + tills_after r.event r.reply on ≤ config.rows + TILLS)
-    → IsBook config (rows ++ r ∷ []) new (tills_after r.event r.reply on) left
+    → tills_after r on ≤ left
+    → ((most : tills_after r on ≤ TILLS)
+    → length rows + 1 + tills_after r on ≤ config.rows + TILLS)
+    → IsBook config (rows ++ r ∷ []) new (tills_after r on) left
 IsBook-push config rows site new on room left r book steps range actor reserved few =
-    let counted : tills_after r.event r.reply on ≡ tills_on new =
-    ap (tills_after r.event r.reply) book.counted
+    let counted : tills_after r on ≡ tills_on new =
+    ap (tills_after r) book.counted
     ∙ sym (counted_row site r steps.replies)
     ∙ ap tills_on (sym steps.leads) in
     let tills = subst (λ s. AreTills s) (sym steps.leads) (tills_row site r steps.replies actor book.tills) in
-    let most : tills_after r.event r.reply on ≤ TILLS = subst (λ n. n ≤ TILLS) (sym counted) (no_more TILLS new.signed_on tills) in
+    let most : tills_after r on ≤ TILLS = subst (λ n. n ≤ TILLS) (sym counted) (no_more TILLS new.signed_on tills) in
     record {
       leads =
           steps.leads
@@ -62,7 +59,7 @@ IsBook-push config rows site new on room left r book steps range actor reserved 
       tills = tills;
       counted = counted;
       reserved = reserved;
-      few = subst (λ n. n + tills_after r.event r.reply on ≤ config.rows + TILLS) (sym (length-append rows (r ∷ []))) (few most);
+      few = subst (λ n. n + tills_after r on ≤ config.rows + TILLS) (sym (length-append rows (r ∷ []))) (few most);
     }
 
 -- the book of an opening site

@@ -14,13 +14,14 @@ use Rattle.site_base.specs.declared.refusal.Refusal.{Refusal}
 use Rattle.site_base.specs.declared.refusal.Refusal.TheVariants.{NotSignedOn, SignedOn}
 use Rattle.site_base.specs.declared.row.Row.{Row}
 use Rattle.site_base.specs.Checks.{unless}
+use Rattle.site_base.specs.SignChanges.{sign_change}
 use Rattle.written_site.specs.SiteState.{SiteState, is_signed_on}
 use Rattle.written_site.specs.SiteChecks.{Passed}
 use Rattle.written_site.specs.SiteStep.{accepted_site, reply_to, site_after, site_answer}
 use Rattle.written_site.specs.RowWords.{signing_said, signing_of}
 use Rattle.written_site.proofs.RowWords.{of_row}
 use Rattle.written_site.proofs.SigningLaws.{signed_row}
-use Rattle.site_book.specs.Signed.{AreTills, IsTillActor, tills_on, tills_after}
+use Rattle.site_book.specs.Signed.{AreTills, IsTillActor, tills_on, tills_with}
 
 -- ---- how many
 
@@ -33,8 +34,13 @@ is_on : (b : Bool) → unless b NotSignedOn ≡ None → b ≡ true
 is_on true passes = refl
 is_on false passes = cc
 
+-- the same after a row, where it was so many before
+abbrev pub tills_after : Row → ℕ → ℕ
+tills_after r on = tills_with (sign_change r.actor r.event r.reply) on
+
 counted_accepted : (s : SiteState) (a : Actor) (e : Event) → Passed s a e
-    → tills_on (accepted_site s a e) ≡ tills_after e (Ok (site_answer s e)) (tills_on s)
+    → tills_on (accepted_site s a e)
+    ≡ tills_with (sign_change a e (Ok (site_answer s e))) (tills_on s)
 counted_accepted s (Till t) SignOn passes =
     set.len-insert nat_cmp_total s.signed_on t
     ∙ ap (λ b. cond b (tills_on s) (tills_on s + 1)) (isn't_on (is_signed_on s t) passes.signs)
@@ -45,18 +51,18 @@ counted_accepted s (Dispenser d) SignOn passes = cc
 counted_accepted s (Dispenser d) SignOff passes = cc
 counted_accepted s a e passes = refl
 
-counted_refused : (s : SiteState) (e : Event) (refusal : Refusal)
-    → tills_on s ≡ tills_after e (Err refusal) (tills_on s)
-counted_refused s SignOn refusal = refl
-counted_refused s SignOff refusal = refl
-counted_refused s e refusal = refl
+counted_refused : (a : Actor) (e : Event) (refusal : Refusal) (on : ℕ)
+    → on ≡ tills_with (sign_change a e (Err refusal)) on
+counted_refused (Till t) SignOn refusal on = refl
+counted_refused (Till t) SignOff refusal on = refl
+counted_refused a e refusal on = refl
 
 -- one row more
 pub counted_row : (s : SiteState) (r : Row) → r.reply ≡ reply_to s r.actor r.event
-    → tills_on (site_after s r.actor r.event) ≡ tills_after r.event r.reply (tills_on s)
+    → tills_on (site_after s r.actor r.event) ≡ tills_after r (tills_on s)
 counted_row s r replies =
-    of_row (λ row new. tills_on new ≡ tills_after row.event row.reply (tills_on s)) s r replies
-    (λ refusal. counted_refused s r.event refusal)
+    of_row (λ row new. tills_on new ≡ tills_after row (tills_on s)) s r replies
+    (λ refusal. counted_refused r.actor r.event refusal (tills_on s))
     (λ passes. counted_accepted s r.actor r.event passes)
 
 -- ---- which

@@ -1,24 +1,22 @@
 -- How many tills are signed on.
-use Rattle.std.specs.Prelude.{◌≡◌, ℕ, ◌+◌, ◌-◌, ◌≤◌, true, Result, Ok}
+use Rattle.std.specs.Prelude.{◌≡◌, ℕ, ◌+◌, ◌-◌, ◌≤◌, true, Option, Some, None}
 use Rattle.std.specs.FinSet as set
 use Rattle.site_base.specs.declared.actor.Actor.{Actor}
 use Rattle.site_base.specs.declared.actor.Actor.TheVariants.{Till, Dispenser}
-use Rattle.site_base.specs.declared.answer.Answer.{Answer}
-use Rattle.site_base.specs.declared.event.Event.{Event}
-use Rattle.site_base.specs.declared.event.Event.TheVariants.{SignOn, SignOff}
 use Rattle.site_base.specs.declared.limits.TheConstants.{TILLS}
-use Rattle.site_base.specs.declared.refusal.Refusal.{Refusal}
+use Rattle.site_base.specs.declared.signing.SignChange.{SignChange}
+use Rattle.site_base.specs.declared.signing.SignChange.TheVariants.{On, Off}
 use Rattle.written_site.specs.SiteState.{SiteState, is_signed_on}
 
 -- how many tills are signed on
 abbrev pub tills_on : SiteState → ℕ
 tills_on s = set.len s.signed_on
 
--- the same after an event that is answered so, where it was so many before
-abbrev pub tills_after : Event → Result Answer Refusal → ℕ → ℕ
-tills_after SignOn (Ok answer) on = on + 1
-tills_after SignOff (Ok answer) on = on - 1
-tills_after event reply on = on
+-- the same after such a change, where it was so many before
+abbrev pub tills_with : Option SignChange → ℕ → ℕ
+tills_with (Some (On t)) on = on + 1
+tills_with (Some (Off t)) on = on - 1
+tills_with None on = on
 
 -- a till that acts is one that may be
 abbrev pub IsTillActor : Actor → Type 0

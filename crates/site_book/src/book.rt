@@ -11,9 +11,10 @@ ghost use Rattle.written_site.specs.Sound.{InRange};
 ghost use Rattle.site_book.specs.Signed.{IsTillActor};
 ghost use Rattle.site_book.specs.Book.{AreRowsInRange, book_reply, is_full, site_of_book, with_row_of};
 
-use crate::tills::tills_after;
+use crate::tills::tills_with;
 use site_base::{
-    Actor, Answer, Event, FpNo, NoMemory, NoRow, Placed, PointView, Row, Rows, SiteConfig, TillNo,
+    Actor, Answer, Event, FpNo, NoMemory, NoRow, Placed, PointView, Row, Rows, SignChange,
+    SiteConfig, TillNo, sign_change,
 };
 use site_core::Site;
 use std::alloc::Global;
@@ -78,7 +79,7 @@ impl SiteBook {
         self.rows.reserve(self.on + 2)?;
         self.site.prepare(actor, &event)?;
         let placed = add_row(&mut self.site, &mut self.rows, &actor, &event);
-        self.on = tills_after(&event, &placed.reply, self.on);
+        self.on = tills_with(&sign_change(&actor, &event, &placed.reply), self.on);
         Ok(placed)
     }
 
@@ -95,7 +96,7 @@ impl SiteBook {
             return None;
         }
         let placed = add_sign_off(&mut self.site, &mut self.rows, &t);
-        self.on = tills_after(&Event::SignOff, &placed.reply, self.on);
+        self.on = tills_with(&Some(SignChange::Off(t)), self.on);
         Some(placed)
     }
 

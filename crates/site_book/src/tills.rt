@@ -1,18 +1,18 @@
 //! How many tills are signed on.
 
 ghost use Rattle.std.specs.Prelude.{◌≡◌, ◌<◌, ◌^◌};
-ghost use Rattle.site_book.specs.Signed.{tills_after};
+ghost use Rattle.site_book.specs.Signed.{tills_with};
 
-use site_base::{Event, Reply};
+use site_base::SignChange;
 
-/// How many tills are signed on after an event that is answered so, where so many were before it.
-pub fn tills_after(event: &Event, reply: &Reply, on: usize) -> usize
+/// How many tills are signed on after such a change, where so many were before it.
+pub fn tills_with(change: &Option<SignChange>, on: usize) -> usize
     requires { on < 64 }
-    ensures { result ≡ tills_after event.now reply.now on }
+    ensures { result ≡ tills_with change.now on }
 {
-    match (event, reply) {
-        (Event::SignOn, Ok(_)) => on + 1,
-        (Event::SignOff, Ok(_)) => on.saturating_sub(1),
-        _ => on,
+    match change {
+        Some(SignChange::On(_)) => on + 1,
+        Some(SignChange::Off(_)) => on.saturating_sub(1),
+        None => on,
     }
 }

@@ -2,16 +2,17 @@ use Rattle.std.proofs.Common.{◌≤◌, ℕ, ap, ◌∙◌, arith}
 use Rattle.std.proofs.lemmas.Bool.Decides.{nat_tests}
 use Rattle.site_base.specs.declared.row.Row.{Row}
 use Rattle.site_base.specs.declared.limits.TheConstants.{TILLS}
+use Rattle.site_base.specs.SignChanges.{sign_change}
 use Rattle.written_site.specs.SiteStep.{reply_to}
 use Rattle.site_book.specs.Book.{IsBook, book_reply}
-use Rattle.site_book.specs.Signed.{tills_after, tills_on}
-use Rattle.site_book.proofs.Books.{IsBook-push, tills_after-most}
+use Rattle.site_book.specs.Signed.{tills_on}
+use Rattle.site_book.proofs.Books.{IsBook-push, tills_with-most}
 use Rattle.written_site.proofs.Growths.{growth_fits}
 use Rattle.site_book.proofs.Signed.{no_more}
 use Rattle.site_book.proofs.book.SiteBook.apply.Goals as goal
 
-pub tills_after-self-inside-requires : goal.tills_after-self-inside-requires
-tills_after-self-inside-requires c =
+pub tills_with-self-inside-requires : goal.tills_with-self-inside-requires
+tills_with-self-inside-requires c =
     let most : tills_on c.self.inside.site.site ≤ TILLS = no_more TILLS c.self.inside.site.site.signed_on c.self.invariant.tills in
     omega (arith, most, c.self.invariant.counted)
 
@@ -21,11 +22,10 @@ invariant_of-self-2 c =
     let book : IsBook c.self.inside.config c.reserve.new.self.rows c.prepare.new.self.site on c.self.inside.rows.room =
     rw (c.in_ok-reserve.ensures.rows, c.in_ok-prepare.ensures.site) c.self.invariant in
     let row : Row = record { actor = c.args.actor; event = c.args.event; reply = c.add_row-placed.result.reply } in
-    let after : ℕ = tills_after row.event row.reply on in
-    rw (c.add_row-placed.ensures.rows, c.tills_after-self-inside.ensures)
+    rw (c.add_row-placed.ensures.rows, c.tills_with-self-inside.ensures, c.sign_change.ensures)
     (
     IsBook-push c.self.inside.config c.reserve.new.self.rows c.prepare.new.self.site c.add_row-placed.new.site.site on c.self.inside.rows.room c.add_row-placed.new.rows.room row book c.add_row-placed.ensures.step c.add_row-placed.ensures.range c.add_row-placed.ensures.till
-    (omega (arith, tills_after-most row.event row.reply on, c.add_row-placed.ensures.room, c.in_ok-reserve.ensures.room))
+    (omega (arith, tills_with-most (sign_change row.actor row.event row.reply) on, c.add_row-placed.ensures.room, c.in_ok-reserve.ensures.room))
     (λ most. rw c.in_ok-reserve.ensures.rows (grind (arith, nat_tests)))
     )
 

@@ -1,11 +1,11 @@
-use Rattle.std.proofs.Common.{◌≤◌, ◌+◌, ℕ, sym, arith}
+use Rattle.std.proofs.Common.{◌≡◌, ◌≤◌, ◌+◌, ◌-◌, ℕ, refl, sym, arith}
 use Rattle.site_base.specs.declared.actor.Actor.{Actor}
 use Rattle.site_base.specs.declared.event.Event.{Event}
 use Rattle.site_base.specs.declared.row.Row.{Row}
 use Rattle.site_base.specs.declared.limits.TheConstants.{TILLS}
-use Rattle.site_book.specs.Signed.{tills_after, tills_on}
+use Rattle.site_book.specs.Signed.{tills_on}
 use Rattle.site_book.proofs.Books.{IsBook-push}
-use Rattle.site_book.proofs.Signed.{no_more, one_on}
+use Rattle.site_book.proofs.Signed.{no_more, one_on, tills_after}
 use Rattle.site_book.proofs.book.SiteBook.sign_off.Goals as goal
 
 pub add_sign_off-placed-requires-clause-row : goal.add_sign_off-placed-requires-clause-row
@@ -13,8 +13,8 @@ add_sign_off-placed-requires-clause-row c =
     let one : 1 ≤ tills_on c.self.inside.site.site = one_on c.self.inside.site.site c.args.t (sym c.if-not-signed_on.ensures) in
     omega (arith, one, c.self.invariant.counted, c.self.invariant.reserved)
 
-pub tills_after-self-inside-requires : goal.tills_after-self-inside-requires
-tills_after-self-inside-requires c =
+pub tills_with-self-inside-requires : goal.tills_with-self-inside-requires
+tills_with-self-inside-requires c =
     let most : tills_on c.self.inside.site.site ≤ TILLS = no_more TILLS c.self.inside.site.site.signed_on c.self.invariant.tills in
     omega (arith, most, c.self.invariant.counted)
 
@@ -24,9 +24,9 @@ invariant_of-self c =
     let left = c.add_sign_off-placed.new.rows.room in
     let row : Row = record { actor = Actor.Till c.args.t; event = Event.SignOff; reply = c.add_sign_off-placed.result.reply } in
     let one : 1 ≤ tills_on c.self.inside.site.site = one_on c.self.inside.site.site c.args.t (sym c.if-not-signed_on.ensures) in
-    let fewer : tills_after Event.SignOff row.reply on + 1 ≤ on =
-    rw c.add_sign_off-placed.ensures.reply (omega (arith, one, c.self.invariant.counted)) in
-    rw (c.add_sign_off-placed.ensures.rows, c.tills_after-self-inside.ensures)
+    let off : tills_after row on ≡ on - 1 = rw c.add_sign_off-placed.ensures.reply refl in
+    let fewer : tills_after row on + 1 ≤ on = omega (arith, off, one, c.self.invariant.counted) in
+    rw (c.add_sign_off-placed.ensures.rows, c.tills_with-self-inside.ensures, sym off)
     (
     IsBook-push c.self.inside.config c.self.inside.rows.rows c.self.inside.site.site c.add_sign_off-placed.new.site.site on c.self.inside.rows.room left row c.self.invariant c.add_sign_off-placed.ensures.step tt c.add_sign_off-placed.ensures.till
     (omega (arith, fewer, c.add_sign_off-placed.ensures.room, c.self.invariant.reserved))
