@@ -1,5 +1,5 @@
 -- Who speaks in a session, and which till it signed on.
-use Rattle.std.proofs.Common.{◌≡◌, ℕ, Bool, true, false, cond, not, List, Option, Some, None, Ok, refl, sym, ap, ◌∙◌}
+use Rattle.std.proofs.Common.{◌≡◌, ℕ, Bool, true, false, cond, not, List, Option, Some, None, Ok, Err, refl, sym, ap, ◌∙◌}
 use Rattle.std.specs.Prelude.{◌&&◌, ◌==◌, slice_index, IfSome}
 use Rattle.std.proofs.lemmas.Bool.{eq-eqb}
 use Rattle.site_base.specs.declared.actor.Actor.{Actor}
@@ -92,7 +92,9 @@ pub own_signed : (actor : Actor) (event : Event) (outcome : Outcome) (on : Optio
     → IsSpokenBy actor peer → IsOwn on peer → IsOwn (signed_by actor event outcome on) peer
 own_signed (Till t) SignOn (Ok (Ok answer)) on peer spoken own = spoken
 own_signed (Till t) SignOff (Ok (Ok answer)) on peer spoken own = tt
-own_signed actor event outcome on peer spoken own = own
+own_signed actor event (Ok (Ok answer)) on peer spoken own = own
+own_signed actor event (Ok (Err refusal)) on peer spoken own = own
+own_signed actor event (Err no_row) on peer spoken own = own
 
 -- ---- what a counter owes
 
@@ -105,7 +107,9 @@ pub still_owed : (actor : Actor) (event : Event) (outcome : Outcome) (on : Optio
     → IfSome (signed_by actor event outcome on) (λ t. owed_by actor event outcome owes t ≡ true)
 still_owed (Till t) SignOn (Ok (Ok answer)) on owes owed = rw (same_number t) refl
 still_owed (Till t) SignOff (Ok (Ok answer)) on owes owed = tt
-still_owed actor event outcome on owes owed = owed
+still_owed actor event (Ok (Ok answer)) on owes owed = owed
+still_owed actor event (Ok (Err refusal)) on owes owed = owed
+still_owed actor event (Err no_row) on owes owed = owed
 
 two_tills : (t : ℕ) (on : Option ℕ) (peer : Option (List ℕ)) (u : ℕ) → IsOwn on peer → IsOwn (Some t) peer
     → (u == t) ≡ false → is_the_one on u ≡ false
@@ -134,4 +138,6 @@ still_alone (Till t) SignOn (Ok (Ok answer)) on peer owes own spoken alone u =
     debt_set (u == t) true (owes u) (λ other. alone u ∙ two_tills t on peer u own spoken other) ∙ and_true (u == t)
 still_alone (Till t) SignOff (Ok (Ok answer)) on peer owes own spoken alone u =
     debt_set (u == t) false (owes u) (λ other. alone u ∙ two_tills t on peer u own spoken other) ∙ and_false (u == t)
-still_alone actor event outcome on peer owes own spoken alone u = alone u
+still_alone actor event (Ok (Ok answer)) on peer owes own spoken alone u = alone u
+still_alone actor event (Ok (Err refusal)) on peer owes own spoken alone u = alone u
+still_alone actor event (Err no_row) on peer owes own spoken alone u = alone u

@@ -5,10 +5,13 @@ use Rattle.site_base.specs.declared.actor.Actor.TheVariants.{Till}
 use Rattle.site_base.specs.declared.answer.Answer.{Answer}
 use Rattle.site_base.specs.declared.answer.Answer.TheVariants.{Done}
 use Rattle.site_base.specs.declared.event.Event.{Event}
-use Rattle.site_base.specs.declared.event.Event.TheVariants.{SignOn, SignOff}
+use Rattle.site_base.specs.declared.event.Event.TheVariants.{SignOff}
 use Rattle.site_base.specs.declared.refusal.NoRow.{NoRow}
 use Rattle.site_base.specs.declared.refusal.Refusal.{Refusal}
 use Rattle.site_base.specs.declared.row.Row.{Row}
+use Rattle.site_base.specs.declared.signing.SignChange.{SignChange}
+use Rattle.site_base.specs.declared.signing.SignChange.TheVariants.{On, Off}
+use Rattle.site_base.specs.SignChanges.{sign_change}
 
 -- what a request is answered: the site's reply, or why there is no row
 abbrev pub Outcome : Type 0
@@ -48,18 +51,31 @@ IsLeft t old new = (new ≡ old ++ sign_off_row t ∷ []) ⊎ (new ≡ old)
 abbrev pub with_debt : ℕ → Bool → (ℕ → Bool) → ℕ → Bool
 with_debt t owed owes u = if u == t then owed else owes u
 
--- which tills are owed once a request is answered so: an accepted SignOn makes its till owed, an accepted
--- SignOff ends that, and nothing else changes it
-abbrev pub owed_by : Actor → Event → Outcome → (ℕ → Bool) → ℕ → Bool
-owed_by (Till t) SignOn (Ok (Ok answer)) owes = with_debt t true owes
-owed_by (Till t) SignOff (Ok (Ok answer)) owes = with_debt t false owes
-owed_by actor event outcome owes = owes
+-- what a request that is answered so changes of who is signed on: nothing where there is no row
+abbrev pub change_by : Actor → Event → Outcome → Option SignChange
+change_by actor event (Ok reply) = sign_change actor event reply
+change_by actor event (Err no_row) = None
 
--- the till that a session signed on and didn't sign off, once a request is answered so
+-- which tills are owed after such a change: a till that signs on is owed, one that signs off isn't
+-- any more
+abbrev pub owed_with : Option SignChange → (ℕ → Bool) → ℕ → Bool
+owed_with (Some (On t)) owes = with_debt t true owes
+owed_with (Some (Off t)) owes = with_debt t false owes
+owed_with None owes = owes
+
+-- .. and once a request is answered so
+abbrev pub owed_by : Actor → Event → Outcome → (ℕ → Bool) → ℕ → Bool
+owed_by actor event outcome owes = owed_with (change_by actor event outcome) owes
+
+-- the till that a session signed on and didn't sign off, after such a change
+abbrev pub signed_with : Option SignChange → Option ℕ → Option ℕ
+signed_with (Some (On t)) on = Some t
+signed_with (Some (Off t)) on = None
+signed_with None on = on
+
+-- .. and once a request is answered so
 abbrev pub signed_by : Actor → Event → Outcome → Option ℕ → Option ℕ
-signed_by (Till t) SignOn (Ok (Ok answer)) on = Some t
-signed_by (Till t) SignOff (Ok (Ok answer)) on = None
-signed_by actor event outcome on = on
+signed_by actor event outcome on = signed_with (change_by actor event outcome) on
 
 -- .. and once these were
 abbrev pub signed_on_after : Option ℕ → List Asked → Option ℕ

@@ -15,7 +15,10 @@ use crate::counter::Counter;
 use crate::fault::{ORIGINATOR_CHANGED, SessionFault, TalkFault};
 use app_message::{Message, StreamFault, encode_into};
 use device_map::{refusal_in, reply_in, request_of, stream_refusal};
-use site_base::{Actor, Counted, Event, NoMemory, NoRow, Reply, TillNo, WriteFault, write_whole};
+use site_base::{
+    Actor, Counted, Event, NoMemory, NoRow, Reply, SignChange, TillNo, WriteFault, sign_change,
+    write_whole,
+};
 use std::alloc::Global;
 use std::io::Write;
 use std::marker::Model;
@@ -271,10 +274,11 @@ impl Talk {
         ensures counted { self.new.asked ≡ one_more self.old.asked }
     {
         self.asked = self.asked.saturating_add(1);
-        match (actor, event, outcome) {
-            (Actor::Till(t), Event::SignOn, Ok(Ok(_))) => self.on = Some(*t),
-            (Actor::Till(_), Event::SignOff, Ok(Ok(_))) => self.on = None,
-            _ => {}
+        let Ok(reply) = outcome else { return };
+        match &sign_change(actor, event, reply) {
+            Some(SignChange::On(t)) => self.on = Some(*t),
+            Some(SignChange::Off(_)) => self.on = None,
+            None => {}
         }
     }
 
