@@ -218,13 +218,7 @@ impl Point {
         }
     }
 
-    fn release(
-        &mut self,
-        preset: Preset,
-        prepaid: Option<u32>,
-        last: Millilitres,
-        price: Mills,
-    )
+    fn release(&mut self, preset: Preset, prepaid: Option<u32>, last: Millilitres, price: Mills)
         requires { is_listed (PointEvent.Release preset prepaid last price) self.old.state ≡ true }
         ensures { self.new ≡ after (PointEvent.Release preset prepaid last price) self.old }
     {

@@ -10,7 +10,9 @@ ghost use Rattle.written_site.specs.SiteState.{points_of, facts_in, rests, is_re
 ghost use Rattle.site_core.specs.FoundPoints.{IsFound};
 
 use fuelling_point::{Point, PointEvent, PointStep};
-use site_base::{FpNo, NoMemory, POINT_CELLS, PointEntry, PointState, PointView, Refusal, place_of};
+use site_base::{
+    FpNo, NoMemory, POINT_CELLS, PointEntry, PointState, PointView, Refusal, place_of,
+};
 use std::alloc::Global;
 use std::marker::Model;
 
