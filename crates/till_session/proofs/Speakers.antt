@@ -93,6 +93,8 @@ pub own_signed : (actor : Actor) (event : Event) (outcome : Outcome) (on : Optio
 own_signed (Till t) SignOn (Ok (Ok answer)) on peer spoken own = spoken
 own_signed (Till t) SignOff (Ok (Ok answer)) on peer spoken own = tt
 own_signed actor event (Ok (Ok answer)) on peer spoken own = own
+own_signed (Till t) SignOn (Ok (Err refusal)) on peer spoken own = own
+own_signed (Till t) SignOff (Ok (Err refusal)) on peer spoken own = own
 own_signed actor event (Ok (Err refusal)) on peer spoken own = own
 own_signed actor event (Err no_row) on peer spoken own = own
 
@@ -108,6 +110,8 @@ pub still_owed : (actor : Actor) (event : Event) (outcome : Outcome) (on : Optio
 still_owed (Till t) SignOn (Ok (Ok answer)) on owes owed = rw (same_number t) refl
 still_owed (Till t) SignOff (Ok (Ok answer)) on owes owed = tt
 still_owed actor event (Ok (Ok answer)) on owes owed = owed
+still_owed (Till t) SignOn (Ok (Err refusal)) on owes owed = owed
+still_owed (Till t) SignOff (Ok (Err refusal)) on owes owed = owed
 still_owed actor event (Ok (Err refusal)) on owes owed = owed
 still_owed actor event (Err no_row) on owes owed = owed
 
@@ -139,5 +143,7 @@ still_alone (Till t) SignOn (Ok (Ok answer)) on peer owes own spoken alone u =
 still_alone (Till t) SignOff (Ok (Ok answer)) on peer owes own spoken alone u =
     debt_set (u == t) false (owes u) (λ other. alone u ∙ two_tills t on peer u own spoken other) ∙ and_false (u == t)
 still_alone actor event (Ok (Ok answer)) on peer owes own spoken alone u = alone u
+still_alone (Till t) SignOn (Ok (Err refusal)) on peer owes own spoken alone u = alone u
+still_alone (Till t) SignOff (Ok (Err refusal)) on peer owes own spoken alone u = alone u
 still_alone actor event (Ok (Err refusal)) on peer owes own spoken alone u = alone u
 still_alone actor event (Err no_row) on peer owes own spoken alone u = alone u
