@@ -13,8 +13,7 @@ use Rattle.shift_ledger.proofs.Standing.{is_opened_empty}
 use Rattle.transaction_buffer.specs.Sales.{Sales, is_unpaid, new_sale, new_standing, no_sales, with_new}
 use Rattle.written_site.specs.FigureSteps.{HasSameClears}
 use Rattle.written_site.proofs.ClearFigures.{none_by, none_cleared_in, none_in, sale_keeps}
-use Rattle.site_core.specs.Accounts.{AreFigures, row_in}
-use Rattle.site_core.specs.Ledger.{Figures, no_clears}
+use Rattle.site_core.specs.Accounts.{AreFigures, no_clears, row_in}
 
 pub both : {A B : Type 0} (a b : A) (c d : B) → a ≡ b → c ≡ d
     → ◌≡◌ {A = A × B} (a, c) (b, d)
@@ -142,7 +141,7 @@ draw_kept q volume sales shifts totals kept = record {
 
 -- ---- a close
 
-close_kept : (sales : Sales) (shifts : Shifts) (totals : List (ℕ × ℕ))
+pub close_kept : (sales : Sales) (shifts : Shifts) (totals : List (ℕ × ℕ))
     → AreFigures sales shifts totals → AreFigures sales (after_close shifts) totals
 close_kept sales shifts totals kept = record {
   rows = has_every_figure.after closes shifts kept.rows;
@@ -153,13 +152,3 @@ close_kept sales shifts totals kept = record {
       ap (product_figure q) (row_closed h shifts) ∙ kept.cleared h q low high;
   all = kept.all;
 }
-
--- a close that is refused changes nothing
-pub closed_or_kept : {N E : Type 0} (reply : Result N E) (old new : Figures) (sales : Sales)
-    → OnOk reply (new.shifts ≡ after_close old.shifts) → OnErr reply (new ≡ old)
-    → new.tills ≡ old.tills → AreFigures sales old.shifts old.tills
-    → AreFigures sales new.shifts new.tills
-closed_or_kept (Ok n) old new sales closed refused tills kept =
-    rw (closed, tills) (close_kept sales old.shifts old.tills kept)
-closed_or_kept (Err e) old new sales closed refused tills kept =
-    subst (λ (f : Figures). AreFigures sales f.shifts f.tills) (sym refused) kept

@@ -1,11 +1,13 @@
 -- A clear that is noted in the ledger: the ledger keeps the figures of the sales.
-use Rattle.std.proofs.Common.{◌≡◌, ℕ, ◌+◌, ◌-◌, ◌≤◌, ◌==◌, ◌&&◌, Bool, true, false, cond, List, length, get_or, Some, unwrap_or, refl, sym, ap, subst, ◌∙◌, arith, ◌^◌, ◌<◌, zero, suc, inl, inr}
+use Rattle.std.proofs.Common.{◌≡◌, ℕ, ◌+◌, ◌-◌, ◌≤◌, ◌==◌, ◌&&◌, Bool, true, false, cond, List, [], ◌∷◌, ◌++◌, map, length, get_or, Some, unwrap_or, refl, sym, ap, subst, ◌∙◌, arith, ◌^◌, ◌<◌, zero, suc, inl, inr}
+use Rattle.std.proofs.Math.ListN.{set}
+use Rattle.std.specs.List.{list_all}
 use Rattle.std.proofs.lemmas.Bool.{cases_lt}
 use Rattle.std.proofs.lemmas.Bool.Decides.{nat_tests}
 use Rattle.std.proofs.lemmas.Option.{slice_get_past}
 use Rattle.site_base.specs.declared.limits.TheConstants.{PRODUCTS, TILLS}
 use Rattle.site_base.specs.Numbered.{numbered, with_numbered}
-use Rattle.site_base.proofs.Numbering.{length-with_numbered, numbered_place, numbered_with_other, numbered_with_same, numbered_within}
+use Rattle.site_base.proofs.Numbering.{length-with_numbered, numbered_place, numbered_with_other, numbered_with_same, numbered_within, with_numbered_place}
 use Rattle.shift_ledger.specs.declared.row.ShiftRow.{ShiftRow}
 use Rattle.shift_ledger.specs.Figures.{FitsClear, one_clear_more, product_figure, till_figures, with_clear}
 use Rattle.shift_ledger.specs.Laws.{IsRow, clears}
@@ -14,10 +16,12 @@ use Rattle.shift_ledger.proofs.Counting.{has_every_figure}
 use Rattle.transaction_buffer.specs.Sales.{Sale, Sales}
 use Rattle.written_site.specs.FigureSteps.{HasClear}
 use Rattle.written_site.specs.ShiftFigures.{cents_by, cents_in, cleared_in, clears_by, clears_in}
-use Rattle.site_core.specs.Accounts.{AreFigures, row_in}
+use Rattle.site_core.specs.Accounts.{AreDrawn, AreFigures, draws_of, row_in, total_of, with_one_more}
 use Rattle.transaction_buffer.specs.Clears.{FitsOneClear}
-use Rattle.site_core.specs.Ledger.{total_of, with_one_more}
+use Rattle.written_site.specs.Sound.{is_draw_row}
+use Rattle.written_site.specs.Volumes.{drawn_of}
 use Rattle.site_core.proofs.AccountFigures.{both, row_open, row_other}
+use Rattle.site_core.proofs.NumberedCells.{member_at}
 
 -- ---- a figure that is changed
 
@@ -167,3 +171,33 @@ clear_fits sales shifts totals t x kept fits =
       told_or (λ f. f.1 + x.cents < 2 ^ 64) (λ m. (clears_by m sales, cents_by m sales)) (0, 0) t
           TILLS totals kept.cells kept.all fits.all_cents (omega (arith, fits.all_cents)),
     )
+
+-- ---- the kept cells
+
+-- the cell of the till, one clear more, is its total, one clear more
+pub one_more : (t i cents : ℕ) (totals : List (ℕ × ℕ)) → i + 1 ≡ t
+    → with_one_more t cents totals
+    ≡ set totals i ((get_or totals i (0, 0)).0 + 1, (get_or totals i (0, 0)).1 + cents)
+one_more t i cents totals place =
+    let at : total_of t totals ≡ get_or totals i (0, 0) = member_at t i totals (0, 0) place in
+    let cell : t - 1 ≡ i = omega arith in
+    with_numbered_place t (one_clear_more cents (total_of t totals)) totals (omega arith)
+    ∙ ap (λ (k : ℕ). set totals k (one_clear_more cents (total_of t totals))) cell
+    ∙ ap (λ (e : ℕ × ℕ). set totals i (one_clear_more cents e)) at
+
+-- a clear draws nothing
+pub clear_draws : (t q volume cents : ℕ) (shifts : Shifts) (cells : List ℕ)
+    → AreDrawn shifts cells → AreDrawn (after_clear t q volume cents shifts) cells
+clear_draws t q volume cents shifts cells kept =
+    let same : draws_of (after_clear t q volume cents shifts) ≡ draws_of shifts =
+    undrawn shifts.closed shifts.current (with_clear t q volume cents shifts.current) refl in
+    record {
+      rows = ap (list_all is_draw_row) same ∙ kept.rows;
+      totals = λ k within. kept.totals k within ∙ ap (drawn_of (k + 1)) (sym same);
+    }
+  where
+    undrawn : (closed : List ShiftRow) (old new : ShiftRow) → new.adjusted ≡ old.adjusted
+        → map (λ (row : ShiftRow). row.adjusted) (closed ++ new ∷ [])
+        ≡ map (λ (row : ShiftRow). row.adjusted) (closed ++ old ∷ [])
+    undrawn [] old new is = ap (λ xs. xs ∷ []) is
+    undrawn (row ∷ rows) old new is = ap (λ xs. row.adjusted ∷ xs) (undrawn rows old new is)

@@ -8,7 +8,7 @@ use Rattle.shift_ledger.specs.Figures.{adjusted_figure}
 use Rattle.shift_ledger.specs.Shifts.{Shifts, drawn_among, drawn_in_all}
 use Rattle.meters.specs.Metered.{product_alone}
 use Rattle.written_site.specs.Volumes.{weighed_from, drawn_of}
-use Rattle.site_core.specs.Ledger.{draws_of}
+use Rattle.site_core.specs.Accounts.{draws_of}
 use Rattle.site_core.proofs.NotedDraws.{alone_itself, other_alone, told}
 
 none_later : (q k : ℕ) (row : List ℕ) → q + 1 ≤ k → weighed_from (product_alone q) k row ≡ 0

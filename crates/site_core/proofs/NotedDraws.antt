@@ -1,9 +1,9 @@
 -- A draw, and a close: the shifts' figures and the kept totals of draws tell them alike.
-use Rattle.std.proofs.Common.{◌≡◌, ◌≢◌, ℕ, zero, suc, ◌+◌, ◌-◌, ◌*◌, ◌<◌, ◌≤◌, ◌==◌, Bool, true, false, List, [], ◌∷◌, ◌++◌, map, length, get_or, Option, inl, inr, unwrap_or, refl, sym, subst, ap, ◌∙◌, arith, Result, Ok, Err, OnOk, OnErr}
+use Rattle.std.proofs.Common.{◌≡◌, ◌≢◌, ℕ, zero, suc, ◌+◌, ◌-◌, ◌*◌, ◌<◌, ◌≤◌, ◌==◌, Bool, true, false, List, [], ◌∷◌, ◌++◌, map, length, get_or, replicate, Option, inl, inr, unwrap_or, refl, sym, subst, ap, ◌∙◌, arith, Result, Ok, Err, OnOk, OnErr}
 use Rattle.std.proofs.Math.ListN.{set}
 use Rattle.std.proofs.lemmas.Bool.{and_from, and_parts, cases_eq}
 use Rattle.std.proofs.lemmas.Bool.Decides.{nat_tests}
-use Rattle.std.proofs.lemmas.Grind.{get_or-set_at}
+use Rattle.std.proofs.lemmas.Grind.{common_steps, get_or-set_at}
 use Rattle.std.proofs.lemmas.List.{get_or-set_other}
 use Rattle.std.proofs.lemmas.List.Folds.{list_all-append}
 use Rattle.std.specs.List.{list_all}
@@ -11,7 +11,7 @@ use Rattle.site_base.specs.declared.limits.TheConstants.{PRODUCT_CELLS}
 use Rattle.site_base.proofs.Numbering.{numbered_within}
 use Rattle.shift_ledger.specs.declared.row.ShiftRow.{ShiftRow}
 use Rattle.shift_ledger.specs.Figures.{adjusted_figure, empty_figures, with_draw}
-use Rattle.shift_ledger.specs.Shifts.{Book, Shifts, after_close, after_draw, open_number}
+use Rattle.shift_ledger.specs.Shifts.{Shifts, after_close, after_draw, first_shift, open_number}
 use Rattle.meters.specs.Metered.{product_alone}
 use Rattle.written_site.specs.SiteState.{nothing_drawn}
 use Rattle.written_site.specs.SiteStep.{draw_noted}
@@ -19,7 +19,7 @@ use Rattle.written_site.specs.Sound.{is_draw_row}
 use Rattle.written_site.specs.Volumes.{weighed_from, drawn_of}
 use Rattle.written_site.proofs.SoundDraws.{drawn_more, noted_rows, opened_weighs}
 use Rattle.written_site.proofs.SoundTables.{same}
-use Rattle.site_core.specs.Ledger.{draws_of, AreDrawn}
+use Rattle.site_core.specs.Accounts.{draws_of, AreDrawn}
 
 -- the draws of these shifts, of which this is the open one
 abbrev pub told : List ShiftRow → ShiftRow → List (List ℕ)
@@ -154,7 +154,7 @@ pub draws-closed : (shifts : Shifts)
     → draws_of (after_close shifts) ≡ draws_of shifts ++ nothing_drawn ∷ []
 draws-closed shifts = told-opened (shifts.closed ++ shifts.current ∷ []) empty_figures
 
-kept_opened : (shifts : Shifts) (cells : List ℕ) → AreDrawn shifts cells
+pub kept_opened : (shifts : Shifts) (cells : List ℕ) → AreDrawn shifts cells
     → AreDrawn (after_close shifts) cells
 kept_opened shifts cells kept = record {
   rows = ap (list_all is_draw_row) (draws-closed shifts)
@@ -167,11 +167,9 @@ kept_opened shifts cells kept = record {
       ∙ sym (ap (drawn_of (k + 1)) (draws-closed shifts));
 }
 
--- a close that is refused changes nothing
-pub kept_closed : {N E : Type 0} (reply : Result N E) (old new : Book) (cells : List ℕ)
-    → OnOk reply (new.shifts ≡ after_close old.shifts) → OnErr reply (new ≡ old)
-    → AreDrawn old.shifts cells → AreDrawn new.shifts cells
-kept_closed (Ok n) old new cells closed refused kept =
-    subst (λ shifts. AreDrawn shifts cells) (sym closed) (kept_opened old.shifts cells kept)
-kept_closed (Err e) old new cells closed refused kept =
-    subst (λ (book : Book). AreDrawn book.shifts cells) (sym refused) kept
+-- nothing is drawn in the first shift
+pub first_drawn : AreDrawn first_shift (replicate PRODUCT_CELLS 0)
+first_drawn = record {
+  rows = refl;
+  totals = λ k within. grind (arith, common_steps);
+}

@@ -14,8 +14,7 @@ use Rattle.shift_ledger.specs.Laws.{HaveRows, IsRow}
 use Rattle.shift_ledger.specs.Shifts.{Shifts, figures_of}
 use Rattle.transaction_buffer.specs.Sales.{Sales}
 use Rattle.written_site.specs.ShiftFigures.{cleared_in, takings_in, tills}
-use Rattle.site_core.specs.Accounts.{AreFigures, figures_in, products, row_in, shift_row, takings_of}
-use Rattle.site_core.specs.Ledger.{draws_of}
+use Rattle.site_core.specs.Accounts.{AreFigures, draws_of, figures_in, products, row_in, shift_row, takings_of}
 use Rattle.site_core.proofs.NumberedCells.{member_at}
 
 -- ---- a row has every figure

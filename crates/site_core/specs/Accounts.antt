@@ -1,11 +1,11 @@
 -- The sales of a site with the figures of its shifts, as contracts see them and as they are kept.
-use Rattle.std.specs.Prelude.{◌≡◌, ℕ, ◌≤◌, List, length, map, true, Option, Some, option_map, unwrap_or, refl}
+use Rattle.std.specs.Prelude.{◌≡◌, ℕ, ◌+◌, ◌<◌, ◌≤◌, List, [], ◌∷◌, ◌++◌, length, map, replicate, slice_index, true, Option, Some, option_map, unwrap_or, refl}
 use Rattle.std.specs.Coded.{Coded, code_by, coded_ℕ, coded×, coded_list}
-use Rattle.std.specs.List.{range_with_len}
-use Rattle.site_base.specs.declared.limits.TheConstants.{PRODUCTS, TILLS, TILL_CELLS}
-use Rattle.site_base.specs.Numbered.{numbered}
+use Rattle.std.specs.List.{list_all, range_with_len}
+use Rattle.site_base.specs.declared.limits.TheConstants.{PRODUCT_CELLS, PRODUCTS, TILLS, TILL_CELLS}
+use Rattle.site_base.specs.Numbered.{numbered, with_numbered}
 use Rattle.shift_ledger.specs.declared.row.ShiftRow.{ShiftRow}
-use Rattle.shift_ledger.specs.Figures.{empty_figures, till_figures, product_figure}
+use Rattle.shift_ledger.specs.Figures.{empty_figures, one_clear_more, till_figures, product_figure}
 use Rattle.shift_ledger.specs.Laws.{HaveRows}
 use Rattle.shift_ledger.specs.Shifts.{Shifts, figures_of}
 use Rattle.transaction_buffer.specs.Codes.{sales_code}
@@ -14,7 +14,8 @@ use Rattle.transaction_buffer.specs.declared.request.Request.TheVariants.{Clear}
 use Rattle.transaction_buffer.specs.Clears.{FitsOneClear}
 use Rattle.transaction_buffer.specs.Sales.{Key, Sale, Sales, is_unpaid, sale_of}
 use Rattle.written_site.specs.ShiftFigures.{cents_by, cents_in, cleared_in, clears_by, clears_in, tills}
-use Rattle.site_core.specs.Ledger.{total_of}
+use Rattle.written_site.specs.Sound.{is_draw_row}
+use Rattle.written_site.specs.Volumes.{drawn_of}
 
 -- the sales; how many more of each point there is room for; for each shift, the open one last, the
 -- millilitres that tests drew of each product; and how many more shifts there is room to close
@@ -59,6 +60,29 @@ shift_row h sales drawn = option_map (figures_in h sales) (numbered h drawn)
 abbrev pub row_in : ℕ → Shifts → ShiftRow
 row_in h shifts = unwrap_or (figures_of h shifts) empty_figures
 
+-- no till has cleared anything
+abbrev pub no_clears : List (ℕ × ℕ)
+no_clears = replicate TILL_CELLS (0, 0)
+
+-- the clears of till t and their cents
+abbrev pub total_of : ℕ → List (ℕ × ℕ) → ℕ × ℕ
+total_of t tills = unwrap_or (numbered t tills) (0, 0)
+
+-- the tills' clears and their cents, with one more of till t
+abbrev pub with_one_more : ℕ → ℕ → List (ℕ × ℕ) → List (ℕ × ℕ)
+with_one_more t cents tills = with_numbered t (one_clear_more cents (total_of t tills)) tills
+
+-- for each shift, the open one last, the millilitres that tests drew of each product
+abbrev pub draws_of : Shifts → List (List ℕ)
+draws_of shifts = map (λ row. row.adjusted) (shifts.closed ++ shifts.current ∷ [])
+
+-- each shift has a figure for each product, and each product's cell holds what tests drew of it in
+-- all
+pub record AreDrawn (shifts : Shifts) (cells : List ℕ) : Type 0 where
+  pub rows : list_all is_draw_row (draws_of shifts) ≡ true
+  pub totals : (k : ℕ) → k < PRODUCT_CELLS
+      → slice_index cells k ≡ drawn_of (k + 1) (draws_of shifts)
+
 -- Every shift's row has the figures of the sales that were cleared in it, for each till and each
 -- product, and the tills' totals those of all that each cleared. In a shift to come nothing is
 -- cleared.
@@ -70,6 +94,12 @@ pub record AreFigures (sales : Sales) (shifts : Shifts) (totals : List (ℕ × �
   pub cleared : (h q : ℕ) → 1 ≤ q → q ≤ PRODUCTS
       → product_figure q (row_in h shifts) ≡ cleared_in h q sales
   pub all : (t : ℕ) → 1 ≤ t → t ≤ TILLS → total_of t totals ≡ (clears_by t sales, cents_by t sales)
+
+-- what is kept beside the sales has their figures, and what tests drew
+pub record IsAccount (sales : Sales) (shifts : Shifts) (totals : List (ℕ × ℕ)) (cells : List ℕ)
+    : Type 0 where
+  pub figures : AreFigures sales shifts totals
+  pub drawn : AreDrawn shifts cells
 
 -- What the till asks fits: a clear is made in the open shift, and with it the figures fit in 64
 -- bits.

@@ -29,6 +29,8 @@ use Rattle.site_core.specs.Accounts.{FitsGrant}
 use Rattle.site_core.specs.Endings.{MayEnd, draws_with, sales_with}
 use Rattle.site_core.specs.Performed.{MayPerform, done_at, step_at}
 use Rattle.site_core.specs.Shown.{HasRoom, Room, room_left, room_sold}
+use Rattle.site_core.specs.declared.site_parts.SiteParts.{SiteParts}
+use Rattle.site_core.specs.SiteParts.{room_of, site_of}
 use Rattle.site_core.specs.Telling.{delivers}
 
 -- the site with this last reading of the point's nozzle
@@ -133,6 +135,17 @@ room_by (Offline point) answer room = room_sold point.number answer room
 room_by (HangUp point n reading growth) answer room = room_sold point.number answer room
 room_by CloseShift answer room = record { sales = room.sales; closes = room.closes - 1 }
 room_by ready answer room = room
+
+-- what is ready may be performed, and there is room for what it adds
+pub record MayDo (parts : SiteParts) (ready : Ready) : Type 0 where
+  pub can : CanPerform (site_of parts) ready
+  pub room : HasRoomFor (room_of parts) ready
+
+-- from old, what is ready is done: it leads to new, and is answered so
+pub record Does (old : SiteParts) (ready : Ready) (new : SiteParts) (answer : Answer) : Type 0 where
+  pub site : site_of new ≡ site_by (site_of old) ready
+  pub answers : answer ≡ answer_by (site_of old) ready
+  pub room : room_of new ≡ room_by ready answer (room_of old)
 
 -- the actor's event is accepted, and it is this that is left to perform
 pub record IsReady (s : SiteState) (actor : Actor) (event : Event) (ready : Ready) : Type 0 where

@@ -15,11 +15,10 @@ ghost use Rattle.written_site.specs.ShiftFigures.{cents_by, clears_by, takings_i
 ghost use Rattle.written_site.specs.Volumes.{drawn_of};
 ghost use Rattle.site_core.specs.Accounts.{FitsGrant, shift_row};
 
-use crate::ledger::Ledger;
-use shift_ledger::ShiftRow;
+use shift_ledger::{ShiftBook, ShiftRow};
 use site_base::{
-    Answer, FpNo, NoMemory, PRODUCT_CELLS, ProductNo, Refusal, Seq, ShiftNo, Status, TillNo,
-    TransactionView,
+    Answer, FpNo, NoMemory, PRODUCT_CELLS, ProductNo, Refusal, Seq, ShiftNo, Status, TILL_CELLS,
+    TillNo, TransactionView,
 };
 use std::alloc::Global;
 use std::marker::Model;
@@ -30,12 +29,15 @@ use transaction_buffer::{Buffer, Figure, FoundSale, Request};
 #[derive(Drop)]
 pub struct Accounts {
     sales: Buffer,
-    ledger: Ledger,
+    shifts: ShiftBook,
+    // The clears of till t in all shifts and their cents stand in cell t - 1.
+    tills: [(u64, u64); TILL_CELLS],
+    // What tests drew of product q in all shifts stands in cell q - 1.
+    drawn: [u64; PRODUCT_CELLS],
 }
 
 impl Model for Accounts {
-    ghost use Rattle.site_core.specs.Accounts.{Account, AreFigures, account_code};
-    ghost use Rattle.site_core.specs.Ledger.{draws_of};
+    ghost use Rattle.site_core.specs.Accounts.{Account, IsAccount, account_code, draws_of};
 
     ghost Value = { Account };
 
@@ -44,11 +46,11 @@ impl Model for Accounts {
     ghost view = { λ a. record {
       sales = a.sales.sales;
       rooms = a.sales.rooms;
-      drawn = draws_of a.ledger.shifts;
-      closes = a.ledger.room;
+      drawn = draws_of a.shifts.shifts;
+      closes = a.shifts.room;
     } };
 
-    ghost invariant = { λ a. AreFigures a.sales.sales a.ledger.shifts a.ledger.tills };
+    ghost invariant = { λ a. IsAccount a.sales.sales a.shifts.shifts a.tills a.drawn };
 }
 
 impl Accounts {
@@ -59,7 +61,9 @@ impl Accounts {
     {
         Accounts {
             sales: Buffer::new(alloc),
-            ledger: Ledger::new(alloc),
+            shifts: ShiftBook::new(alloc),
+            tills: [(0, 0); TILL_CELLS],
+            drawn: [0; PRODUCT_CELLS],
         }
     }
 
@@ -84,14 +88,14 @@ impl Accounts {
         ensures kept { self.old.closes ≤ self.new.closes }
         ensures err { OnErr result (self.new ≡ self.old) }
     {
-        self.ledger.reserve()
+        self.shifts.reserve()
     }
 
     /// The number of the open shift.
     pub fn open_shift(&self) -> ShiftNo
         ensures { result ≡ length self.now.drawn }
     {
-        self.ledger.open_shift()
+        self.shifts.open()
     }
 
     /// How many transactions of point p are unpaid: payable or locked.
@@ -105,7 +109,7 @@ impl Accounts {
     pub fn next_seq(&self, p: FpNo) -> Option<Seq>
         ensures { result ≡ next_number p (length self.now.drawn) self.now.sales }
     {
-        self.sales.next_seq(p, self.ledger.open_shift())
+        self.sales.next_seq(p, self.shifts.open())
     }
 
     /// The transaction, if it is there.
@@ -149,7 +153,7 @@ impl Accounts {
     pub fn drawn(&self, q: ProductNo) -> u64
         ensures { result ≡ drawn_of q self.now.drawn }
     {
-        self.ledger.drawn(q)
+        self.drawn[q.cell()]
     }
 
     /// A figure summed over the sales themselves, which fits in 64 bits: no sum that is kept is
@@ -167,7 +171,8 @@ impl Accounts {
         requires { drawn_of q self.now.drawn < 2 ^ 64 }
         ensures { result ≡ drawn_of q self.now.drawn }
     {
-        self.ledger.counted_drawn(q)
+        let _ = q.get();
+        self.shifts.drawn(q)
     }
 
     /// Adds a sale of point p in the open shift, and answers its number there. The conditions are
@@ -186,7 +191,7 @@ impl Accounts {
         ensures rooms { self.new.rooms ≡ one_taken p self.old.rooms }
         ensures closes { self.new.closes ≡ self.old.closes }
     {
-        let shift = self.ledger.open_shift();
+        let shift = self.shifts.open();
         self.sales.add(p, shift, view)
     }
 
@@ -198,7 +203,9 @@ impl Accounts {
         ensures rooms { self.new.rooms ≡ self.old.rooms }
         ensures closes { self.new.closes ≡ self.old.closes }
     {
-        self.ledger.note_drawn(q, volume);
+        let cell = q.cell();
+        self.shifts.note_drawn(q, volume);
+        self.drawn[cell] += volume;
     }
 
     /// Does what the transaction table says of a request that it accepts. A clear counts in the
@@ -218,8 +225,12 @@ impl Accounts {
             return self.sales.grant(sale, request, t);
         };
         let view = self.sales.view(sale);
-        self.ledger
-            .note_cleared(t, view.product, view.volume.get(), view.cents.get());
+        let cents = view.cents.get();
+        self.shifts
+            .note_cleared(t, view.product, view.volume.get(), cents);
+        let cell = t.cell();
+        let (clears, sum) = self.tills[cell];
+        self.tills[cell] = (clears + 1, sum + cents);
         self.sales.grant(sale, request, t)
     }
 
@@ -245,7 +256,7 @@ impl Accounts {
         ensures rooms { self.new.rooms ≡ self.old.rooms }
         ensures closes { self.new.closes ≡ self.old.closes - 1 }
     {
-        match self.ledger.close() {
+        match self.shifts.close() {
             Ok(shift) => shift,
             Err(_) => unreachable!(),
         }
@@ -255,7 +266,7 @@ impl Accounts {
     pub fn shift(&self, n: ShiftNo) -> Option<ShiftRow>
         ensures { result ≡ shift_row n self.now.sales self.now.drawn }
     {
-        self.ledger.row(n)
+        self.shifts.row(n)
     }
 
     /// The millilitres that tests drew in shift n of each product, from 1 on. None for shifts to
@@ -273,7 +284,7 @@ impl Accounts {
     pub fn till(&self, t: TillNo) -> (u64, u64)
         ensures { result ≡ (clears_by t self.now.sales, cents_by t self.now.sales) }
     {
-        self.ledger.till(t)
+        self.tills[t.cell()]
     }
 
     /// The cents that all tills cleared in the open shift. They fit in 64 bits.
@@ -281,7 +292,7 @@ impl Accounts {
         requires { takings_in (length self.now.drawn) self.now.sales < 2 ^ 64 }
         ensures { result ≡ takings_in (length self.now.drawn) self.now.sales }
     {
-        match self.ledger.row(self.ledger.open_shift()) {
+        match self.shifts.row(self.shifts.open()) {
             Some(row) => sum_of_cents(&row.tills),
             None => unreachable!(),
         }

@@ -28,11 +28,7 @@ impl SiteParts {
     pub(crate) fn check_signed_on(&self, t: TillNo) -> Result<(), Refusal>
         ensures { Passes (unless (is_signed_on (site_of self.now) t) NotSignedOn) result }
     {
-        if self.signed_on.contains(t) {
-            Ok(())
-        } else {
-            Err(Refusal::NotSignedOn)
-        }
+        unless(self.signed_on.contains(t), Refusal::NotSignedOn)
     }
 
     /// The point, the nozzle, the product and the transaction that the event names are there.
@@ -74,11 +70,7 @@ impl SiteParts {
     pub(crate) fn check_nozzle(&self, p: FpNo, n: NozzleNo) -> Result<(), Refusal>
         ensures { Passes (is_nozzle_there (site_of self.now) (Some p) (Some n)) result }
     {
-        if self.meters.contains(p, n) {
-            Ok(())
-        } else {
-            Err(Refusal::NoSuchNozzle)
-        }
+        unless(self.meters.contains(p, n), Refusal::NoSuchNozzle)
     }
 
     /// The product is there: it has this price today.
@@ -108,22 +100,14 @@ impl SiteParts {
     pub(crate) fn check_own(&self, d: FpNo, p: FpNo) -> Result<(), Refusal>
         ensures { Passes (unless (p == d) NotYourPoint) result }
     {
-        if p == d {
-            Ok(())
-        } else {
-            Err(Refusal::NotYourPoint)
-        }
+        unless(p == d, Refusal::NotYourPoint)
     }
 
     /// The till is a manager.
     pub(crate) fn check_manager(&self, t: TillNo) -> Result<(), Refusal>
         ensures { Passes (unless (is_manager (site_of self.now) t) NotManager) result }
     {
-        if self.managers.contains(t) {
-            Ok(())
-        } else {
-            Err(Refusal::NotManager)
-        }
+        unless(self.managers.contains(t), Refusal::NotManager)
     }
 
     /// No other till holds the point.
@@ -140,10 +124,7 @@ impl SiteParts {
     pub(crate) fn check_held(&self, p: FpNo) -> Result<(), Refusal>
         ensures { Passes (unless (is_some (holder_of (site_of self.now) p)) NotYours) result }
     {
-        match self.claims.holder(p) {
-            Some(_) => Ok(()),
-            None => Err(Refusal::NotYours),
-        }
+        unless(self.claims.holder(p).is_some(), Refusal::NotYours)
     }
 
     /// The point may make one more sale: fewer than two are unpaid, and the open shift has a
@@ -151,34 +132,32 @@ impl SiteParts {
     pub(crate) fn check_may_sell(&self, p: FpNo) -> Result<(), Refusal>
         ensures { Passes (may_sell (site_of self.now) p) result }
     {
-        if self.accounts.unpaid(p) >= UNPAID_LIMIT {
-            return Err(Refusal::BufferFull);
-        }
-        if self.accounts.next_seq(p).is_none() {
-            return Err(Refusal::SequenceSpent);
-        }
-        Ok(())
+        unless(self.accounts.unpaid(p) < UNPAID_LIMIT, Refusal::BufferFull)?;
+        unless(
+            self.accounts.next_seq(p).is_some(),
+            Refusal::SequenceSpent,
+        )
     }
 
     /// The meter of a nozzle may be replaced once more.
     pub(crate) fn check_replaceable(&self, p: FpNo, n: NozzleNo) -> Result<(), Refusal>
         ensures { Passes (unless (nat_lt (times_replaced p n (site_of self.now).nozzles) REPLACEMENT_LIMIT) MeterSpent) result }
     {
-        match self.meters.replacements(p, n) {
-            Some(replaced) if replaced >= REPLACEMENT_LIMIT => Err(Refusal::MeterSpent),
-            _ => Ok(()),
-        }
+        let spent = match self.meters.replacements(p, n) {
+            Some(replaced) => replaced >= REPLACEMENT_LIMIT,
+            None => false,
+        };
+        unless(!spent, Refusal::MeterSpent)
     }
 
     /// The open shift isn't the last one that may be.
     pub(crate) fn check_not_last(&self) -> Result<(), Refusal>
         ensures { Passes (unless (not (open_shift (site_of self.now) == GREATEST_SHIFT)) ShiftsSpent) result }
     {
-        if self.open_shift().get() == GREATEST_SHIFT {
-            Err(Refusal::ShiftsSpent)
-        } else {
-            Ok(())
-        }
+        unless(
+            self.open_shift().get() != GREATEST_SHIFT,
+            Refusal::ShiftsSpent,
+        )
     }
 }
 
@@ -202,9 +181,12 @@ pub fn check_preset(preset: Preset) -> Result<(), Refusal>
         Preset::Volume(millilitres) => 1 <= millilitres && millilitres <= GREATEST_PRESET,
         Preset::Money(cents) => 1 <= cents && cents <= GREATEST_PRESET,
     };
-    if fits {
-        Ok(())
-    } else {
-        Err(Refusal::BadPreset)
-    }
+    unless(fits, Refusal::BadPreset)
+}
+
+/// A check that fails where this isn't so.
+fn unless(holds: bool, refusal: Refusal) -> Result<(), Refusal>
+    ensures { Passes (unless holds refusal) result }
+{
+    if holds { Ok(()) } else { Err(refusal) }
 }

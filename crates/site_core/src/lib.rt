@@ -13,7 +13,6 @@ mod checks;
 mod counting;
 mod ending;
 mod figures;
-mod ledger;
 mod perform;
 mod points;
 mod ranges;

@@ -6,7 +6,7 @@ ghost use Rattle.std.specs.FinMap as finite;
 ghost use Rattle.site_base.specs.declared.actor.Actor.TheVariants.{Till};
 ghost use Rattle.site_base.specs.declared.event.Event.TheVariants.{SignOff};
 ghost use Rattle.written_site.specs.SiteStep.{accepted_site, ends_at_sign_off, holds_without};
-ghost use Rattle.site_core.specs.Ready.{CanPerform, HasRoomFor, answer_by, room_by, site_by};
+ghost use Rattle.site_core.specs.Ready.{Does, MayDo};
 ghost use Rattle.site_core.specs.SiteParts.{room_of, site_of};
 
 use crate::ending::give_back;
@@ -22,11 +22,8 @@ impl SiteParts {
     /// Does what has passed its checks, and answers it.
     #[inline(always)]
     pub(crate) fn perform(&mut self, ready: &Ready) -> Answer
-        requires can { CanPerform (site_of self.old) ready.now }
-        requires room { HasRoomFor (room_of self.old) ready.now }
-        ensures site { site_of self.new ≡ site_by (site_of self.old) ready.now }
-        ensures answer { result ≡ answer_by (site_of self.old) ready.now }
-        ensures room { room_of self.new ≡ room_by ready.now result (room_of self.old) }
+        requires { MayDo self.old ready.now }
+        ensures { Does self.old ready.now self.new result }
     {
         match ready {
             Ready::Tell(answer) => return *answer,
@@ -92,10 +89,8 @@ impl SiteParts {
 
     /// The release of the point is taken back, and its hold ends; or its fuelling is ending.
     fn terminate(&mut self, point: &FoundPoint) -> Answer
-        requires { CanPerform (site_of self.old) (Ready.Terminate point.now) }
-        ensures site { site_of self.new ≡ site_by (site_of self.old) (Ready.Terminate point.now) }
-        ensures answer { result ≡ answer_by (site_of self.old) (Ready.Terminate point.now) }
-        ensures room { room_of self.new ≡ room_of self.old }
+        requires { MayDo self.old (Ready.Terminate point.now) }
+        ensures { Does self.old (Ready.Terminate point.now) self.new result }
     {
         let step = self.points.perform(point, PointEvent::Terminate);
         give_back(&mut self.claims, point.number, &step);
@@ -110,12 +105,8 @@ impl SiteParts {
         reading: Millilitres,
         growth: u64,
     ) -> Answer
-        requires { CanPerform (site_of self.old) (Ready.Flow point.now nozzle reading growth) }
-        ensures site { site_of self.new
-            ≡ site_by (site_of self.old) (Ready.Flow point.now nozzle reading growth) }
-        ensures answer { result
-            ≡ answer_by (site_of self.old) (Ready.Flow point.now nozzle reading growth) }
-        ensures room { room_of self.new ≡ room_of self.old }
+        requires { MayDo self.old (Ready.Flow point.now nozzle reading growth) }
+        ensures { Does self.old (Ready.Flow point.now nozzle reading growth) self.new result }
     {
         let step = self
             .points
@@ -132,16 +123,8 @@ impl SiteParts {
         reading: Millilitres,
         growth: u64,
     ) -> Answer
-        requires can { CanPerform (site_of self.old)
-            (Ready.HangUp point.now nozzle reading growth) }
-        requires room { HasRoomFor (room_of self.old)
-            (Ready.HangUp point.now nozzle reading growth) }
-        ensures site { site_of self.new
-            ≡ site_by (site_of self.old) (Ready.HangUp point.now nozzle reading growth) }
-        ensures answer { result
-            ≡ answer_by (site_of self.old) (Ready.HangUp point.now nozzle reading growth) }
-        ensures room { room_of self.new
-            ≡ room_by (Ready.HangUp point.now nozzle reading growth) result (room_of self.old) }
+        requires { MayDo self.old (Ready.HangUp point.now nozzle reading growth) }
+        ensures { Does self.old (Ready.HangUp point.now nozzle reading growth) self.new result }
     {
         let step = self
             .points
@@ -154,12 +137,8 @@ impl SiteParts {
 
     /// The point isn't reached any more: a fuelling under way is over, and the hold ends.
     fn go_offline(&mut self, point: &FoundPoint) -> Answer
-        requires can { CanPerform (site_of self.old) (Ready.Offline point.now) }
-        requires room { HasRoomFor (room_of self.old) (Ready.Offline point.now) }
-        ensures site { site_of self.new ≡ site_by (site_of self.old) (Ready.Offline point.now) }
-        ensures answer { result ≡ answer_by (site_of self.old) (Ready.Offline point.now) }
-        ensures room { room_of self.new
-            ≡ room_by (Ready.Offline point.now) result (room_of self.old) }
+        requires { MayDo self.old (Ready.Offline point.now) }
+        ensures { Does self.old (Ready.Offline point.now) self.new result }
     {
         let step = self.points.perform(point, PointEvent::Offline);
         let answer = self.end(point.number, 0, &step);

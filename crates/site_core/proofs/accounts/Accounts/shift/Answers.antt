@@ -7,6 +7,6 @@ pub returns : goal.returns
 returns c =
     let inside = c.self.inside in
     c.row.ensures
-    ∙ row_shown c.args.n inside.sales.sales inside.ledger.shifts inside.ledger.tills
-    c.self.invariant
+    ∙ row_shown c.args.n inside.sales.sales inside.shifts.shifts inside.tills
+    c.self.invariant.figures
     ∙ ap (λ a. shift_row c.args.n a.sales a.drawn) c.self.view_is

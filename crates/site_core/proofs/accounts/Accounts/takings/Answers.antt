@@ -13,10 +13,10 @@ told : (c : In-Some) → sum_by (λ (e : ℕ × ℕ). e.1) c.in-Some.row.tills
     ≡ takings_in (length c.args.self.now.drawn) c.args.self.now.sales
 told c =
     let inside = c.self.inside in
-    takings_shown c.open_shift.result inside.sales.sales inside.ledger.shifts inside.ledger.tills
-    c.in-Some.row c.self.invariant (sym c.row.ensures ∙ c.in-Some.is)
+    takings_shown c.open.result inside.sales.sales inside.shifts.shifts inside.tills
+    c.in-Some.row c.self.invariant.figures (sym c.row.ensures ∙ c.in-Some.is)
     ∙ ap (λ h. takings_in h inside.sales.sales)
-    (c.open_shift.ensures ∙ sym (draws-open inside.ledger.shifts))
+    (c.open.ensures ∙ sym (draws-open inside.shifts.shifts))
     ∙ ap (λ a. takings_in (length a.drawn) a.sales) c.self.view_is
 
 pub sum_of_cents-requires : goal.sum_of_cents-requires
@@ -26,9 +26,9 @@ sum_of_cents-requires c =
 
 pub unreachable-requires : goal.unreachable-requires
 unreachable-requires c =
-    let shifts = c.self.inside.ledger.shifts in
+    let shifts = c.self.inside.shifts.shifts in
     let some = do_stay.shown shifts in
-    let none = sym (ap (λ h. figures_of h shifts) c.open_shift.ensures) ∙ sym c.row.ensures
+    let none = sym (ap (λ h. figures_of h shifts) c.open.ensures) ∙ sym c.row.ensures
     ∙ c.in-None.is in
     cc
 

@@ -1,6 +1,6 @@
 use Rattle.std.proofs.Common.{ℕ, ◌<◌, ◌^◌, sym, subst, ◌∙◌, arith}
 use Rattle.site_core.proofs.CountedDraws.{drawn_each}
-use Rattle.site_core.proofs.ledger.Ledger.counted_drawn.Goals as goal
+use Rattle.site_core.proofs.accounts.Accounts.counted_drawn.Goals as goal
 
 pub drawn-requires : goal.drawn-requires
 drawn-requires c =
