@@ -97,7 +97,7 @@ fn submit_all<L: Ledger, C: Naming, G: Gate, R: Wait>(
     let mut accepted = 0;
     for call in calls {
         let (actor, event) = call;
-        match submit_one(rt, desk, share, gate, *actor, *event) {
+        match submit_one(rt, desk, share, gate, actor, event) {
             Ok(one) => accepted += one,
             Err(fault) => {
                 return ListEnd {
@@ -122,26 +122,6 @@ fn submit_one<L: Ledger, C: Naming, G: Gate, R: Wait>(
     desk: &Desk<L, C>,
     share: &mut Share<L, C>,
     gate: &G,
-    actor: Actor,
-    event: Event,
-) -> Result<u64, WorkFault>
-    ensures submitted { IfOk result (λ one.
-        AreSubmitted ((actor, event) ∷ []) share.old.receipts share.new.receipts one) }
-    ensures one { IfOk result (λ one. one ≤ 1) }
-    ensures err { OnErr result (share.new.receipts ≡ share.old.receipts) }
-    ensures cause { IfErr result (λ fault. IsCause C.config fault) }
-{
-    gate.before_lock(actor);
-    let one = make(rt, desk, share, &actor, &event);
-    gate.after_reply(actor);
-    one
-}
-
-/// Makes one call, and says whether it was accepted: 1 or 0.
-fn make<L: Ledger, C: Naming, R: Wait>(
-    rt: &R,
-    desk: &Desk<L, C>,
-    share: &mut Share<L, C>,
     actor: &Actor,
     event: &Event,
 ) -> Result<u64, WorkFault>
@@ -151,7 +131,10 @@ fn make<L: Ledger, C: Naming, R: Wait>(
     ensures err { OnErr result (share.new.receipts ≡ share.old.receipts) }
     ensures cause { IfErr result (λ fault. IsCause C.config fault) }
 {
-    match &desk.submit(rt, share, *actor, *event) {
+    gate.before_lock(*actor);
+    let placed = &desk.submit(rt, share, *actor, *event);
+    gate.after_reply(*actor);
+    match placed {
         Ok(placed) => Ok(u64::from(placed.reply.is_ok())),
         Err(no_row) => Err(WorkFault::of(*no_row)),
     }

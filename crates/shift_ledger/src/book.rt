@@ -91,13 +91,24 @@ impl ShiftBook {
         ensures refused { IfErr result (λ refusal. refusal ≡ ShiftsSpent) }
         ensures err { OnErr result (self.new ≡ self.old) }
     {
-        let number = self.open();
-        if number.get() == GREATEST_SHIFT {
+        if self.open().get() == GREATEST_SHIFT {
             return Err(Refusal::ShiftsSpent);
         }
+        Ok(self.perform_close())
+    }
+
+    /// The close itself, of an open shift that isn't the last one that may be.
+    pub fn perform_close(&mut self) -> ShiftNo
+        requires room { 0 < self.old.room }
+        requires next { is_last self.old.shifts ≡ false }
+        ensures number { result ≡ open_number self.old.shifts }
+        ensures shifts { self.new.shifts ≡ after_close self.old.shifts }
+        ensures room { self.new.room ≡ self.old.room - 1 }
+    {
+        let number = self.open();
         self.closed.push_reserved(self.current);
         self.current = ShiftRow::empty();
-        Ok(number)
+        number
     }
 
     /// How many shifts are closed.

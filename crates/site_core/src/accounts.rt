@@ -256,10 +256,7 @@ impl Accounts {
         ensures rooms { self.new.rooms ≡ self.old.rooms }
         ensures closes { self.new.closes ≡ self.old.closes - 1 }
     {
-        match self.shifts.close() {
-            Ok(shift) => shift,
-            Err(_) => unreachable!(),
-        }
+        self.shifts.perform_close()
     }
 
     /// The figures of shift n, the open one's too. None for shifts to come.
@@ -294,6 +291,7 @@ impl Accounts {
     {
         match self.shifts.row(self.shifts.open()) {
             Some(row) => sum_of_cents(&row.tills),
+            // The open shift has its figures.
             None => unreachable!(),
         }
     }

@@ -113,17 +113,17 @@ impl SiteParts {
         })
     }
 
-    /// What has flowed by a nozzle that is there since its last reading, where it reads this; 0
-    /// where it reads less.
+    /// What has flowed by the nozzle since its last reading, where it reads this; 0 where it reads
+    /// less.
     fn growth(&self, p: FpNo, n: NozzleNo, reading: Millilitres) -> u64
-        requires { has_nozzle p n (site_of self.now).nozzles ≡ true }
         ensures value { result ≡ flowed (site_of self.now) p n reading }
         ensures range { reading ≤ GREATEST_READING }
     {
-        match self.meters.last(p, n) {
-            Some(last) => reading.get().saturating_sub(last.get()),
-            None => unreachable!(),
-        }
+        let last = match self.meters.last(p, n) {
+            Some(last) => last.get(),
+            None => 0,
+        };
+        reading.get().saturating_sub(last)
     }
 }
 

@@ -133,10 +133,7 @@ impl SiteParts {
         ensures { Passes (may_sell (site_of self.now) p) result }
     {
         unless(self.accounts.unpaid(p) < UNPAID_LIMIT, Refusal::BufferFull)?;
-        unless(
-            self.accounts.next_seq(p).is_some(),
-            Refusal::SequenceSpent,
-        )
+        unless(self.accounts.next_seq(p).is_some(), Refusal::SequenceSpent)
     }
 
     /// The meter of a nozzle may be replaced once more.

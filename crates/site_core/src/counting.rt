@@ -83,11 +83,8 @@ impl SiteParts {
         ensures { result ≡ product_alone q (product_out (site_of self.now).nozzles p point.now)
             * running_at (site_of self.now).nozzles p point.now }
     {
-        let Some(start) = point.start() else {
+        let (Some(start), Some(nozzle)) = (point.start(), point.view().out) else {
             return 0;
-        };
-        let Some(nozzle) = point.view().out else {
-            unreachable!();
         };
         match (self.meters.product(p, nozzle), self.meters.last(p, nozzle)) {
             (Some(product), Some(last)) if product.get() == q.get() => last.get() - start.get(),

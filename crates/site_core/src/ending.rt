@@ -106,6 +106,7 @@ impl SiteParts {
     {
         match self.meters.product(p, n) {
             Some(product) => product,
+            // The nozzle is there.
             None => unreachable!(),
         }
     }

@@ -19,7 +19,7 @@ pub fn are_fit(config: &SiteConfig, prices: &PriceBook)
     // A site file's rows, managers, products and points are fit, as their types say.
     let _ = config.rows();
     let _ = config.managers();
-    let _ = prices.get(ProductNo::new(1).unwrap());
+    let _ = prices.get(ProductNo::of_cell(0));
     product_ranges(config.products());
     point_ranges(config.points());
 }

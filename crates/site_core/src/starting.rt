@@ -16,17 +16,15 @@ impl SiteParts {
         ensures last { result.0 ≡ reading_at_start (site_of self.now) p nozzle }
         ensures price { result.1 ≡ price_at_start (site_of self.now) p nozzle }
     {
-        let Some(n) = nozzle else {
-            return (Millilitres::new(0).unwrap(), Mills::new(1).unwrap());
+        let (last, price) = match nozzle {
+            Some(n) => (self.meters.last(p, n), self.price_of(p, n)),
+            None => (None, None),
         };
-        let last = match self.meters.last(p, n) {
-            Some(last) => last,
-            None => Millilitres::new(0).unwrap(),
-        };
-        match self.price_of(p, n) {
-            Some(price) => (last, price),
-            None => (last, Mills::new(1).unwrap()),
-        }
+        // Both are in range.
+        (
+            last.unwrap_or(Millilitres::new(0).unwrap()),
+            price.unwrap_or(Mills::new(1).unwrap()),
+        )
     }
 
     /// The same of the nozzle that is out at the point.

@@ -25,7 +25,7 @@ pub fn told(step: &PointStep) -> Answer
         PointStep::NoSale => Answer::NoSale,
         PointStep::Stopped => Answer::Stopped,
         PointStep::Ending => Answer::Ending,
-        PointStep::Sold { .. } => unreachable!(),
-        PointStep::Drawn { .. } => unreachable!(),
+        // These end a delivery.
+        PointStep::Sold { .. } | PointStep::Drawn { .. } => unreachable!(),
     }
 }

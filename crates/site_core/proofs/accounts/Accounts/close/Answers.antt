@@ -8,7 +8,7 @@ pub invariant_of-self : goal.invariant_of-self
 invariant_of-self c =
     let inside = c.self.inside in
     subst (λ shifts. IsAccount inside.sales.sales shifts inside.tills inside.drawn)
-    (sym c.in-Ok.ensures.shifts) (record {
+    (sym c.perform_close.ensures.shifts) (record {
       figures = close_kept inside.sales.sales inside.shifts.shifts inside.tills
           c.self.invariant.figures;
       drawn = kept_opened inside.shifts.shifts inside.drawn c.self.invariant.drawn;
