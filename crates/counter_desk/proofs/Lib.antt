@@ -1,5 +1,6 @@
 pub mod Amounts
 pub mod Counting
+pub mod KeptReceipts
 pub mod Lists
 pub mod MarkedLists
 pub mod OwedTills

@@ -1,11 +1,12 @@
 -- Receipts: the row that each tells of, where it stands, and what many add up to.
-use Rattle.std.specs.Prelude.{◌≡◌, ℕ, ◌*◌, ◌≤◌, List, length, Some, slice_get}
+use Rattle.std.specs.Prelude.{◌≡◌, ℕ, ◌*◌, ◌≤◌, List, [], ◌∷◌, length, Some, slice_get}
 use Rattle.site_base.specs.declared.actor.Actor.{Actor}
 use Rattle.site_base.specs.declared.event.Event.{Event}
 use Rattle.site_base.specs.declared.limits.TheConstants.{GREATEST_CENTS, GROWTH_LIMIT}
 use Rattle.site_base.specs.declared.row.Placed.{Placed}
 use Rattle.site_base.specs.declared.row.Row.{Row}
 use Rattle.site_base.specs.Configured.{Configured}
+use Rattle.site_base.specs.History.{RowList}
 use Rattle.site_base.specs.Events.{cents_told, growth_told}
 use Rattle.written_site.specs.RowWords.{total}
 use Rattle.written_site.specs.SiteRun.{IsLegal}
@@ -20,6 +21,17 @@ pub record ReceiptList : Type 0 where
 -- the row that a receipt tells of
 abbrev pub receipted_row : Receipt → Row
 receipted_row r = record { actor = r.actor; event = r.event; reply = r.reply }
+
+-- the receipt of the row at a place
+abbrev pub receipt_at : ℕ → Row → Receipt
+receipt_at place row =
+    record { place = place; actor = row.actor; event = row.event; reply = row.reply }
+
+-- the receipts of these rows, at these places
+unfoldable pub receipts_at : List ℕ → List Row → List Receipt
+receipts_at [] rows = []
+receipts_at (place ∷ places) [] = []
+receipts_at (place ∷ places) (row ∷ rows) = receipt_at place row ∷ receipts_at places rows
 
 -- the receipt of an actor's event that was placed and answered so
 abbrev pub receipt_of : Placed → Actor → Event → Receipt
@@ -48,3 +60,11 @@ pub record IsTallied (cents millilitres : ℕ) (receipts : List Receipt) : Type 
   pub millilitres_are : millilitres ≡ growth_receipted receipts
   pub few_cents : cents ≤ length receipts * GREATEST_CENTS
   pub few_millilitres : millilitres ≤ length receipts * GROWTH_LIMIT
+
+-- places and rows are as many; in both lists there is this room; and the amounts are those of the
+-- receipts
+pub record AreReceiptsKept (places : List ℕ) (list : RowList) (room room_of_places cents millilitres : ℕ) : Type 0 where
+  pub as_many : length places ≡ length list.rows
+  pub room_in_rows : room ≤ list.room
+  pub room_in_places : room ≤ room_of_places
+  pub tallied : IsTallied cents millilitres (receipts_at places list.rows)

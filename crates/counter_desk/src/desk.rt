@@ -70,7 +70,7 @@ impl<L: Ledger, C: Naming> Desk<L, C> {
     {
         // What can fail for memory here comes before the lock is taken.
         share.reserve(&event)?;
-        self.site.lock(rt).submit(share, actor, event)
+        self.site.lock(rt).submit(share, &actor, &event)
     }
 
     /// Signs off a till that the share owes, on a full book too; it takes no memory. None where the

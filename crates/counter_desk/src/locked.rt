@@ -17,7 +17,7 @@ use crate::receipt::Receipt;
 use crate::root::Root;
 use crate::share::Share;
 use site_base::{
-    Actor, Answer, Event, FpNo, NoMemory, NoRow, Placed, PointView, SiteConfig, TillNo, Totals,
+    Actor, Answer, Event, FpNo, NoMemory, NoRow, Placed, PointView, Row, SiteConfig, TillNo, Totals,
 };
 use site_book::SiteBook;
 use std::alloc::Global;
@@ -66,20 +66,20 @@ impl<L: Ledger, C: Naming> Locked<L, C> {
     pub(crate) fn submit(
         &mut self,
         share: &mut Share<L, C>,
-        actor: Actor,
-        event: Event,
+        actor: &Actor,
+        event: &Event,
     ) -> Result<Placed, NoRow>
-        requires { receipts_asked event ≤ share.old.room }
+        requires { receipts_asked event.now ≤ share.old.room }
         ensures row { IfOk result (λ placed.
-            self.new ≡ self.old ++ receipted_row (receipt_of placed actor event) ∷ []) }
+            self.new ≡ self.old ++ receipted_row (receipt_of placed actor.now event.now) ∷ []) }
         ensures reply { IfOk result (λ placed.
-            placed.reply ≡ reply_to (site_at C.config self.old) actor event) }
+            placed.reply ≡ reply_to (site_at C.config self.old) actor.now event.now) }
         ensures place { IfOk result (λ placed. placed.place ≡ length self.old) }
         ensures receipt { IfOk result (λ placed.
-            share.new.receipts ≡ share.old.receipts ++ receipt_of placed actor event ∷ []) }
+            share.new.receipts ≡ share.old.receipts ++ receipt_of placed actor.now event.now ∷ []) }
         ensures owed { IfOk result (λ placed.
-            share.new.owed ≡ owed_after actor event placed.reply share.old.owed) }
-        ensures stands { IfOk result (λ placed. StandsAt self.new (receipt_of placed actor event)) }
+            share.new.owed ≡ owed_after actor.now event.now placed.reply share.old.owed) }
+        ensures stands { IfOk result (λ placed. StandsAt self.new (receipt_of placed actor.now event.now)) }
         ensures full { IsErrOf result NoRow.BookFull → is_full (book_of C.config self.old) ≡ true }
         ensures told_full { is_full (book_of C.config self.old) ≡ true
             → IsErrOf result NoRow.BookFull }
@@ -87,10 +87,14 @@ impl<L: Ledger, C: Naming> Locked<L, C> {
         ensures share_stays { OnErr result (IsAsBefore share.old share.new) }
         ensures legal { IsLegal (opening C.config) self.new }
     {
-        let placed = &self.book.apply(actor, event)?;
+        let placed = &self.book.apply(*actor, *event)?;
         let _few = self.book.len();
-        let receipt = Receipt::new(placed, &actor, &event);
-        share.note(&mut self.calls, receipt);
+        let row = Row {
+            actor: *actor,
+            event: *event,
+            reply: placed.reply,
+        };
+        share.note(&mut self.calls, placed.place, &row);
         Ok(*placed)
     }
 
@@ -115,8 +119,12 @@ impl<L: Ledger, C: Naming> Locked<L, C> {
         match &self.book.sign_off(t) {
             Some(placed) => {
                 let _few = self.book.len();
-                let receipt = Receipt::new(placed, &Actor::Till(t), &Event::SignOff);
-                share.note(&mut self.calls, receipt);
+                let row = Row {
+                    actor: Actor::Till(t),
+                    event: Event::SignOff,
+                    reply: placed.reply,
+                };
+                share.note(&mut self.calls, placed.place, &row);
                 Some(*placed)
             }
             None => {

@@ -3,9 +3,9 @@
 ghost use Rattle.std.specs.Prelude.{◌≡◌, ◌+◌, ◌*◌, ◌<◌, ◌≤◌, ◌↔◌, [], ◌∷◌, ◌++◌, length, slice_get, IsTrue, OnOk};
 ghost use Rattle.site_base.specs.declared.limits.TheConstants.{GREATEST_CENTS, GREATEST_ROWS, GROWTH_LIMIT, TILLS};
 ghost use Rattle.site_base.specs.Events.{cents_told, growth_told};
-ghost use Rattle.counter_desk.specs.Receipts.{cents_receipted, growth_receipted, receipt_of, receipted_row};
+ghost use Rattle.counter_desk.specs.Receipts.{cents_receipted, growth_receipted, receipt_at, receipted_row};
 
-use site_base::{Actor, Answer, Event, NoMemory, Placed, Reply, Row, cents_told, growth_told};
+use site_base::{Actor, Answer, Event, NoMemory, Reply, Row, Rows, cents_told, growth_told};
 use std::alloc::Global;
 use std::marker::Model;
 
@@ -23,18 +23,6 @@ pub struct Receipt {
 }
 
 impl Receipt {
-    /// The receipt of an actor's event that was placed and answered so.
-    pub(crate) fn new(placed: &Placed, actor: &Actor, event: &Event) -> Self
-        ensures { result ≡ receipt_of placed.now actor.now event.now }
-    {
-        Receipt {
-            place: placed.place,
-            actor: *actor,
-            event: *event,
-            reply: placed.reply,
-        }
-    }
-
     /// Does it tell of this row?
     pub(crate) fn is_of(&self, row: &Row) -> bool
         ensures same { IsTrue result → row.now ≡ receipted_row self.now }
@@ -70,43 +58,31 @@ fn is_reply(reply: &Reply, other: &Reply) -> bool
     reply == other
 }
 
-/// A receipt as a list of receipts keeps it.
-#[derive(Clone, Copy, Drop)]
-struct KeptReceipt {
-    receipt: Receipt,
-}
-
-impl Model for KeptReceipt {
-    ghost use Rattle.counter_desk.specs.declared.receipt.Receipt.{Receipt};
-
-    ghost Value = { Receipt };
-
-    ghost view = { λ k. k.receipt };
-
-    ghost inverse = { λ r. record { receipt = r } };
-}
-
 /// A list of receipts that only grows, with their amounts, and the room that is reserved for more
-/// of them.
+/// of them: their rows, kept as a book keeps them, and the places of these.
 #[derive(Drop)]
 pub(crate) struct Receipts {
-    kept: Vec<KeptReceipt>,
+    places: Vec<u64>,
+    rows: Rows,
+    // For so many more receipts there is room in both lists.
+    room: usize,
     cents: u64,
     millilitres: u64,
 }
 
 impl Model for Receipts {
     ghost use Rattle.std.specs.Prelude.{◌-◌, vec_len, vec_capacity};
-    ghost use Rattle.counter_desk.specs.Receipts.{ReceiptList, IsTallied};
+    ghost use Rattle.counter_desk.specs.Receipts.{ReceiptList, AreReceiptsKept, receipts_at};
 
     ghost Value = { ReceiptList };
 
     ghost view = { λ l. record {
-      receipts = l.kept.items;
-      room = vec_capacity l.kept - vec_len l.kept;
+      receipts = receipts_at l.places.items l.rows.rows;
+      room = l.room;
     } };
 
-    ghost invariant = { λ l. IsTallied l.cents l.millilitres l.kept.items };
+    ghost invariant = { λ l. AreReceiptsKept l.places.items l.rows l.room
+        (vec_capacity l.places - vec_len l.places) l.cents l.millilitres };
 }
 
 impl Receipts {
@@ -115,7 +91,9 @@ impl Receipts {
         ensures { result.receipts ≡ [] }
     {
         Receipts {
-            kept: Vec::new(alloc),
+            places: Vec::new(alloc),
+            rows: Rows::new(alloc),
+            room: 0,
             cents: 0,
             millilitres: 0,
         }
@@ -125,17 +103,21 @@ impl Receipts {
     pub(crate) fn len(&self) -> usize
         ensures { result ≡ length self.now.receipts }
     {
-        self.kept.len()
+        self.places.len()
     }
 
     /// The receipt at an index.
     pub(crate) fn get(&self, index: usize) -> Option<Receipt>
         ensures { result ≡ slice_get self.now.receipts index }
     {
-        match self.kept.get(index) {
-            Some(kept) => Some(kept.receipt),
-            None => None,
-        }
+        let place = self.places.get(index)?;
+        let row = &self.rows.get(index)?;
+        Some(Receipt {
+            place: *place,
+            actor: row.actor,
+            event: row.event,
+            reply: row.reply,
+        })
     }
 
     /// The cents that they tell as cleared.
@@ -160,21 +142,27 @@ impl Receipts {
         ensures room { OnOk result (additional ≤ self.new.room) }
         ensures kept { self.old.room ≤ self.new.room }
     {
-        self.kept.reserve(additional)?;
+        if additional > self.room {
+            self.places.reserve(additional)?;
+            self.rows.reserve(additional)?;
+            self.room = additional;
+        }
         Ok(())
     }
 
-    /// Adds a receipt at the end, where room is reserved.
-    pub(crate) fn push(&mut self, receipt: Receipt)
+    /// Adds the receipt of a row at the end, where room is reserved.
+    pub(crate) fn push(&mut self, place: u64, row: &Row)
         requires room { 0 < self.old.room }
         requires few { length self.old.receipts ≤ GREATEST_ROWS + TILLS }
-        requires growth { growth_told receipt.reply ≤ GROWTH_LIMIT }
-        ensures receipts { self.new.receipts ≡ self.old.receipts ++ receipt ∷ [] }
+        requires growth { growth_told row.now.reply ≤ GROWTH_LIMIT }
+        ensures receipts { self.new.receipts ≡ self.old.receipts ++ receipt_at place row.now ∷ [] }
         ensures room { self.new.room + 1 ≡ self.old.room }
     {
-        self.cents += cents_of(&receipt.reply);
-        self.millilitres += growth_told(&receipt.reply);
-        self.kept.push_reserved(KeptReceipt { receipt });
+        self.cents += cents_of(&row.reply);
+        self.millilitres += growth_told(&row.reply);
+        self.places.push_reserved(place);
+        self.rows.push(row);
+        self.room -= 1;
     }
 }
 

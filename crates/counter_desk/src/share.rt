@@ -3,13 +3,13 @@
 ghost use Rattle.std.specs.Prelude.{◌≡◌, ◌+◌, ◌-◌, ◌<◌, ◌≤◌, [], ◌∷◌, ◌++◌, length, false, slice_set, OnOk};
 ghost use Rattle.site_base.specs.declared.limits.TheConstants.{GREATEST_ROWS, GROWTH_LIMIT, TILL_CELLS, TILLS};
 ghost use Rattle.site_base.specs.Events.{growth_told};
-ghost use Rattle.counter_desk.specs.Receipts.{cents_receipted, growth_receipted};
+ghost use Rattle.counter_desk.specs.Receipts.{cents_receipted, growth_receipted, receipt_at};
 ghost use Rattle.counter_desk.specs.Shares.{owes, nobody_owed, owed_after, tills_owed, receipts_asked, IsAsBefore};
 
 use crate::naming::Naming;
 use crate::owed::Owed;
-use crate::receipt::{Receipt, Receipts};
-use site_base::{Event, NoMemory, TillNo, sign_change};
+use crate::receipt::Receipts;
+use site_base::{Event, NoMemory, Row, TillNo, sign_change};
 use std::alloc::Global;
 use std::marker::{Model, PhantomData};
 use std::sync::ledger;
@@ -101,23 +101,23 @@ impl<L: Ledger, C: Naming> Share<L, C> {
         self.receipts.reserve(self.owed.count() + asked)
     }
 
-    /// A call was made: its receipt is kept, and the ledger of calls counts it.
-    pub(crate) fn note(&mut self, calls: &mut Book<L>, receipt: Receipt)
-        requires room { tills_owed
-            (owed_after receipt.actor receipt.event receipt.reply self.old.owed)
+    /// A call was made: the receipt of its row is kept, and the ledger of calls counts it.
+    pub(crate) fn note(&mut self, calls: &mut Book<L>, place: u64, row: &Row)
+        requires room { tills_owed (owed_after row.now.actor row.now.event row.now.reply self.old.owed)
             < self.old.room + tills_owed self.old.owed }
         requires few { calls.old.total ≤ GREATEST_ROWS + TILLS }
-        requires growth { growth_told receipt.reply ≤ GROWTH_LIMIT }
-        ensures receipts { self.new.receipts ≡ self.old.receipts ++ receipt ∷ [] }
+        requires growth { growth_told row.now.reply ≤ GROWTH_LIMIT }
+        ensures receipts { self.new.receipts ≡ self.old.receipts ++ receipt_at place row.now ∷ [] }
         ensures owed { self.new.owed
-            ≡ owed_after receipt.actor receipt.event receipt.reply self.old.owed }
+            ≡ owed_after row.now.actor row.now.event row.now.reply self.old.owed }
         ensures total { calls.new.total ≡ calls.old.total + 1 }
     {
         // The ledger says that there are no more receipts here than rows.
         calls.audit(&mut self.mark);
         calls.add(&mut self.mark, 1);
-        self.receipts.push(receipt);
-        self.owed.note(&sign_change(&receipt.actor, &receipt.event, &receipt.reply));
+        self.receipts.push(place, row);
+        self.owed
+            .note(&sign_change(&row.actor, &row.event, &row.reply));
     }
 
     /// The till is owed nothing any more.

@@ -9,13 +9,13 @@ use Rattle.counter_desk.proofs.locked.Locked.submit.Goals as goal
 
 pub note-requires-clause-room : goal.note-requires-clause-room
 note-requires-clause-room g c =
-    let asked = room_asked c.args.actor c.args.event c.in_ok-placed.field-0.reply c.args.share.now.owed in
-    rw c.new-receipt.ensures (omega (arith, asked, c.requires))
+    let asked = room_asked c.args.actor.now c.args.event.now c.in_ok-placed.field-0.reply c.args.share.now.owed in
+    omega (arith, asked, c.requires)
 
 pub returns-clause-stands : goal.returns-clause-stands
 returns-clause-stands g c =
     let old : Book = c.self.inside.book in
-    let row : Row = next_row old c.args.actor c.args.event in
+    let row : Row = next_row old c.args.actor.now c.args.event.now in
     let placed = c.in_ok-placed.field-0 in
     ap (λ (b : Book). slice_get b.rows placed.place) c.in_ok-placed.ensures.row
     ∙ ap (λ (k : ℕ). slice_get (old.rows ++ row ∷ []) k) c.in_ok-placed.ensures.place
