@@ -25,5 +25,5 @@ returns c =
     let within = subst (λ places. c.args.index < length places) c.deref.ensures.value found.0 in
     let is = subst (λ places. place ≡ get_or places c.args.index place) c.deref.ensures.value (found.1 place) in
     sym (there inside.places.items inside.rows.rows c.args.index place c.in_ok-row.field-0 within
-        is (sym c.in_ok-row.ensures))
+    is (sym c.in_ok-row.ensures))
     ∙ ap (λ list. slice_get list.receipts c.args.index) c.self.view_is
