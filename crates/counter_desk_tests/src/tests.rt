@@ -2,6 +2,7 @@
 
 mod calls;
 mod crew_day;
+mod dispensers;
 mod full_desk;
 mod full_list;
 mod held_call;

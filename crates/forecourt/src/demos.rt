@@ -4,7 +4,7 @@ use crate::end::day_ended;
 use crate::files::{script_of, site_of};
 use clap::ArgMatches;
 use demo_script::DemoScript;
-use forecourt_demo::{DemoPlan, demo_day};
+use forecourt_days::{DemoPlan, demo_day};
 use site_base::{Counted, SiteConfig};
 use std::process::ExitCode;
 use std::sync::Wait;

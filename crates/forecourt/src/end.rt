@@ -1,7 +1,7 @@
 //! How the program ends: its exit status, and its text on standard error.
 
 use forecourt_engines::ReplayFault;
-use forecourt_server::DayFault;
+use forecourt_days::DayFault;
 use std::io;
 use std::process::ExitCode;
 

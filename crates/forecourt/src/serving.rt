@@ -3,7 +3,7 @@
 use crate::end::{COMMAND_LINE, day_ended, told};
 use crate::files::site_of;
 use clap::ArgMatches;
-use forecourt_server::{DayFault, Loopback, ServerPlan, serve_day};
+use forecourt_days::{DayFault, Loopback, ServerPlan, serve_day};
 use site_base::{Counted, SiteConfig};
 use std::process::ExitCode;
 use std::sync::Wait;

@@ -1,5 +1,6 @@
-//! The tests of what the program can't be brought to from outside: the texts and exit statuses of
-//! days that aren't settled, and replays whose turns are used up.
+//! The tests of site_base, site_file, demo_script, forecourt_engines and forecourt_days: what no
+//! clause says of them, and what the program can't be brought to from outside. They stand apart so
+//! that those crates are proved once.
 #![tactic(auto)]
 
 #[cfg(test)]

@@ -1,4 +1,8 @@
 //! What no clause says.
 
+mod base;
 mod days;
+mod files;
+mod replays;
+mod scripts;
 mod turns;

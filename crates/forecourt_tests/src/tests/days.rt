@@ -1,7 +1,7 @@
 //! How a program ends whose day has a fault: its text, and its exit status.
 
 use counter_desk::SettleFault;
-use forecourt_server::DayFault;
+use forecourt_days::DayFault;
 use site_base::WriteFault;
 use std::test::Fail;
 

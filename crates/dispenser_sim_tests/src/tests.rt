@@ -1,5 +1,0 @@
-//! What no clause says: that a run is answered where there is memory, and what it leaves.
-
-mod refused;
-mod runs;
-mod site;

@@ -1,0 +1,44 @@
+-- What a server's day tells, and how the program ends with it.
+use Rattle.std.specs.Prelude.{◌⊎◌, ℕ, List, ◌++◌, codes, decimal, Option}
+use Rattle.site_base.specs.Configured.{Configured}
+use Rattle.site_base.specs.Devices.{AppendsFront}
+use Rattle.counter_desk.specs.declared.receipt.Receipt.{Receipt}
+use Rattle.counter_desk.specs.declared.settlement.Settled.{Settled}
+use Rattle.counter_desk.specs.declared.settlement.SettleFault.{SettleFault}
+use Rattle.counter_desk.specs.declared.settlement.SettleFault.TheVariants as settle
+use Rattle.counter_desk.specs.Settlement.{Settles}
+use Rattle.forecourt_engines.specs.Report.{report_text}
+use Rattle.forecourt_days.specs.declared.fault.DayFault.{DayFault}
+use Rattle.forecourt_days.specs.declared.fault.DayFault.TheVariants.{NoMemory, Unsettled}
+
+-- where the server listens
+abbrev pub listening_line : ℕ → List ℕ
+listening_line port = codes "listening 127.0.0.1:" ++ decimal port ++ codes "\n"
+
+-- the shares that came back add up to a legal history of this configuration
+abbrev pub IsSettledDay : Configured → Settled → Type 0
+IsSettledDay config settled = (lists : List (List Receipt)) × Settles config lists settled
+
+-- a line that tells on which port the server listens, and the report of what is settled
+abbrev pub day_text : Configured → ℕ → Settled → List ℕ
+day_text config port settled =
+    listening_line port ++ report_text config settled.book settled.shares
+
+-- However a day ends, nothing else was written: a front of that line, or that line and a front of
+-- the report of a day that is settled.
+abbrev pub TellsDayFront : Configured → ℕ → Option (List ℕ) → Option (List ℕ) → Type 0
+TellsDayFront config port holds holds' =
+    AppendsFront holds holds' (listening_line port)
+    ⊎ ((settled : Settled) × IsSettledDay config settled
+    × AppendsFront holds holds' (day_text config port settled))
+
+-- why a day isn't settled, as the server tells it
+abbrev pub unsettled_by : SettleFault → DayFault
+unsettled_by (settle.StrangeReceipt place) = Unsettled place
+unsettled_by settle.NoMemory = NoMemory
+
+-- 3 where the day isn't settled, 4 for want of memory, else 1
+abbrev pub day_status : DayFault → ℕ
+day_status (Unsettled place) = 3
+day_status NoMemory = 4
+day_status fault = 1

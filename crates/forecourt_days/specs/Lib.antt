@@ -1,0 +1,5 @@
+pub mod Days
+pub mod Demos
+pub mod Faults
+pub mod Plans
+pub mod Sections

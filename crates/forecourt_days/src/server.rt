@@ -1,0 +1,99 @@
+//! A day of a server.
+
+ghost use Rattle.std.specs.Prelude.{◌≡◌, ◌^◌, IfOk, OnOk};
+ghost use Rattle.std.specs.Io.KnownBytes.{Appends};
+ghost use Rattle.std.specs.Result.{IsErrOf};
+ghost use Rattle.site_base.specs.Counted.{device_of, failures_of};
+ghost use Rattle.site_base.specs.Devices.{one_more};
+ghost use Rattle.forecourt_days.specs.Days.{IsSettledDay, TellsDayFront, day_text};
+
+use crate::fault::DayFault;
+use crate::listener::Loopback;
+use crate::plan::ServerPlan;
+use crate::writing::{put_listening, put_report};
+use counter_desk::{Desk, Naming, OpenGate, Settled, settle_all};
+use site_base::{Counted, SiteConfig, WriteFault};
+use std::alloc::Global;
+use std::io::Write;
+use std::marker::Brand;
+use std::sync::ledger::{Blank, Ledger};
+use std::sync::{Mutex, Wait};
+use std::thread::Threads;
+use till_session::serve;
+
+/// How many shares a desk of a day may give.
+pub const PARTS: u64 = 1 << 63;
+
+/// A day of a server on the site of this configuration, which listens already: it writes where,
+/// serves as many sessions as the plan says, each with so many turns, settles, writes the report of
+/// what was settled, and answers with it. What it writes itself takes its turns from those that are handed in.
+/// However it ends, what it wrote is a front of that. `Write` comes where the writer failed in the
+/// call, or was interrupted until no turn was left.
+pub fn serve_day<W: Write, R: Threads + Wait + Sync>(
+    rt: &R,
+    alloc: Global,
+    config: &SiteConfig,
+    listener: Loopback,
+    plan: ServerPlan,
+    turns: &mut u64,
+    writer: &mut Counted<W>,
+) -> Result<Settled, DayFault>
+    ensures settled { IfOk result (λ settled. IsSettledDay config.now settled) }
+    ensures told { IfOk result (λ settled. Appends
+        (W.contents (device_of writer.old)) (W.contents (device_of writer.new))
+        (day_text config.now listener.port settled)) }
+    ensures front { TellsDayFront config.now listener.port
+        (W.contents (device_of writer.old)) (W.contents (device_of writer.new)) }
+
+    // What the day's writes do to the writer's count, and to the turns.
+    ensures counted { OnOk result (failures_of writer.new ≡ failures_of writer.old) }
+    ensures failed { IsErrOf result (DayFault.Write WriteFault.Failed)
+        → failures_of writer.new ≡ one_more (failures_of writer.old) }
+    ensures limit { IsErrOf result (DayFault.Write WriteFault.TurnLimit) → turns.new ≡ 0 }
+{
+    let blank = Blank::new(PARTS);
+    day_of::<Brand, Brand, W, R>(rt, alloc, blank, config, listener, plan, turns, writer)
+}
+
+/// The same, with names for the ledger of calls and for the configuration.
+fn day_of<L: Ledger + Send + Sync, C: Naming + Send + Sync, W: Write, R: Threads + Wait + Sync>(
+    rt: &R,
+    alloc: Global,
+    blank: Blank,
+    config: &SiteConfig,
+    listener: Loopback,
+    plan: ServerPlan,
+    turns: &mut u64,
+    writer: &mut Counted<W>,
+) -> Result<Settled, DayFault>
+    requires ledger { (blank.name ≡ L.name) × (blank.parts ≡ L.parts) × (blank.parts ≡ 2 ^ 63) }
+    requires config { config.now ≡ C.config }
+    ensures settled { IfOk result (λ settled. IsSettledDay config.now settled) }
+    ensures told { IfOk result (λ settled. Appends
+        (W.contents (device_of writer.old)) (W.contents (device_of writer.new))
+        (day_text config.now listener.port settled)) }
+    ensures front { TellsDayFront config.now listener.port
+        (W.contents (device_of writer.old)) (W.contents (device_of writer.new)) }
+
+    // What the day's writes do to the writer's count, and to the turns.
+    ensures counted { OnOk result (failures_of writer.new ≡ failures_of writer.old) }
+    ensures failed { IsErrOf result (DayFault.Write WriteFault.Failed)
+        → failures_of writer.new ≡ one_more (failures_of writer.old) }
+    ensures limit { IsErrOf result (DayFault.Write WriteFault.TurnLimit) → turns.new ≡ 0 }
+{
+    let (desk, root) = Desk::<L, C>::try_open(alloc, blank, config)?;
+    put_listening(alloc, listener.port(), writer, turns)?;
+    let root = Mutex::new(root);
+    let ServerPlan {
+        workers,
+        sessions,
+        ..
+    } = plan;
+    let gate = OpenGate;
+    serve(
+        rt, alloc, listener, &desk, &root, &gate, workers, sessions, *turns,
+    )?;
+    let settled = settle_all(rt, alloc, desk, root.into_inner())?;
+    put_report(alloc, config, &settled, writer, turns)?;
+    Ok(settled)
+}

@@ -1,3 +1,0 @@
-pub mod Demos
-pub mod Faults
-pub mod Sections

@@ -1,5 +1,0 @@
-//! What no clause says.
-
-mod devices;
-mod refused;
-mod words;

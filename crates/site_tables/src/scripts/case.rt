@@ -1,0 +1,86 @@
+//! A case: a script with its name.
+
+use demo_script::{DemoScript, Section, read_script};
+use std::alloc::{AllocError, Global};
+
+/// A case of the table: its name, and the text of its script so far.
+#[derive(Drop)]
+pub struct Case {
+    name: String,
+    text: Vec<u8>,
+    returns: bool,
+    cut: bool,
+    comment: Option<usize>,
+}
+
+impl Case {
+    /// The case of this title: a name, and words on its lines.
+    pub fn new(alloc: Global, title: &str) -> anyhow::Result<Case> {
+        let mut words = title.split(' ');
+        let name = String::from_str(alloc, words.next().unwrap_or(""))?;
+        let mut case = Case {
+            name,
+            text: Vec::new(alloc),
+            returns: false,
+            cut: false,
+            comment: None,
+        };
+        match words.next() {
+            Some("cr") => case.returns = true,
+            Some("cut") => case.cut = true,
+            Some("comment") => case.comment = words.next().unwrap_or("").parse::<usize>().ok(),
+            _ => {}
+        }
+        Ok(case)
+    }
+
+    /// One line more.
+    pub fn add(&mut self, line: &str) -> Result<(), AllocError> {
+        self.text.extend_from_slice(line.as_bytes())?;
+        if self.returns {
+            self.text.push(b'\r')?;
+        }
+        self.text.push(b'\n')?;
+        Ok(())
+    }
+
+    /// What its script has, or its fault.
+    pub fn summarize(self, alloc: Global) -> Result<String, AllocError> {
+        let Case {
+            name,
+            mut text,
+            returns: _,
+            cut,
+            comment,
+        } = self;
+        if let Some(octets) = comment {
+            for _ in 0..octets {
+                text.push(b'#')?;
+            }
+        }
+        if cut {
+            let _ = text.pop();
+        }
+        match read_script(alloc, &text) {
+            Ok(demo) => count_parts(alloc, name.as_str(), &demo),
+            Err(fault) => format!(in alloc; "{name}: {fault}"),
+        }
+    }
+}
+
+/// How many calls, sections, messages and steps there are.
+fn count_parts(alloc: Global, name: &str, demo: &DemoScript) -> Result<String, AllocError> {
+    let calls = demo.setup().len();
+    let sections = demo.sections().len();
+    let mut messages = 0usize;
+    let mut steps = 0usize;
+    for section in demo.sections() {
+        match section {
+            Section::Till(input) => messages = messages.saturating_add(input.len()),
+            Section::Dispenser { script, .. } => {
+                steps = steps.saturating_add(script.steps().len());
+            }
+        }
+    }
+    format!(in alloc; "{name}: calls {calls} sections {sections} messages {messages} steps {steps}")
+}
