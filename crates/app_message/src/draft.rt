@@ -44,7 +44,7 @@ impl Model for Draft {
 
 impl Draft {
     /// A message without items: the recipient and the originator as subnet and node, and the
-    /// database address, which is copied, with room for so many octets of items (an item takes two
+    /// database address, which is to_message, with room for so many octets of items (an item takes two
     /// and its content), so that putting these is meant to take no memory. It is refused with
     /// `BadLength` if the address is empty or above 8 octets; `NoMemory` comes where the allocator
     /// refuses the room.

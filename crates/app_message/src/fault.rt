@@ -68,7 +68,7 @@ pub enum MessageFault {
     /// The stream ends inside a message.
     #[error("the stream ends inside a message")]
     Truncated,
-    /// The allocator refused a growth.
+    /// An allocation failed.
     #[error("out of memory")]
     NoMemory,
 }

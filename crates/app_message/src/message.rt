@@ -43,7 +43,7 @@ impl Model for Message {
 }
 
 impl Message {
-    /// A message of these parts, which are copied: the recipient and the originator as subnet and
+    /// A message of these parts, which are to_message: the recipient and the originator as subnet and
     /// node, the database address, and the items as pairs of identifier and content.
     ///
     /// It is refused with `BadLength` if the address is empty or above 8 octets, or if the address
@@ -98,7 +98,7 @@ impl Message {
     }
 
     /// Takes the place of this message: that of this head and these octets of a body, which are
-    /// copied into its room. After `NoMemory` it is as it was.
+    /// to_message into its room. After `NoMemory` it is as it was.
     pub(crate) fn set(&mut self, head: Head, body: &[u8]) -> Result<(), NoMemory>
         requires { IsBody (of_body head.to head.from head.kind head.token body.now) body.now }
         ensures set { OnOk result (self.new ≡ of_body head.to head.from head.kind head.token body.now) }

@@ -76,7 +76,7 @@ impl Messages {
             let cleared = &mut self.items[self.len];
             spelled.copy_to(cleared)?;
         } else {
-            self.items.push(spelled.copied(alloc)?)?;
+            self.items.push(spelled.to_message(alloc)?)?;
         }
         self.len += 1;
         Ok(())

@@ -9,7 +9,7 @@ use site_base::NoMemory;
 use std::alloc::Global;
 use std::marker::Model;
 
-/// A message that was read and not copied yet: its head, and its body in the octets that it was
+/// A message that was read and not to_message yet: its head, and its body in the octets that it was
 /// read from.
 #[derive(Drop)]
 pub struct SpelledMessage<'a> {
@@ -37,8 +37,8 @@ impl<'a> SpelledMessage<'a> {
         SpelledMessage { head, body }
     }
 
-    /// The message, copied.
-    pub fn copied(self, alloc: Global) -> Result<Message, NoMemory>
+    /// The message, to_message.
+    pub fn to_message(self, alloc: Global) -> Result<Message, NoMemory>
         ensures { IfOk result (λ m. m ≡ self.entry) }
     {
         let SpelledMessage { head, body: octets } = self;
@@ -46,10 +46,10 @@ impl<'a> SpelledMessage<'a> {
         Ok(Message::of_body(head.to, head.from, head.kind, head.token, body))
     }
 
-    /// The message, copied to the place of another one, whose room serves again. After `NoMemory`
+    /// The message, to_message to the place of another one, whose room serves again. After `NoMemory`
     /// that one is as it was.
     pub fn copy_to(self, place: &mut Message) -> Result<(), NoMemory>
-        ensures copied { OnOk result (place.new ≡ self.entry) }
+        ensures to_message { OnOk result (place.new ≡ self.entry) }
         ensures err { OnErr result (place.new ≡ place.old) }
     {
         let SpelledMessage { head, body } = self;

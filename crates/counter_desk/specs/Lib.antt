@@ -1,4 +1,4 @@
-pub mod Kept
+pub mod KeptHistories
 pub mod Marks
 pub mod Receipts
 pub mod Roots

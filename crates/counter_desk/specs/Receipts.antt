@@ -7,7 +7,7 @@ use Rattle.site_base.specs.declared.row.Placed.{Placed}
 use Rattle.site_base.specs.declared.row.Row.{Row}
 use Rattle.site_base.specs.Configured.{Configured}
 use Rattle.site_base.specs.History.{RowList}
-use Rattle.site_base.specs.Events.{cents_told, growth_told}
+use Rattle.site_base.specs.Events.{cents_in_reply, growth_in_reply}
 use Rattle.written_site.specs.RowWords.{total}
 use Rattle.written_site.specs.SiteRun.{IsLegal}
 use Rattle.written_site.specs.SiteState.{opening}
@@ -48,11 +48,11 @@ StandsInLegal config r = (rows : List Row) × IsLegal (opening config) rows × S
 
 -- the cents of their Cleared answers
 abbrev pub cents_receipted : List Receipt → ℕ
-cents_receipted receipts = total (λ r. cents_told r.reply) receipts
+cents_receipted receipts = total (λ r. cents_in_reply r.reply) receipts
 
 -- the growth in their Flowed, Sold and Drawn answers
 abbrev pub growth_receipted : List Receipt → ℕ
-growth_receipted receipts = total (λ r. growth_told r.reply) receipts
+growth_receipted receipts = total (λ r. growth_in_reply r.reply) receipts
 
 -- these are the amounts of the receipts, and no more than so many can tell
 pub record IsTallied (cents millilitres : ℕ) (receipts : List Receipt) : Type 0 where

@@ -3,7 +3,7 @@ use Rattle.std.specs.Prelude.{◌≡◌, ℕ, ◌+◌, ◌<◌, ◌≤◌, ◌==
 use Rattle.std.specs.List.{AllByRecursion}
 use Rattle.site_base.specs.declared.row.Row.{Row}
 use Rattle.site_base.specs.Configured.{Configured}
-use Rattle.site_base.specs.Events.{cents_told, growth_told}
+use Rattle.site_base.specs.Events.{cents_in_reply, growth_in_reply}
 use Rattle.written_site.specs.RowWords.{total}
 use Rattle.written_site.specs.SiteRun.{IsLegal}
 use Rattle.written_site.specs.SiteState.{opening}
@@ -14,7 +14,7 @@ use Rattle.counter_desk.specs.declared.receipt.Receipt.{Receipt}
 use Rattle.counter_desk.specs.declared.settlement.Settled.{Settled}
 use Rattle.counter_desk.specs.declared.settlement.SettleFault.{SettleFault}
 use Rattle.counter_desk.specs.declared.settlement.SettleFault.TheVariants.{StrangeReceipt, NoMemory}
-use Rattle.counter_desk.specs.Kept.{IsSoundHistory, book_of}
+use Rattle.counter_desk.specs.KeptHistories.{IsSoundHistory, book_of}
 use Rattle.counter_desk.specs.Receipts.{cents_receipted, growth_receipted, StandsAt}
 use Rattle.counter_desk.specs.Roots.{calls_in}
 
@@ -93,10 +93,10 @@ pub record AddsUp (config : Configured) (history : List Row) (lists : List (List
   pub dealt : IsDealt history lists
   pub rows : settled.rows ≡ length history
   pub calls : settled.rows ≡ calls_in lists
-  pub cents : settled.cents ≡ total (λ r. cents_told r.reply) history
+  pub cents : settled.cents ≡ total (λ r. cents_in_reply r.reply) history
   pub cents_shared : settled.cents ≡ total cents_receipted lists
   pub cents_booked : settled.cents ≡ cents_in settled.book
-  pub millilitres : settled.millilitres ≡ total (λ r. growth_told r.reply) history
+  pub millilitres : settled.millilitres ≡ total (λ r. growth_in_reply r.reply) history
   pub millilitres_shared : settled.millilitres ≡ total growth_receipted lists
   pub metered : settled.millilitres ≡ all_metered (site_at config history)
   pub millilitres_booked : settled.millilitres ≡ metered_in settled.book

@@ -13,7 +13,7 @@ use Rattle.counter_desk.specs.declared.receipt.Receipt.{Receipt}
 use Rattle.counter_desk.specs.declared.worker.ListEnd.{ListEnd}
 use Rattle.counter_desk.specs.declared.worker.WorkFault.{WorkFault}
 use Rattle.counter_desk.specs.declared.worker.WorkFault.TheVariants.{BookFull, NoMemory, NoWorker}
-use Rattle.counter_desk.specs.Kept.{IsFullInLegal}
+use Rattle.counter_desk.specs.KeptHistories.{IsFullInLegal}
 use Rattle.counter_desk.specs.Shares.{ShareFacts, owes}
 
 -- the call that a receipt tells of

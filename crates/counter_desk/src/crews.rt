@@ -36,7 +36,7 @@ type Started<'a> = Option<PromisedHandle<ListEnd, EndOf<'a>>>;
 /// Makes the calls of each list by a worker of its own, all side by side. Each takes a share from
 /// the root, works through its list and hands the share back. There is one end for each list, in
 /// their order: its worker's, or, where that couldn't be started, one that says so; then no share
-/// was given and nothing was placed. A growth that is refused here is answered before any worker
+/// was given and nothing was placed. An allocation that fails here is answered before any worker
 /// starts.
 pub fn crew<
     L: Ledger + Send + Sync,

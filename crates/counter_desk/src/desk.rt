@@ -2,7 +2,7 @@
 
 ghost use Rattle.std.specs.Prelude.{◌≡◌, ◌-◌, ◌^◌, ◌≤◌, [], ◌∷◌, ◌++◌, false, true, length, slice_set, Ok, IfOk, IfSome, IsErrOf, OnErr, IfNone};
 ghost use Rattle.site_base.specs.declared.limits.TheConstants.{TILL_CELLS};
-ghost use Rattle.counter_desk.specs.Kept.{AreFiguresInLegal, IsFullInLegal, IsShownInLegal};
+ghost use Rattle.counter_desk.specs.KeptHistories.{AreFiguresInLegal, IsFullInLegal, IsShownInLegal};
 ghost use Rattle.counter_desk.specs.Receipts.{receipt_of, StandsInLegal};
 ghost use Rattle.counter_desk.specs.Shares.{owed_after, owes, IsAsBefore};
 
@@ -47,7 +47,7 @@ impl<L: Ledger, C: Naming> Desk<L, C> {
 
     /// One event of one actor. It makes one row, and the share one receipt, which is that row: of a
     /// legal history of the desk's configuration. `BookFull` comes where the book has as many rows
-    /// as the configuration allows, `NoMemory` where a growth is refused; then there is no row, and
+    /// as the configuration allows, `NoMemory` where an allocation fails; then there is no row, and
     /// the share is as before. An accepted SignOn makes the share owe the till, an accepted SignOff
     /// ends that.
     #[tactic(auto, using(crate::proofs::OwedTills::cells_after))]

@@ -1,6 +1,6 @@
 //! What is true of every history that the lock keeps.
 
-ghost use Rattle.counter_desk.specs.Kept.{IsKeptSound};
+ghost use Rattle.counter_desk.specs.KeptHistories.{IsKeptSound};
 
 use written_site::{
     books_held_by_one, cleared_once, clears_are_counted, draws_are_counted,

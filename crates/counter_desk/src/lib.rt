@@ -8,14 +8,15 @@ mod desk;
 mod gate;
 mod laws;
 mod locked;
-mod marking;
+mod marks;
 mod naming;
-mod owed;
+mod debts;
 mod receipt;
 mod root;
 mod settlement;
 mod settling;
 mod share;
+pub mod testing;
 mod worker;
 
 pub use crews::{WORKERS, crew};

@@ -3,11 +3,11 @@
 ghost use Rattle.std.specs.Prelude.{◌≡◌, ◌+◌, ◌-◌, ◌≤◌, [], ◌∷◌, ◌++◌, false, true, is_some, length, slice_get, slice_set, Ok, IfOk, IfSome, IsErrOf, IsTrue, ◌↔◌, OnErr, IfNone};
 ghost use Rattle.site_base.specs.declared.limits.TheConstants.{GREATEST_ROWS, TILLS};
 ghost use Rattle.written_site.specs.SiteRun.{IsLegal};
-ghost use Rattle.written_site.specs.SiteState.{is_signed_on, opening, point_shown};
+ghost use Rattle.written_site.specs.SiteState.{is_signed_on, opening, view_point};
 ghost use Rattle.written_site.specs.SiteStep.{reply_to};
 ghost use Rattle.site_book.specs.Book.{is_full, site_at};
 ghost use Rattle.site_book.specs.Figures.{AddUp, AreFiguresOf};
-ghost use Rattle.counter_desk.specs.Kept.{book_of};
+ghost use Rattle.counter_desk.specs.KeptHistories.{book_of};
 ghost use Rattle.counter_desk.specs.Receipts.{receipt_of, receipted_row, StandsAt};
 ghost use Rattle.counter_desk.specs.Roots.{calls_in};
 ghost use Rattle.counter_desk.specs.Shares.{owed_after, owes, receipts_asked, IsAsBefore};
@@ -37,7 +37,7 @@ pub(crate) struct Locked<L: Ledger, C: Naming> {
 impl<L: Ledger, C: Naming> Model for Locked<L, C> {
     ghost use Rattle.std.specs.Prelude.{List};
     ghost use Rattle.site_base.specs.declared.row.Row.{Row};
-    ghost use Rattle.counter_desk.specs.Kept.{IsKept};
+    ghost use Rattle.counter_desk.specs.KeptHistories.{IsKept};
 
     ghost Value = { List Row };
 
@@ -155,7 +155,7 @@ impl<L: Ledger, C: Naming> Locked<L, C> {
 
     /// The point as a read shows it.
     pub(crate) fn point(&self, p: FpNo) -> Option<PointView>
-        ensures point { result ≡ point_shown (site_at C.config self.now) p }
+        ensures point { result ≡ view_point (site_at C.config self.now) p }
         ensures legal { IsLegal (opening C.config) self.now }
     {
         self.book.point(p)

@@ -2,10 +2,10 @@
 
 ghost use Rattle.std.specs.Prelude.{◌≡◌, ◌+◌, ◌*◌, ◌<◌, ◌≤◌, ◌↔◌, [], ◌∷◌, ◌++◌, length, slice_get, IsTrue, OnOk};
 ghost use Rattle.site_base.specs.declared.limits.TheConstants.{GREATEST_CENTS, GREATEST_ROWS, GROWTH_LIMIT, TILLS};
-ghost use Rattle.site_base.specs.Events.{cents_told, growth_told};
+ghost use Rattle.site_base.specs.Events.{cents_in_reply, growth_in_reply};
 ghost use Rattle.counter_desk.specs.Receipts.{cents_receipted, growth_receipted, receipt_at, receipted_row};
 
-use site_base::{Actor, Answer, Event, NoMemory, Reply, Row, Rows, cents_told, growth_told};
+use site_base::{Actor, Answer, Event, NoMemory, Reply, Row, Rows, cents_in_reply, growth_in_reply};
 use std::alloc::Global;
 use std::marker::Model;
 
@@ -154,12 +154,12 @@ impl Receipts {
     pub(crate) fn push(&mut self, place: u64, row: &Row)
         requires room { 0 < self.old.room }
         requires few { length self.old.receipts ≤ GREATEST_ROWS + TILLS }
-        requires growth { growth_told row.now.reply ≤ GROWTH_LIMIT }
+        requires growth { growth_in_reply row.now.reply ≤ GROWTH_LIMIT }
         ensures receipts { self.new.receipts ≡ self.old.receipts ++ receipt_at place row.now ∷ [] }
         ensures room { self.new.room + 1 ≡ self.old.room }
     {
         self.cents += cents_of(&row.reply);
-        self.millilitres += growth_told(&row.reply);
+        self.millilitres += growth_in_reply(&row.reply);
         self.places.push_reserved(place);
         self.rows.push(row);
         self.room -= 1;
@@ -168,11 +168,11 @@ impl Receipts {
 
 /// The cents that the reply clears, which are one amount.
 fn cents_of(reply: &Reply) -> u64
-    ensures value { result ≡ cents_told reply.now }
+    ensures value { result ≡ cents_in_reply reply.now }
     ensures range { result ≤ GREATEST_CENTS }
 {
     if let Ok(Answer::Cleared(cents)) = reply {
         let _ = cents.get();
     }
-    cents_told(reply)
+    cents_in_reply(reply)
 }

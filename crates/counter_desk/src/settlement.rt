@@ -9,7 +9,7 @@ ghost use Rattle.counter_desk.specs.Settlement.{AddsUp, IsFaultIn, IsFaultOf, Is
 use crate::desk::Desk;
 use crate::laws::kept_histories_are_sound;
 use crate::locked::Locked;
-use crate::marking::{amounts, mark_all, no_marks};
+use crate::marks::{amounts, mark_all, no_marks};
 use crate::naming::Naming;
 use crate::root::Root;
 use site_base::Totals;
@@ -40,7 +40,7 @@ pub enum SettleFault {
     /// one before it in its share.
     #[error("a receipt of place {0} is strange")]
     StrangeReceipt(u64),
-    /// A growth was refused.
+    /// An allocation failed.
     #[error("no memory")]
     NoMemory,
 }
@@ -72,7 +72,7 @@ impl<L: Ledger, C: Naming> Desk<L, C> {
     /// Compares the receipts of all shares with the history, once every share came back. Where it
     /// answers the figures, the shares add up to the history: each row is told by one receipt of
     /// one share, and each share's calls stand there in the order in which it made them. It fails
-    /// where a receipt is strange, or a growth is refused; then nothing has changed.
+    /// where a receipt is strange, or an allocation fails; then nothing has changed.
     ///
     /// The rows stand behind the desk's lock, which forgets all but their type, so `fault` speaks of
     /// a legal history of this configuration with as many rows as the shares made calls, and can't
@@ -101,7 +101,7 @@ impl<L: Ledger, C: Naming> Desk<L, C> {
 
 impl<L: Ledger, C: Naming> Locked<L, C> {
     /// The figures of the day, where no share is out and no receipt is strange. Where one is, it is
-    /// told by its place, or a growth was refused before that was seen. Neither the rows nor the
+    /// told by its place, or an allocation failed before that was seen. Neither the rows nor the
     /// root are changed.
     fn settle(&mut self, alloc: Global, root: &mut Root<L, C>) -> Result<Settled, SettleFault>
         requires { root.old.out ≡ 0 }

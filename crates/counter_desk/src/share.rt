@@ -2,12 +2,12 @@
 
 ghost use Rattle.std.specs.Prelude.{◌≡◌, ◌+◌, ◌-◌, ◌<◌, ◌≤◌, [], ◌∷◌, ◌++◌, length, false, slice_set, OnOk};
 ghost use Rattle.site_base.specs.declared.limits.TheConstants.{GREATEST_ROWS, GROWTH_LIMIT, TILL_CELLS, TILLS};
-ghost use Rattle.site_base.specs.Events.{growth_told};
+ghost use Rattle.site_base.specs.Events.{growth_in_reply};
 ghost use Rattle.counter_desk.specs.Receipts.{cents_receipted, growth_receipted, receipt_at};
 ghost use Rattle.counter_desk.specs.Shares.{owes, nobody_owed, owed_after, tills_owed, receipts_asked, IsAsBefore};
 
 use crate::naming::Naming;
-use crate::owed::Owed;
+use crate::debts::Owed;
 use crate::receipt::Receipts;
 use site_base::{Event, NoMemory, Row, TillNo, sign_change};
 use std::alloc::Global;
@@ -106,7 +106,7 @@ impl<L: Ledger, C: Naming> Share<L, C> {
         requires room { tills_owed (owed_after row.now.actor row.now.event row.now.reply self.old.owed)
             < self.old.room + tills_owed self.old.owed }
         requires few { calls.old.total ≤ GREATEST_ROWS + TILLS }
-        requires growth { growth_told row.now.reply ≤ GROWTH_LIMIT }
+        requires growth { growth_in_reply row.now.reply ≤ GROWTH_LIMIT }
         ensures receipts { self.new.receipts ≡ self.old.receipts ++ receipt_at place row.now ∷ [] }
         ensures owed { self.new.owed
             ≡ owed_after row.now.actor row.now.event row.now.reply self.old.owed }

@@ -21,7 +21,7 @@ pub enum WorkFault {
     /// The book has as many rows as the configuration allows.
     #[error("the book is full")]
     BookFull,
-    /// A growth was refused.
+    /// An allocation failed.
     #[error("no memory")]
     NoMemory,
     /// The worker couldn't be started; it was given no share.

@@ -32,11 +32,11 @@ parts_are (x ∷ a) b (y ∷ c) d one two is =
 pub numbers_are : (text numbers first last : List ℕ) (p polls : ℕ) → text ≡ codes "dispenser " ++ numbers
     → numbers ≡ first ++ (32 ∷ last) → IsWithoutSpace first → IsDispenserText text p polls
     → (first ≡ decimal p) × (last ≡ decimal polls)
-numbers_are text numbers first last p polls is parted unspaced said =
+numbers_are text numbers first last p polls is split_at_space unspaced said =
     let behind : numbers ≡ decimal p ++ (32 ∷ decimal polls) =
     behind_is (codes "dispenser ") text numbers (decimal p ++ (32 ∷ decimal polls)) is said.text_is in
     parts_are first last (decimal p) (decimal polls) unspaced
-    (decimal_unspaced p (omega (arith, said.most_point))) (sym parted ∙ behind)
+    (decimal_unspaced p (omega (arith, said.most_point))) (sym split_at_space ∙ behind)
 
 spaced : (a b c : List ℕ) → c ≡ a ++ (32 ∷ b) → ¬ IsWithoutSpace c
 spaced [] b [] e none = cc

@@ -181,10 +181,10 @@ faulty_is_none text number first demo script =
     let all : List (List ℕ) = lines_of text in
     let within : k < length all = omega (arith, first.least, first.there) in
     let behind : drop k all ≡ get_or all k [] ∷ drop (suc k) all = drop-cons all k [] within in
-    let parted : all ≡ take k all ++ (get_or all k [] ∷ drop (suc k) all) =
+    let split_at_space : all ≡ take k all ++ (get_or all k [] ∷ drop (suc k) all) =
     sym (take-append-drop k all) ∙ ap (λ ys. take k all ++ ys) behind in
     let split = read_split nothing_read script.draft (take k all) (get_or all k [] ∷ drop (suc k) all)
-    (subst (λ xs. AreRead nothing_read xs script.draft) parted script.read) in
+    (subst (λ xs. AreRead nothing_read xs script.draft) split_at_space script.read) in
     let same : split.0 ≡ first.draft = read_one nothing_read split.0 first.draft (take k all) split.1 first.read in
     first.faulty split.2.0 (subst (λ d. Says d (get_or all k []) split.2.0) same split.2.1)
 

@@ -12,7 +12,7 @@ pub enum ScriptFault {
     /// section and no faulty line it is the last line's number, 0 where there is no line.
     #[error("script line {0}")]
     Line(u64),
-    /// A growth was refused.
+    /// An allocation failed.
     #[error("fault 31")]
     NoMemory,
 }

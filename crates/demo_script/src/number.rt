@@ -74,7 +74,7 @@ pub fn number_behind(word: &[u8], text: &[u8], least: u32, most: u32) -> Option<
 }
 
 /// What stands before the first space, and what stands behind it; None where there is no space.
-pub fn parted(text: &[u8]) -> Option<(&[u8], &[u8])>
+pub fn split_at_space(text: &[u8]) -> Option<(&[u8], &[u8])>
     ensures found { IfSome result (λ parts.
         (text.now ≡ parts.0.now ++ (32 ∷ parts.1.now)) × IsWithoutSpace parts.0.now) }
     ensures other { IfNone result (IsWithoutSpace text.now) }

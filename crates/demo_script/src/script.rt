@@ -46,7 +46,7 @@ impl DemoScript {
 
 /// The demo that the text is a script of. `Line` has the number of the first faulty line, counted
 /// from 1; where there is none, and no section either, it is the number of the last line, 0 for an
-/// empty text. `NoMemory` comes where a growth is refused.
+/// empty text. `NoMemory` comes where an allocation fails.
 pub fn read_script(alloc: Global, text: &[u8]) -> Result<DemoScript, ScriptFault>
     ensures script { IfOk result (λ demo. IsScript text.now demo) }
     ensures one { IfOk result (λ demo.

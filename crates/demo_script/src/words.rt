@@ -11,7 +11,7 @@ ghost use Rattle.demo_script.specs.Script.{Begins, IsDispenserText, IsStepText};
 
 use crate::limits::{GREATEST_POLLS, GREATEST_PUMPED};
 use crate::line::Line;
-use crate::number::{behind, is_word, number_behind, parted};
+use crate::number::{behind, is_word, number_behind, split_at_space};
 use dispenser_sim::Step;
 use site_base::{FpNo, Millilitres, NOZZLES, NozzleNo, POINTS, PointState};
 
@@ -112,7 +112,7 @@ fn dispenser_in(text: &[u8]) -> Option<(FpNo, u64)>
     let Some(numbers) = behind(b"dispenser ", text) else {
         return None;
     };
-    let Some((first, last)) = parted(numbers) else {
+    let Some((first, last)) = split_at_space(numbers) else {
         return None;
     };
     let Some(p) = point_of(first) else {

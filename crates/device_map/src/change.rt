@@ -6,8 +6,8 @@ ghost use Rattle.device_map.specs.declared.ids.TheConstants.{PRESET_VOLUME};
 ghost use Rattle.device_map.specs.Changes.{change_by, change_of, notice};
 ghost use Rattle.device_map.specs.Replies.{preset_items};
 
-use crate::put::put_command;
-use crate::reply::{begun, finished, put_preset};
+use crate::item_writing::put_command;
+use crate::reply::{begin_message, finish_message, put_preset};
 use crate::request::request_of;
 use crate::{ids, node};
 use app_message::{Draft, Kind, Message, MessageFault, Token};
@@ -53,10 +53,10 @@ fn change_by(alloc: Global, event: Event) -> Result<Option<Message>, NoMemory>
 
 /// The event of the change that a message tells, if it tells one: of an event that is answered the
 /// message is just the profile's change.
-pub fn change_told(alloc: Global, message: &Message) -> Result<Option<Event>, NoMemory>
+pub fn decode_change(alloc: Global, message: &Message) -> Result<Option<Event>, NoMemory>
     ensures { IfOk result (λ told. IfSome told (λ event. change_by event ≡ Some message.now)) }
 {
-    let event = &match commanded(alloc, message)? {
+    let event = &match read_command(alloc, message)? {
         None => return Ok(None),
         Some(event) => event,
     };
@@ -73,7 +73,7 @@ pub fn change_told(alloc: Global, message: &Message) -> Result<Option<Event>, No
 }
 
 /// The event that the address and the items ask for in a till's command, if they ask for one.
-fn commanded(alloc: Global, message: &Message) -> Result<Option<Event>, NoMemory> {
+fn read_command(alloc: Global, message: &Message) -> Result<Option<Event>, NoMemory> {
     let (site, till) = (node::site(), node::till(TillNo::new(1).unwrap()));
     let (token, address) = (message.token(), message.address());
     match Draft::try_new(alloc, site, till, Kind::Write, token, address, 0) {
@@ -112,8 +112,8 @@ fn told_within(alloc: Global, point: FpNo, command: u8, preset: Preset) -> Resul
     let to = node::dispenser(point);
     let token = Token::new(0).unwrap();
     let address = [ids::POINT_ADDRESS + point.get()];
-    let mut draft = begun(alloc, to, Kind::Notice, token, &address)?;
+    let mut draft = begin_message(alloc, to, Kind::Notice, token, &address)?;
     put_command(&mut draft, command)?;
     put_preset(&mut draft, preset)?;
-    Ok(finished(draft))
+    Ok(finish_message(draft))
 }

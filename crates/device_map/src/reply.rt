@@ -12,7 +12,7 @@ ghost use Rattle.device_map.specs.Replies.{fault_message, AreShort, back, told_m
 ghost use Rattle.device_map.specs.Nodes.{site_node};
 
 use crate::decimal::packed_digits;
-use crate::put::{put_eight, put_four, put_octet, put_two};
+use crate::item_writing::{put_eight, put_four, put_octet, put_two};
 use crate::{ids, node};
 use app_message::{Draft, Kind, Message, MessageFault, StreamFault, Token};
 use site_base::{
@@ -41,7 +41,7 @@ pub fn reply_in(buffer: Vec<u8>, request: &Message, reply: &Reply) -> Result<Mes
 {
     let mut draft = back(buffer, request, kind_of(reply))?;
     put_reply(&mut draft, reply)?;
-    Ok(finished(draft))
+    Ok(finish_message(draft))
 }
 
 /// The message that tells a number in place of a reply: why no row was made, or why the request
@@ -59,7 +59,7 @@ pub fn refusal_in(buffer: Vec<u8>, request: &Message, number: u8) -> Result<Mess
 {
     let mut draft = back(buffer, request, Kind::Ack)?;
     put_octet(&mut draft, ids::RESULT, number)?;
-    Ok(finished(draft))
+    Ok(finish_message(draft))
 }
 
 /// The message that tells this reply to the recipient of another message, with that one's token and
@@ -68,7 +68,7 @@ pub fn reply_like(alloc: Global, message: &Message, reply: &Reply) -> Result<Mes
     ensures { IfOk result (λ m. m ≡ told_message message.now reply.now) }
 {
     let address = message.address();
-    let mut again = begun(
+    let mut again = begin_message(
         alloc,
         message.to(),
         kind_of(reply),
@@ -76,7 +76,7 @@ pub fn reply_like(alloc: Global, message: &Message, reply: &Reply) -> Result<Mes
         address,
     )?;
     put_reply(&mut again, reply)?;
-    Ok(finished(again))
+    Ok(finish_message(again))
 }
 
 /// The message that tells this number to the recipient of another message, with that one's token
@@ -85,9 +85,9 @@ pub fn number_like(alloc: Global, message: &Message, number: u8) -> Result<Messa
     ensures { IfOk result (λ m. m ≡ told_number message.now number) }
 {
     let address = message.address();
-    let mut again = begun(alloc, message.to(), Kind::Ack, message.token(), address)?;
+    let mut again = begin_message(alloc, message.to(), Kind::Ack, message.token(), address)?;
     put_octet(&mut again, ids::RESULT, number)?;
-    Ok(finished(again))
+    Ok(finish_message(again))
 }
 
 /// The message that tells why a stream ended: an Ack with the site's address, to the originator and
@@ -96,9 +96,9 @@ pub fn stream_refusal(alloc: Global, fault: &StreamFault) -> Result<Message, NoM
     ensures { IfOk result (λ message. message ≡ fault_message fault.now) }
 {
     let address = [ids::SITE_ADDRESS];
-    let mut draft = begun(alloc, fault.originator, Kind::Ack, fault.token, &address)?;
+    let mut draft = begin_message(alloc, fault.originator, Kind::Ack, fault.token, &address)?;
     put_octet(&mut draft, ids::RESULT, fault.fault.number())?;
-    Ok(finished(draft))
+    Ok(finish_message(draft))
 }
 
 /// A message without items yet, from the site to the originator of the request, with its token and
@@ -113,7 +113,7 @@ fn back(buffer: Vec<u8>, request: &Message, kind: Kind) -> Result<Draft, NoMemor
 }
 
 /// A message from the site, without items yet.
-pub fn begun(
+pub fn begin_message(
     alloc: Global,
     to: [u8; 2],
     kind: Kind,
@@ -134,7 +134,7 @@ pub fn begun(
 }
 
 /// The message of a draft whose items are short.
-pub fn finished(draft: Draft) -> Message
+pub fn finish_message(draft: Draft) -> Message
     requires short { AreShort draft.items }
     requires least { 1 ≤ length draft.address }
     requires most { length draft.address ≤ 8 }

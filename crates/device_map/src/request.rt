@@ -8,7 +8,7 @@ ghost use Rattle.device_map.specs.Requests.{read_by, event_at, request_at};
 use crate::address::Database;
 use crate::decimal::SaleDigits;
 use crate::fault::MapFault;
-use crate::{further, ids, node};
+use crate::{further_items, ids, node};
 use app_message::{Item, Items, Kind, Message};
 use site_base::{Actor, Event, FpNo, ProductNo};
 
@@ -48,7 +48,7 @@ fn read_event(database: Database, items: Items<'_>) -> Result<Event, MapFault>
         Database::Site => bare(Event::ReadSite, &[], items),
         Database::Point(point) => bare(Event::ReadPoint(point), &[], items),
         Database::Transaction(point, digits) => {
-            Ok(Event::ReadTransaction(point, further::sale(digits, items)?))
+            Ok(Event::ReadTransaction(point, further_items::sale(digits, items)?))
         }
         Database::Product(product) => bare(Event::ReadProduct(product), &[], items),
     }
@@ -111,16 +111,16 @@ fn point_event(point: FpNo, command: &Item<'_>, items: Items<'_>) -> Result<Even
     match command.id() {
         ids::OPEN => bare(Event::Open(point), content, items),
         ids::CLOSE => bare(Event::Close(point), content, items),
-        ids::RELEASE => plain(Event::Release(point, further::preset(items)?), content),
+        ids::RELEASE => plain(Event::Release(point, further_items::preset(items)?), content),
         ids::TERMINATE => bare(Event::Terminate(point), content, items),
         ids::SUSPEND => bare(Event::Suspend(point), content, items),
         ids::RESUME => bare(Event::Resume(point), content, items),
         ids::ASSIGN => bare(Event::Assign(point), content, items),
         ids::UNASSIGN => bare(Event::Unassign(point), content, items),
-        ids::PREPAY => plain(Event::Prepay(point, further::money(items)?), content),
+        ids::PREPAY => plain(Event::Prepay(point, further_items::money(items)?), content),
         ids::TEST_RELEASE => bare(Event::TestRelease(point), content, items),
         ids::REPLACE_METER => {
-            let (nozzle, reading) = further::meter(items)?;
+            let (nozzle, reading) = further_items::meter(items)?;
             plain(Event::ReplaceMeter(point, nozzle, reading), content)
         }
         _ => Err(MapFault::UnknownItem),
@@ -140,9 +140,9 @@ fn sale_event(
 {
     let content = command.content();
     match command.id() {
-        ids::LOCK => plain(Event::Lock(point, further::sale(digits, items)?), content),
-        ids::UNLOCK => plain(Event::Unlock(point, further::sale(digits, items)?), content),
-        ids::CLEAR => plain(Event::Clear(point, further::sale(digits, items)?), content),
+        ids::LOCK => plain(Event::Lock(point, further_items::sale(digits, items)?), content),
+        ids::UNLOCK => plain(Event::Unlock(point, further_items::sale(digits, items)?), content),
+        ids::CLEAR => plain(Event::Clear(point, further_items::sale(digits, items)?), content),
         _ => Err(MapFault::UnknownItem),
     }
 }
@@ -158,8 +158,8 @@ fn product_event(
 {
     match command.id() {
         ids::SET_PRICE => {
-            further::nothing(items)?;
-            let price = further::four_octets(command.content())?;
+            further_items::nothing(items)?;
+            let price = further_items::four_octets(command.content())?;
             Ok(Event::SetPrice(product, price))
         }
         _ => Err(MapFault::UnknownItem),
@@ -176,15 +176,15 @@ fn reported_event(point: FpNo, command: &Item<'_>, items: Items<'_>) -> Result<E
         ids::ONLINE => bare(Event::Online(point), content, items),
         ids::OFFLINE => bare(Event::Offline(point), content, items),
         ids::LIFT => {
-            let (nozzle, reading) = further::meter(items)?;
+            let (nozzle, reading) = further_items::meter(items)?;
             plain(Event::Lift(point, nozzle, reading), content)
         }
         ids::FLOW => {
-            let (nozzle, reading) = further::meter(items)?;
+            let (nozzle, reading) = further_items::meter(items)?;
             plain(Event::Flow(point, nozzle, reading), content)
         }
         ids::HANG_UP => {
-            let (nozzle, reading) = further::meter(items)?;
+            let (nozzle, reading) = further_items::meter(items)?;
             plain(Event::HangUp(point, nozzle, reading), content)
         }
         _ => Err(MapFault::UnknownItem),
@@ -195,7 +195,7 @@ fn reported_event(point: FpNo, command: &Item<'_>, items: Items<'_>) -> Result<E
 fn bare(event: Event, content: &[u8], items: Items<'_>) -> Result<Event, MapFault>
     ensures { Gives result (event_by (bare event) content.now items.entry) }
 {
-    further::nothing(items)?;
+    further_items::nothing(items)?;
     plain(event, content)
 }
 

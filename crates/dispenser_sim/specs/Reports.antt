@@ -14,7 +14,7 @@ use Rattle.site_base.specs.declared.view.PointView.{PointView}
 use Rattle.site_base.specs.declared.config.PointEntry.{PointEntry}
 use Rattle.site_base.specs.Configured.{Configured}
 use Rattle.counter_desk.specs.declared.receipt.Receipt.{Receipt}
-use Rattle.counter_desk.specs.Kept.{IsFullInLegal, IsShownInLegal}
+use Rattle.counter_desk.specs.KeptHistories.{IsFullInLegal, IsShownInLegal}
 use Rattle.dispenser_sim.specs.declared.end.DispenserFault.{DispenserFault}
 use Rattle.dispenser_sim.specs.declared.end.DispenserFault.TheVariants as faults
 use Rattle.dispenser_sim.specs.declared.script.Step.{Step}

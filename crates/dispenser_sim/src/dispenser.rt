@@ -161,7 +161,7 @@ impl Dispenser {
                 let seen = desk.point(rt, self.point);
                 let reading = self.meter(self.nozzle);
                 let flow = flow_of(*asked, reading, &seen);
-                Event::Flow(self.point, self.nozzle, raised(reading, flow))
+                Event::Flow(self.point, self.nozzle, add_flow(reading, flow))
             }
             Step::HangUp => Event::HangUp(self.point, self.nozzle, self.meter(self.nozzle)),
             Step::WaitFor(_) => unreachable!(),
@@ -251,8 +251,8 @@ fn is_in(seen: &Option<PointView>, state: PointState) -> bool
     }
 }
 
-/// A reading that so much flow has raised.
-fn raised(reading: Millilitres, flow: u64) -> Millilitres
+/// A reading that so much flow has add_flow.
+fn add_flow(reading: Millilitres, flow: u64) -> Millilitres
     requires { reading + flow ≤ GREATEST_READING }
     ensures { result ≡ reading + flow }
 {
@@ -273,7 +273,7 @@ fn first_nozzle() -> NozzleNo
 }
 
 /// A meter that has counted nothing.
-fn nothing_counted() -> Millilitres
+fn zero_reading() -> Millilitres
     ensures { result ≡ 0 }
 {
     match Millilitres::new(0) {
@@ -303,7 +303,7 @@ fn readings_of(nozzles: &[NozzleEntry]) -> [Millilitres; METERS]
     ensures { (cell : ℕ) → cell < METERS
         → slice_index_or result cell 0 ≡ reading_of (slice_get nozzles.now cell) }
 {
-    let mut readings = [nothing_counted(); METERS];
+    let mut readings = [zero_reading(); METERS];
     for cell in 0..METERS {
         if let Some(nozzle) = nozzles.get(cell) {
             readings[cell] = nozzle.reading;

@@ -15,7 +15,7 @@ pub enum DispenserFault {
     /// The book has as many rows as the configuration allows.
     #[error("the book is full")]
     BookFull,
-    /// A growth was refused.
+    /// An allocation failed.
     #[error("no memory")]
     NoMemory,
     /// The point wasn't seen in the state that a step waits for, in as many looks as there may be.

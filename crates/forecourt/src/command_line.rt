@@ -1,20 +1,20 @@
 //! The words of the command line.
 
-use crate::end::{COMMAND_LINE, failed, told, unwritten};
+use crate::exit::{COMMAND_LINE, exit_no_memory, exit_unwritten, exit_with};
 use clap::error::ErrorKind;
 use clap::{Arg, ArgAction, Command, Error};
 use std::alloc::{AllocError, Global};
 use std::process::ExitCode;
 
 /// The commands of the program.
-pub fn command<'a>(alloc: Global) -> Result<Command<'a>, Error> {
+pub fn build_commands<'a>(alloc: Global) -> Result<Command<'a>, Error> {
     let program = Command::new(alloc, "forecourt")
         .version("0.1.0")
         .subcommand_required(true)
         .about("The forecourt site controller; without words it replays on a site that it knows");
     let program = with_replays(alloc, program)?;
     let program = with_days(alloc, program)?;
-    Ok(program.subcommand(explain(alloc))?)
+    Ok(with(program, explain(alloc))?)
 }
 
 /// The commands that read a site file, and what is recorded.
@@ -41,12 +41,14 @@ fn with<'a>(
 fn check<'a>(alloc: Global) -> Result<Command<'a>, AllocError> {
     Command::new(alloc, "check")
         .about("Reads a site file, and tells its first fault or how large the site is")
+        .after_help("Example: forecourt check examples/five_points.toml\n")
         .arg(file(alloc))
 }
 
 fn replay<'a>(alloc: Global) -> Result<Command<'a>, AllocError> {
     Command::new(alloc, "replay")
         .about("Answers the messages of standard input on the site of a file")
+        .after_help("Example: forecourt replay examples/five_points.toml < examples/day.hex\n")
         .arg(file(alloc))?
         .arg(flag(
             alloc,
@@ -58,6 +60,7 @@ fn replay<'a>(alloc: Global) -> Result<Command<'a>, AllocError> {
 fn report<'a>(alloc: Global) -> Result<Command<'a>, AllocError> {
     Command::new(alloc, "report")
         .about("Replays standard input on the site of a file, and prints the report of its rows")
+        .after_help("Example: forecourt report examples/five_points.toml < examples/day.hex\n")
         .arg(file(alloc))
 }
 
@@ -67,6 +70,10 @@ fn serve<'a>(alloc: Global) -> Result<Command<'a>, AllocError> {
     Command::new(alloc, "serve")
         .about(
             "Serves tills and dispensers on 127.0.0.1, settles, and prints the report of the day",
+        )
+        .after_help(
+            "Example: forecourt serve examples/five_points.toml --port 4001 --workers 4 \
+             --sessions 100\n",
         )
         .arg(file(alloc))?
         .arg(number(alloc, "port", "The port, from 0 (a free one) to 65535"))?
@@ -78,15 +85,17 @@ fn demo<'a>(alloc: Global) -> Result<Command<'a>, AllocError> {
     let loopback = "The tills' sessions run over sockets, on 127.0.0.1";
     Command::new(alloc, "demo")
         .about("Runs a script, settles, and prints the report of the day")
+        .after_help("Example: forecourt demo examples/five_points.toml examples/saturday.demo\n")
         .arg(file(alloc))?
         .arg(script(alloc))?
         .arg(flag(alloc, "loopback", loopback))
 }
 
-fn explain<'a>(alloc: Global) -> Command<'a> {
-    Command::new(alloc, "explain").about(
-        "Prints the messages of standard input in words, requests and replies",
-    )
+fn explain<'a>(alloc: Global) -> Result<Command<'a>, AllocError> {
+    Command::new(alloc, "explain")
+        .about("Prints the messages of standard input in words, or what a number means")
+        .after_help("Examples: forecourt explain < examples/day.hex; forecourt explain 20\n")
+        .arg(Arg::new(alloc, "NUMBER").help("A refusal's or fault's number, as 20"))
 }
 
 /// The script that a demo runs.
@@ -120,16 +129,16 @@ fn number<'a>(alloc: Global, name: &'a str, help: &'a str) -> Arg<'a> {
 
 /// Prints what `clap` answers in place of matches: help and version on standard output, with status
 /// 0; a mistake on standard error, with status 2.
-pub fn answered(rt: &HostRuntime, error: &Error) -> ExitCode {
+pub fn exit_without_matches(rt: &HostRuntime, error: &Error) -> ExitCode {
     if error.kind() == ErrorKind::OutOfMemory {
-        return failed(rt);
+        return exit_no_memory(rt);
     }
     let printed = error.print(rt);
     if error.use_stderr() {
-        return told(printed, COMMAND_LINE);
+        return exit_with(printed, COMMAND_LINE);
     }
     match printed {
         Ok(()) => ExitCode::SUCCESS,
-        Err(_) => unwritten(rt),
+        Err(_) => exit_unwritten(rt),
     }
 }

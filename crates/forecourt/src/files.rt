@@ -1,6 +1,7 @@
 //! Site files and scripts.
 
-use crate::end::{failed, told};
+use crate::exit::{FAULT, exit_no_memory, exit_with};
+use clap::ArgMatches;
 use demo_script::{DemoScript, ScriptFault, read_script};
 use site_base::SiteConfig;
 use site_file::{ConfigFault, read_config};
@@ -8,35 +9,38 @@ use std::fs;
 use std::io::ErrorKind;
 use std::process::ExitCode;
 
-/// The site of a file, or how the program ends: the file can't be read, or has a fault.
-pub fn site_of(rt: &HostRuntime, file: &str) -> Result<SiteConfig, ExitCode> {
-    let octets = octets_of(rt, file)?;
+/// The site of the file that the words name, or how the program ends: the file can't be read, or has a fault.
+pub fn read_site(rt: &HostRuntime, words: &ArgMatches<'_>) -> Result<SiteConfig, ExitCode> {
+    let octets = read_octets(rt, words.get_str("FILE").unwrap_or(""))?;
     match read_config(rt.alloc(), &octets) {
         Ok(config) => Ok(config),
-        Err(ConfigFault::NoMemory) => Err(failed(rt)),
-        Err(fault) => Err(told(eprintln!(rt; "{fault}"), 1)),
+        Err(ConfigFault::NoMemory) => Err(exit_no_memory(rt)),
+        Err(fault) => Err(exit_with(eprintln!(rt; "{fault}"), FAULT)),
     }
 }
 
-/// The script of a file, or how the program ends: the file can't be read, or has a faulty line.
-pub fn script_of(rt: &HostRuntime, file: &str) -> Result<DemoScript, ExitCode> {
-    let octets = octets_of(rt, file)?;
+/// The script of the file that the words name, or how the program ends: the file can't be read, or has a faulty line.
+pub fn read_demo_script(
+    rt: &HostRuntime,
+    words: &ArgMatches<'_>,
+) -> Result<DemoScript, ExitCode> {
+    let octets = read_octets(rt, words.get_str("SCRIPT").unwrap_or(""))?;
     match read_script(rt.alloc(), &octets) {
         Ok(script) => Ok(script),
-        Err(ScriptFault::NoMemory) => Err(failed(rt)),
-        Err(fault) => Err(told(eprintln!(rt; "{fault}"), 1)),
+        Err(ScriptFault::NoMemory) => Err(exit_no_memory(rt)),
+        Err(fault) => Err(exit_with(eprintln!(rt; "{fault}"), FAULT)),
     }
 }
 
 /// The octets of a file, or how the program ends.
-fn octets_of(rt: &HostRuntime, file: &str) -> Result<Vec<u8>, ExitCode> {
+fn read_octets(rt: &HostRuntime, file: &str) -> Result<Vec<u8>, ExitCode> {
     match fs::read(rt, file) {
         Ok(octets) => Ok(octets),
         Err(error) => {
             if error.kind() == ErrorKind::OutOfMemory {
-                return Err(failed(rt));
+                return Err(exit_no_memory(rt));
             }
-            Err(told(eprintln!(rt; "cannot read {file}"), 1))
+            Err(exit_with(eprintln!(rt; "cannot read {file}"), FAULT))
         }
     }
 }

@@ -1,26 +1,28 @@
-//! The forecourt site controller's program: its words, its files and its texts on standard error.
-//! What it does stands in `forecourt_engines`, `forecourt_server` and `forecourt_demo`, how a site
-//! file is read in `site_file`, how a script is in `demo_script`.
+//! The forecourt site controller's program: its command line, its files, its exit statuses and its
+//! texts on standard error. Each command stands in a file of its name; what it does stands in
+//! `forecourt_engines` and `forecourt_days`, how a site file is read in `site_file`, how a script is
+//! in `demo_script`.
 #![tactic(auto)]
 
+mod check;
 mod command_line;
-mod demos;
-mod end;
-mod explaining;
+mod demo;
+mod exit;
+mod explain;
 mod files;
-mod serving;
+mod replay;
+mod report;
+mod serve;
 
-use crate::command_line::{answered, command};
-use crate::demos::shown;
-use crate::end::{COMMAND_LINE, ended, failed, told, unwritten};
-use crate::explaining::explained;
-use crate::files::site_of;
-use crate::serving::served;
+use crate::check::run_check;
+use crate::command_line::{build_commands, exit_without_matches};
+use crate::demo::run_demo;
+use crate::exit::{COMMAND_LINE, exit_no_memory, exit_with};
+use crate::explain::run_explain;
+use crate::replay::{run_replay, run_replay_here};
+use crate::report::run_report;
+use crate::serve::run_serve;
 use clap::ArgMatches;
-use forecourt_engines::replay::replay;
-use forecourt_engines::reporting::replay_to_report;
-use forecourt_engines::{Sizes, known_site};
-use site_base::{Counted, SiteConfig};
 use std::env;
 use std::io::ErrorKind;
 use std::process::ExitCode;
@@ -31,99 +33,51 @@ use std::thread::Threads;
 const TURNS: u64 = 1_000_000_000;
 
 fn main(rt: HostRuntime) -> ExitCode {
-    match words(&rt) {
-        Ok(words) if words.len() > 1 => asked(&rt, &rt, words.as_slice()),
-        Ok(_) => replayed_here(&rt),
+    match read_words(&rt) {
+        Ok(words) if words.len() > 1 => parse(&rt, &rt, words.as_slice()),
+        Ok(_) => run_replay_here(&rt),
         Err(status) => status,
     }
 }
 
 /// The words of the command line, the program's name first. Words that aren't text are a mistake.
-fn words(rt: &HostRuntime) -> Result<Vec<String>, ExitCode> {
+fn read_words(rt: &HostRuntime) -> Result<Vec<String>, ExitCode> {
     let alloc = rt.alloc();
     match env::args(rt) {
-        Ok(words) => words.collect(alloc).map_err(|_| failed(rt)),
-        Err(error) if error.kind() == ErrorKind::OutOfMemory => Err(failed(rt)),
-        Err(_) => Err(told(
+        Ok(words) => words.collect(alloc).map_err(|_| exit_no_memory(rt)),
+        Err(error) if error.kind() == ErrorKind::OutOfMemory => Err(exit_no_memory(rt)),
+        Err(_) => Err(exit_with(
             eprintln!(rt; "a word of the command line isn't text"),
             COMMAND_LINE,
         )),
     }
 }
 
-/// What these words ask for. Only a server and a demo start `threads`.
-fn asked<T: Threads + Wait + Sync>(rt: &HostRuntime, threads: &T, words: &[String]) -> ExitCode {
-    let built = match command(rt.alloc()) {
-        Ok(built) => built,
-        Err(error) => return answered(rt, &error),
+/// Parses the words, and dispatches. Only a server and a demo start `threads`.
+fn parse<T: Threads + Wait + Sync>(rt: &HostRuntime, threads: &T, words: &[String]) -> ExitCode {
+    let commands = match build_commands(rt.alloc()) {
+        Ok(commands) => commands,
+        Err(error) => return exit_without_matches(rt, &error),
     };
-    match built.try_get_matches_from(words) {
-        Ok(matches) => done(rt, threads, &matches),
-        Err(error) => answered(rt, &error),
+    match commands.try_get_matches_from(words) {
+        Ok(matches) => dispatch(rt, threads, &matches),
+        Err(error) => exit_without_matches(rt, &error),
     }
 }
 
-fn done<T: Threads + Wait + Sync>(
+/// Runs the command that the words name.
+fn dispatch<T: Threads + Wait + Sync>(
     rt: &HostRuntime,
     threads: &T,
     matches: &ArgMatches<'_>,
 ) -> ExitCode {
     match matches.subcommand() {
-        Some(("check", words)) => checked(rt, words.get_str("FILE").unwrap_or("")),
-        Some(("replay", words)) => {
-            let file = words.get_str("FILE").unwrap_or("");
-            let changes = words.get_flag("changes");
-            match site_of(rt, file) {
-                Ok(config) => replayed(rt, &config, changes),
-                Err(status) => status,
-            }
-        }
-        Some(("report", words)) => match site_of(rt, words.get_str("FILE").unwrap_or("")) {
-            Ok(config) => reported(rt, &config),
-            Err(status) => status,
-        },
-        Some(("serve", words)) => served(rt, threads, words, TURNS),
-        Some(("demo", words)) => shown(rt, threads, words, TURNS),
-        Some(("explain", _)) => explained(rt),
-        _ => replayed_here(rt),
+        Some(("check", words)) => run_check(rt, words),
+        Some(("replay", words)) => run_replay(rt, words),
+        Some(("report", words)) => run_report(rt, words),
+        Some(("serve", words)) => run_serve(rt, threads, words),
+        Some(("demo", words)) => run_demo(rt, threads, words),
+        Some(("explain", words)) => run_explain(rt, words),
+        _ => run_replay_here(rt),
     }
-}
-
-/// Reads a site file, and tells how large the site is.
-fn checked(rt: &HostRuntime, file: &str) -> ExitCode {
-    match site_of(rt, file) {
-        Ok(config) => {
-            let sizes = Sizes::of(&config);
-            match println!(rt; "ok {sizes}") {
-                Ok(()) => ExitCode::SUCCESS,
-                Err(_) => unwritten(rt),
-            }
-        }
-        Err(status) => status,
-    }
-}
-
-/// Replays standard input on the known site.
-fn replayed_here(rt: &HostRuntime) -> ExitCode {
-    match known_site(rt.alloc()) {
-        Ok(config) => replayed(rt, &config, false),
-        Err(_) => failed(rt),
-    }
-}
-
-/// Replays standard input on this site, and tells why the replay ended, if it ended with a fault.
-fn replayed(rt: &HostRuntime, config: &SiteConfig, changes: bool) -> ExitCode {
-    let mut reader = Counted::new(rt.stdin());
-    let mut writer = Counted::new(rt.stdout());
-    let end = replay(rt.alloc(), config, &mut reader, &mut writer, TURNS, changes);
-    ended(rt, end.fault)
-}
-
-/// Replays standard input on this site, prints the report of its rows, and tells why the replay
-/// ended, if it ended with a fault.
-fn reported(rt: &HostRuntime, config: &SiteConfig) -> ExitCode {
-    let mut reader = Counted::new(rt.stdin());
-    let mut writer = Counted::new(rt.stdout());
-    let end = replay_to_report(rt.alloc(), config, &mut reader, &mut writer, TURNS);
-    ended(rt, end.err())
 }

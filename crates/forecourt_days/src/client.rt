@@ -1,12 +1,9 @@
 //! A till's client over a socket.
 
 use app_message::{Decoder, Messages, encode};
-use site_base::{Counted, NoMemory, read_piece, write_whole};
+use site_base::{Counted, NoMemory, PIECE_OCTETS, read_piece, write_whole};
 use std::alloc::Global;
 use std::net::TcpStream;
-
-/// The octets of one read, at most.
-const PIECE_OCTETS: usize = 4_096;
 
 /// Sends each message, and reads its reply before the next one is sent. It ends early where the
 /// connection does.

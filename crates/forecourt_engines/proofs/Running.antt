@@ -7,7 +7,7 @@ use Rattle.site_base.proofs.Known.{known, Appends-then, Appends-none, Appends-fr
 use Rattle.forecourt_engines.specs.declared.fault.TextFault.{TextFault}
 use Rattle.forecourt_engines.specs.declared.fault.ReplayFault.{ReplayFault}
 use Rattle.forecourt_engines.specs.declared.fault.ReplayFault.TheVariants as faults
-use Rattle.forecourt_engines.specs.declared.replay.TheConstants.{PIECE_OCTETS}
+use Rattle.site_base.specs.declared.limits.TheConstants.{PIECE_OCTETS}
 use Rattle.site_book.specs.Book.{Book}
 use Rattle.forecourt_engines.specs.Text.{State, next, said, after, text_from, ended, ends, last_text, last_says, last_fault, fault_at_end, text_of}
 use Rattle.forecourt_engines.specs.Replay.{is_early, as_fault, Replayed}

@@ -5,7 +5,7 @@ use Rattle.site_base.specs.Devices.{AppendsFront}
 use Rattle.forecourt_engines.specs.declared.fault.TextFault.{TextFault}
 use Rattle.forecourt_engines.specs.declared.fault.ReplayFault.{ReplayFault}
 use Rattle.forecourt_engines.specs.declared.fault.ReplayFault.TheVariants as faults
-use Rattle.forecourt_engines.specs.declared.replay.TheConstants.{PIECE_OCTETS}
+use Rattle.site_base.specs.declared.limits.TheConstants.{PIECE_OCTETS}
 use Rattle.site_book.specs.Book.{Book}
 use Rattle.forecourt_engines.specs.Text.{State, after, text_of, fault_of, book_of}
 

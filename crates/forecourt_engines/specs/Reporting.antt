@@ -8,7 +8,7 @@ use Rattle.site_book.specs.Book.{Book}
 use Rattle.forecourt_engines.specs.declared.fault.TextFault.{TextFault}
 use Rattle.forecourt_engines.specs.declared.fault.ReplayFault.{ReplayFault}
 use Rattle.forecourt_engines.specs.declared.fault.ReplayFault.TheVariants.{NoMemory, Read}
-use Rattle.forecourt_engines.specs.declared.replay.TheConstants.{PIECE_OCTETS}
+use Rattle.site_base.specs.declared.limits.TheConstants.{PIECE_OCTETS}
 use Rattle.forecourt_engines.specs.Replay.{is_early, as_fault, StopsThere}
 use Rattle.forecourt_engines.specs.Report.{book_report}
 use Rattle.forecourt_engines.specs.Text.{State, start, fault_of, book_of}

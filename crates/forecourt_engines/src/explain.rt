@@ -4,7 +4,7 @@ ghost use Rattle.std.specs.Prelude.{◌≡◌, IfOk, is_some};
 ghost use Rattle.forecourt_engines.specs.Meanings.{Means, stands_alone};
 
 use app_message::{Message, Token};
-use device_map::{MapFault, change_told, number_told, reply_told, request_of};
+use device_map::{MapFault, decode_change, decode_number, decode_reply, request_of};
 use site_base::{Actor, Event, FpNo, NoMemory, Reply, TillNo, write_reply};
 use std::alloc::Global;
 use std::fmt;
@@ -62,16 +62,16 @@ fn meaning_of(alloc: Global, message: &Message) -> Result<Meaning, NoMemory>
         Ok((actor, event)) => return Ok(Meaning::Asked(actor, event)),
         Err(fault) => fault,
     };
-    if let Some(reply) = reply_told(alloc, message)? {
+    if let Some(reply) = decode_reply(alloc, message)? {
         return Ok(Meaning::Told(reply));
     }
-    if let Some(number) = number_told(alloc, message)? {
+    if let Some(number) = decode_number(alloc, message)? {
         // Of other numbers none stands alone.
-        if name_of(number).is_some() {
+        if fault_name(number).is_some() {
             return Ok(Meaning::Numbered(number));
         }
     }
-    if let Some(event) = change_told(alloc, message)? {
+    if let Some(event) = decode_change(alloc, message)? {
         return Ok(Meaning::Changed(event));
     }
     Ok(Meaning::NotAsked(fault))
@@ -89,7 +89,7 @@ impl fmt::Display for Explanation {
             }
             Meaning::Numbered(number) => {
                 write!(f, "to {}, token {}: ", Node(self.to), self.token.get())?;
-                write!(f, "{} {}", number, name_of(*number).unwrap_or(""))
+                write!(f, "{} {}", number, fault_name(*number).unwrap_or(""))
             }
             Meaning::Changed(event) => write!(f, "to {}: {}", Node(self.to), event),
             Meaning::NotAsked(fault) => {
@@ -98,7 +98,7 @@ impl fmt::Display for Explanation {
                     f,
                     "{} {}",
                     fault.number(),
-                    name_of(fault.number()).unwrap_or("")
+                    fault_name(fault.number()).unwrap_or("")
                 )
             }
         }
@@ -122,7 +122,7 @@ impl fmt::Display for Node {
 }
 
 /// The name of a number that stands in place of a reply, if it is one.
-pub fn name_of(number: u8) -> Option<&'static str>
+pub fn fault_name(number: u8) -> Option<&'static str>
     ensures { is_some result ≡ stands_alone number }
 {
     match number {

@@ -27,7 +27,7 @@ pub enum TextFault {
 /// Why a replay ended.
 #[derive(Clone, Copy, Debug, PartialEq, Eq, Error)]
 pub enum ReplayFault {
-    /// A growth was refused.
+    /// An allocation failed.
     #[error("fault 31")]
     NoMemory,
     /// The input gave no more.

@@ -14,6 +14,7 @@ pub mod explain;
 mod fault;
 mod laws;
 pub mod line;
+mod numbers;
 pub mod replay;
 pub mod report;
 pub mod reporting;
@@ -26,6 +27,7 @@ pub use laws::{
     a_last_line_says, a_line_says, a_long_line_says, nothing_follows, one_stream_of_lines,
 };
 pub use line::LINE_OCTETS;
+pub use numbers::NumberMeaning;
 pub use site_book::SiteBook;
 pub use sites::known_site;
 pub use sizes::Sizes;

@@ -10,7 +10,7 @@ ghost use Rattle.forecourt_engines.specs.Replay.{Replayed};
 
 use crate::engine::Engine;
 use crate::fault::ReplayFault;
-use site_base::{Counted, ReadFault, SiteConfig, WriteFault, read_piece, write_whole};
+use site_base::{Counted, ReadFault, SiteConfig, WriteFault, PIECE_OCTETS, read_piece, write_whole};
 use site_book::SiteBook;
 use std::alloc::Global;
 use std::io::{Read, Write};
@@ -24,12 +24,9 @@ pub struct ReplayEnd {
     pub book: Option<SiteBook>,
 }
 
-/// The octets of one read.
-pub const PIECE_OCTETS: usize = 4_096;
-
 /// Replays lines of messages on the opening site of this configuration: each message is answered by
 /// a line, in order, and, with `changes`, the change that its row stands for follows as a line. It
-/// ends at the end of the input, at the first fault of the text, where a growth is refused, a
+/// ends at the end of the input, at the first fault of the text, where an allocation fails, a
 /// device fails, or `turns` are used up (each read call and each interrupted write call is a turn),
 /// so that no more than a piece a turn is read. Whatever it ends with, what was written is a front
 /// of the text of what was read. It ends with a fault of the text only where the text stops at what

@@ -3,7 +3,7 @@ use Rattle.std.proofs.Common.{◌≡◌, ℕ, ◌+◌, true, false, Option, Some
 use Rattle.std.proofs.lemmas.Grind.{common_steps}
 use Rattle.fuelling_point.specs.declared.event.PointEvent.{PointEvent}
 use Rattle.fuelling_point.specs.declared.step.PointStep.TheVariants.{Sold, Drawn, Ending}
-use Rattle.fuelling_point.specs.Kept.{Facts, is_under_way, growth_of}
+use Rattle.fuelling_point.specs.KeptPoints.{Facts, is_under_way, growth_of}
 use Rattle.fuelling_point.specs.History.{reply_to, facts_after}
 use Rattle.fuelling_point.specs.Whole.{is_suspended}
 use Rattle.fuelling_point.specs.Laws.{ends, flowed_in, handed_in}
@@ -63,8 +63,8 @@ ending_when_terminated e f is = grind (arith, common_steps)
 
 pub suspended_kept : (e : PointEvent) (f : Facts) → is_suspended f.state ≡ true → f.ending ≡ true
     → ends (record { before = f; event = e }) ≡ false → is_suspended (facts_after e f).state ≡ true
-suspended_kept e f suspended is on = grind (arith, common_steps)
+suspended_kept e f suspend_state is on = grind (arith, common_steps)
 
 pub ending_kept : (e : PointEvent) (f : Facts) → is_suspended f.state ≡ true → f.ending ≡ true
     → ends (record { before = f; event = e }) ≡ false → (facts_after e f).ending ≡ true
-ending_kept e f suspended is on = grind (arith, common_steps)
+ending_kept e f suspend_state is on = grind (arith, common_steps)

@@ -2,7 +2,7 @@
 use Rattle.std.proofs.Common.{◌≡◌, ℕ, arith}
 use Rattle.std.proofs.lemmas.Grind.{common_steps}
 use Rattle.fuelling_point.specs.declared.event.PointEvent.TheVariants.{Flow, HangUp}
-use Rattle.fuelling_point.specs.Kept.{Facts}
+use Rattle.fuelling_point.specs.KeptPoints.{Facts}
 use Rattle.fuelling_point.specs.PointChecks.{refusal_of}
 
 pub flow_judged : (nozzle growth other : ℕ) (f : Facts)

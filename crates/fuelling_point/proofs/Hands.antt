@@ -2,7 +2,7 @@
 use Rattle.std.proofs.Common.{◌≡◌, arith}
 use Rattle.std.proofs.lemmas.Grind.{common_steps}
 use Rattle.fuelling_point.specs.declared.event.PointEvent.TheVariants.{Assign, Unassign}
-use Rattle.fuelling_point.specs.Kept.{Facts}
+use Rattle.fuelling_point.specs.KeptPoints.{Facts}
 use Rattle.fuelling_point.specs.Step.{after}
 
 pub after_assign : (f : Facts) → after Assign f ≡ f

@@ -7,7 +7,7 @@ use Rattle.std.proofs.lemmas.Grind.{common_steps}
 use Rattle.site_base.specs.declared.state.PointState.TheVariants.{Closed}
 use Rattle.fuelling_point.specs.declared.event.PointEvent.{PointEvent}
 use Rattle.fuelling_point.specs.declared.event.PointEvent.TheVariants.{Flow, HangUp}
-use Rattle.fuelling_point.specs.Kept.{Facts, fresh, has_nozzle_out}
+use Rattle.fuelling_point.specs.KeptPoints.{Facts, fresh, has_nozzle_out}
 use Rattle.fuelling_point.specs.Whole.{IsWhole}
 use Rattle.fuelling_point.specs.PointChecks.{refusal_of}
 use Rattle.fuelling_point.specs.History.{Moment, history, facts_at_end, facts_after, reply_to, moments_of, point_after}

@@ -6,7 +6,7 @@ use Rattle.fuelling_point.specs.declared.event.PointEvent.{PointEvent}
 use Rattle.site_base.specs.declared.state.PointState.TheVariants.{Closed}
 use Rattle.std.proofs.lemmas.Bool.{false≢true}
 use Rattle.fuelling_point.specs.declared.step.PointStep.TheVariants.{Sold, Drawn}
-use Rattle.fuelling_point.specs.Kept.{Facts, fresh, is_under_way, growth_of}
+use Rattle.fuelling_point.specs.KeptPoints.{Facts, fresh, is_under_way, growth_of}
 use Rattle.fuelling_point.specs.History.{Moment, history, facts_at_end, facts_after, reply_to, moments_of, point_after}
 use Rattle.fuelling_point.specs.Laws.{ends, flowed_in, reply_at, HasStarted, IsSoldAsStarted}
 use Rattle.fuelling_point.proofs.Events.{not_ended, price_kept, start_kept, volume_kept, start_taken, volume_none, sold_under_way, sold_price, sold_volume, drawn_under_way, drawn_volume}

@@ -3,15 +3,15 @@ use Rattle.std.proofs.Common.{◌≡◌, Bool, true, false, ◌||◌, List, [], 
 use Rattle.std.specs.List.{list_any}
 use Rattle.fuelling_point.specs.declared.event.PointEvent.{PointEvent}
 use Rattle.fuelling_point.specs.declared.step.PointStep.TheVariants.{Ending}
-use Rattle.fuelling_point.specs.Kept.{Facts}
+use Rattle.fuelling_point.specs.KeptPoints.{Facts}
 use Rattle.fuelling_point.specs.History.{Moment, history, facts_at_end, facts_after}
 use Rattle.fuelling_point.specs.Whole.{is_suspended}
 use Rattle.fuelling_point.specs.Laws.{ends, reply_at}
 use Rattle.fuelling_point.proofs.Events.{suspended_when_terminated, ending_when_terminated, suspended_kept, ending_kept}
 
--- the point is suspended, and its fuelling ending
+-- the point is suspend_state, and its fuelling ending
 pub record IsTerminated (f : Facts) : Type 0 where
-  pub suspended : is_suspended f.state ≡ true
+  pub suspend_state : is_suspended f.state ≡ true
   pub ending : f.ending ≡ true
 
 pub left_false : (a b : Bool) → (a || b) ≡ false → a ≡ false
@@ -31,10 +31,10 @@ keeps f (e ∷ es) t on =
     let later : list_any ends (history (facts_after e f) es) ≡ false =
     right_false (ends (record { before = f; event = e })) _ on in
     keeps (facts_after e f) es (record {
-      suspended =
-          suspended_kept e f t.suspended t.ending now;
+      suspend_state =
+          suspended_kept e f t.suspend_state t.ending now;
       ending =
-          ending_kept e f t.suspended t.ending now;
+          ending_kept e f t.suspend_state t.ending now;
     }) later
 
 -- from the terminate on, as long as nothing ends the fuelling
@@ -49,7 +49,7 @@ stays_terminated f (e ∷ es) [] since m parts told on =
     let rest : since ≡ history (facts_after e f) es = cc in
     let ended = subst (λ x. reply_at x ≡ Ok Ending) here told in
     keeps (facts_after e f) es (record {
-      suspended = suspended_when_terminated e f ended;
+      suspend_state = suspended_when_terminated e f ended;
       ending =
           ending_when_terminated e f ended;
     }) (subst (λ x. list_any ends x ≡ false) rest on)

@@ -6,7 +6,7 @@ use Rattle.std.proofs.lemmas.Grind.{common_steps}
 use Rattle.site_base.specs.declared.state.PointState.TheVariants.{Closed}
 use Rattle.fuelling_point.specs.declared.event.PointEvent.{PointEvent}
 use Rattle.fuelling_point.specs.declared.step.PointStep.TheVariants.{Sold, Drawn}
-use Rattle.fuelling_point.specs.Kept.{Facts, fresh}
+use Rattle.fuelling_point.specs.KeptPoints.{Facts, fresh}
 use Rattle.fuelling_point.specs.Whole.{IsWhole}
 use Rattle.fuelling_point.specs.History.{Moment, history, facts_at_end, facts_after, reply_to, moments_of, point_after}
 use Rattle.fuelling_point.specs.Laws.{ends_release, is_test_released, HasTestRelease, AreTestsDrawn}

@@ -9,7 +9,7 @@ use Rattle.fuelling_point.specs.declared.event.PointEvent.{PointEvent}
 use Rattle.fuelling_point.specs.declared.event.PointEvent.TheVariants.{Online, Offline, Open, Lift, Release, TestRelease, ReplaceMeter, Suspend, Resume, Terminate, Flow, HangUp}
 use Rattle.fuelling_point.specs.declared.step.PointStep.{PointStep}
 use Rattle.fuelling_point.specs.declared.step.PointStep.TheVariants.{Moved, Calling, Start, Flowed, NoSale, Sold, Drawn, Stopped, Ending}
-use Rattle.fuelling_point.specs.Kept.{Facts, fresh, point_view}
+use Rattle.fuelling_point.specs.KeptPoints.{Facts, fresh, point_view}
 use Rattle.fuelling_point.specs.History.{reply_to, facts_after, facts_at_end}
 
 -- what a point answers to these events, one after another
@@ -55,7 +55,7 @@ sold_at_the_price_of_the_lift : replies
     ∷ []
 sold_at_the_price_of_the_lift = refl
 
--- a terminated fuelling takes flow until the nozzle is back, and isn't resumed
+-- a terminated fuelling takes flow until the nozzle is back, and isn't resume_state
 terminated_and_sold : replies
     (Open
     ∷ Release Unset None 1000 1650
@@ -103,7 +103,7 @@ drawn_and_then_sold : replies
     ∷ []
 drawn_and_then_sold = refl
 
--- a test that starts in calling, is suspended, and draws what flowed in both reports
+-- a test that starts in calling, is suspend_state, and draws what flowed in both reports
 drawn_from_calling : replies
     (Open
     ∷ Lift 2 1000 1799

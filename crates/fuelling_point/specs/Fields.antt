@@ -5,7 +5,7 @@ use Rattle.site_base.specs.declared.state.PointState.{PointState}
 use Rattle.site_base.specs.declared.state.PointState.TheVariants.{Started, SuspendedStarted, Fuelling, SuspendedFuelling}
 use Rattle.site_base.specs.declared.state.Preset.{Preset}
 use Rattle.fuelling_point.specs.declared.delivery.Delivery.{Delivery}
-use Rattle.fuelling_point.specs.Kept.{Facts, is_under_way}
+use Rattle.fuelling_point.specs.KeptPoints.{Facts, is_under_way}
 use Rattle.fuelling_point.specs.Whole.{IsWhole}
 
 abbrev pub price_in : Option Delivery → ℕ
@@ -42,20 +42,20 @@ pub record AreWhole (state : PointState) (out : Option ℕ) (ending test : Bool)
   pub under_way : is_some delivery ≡ is_under_way state
   pub in_range : volume_in delivery ≤ GREATEST_READING
 
--- a fuelling in this state, suspended
-abbrev pub suspended : PointState → PointState
-suspended Started = SuspendedStarted
-suspended Fuelling = SuspendedFuelling
-suspended state = state
+-- a fuelling in this state, suspend_state
+abbrev pub suspend_state : PointState → PointState
+suspend_state Started = SuspendedStarted
+suspend_state Fuelling = SuspendedFuelling
+suspend_state state = state
 
--- a suspended fuelling in this state that goes on
-abbrev pub resumed : PointState → PointState
-resumed SuspendedStarted = Started
-resumed SuspendedFuelling = Fuelling
-resumed state = state
+-- a suspend_state fuelling in this state that goes on
+abbrev pub resume_state : PointState → PointState
+resume_state SuspendedStarted = Started
+resume_state SuspendedFuelling = Fuelling
+resume_state state = state
 
 -- a fuelling in this state once fuel has flowed
-abbrev pub flowing : PointState → PointState
-flowing Started = Fuelling
-flowing SuspendedStarted = SuspendedFuelling
-flowing state = state
+abbrev pub flow_state : PointState → PointState
+flow_state Started = Fuelling
+flow_state SuspendedStarted = SuspendedFuelling
+flow_state state = state

@@ -5,7 +5,7 @@ use Rattle.site_base.specs.Checks.{reply_or, value_or}
 use Rattle.site_base.specs.declared.state.PointState.TheVariants.{Closed}
 use Rattle.fuelling_point.specs.declared.event.PointEvent.{PointEvent}
 use Rattle.fuelling_point.specs.declared.step.PointStep.{PointStep}
-use Rattle.fuelling_point.specs.Kept.{Facts, fresh}
+use Rattle.fuelling_point.specs.KeptPoints.{Facts, fresh}
 use Rattle.fuelling_point.specs.PointChecks.{refusal_of}
 use Rattle.fuelling_point.specs.Step.{step_of, after}
 

@@ -10,7 +10,7 @@ use Rattle.fuelling_point.specs.declared.event.PointEvent.{PointEvent}
 use Rattle.fuelling_point.specs.declared.event.PointEvent.TheVariants.{Offline, Lift, Release, TestRelease, HangUp}
 use Rattle.fuelling_point.specs.declared.step.PointStep.{PointStep}
 use Rattle.fuelling_point.specs.declared.step.PointStep.TheVariants.{Flowed, Sold, Drawn, Stopped, Ending}
-use Rattle.fuelling_point.specs.Kept.{Facts, fresh, is_under_way, volume_of, growth_of}
+use Rattle.fuelling_point.specs.KeptPoints.{Facts, fresh, is_under_way, volume_of, growth_of}
 use Rattle.fuelling_point.specs.Whole.{IsWhole, is_suspended}
 use Rattle.fuelling_point.specs.PointChecks.{refusal_of}
 use Rattle.fuelling_point.specs.Step.{step_of, after}
@@ -125,7 +125,7 @@ abbrev pub IsSoldAtEnd : Type 0
 IsSoldAtEnd = (events : List PointEvent) (event : PointEvent)
     → is_some (delivered_by (reply_to event (point_after events))) ≡ true → is_end event ≡ true
 
--- from a terminate that is answered so until an accepted hang up or offline, the point is suspended
+-- from a terminate that is answered so until an accepted hang up or offline, the point is suspend_state
 -- and its fuelling ending
 abbrev pub StaysSuspended : Type 0
 StaysSuspended = (events : List PointEvent) (before since : List Moment) (m : Moment)

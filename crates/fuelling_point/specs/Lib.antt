@@ -1,5 +1,5 @@
 pub mod Table
-pub mod Kept
+pub mod KeptPoints
 pub mod Whole
 pub mod PointChecks
 pub mod Step

@@ -4,7 +4,7 @@ use Rattle.fuelling_point.specs.declared.event.PointEvent.{PointEvent}
 use Rattle.fuelling_point.specs.declared.step.PointStep.{PointStep}
 use Rattle.fuelling_point.specs.declared.step.PointStep.TheVariants.{Moved, Calling, Start, Flowed, HungUp, NoSale, Sold, Drawn, Stopped, Ending}
 use Rattle.fuelling_point.specs.Table.{Line, Told, done, calling, start, flowed, hung_up, no_sale, sold, stopped, ending, line_of}
-use Rattle.fuelling_point.specs.Kept.{Facts, growth_of, noted, moved}
+use Rattle.fuelling_point.specs.KeptPoints.{Facts, growth_of, noted, moved}
 
 -- what is told of a fuelling that is over, of this nozzle and volume: a test is drawn, any other is
 -- sold at the price it took

@@ -3,7 +3,7 @@ use Rattle.std.specs.Prelude.{◌≡◌, ◌≤◌, Bool, true, false, None, is_
 use Rattle.site_base.specs.declared.state.PointState.{PointState}
 use Rattle.site_base.specs.declared.state.PointState.TheVariants.{Authorised, SuspendedStarted, Fuelling, SuspendedFuelling}
 use Rattle.site_base.specs.declared.state.Preset.TheVariants.{Unset}
-use Rattle.fuelling_point.specs.Kept.{Facts, is_under_way, has_nozzle_out}
+use Rattle.fuelling_point.specs.KeptPoints.{Facts, is_under_way, has_nozzle_out}
 
 -- a fuelling is under way, and fuel has flowed in it
 abbrev pub has_flowed : PointState → Bool
@@ -11,7 +11,7 @@ has_flowed Fuelling = true
 has_flowed SuspendedFuelling = true
 has_flowed state = false
 
--- a fuelling is under way, and suspended
+-- a fuelling is under way, and suspend_state
 abbrev pub is_suspended : PointState → Bool
 is_suspended SuspendedStarted = true
 is_suspended SuspendedFuelling = true
@@ -23,7 +23,7 @@ is_released Authorised = true
 is_released state = is_under_way state
 
 -- a nozzle is kept just where one is out; so much has flowed as the state says, nothing or
--- something; only a suspended fuelling is ending; price and start reading are kept of a fuelling
+-- something; only a suspend_state fuelling is ending; price and start reading are kept of a fuelling
 -- under way alone, and preset, prepaid cents and the mark of a test from the release on; a test has
 -- neither preset nor prepaid cents
 pub record IsWhole (f : Facts) : Type 0 where

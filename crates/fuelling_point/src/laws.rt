@@ -4,7 +4,7 @@
 ghost use Rattle.fuelling_point.specs.Laws.{StaysWhole, IsConserved, IsSoldAtEnd, StaysSuspended, IsKeptFromStart, IsSoldAsStarted, IsTheLifted, IsNeverNothing, AreTestsDrawn};
 
 /// A new point is whole, and an event, accepted or refused, leaves a whole point whole: a nozzle is
-/// kept just where one is out, something has flowed just where the state says so, only a suspended
+/// kept just where one is out, something has flowed just where the state says so, only a suspend_state
 /// fuelling is ending, and nothing is kept of a release or a fuelling where there is none.
 pub fn stays_whole()
     ensures { StaysWhole }
@@ -22,7 +22,7 @@ pub fn sold_at_the_end()
     ensures { IsSoldAtEnd }
 {}
 
-/// A terminated fuelling leaves its suspended state only by a hang up or an offline.
+/// A terminated fuelling leaves its suspend_state state only by a hang up or an offline.
 pub fn terminated_stays_suspended()
     ensures { StaysSuspended }
 {}

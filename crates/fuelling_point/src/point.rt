@@ -4,9 +4,9 @@ ghost use Rattle.std.specs.Prelude.{◌≡◌, ℕ, ◌≤◌, ◌+◌, true, fa
 ghost use Rattle.site_base.specs.declared.limits.TheConstants.{GREATEST_READING};
 ghost use Rattle.site_base.specs.declared.state.PointState.TheVariants.{Closed, Started};
 ghost use Rattle.fuelling_point.specs.Table.{is_listed};
-ghost use Rattle.fuelling_point.specs.Kept.{fresh, point_view, FitsGrowth, is_under_way, has_nozzle_out, start_of, volume_of};
+ghost use Rattle.fuelling_point.specs.KeptPoints.{fresh, point_view, FitsGrowth, is_under_way, has_nozzle_out, start_of, volume_of};
 ghost use Rattle.fuelling_point.specs.Whole.{IsWhole};
-ghost use Rattle.fuelling_point.specs.Fields.{suspended, resumed, flowing};
+ghost use Rattle.fuelling_point.specs.Fields.{suspend_state, resume_state, flow_state};
 ghost use Rattle.fuelling_point.specs.PointChecks.{refusal_of, is_out};
 ghost use Rattle.fuelling_point.specs.Step.{step_of, after, told_over};
 
@@ -23,7 +23,7 @@ use std::marker::Model;
 /// reported. All of it is forgotten on the way to inoperative and to idle.
 ///
 /// So a nozzle is kept just where one is out, there is a volume just where fuel has flowed, only a
-/// suspended fuelling is ending, a test has neither preset nor prepayment, and nothing is kept of a
+/// suspend_state fuelling is ending, a test has neither preset nor prepayment, and nothing is kept of a
 /// release or a fuelling where there is none. That is true of every point; `view` and `judge` say
 /// so.
 #[derive(Drop)]
@@ -38,7 +38,7 @@ pub struct Point {
 }
 
 impl Model for Point {
-    ghost use Rattle.fuelling_point.specs.Kept.{Facts};
+    ghost use Rattle.fuelling_point.specs.KeptPoints.{Facts};
     ghost use Rattle.fuelling_point.specs.Fields.{facts_of, AreWhole};
 
     ghost Value = { Facts };
@@ -66,7 +66,7 @@ impl Point {
     }
 
     /// The point as a read shows it; its holder isn't known here. Price and volume are 0 unless a
-    /// fuelling is under way: started, fuelling, or either of them suspended. The volume is one
+    /// fuelling is under way: started, fuelling, or either of them suspend_state. The volume is one
     /// that a meter can show.
     pub fn view(&self) -> PointView
         ensures view { result ≡ point_view self.now None }
@@ -105,7 +105,7 @@ impl Point {
     /// changes.
     ///
     /// - `WrongState`: the point table doesn't list the event in the point's state.
-    /// - `Ending`: the fuelling was terminated, so it is neither resumed nor terminated again.
+    /// - `Ending`: the fuelling was terminated, so it is neither resume_state nor terminated again.
     /// - `WrongNozzle`: another nozzle than the one that flows or is put back is out.
     pub fn judge(&self, event: &PointEvent) -> Result<(), Refusal>
         ensures accepted { OnOk result (refusal_of event.now self.now ≡ None) }
@@ -174,8 +174,8 @@ impl Point {
                 self.test = true;
             }
             PointEvent::ReplaceMeter => {}
-            PointEvent::Suspend => self.state = suspended(self.state),
-            PointEvent::Resume => self.state = resumed(self.state),
+            PointEvent::Suspend => self.state = suspend_state(self.state),
+            PointEvent::Resume => self.state = resume_state(self.state),
             PointEvent::Terminate => return self.terminate(),
             PointEvent::Flow { growth, .. } => return self.flow(growth),
             PointEvent::HangUp { growth, .. } => return self.hang_up(growth),
@@ -242,7 +242,7 @@ impl Point {
             self.forget_in(PointState::Idle);
             return PointStep::Stopped;
         }
-        self.state = suspended(self.state);
+        self.state = suspend_state(self.state);
         self.ending = true;
         PointStep::Ending
     }
@@ -258,7 +258,7 @@ impl Point {
         };
         self.delivery = Some(delivery.after(growth));
         if growth > 0 {
-            self.state = flowing(self.state);
+            self.state = flow_state(self.state);
         }
         PointStep::Flowed { growth }
     }
@@ -341,9 +341,9 @@ impl Point {
     }
 }
 
-/// The state in which a fuelling in this state is suspended.
-fn suspended(state: PointState) -> PointState
-    ensures { result ≡ suspended state }
+/// The state in which a fuelling in this state is suspend_state.
+fn suspend_state(state: PointState) -> PointState
+    ensures { result ≡ suspend_state state }
 {
     match state {
         PointState::Started => PointState::SuspendedStarted,
@@ -353,8 +353,8 @@ fn suspended(state: PointState) -> PointState
 }
 
 /// The state of a fuelling in this state once fuel has flowed.
-fn flowing(state: PointState) -> PointState
-    ensures { result ≡ flowing state }
+fn flow_state(state: PointState) -> PointState
+    ensures { result ≡ flow_state state }
 {
     match state {
         PointState::Started => PointState::Fuelling,
@@ -363,9 +363,9 @@ fn flowing(state: PointState) -> PointState
     }
 }
 
-/// The state of a suspended fuelling once it goes on.
-fn resumed(state: PointState) -> PointState
-    ensures { result ≡ resumed state }
+/// The state of a suspend_state fuelling once it goes on.
+fn resume_state(state: PointState) -> PointState
+    ensures { result ≡ resume_state state }
 {
     match state {
         PointState::SuspendedStarted => PointState::Started,

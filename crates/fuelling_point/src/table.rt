@@ -2,7 +2,7 @@
 
 ghost use Rattle.std.specs.Prelude.{◌≡◌};
 ghost use Rattle.fuelling_point.specs.Table.{is_listed};
-ghost use Rattle.fuelling_point.specs.Kept.{is_under_way};
+ghost use Rattle.fuelling_point.specs.KeptPoints.{is_under_way};
 
 use crate::event::PointEvent;
 use site_base::PointState;

@@ -3,7 +3,7 @@
 //! moves no meter.
 #![tactic(auto)]
 
-mod counting;
+mod recount;
 mod laws;
 mod meter;
 mod meters;

@@ -2,8 +2,8 @@
 
 ghost use Rattle.std.specs.Prelude.{◌≡◌, ◌<◌, ◌≤◌, None, Some, OnOk, IfOk, IfErr};
 ghost use Rattle.site_base.specs.declared.limits.TheConstants.{GREATEST_READING, NOZZLE_CELLS, NOZZLES, POINTS, REPLACEMENT_LIMIT};
-ghost use Rattle.meters.specs.Metered.{metered, most_of_a_nozzle};
-ghost use Rattle.meters.specs.Nozzles.{opened, read_at, replaced_at, IsMetered};
+ghost use Rattle.meters.specs.Metered.{metered_volume, most_of_a_nozzle};
+ghost use Rattle.meters.specs.Nozzles.{at_opening, read_at, replaced_at, IsMetered};
 ghost use Rattle.meters.specs.Places.{nozzle_cell};
 ghost use Rattle.meters.specs.Reports.{growth_of, report_refusal};
 
@@ -53,7 +53,7 @@ impl Model for Meter {
 
 impl Meter {
     /// The meter of a nozzle when the site opens.
-    pub fn opened(point: FpNo, nozzle: NozzleNo, entry: &NozzleEntry) -> Self
+    pub fn at_opening(point: FpNo, nozzle: NozzleNo, entry: &NozzleEntry) -> Self
         ensures value { result ≡ opened point nozzle entry.now }
         ensures bounds { IsMetered result }
     {
@@ -94,7 +94,7 @@ impl Meter {
     }
 
     /// How often it was replaced.
-    pub fn replaced(&self) -> u8
+    pub fn replacements(&self) -> u8
         ensures { result ≡ self.now.replaced }
     {
         self.replaced
@@ -102,7 +102,7 @@ impl Meter {
 
     /// The millilitres that the nozzle has metered since the site opened: those of this meter, and
     /// those of its earlier meters.
-    pub fn metered(&self) -> u64
+    pub fn metered_volume(&self) -> u64
         ensures value { result ≡ metered self.now }
         ensures range { result ≤ most_of_a_nozzle }
     {

@@ -8,7 +8,7 @@ ghost use Rattle.meters.specs.Metered.{most_of_a_site, product_total, metered_by
 ghost use Rattle.meters.specs.Places.{IsPlace};
 ghost use Rattle.meters.specs.Reports.{growth_of, report_refusal};
 
-use crate::counting::counted;
+use crate::recount::recount;
 use crate::meter::Meter;
 use crate::place::{cell_of, places_of};
 use crate::report::Report;
@@ -102,7 +102,7 @@ impl Meters {
         match self.place(p, n) {
             Some(place) => {
                 let meter = &self.meters[place];
-                Some(meter.replaced())
+                Some(meter.replacements())
             }
             None => None,
         }
@@ -180,10 +180,10 @@ impl Meters {
 
     /// The same as `product_total`, summed from the nozzles' own rows: no total that is kept is
     /// read.
-    pub fn counted(&self, q: ProductNo) -> u64
+    pub fn recount(&self, q: ProductNo) -> u64
         ensures { result ≡ product_total q self.now }
     {
-        counted(&self.meters, q)
+        recount(&self.meters, q)
     }
 
     /// The place of the meter of nozzle n of point p, from its cell.
@@ -208,7 +208,7 @@ fn add_point(meters: &mut Vec<Meter>, entry: &PointEntry) -> Result<(), NoMemory
         let Some(number) = NozzleNo::new(place as u8 + 1) else {
             unreachable!();
         };
-        meters.push(Meter::opened(entry.number, number, nozzle))?;
+        meters.push(Meter::at_opening(entry.number, number, nozzle))?;
     }
     Ok(())
 }

@@ -145,13 +145,13 @@ impl ShiftBook {
 
     /// The millilitres that tests drew of a product in all shifts, summed over the shifts. They fit
     /// in 64 bits.
-    pub fn drawn(&self, q: ProductNo) -> u64
+    pub fn drawn_volume(&self, q: ProductNo) -> u64
         requires { drawn_in_all q self.now.shifts < 2 ^ 64 }
         ensures { result ≡ drawn_in_all q self.now.shifts }
     {
-        let mut sum = self.current.drawn(q);
+        let mut sum = self.current.drawn_volume(q);
         for row in &self.closed {
-            sum += row.drawn(q);
+            sum += row.drawn_volume(q);
         }
         sum
     }

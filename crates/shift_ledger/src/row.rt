@@ -52,7 +52,7 @@ impl ShiftRow {
     }
 
     /// The millilitres that tests drew of a product.
-    pub fn drawn(&self, q: ProductNo) -> u64
+    pub fn drawn_volume(&self, q: ProductNo) -> u64
         ensures { result ≡ adjusted_figure q self.now }
     {
         self.adjusted[q.cell()]

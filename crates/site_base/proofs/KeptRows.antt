@@ -12,18 +12,18 @@ use Rattle.site_base.specs.declared.actor.Actor.{Actor}
 use Rattle.site_base.specs.declared.answer.Answer.{Answer}
 use Rattle.site_base.specs.declared.answer.Answer.TheVariants as answers
 use Rattle.site_base.specs.declared.event.Event.{Event}
-use Rattle.site_base.specs.declared.kept.Figures.{Figures}
-use Rattle.site_base.specs.declared.kept.KeptReply.{KeptReply}
-use Rattle.site_base.specs.declared.kept.KeptReply.TheVariants.{ProductIs}
+use Rattle.site_base.specs.declared.kept_row.Figures.{Figures}
+use Rattle.site_base.specs.declared.kept_row.KeptReply.{KeptReply}
+use Rattle.site_base.specs.declared.kept_row.KeptReply.TheVariants.{ProductIs}
 use Rattle.site_base.specs.declared.refusal.Refusal.{Refusal}
 use Rattle.site_base.specs.declared.row.Row.{Row}
-use Rattle.site_base.specs.KeptRows.{RowFacts, figures_told, figures_of, kept_reply, kept_row}
+use Rattle.site_base.specs.KeptRows.{RowFacts, figures_in_reply, figures_of, kept_reply, kept_row}
 use Rattle.site_base.specs.KeptRows.{reply_of_kept, row_of_kept, rows_of_kept, no_figures}
 use Rattle.site_base.specs.KeptRows.{is_within, product_shown}
 
 -- a reply that is kept behind the figures so far is told again
 told_again : (fs : List Figures) (reply : Result Answer Refusal)
-    → reply_of_kept (fs ++ figures_told reply) (kept_reply (length fs) reply) ≡ reply
+    → reply_of_kept (fs ++ figures_in_reply reply) (kept_reply (length fs) reply) ≡ reply
 told_again fs (Ok (answers.ProductIs v)) =
     ap (λ (f : Figures). Ok (answers.ProductIs (product_shown v.price f)))
     (get_or-append_seam fs (figures_of v) [] no_figures)
@@ -31,7 +31,7 @@ told_again fs reply = refl
 
 -- .. and its figures are there
 told_within : (fs : List Figures) (reply : Result Answer Refusal)
-    → is_within (length (fs ++ figures_told reply)) (kept_reply (length fs) reply) ≡ true
+    → is_within (length (fs ++ figures_in_reply reply)) (kept_reply (length fs) reply) ≡ true
 told_within fs (Ok (answers.ProductIs v)) = grind (arith, nat_tests, length-append {A = Figures})
 told_within fs reply = refl
 
@@ -79,38 +79,38 @@ still_all fs more (k ∷ ks) within =
 -- ---- one row more
 
 row_again : (fs : List Figures) (r : Row)
-    → row_of_kept (fs ++ figures_told r.reply) (kept_row (length fs) r) ≡ r
+    → row_of_kept (fs ++ figures_in_reply r.reply) (kept_row (length fs) r) ≡ r
 row_again fs r =
     ap (row_with r.actor r.event) (told_again fs r.reply)
 
 rows_push : (fs : List Figures) (ks : List RowFacts) (r : Row) → all_within (length fs) ks ≡ true
-    → rows_of_kept (fs ++ figures_told r.reply) (ks ++ kept_row (length fs) r ∷ [])
+    → rows_of_kept (fs ++ figures_in_reply r.reply) (ks ++ kept_row (length fs) r ∷ [])
     ≡ rows_of_kept fs ks ++ r ∷ []
 rows_push fs ks r within =
-    let all : List Figures = fs ++ figures_told r.reply in
+    let all : List Figures = fs ++ figures_in_reply r.reply in
     map-append (λ (k : RowFacts). row_of_kept all k) ks (kept_row (length fs) r ∷ [])
     ∙ ap (λ (rs : List Row). rs ++ row_of_kept all (kept_row (length fs) r) ∷ [])
-    (same_rows fs (figures_told r.reply) ks within)
+    (same_rows fs (figures_in_reply r.reply) ks within)
     ∙ ap (λ (x : Row). rows_of_kept fs ks ++ x ∷ []) (row_again fs r)
 
 pub pushed : (fs fs' : List Figures) (ks ks' : List RowFacts) (k : RowFacts) (at : ℕ) (r : Row)
-    → all_within (length fs) ks ≡ true → fs' ≡ fs ++ figures_told r.reply → ks' ≡ ks ++ k ∷ []
+    → all_within (length fs) ks ≡ true → fs' ≡ fs ++ figures_in_reply r.reply → ks' ≡ ks ++ k ∷ []
     → k ≡ kept_row at r → at ≡ length fs → rows_of_kept fs' ks' ≡ rows_of_kept fs ks ++ r ∷ []
 pushed fs fs' ks ks' k at r within figures rows kept place =
     rw (figures, rows, kept, place) (rows_push fs ks r within)
 
 within_push : (fs : List Figures) (ks : List RowFacts) (r : Row) → all_within (length fs) ks ≡ true
-    → all_within (length (fs ++ figures_told r.reply)) (ks ++ kept_row (length fs) r ∷ []) ≡ true
+    → all_within (length (fs ++ figures_in_reply r.reply)) (ks ++ kept_row (length fs) r ∷ []) ≡ true
 within_push fs ks r within =
-    let n : ℕ = length (fs ++ figures_told r.reply) in
+    let n : ℕ = length (fs ++ figures_in_reply r.reply) in
     list_all-append (λ (k : RowFacts). is_within n k.reply) ks (kept_row (length fs) r ∷ [])
     ∙ and_from (all_within n ks) (all_within n (kept_row (length fs) r ∷ []))
-    (still_all fs (figures_told r.reply) ks within)
+    (still_all fs (figures_in_reply r.reply) ks within)
     (and_from (is_within n (kept_reply (length fs) r.reply)) true
     (told_within fs r.reply) refl)
 
 pub pushed_within : (fs fs' : List Figures) (ks ks' : List RowFacts) (k : RowFacts) (at : ℕ) (r : Row)
-    → all_within (length fs) ks ≡ true → fs' ≡ fs ++ figures_told r.reply → ks' ≡ ks ++ k ∷ []
+    → all_within (length fs) ks ≡ true → fs' ≡ fs ++ figures_in_reply r.reply → ks' ≡ ks ++ k ∷ []
     → k ≡ kept_row at r → at ≡ length fs → all_within (length fs') ks' ≡ true
 pushed_within fs fs' ks ks' k at r within figures rows kept place =
     rw (figures, rows, kept, place) (within_push fs ks r within)

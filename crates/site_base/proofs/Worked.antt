@@ -10,7 +10,7 @@ use Rattle.site_base.specs.Configured.{Configured, is_site}
 use Rattle.site_base.specs.declared.limits.TheConstants.{POINTS, TILLS, GREATEST_SHIFT}
 use Rattle.site_base.specs.declared.answer.Answer.TheVariants.{Flowed, Sold, Drawn}
 use Rattle.site_base.specs.declared.refusal.Refusal.TheVariants.{MeterSpent}
-use Rattle.site_base.specs.Events.{growth_told, cents_told}
+use Rattle.site_base.specs.Events.{growth_in_reply, cents_in_reply}
 use Rattle.site_base.specs.Refusals.{refusal_number, refusal_detail}
 use Rattle.site_base.specs.Table.{row_of, with_row}
 
@@ -189,19 +189,19 @@ no_shift_1000 = refl
 
 -- ---- what replies tell of fuel and money
 
-growth_of_a_flow : growth_told (Ok (Flowed 12345)) ≡ 12345
+growth_of_a_flow : growth_in_reply (Ok (Flowed 12345)) ≡ 12345
 growth_of_a_flow = refl
 
-growth_of_a_sale : growth_told (Ok (Sold 1 10000)) ≡ 10000
+growth_of_a_sale : growth_in_reply (Ok (Sold 1 10000)) ≡ 10000
 growth_of_a_sale = refl
 
-growth_of_a_draw : growth_told (Ok (Drawn 20000)) ≡ 20000
+growth_of_a_draw : growth_in_reply (Ok (Drawn 20000)) ≡ 20000
 growth_of_a_draw = refl
 
-growth_of_a_refused_replacement : growth_told (Err MeterSpent) ≡ 0
+growth_of_a_refused_replacement : growth_in_reply (Err MeterSpent) ≡ 0
 growth_of_a_refused_replacement = refl
 
-a_draw_clears_nothing : cents_told (Ok (Drawn 20000)) ≡ 0
+a_draw_clears_nothing : cents_in_reply (Ok (Drawn 20000)) ≡ 0
 a_draw_clears_nothing = refl
 
 refusal_of_a_hundredth_replacement : refusal_number MeterSpent ≡ 25

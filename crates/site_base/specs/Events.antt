@@ -111,13 +111,13 @@ has_change (Terminate p) = true
 has_change event = false
 
 -- the millilitres that a reply adds to what was metered
-abbrev pub growth_told : Result Answer Refusal → ℕ
-growth_told (Ok (Flowed growth)) = growth
-growth_told (Ok (Sold seq growth)) = growth
-growth_told (Ok (Drawn growth)) = growth
-growth_told reply = 0
+abbrev pub growth_in_reply : Result Answer Refusal → ℕ
+growth_in_reply (Ok (Flowed growth)) = growth
+growth_in_reply (Ok (Sold seq growth)) = growth
+growth_in_reply (Ok (Drawn growth)) = growth
+growth_in_reply reply = 0
 
 -- the cents that a reply clears
-abbrev pub cents_told : Result Answer Refusal → ℕ
-cents_told (Ok (Cleared cents)) = cents
-cents_told reply = 0
+abbrev pub cents_in_reply : Result Answer Refusal → ℕ
+cents_in_reply (Ok (Cleared cents)) = cents
+cents_in_reply reply = 0

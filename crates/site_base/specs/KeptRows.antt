@@ -6,16 +6,16 @@ use Rattle.site_base.specs.declared.actor.Actor.{Actor}
 use Rattle.site_base.specs.declared.answer.Answer.{Answer}
 use Rattle.site_base.specs.declared.answer.Answer.TheVariants as answers
 use Rattle.site_base.specs.declared.event.Event.{Event}
-use Rattle.site_base.specs.declared.kept.Figures.{Figures}
-use Rattle.site_base.specs.declared.kept.KeptReply.{KeptReply}
-use Rattle.site_base.specs.declared.kept.KeptReply.TheVariants.{Refused, Done, Calling, Start}
-use Rattle.site_base.specs.declared.kept.KeptReply.TheVariants.{Flowed, HungUp, NoSale, Sold}
-use Rattle.site_base.specs.declared.kept.KeptReply.TheVariants.{Stopped, Ending, Locked, Unlocked}
-use Rattle.site_base.specs.declared.kept.KeptReply.TheVariants.{Cleared, ShiftClosed, Drawn}
-use Rattle.site_base.specs.declared.kept.KeptReply.TheVariants.{PointIs, TransactionIs, ProductIs}
-use Rattle.site_base.specs.declared.kept.KeptReply.TheVariants.{SiteIs}
-use Rattle.site_base.specs.declared.kept.PointMarks.{PointMarks}
-use Rattle.site_base.specs.declared.kept.SaleMarks.{SaleMarks}
+use Rattle.site_base.specs.declared.kept_row.Figures.{Figures}
+use Rattle.site_base.specs.declared.kept_row.KeptReply.{KeptReply}
+use Rattle.site_base.specs.declared.kept_row.KeptReply.TheVariants.{Refused, Done, Calling, Start}
+use Rattle.site_base.specs.declared.kept_row.KeptReply.TheVariants.{Flowed, HungUp, NoSale, Sold}
+use Rattle.site_base.specs.declared.kept_row.KeptReply.TheVariants.{Stopped, Ending, Locked, Unlocked}
+use Rattle.site_base.specs.declared.kept_row.KeptReply.TheVariants.{Cleared, ShiftClosed, Drawn}
+use Rattle.site_base.specs.declared.kept_row.KeptReply.TheVariants.{PointIs, TransactionIs, ProductIs}
+use Rattle.site_base.specs.declared.kept_row.KeptReply.TheVariants.{SiteIs}
+use Rattle.site_base.specs.declared.kept_row.PointMarks.{PointMarks}
+use Rattle.site_base.specs.declared.kept_row.SaleMarks.{SaleMarks}
 use Rattle.site_base.specs.declared.refusal.Refusal.{Refusal}
 use Rattle.site_base.specs.declared.row.Row.{Row}
 use Rattle.site_base.specs.declared.state.Preset.{Preset}
@@ -43,9 +43,9 @@ figures_of v = record {
 }
 
 -- the figures that a reply adds to those kept
-abbrev pub figures_told : Result Answer Refusal → List Figures
-figures_told (Ok (answers.ProductIs v)) = figures_of v ∷ []
-figures_told reply = []
+abbrev pub figures_in_reply : Result Answer Refusal → List Figures
+figures_in_reply (Ok (answers.ProductIs v)) = figures_of v ∷ []
+figures_in_reply reply = []
 
 abbrev pub kept_point : PointView → KeptReply
 kept_point v =

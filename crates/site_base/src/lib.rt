@@ -8,7 +8,7 @@ mod answer;
 mod config;
 mod counted;
 mod event;
-mod kept;
+mod kept_row;
 mod limits;
 mod listing;
 mod memory;
@@ -36,7 +36,7 @@ pub use counted::Counted;
 pub use event::Event;
 pub use limits::{
     GREATEST_CENTS, GREATEST_PRESET, GREATEST_PRICE, GREATEST_READING, GREATEST_ROWS, GREATEST_SEQ,
-    GREATEST_SHIFT, GROWTH_LIMIT, NAME_OCTETS, NOZZLE_CELLS, NOZZLES, POINT_CELLS, POINTS,
+    GREATEST_SHIFT, GROWTH_LIMIT, NAME_OCTETS, NOZZLE_CELLS, NOZZLES, PIECE_OCTETS, POINT_CELLS, POINTS,
     PRODUCT_CELLS, PRODUCTS, REPLACEMENT_LIMIT, TILL_CELLS, TILLS, UNPAID_LIMIT,
 };
 pub use listing::Listing;
@@ -46,7 +46,7 @@ pub use point_set::PointSet;
 pub use prices::PriceBook;
 pub use product_name::ProductName;
 pub use refusal::{NoRow, Refusal};
-pub use row::{Placed, Reply, Row, cents_told, growth_told};
+pub use row::{Placed, Reply, Row, cents_in_reply, growth_in_reply};
 pub use rows::Rows;
 pub use sale::SaleId;
 pub use signing::{SignChange, sign_change};
@@ -55,4 +55,4 @@ pub use table::place_of;
 pub use totals::Totals;
 pub use transfer::{ReadFault, WriteFault, read_piece, write_whole};
 pub use view::{PointView, ProductView, SiteView, TransactionView};
-pub use words::write_reply;
+pub use words::{refusal_name, write_reply};

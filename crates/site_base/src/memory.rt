@@ -4,7 +4,7 @@ use std::alloc::{AllocError, AllocFailed};
 use std::error::Error;
 use std::fmt;
 
-/// The allocator refused a growth that the call needed. It is answered only where that happened in
+/// An allocation that the call needed failed. It is answered only where that happened in
 /// the call itself.
 #[derive(Clone, Copy, Debug, PartialEq, Eq)]
 pub struct NoMemory;

@@ -122,7 +122,7 @@ impl Refusal {
 pub enum NoRow {
     /// The history has as many rows as the site file allows.
     BookFull,
-    /// A growth was refused.
+    /// An allocation failed.
     NoMemory,
 }
 

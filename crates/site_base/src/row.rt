@@ -1,7 +1,7 @@
 //! The rows of the site's history.
 
 ghost use Rattle.std.specs.Prelude.{◌≡◌};
-ghost use Rattle.site_base.specs.Events.{growth_told, cents_told};
+ghost use Rattle.site_base.specs.Events.{growth_in_reply, cents_in_reply};
 
 use crate::actor::Actor;
 use crate::answer::Answer;
@@ -12,8 +12,8 @@ use crate::refusal::Refusal;
 pub type Reply = Result<Answer, Refusal>;
 
 /// The millilitres that the reply adds to what was metered: the growth of a report that was taken.
-pub fn growth_told(reply: &Reply) -> u64
-    ensures { result ≡ growth_told reply.now }
+pub fn growth_in_reply(reply: &Reply) -> u64
+    ensures { result ≡ growth_in_reply reply.now }
 {
     match reply {
         Ok(Answer::Flowed(growth)) => *growth,
@@ -24,8 +24,8 @@ pub fn growth_told(reply: &Reply) -> u64
 }
 
 /// The cents that the reply clears.
-pub fn cents_told(reply: &Reply) -> u64
-    ensures { result ≡ cents_told reply.now }
+pub fn cents_in_reply(reply: &Reply) -> u64
+    ensures { result ≡ cents_in_reply reply.now }
 {
     match reply {
         Ok(Answer::Cleared(cents)) => cents.get(),

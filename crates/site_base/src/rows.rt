@@ -3,9 +3,9 @@
 ghost use Rattle.std.specs.Prelude.{◌≡◌, ◌+◌, ◌<◌, ◌≤◌, [], ◌∷◌, ◌++◌, length, slice_get, ◌==◌};
 ghost use Rattle.std.specs.Prelude.{OnOk};
 ghost use Rattle.std.specs.Prelude.{vec_capacity};
-ghost use Rattle.site_base.specs.KeptRows.{figures_told};
+ghost use Rattle.site_base.specs.KeptRows.{figures_in_reply};
 
-use crate::kept::{Figures, KeptRow, figures_told};
+use crate::kept_row::{Figures, KeptRow, figures_in_reply};
 use crate::memory::NoMemory;
 use crate::row::{Reply, Row};
 use std::alloc::Global;
@@ -104,10 +104,10 @@ impl Rows {
 /// reserved.
 fn put_figures(figures: &mut Vec<Figures>, reply: &Reply)
     requires { length figures.old.items < vec_capacity figures.old }
-    ensures figures { figures.new.items ≡ figures.old.items ++ figures_told reply.now }
+    ensures figures { figures.new.items ≡ figures.old.items ++ figures_in_reply reply.now }
     ensures capacity { vec_capacity figures.new ≡ vec_capacity figures.old }
 {
-    match figures_told(reply) {
+    match figures_in_reply(reply) {
         Some(told) => figures.push_reserved(told),
         None => {}
     }

@@ -210,34 +210,45 @@ impl fmt::Display for Answer {
 /// The refusal's number, its name, and the detail that it carries: `11 AssignedToOther(2)`.
 impl fmt::Display for Refusal {
     fn fmt<W: fmt::Write>(&self, f: &mut fmt::Formatter<W>) -> fmt::Result {
-        write!(f, "{} ", self.number())?;
-        match self {
-            Refusal::NotSignedOn => f.write_str("NotSignedOn"),
-            Refusal::SignedOn => f.write_str("SignedOn"),
-            Refusal::NoSuchPoint => f.write_str("NoSuchPoint"),
-            Refusal::NoSuchNozzle => f.write_str("NoSuchNozzle"),
-            Refusal::NoSuchProduct => f.write_str("NoSuchProduct"),
-            Refusal::NoSuchTransaction => f.write_str("NoSuchTransaction"),
-            Refusal::NotManager => f.write_str("NotManager"),
-            Refusal::BadPrice => f.write_str("BadPrice"),
-            Refusal::BadPreset => f.write_str("BadPreset"),
-            Refusal::WrongState(state) => write!(f, "WrongState({state})"),
-            Refusal::AssignedToOther(till) => write!(f, "AssignedToOther({})", till.get()),
-            Refusal::NotYours => f.write_str("NotYours"),
-            Refusal::NotYourPoint => f.write_str("NotYourPoint"),
-            Refusal::WrongNozzle(nozzle) => write!(f, "WrongNozzle({})", nozzle.get()),
-            Refusal::BufferFull => f.write_str("BufferFull"),
-            Refusal::SequenceSpent => f.write_str("SequenceSpent"),
-            Refusal::MeterGap(expected) => write!(f, "MeterGap({})", expected.get()),
-            Refusal::MeterBack(last) => write!(f, "MeterBack({})", last.get()),
-            Refusal::MeterJump => f.write_str("MeterJump"),
-            Refusal::LockedByOther(till) => write!(f, "LockedByOther({})", till.get()),
-            Refusal::NotLocked => f.write_str("NotLocked"),
-            Refusal::AlreadyCleared(till) => write!(f, "AlreadyCleared({})", till.get()),
-            Refusal::Ending => f.write_str("Ending"),
-            Refusal::ShiftsSpent => f.write_str("ShiftsSpent"),
-            Refusal::MeterSpent => f.write_str("MeterSpent"),
+        let number = self.number();
+        write!(f, "{number} {}", refusal_name(number).unwrap_or(""))?;
+        match (self, self.detail()) {
+            (Refusal::WrongState(state), _) => write!(f, "({state})"),
+            (_, Some(detail)) => write!(f, "({detail})"),
+            (_, None) => Ok(()),
         }
+    }
+}
+
+/// The name of the refusal of this number, 1 to 25; None for another number.
+pub fn refusal_name(number: u8) -> Option<&'static str> {
+    match number {
+        1 => Some("NotSignedOn"),
+        2 => Some("SignedOn"),
+        3 => Some("NoSuchPoint"),
+        4 => Some("NoSuchNozzle"),
+        5 => Some("NoSuchProduct"),
+        6 => Some("NoSuchTransaction"),
+        7 => Some("NotManager"),
+        8 => Some("BadPrice"),
+        9 => Some("BadPreset"),
+        10 => Some("WrongState"),
+        11 => Some("AssignedToOther"),
+        12 => Some("NotYours"),
+        13 => Some("NotYourPoint"),
+        14 => Some("WrongNozzle"),
+        15 => Some("BufferFull"),
+        16 => Some("SequenceSpent"),
+        17 => Some("MeterGap"),
+        18 => Some("MeterBack"),
+        19 => Some("MeterJump"),
+        20 => Some("LockedByOther"),
+        21 => Some("NotLocked"),
+        22 => Some("AlreadyCleared"),
+        23 => Some("Ending"),
+        24 => Some("ShiftsSpent"),
+        25 => Some("MeterSpent"),
+        _ => None,
     }
 }
 

@@ -21,7 +21,7 @@ use Rattle.written_site.specs.SiteStep.{accepted_site, reply_to, site_after, sit
 use Rattle.written_site.specs.RowWords.{signing_said, signing_of}
 use Rattle.written_site.proofs.RowWords.{of_row}
 use Rattle.written_site.proofs.SigningLaws.{signed_row}
-use Rattle.site_book.specs.Signed.{AreTills, IsTillActor, tills_on, tills_with}
+use Rattle.site_book.specs.SignedOn.{AreTills, IsTillActor, tills_on, tills_with}
 
 -- ---- how many
 

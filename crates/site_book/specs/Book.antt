@@ -12,7 +12,7 @@ use Rattle.written_site.specs.SiteState.{SiteState, opening}
 use Rattle.written_site.specs.SiteStep.{reply_to}
 use Rattle.written_site.specs.SiteRun.{row_to, site_of_rows, IsLegal}
 use Rattle.written_site.specs.FitLaws.{AreReadable}
-use Rattle.site_book.specs.Signed.{AreTills, IsTillActor, tills_on}
+use Rattle.site_book.specs.SignedOn.{AreTills, IsTillActor, tills_on}
 
 -- a configuration, and the rows so far
 pub record Book : Type 0 where

@@ -1,7 +1,7 @@
 -- The figures of a book: those of its rows.
 use Rattle.std.specs.Prelude.{◌≡◌, ℕ, length}
 use Rattle.site_base.specs.declared.totals.Totals.{Totals}
-use Rattle.site_base.specs.Events.{cents_told, growth_told}
+use Rattle.site_base.specs.Events.{cents_in_reply, growth_in_reply}
 use Rattle.written_site.specs.RowWords.{total}
 use Rattle.written_site.specs.ShiftFigures.{product_totals, till_totals}
 use Rattle.site_book.specs.Book.{Book, site_of_book}
@@ -24,8 +24,8 @@ cents_in totals = total (λ t. t.2) totals.tills
 -- The totals add up to what the book's rows tell: the products' metered volumes to the growths, the
 -- tills' cents to those of the Cleared answers.
 pub record AddUp (b : Book) (totals : Totals) : Type 0 where
-  pub metered : metered_in totals ≡ total (λ r. growth_told r.reply) b.rows
-  pub cleared : cents_in totals ≡ total (λ r. cents_told r.reply) b.rows
+  pub metered : metered_in totals ≡ total (λ r. growth_in_reply r.reply) b.rows
+  pub cleared : cents_in totals ≡ total (λ r. cents_in_reply r.reply) b.rows
 
 -- so do all figures of the book
 abbrev pub DoFiguresAddUp : Book → Type 0

@@ -1,4 +1,4 @@
 pub mod Book
 pub mod Changes
 pub mod Figures
-pub mod Signed
+pub mod SignedOn

@@ -2,13 +2,13 @@
 
 ghost use Rattle.std.specs.Prelude.{◌≡◌, ◌+◌, ◌<◌, ◌≤◌, [], ◌∷◌, ◌++◌, length, slice_get, true, false, Ok, IfOk, IfSome, OnOk, OnErr, OnSome, IsErrOf, is_some};
 ghost use Rattle.site_base.specs.declared.limits.TheConstants.{GREATEST_ROWS, GROWTH_LIMIT, TILLS};
-ghost use Rattle.site_base.specs.Events.{growth_told};
-ghost use Rattle.site_core.specs.Shown.{HasRoom};
+ghost use Rattle.site_base.specs.Events.{growth_in_reply};
+ghost use Rattle.site_core.specs.Views.{HasRoom};
 ghost use Rattle.written_site.specs.SiteRun.{IsLegal};
-ghost use Rattle.written_site.specs.SiteState.{is_signed_on, opening, point_shown};
+ghost use Rattle.written_site.specs.SiteState.{is_signed_on, opening, view_point};
 ghost use Rattle.written_site.specs.SiteStep.{Steps};
 ghost use Rattle.written_site.specs.Sound.{InRange};
-ghost use Rattle.site_book.specs.Signed.{IsTillActor};
+ghost use Rattle.site_book.specs.SignedOn.{IsTillActor};
 ghost use Rattle.site_book.specs.Book.{AreRowsInRange, book_reply, is_full, site_of_book, with_row_of};
 
 use crate::tills::tills_with;
@@ -57,7 +57,7 @@ impl SiteBook {
     }
 
     /// One event of one actor, as one row. `BookFull` comes exactly where the book has as many rows
-    /// as its configuration allows, or more, then `NoMemory` where a growth is refused; neither
+    /// as its configuration allows, or more, then `NoMemory` where an allocation fails; neither
     /// makes a row or changes the site. Else the row has the written step's reply, and is answered
     /// with its place. A SignOn that is accepted reserves the row of the till's sign-off.
     #[inline(always)]
@@ -65,7 +65,7 @@ impl SiteBook {
         ensures row { OnOk result (self.new ≡ with_row_of self.old actor event) }
         ensures reply { IfOk result (λ placed. placed.reply ≡ book_reply self.old actor event) }
         ensures place { IfOk result (λ placed. placed.place ≡ length self.old.rows) }
-        ensures growth { IfOk result (λ placed. growth_told placed.reply ≤ GROWTH_LIMIT) }
+        ensures growth { IfOk result (λ placed. growth_in_reply placed.reply ≤ GROWTH_LIMIT) }
         ensures room { OnOk result (is_full self.old ≡ false) }
         ensures full { IsErrOf result NoRow.BookFull → is_full self.old ≡ true }
         ensures told_full { is_full self.old ≡ true → IsErrOf result NoRow.BookFull }
@@ -122,7 +122,7 @@ impl SiteBook {
 
     /// The point as a read shows it. None where the site has no such point.
     pub fn point(&self, p: FpNo) -> Option<PointView>
-        ensures { result ≡ point_shown (site_of_book self.now) p }
+        ensures { result ≡ view_point (site_of_book self.now) p }
     {
         self.site.point(p)
     }

@@ -3,7 +3,7 @@
 ghost use Rattle.std.specs.Prelude.{◌≡◌, length, IfOk};
 ghost use Rattle.site_book.specs.Figures.{AddUp, AreFiguresOf, DoFiguresAddUp};
 
-use crate::auditing::audit_rows;
+use crate::audit::audit_rows;
 use crate::book::SiteBook;
 use site_base::{NoMemory, Totals};
 use std::alloc::Global;

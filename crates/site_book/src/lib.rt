@@ -2,11 +2,11 @@
 //! replays it and counts every figure anew; the counter desk holds it under its lock.
 #![tactic(auto)]
 
-mod auditing;
+mod audit;
 mod book;
 mod changes;
 mod figures;
 mod tills;
 
-pub use auditing::audit_rows;
+pub use audit::audit_rows;
 pub use book::SiteBook;

@@ -1,7 +1,7 @@
 //! How many tills are signed on.
 
 ghost use Rattle.std.specs.Prelude.{◌≡◌, ◌<◌, ◌^◌};
-ghost use Rattle.site_book.specs.Signed.{tills_with};
+ghost use Rattle.site_book.specs.SignedOn.{tills_with};
 
 use site_base::SignChange;
 

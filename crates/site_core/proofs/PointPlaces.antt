@@ -6,7 +6,7 @@ use Rattle.std.specs.List.{list_any}
 use Rattle.std.specs.Prelude.{nat_eq}
 use Rattle.site_base.specs.Configured.{none_alike}
 use Rattle.site_base.specs.Table.{IsPlace}
-use Rattle.fuelling_point.specs.Kept.{Facts}
+use Rattle.fuelling_point.specs.KeptPoints.{Facts}
 use Rattle.written_site.specs.Sound.{numbers_of}
 
 -- the row of point p stands first, or one further on than in the rest

@@ -11,7 +11,7 @@ use Rattle.site_base.specs.declared.refusal.Refusal.TheVariants.{NotYourPoint}
 use Rattle.site_base.specs.Table.{with_row}
 use Rattle.fuelling_point.specs.declared.event.PointEvent.{PointEvent}
 use Rattle.fuelling_point.specs.declared.event.PointEvent.TheVariants as points
-use Rattle.fuelling_point.specs.Kept.{Facts}
+use Rattle.fuelling_point.specs.KeptPoints.{Facts}
 use Rattle.fuelling_point.specs.PointChecks.{refusal_of}
 use Rattle.fuelling_point.specs.Step.{after, step_of}
 use Rattle.meters.specs.Nozzles.{Nozzle, has_nozzle, reading_of, with_last}

@@ -5,7 +5,7 @@ use Rattle.fuelling_point.specs.declared.step.PointStep.{PointStep}
 use Rattle.fuelling_point.specs.declared.step.PointStep.TheVariants.{Sold}
 use Rattle.written_site.specs.SiteState.{SiteState}
 use Rattle.written_site.specs.SiteStep.{step_told}
-use Rattle.site_core.specs.Shown.{Room, room_sold}
+use Rattle.site_core.specs.Views.{Room, room_sold}
 
 pub room_stays : (s : SiteState) (p growth : ℕ) (step : PointStep) (answer : Answer) (room : Room)
     → ((n volume price : ℕ) (prepaid : Option ℕ) → step ≡ Sold n volume price prepaid → ⊥)

@@ -1,9 +1,9 @@
 pub mod Tills
-pub mod Shown
+pub mod Views
 pub mod SiteParts
-pub mod Telling
+pub mod Answers
 pub mod Accounts
 pub mod Endings
 pub mod FoundPoints
-pub mod Performed
+pub mod Performance
 pub mod Ready

@@ -27,11 +27,11 @@ use Rattle.site_core.specs.declared.ready.Ready.{Ready}
 use Rattle.site_core.specs.declared.ready.Ready.TheVariants.{Tell, SignOn, SignOff, Command, Take, GiveBack, Terminate, Lift, Flow, HangUp, Offline, ReplaceMeter, Ask, SetPrice, CloseShift}
 use Rattle.site_core.specs.Accounts.{FitsGrant}
 use Rattle.site_core.specs.Endings.{MayEnd, draws_with, sales_with}
-use Rattle.site_core.specs.Performed.{MayPerform, done_at, step_at}
-use Rattle.site_core.specs.Shown.{HasRoom, Room, room_left, room_sold}
+use Rattle.site_core.specs.Performance.{MayPerform, done_at, step_at}
+use Rattle.site_core.specs.Views.{HasRoom, Room, room_left, room_sold}
 use Rattle.site_core.specs.declared.site_parts.SiteParts.{SiteParts}
 use Rattle.site_core.specs.SiteParts.{room_of, site_of}
-use Rattle.site_core.specs.Telling.{delivers}
+use Rattle.site_core.specs.Answers.{delivers}
 
 -- the site with this last reading of the point's nozzle
 abbrev pub read_at : SiteState → ℕ → ℕ → ℕ → SiteState

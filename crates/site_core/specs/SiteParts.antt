@@ -1,7 +1,7 @@
 -- What the site keeps, as contracts see it.
 use Rattle.site_core.specs.declared.site_parts.SiteParts.{SiteParts}
 use Rattle.written_site.specs.SiteState.{SiteState}
-use Rattle.site_core.specs.Shown.{Room}
+use Rattle.site_core.specs.Views.{Room}
 
 abbrev pub site_of : SiteParts → SiteState
 site_of parts = record {

@@ -150,7 +150,7 @@ impl Accounts {
     }
 
     /// The millilitres that tests drew of a product in all shifts.
-    pub fn drawn(&self, q: ProductNo) -> u64
+    pub fn drawn_volume(&self, q: ProductNo) -> u64
         ensures { result ≡ drawn_of q self.now.drawn }
     {
         self.drawn[q.cell()]
@@ -158,11 +158,11 @@ impl Accounts {
 
     /// A figure summed over the sales themselves, which fits in 64 bits: no sum that is kept is
     /// read.
-    pub fn counted(&self, figure: &Figure) -> u64
+    pub fn recount(&self, figure: &Figure) -> u64
         requires { figure_of figure.now self.now.sales < 2 ^ 64 }
         ensures { result ≡ figure_of figure.now self.now.sales }
     {
-        self.sales.counted(figure)
+        self.sales.recount(figure)
     }
 
     /// The millilitres that tests drew of a product in all shifts, summed over the shifts. They fit
@@ -172,7 +172,7 @@ impl Accounts {
         ensures { result ≡ drawn_of q self.now.drawn }
     {
         let _ = q.get();
-        self.shifts.drawn(q)
+        self.shifts.drawn_volume(q)
     }
 
     /// Adds a sale of point p in the open shift, and answers its number there. The conditions are

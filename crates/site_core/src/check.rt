@@ -26,13 +26,13 @@ impl SiteParts {
         ensures { Checks (site_of self.now) actor event.now result }
     {
         match actor {
-            Actor::Till(t) => self.check_asked(t, event),
-            Actor::Dispenser(d) => self.check_reported(d, event),
+            Actor::Till(t) => self.check_till(t, event),
+            Actor::Dispenser(d) => self.check_dispenser(d, event),
         }
     }
 
     #[inline(always)]
-    fn check_asked(&self, t: TillNo, event: &Event) -> Result<Ready, Refusal>
+    fn check_till(&self, t: TillNo, event: &Event) -> Result<Ready, Refusal>
         requires { Sound (site_of self.now) }
         ensures { Checks (site_of self.now) (Till t) event.now result }
     {
@@ -67,7 +67,7 @@ impl SiteParts {
         }
     }
 
-    fn check_reported(&self, d: FpNo, event: &Event) -> Result<Ready, Refusal>
+    fn check_dispenser(&self, d: FpNo, event: &Event) -> Result<Ready, Refusal>
         requires { Sound (site_of self.now) }
         ensures { Checks (site_of self.now) (Dispenser d) event.now result }
     {

@@ -3,7 +3,7 @@
 ghost use Rattle.std.specs.Prelude.{◌≡◌, is_some, IfSome};
 ghost use Rattle.transaction_buffer.specs.FoundSales.{IsPlaced, key_of};
 ghost use Rattle.transaction_buffer.specs.Sales.{has_sale};
-ghost use Rattle.written_site.specs.SiteState.{key_named, open_shift, point_shown, price_of, sale_shown};
+ghost use Rattle.written_site.specs.SiteState.{key_named, open_shift, view_point, price_of, view_sale};
 ghost use Rattle.written_site.specs.Sound.{Sound};
 ghost use Rattle.written_site.specs.Volumes.{product_view};
 ghost use Rattle.site_core.specs.SiteParts.{site_of};
@@ -26,7 +26,7 @@ impl SiteParts {
         let payable = self.accounts.sum(q, Status::Payable);
         let locked = self.accounts.sum(q, Status::Locked);
         let cleared = self.accounts.sum(q, Status::Cleared);
-        let adjusted = self.accounts.drawn(q);
+        let adjusted = self.accounts.drawn_volume(q);
         ProductView {
             price,
             metered,
@@ -39,8 +39,8 @@ impl SiteParts {
     }
 
     /// The point as a read shows it.
-    pub fn point_shown(&self, p: FpNo) -> Option<PointView>
-        ensures { result ≡ point_shown (site_of self.now) p }
+    pub fn view_point(&self, p: FpNo) -> Option<PointView>
+        ensures { result ≡ view_point (site_of self.now) p }
     {
         match self.points.find(p) {
             Some(point) => Some(PointView {
@@ -52,8 +52,8 @@ impl SiteParts {
     }
 
     /// The transaction that a till calls so, as a read shows it.
-    pub fn sale_shown(&self, p: FpNo, id: &SaleId) -> Option<TransactionView>
-        ensures { result ≡ sale_shown (site_of self.now) p id.now }
+    pub fn view_sale(&self, p: FpNo, id: &SaleId) -> Option<TransactionView>
+        ensures { result ≡ view_sale (site_of self.now) p id.now }
     {
         match self.find_sale(p, id) {
             Some(sale) => Some(self.accounts.view(&sale)),

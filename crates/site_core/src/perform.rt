@@ -9,11 +9,11 @@ ghost use Rattle.written_site.specs.SiteStep.{accepted_site, ends_at_sign_off, h
 ghost use Rattle.site_core.specs.Ready.{Does, MayDo};
 ghost use Rattle.site_core.specs.SiteParts.{room_of, site_of};
 
-use crate::ending::give_back;
+use crate::endings::give_back;
 use crate::points::{FoundPoint, Points};
 use crate::ready::Ready;
 use crate::site_parts::SiteParts;
-use crate::telling::told;
+use crate::answers::answer_to;
 use fuelling_point::PointEvent;
 use site_base::{Answer, FpNo, Millilitres, NozzleNo, TillNo};
 use till_claims::Claims;
@@ -41,7 +41,7 @@ impl SiteParts {
                 self.claims.free(point.number);
             }
             Ready::Terminate(point) => return self.terminate(point),
-            Ready::Lift { point, event } => return told(&self.points.perform(point, *event)),
+            Ready::Lift { point, event } => return answer_to(&self.points.perform(point, *event)),
             Ready::Flow {
                 point,
                 nozzle,
@@ -83,7 +83,7 @@ impl SiteParts {
         ensures room { room_of self.new ≡ room_of self.old }
     {
         self.accounts.release_all(t);
-        let_go(&self.points, &mut self.claims, t);
+        end_holds(&self.points, &mut self.claims, t);
         self.signed_on.remove(t);
     }
 
@@ -94,7 +94,7 @@ impl SiteParts {
     {
         let step = self.points.perform(point, PointEvent::Terminate);
         give_back(&mut self.claims, point.number, &step);
-        told(&step)
+        answer_to(&step)
     }
 
     /// Fuel has flowed.
@@ -112,7 +112,7 @@ impl SiteParts {
             .points
             .perform(point, PointEvent::Flow { nozzle, growth });
         self.meters.advance(point.number, nozzle, reading);
-        told(&step)
+        answer_to(&step)
     }
 
     /// The nozzle is put back: a fuelling under way is over.
@@ -148,7 +148,7 @@ impl SiteParts {
 }
 
 /// Ends the till's holds of points that are closed, idle or calling. Every other hold stays.
-fn let_go(points: &Points, claims: &mut Claims, t: TillNo)
+fn end_holds(points: &Points, claims: &mut Claims, t: TillNo)
     ensures { claims.new ≡ holds_without points.now claims.old t }
 {
     for row in points.rows() {

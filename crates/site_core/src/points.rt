@@ -2,7 +2,7 @@
 
 ghost use Rattle.std.specs.Prelude.{◌≡◌, true, is_some, None, Some, IfSome, IfOk, OnOk, IfErr};
 ghost use Rattle.fuelling_point.specs.PointChecks.{refusal_of};
-ghost use Rattle.fuelling_point.specs.Kept.{point_view, FitsGrowth};
+ghost use Rattle.fuelling_point.specs.KeptPoints.{point_view, FitsGrowth};
 ghost use Rattle.fuelling_point.specs.Step.{step_of, after};
 ghost use Rattle.site_base.specs.Configured.{none_alike, same_point};
 ghost use Rattle.site_base.specs.Table.{IsPlace, row_of, with_row};
@@ -35,7 +35,7 @@ pub struct Points {
 
 impl Model for Points {
     ghost use Rattle.std.specs.Prelude.{ℕ, List, ◌≡◌, true, nat_eq};
-    ghost use Rattle.fuelling_point.specs.Kept.{Facts};
+    ghost use Rattle.fuelling_point.specs.KeptPoints.{Facts};
     ghost use Rattle.site_base.specs.Configured.{none_alike};
     ghost use Rattle.written_site.specs.Sound.{numbers_of};
 

@@ -1,7 +1,7 @@
 //! Lists of events, one after another.
 
 ghost use Rattle.std.specs.Prelude.{◌≡◌, ◌<◌, length, take, IfOk, OnOk, IfErr, vec_len, vec_capacity};
-ghost use Rattle.site_core.specs.Shown.{HasRoom};
+ghost use Rattle.site_core.specs.Views.{HasRoom};
 ghost use Rattle.written_site.specs.SiteRun.{replies_to, site_at_end};
 
 use crate::site::Site;
@@ -37,7 +37,7 @@ type Told = (
 );
 
 /// Takes the written step for each event in turn, from the site as it stands, and answers the
-/// replies. Where a growth is refused it stops: the events before that one are done, and the others
+/// replies. Where an allocation fails it stops: the events before that one are done, and the others
 /// aren't.
 pub fn run(
     alloc: Global,

@@ -2,12 +2,12 @@
 
 ghost use Rattle.std.specs.Prelude.{◌≡◌, ℕ, ◌≤◌, true, Ok, OnOk, OnErr, IfOk};
 ghost use Rattle.transaction_buffer.specs.Rooms.{room_at};
-ghost use Rattle.written_site.specs.SiteState.{opening, is_signed_on, point_shown, sale_shown};
+ghost use Rattle.written_site.specs.SiteState.{opening, is_signed_on, view_point, view_sale};
 ghost use Rattle.written_site.specs.ShiftFigures.{product_totals, till_totals};
 ghost use Rattle.site_core.specs.Accounts.{shift_row};
 ghost use Rattle.written_site.specs.SiteStep.{Steps};
 ghost use Rattle.written_site.specs.Sound.{Sound};
-ghost use Rattle.site_core.specs.Shown.{HasRoom, room_left};
+ghost use Rattle.site_core.specs.Views.{HasRoom, room_left};
 
 use crate::ranges::are_fit;
 use crate::site_parts::SiteParts;
@@ -31,7 +31,7 @@ impl Model for Site {
     ghost use Rattle.std.specs.FinMap as finite;
     ghost use Rattle.std.specs.FinSet as set;
     ghost use Rattle.transaction_buffer.specs.Codes.{sales_code};
-    ghost use Rattle.site_core.specs.Shown.{Seen};
+    ghost use Rattle.site_core.specs.Views.{Seen};
 
     ghost Value = { Seen };
 
@@ -112,9 +112,9 @@ impl Site {
 
     /// The transaction that a till calls so, as a read shows it. None where it isn't there.
     pub fn transaction(&self, p: FpNo, id: SaleId) -> Option<TransactionView>
-        ensures { result ≡ sale_shown self.now.site p id }
+        ensures { result ≡ view_sale self.now.site p id }
     {
-        self.parts.sale_shown(p, &id)
+        self.parts.view_sale(p, &id)
     }
 
     /// The figures of shift n, the open one's too: of each till its clears and their cents, of each
@@ -166,8 +166,8 @@ impl Site {
 
     /// The point as a read shows it. None where the site has no such point.
     pub fn point(&self, p: FpNo) -> Option<PointView>
-        ensures { result ≡ point_shown self.now.site p }
+        ensures { result ≡ view_point self.now.site p }
     {
-        self.parts.point_shown(p)
+        self.parts.view_point(p)
     }
 }

@@ -7,7 +7,7 @@ ghost use Rattle.written_site.specs.SiteState.{opening, is_signed_on};
 ghost use Rattle.written_site.specs.SiteStep.{Steps};
 ghost use Rattle.written_site.specs.Sound.{Sound};
 ghost use Rattle.site_core.specs.SiteParts.{site_of, room_of};
-ghost use Rattle.site_core.specs.Shown.{HasRoom, room_left};
+ghost use Rattle.site_core.specs.Views.{HasRoom, room_left};
 
 use crate::accounts::Accounts;
 use crate::points::Points;

@@ -7,7 +7,7 @@ use Rattle.std.specs.Cmp.Lexicographic.{slice_cmp}
 use Rattle.site_base.specs.Ranges.{is_between}
 use Rattle.site_file.specs.declared.key.Key.{Key}
 use Rattle.site_file.specs.declared.key.Key.TheVariants.{Rows, Managers, Product, Point, Number, Name, Price, Nozzles, Reading}
-use Rattle.site_file.specs.declared.printed.TheConstants.{PRINTED_OCTETS}
+use Rattle.site_file.specs.declared.printable.TheConstants.{PRINTED_OCTETS}
 
 -- a key as the file has it
 abbrev pub key_text : Key → List ℕ

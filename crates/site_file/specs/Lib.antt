@@ -2,5 +2,5 @@ pub mod ByNumber
 pub mod Faults
 pub mod Keys
 pub mod Laws
-pub mod Said
+pub mod Saying
 pub mod SiteFile

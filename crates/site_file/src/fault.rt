@@ -3,7 +3,7 @@
 ghost use Rattle.std.specs.Prelude.{◌≡◌};
 
 use crate::key::Key;
-use crate::printed::PrintedKey;
+use crate::printable::PrintedKey;
 use site_base::NoMemory;
 use std::alloc::{AllocError, AllocFailed};
 use std::fmt;
@@ -13,7 +13,7 @@ use thiserror::Error;
 /// printed by its number, and its key where it has one: `fault 72 product`.
 #[derive(Debug, Drop, Error)]
 pub enum ConfigFault {
-    /// The allocator refused a growth. It is answered only where that happened in the call itself.
+    /// An allocation failed. It is answered only where that happened in the call itself.
     NoMemory,
     /// The octets aren't UTF-8, or aren't TOML.
     NotToml,

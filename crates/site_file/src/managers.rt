@@ -3,7 +3,7 @@
 ghost use Rattle.std.specs.Prelude.{◌≡◌, [], nat_eq, option_map};
 ghost use Rattle.std.specs.List.{list_any};
 ghost use Rattle.toml.specs.View.{view, items_view};
-ghost use Rattle.site_file.specs.Said.{Gives};
+ghost use Rattle.site_file.specs.Saying.{Gives};
 ghost use Rattle.site_file.specs.SiteFile as spec;
 
 use crate::fault::ConfigFault;

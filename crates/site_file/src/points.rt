@@ -3,14 +3,14 @@
 ghost use Rattle.std.specs.Prelude.{◌≡◌, ◌≤◌, []};
 ghost use Rattle.toml.specs.View.{view, items_view, table_view};
 ghost use Rattle.site_file.specs.declared.key.Key.TheVariants as key;
-ghost use Rattle.site_file.specs.Said.{Gives};
+ghost use Rattle.site_file.specs.Saying.{Gives};
 ghost use Rattle.site_file.specs.SiteFile as spec;
 
 use crate::by_number::Products;
 use crate::fault::ConfigFault;
 use crate::key::Key;
-use crate::known::with_keys;
-use crate::values::{list_at, number_at, table, value_at, whole};
+use crate::unknown_keys::with_keys;
+use crate::values::{list_at, number_at, table, value_at, read_whole};
 use site_base::{
     FpNo, GREATEST_READING, Listing, Millilitres, NOZZLES, NozzleEntry, POINTS, PointEntry,
     ProductNo,
@@ -123,7 +123,7 @@ fn nozzle_of(alloc: Global, products: &Products, value: &Value) -> Result<Nozzle
 {
     let nozzle = table(value, Key::Nozzles)?;
     with_keys(alloc, nozzle, &[Key::Product, Key::Reading])?;
-    let number = whole(value_at(nozzle, Key::Product)?, Key::Product)?;
+    let number = read_whole(value_at(nozzle, Key::Product)?, Key::Product)?;
     let product = product_in(products, number)?;
     let reading = reading_of(nozzle)?;
     Ok(NozzleEntry { product, reading })

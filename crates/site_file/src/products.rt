@@ -4,13 +4,13 @@ ghost use Rattle.std.specs.Prelude.{◌≡◌, ◌≤◌, [], false, IfOk};
 ghost use Rattle.site_base.specs.Configured.{has_product};
 ghost use Rattle.toml.specs.View.{view, items_view, table_view};
 ghost use Rattle.site_file.specs.declared.key.Key.TheVariants as key;
-ghost use Rattle.site_file.specs.Said.{Gives};
+ghost use Rattle.site_file.specs.Saying.{Gives};
 ghost use Rattle.site_file.specs.SiteFile as spec;
 
 use crate::by_number::Products;
 use crate::fault::ConfigFault;
 use crate::key::Key;
-use crate::known::with_keys;
+use crate::unknown_keys::with_keys;
 use crate::values::{list_at, number_at, table, text, value_at};
 use site_base::{GREATEST_PRICE, Mills, PRODUCTS, ProductEntry, ProductName, ProductNo};
 use std::alloc::Global;

@@ -1,7 +1,7 @@
 //! The text of a site file.
 
 ghost use Rattle.toml.specs.View.{table_view};
-ghost use Rattle.site_file.specs.Said.{Gives};
+ghost use Rattle.site_file.specs.Saying.{Gives};
 ghost use Rattle.site_file.specs.SiteFile as spec;
 
 use crate::fault::ConfigFault;
@@ -13,7 +13,7 @@ use toml::Table;
 /// The site that a site file configures, or its first fault. Of a table its unknown keys come
 /// first, then its keys in the order of the site file's table: is one there, is it of its kind, in
 /// its range, not repeated, and is a nozzle's product there. Want of memory is answered only where
-/// a growth was refused in the call.
+/// an allocation failed in the call.
 #[tactic(auto, unfolding(crate::specs::SiteFile::config_of))]
 pub fn read_config(alloc: Global, octets: &[u8]) -> Result<SiteConfig, ConfigFault>
     ensures { Gives (λ c. c) result (spec.config_of octets.now) }

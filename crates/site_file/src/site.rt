@@ -2,12 +2,12 @@
 
 ghost use Rattle.std.specs.Prelude.{◌≡◌, ◌≤◌, option_map};
 ghost use Rattle.toml.specs.View.{view, table_view};
-ghost use Rattle.site_file.specs.Said.{Gives};
+ghost use Rattle.site_file.specs.Saying.{Gives};
 ghost use Rattle.site_file.specs.SiteFile as spec;
 
 use crate::fault::ConfigFault;
 use crate::key::Key;
-use crate::known::with_keys;
+use crate::unknown_keys::with_keys;
 use crate::managers::managers_of;
 use crate::points::points_of;
 use crate::products::products_of;

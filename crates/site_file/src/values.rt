@@ -4,7 +4,7 @@ ghost use Rattle.std.specs.Prelude.{◌≡◌, ◌≤◌, IfOk, option_map, stri
 ghost use Rattle.toml.specs.Data.{get_member};
 ghost use Rattle.toml.specs.View.{view, array_view, table_view};
 ghost use Rattle.site_file.specs.Keys.{key_text};
-ghost use Rattle.site_file.specs.Said.{Gives};
+ghost use Rattle.site_file.specs.Saying.{Gives};
 ghost use Rattle.site_file.specs.SiteFile as spec;
 
 use crate::fault::ConfigFault;
@@ -32,7 +32,7 @@ pub fn value_at(table: &Table, key: Key) -> Result<&Value, ConfigFault>
 }
 
 /// A whole number.
-pub fn whole(value: &Value, key: Key) -> Result<i64, ConfigFault>
+pub fn read_whole(value: &Value, key: Key) -> Result<i64, ConfigFault>
     ensures { Gives (λ z. z) result (spec.whole key (view value.now)) }
 {
     match value {
@@ -72,7 +72,7 @@ pub fn table(value: &Value, key: Key) -> Result<&Table, ConfigFault>
 }
 
 /// A number from low to high.
-pub fn within(number: i64, key: Key, low: u64, high: u64) -> Result<u64, ConfigFault>
+pub fn read_within(number: i64, key: Key, low: u64, high: u64) -> Result<u64, ConfigFault>
     ensures said { Gives (λ n. n) result (spec.in_range key low high number) }
     ensures range { IfOk result (λ n. (low ≤ n) × (n ≤ high)) }
 {
@@ -94,8 +94,8 @@ pub fn number_in(value: &Value, key: Key, low: u64, high: u64) -> Result<u64, Co
     ensures said { Gives (λ n. n) result (spec.number_in key low high (view value.now)) }
     ensures range { IfOk result (λ n. (low ≤ n) × (n ≤ high)) }
 {
-    let number = whole(value, key)?;
-    within(number, key, low, high)
+    let number = read_whole(value, key)?;
+    read_within(number, key, low, high)
 }
 
 /// The whole number from low to high at a key, which must be there.

@@ -19,7 +19,7 @@ use Rattle.till_session.specs.declared.fault.SessionFault.{SessionFault}
 use Rattle.till_session.specs.declared.fault.SessionFault.TheVariants as faults
 use Rattle.till_session.specs.declared.fault.TalkFault.{TalkFault}
 use Rattle.till_session.specs.declared.fault.TalkFault.TheVariants.{OriginatorChanged}
-use Rattle.till_session.specs.declared.session.TheConstants.{PIECE_OCTETS}
+use Rattle.site_base.specs.declared.limits.TheConstants.{PIECE_OCTETS}
 use Rattle.till_session.specs.Counters.{Asked, outcome_given, request_asked}
 use Rattle.till_session.specs.Course.{EndsStream, GoesOn, IsCut, IsOver, TalkState, Talked, ends_talk, silent}
 use Rattle.till_session.specs.Ends.{Conversed, as_session_fault, is_early}

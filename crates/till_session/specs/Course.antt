@@ -38,7 +38,7 @@ abbrev pub IsSpokenBy : Actor → Option (List ℕ) → Type 0
 IsSpokenBy (Till t) peer = IsOwn (Some t) peer
 IsSpokenBy (Dispenser p) peer = Unit {0}
 
--- it ends a session in the middle of a reply: a refused growth, a writer that takes no more
+-- it ends a session in the middle of a reply: a failed allocation, a writer that takes no more
 abbrev pub ends_early : SessionFault → Bool
 ends_early faults.NoMemory = true
 ends_early (faults.Write f) = true

@@ -11,7 +11,7 @@ use Rattle.till_session.specs.declared.fault.SessionFault.TheVariants as faults
 use Rattle.till_session.specs.declared.fault.TalkFault.{TalkFault}
 use Rattle.till_session.specs.declared.fault.TalkFault.TheVariants as talk
 use Rattle.till_session.specs.declared.session.SessionEnd.{SessionEnd}
-use Rattle.till_session.specs.declared.session.TheConstants.{PIECE_OCTETS}
+use Rattle.site_base.specs.declared.limits.TheConstants.{PIECE_OCTETS}
 use Rattle.till_session.specs.Counters.{Asked, IsLeft, is_the_one, outcome_given, request_asked, rows_made, signed_on_after}
 use Rattle.till_session.specs.Course.{TalkState}
 use Rattle.till_session.specs.Text.{session_fault, session_requests, session_text}

@@ -8,7 +8,7 @@ use std::io::{Read, Write};
 /// Why a listener gave no connection.
 #[derive(Clone, Copy, Debug, PartialEq, Eq)]
 pub enum NoConnection {
-    /// A growth was refused.
+    /// An allocation failed.
     NoMemory,
     /// The listener failed.
     Failed,

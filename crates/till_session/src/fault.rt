@@ -41,7 +41,7 @@ impl TalkFault {
 /// Why a session ended.
 #[derive(Clone, Copy, Debug, PartialEq, Eq, Error)]
 pub enum SessionFault {
-    /// A growth was refused.
+    /// An allocation failed.
     #[error("out of memory")]
     NoMemory,
     /// The reader gave no more.

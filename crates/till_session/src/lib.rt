@@ -7,20 +7,17 @@
 #![tactic(auto)]
 
 mod accept;
-mod connections;
 mod counter;
 mod desk_counter;
 mod fault;
-mod faulty;
 mod server;
 mod session;
 mod talk;
+pub mod testing;
 
 pub use accept::{Accept, NoConnection};
-pub use connections::Connections;
 pub use counter::Counter;
 pub use desk_counter::DeskCounter;
 pub use fault::{SessionFault, TalkFault};
-pub use faulty::Faulty;
 pub use server::{SESSIONS, serve};
-pub use session::{PIECE_OCTETS, Session, SessionEnd};
+pub use session::{Session, SessionEnd};

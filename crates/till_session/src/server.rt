@@ -85,7 +85,7 @@ type Started = Option<PromisedHandle<Vec<NumberedEnd>, DrawnEnds>>;
 /// hands the share back. The ends come in the order of the sessions' numbers, one for each that was
 /// drawn: that of a session of so many turns, or of a connection that the listener didn't give, with
 /// `Accept` or `NoMemory`. A worker
-/// that can't be started, or finds no memory for its share or its ends, draws none. A growth that
+/// that can't be started, or finds no memory for its share or its ends, draws none. An allocation that
 /// is refused here is answered before any worker starts.
 pub fn serve<
     A: Accept + Send + Sync + Drop,
@@ -298,13 +298,13 @@ fn serve_one<A: Accept, L: Ledger, C: Naming, G: Gate, R: Wait>(
             let mut counter = DeskCounter::new(rt, desk, share, gate);
             Session::run(alloc, &mut reader, &mut writer, &mut counter, turns)
         }
-        Err(NoConnection::NoMemory) => unserved(SessionFault::NoMemory),
-        Err(NoConnection::Failed) => unserved(SessionFault::Accept),
+        Err(NoConnection::NoMemory) => unserved_end(SessionFault::NoMemory),
+        Err(NoConnection::Failed) => unserved_end(SessionFault::Accept),
     }
 }
 
 /// The end of a session that was never served.
-fn unserved(fault: SessionFault) -> SessionEnd
+fn unserved_end(fault: SessionFault) -> SessionEnd
     ensures { result ≡ record { fault = Some fault; asked = 0; signed_off = false } }
 {
     SessionEnd {

@@ -14,12 +14,9 @@ use crate::counter::Counter;
 use crate::fault::{SessionFault, TalkFault};
 use crate::talk::Talk;
 use app_message::{Decoder, Messages};
-use site_base::{Counted, ReadFault, WriteFault, read_piece};
+use site_base::{Counted, ReadFault, WriteFault, PIECE_OCTETS, read_piece};
 use std::alloc::Global;
 use std::io::{Read, Write};
-
-/// The octets of one read, at most.
-pub const PIECE_OCTETS: usize = 4_096;
 
 /// How a session ended.
 #[derive(Clone, Copy, Debug, PartialEq, Eq)]
@@ -69,17 +66,17 @@ impl Session {
     {
         let mut talk = Talk::new(alloc);
         let fault = converse(alloc, &mut talk, reader, writer, counter, turns).err();
-        let signed_off = part(&talk, counter);
+        let signed_off = leave_till(&talk, counter);
         SessionEnd {
             fault,
-            asked: talk.asked(),
+            asked: talk.request_count(),
             signed_off,
         }
     }
 }
 
 /// Leaves the till that was signed on and not signed off, and says whether there is one.
-fn part<C: Counter>(talk: &Talk, counter: &mut C) -> bool
+fn leave_till<C: Counter>(talk: &Talk, counter: &mut C) -> bool
     requires { IfSome talk.now.on (λ t. C.owes counter.old t ≡ true) }
     ensures left { result ≡ is_some talk.now.on }
     ensures rows { IsClosed talk.now.on (C.rows counter.old) (C.rows counter.new) }

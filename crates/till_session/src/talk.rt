@@ -70,7 +70,7 @@ impl Talk {
     }
 
     /// The number of requests asked.
-    pub(crate) fn asked(&self) -> u64
+    pub(crate) fn request_count(&self) -> u64
         ensures { result ≡ self.now.asked }
     {
         self.asked
@@ -101,7 +101,7 @@ impl Talk {
     }
 
     /// Answers messages, in order, each whole before the next one is looked at. It ends at a
-    /// message of another originator, where a growth is refused, or where the writer takes no more.
+    /// message of another originator, where an allocation fails, or where the writer takes no more.
     pub(crate) fn hear<C: Counter, W: Write>(
         &mut self,
         counter: &mut C,
@@ -169,7 +169,7 @@ impl Talk {
             self.refuse(writer, message, ORIGINATOR_CHANGED, turns)?;
             return Err(SessionFault::Talk(TalkFault::OriginatorChanged));
         }
-        self.meet(message.from());
+        self.bind_peer(message.from());
         match request_of(message) {
             Ok((actor, event)) => self.serve(counter, writer, message, actor, event, turns),
             Err(fault) => self.refuse(writer, message, fault.number(), turns),
@@ -187,7 +187,7 @@ impl Talk {
     }
 
     /// The session serves the originator of its first message.
-    fn meet(&mut self, from: [u8; 2])
+    fn bind_peer(&mut self, from: [u8; 2])
         ensures { self.new ≡ record self.old { peer = peer_after self.old.peer from } }
     {
         if self.peer.is_none() {
@@ -214,7 +214,7 @@ impl Talk {
             → Rose (failures_of writer.old) (failures_of writer.new) }
         ensures turns { turns.new ≤ turns.old }
     {
-        let refusal = refusal_in(self.spare(), message, number)?;
+        let refusal = refusal_in(self.take_buffer(), message, number)?;
         self.tell(writer, refusal, turns)
     }
 
@@ -239,7 +239,7 @@ impl Talk {
         ensures turns { turns.new ≤ turns.old }
     {
         let outcome = &self.ask(counter, &actor, &event);
-        let reply = reply_to(self.spare(), message, outcome)?;
+        let reply = reply_to(self.take_buffer(), message, outcome)?;
         self.tell(writer, reply, turns)?;
         counter.written(actor);
         Ok(())
@@ -283,7 +283,7 @@ impl Talk {
     }
 
     /// The room for a reply's body, which `tell` gives back.
-    fn spare(&mut self) -> Vec<u8>
+    fn take_buffer(&mut self) -> Vec<u8>
         ensures { self.new ≡ self.old }
     {
         mem::replace(&mut self.room, Vec::new(self.alloc))

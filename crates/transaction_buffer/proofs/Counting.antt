@@ -5,7 +5,7 @@ use Rattle.site_base.specs.declared.refusal.Refusal.{Refusal}
 use Rattle.transaction_buffer.proofs.InShift.{of_shift, made_with as counted_with, made_pushed, made_mapped}
 use Rattle.transaction_buffer.specs.declared.request.Request.{Request}
 use Rattle.transaction_buffer.specs.Sales.{Key, Sale, Sales, sales_at, sale_of, made_in, with_in, made_at, is_unpaid, unpaid_among, unpaid_at, with_sale, with_new}
-use Rattle.transaction_buffer.specs.TransactionTable.{Line, line_for, after_line, after_at, after_request, let_go, after_sign_off}
+use Rattle.transaction_buffer.specs.TransactionTable.{Line, line_for, after_line, after_at, after_request, unlock_all_of, after_sign_off}
 use Rattle.transaction_buffer.specs.Laws.{IsCountedAfter}
 use Rattle.transaction_buffer.proofs.Reading.{sales_at_insert, sales_at_each, let_go_shift}
 use Rattle.transaction_buffer.proofs.Rules.{accepted_unpaid}
@@ -42,8 +42,8 @@ made_asked t request k q h s = by_sale (sale_of k s) refl
     by_sale (Some x) is = by_line x (line_for request t x) is
 
 made_signed_off : (t q h : ℕ) (s : Sales) → made_at q h (after_sign_off t s) ≡ made_at q h s
-made_signed_off t q h s = ap (made_in h) (sales_at_each (let_go t) s q)
-    ∙ made_mapped (let_go t) h (sales_at q s) (let_go_shift t)
+made_signed_off t q h s = ap (made_in h) (sales_at_each (unlock_all_of t) s q)
+    ∙ made_mapped (unlock_all_of t) h (sales_at q s) (let_go_shift t)
 
 made_sold : (p : ℕ) (x : Sale) (q h : ℕ) (s : Sales)
     → made_at q h (with_new p x s)
@@ -93,7 +93,7 @@ unpaid_asked t request k q s = by_sale (sale_of k s) refl
     by_sale (Some x) is = by_line x (line_for request t x) refl is
 
 unpaid_signed_off : (t q : ℕ) (s : Sales) → unpaid_at q (after_sign_off t s) ≡ unpaid_at q s
-unpaid_signed_off t q s = ap unpaid_among (sales_at_each (let_go t) s q)
+unpaid_signed_off t q s = ap unpaid_among (sales_at_each (unlock_all_of t) s q)
     ∙ unpaid_let_go t (sales_at q s)
 
 unpaid_sold : (p : ℕ) (x : Sale) (q : ℕ) (s : Sales)

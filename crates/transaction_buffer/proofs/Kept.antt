@@ -10,7 +10,7 @@ use Rattle.transaction_buffer.specs.declared.standing.Standing.{Standing}
 use Rattle.transaction_buffer.specs.declared.standing.Standing.TheVariants.{Payable, LockedBy, ClearedBy}
 use Rattle.transaction_buffer.specs.declared.sums.Sums.{Sums}
 use Rattle.transaction_buffer.specs.Sales.{Key, Sale, Sales, sale_of, status_of, with_sale, with_new}
-use Rattle.transaction_buffer.specs.TransactionTable.{let_go}
+use Rattle.transaction_buffer.specs.TransactionTable.{unlock_all_of}
 use Rattle.transaction_buffer.specs.KeptSums.{kept_sum, AreMoved, AreSums, AreWith, AreWithout, CanMove}
 use Rattle.transaction_buffer.specs.Shelves.{Shelf, sales_on}
 use Rattle.transaction_buffer.specs.Sums.{sum_among, sum_of, has_status, volume_in, volume_with, volume_locked_by, volume_of, volume_by}
@@ -133,25 +133,25 @@ abbrev locked_among : ℕ → List Sale → ℕ → ℕ
 locked_among t xs q = sum_among (volume_locked_by q t) xs
 
 payable_let_go : (q t : ℕ) (xs : List Sale)
-    → sum_among (volume_with q statuses.Payable) (map (let_go t) xs)
+    → sum_among (volume_with q statuses.Payable) (map (unlock_all_of t) xs)
     ≡ sum_among (volume_with q statuses.Payable) xs + locked_among t xs q
 payable_let_go q t [] = refl
 payable_let_go q t (x ∷ xs) = omega (arith, let_go_payable q t x, payable_let_go q t xs)
 
 locked_let_go : (q t : ℕ) (xs : List Sale)
-    → sum_among (volume_with q statuses.Locked) (map (let_go t) xs) + locked_among t xs q
+    → sum_among (volume_with q statuses.Locked) (map (unlock_all_of t) xs) + locked_among t xs q
     ≡ sum_among (volume_with q statuses.Locked) xs
 locked_let_go q t [] = refl
 locked_let_go q t (x ∷ xs) = omega (arith, let_go_locked q t x, locked_let_go q t xs)
 
 cleared_let_go : (q t : ℕ) (xs : List Sale)
-    → sum_among (volume_with q statuses.Cleared) (map (let_go t) xs)
+    → sum_among (volume_with q statuses.Cleared) (map (unlock_all_of t) xs)
     ≡ sum_among (volume_with q statuses.Cleared) xs
 cleared_let_go q t [] = refl
 cleared_let_go q t (x ∷ xs) = omega (arith, let_go_cleared q t x, cleared_let_go q t xs)
 
 whole_let_go : (q t : ℕ) (xs : List Sale)
-    → sum_among (volume_in q) (map (let_go t) xs) ≡ sum_among (volume_in q) xs
+    → sum_among (volume_in q) (map (unlock_all_of t) xs) ≡ sum_among (volume_in q) xs
 whole_let_go q t [] = refl
 whole_let_go q t (x ∷ xs) = omega (arith, let_go_whole q t x, whole_let_go q t xs)
 
@@ -181,11 +181,11 @@ module _ (t : ℕ) (shelves : List Shelf) (i : ℕ) (d : Shelf) (sums : Sums)
     );
   }
 
-  module _ (shelf : Shelf) (is : shelf.sales ≡ map (let_go t) here) (new : Sums)
+  module _ (shelf : Shelf) (is : shelf.sales ≡ map (unlock_all_of t) here) (new : Sums)
       (moved : AreMoved (locked_among t here) sums new) where
     changed : (figure : Sale → ℕ) → sum_of figure (sales_on (set shelves i shelf))
         + sum_among figure here
-        ≡ sum_of figure (sales_on shelves) + sum_among figure (map (let_go t) here)
+        ≡ sum_of figure (sales_on shelves) + sum_among figure (map (unlock_all_of t) here)
     changed figure = omega (
       arith,
       sums_there figure shelves,

@@ -7,7 +7,7 @@ use Rattle.std.proofs.lemmas.Grind.{get_or-set_at}
 use Rattle.std.proofs.lemmas.List.{get_or-set_other, get_or_default}
 use Rattle.site_base.specs.declared.limits.TheConstants.{POINT_CELLS, POINTS}
 use Rattle.site_base.specs.PointSets.{has_point, IsWithout, NoneBefore}
-use Rattle.transaction_buffer.specs.LetGo.{IsLetGo, IsLetGoWhere, AreLetGo}
+use Rattle.transaction_buffer.specs.SignOffs.{IsLetGo, IsLetGoWhere, AreLetGo}
 use Rattle.transaction_buffer.specs.Shelves.{Shelf}
 
 -- a shelf whose point is one of those to visit or not, and still left to visit or not

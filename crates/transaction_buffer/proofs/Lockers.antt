@@ -13,12 +13,12 @@ use Rattle.transaction_buffer.specs.declared.locked_points.Lockers.{Lockers}
 use Rattle.transaction_buffer.specs.declared.locked_points.LockedPoints.{LockedPoints}
 use Rattle.transaction_buffer.specs.declared.standing.Standing.{Standing}
 use Rattle.transaction_buffer.specs.declared.standing.Standing.TheVariants.{Payable, LockedBy, ClearedBy}
-use Rattle.transaction_buffer.specs.Kept.{AreNoted}
-use Rattle.transaction_buffer.specs.LetGo.{IsLetGo, IsLetGoWhere, AreLetGo}
+use Rattle.transaction_buffer.specs.KeptSales.{AreNoted}
+use Rattle.transaction_buffer.specs.SignOffs.{IsLetGo, IsLetGoWhere, AreLetGo}
 use Rattle.transaction_buffer.specs.Locked.{locker_at, lockers_at, no_lockers, is_locker, locker_without, lockers_without, AreTold, IsForgotten, IsNoted, KeepsOthers}
 use Rattle.transaction_buffer.specs.Sales.{Sale}
 use Rattle.transaction_buffer.specs.Shelves.{Shelf, rooms_on}
-use Rattle.transaction_buffer.specs.TransactionTable.{is_locked_by, let_go, locker}
+use Rattle.transaction_buffer.specs.TransactionTable.{is_locked_by, unlock_all_of, locker}
 use Rattle.transaction_buffer.specs.UnpaidPlaces.{AreUnpaid, IsLetGoAt}
 use Rattle.transaction_buffer.proofs.TwoPlaces.{let_go_both}
 
@@ -32,7 +32,7 @@ locked_is t Payable = refl
 locked_is t (LockedBy u) = refl
 locked_is t (ClearedBy u shift) = refl
 
-stays : (t : ℕ) (x : Sale) → is_locker t (locker x.standing) ≡ false → let_go t x ≡ x
+stays : (t : ℕ) (x : Sale) → is_locker t (locker x.standing) ≡ false → unlock_all_of t x ≡ x
 stays t x isnt = ap (λ (b : Bool). cond b (record x { standing = Payable }) x)
     (locked_is t x.standing ∙ isnt)
 
@@ -45,7 +45,7 @@ stays_at t (Some k) xs isnt = record {
 }
   where
     by_test : (i : ℕ) (d : Sale) → i < length xs → (b : Bool) → (k == i) ≡ b
-        → get_or xs i d ≡ (if b then let_go t (get_or xs i d) else get_or xs i d)
+        → get_or xs i d ≡ (if b then unlock_all_of t (get_or xs i d) else get_or xs i d)
     by_test i d within true at =
         let here : slice_get xs k ≡ Some (get_or xs i d) =
         ap (slice_get xs) (same_number k i at) ∙ slice_get-get_or xs i d within in
@@ -61,20 +61,20 @@ told xs a b are t one other =
 
 -- ---- a till that lets go
 
-let_go_again : (t : ℕ) (x : Sale) → let_go t (let_go t x) ≡ let_go t x
+let_go_again : (t : ℕ) (x : Sale) → unlock_all_of t (unlock_all_of t x) ≡ unlock_all_of t x
 let_go_again t x = by_test (is_locked_by t x.standing) refl
   where
     by_test : (b : Bool) → is_locked_by t x.standing ≡ b
-        → let_go t (cond b (record x { standing = Payable }) x)
+        → unlock_all_of t (cond b (record x { standing = Payable }) x)
         ≡ cond b (record x { standing = Payable }) x
     by_test true is = refl
     by_test false is = ap (λ (b : Bool). cond b (record x { standing = Payable }) x) is
 
-all_again : (t : ℕ) (xs : List Sale) → map (let_go t) (map (let_go t) xs) ≡ map (let_go t) xs
+all_again : (t : ℕ) (xs : List Sale) → map (unlock_all_of t) (map (unlock_all_of t) xs) ≡ map (unlock_all_of t) xs
 all_again t [] = refl
 all_again t (x ∷ xs) =
-    ap (λ (y : Sale). y ∷ map (let_go t) (map (let_go t) xs)) (let_go_again t x)
-    ∙ ap (λ (ys : List Sale). let_go t x ∷ ys) (all_again t xs)
+    ap (λ (y : Sale). y ∷ map (unlock_all_of t) (map (unlock_all_of t) xs)) (let_go_again t x)
+    ∙ ap (λ (ys : List Sale). unlock_all_of t x ∷ ys) (all_again t xs)
 
 was_locker : (t : ℕ) (standing : Standing) → is_locked_by t standing ≡ true
     → locker_without t (locker standing) ≡ None
@@ -89,7 +89,7 @@ wasn't_locker t (LockedBy u) isnt = ap (λ (b : Bool). cond b None (Some u)) isn
 wasn't_locker t (ClearedBy u shift) isnt = refl
 
 locker_let_go : (t : ℕ) (x : Sale)
-    → locker (let_go t x).standing ≡ locker_without t (locker x.standing)
+    → locker (unlock_all_of t x).standing ≡ locker_without t (locker x.standing)
 locker_let_go t x = by_test (is_locked_by t x.standing) refl
   where
     by_test : (b : Bool) → is_locked_by t x.standing ≡ b
@@ -100,20 +100,20 @@ locker_let_go t x = by_test (is_locked_by t x.standing) refl
 
 -- the lockers once a till has let go
 place_let_go : (t : ℕ) (a : Option ℕ) (xs : List Sale)
-    → locker_at a (map (let_go t) xs) ≡ locker_without t (locker_at a xs)
+    → locker_at a (map (unlock_all_of t) xs) ≡ locker_without t (locker_at a xs)
 place_let_go t None xs = refl
 place_let_go t (Some k) xs =
-    ap (option_and_then (λ (x : Sale). locker x.standing)) (slice_get-map (let_go t) xs k)
+    ap (option_and_then (λ (x : Sale). locker x.standing)) (slice_get-map (unlock_all_of t) xs k)
     ∙ by_sale (slice_get xs k)
   where
     by_sale : (o : Option Sale)
-        → option_and_then (λ (x : Sale). locker x.standing) (option_map (let_go t) o)
+        → option_and_then (λ (x : Sale). locker x.standing) (option_map (unlock_all_of t) o)
         ≡ locker_without t (option_and_then (λ (x : Sale). locker x.standing) o)
     by_sale None = refl
     by_sale (Some x) = locker_let_go t x
 
 pub lockers_let_go : (t : ℕ) (a b : Option ℕ) (xs : List Sale)
-    → lockers_at a b (map (let_go t) xs) ≡ lockers_without t (lockers_at a b xs)
+    → lockers_at a b (map (unlock_all_of t) xs) ≡ lockers_without t (lockers_at a b xs)
 lockers_let_go t a b xs = rw (place_let_go t a xs, place_let_go t b xs) refl
 
 without_again : (t : ℕ) (o : Option ℕ) → locker_without t (locker_without t o) ≡ locker_without t o
@@ -228,7 +228,7 @@ let_go_twice : (t : ℕ) (x y z : Shelf) (b c : Bool) → is_locker t x.lockers.
     → is_locker t x.lockers.other ≡ c → AreTold x.sales x.lockers → IsLetGoWhere t b x y
     → IsLetGoWhere t c y z → IsLetGo t x z
 let_go_twice t x y z true true p q tells first second = record {
-  sales = second.sales ∙ ap (map (let_go t)) first.sales ∙ all_again t x.sales;
+  sales = second.sales ∙ ap (map (unlock_all_of t)) first.sales ∙ all_again t x.sales;
   room = second.room ∙ first.room;
   lockers = second.lockers ∙ ap (lockers_without t) first.lockers
       ∙ rw (without_again t x.lockers.one, without_again t x.lockers.other) refl;
@@ -267,29 +267,29 @@ module _ (t k one other : ℕ) (first second third : List Shelf) (was now : Lock
       (at_other i d (omega (arith, are.cells))))
 
   pub sales_let_go : map (λ (x : Shelf). x.sales) third
-      ≡ map (map (let_go t)) (map (λ (x : Shelf). x.sales) first)
+      ≡ map (map (unlock_all_of t)) (map (λ (x : Shelf). x.sales) first)
   sales_let_go =
       let count_third : length (map (λ (x : Shelf). x.sales) third) ≡ length third =
       length-map third (λ (x : Shelf). x.sales) in
       let count_first : length (map (λ (x : Shelf). x.sales) first) ≡ length first =
       length-map first (λ (x : Shelf). x.sales) in
       same_lists (map (λ (x : Shelf). x.sales) third)
-      (map (map (let_go t)) (map (λ (x : Shelf). x.sales) first))
+      (map (map (unlock_all_of t)) (map (λ (x : Shelf). x.sales) first))
       (omega (
         arith,
         count_third,
         count_first,
         are.cells,
-        length-map (map (λ (x : Shelf). x.sales) first) (map (let_go t)),
+        length-map (map (λ (x : Shelf). x.sales) first) (map (unlock_all_of t)),
       ))
       (λ i d within.
       let inside : i < length first = omega (arith, count_third, are.cells) in
       let e : Shelf = record { sales = d; room = 0; lockers = no_lockers } in
       get_or-map (λ (x : Shelf). x.sales) third i e d (omega (arith, are.cells))
       ∙ (shelf_let_go i e inside).sales
-      ∙ sym (get_or-map (map (let_go t)) (map (λ (x : Shelf). x.sales) first) i d d
+      ∙ sym (get_or-map (map (unlock_all_of t)) (map (λ (x : Shelf). x.sales) first) i d d
       (omega (arith, count_first))
-      ∙ ap (map (let_go t)) (get_or-map (λ (x : Shelf). x.sales) first i e d inside)))
+      ∙ ap (map (unlock_all_of t)) (get_or-map (λ (x : Shelf). x.sales) first i e d inside)))
 
   pub rooms_let_go : rooms_on third ≡ rooms_on first
   rooms_let_go =

@@ -9,7 +9,7 @@ use Rattle.site_base.proofs.Numbering.{numbered_within, numbered_with_other, wit
 use Rattle.site_base.specs.Numbered.{with_numbered}
 use Rattle.std.proofs.lemmas.Bool.{cases_eq}
 use Rattle.transaction_buffer.specs.Sales.{Sale, no_sales, sales_at, sale_in, with_in}
-use Rattle.transaction_buffer.specs.TransactionTable.{let_go, after_sign_off}
+use Rattle.transaction_buffer.specs.TransactionTable.{unlock_all_of, after_sign_off}
 use Rattle.transaction_buffer.specs.Sums.{sum_among, sum_over, sum_of}
 use Rattle.transaction_buffer.specs.Rooms.{one_taken, room_at}
 use Rattle.transaction_buffer.specs.Shelves.{Shelf, stock, sales_on, rooms_on, sum_on}
@@ -182,25 +182,25 @@ cells_of_sales (x ∷ xs) = ap (λ (cells : List (Option (List Sale))). stock x.
 
 -- what each shelf lets go, each point lets go
 let_go_from : (t n : ℕ) (xss : List (List Sale))
-    → entries_from n (map stock (map (map (let_go t)) xss))
-    ≡ map (λ (e : ℕ × List Sale). (e.0, map (let_go t) e.1)) (entries_from n (map stock xss))
+    → entries_from n (map stock (map (map (unlock_all_of t)) xss))
+    ≡ map (λ (e : ℕ × List Sale). (e.0, map (unlock_all_of t) e.1)) (entries_from n (map stock xss))
 let_go_from t n [] = refl
 let_go_from t n ([] ∷ xss) = let_go_from t (n + 1) xss
 let_go_from t n ((x ∷ xs) ∷ xss) =
-    ap (λ (es : List (ℕ × List Sale)). (n, map (let_go t) (x ∷ xs)) ∷ es)
+    ap (λ (es : List (ℕ × List Sale)). (n, map (unlock_all_of t) (x ∷ xs)) ∷ es)
     (let_go_from t (n + 1) xss)
 
 pub let_go_there : (t : ℕ) (old new : List Shelf)
-    → map (λ (x : Shelf). x.sales) new ≡ map (map (let_go t)) (map (λ (x : Shelf). x.sales) old)
+    → map (λ (x : Shelf). x.sales) new ≡ map (map (unlock_all_of t)) (map (λ (x : Shelf). x.sales) old)
     → sales_on new ≡ after_sign_off t (sales_on old)
 let_go_there t old new each =
     ap finite.from_entries
     (ap (entries_from 1) (cells_of_sales new ∙ ap (map stock) each)
     ∙ let_go_from t 1 (map (λ (x : Shelf). x.sales) old)
     ∙ ap (λ (cells : List (Option (List Sale))). map
-    (λ (e : ℕ × List Sale). (e.0, map (let_go t) e.1)) (entries_from 1 cells))
+    (λ (e : ℕ × List Sale). (e.0, map (unlock_all_of t) e.1)) (entries_from 1 cells))
     (sym (cells_of_sales old))
-    ∙ ap (map (λ (e : ℕ × List Sale). (e.0, map (let_go t) e.1)))
+    ∙ ap (map (λ (e : ℕ × List Sale). (e.0, map (unlock_all_of t) e.1)))
     (sym (entries_of_cells (cells_of old))))
 
 -- where nothing stands on the shelves, no point has sold anything

@@ -8,7 +8,7 @@ use Rattle.std.proofs.lemmas.List.{get_or-set_other, length_push, length-set, ge
 use Rattle.transaction_buffer.specs.Sales.{Sale, is_unpaid, unpaid_among}
 use Rattle.transaction_buffer.specs.UnpaidPlaces.{is_at, one_if_kept, place_with, place_kept, place_without, AreUnpaid}
 use Rattle.std.proofs.Math.Seq.{get_or-append_seam}
-use Rattle.transaction_buffer.specs.TransactionTable.{let_go}
+use Rattle.transaction_buffer.specs.TransactionTable.{unlock_all_of}
 use Rattle.transaction_buffer.proofs.Unpaid.{unpaid_pushed, unpaid_let_go, let_go_unpaid}
 
 is_same : (n m : ℕ) → n ≡ m → (n == m) ≡ true
@@ -252,13 +252,13 @@ places_put xs i y d a b are inside was count false is =
 
 -- after a sign-off
 pub places_let_go : (t : ℕ) (xs : List Sale) (a b : Option ℕ) → AreUnpaid xs a b
-    → AreUnpaid (map (let_go t) xs) a b
+    → AreUnpaid (map (unlock_all_of t) xs) a b
 places_let_go t xs a b are = record {
   each = λ i d within.
-      let inside : i < length xs = omega (arith, length-map xs (let_go t)) in
-      ap (λ (x : Sale). is_unpaid x.standing) (get_or-map (let_go t) xs i d d inside)
+      let inside : i < length xs = omega (arith, length-map xs (unlock_all_of t)) in
+      ap (λ (x : Sale). is_unpaid x.standing) (get_or-map (unlock_all_of t) xs i d d inside)
       ∙ let_go_unpaid t (get_or xs i d) ∙ are.each i d inside;
-  within = λ i is. let e = are.within i is in omega (arith, length-map xs (let_go t));
+  within = λ i is. let e = are.within i is in omega (arith, length-map xs (unlock_all_of t));
   apart = are.apart;
   counted = unpaid_let_go t xs ∙ are.counted;
 }

@@ -7,7 +7,7 @@ use Rattle.site_base.specs.declared.refusal.Refusal.{Refusal}
 use Rattle.transaction_buffer.specs.declared.request.Request.{Request}
 use Rattle.transaction_buffer.specs.declared.standing.Standing.TheVariants.{Payable}
 use Rattle.transaction_buffer.specs.Sales.{Key, next_key, Sale, sale_in, made_in, with_in, Sales, sales_at, sale_of, same_key, with_sale, with_new, each_changed}
-use Rattle.transaction_buffer.specs.TransactionTable.{Line, line_for, sale_after, sale_after_request, after_line, after_at, after_request, is_locked_by, let_go}
+use Rattle.transaction_buffer.specs.TransactionTable.{Line, line_for, sale_after, sale_after_request, after_line, after_at, after_request, is_locked_by, unlock_all_of}
 use Rattle.transaction_buffer.specs.Laws.{IsReadAfter}
 use Rattle.transaction_buffer.proofs.InShift.{of_shift, with_same, with_other, pushed, mapped}
 use Rattle.transaction_buffer.proofs.Maps.{at_insert, get_each}
@@ -130,7 +130,7 @@ read_each change k s keeps = ap (sale_in k.shift k.number) (sales_at_each change
     ∙ mapped change k.shift k.number (sales_at k.point s) keeps
 
 -- a sign-off changes no sale's shift
-pub let_go_shift : (t : ℕ) (x : Sale) → (let_go t x).shift ≡ x.shift
+pub let_go_shift : (t : ℕ) (x : Sale) → (unlock_all_of t x).shift ≡ x.shift
 let_go_shift t x = by_test (is_locked_by t x.standing)
   where
     by_test : (b : Bool) → (cond b (record x { standing = Payable }) x).shift ≡ x.shift
@@ -176,6 +176,6 @@ read_request t request j k s = by_sale (sale_of j s) refl
 pub read_after : IsReadAfter
 read_after = record {
   asked_for = read_request;
-  signed_off = λ t k s. read_each (let_go t) k s (let_go_shift t);
+  signed_off = λ t k s. read_each (unlock_all_of t) k s (let_go_shift t);
   sold = read_new;
 }

@@ -5,7 +5,7 @@ use Rattle.site_base.specs.declared.refusal.Refusal.{Refusal}
 use Rattle.site_base.specs.declared.refusal.Refusal.TheVariants.{NoSuchTransaction}
 use Rattle.transaction_buffer.specs.declared.request.Request.{Request}
 use Rattle.site_base.specs.Checks.{reply_or}
-use Rattle.transaction_buffer.specs.Asked.{Asked}
+use Rattle.transaction_buffer.specs.Requests.{Asked}
 use Rattle.transaction_buffer.specs.Laws.{DoTell}
 use Rattle.transaction_buffer.specs.Sales.{Key, Sale, Sales, sale_of, with_sale}
 use Rattle.transaction_buffer.specs.TransactionTable.{Line, line_for, line_of, refusal_in, answer_in, after_line, after_at}

@@ -13,7 +13,7 @@ use Rattle.transaction_buffer.specs.declared.request.Request.TheVariants.{Lock, 
 use Rattle.transaction_buffer.specs.declared.standing.Standing.{Standing}
 use Rattle.transaction_buffer.specs.declared.standing.Standing.TheVariants.{Payable, LockedBy, ClearedBy}
 use Rattle.transaction_buffer.specs.Sales.{Key, next_key, Sale, Sales, sale_in, sales_at, sale_of, same_key, is_unpaid, with_sale}
-use Rattle.transaction_buffer.specs.TransactionTable.{Line, Seen, payable, locked_by_it, locked_by_other, cleared_by, line, seen_by, line_for, line_of, refusal_in, answer_in, sale_after, sale_after_request, refusal_of, after_line, after_at, after_request, is_locked_by, let_go, locker, locker_of}
+use Rattle.transaction_buffer.specs.TransactionTable.{Line, Seen, payable, locked_by_it, locked_by_other, cleared_by, line, seen_by, line_for, line_of, refusal_in, answer_in, sale_after, sale_after_request, refusal_of, after_line, after_at, after_request, is_locked_by, unlock_all_of, locker, locker_of}
 use Rattle.transaction_buffer.specs.Laws.{asks, signs_off, sells, IsClearedForGood, IsClear, IsClearedByItsLocker, unless_signed_off, HasOneLocker}
 use Rattle.transaction_buffer.proofs.Maps.{insert_same}
 use Rattle.transaction_buffer.proofs.Reading.{one_sale, read_request, read_each, read_new, let_go_shift}
@@ -107,7 +107,7 @@ not_next p h k x s is = by_test (same_key k (next_key p h s)) refl
         cc
     by_test false at = refl
 
-let_go_cleared : (t u shift : ℕ) (x : Sale) → x.standing ≡ ClearedBy u shift → let_go t x ≡ x
+let_go_cleared : (t u shift : ℕ) (x : Sale) → x.standing ≡ ClearedBy u shift → unlock_all_of t x ≡ x
 let_go_cleared t u shift x is =
     ap (λ (standing : Standing). cond (is_locked_by t standing) (record x { standing = Payable }) x)
     is
@@ -125,7 +125,7 @@ cleared_for_good (asks t request j) s k x u shift there is =
     either true = refl
     either false = refl
 cleared_for_good (signs_off t) s k x u shift there is =
-    read_each (let_go t) k s (let_go_shift t) ∙ ap (option_map (let_go t)) there
+    read_each (unlock_all_of t) k s (let_go_shift t) ∙ ap (option_map (unlock_all_of t)) there
     ∙ ap Some (let_go_cleared t u shift x is)
 cleared_for_good (sells p y) s k x u shift there is =
     read_new p y k s ∙ ap (λ (b : Bool). cond b (Some y) (sale_of k s)) (not_next p y.shift k x s there)
@@ -229,7 +229,7 @@ locker_after request t left j k s leaves accepted =
     by_key false at = refl
 
 locker_let_go : (t : ℕ) (x : Sale) (standing : Standing) → x.standing ≡ standing
-    → locker (let_go t x).standing ≡ unless_signed_off t (locker standing)
+    → locker (unlock_all_of t x).standing ≡ unless_signed_off t (locker standing)
 locker_let_go t x Payable is = ap
     (λ (y : Standing). locker (cond (is_locked_by t y) (record x { standing = Payable })
     (record x { standing = y })).standing) is
@@ -300,13 +300,13 @@ one_locker = record {
       (λ x accepted. ap locker (left_by_unlock t x.cents x (seen_by t x.standing) accepted));
   by_clear = λ t shift j k s. locker_after (Clear shift) t None j k s
       (λ x accepted. ap locker (left_by_clear t shift x.cents x (seen_by t x.standing) accepted));
-  by_sign_off = λ t k s. ap locker_in (read_each (let_go t) k s (let_go_shift t)) ∙ let_go_at t (sale_of k s);
+  by_sign_off = λ t k s. ap locker_in (read_each (unlock_all_of t) k s (let_go_shift t)) ∙ let_go_at t (sale_of k s);
   by_sale = λ p x k s. ap locker_in (read_new p x k s)
       ∙ new_at (same_key k (next_key p x.shift s)) x (sale_of k s);
 }
   where
     let_go_at : (t : ℕ) (o : Option Sale)
-        → locker_in (option_map (let_go t) o) ≡ unless_signed_off t (locker_in o)
+        → locker_in (option_map (unlock_all_of t) o) ≡ unless_signed_off t (locker_in o)
     let_go_at t None = refl
     let_go_at t (Some x) = locker_let_go t x x.standing refl
 

@@ -8,7 +8,7 @@ use Rattle.transaction_buffer.specs.declared.standing.Standing.{Standing}
 use Rattle.transaction_buffer.specs.declared.standing.Standing.TheVariants.{Payable, LockedBy, ClearedBy}
 use Rattle.transaction_buffer.specs.Sales.{Sale, is_unpaid}
 use Rattle.transaction_buffer.specs.Sums.{sum_among, volume_in, volume_locked_by}
-use Rattle.transaction_buffer.specs.TransactionTable.{let_go, is_locked_by}
+use Rattle.transaction_buffer.specs.TransactionTable.{unlock_all_of, is_locked_by}
 use Rattle.transaction_buffer.specs.UnpaidPlaces.{is_at, figure_at, AreUnpaid, IsLetGoAt}
 
 same : (n m : ℕ) → (n == m) ≡ true → n ≡ m
@@ -21,7 +21,7 @@ paid_unlocked t Payable is = cc
 paid_unlocked t (LockedBy u) is = cc
 paid_unlocked t (ClearedBy u shift) is = refl
 
-paid_stays : (t : ℕ) (x : Sale) → is_unpaid x.standing ≡ false → let_go t x ≡ x
+paid_stays : (t : ℕ) (x : Sale) → is_unpaid x.standing ≡ false → unlock_all_of t x ≡ x
 paid_stays t x is = ap (λ (b : Bool). cond b (record x { standing = Payable }) x)
     (paid_unlocked t x.standing is)
 
@@ -34,36 +34,36 @@ at_some (Some k) i is = ap (λ n. Some n) (same k i is)
 
 -- where the sales at both places are let go, all are
 pub let_go_both : (t : ℕ) (xs ys zs : List Sale) (a b : Option ℕ) → AreUnpaid xs a b
-    → IsLetGoAt t a xs ys → IsLetGoAt t b ys zs → zs ≡ map (let_go t) xs
+    → IsLetGoAt t a xs ys → IsLetGoAt t b ys zs → zs ≡ map (unlock_all_of t) xs
 let_go_both t xs ys zs a b are first second =
-    same_lists zs (map (let_go t) xs)
-    (second.long ∙ first.long ∙ sym (length-map xs (let_go t)))
+    same_lists zs (map (unlock_all_of t) xs)
+    (second.long ∙ first.long ∙ sym (length-map xs (unlock_all_of t)))
     (λ i d within.
     let in_ys : i < length ys = omega (arith, second.long) in
     let in_xs : i < length xs = omega (arith, first.long) in
     second.each i d in_ys
     ∙ by_tests i d (is_at a i) refl (is_at b i) refl (first.each i d in_xs)
     (are.each i d in_xs)
-    ∙ sym (get_or-map (let_go t) xs i d d in_xs))
+    ∙ sym (get_or-map (unlock_all_of t) xs i d d in_xs))
   where
     by_tests : (i : ℕ) (d : Sale) (m : Bool) → is_at a i ≡ m → (n : Bool) → is_at b i ≡ n
-        → get_or ys i d ≡ (if is_at a i then let_go t (get_or xs i d) else get_or xs i d)
+        → get_or ys i d ≡ (if is_at a i then unlock_all_of t (get_or xs i d) else get_or xs i d)
         → is_unpaid (get_or xs i d).standing ≡ (is_at a i || is_at b i)
-        → (if is_at b i then let_go t (get_or ys i d) else get_or ys i d)
-        ≡ let_go t (get_or xs i d)
+        → (if is_at b i then unlock_all_of t (get_or ys i d) else get_or ys i d)
+        ≡ unlock_all_of t (get_or xs i d)
     by_tests i d true p true q y unpaid =
         absurd (are.apart i (at_some a i p) (at_some b i q))
     by_tests i d true p false q y unpaid =
-        let step : (if is_at a i then let_go t (get_or xs i d) else get_or xs i d)
-        ≡ let_go t (get_or xs i d) = rw p refl in
+        let step : (if is_at a i then unlock_all_of t (get_or xs i d) else get_or xs i d)
+        ≡ unlock_all_of t (get_or xs i d) = rw p refl in
         rw q (y ∙ step)
     by_tests i d false p true q y unpaid =
-        let step : (if is_at a i then let_go t (get_or xs i d) else get_or xs i d)
+        let step : (if is_at a i then unlock_all_of t (get_or xs i d) else get_or xs i d)
         ≡ get_or xs i d = rw p refl in
-        rw q (ap (let_go t) (y ∙ step))
+        rw q (ap (unlock_all_of t) (y ∙ step))
     by_tests i d false p false q y unpaid =
         let neither : (is_at a i || is_at b i) ≡ false = rw (p, q) refl in
-        let step : (if is_at a i then let_go t (get_or xs i d) else get_or xs i d)
+        let step : (if is_at a i then unlock_all_of t (get_or xs i d) else get_or xs i d)
         ≡ get_or xs i d = rw p refl in
         rw q (y ∙ step ∙ sym (paid_stays t (get_or xs i d) (unpaid ∙ neither)))
 

@@ -6,7 +6,7 @@ use Rattle.transaction_buffer.specs.declared.standing.Standing.TheVariants.{Paya
 use Rattle.transaction_buffer.specs.Sales.{Sale, sale_in, with_in, is_unpaid, unpaid_among}
 use Rattle.transaction_buffer.specs.Sums.{sum_among}
 use Rattle.transaction_buffer.proofs.InShift.{with_sum}
-use Rattle.transaction_buffer.specs.TransactionTable.{let_go, is_locked_by}
+use Rattle.transaction_buffer.specs.TransactionTable.{unlock_all_of, is_locked_by}
 
 at_most_one : (b : Bool) → cond b 1 0 ≤ 1
 at_most_one true = omega arith
@@ -56,14 +56,14 @@ same_unpaid t x true is = sym (locked_unpaid t x.standing is)
 same_unpaid t x false is = refl
 
 -- a sign-off leaves a sale unpaid or paid
-pub let_go_unpaid : (t : ℕ) (x : Sale) → is_unpaid (let_go t x).standing ≡ is_unpaid x.standing
+pub let_go_unpaid : (t : ℕ) (x : Sale) → is_unpaid (unlock_all_of t x).standing ≡ is_unpaid x.standing
 let_go_unpaid t x = same_unpaid t x (is_locked_by t x.standing) refl
 
 -- what a sign-off lets go stays unpaid
-pub unpaid_let_go : (t : ℕ) (xs : List Sale) → unpaid_among (map (let_go t) xs) ≡ unpaid_among xs
+pub unpaid_let_go : (t : ℕ) (xs : List Sale) → unpaid_among (map (unlock_all_of t) xs) ≡ unpaid_among xs
 unpaid_let_go t [] = refl
 unpaid_let_go t (x ∷ xs) =
-    ap (λ (b : Bool). cond b 1 0 + unpaid_among (map (let_go t) xs))
+    ap (λ (b : Bool). cond b 1 0 + unpaid_among (map (unlock_all_of t) xs))
     (same_unpaid t x (is_locked_by t x.standing) refl)
     ∙ ap (λ (n : ℕ). cond (is_unpaid x.standing) 1 0 + n) (unpaid_let_go t xs)
 

@@ -6,7 +6,7 @@ use Rattle.transaction_buffer.specs.declared.request.Request.{Request}
 use Rattle.transaction_buffer.specs.declared.standing.Standing.{Standing}
 use Rattle.transaction_buffer.specs.declared.standing.Standing.TheVariants.{Payable, LockedBy, ClearedBy}
 use Rattle.transaction_buffer.specs.Sales.{Key, Sale, Sales, sale_of}
-use Rattle.transaction_buffer.specs.TransactionTable.{Line, line_for, sale_after, sale_after_request, after_line, after_at, after_request, is_locked_by, let_go}
+use Rattle.transaction_buffer.specs.TransactionTable.{Line, line_for, sale_after, sale_after_request, after_line, after_at, after_request, is_locked_by, unlock_all_of}
 use Rattle.transaction_buffer.specs.Sums.{sum_of, has_status, volume_in, volume_with, volume_locked_by, volume_of, volume_by, locked_volume}
 use Rattle.transaction_buffer.specs.Laws.{DoAddUp, DoMove}
 use Rattle.transaction_buffer.proofs.Summing.{replaced_sum, sold_sum, changed_sum, alike_sum, added_sum}
@@ -107,7 +107,7 @@ keeps false h volume is = refl
 
 -- a sale that the till lets go is payable, and was locked
 pub let_go_payable : (q t : ℕ) (x : Sale)
-    → volume_with q statuses.Payable (let_go t x)
+    → volume_with q statuses.Payable (unlock_all_of t x)
     ≡ volume_with q statuses.Payable x + volume_locked_by q t x
 let_go_payable q t x = by_test (is_locked_by t x.standing) refl
   where
@@ -119,7 +119,7 @@ let_go_payable q t x = by_test (is_locked_by t x.standing) refl
     by_test false is = omega arith
 
 pub let_go_locked : (q t : ℕ) (x : Sale)
-    → volume_with q statuses.Locked (let_go t x) + volume_locked_by q t x
+    → volume_with q statuses.Locked (unlock_all_of t x) + volume_locked_by q t x
     ≡ volume_with q statuses.Locked x
 let_go_locked q t x = by_test (is_locked_by t x.standing) refl
   where
@@ -132,7 +132,7 @@ let_go_locked q t x = by_test (is_locked_by t x.standing) refl
     by_test false is = omega arith
 
 pub let_go_cleared : (q t : ℕ) (x : Sale)
-    → volume_with q statuses.Cleared (let_go t x) ≡ volume_with q statuses.Cleared x
+    → volume_with q statuses.Cleared (unlock_all_of t x) ≡ volume_with q statuses.Cleared x
 let_go_cleared q t x = by_test (is_locked_by t x.standing) refl
   where
     by_test : (b : Bool) → is_locked_by t x.standing ≡ b
@@ -142,7 +142,7 @@ let_go_cleared q t x = by_test (is_locked_by t x.standing) refl
         (wasn't_cleared t x.standing is)
     by_test false is = refl
 
-pub let_go_whole : (q t : ℕ) (x : Sale) → volume_in q (let_go t x) ≡ volume_in q x
+pub let_go_whole : (q t : ℕ) (x : Sale) → volume_in q (unlock_all_of t x) ≡ volume_in q x
 let_go_whole q t x = by_test (is_locked_by t x.standing)
   where
     by_test : (b : Bool) → volume_in q (cond b (record x { standing = Payable }) x) ≡ volume_in q x
@@ -153,24 +153,24 @@ pub move : DoMove
 move = record {
   by_request = λ q status t request k x s is. request_sum (volume_with q status) t request k x s is;
   payable_at_sign_off = λ q t s.
-      changed_sum (volume_with q statuses.Payable) (let_go t) s
-      ∙ alike_sum (λ x. volume_with q statuses.Payable (let_go t x))
+      changed_sum (volume_with q statuses.Payable) (unlock_all_of t) s
+      ∙ alike_sum (λ x. volume_with q statuses.Payable (unlock_all_of t x))
       (λ x. volume_with q statuses.Payable x + volume_locked_by q t x) (let_go_payable q t) s
       ∙ added_sum (volume_with q statuses.Payable) (volume_locked_by q t) s;
   locked_at_sign_off = λ q t s.
       ap (λ (n : ℕ). n + locked_volume q t s)
-      (changed_sum (volume_with q statuses.Locked) (let_go t) s)
-      ∙ sym (added_sum (λ x. volume_with q statuses.Locked (let_go t x)) (volume_locked_by q t) s)
-      ∙ alike_sum (λ x. volume_with q statuses.Locked (let_go t x) + volume_locked_by q t x)
+      (changed_sum (volume_with q statuses.Locked) (unlock_all_of t) s)
+      ∙ sym (added_sum (λ x. volume_with q statuses.Locked (unlock_all_of t x)) (volume_locked_by q t) s)
+      ∙ alike_sum (λ x. volume_with q statuses.Locked (unlock_all_of t x) + volume_locked_by q t x)
       (volume_with q statuses.Locked) (let_go_locked q t) s;
   cleared_at_sign_off = λ q t s.
-      changed_sum (volume_with q statuses.Cleared) (let_go t) s
-      ∙ alike_sum (λ x. volume_with q statuses.Cleared (let_go t x))
+      changed_sum (volume_with q statuses.Cleared) (unlock_all_of t) s
+      ∙ alike_sum (λ x. volume_with q statuses.Cleared (unlock_all_of t x))
       (volume_with q statuses.Cleared) (let_go_cleared q t) s;
   by_sale = λ q status p x s. sold_sum (volume_with q status) p x s;
   whole_by_request = whole_by_request;
   whole_at_sign_off = λ q t s.
-      changed_sum (volume_in q) (let_go t) s
-      ∙ alike_sum (λ x. volume_in q (let_go t x)) (volume_in q) (let_go_whole q t) s;
+      changed_sum (volume_in q) (unlock_all_of t) s
+      ∙ alike_sum (λ x. volume_in q (unlock_all_of t x)) (volume_in q) (let_go_whole q t) s;
   whole_by_sale = λ q p x s. sold_sum (volume_in q) p x s;
 }

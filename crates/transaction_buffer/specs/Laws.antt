@@ -8,9 +8,9 @@ use Rattle.site_base.specs.declared.state.Status.TheVariants as statuses
 use Rattle.transaction_buffer.specs.declared.request.Request.{Request}
 use Rattle.transaction_buffer.specs.declared.request.Request.TheVariants.{Lock, Unlock, Clear}
 use Rattle.transaction_buffer.specs.declared.standing.Standing.TheVariants.{LockedBy, ClearedBy}
-use Rattle.transaction_buffer.specs.Asked.{Asked, reply_of}
+use Rattle.transaction_buffer.specs.Requests.{Asked, reply_of}
 use Rattle.transaction_buffer.specs.Sales.{Key, next_key, Sale, Sales, sale_of, same_key, made_at, is_unpaid, unpaid_at, with_sale, with_new, each_changed}
-use Rattle.transaction_buffer.specs.TransactionTable.{refusal_of, answer_of, after_request, sale_after_request, let_go, after_sign_off, locker, locker_of}
+use Rattle.transaction_buffer.specs.TransactionTable.{refusal_of, answer_of, after_request, sale_after_request, unlock_all_of, after_sign_off, locker, locker_of}
 use Rattle.transaction_buffer.specs.Sums.{sum_of, volume_in, volume_with, volume_of, volume_by, locked_volume}
 
 -- what changes the sales: what a till asks of a transaction, the sign-off of a till, a sale of a
@@ -89,7 +89,7 @@ pub record IsReadAfter : Type 0 where
       ≡ (if same_key k j then option_map (sale_after_request request t) (sale_of k s)
       else sale_of k s)
   pub signed_off : (t : ℕ) (k : Key) (s : Sales)
-      → sale_of k (after_sign_off t s) ≡ option_map (let_go t) (sale_of k s)
+      → sale_of k (after_sign_off t s) ≡ option_map (unlock_all_of t) (sale_of k s)
   pub sold : (p : ℕ) (x : Sale) (k : Key) (s : Sales)
       → sale_of k (with_new p x s)
       ≡ (if same_key k (next_key p x.shift s) then Some x else sale_of k s)

@@ -1,11 +1,11 @@
-pub mod Asked
+pub mod Requests
 pub mod Clears
 pub mod Codes
 pub mod Figures
 pub mod FoundSales
 pub mod KeptSums
-pub mod Kept
-pub mod LetGo
+pub mod KeptSales
+pub mod SignOffs
 pub mod Laws
 pub mod Locked
 pub mod Rooms

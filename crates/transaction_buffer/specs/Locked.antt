@@ -6,7 +6,7 @@ use Rattle.site_base.specs.PointSets.{has_point}
 use Rattle.transaction_buffer.specs.declared.locked_points.Lockers.{Lockers}
 use Rattle.transaction_buffer.specs.declared.locked_points.LockedPoints.{LockedPoints}
 use Rattle.transaction_buffer.specs.Sales.{Sale}
-use Rattle.transaction_buffer.specs.TransactionTable.{let_go, locker}
+use Rattle.transaction_buffer.specs.TransactionTable.{unlock_all_of, locker}
 
 -- the till that has locked the sale at this place
 abbrev pub locker_at : Option ℕ → List Sale → Option ℕ
@@ -39,7 +39,7 @@ lockers_without t lockers = record {
 -- the sign-off of a till that isn't one of the lockers leaves these sales
 abbrev pub AreTold : List Sale → Lockers → Type 0
 AreTold xs lockers = (t : ℕ) → is_locker t lockers.one ≡ false → is_locker t lockers.other ≡ false
-    → map (let_go t) xs ≡ xs
+    → map (unlock_all_of t) xs ≡ xs
 
 -- in the sets of the tills point p stands just where these are its lockers
 abbrev pub IsNoted : ℕ → Lockers → LockedPoints → Type 0

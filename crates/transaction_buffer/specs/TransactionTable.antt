@@ -110,9 +110,9 @@ abbrev pub locker_of : Key → Sales → Option ℕ
 locker_of k s = option_and_then (λ x. locker x.standing) (sale_of k s)
 
 -- a sale that the till has locked is payable; every other is as it was
-abbrev pub let_go : ℕ → Sale → Sale
-let_go t x = if is_locked_by t x.standing then record x { standing = Payable } else x
+abbrev pub unlock_all_of : ℕ → Sale → Sale
+unlock_all_of t x = if is_locked_by t x.standing then record x { standing = Payable } else x
 
 -- the sales after the sign-off of till t
 abbrev pub after_sign_off : ℕ → Sales → Sales
-after_sign_off t s = each_changed (let_go t) s
+after_sign_off t s = each_changed (unlock_all_of t) s

@@ -1,7 +1,7 @@
 -- The two places at which a shelf's unpaid sales stand.
 use Rattle.std.specs.Prelude.{◌≡◌, ℕ, ◌+◌, ◌<◌, List, Bool, true, false, Option, Some, None, ◌||◌, ◌==◌, if◌then◌else◌, length, option_map, slice_get, slice_index_or, unwrap_or}
 use Rattle.transaction_buffer.specs.Sales.{Sale, is_unpaid, unpaid_among}
-use Rattle.transaction_buffer.specs.TransactionTable.{let_go}
+use Rattle.transaction_buffer.specs.TransactionTable.{unlock_all_of}
 
 -- this place is the one that is kept
 abbrev pub is_at : Option ℕ → ℕ → Bool
@@ -46,4 +46,4 @@ pub record IsLetGoAt (t : ℕ) (place : Option ℕ) (old new : List Sale) : Type
   pub long : length new ≡ length old
   pub each : (i : ℕ) (d : Sale) → i < length old
       → slice_index_or new i d
-      ≡ (if is_at place i then let_go t (slice_index_or old i d) else slice_index_or old i d)
+      ≡ (if is_at place i then unlock_all_of t (slice_index_or old i d) else slice_index_or old i d)

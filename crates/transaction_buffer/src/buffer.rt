@@ -3,10 +3,10 @@
 ghost use Rattle.std.specs.Prelude.{◌≡◌, ◌≢◌, ℕ, ◌+◌, ◌^◌, ◌<◌, ◌≤◌, true, Some, None, is_some, length, IfErr, IfSome, OnErr, OnOk};
 ghost use Rattle.site_base.specs.declared.limits.TheConstants.{POINT_CELLS, UNPAID_LIMIT};
 ghost use Rattle.transaction_buffer.specs.Sales.{key, no_sales, HasNoneLater, has_sale, sale_of, next_number, unpaid_at, with_new, is_new, new_sale, shown};
-ghost use Rattle.transaction_buffer.specs.Asked.{Asked};
+ghost use Rattle.transaction_buffer.specs.Requests.{Asked};
 ghost use Rattle.transaction_buffer.specs.Figures.{figure_of};
 ghost use Rattle.transaction_buffer.specs.FoundSales.{key_of, IsPlaced};
-ghost use Rattle.transaction_buffer.specs.LetGo.{AreLetGo};
+ghost use Rattle.transaction_buffer.specs.SignOffs.{AreLetGo};
 ghost use Rattle.transaction_buffer.specs.TransactionTable.{after_request, after_sign_off, answer_of, refusal_of};
 ghost use Rattle.transaction_buffer.specs.Sums.{volume_of, volume_by};
 ghost use Rattle.transaction_buffer.specs.Rooms.{one_taken, room_at};
@@ -55,7 +55,7 @@ impl Model for Buffer {
 
     ghost view = { λ b. record { sales = sales_on b.shelves; rooms = rooms_on b.shelves } };
 
-    ghost use Rattle.transaction_buffer.specs.Kept.{IsKept};
+    ghost use Rattle.transaction_buffer.specs.KeptSales.{IsKept};
 
     ghost invariant = { λ b. IsKept b.shelves b.sums b.locked };
 }
@@ -267,7 +267,7 @@ impl Buffer {
 
     /// A figure summed over the transactions themselves: no sum that is kept is read. It fits in 64
     /// bits.
-    pub fn counted(&self, figure: &Figure) -> u64
+    pub fn recount(&self, figure: &Figure) -> u64
         requires { figure_of figure.now self.now.sales < 2 ^ 64 }
         ensures { result ≡ figure_of figure.now self.now.sales }
     {
@@ -315,7 +315,7 @@ fn let_go_at(shelves: &mut [Shelf], points: PointSet, sums: &mut Sums, t: TillNo
     while let Some(p) = left.first() {
         let shelf = &mut shelves[p.cell()];
         shelf.let_go_sums(sums, t);
-        shelf.let_go(t);
+        shelf.unlock_all_of(t);
         left.remove(p);
     }
 }

@@ -28,7 +28,7 @@ pub fn counted_on(shelves: &[Shelf], figure: &Figure) -> u64
 {
     let mut sum = 0;
     for shelf in shelves {
-        sum += shelf.counted(figure);
+        sum += shelf.recount(figure);
     }
     sum
 }

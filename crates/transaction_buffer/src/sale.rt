@@ -3,7 +3,7 @@
 ghost use Rattle.std.specs.Prelude.{◌≡◌, ◌≤◌, None, Some, IfErr, OnOk};
 ghost use Rattle.site_base.specs.declared.limits.TheConstants.{PRODUCTS};
 ghost use Rattle.transaction_buffer.specs.Sales.{is_unpaid, new_sale, status_of, view_of};
-ghost use Rattle.transaction_buffer.specs.TransactionTable.{answer_in, let_go, line_for, locker, refusal_in, sale_after_request};
+ghost use Rattle.transaction_buffer.specs.TransactionTable.{answer_in, unlock_all_of, line_for, locker, refusal_in, sale_after_request};
 ghost use Rattle.transaction_buffer.specs.Clears.{is_cleared_by, is_cleared_in};
 ghost use Rattle.transaction_buffer.specs.Sums.{has_status, volume_in, volume_locked_by};
 
@@ -232,8 +232,8 @@ impl Sale {
     }
 
     /// The sale after the sign-off of a till: payable where this till has locked it.
-    pub fn let_go(&self, t: TillNo) -> Sale
-        ensures { result ≡ let_go t self.now }
+    pub fn unlock_all_of(&self, t: TillNo) -> Sale
+        ensures { result ≡ unlock_all_of t self.now }
     {
         match self.standing {
             Standing::LockedBy(u) if u.get() == t.get() => Sale {

@@ -4,11 +4,11 @@ ghost use Rattle.std.specs.Prelude.{◌≡◌, ℕ, ◌+◌, ◌-◌, ◌^◌, �
 ghost use Rattle.site_base.specs.declared.limits.TheConstants.{GREATEST_SEQ, GREATEST_SHIFT, UNPAID_LIMIT};
 ghost use Rattle.transaction_buffer.specs.Sales.{Sale, is_unpaid, made_in, next_after, unpaid_among};
 ghost use Rattle.transaction_buffer.specs.Shelves.{NoneAfter, no_span, place_in, shifts_of};
-ghost use Rattle.transaction_buffer.specs.TransactionTable.{let_go};
+ghost use Rattle.transaction_buffer.specs.TransactionTable.{unlock_all_of};
 ghost use Rattle.transaction_buffer.specs.UnpaidPlaces.{figure_at, AreUnpaid, IsLetGoAt};
 ghost use Rattle.transaction_buffer.specs.Figures.{figure_in};
 ghost use Rattle.transaction_buffer.specs.KeptSums.{AreMoved, CanMove};
-ghost use Rattle.transaction_buffer.specs.LetGo.{IsLetGo};
+ghost use Rattle.transaction_buffer.specs.SignOffs.{IsLetGo};
 ghost use Rattle.transaction_buffer.specs.Locked.{locker_at, no_lockers, AreTold};
 ghost use Rattle.transaction_buffer.specs.Sums.{sum_among, volume_locked_by};
 
@@ -160,7 +160,7 @@ impl Shelf {
     }
 
     /// Makes the sales that this till has locked payable.
-    pub fn let_go(&mut self, t: TillNo)
+    pub fn unlock_all_of(&mut self, t: TillNo)
         ensures { IsLetGo t self.old self.new }
     {
         let unpaid = self.unpaid;
@@ -179,7 +179,7 @@ impl Shelf {
     }
 
     /// The figure over its sales, which fits.
-    pub fn counted(&self, figure: &Figure) -> u64
+    pub fn recount(&self, figure: &Figure) -> u64
         requires { sum_among (figure_in figure.now) self.now.sales < 2 ^ 64 }
         ensures { result ≡ sum_among (figure_in figure.now) self.now.sales }
     {
@@ -217,7 +217,7 @@ fn span_of(spans: &[Span], shift: ShiftNo) -> Span
 /// Makes the sales at these places payable, if this till has locked them: no other is unpaid.
 fn let_go_unpaid(sales: &mut [Sale], unpaid: UnpaidPlaces, t: TillNo)
     requires { AreUnpaid sales.old unpaid.one unpaid.other }
-    ensures { sales.new ≡ map (let_go t) sales.old }
+    ensures { sales.new ≡ map (unlock_all_of t) sales.old }
 {
     let_go_at(sales, unpaid.one, t);
     let_go_at(sales, unpaid.other, t);
@@ -229,7 +229,7 @@ fn let_go_at(sales: &mut [Sale], place: Option<usize>, t: TillNo)
     ensures { IsLetGoAt t place sales.old sales.new }
 {
     if let Some(i) = place {
-        sales[i] = sales[i].let_go(t);
+        sales[i] = sales[i].unlock_all_of(t);
     }
 }
 
@@ -252,6 +252,6 @@ fn let_go_sum_at(sales: &[Sale], place: Option<usize>, sums: &mut Sums, t: TillN
     if let Some(i) = place
         && let Some(sale) = sales.get(i)
     {
-        sums.let_go(sale, t);
+        sums.unlock_all_of(sale, t);
     }
 }

@@ -78,7 +78,7 @@ impl Sums {
 
     /// Moves this sale's volume from the locked sums to the payable ones, if this till has locked
     /// it.
-    pub fn let_go(&mut self, sale: &Sale, t: TillNo)
+    pub fn unlock_all_of(&mut self, sale: &Sale, t: TillNo)
         requires { CanMove (λ q. volume_locked_by q t sale.now) self.old }
         ensures { AreMoved (λ q. volume_locked_by q t sale.now) self.old self.new }
     {

@@ -10,7 +10,7 @@ use Rattle.site_base.specs.declared.sale.SaleId.{SaleId}
 use Rattle.site_base.specs.Checks.{◌or_else◌, reply_or, value_or}
 use Rattle.transaction_buffer.specs.declared.request.Request.{Request}
 use Rattle.transaction_buffer.specs.declared.request.Request.TheVariants as requests
-use Rattle.transaction_buffer.specs.Asked.{reply_of}
+use Rattle.transaction_buffer.specs.Requests.{reply_of}
 use Rattle.transaction_buffer.specs.Sales.{Key, Sale, Sales, sale_of}
 use Rattle.transaction_buffer.specs.TransactionTable.{Seen, payable, locked_by_it, locked_by_other, cleared_by, line, line_of, seen_by, answer_in, refusal_in, answer_of, refusal_of, after_request}
 use Rattle.written_site.specs.SiteChecks.{may_ask, can_do, first_refusal}

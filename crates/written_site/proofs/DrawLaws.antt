@@ -18,7 +18,7 @@ use Rattle.fuelling_point.specs.declared.event.PointEvent.{PointEvent}
 use Rattle.fuelling_point.specs.declared.event.PointEvent.TheVariants as points
 use Rattle.fuelling_point.specs.declared.step.PointStep.{PointStep}
 use Rattle.fuelling_point.specs.declared.step.PointStep.TheVariants.{Drawn}
-use Rattle.fuelling_point.specs.Kept.{growth_of}
+use Rattle.fuelling_point.specs.KeptPoints.{growth_of}
 use Rattle.fuelling_point.specs.Step.{step_of}
 use Rattle.meters.specs.Metered.{product_alone}
 use Rattle.written_site.specs.DrawLaws.{tells_drawn, run_at, product_read, draws_at, drawn_for, drawn_while, AreDrawsCounted}

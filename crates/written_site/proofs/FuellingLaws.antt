@@ -10,7 +10,7 @@ use Rattle.site_base.specs.declared.row.Row.{Row}
 use Rattle.site_base.specs.Configured.{Configured}
 use Rattle.fuelling_point.specs.declared.step.PointStep.{PointStep}
 use Rattle.fuelling_point.specs.declared.step.PointStep.TheVariants.{Sold}
-use Rattle.fuelling_point.specs.Kept.{Facts, growth_of}
+use Rattle.fuelling_point.specs.KeptPoints.{Facts, growth_of}
 use Rattle.meters.specs.Nozzles.{Nozzle}
 use Rattle.transaction_buffer.specs.declared.request.Request.{Request}
 use Rattle.transaction_buffer.specs.declared.request.Request.TheVariants as requests

@@ -7,10 +7,10 @@ use Rattle.site_base.specs.declared.event.Event.{Event}
 use Rattle.site_base.specs.declared.event.Event.TheVariants.{Lift, Offline, HangUp}
 use Rattle.site_base.specs.declared.row.Row.{Row}
 use Rattle.site_base.specs.declared.state.PointState.TheVariants as states
-use Rattle.site_base.specs.Events.{point_named, growth_told}
+use Rattle.site_base.specs.Events.{point_named, growth_in_reply}
 use Rattle.fuelling_point.specs.declared.event.PointEvent.{PointEvent}
 use Rattle.fuelling_point.specs.declared.event.PointEvent.TheVariants as points
-use Rattle.fuelling_point.specs.Kept.{Facts, growth_of, is_under_way}
+use Rattle.fuelling_point.specs.KeptPoints.{Facts, growth_of, is_under_way}
 use Rattle.fuelling_point.specs.PointChecks.{refusal_of}
 use Rattle.fuelling_point.specs.Step.{after}
 use Rattle.fuelling_point.specs.Whole.{IsWhole}
@@ -106,9 +106,9 @@ pub growth_moves : (s : SiteState) (a : Actor) (e : Event) (p : ℕ) (event : Po
     (earlier : List Row) → Passed s a e → own_event s e ≡ Some (p, event)
     → growth_at p (moment_at earlier s (told_row a e (Ok (site_answer s e)))) ≡ growth_of event
 growth_moves s a e p event earlier passes own =
-    ap (λ o. if names_point p o then growth_told (Ok (site_answer s e)) else 0)
+    ap (λ o. if names_point p o then growth_in_reply (Ok (site_answer s e)) else 0)
     (own_named s e p event own)
-    ∙ ap (λ (b : Bool). if b then growth_told (Ok (site_answer s e)) else 0) (itself p)
+    ∙ ap (λ (b : Bool). if b then growth_in_reply (Ok (site_answer s e)) else 0) (itself p)
     ∙ growth_is s a e passes ∙ ap growth_by own
 
 pub growth_away : (s : SiteState) (a : Actor) (e : Event) (p : ℕ) (earlier : List Row)
@@ -116,8 +116,8 @@ pub growth_away : (s : SiteState) (a : Actor) (e : Event) (p : ℕ) (earlier : L
     → growth_at p (moment_at earlier s (told_row a e (Ok (site_answer s e)))) ≡ 0
 growth_away s a e p earlier passes away = by_own (own_event s e) refl
   where
-    none : (b : Bool) → growth_told (Ok (site_answer s e)) ≡ 0
-        → (if b then growth_told (Ok (site_answer s e)) else 0) ≡ 0
+    none : (b : Bool) → growth_in_reply (Ok (site_answer s e)) ≡ 0
+        → (if b then growth_in_reply (Ok (site_answer s e)) else 0) ≡ 0
     none true is = is
     none false is = refl
 
@@ -128,6 +128,6 @@ growth_away s a e p earlier passes away = by_own (own_event s e) refl
     by_own (Some x) is =
         let other : (x.0 == p) ≡ false =
         apart x.0 p x.1 (λ event again. away event (is ∙ again)) in
-        ap (λ o. if names_point p o then growth_told (Ok (site_answer s e)) else 0)
+        ap (λ o. if names_point p o then growth_in_reply (Ok (site_answer s e)) else 0)
         (own_named s e x.0 x.1 is)
-        ∙ ap (λ (b : Bool). if b then growth_told (Ok (site_answer s e)) else 0) other
+        ∙ ap (λ (b : Bool). if b then growth_in_reply (Ok (site_answer s e)) else 0) other

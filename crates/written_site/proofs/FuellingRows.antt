@@ -15,7 +15,7 @@ use Rattle.site_base.specs.Events.{point_named}
 use Rattle.site_base.specs.Prices.{prices_of}
 use Rattle.site_base.specs.Table.{row_of, with_row}
 use Rattle.fuelling_point.specs.declared.event.PointEvent.{PointEvent}
-use Rattle.fuelling_point.specs.Kept.{Facts, growth_of, is_under_way}
+use Rattle.fuelling_point.specs.KeptPoints.{Facts, growth_of, is_under_way}
 use Rattle.fuelling_point.specs.PointChecks.{refusal_of}
 use Rattle.fuelling_point.specs.Step.{after}
 use Rattle.fuelling_point.proofs.Whole.{whole_accepted}

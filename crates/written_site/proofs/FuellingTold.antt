@@ -7,14 +7,14 @@ use Rattle.site_base.specs.declared.event.Event.{Event}
 use Rattle.site_base.specs.declared.event.Event.TheVariants.{Terminate, ReadTransaction, ReadProduct, Clear, Lift, Flow, Offline, HangUp}
 use Rattle.site_base.specs.declared.state.PointState.TheVariants as states
 use Rattle.site_base.specs.declared.view.TransactionView.{TransactionView}
-use Rattle.site_base.specs.Events.{growth_told}
+use Rattle.site_base.specs.Events.{growth_in_reply}
 use Rattle.site_base.specs.Table.{row_of}
 use Rattle.fuelling_point.specs.declared.event.PointEvent.TheVariants as points
-use Rattle.fuelling_point.specs.Kept.{Facts}
+use Rattle.fuelling_point.specs.KeptPoints.{Facts}
 use Rattle.fuelling_point.specs.PointChecks.{refusal_of}
 use Rattle.fuelling_point.specs.Step.{step_of}
 use Rattle.transaction_buffer.specs.Sales.{Sale, sale_of}
-use Rattle.written_site.specs.SiteState.{SiteState, facts_of, key_named, sale_shown}
+use Rattle.written_site.specs.SiteState.{SiteState, facts_of, key_named, view_sale}
 use Rattle.written_site.specs.SiteChecks.{Passed, own_event, metering, flowed}
 use Rattle.written_site.specs.SiteStep.{site_answer, step_told, sale_told, clear_told, product_told}
 use Rattle.written_site.specs.SoundSteps.{growth_by}
@@ -23,24 +23,24 @@ use Rattle.written_site.specs.SoundSteps.{growth_by}
 
 flow_told : (s : SiteState) (p n growth : ℕ) (f : Facts)
     → refusal_of (points.Flow n growth) f ≡ None
-    → growth_told (Ok (step_told s p growth (step_of (points.Flow n growth) f))) ≡ growth
+    → growth_in_reply (Ok (step_told s p growth (step_of (points.Flow n growth) f))) ≡ growth
 flow_told s p n growth f taken = grind (arith, common_steps)
 
 hung_up_told : (s : SiteState) (p n growth : ℕ) (f : Facts)
     → refusal_of (points.HangUp n growth) f ≡ None → (f.state ≡ states.Calling → growth ≡ 0)
-    → growth_told (Ok (step_told s p growth (step_of (points.HangUp n growth) f))) ≡ growth
+    → growth_in_reply (Ok (step_told s p growth (step_of (points.HangUp n growth) f))) ≡ growth
 hung_up_told s p n growth f taken still = grind (arith, nat_tests, common_steps)
 
 lost_told : (s : SiteState) (p : ℕ) (f : Facts)
-    → growth_told (Ok (step_told s p 0 (step_of points.Offline f))) ≡ 0
+    → growth_in_reply (Ok (step_told s p 0 (step_of points.Offline f))) ≡ 0
 lost_told s p f = grind (arith, common_steps)
 
 ended_told : (s : SiteState) (p : ℕ) (f : Facts)
-    → growth_told (Ok (step_told s p 0 (step_of points.Terminate f))) ≡ 0
+    → growth_in_reply (Ok (step_told s p 0 (step_of points.Terminate f))) ≡ 0
 ended_told s p f = grind (arith, common_steps)
 
 lifted_told : (s : SiteState) (p n last price : ℕ) (f : Facts)
-    → growth_told (Ok (step_told s p 0 (step_of (points.Lift n last price) f))) ≡ 0
+    → growth_in_reply (Ok (step_told s p 0 (step_of (points.Lift n last price) f))) ≡ 0
 lifted_told s p n last price f = grind (arith, common_steps)
 
 -- where the point only calls, nothing flows
@@ -48,22 +48,22 @@ calling_still : (s : SiteState) (p n reading : ℕ) → metering s (HangUp p n r
     → (facts_of s p).state ≡ states.Calling → flowed s p n reading ≡ 0
 calling_still s p n reading reads calling = grind (arith, common_steps, nat_tests)
 
-shows_sale : (view : Option TransactionView) → growth_told (Ok (sale_told view)) ≡ 0
+shows_sale : (view : Option TransactionView) → growth_in_reply (Ok (sale_told view)) ≡ 0
 shows_sale None = refl
 shows_sale (Some view) = refl
 
-clears : (sale : Option Sale) → growth_told (Ok (clear_told sale)) ≡ 0
+clears : (sale : Option Sale) → growth_in_reply (Ok (clear_told sale)) ≡ 0
 clears None = refl
 clears (Some x) = refl
 
 shows_product : (s : SiteState) (q : ℕ) (price : Option ℕ)
-    → growth_told (Ok (product_told s q price)) ≡ 0
+    → growth_in_reply (Ok (product_told s q price)) ≡ 0
 shows_product s q None = refl
 shows_product s q (Some price) = refl
 
 -- the growth that an answer tells is the one handed to the point
 pub growth_is : (s : SiteState) (a : Actor) (e : Event) → Passed s a e
-    → growth_told (Ok (site_answer s e)) ≡ growth_by (own_event s e)
+    → growth_in_reply (Ok (site_answer s e)) ≡ growth_by (own_event s e)
 growth_is s a (Flow p n reading) passes =
     flow_told s p n (flowed s p n reading) (facts_of s p) passes.takes
 growth_is s a (HangUp p n reading) passes =
@@ -72,7 +72,7 @@ growth_is s a (HangUp p n reading) passes =
 growth_is s a (Offline p) passes = lost_told s p (facts_of s p)
 growth_is s a (Terminate p) passes = ended_told s p (facts_of s p)
 growth_is s a (Lift p n reading) passes = lifted_told s p n _ _ (facts_of s p)
-growth_is s a (ReadTransaction p id) passes = shows_sale (sale_shown s p id)
+growth_is s a (ReadTransaction p id) passes = shows_sale (view_sale s p id)
 growth_is s a (Clear p id) passes = clears (sale_of (key_named s p id) s.sales)
 growth_is s a (ReadProduct q) passes = shows_product s q (row_of q s.prices)
 growth_is s a e passes = refl

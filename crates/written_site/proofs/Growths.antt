@@ -8,11 +8,11 @@ use Rattle.site_base.specs.declared.limits.TheConstants.{GROWTH_LIMIT}
 use Rattle.site_base.specs.declared.refusal.Refusal.TheVariants.{MeterGap, MeterBack, MeterJump}
 use Rattle.site_base.specs.declared.row.Row.{Row}
 use Rattle.site_base.specs.declared.view.TransactionView.{TransactionView}
-use Rattle.site_base.specs.Events.{growth_told}
+use Rattle.site_base.specs.Events.{growth_in_reply}
 use Rattle.site_base.specs.Table.{row_of}
 use Rattle.fuelling_point.specs.declared.event.PointEvent.{PointEvent}
 use Rattle.fuelling_point.specs.declared.event.PointEvent.TheVariants as points
-use Rattle.fuelling_point.specs.Kept.{Facts, growth_of, noted}
+use Rattle.fuelling_point.specs.KeptPoints.{Facts, growth_of, noted}
 use Rattle.fuelling_point.specs.Step as machine
 use Rattle.fuelling_point.specs.Table.{Line, Told, done, calling, start, flowed, hung_up, no_sale, sold, stopped, ending, line_of}
 use Rattle.meters.specs.declared.report.Report.{Report}
@@ -20,7 +20,7 @@ use Rattle.meters.specs.declared.report.Report.TheVariants.{Still, Growing}
 use Rattle.meters.specs.Nozzles.{reading_of}
 use Rattle.meters.specs.Reports.{report_refusal}
 use Rattle.transaction_buffer.specs.Sales.{Sale, sale_of}
-use Rattle.written_site.specs.SiteState.{SiteState, facts_of, key_named, sale_shown}
+use Rattle.written_site.specs.SiteState.{SiteState, facts_of, key_named, view_sale}
 use Rattle.written_site.specs.SiteChecks as checks
 use Rattle.written_site.specs.SiteStep.{step_told, sale_told, clear_told, product_told, site_answer, reply_to}
 use Rattle.written_site.specs.SiteRun.{row_to}
@@ -28,7 +28,7 @@ use Rattle.written_site.proofs.RowWords.{of_row}
 
 -- what is told of a step that took this growth
 told_growth : (s : SiteState) (p growth : ℕ) (told : Told) (f : Facts)
-    → growth_told (Ok (step_told s p growth (machine.step_told told growth f))) ≤ growth
+    → growth_in_reply (Ok (step_told s p growth (machine.step_told told growth f))) ≤ growth
 told_growth s p growth done f = omega arith
 told_growth s p growth calling f = omega arith
 told_growth s p growth start f = omega arith
@@ -38,14 +38,14 @@ told_growth s p growth no_sale f = omega arith
 told_growth s p growth sold f = by_test f.test
   where
     by_test : (test : Bool)
-        → growth_told (Ok (step_told s p growth (machine.told_over (unwrap_or f.out 0) f.volume (record f { test = test })))) ≤ growth
+        → growth_in_reply (Ok (step_told s p growth (machine.told_over (unwrap_or f.out 0) f.volume (record f { test = test })))) ≤ growth
     by_test true = omega arith
     by_test false = omega arith
 told_growth s p growth stopped f = omega arith
 told_growth s p growth ending f = omega arith
 
 line_growth : (s : SiteState) (p : ℕ) (line : Option Line) (event : PointEvent) (f : Facts)
-    → growth_told (Ok (step_told s p (growth_of event) (machine.step_by line event f))) ≤ growth_of event
+    → growth_in_reply (Ok (step_told s p (growth_of event) (machine.step_by line event f))) ≤ growth_of event
 line_growth s p None event f = omega arith
 line_growth s p (Some line) event f =
     told_growth s p (growth_of event) line.told (noted event line.move f)
@@ -69,22 +69,22 @@ report_growth Growing last reading taken =
     by_tests true false is taken = cc
     by_tests false fits is taken = cc
 
-clear_growth : (sale : Option Sale) → growth_told (Ok (clear_told sale)) ≤ GROWTH_LIMIT
+clear_growth : (sale : Option Sale) → growth_in_reply (Ok (clear_told sale)) ≤ GROWTH_LIMIT
 clear_growth None = omega arith
 clear_growth (Some x) = omega arith
 
-sale_growth : (view : Option TransactionView) → growth_told (Ok (sale_told view)) ≤ GROWTH_LIMIT
+sale_growth : (view : Option TransactionView) → growth_in_reply (Ok (sale_told view)) ≤ GROWTH_LIMIT
 sale_growth None = omega arith
 sale_growth (Some view) = omega arith
 
 product_growth : (s : SiteState) (q : ℕ) (price : Option ℕ)
-    → growth_told (Ok (product_told s q price)) ≤ GROWTH_LIMIT
+    → growth_in_reply (Ok (product_told s q price)) ≤ GROWTH_LIMIT
 product_growth s q None = omega arith
 product_growth s q (Some price) = omega arith
 
 -- an event whose meter agrees
 answer_growth : (s : SiteState) (e : Event) → checks.metering s e ≡ None
-    → growth_told (Ok (site_answer s e)) ≤ GROWTH_LIMIT
+    → growth_in_reply (Ok (site_answer s e)) ≤ GROWTH_LIMIT
 answer_growth s (Flow p n reading) reads =
     let event : PointEvent = points.Flow n (checks.flowed s p n reading) in
     let told = line_growth s p (line_of event (facts_of s p).state) event (facts_of s p) in
@@ -106,12 +106,12 @@ answer_growth s (Lift p n reading) reads =
     let told = line_growth s p (line_of event (facts_of s p).state) event (facts_of s p) in
     omega (arith, told)
 answer_growth s (Clear p id) reads = clear_growth (sale_of (key_named s p id) s.sales)
-answer_growth s (ReadTransaction p id) reads = sale_growth (sale_shown s p id)
+answer_growth s (ReadTransaction p id) reads = sale_growth (view_sale s p id)
 answer_growth s (ReadProduct q) reads = product_growth s q (row_of q s.prices)
 answer_growth s e reads = omega arith
 
-pub growth_fits : (s : SiteState) (a : Actor) (e : Event) → growth_told (reply_to s a e) ≤ GROWTH_LIMIT
+pub growth_fits : (s : SiteState) (a : Actor) (e : Event) → growth_in_reply (reply_to s a e) ≤ GROWTH_LIMIT
 growth_fits s a e =
-    of_row (λ (r : Row) (after : SiteState). growth_told r.reply ≤ GROWTH_LIMIT) s (row_to s a e) refl
+    of_row (λ (r : Row) (after : SiteState). growth_in_reply r.reply ≤ GROWTH_LIMIT) s (row_to s a e) refl
     (λ refusal. omega arith)
     (λ passes. answer_growth s e passes.reads)

@@ -19,13 +19,13 @@ use Rattle.site_base.specs.Checks.{unless}
 use Rattle.fuelling_point.specs.declared.event.PointEvent.TheVariants as points
 use Rattle.fuelling_point.specs.declared.step.PointStep.{PointStep}
 use Rattle.fuelling_point.specs.declared.step.PointStep.TheVariants.{NoSale, Sold, Drawn, Stopped}
-use Rattle.fuelling_point.specs.Kept.{Facts}
+use Rattle.fuelling_point.specs.KeptPoints.{Facts}
 use Rattle.fuelling_point.specs.Step as machine
 use Rattle.fuelling_point.specs.Table.{line_of, line, Growth, zero, above_zero, Flow as flow, growth_in}
 use Rattle.site_base.specs.Table.{row_of}
 use Rattle.till_claims.specs.Holds.{is_held_by}
 use Rattle.transaction_buffer.specs.Sales.{Sale, sale_of}
-use Rattle.written_site.specs.SiteState.{SiteState, opening, facts_of, holder_of, is_resting, key_named, rests, sale_shown, price_at_start, reading_at_start}
+use Rattle.written_site.specs.SiteState.{SiteState, opening, facts_of, holder_of, is_resting, key_named, rests, view_sale, price_at_start, reading_at_start}
 use Rattle.written_site.specs.SiteChecks.{first_refusal, free_for, flowed}
 use Rattle.written_site.specs.SiteStep.{accepted_site, site_after, site_answer, step_told, sale_told, clear_told, product_told, ends_at_sign_off, holds_without, holds_unless_over}
 use Rattle.written_site.specs.SiteRun.{row_to, rows_of, events_of, site_at_end, site_of_rows}
@@ -185,7 +185,7 @@ accepted s a (Flow q n reading) p ok =
 accepted s a (ReadProduct q) p ok = rw (shows_product s q (row_of q s.prices)) (idle (holder_of s p))
 accepted s a (Clear q id) p ok =
     rw (clears_sale (sale_of (key_named s q id) s.sales)) (idle (holder_of s p))
-accepted s a (ReadTransaction q id) p ok = rw (shows_sale (sale_shown s q id)) (idle (holder_of s p))
+accepted s a (ReadTransaction q id) p ok = rw (shows_sale (view_sale s q id)) (idle (holder_of s p))
 accepted s a e p ok = idle (holder_of s p)
 
 -- the moment of an event at this site

@@ -9,7 +9,7 @@ use Rattle.site_base.specs.Checks.{reply_or, value_or}
 use Rattle.site_base.specs.Configured.{Configured}
 use Rattle.fuelling_point.specs.declared.event.PointEvent.{PointEvent}
 use Rattle.fuelling_point.specs.History.{facts_after as point_step, facts_at_end, point_after, reply_to as point_reply}
-use Rattle.fuelling_point.specs.Kept.{Facts, growth_of}
+use Rattle.fuelling_point.specs.KeptPoints.{Facts, growth_of}
 use Rattle.fuelling_point.specs.PointChecks.{refusal_of}
 use Rattle.fuelling_point.specs.Step.{step_of, after}
 use Rattle.written_site.specs.Histories.{Moment, moments_of}

@@ -16,7 +16,7 @@ use Rattle.fuelling_point.specs.declared.step.PointStep.TheVariants.{Moved}
 use Rattle.transaction_buffer.specs.Sales.{Sale, sale_of}
 use Rattle.written_site.specs.SiteChecks.{Passed, first_refusal, is_nozzle_there, is_product_there, is_sale_there, is_there, own_event}
 use Rattle.written_site.specs.SiteRun.{IsLegal}
-use Rattle.written_site.specs.SiteState.{SiteState, key_named, opening, sale_shown}
+use Rattle.written_site.specs.SiteState.{SiteState, key_named, opening, view_sale}
 use Rattle.written_site.specs.SiteStep.{accepted_site, clear_told, product_told, reply_to, sale_told, site_after, site_answer, step_told, told_by}
 use Rattle.written_site.specs.StepLaws.{AreClearsTold, DoRefusalsLeave, IsClearTold, is_clear, is_cleared}
 use Rattle.written_site.specs.RowWords.{OfBooks}
@@ -71,7 +71,7 @@ accepted s a (Offline p) passes = told_event s (own_event s (Offline p))
 accepted s a (Lift p n reading) passes = told_event s (own_event s (Lift p n reading))
 accepted s a (Flow p n reading) passes = told_event s (own_event s (Flow p n reading))
 accepted s a (HangUp p n reading) passes = told_event s (own_event s (HangUp p n reading))
-accepted s a (ReadTransaction p id) passes = told_sale (sale_shown s p id)
+accepted s a (ReadTransaction p id) passes = told_sale (view_sale s p id)
 accepted s a (ReadProduct q) passes = told_product s q (row_of q s.prices)
 accepted s a e passes = refl
 

@@ -13,7 +13,7 @@ use Rattle.site_base.specs.declared.state.Preset.TheVariants.{Money}
 use Rattle.site_base.specs.Configured.{Configured}
 use Rattle.site_base.specs.Events.{point_named}
 use Rattle.fuelling_point.specs.declared.event.PointEvent.{PointEvent}
-use Rattle.fuelling_point.specs.Kept.{Facts, is_under_way}
+use Rattle.fuelling_point.specs.KeptPoints.{Facts, is_under_way}
 use Rattle.fuelling_point.specs.PointChecks.{refusal_of}
 use Rattle.fuelling_point.specs.Step.{after}
 use Rattle.written_site.specs.DrawLaws.{run_of, run_at, product_read}

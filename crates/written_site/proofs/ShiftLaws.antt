@@ -17,7 +17,7 @@ use Rattle.written_site.specs.RowWords.{OfBooks, open_after}
 use Rattle.written_site.specs.ShiftFigures.{clears_in, cents_in, clears_by, cents_by}
 use Rattle.written_site.specs.ShiftLaws.{cents_cleared, cleared_cents, clears_for, cents_for, clears_while, cents_while, AreClearsCounted}
 use Rattle.written_site.specs.SiteChecks.{Passed, flowed}
-use Rattle.written_site.specs.SiteState.{SiteState, key_named, open_shift, sale_shown}
+use Rattle.written_site.specs.SiteState.{SiteState, key_named, open_shift, view_sale}
 use Rattle.written_site.specs.SiteStep.{site_answer, step_at, step_told, sale_told, clear_told, product_told, sales_after, reply_to, site_after}
 use Rattle.written_site.proofs.ClearFigures.{nothing_keeps, none_in, none_by}
 use Rattle.written_site.proofs.FigureMoves.{keeps_clears, has_clear}
@@ -58,7 +58,7 @@ not_cleared t s a (Flow p n reading) other =
     not_cleared_step t a s p (flowed s p n reading) (step_at s (Flow p n reading))
 not_cleared t s a (HangUp p n reading) other =
     not_cleared_step t a s p (flowed s p n reading) (step_at s (HangUp p n reading))
-not_cleared t s a (ReadTransaction p id) other = not_cleared_sale t a (sale_shown s p id)
+not_cleared t s a (ReadTransaction p id) other = not_cleared_sale t a (view_sale s p id)
 not_cleared t s a (ReadProduct q) other = not_cleared_product t a s q (row_of q s.prices)
 not_cleared t s (Till u) e other = refl
 not_cleared t s (Dispenser d) e other = refl

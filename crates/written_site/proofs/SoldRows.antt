@@ -11,7 +11,7 @@ use Rattle.fuelling_point.specs.declared.event.PointEvent.{PointEvent}
 use Rattle.fuelling_point.specs.declared.event.PointEvent.TheVariants as points
 use Rattle.fuelling_point.specs.declared.step.PointStep.{PointStep}
 use Rattle.fuelling_point.specs.declared.step.PointStep.TheVariants.{Sold}
-use Rattle.fuelling_point.specs.Kept.{growth_of}
+use Rattle.fuelling_point.specs.KeptPoints.{growth_of}
 use Rattle.fuelling_point.specs.PointChecks.{refusal_of}
 use Rattle.fuelling_point.specs.Step.{step_of}
 use Rattle.transaction_buffer.specs.Sales.{Key, key, made_at, next_key, with_new}

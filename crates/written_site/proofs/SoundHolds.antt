@@ -15,7 +15,7 @@ use Rattle.site_base.specs.declared.state.Preset.TheVariants.{Money}
 use Rattle.site_base.specs.Table.{row_of}
 use Rattle.fuelling_point.specs.declared.event.PointEvent.{PointEvent}
 use Rattle.fuelling_point.specs.declared.event.PointEvent.TheVariants as points
-use Rattle.fuelling_point.specs.Kept.{Facts}
+use Rattle.fuelling_point.specs.KeptPoints.{Facts}
 use Rattle.fuelling_point.specs.PointChecks.{refusal_of}
 use Rattle.fuelling_point.specs.Step.{step_of, after}
 use Rattle.fuelling_point.specs.Whole.{is_released}

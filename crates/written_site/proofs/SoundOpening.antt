@@ -17,7 +17,7 @@ use Rattle.site_base.specs.declared.config.ProductEntry.{ProductEntry}
 use Rattle.site_base.specs.Configured.{Configured, none_alike, same_point, are_points, are_nozzles, are_products, has_product, is_site}
 use Rattle.site_base.specs.Prices.{prices_of}
 use Rattle.site_base.specs.Table.{row_of}
-use Rattle.fuelling_point.specs.Kept.{Facts, fresh}
+use Rattle.fuelling_point.specs.KeptPoints.{Facts, fresh}
 use Rattle.fuelling_point.proofs.Whole.{stays_whole}
 use Rattle.meters.specs.Metered.{metered_by}
 use Rattle.meters.specs.Nozzles.{Nozzle, product_of, is_nozzle, numbered, nozzles_of_point, nozzles_of_points, opening_nozzles, EachMetered, AreNozzles}

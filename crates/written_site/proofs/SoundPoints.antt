@@ -12,7 +12,7 @@ use Rattle.site_base.specs.Ranges.{is_between}
 use Rattle.site_base.specs.Prices.{are_in_range}
 use Rattle.site_base.specs.Table.{row_of}
 use Rattle.fuelling_point.specs.declared.event.PointEvent.{PointEvent}
-use Rattle.fuelling_point.specs.Kept.{Facts, is_under_way, has_nozzle_out, volume_of}
+use Rattle.fuelling_point.specs.KeptPoints.{Facts, is_under_way, has_nozzle_out, volume_of}
 use Rattle.fuelling_point.specs.Laws.{lifted_by}
 use Rattle.fuelling_point.specs.Step.{step_of, after}
 use Rattle.fuelling_point.specs.Whole.{IsWhole, is_released}

@@ -7,7 +7,7 @@ use Rattle.site_base.specs.declared.event.Event.TheVariants.{SignOn, SignOff, Re
 use Rattle.site_base.specs.declared.limits.TheConstants.{GREATEST_READING, REPLACEMENT_LIMIT}
 use Rattle.fuelling_point.specs.declared.event.PointEvent.{PointEvent}
 use Rattle.fuelling_point.specs.declared.event.PointEvent.TheVariants as points
-use Rattle.fuelling_point.specs.Kept.{Facts, growth_of, is_under_way}
+use Rattle.fuelling_point.specs.KeptPoints.{Facts, growth_of, is_under_way}
 use Rattle.fuelling_point.specs.PointChecks.{refusal_of}
 use Rattle.fuelling_point.specs.Whole.{IsWhole}
 use Rattle.meters.specs.Nozzles.{Nozzle, reading_of, has_nozzle, times_replaced, with_nozzle, with_last, read_at, replaced_at, AreNozzles, EachMetered}

@@ -6,7 +6,7 @@ use Rattle.std.specs.Prelude.{nat_eq}
 use Rattle.std.specs.List.{list_any}
 use Rattle.site_base.specs.Configured.{none_alike}
 use Rattle.site_base.specs.Table.{row_of, with_row}
-use Rattle.fuelling_point.specs.Kept.{Facts, volume_of}
+use Rattle.fuelling_point.specs.KeptPoints.{Facts, volume_of}
 use Rattle.meters.specs.Nozzles.{Nozzle, product_of}
 use Rattle.written_site.specs.Sound.{numbers_of}
 use Rattle.written_site.specs.Volumes.{nozzle_out, product_out, running_at, running_by}

@@ -7,7 +7,7 @@ use Rattle.site_base.specs.declared.event.Event.{Event}
 use Rattle.site_base.specs.Numbered.{numbered}
 use Rattle.site_base.proofs.Numbering.{numbered_place, numbered_within}
 use Rattle.site_base.specs.Table.{row_of}
-use Rattle.fuelling_point.specs.Kept.{Facts}
+use Rattle.fuelling_point.specs.KeptPoints.{Facts}
 use Rattle.meters.specs.Metered.{most_of_a_site, product_alone}
 use Rattle.meters.specs.Nozzles.{Nozzle}
 use Rattle.meters.proofs.Bounded.{total_bound}

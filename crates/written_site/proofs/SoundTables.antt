@@ -5,7 +5,7 @@ use Rattle.std.proofs.lemmas.Bool.{false≢true}
 use Rattle.site_base.specs.Table.{row_of, with_row}
 use Rattle.site_base.proofs.Places.{with_row_by-absent}
 use Rattle.fuelling_point.specs.declared.event.PointEvent.{PointEvent}
-use Rattle.fuelling_point.specs.Kept.{Facts}
+use Rattle.fuelling_point.specs.KeptPoints.{Facts}
 use Rattle.fuelling_point.specs.Step.{after}
 use Rattle.written_site.specs.SiteState.{facts_in}
 use Rattle.written_site.specs.SiteStep.{with_event}

@@ -16,8 +16,8 @@ use Rattle.site_base.proofs.Numbering.{numbered_place, numbered_within}
 use Rattle.fuelling_point.specs.declared.event.PointEvent.{PointEvent}
 use Rattle.fuelling_point.specs.declared.event.PointEvent.TheVariants as points
 use Rattle.fuelling_point.specs.declared.step.PointStep.TheVariants.{Sold, Drawn}
-use Rattle.fuelling_point.specs.Kept.{Facts, is_under_way, growth_of}
-use Rattle.fuelling_point.specs.Kept.{volume_of as flowed_of}
+use Rattle.fuelling_point.specs.KeptPoints.{Facts, is_under_way, growth_of}
+use Rattle.fuelling_point.specs.KeptPoints.{volume_of as flowed_of}
 use Rattle.fuelling_point.specs.Laws.{sold_in, drawn_in}
 use Rattle.fuelling_point.specs.Step.{step_of}
 use Rattle.meters.specs.declared.report.Report.TheVariants.{Growing}

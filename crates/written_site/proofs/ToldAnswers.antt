@@ -9,11 +9,11 @@ use Rattle.site_base.specs.declared.state.PointState.TheVariants.{Idle, Authoris
 use Rattle.site_base.specs.declared.view.TransactionView.{TransactionView}
 use Rattle.site_base.specs.Table.{row_of}
 use Rattle.fuelling_point.specs.declared.event.PointEvent.TheVariants as points
-use Rattle.fuelling_point.specs.Kept.{Facts}
+use Rattle.fuelling_point.specs.KeptPoints.{Facts}
 use Rattle.fuelling_point.specs.Step as machine
 use Rattle.fuelling_point.specs.Table.{line_of, line, Growth, zero, above_zero, Flow as flow, growth_in}
 use Rattle.transaction_buffer.specs.Sales.{Sale, sale_of}
-use Rattle.written_site.specs.SiteState.{SiteState, facts_of, key_named, sale_shown, price_at_start, reading_at_start}
+use Rattle.written_site.specs.SiteState.{SiteState, facts_of, key_named, view_sale, price_at_start, reading_at_start}
 use Rattle.written_site.specs.SiteChecks.{flowed}
 use Rattle.written_site.specs.SiteStep.{site_answer, step_told, sale_told, clear_told, product_told}
 use Rattle.written_site.specs.SaleWords.{number_sold}
@@ -86,7 +86,7 @@ not_over s (Flow p n reading) other =
     (facts_of s p).state
 not_over s (ReadProduct q) other = shows_product s q (row_of q s.prices)
 not_over s (Clear p id) other = clears (sale_of (key_named s p id) s.sales)
-not_over s (ReadTransaction p id) other = shows_sale (sale_shown s p id)
+not_over s (ReadTransaction p id) other = shows_sale (view_sale s p id)
 not_over s e other = refl
 
 none_sold : (answer : Answer) → is_over answer ≡ false → number_sold (Ok answer) ≡ None

@@ -12,14 +12,14 @@ use Rattle.site_base.specs.declared.event.Event.TheVariants.{SignOff, Lock, Unlo
 use Rattle.site_base.specs.declared.limits.TheConstants.{PRODUCT_CELLS}
 use Rattle.site_base.specs.declared.row.Row.{Row}
 use Rattle.site_base.specs.Configured.{Configured}
-use Rattle.site_base.specs.Events.{growth_told}
+use Rattle.site_base.specs.Events.{growth_in_reply}
 use Rattle.site_base.specs.Numbered.{numbered}
 use Rattle.site_base.proofs.Numbering.{with_numbered_place}
 use Rattle.fuelling_point.specs.declared.event.PointEvent.{PointEvent}
 use Rattle.fuelling_point.specs.declared.event.PointEvent.TheVariants as points
 use Rattle.fuelling_point.specs.declared.step.PointStep.{PointStep}
 use Rattle.fuelling_point.specs.declared.step.PointStep.TheVariants.{Sold, Drawn}
-use Rattle.fuelling_point.specs.Kept.{Facts, volume_of}
+use Rattle.fuelling_point.specs.KeptPoints.{Facts, volume_of}
 use Rattle.fuelling_point.specs.Laws.{sold_in, drawn_in}
 use Rattle.fuelling_point.specs.Step.{step_of}
 use Rattle.meters.specs.declared.report.Report.TheVariants.{Growing}
@@ -288,7 +288,7 @@ pub record KnowsVolumes (c : Configured) (earlier : List Row) (s : SiteState) : 
       → metered_by (product_alone q) s.nozzles
       ≡ running_by (product_alone q) s.nozzles s.points + sold_by (product_alone q) s.sales
       + drawn_by (product_alone q) s.drawn
-  pub grown : total (λ r. growth_told r.reply) earlier ≡ metered_by every_product s.nozzles
+  pub grown : total (λ r. growth_in_reply r.reply) earlier ≡ metered_by every_product s.nozzles
 
 moves_accepted : (q : ℕ) (c : Configured) (earlier : List Row) (s : SiteState) (a : Actor)
     (e : Event)
@@ -333,10 +333,10 @@ grown_row : (c : Configured) (earlier : List Row) (s : SiteState) (r : Row)
     → KnowsVolumes c earlier s
     → r.reply ≡ reply_to s r.actor r.event
     → metered_by every_product (site_after s r.actor r.event).nozzles
-    ≡ metered_by every_product s.nozzles + growth_told r.reply
+    ≡ metered_by every_product s.nozzles + growth_in_reply r.reply
 grown_row c earlier s r known replies =
     of_row (λ row new. metered_by every_product new.nozzles
-    ≡ metered_by every_product s.nozzles + growth_told row.reply) s r replies
+    ≡ metered_by every_product s.nozzles + growth_in_reply row.reply) s r replies
     (λ refusal. omega arith)
     (λ passes.
     let told = growth_is s r.actor r.event passes in
@@ -368,7 +368,7 @@ volumes_more c earlier s r known replies = record {
       moves.sales moves.draws;
   grown = (let so_far = known.grown in
       let here = grown_row c earlier s r known replies in
-      let sum = total_push (λ (x : Row). growth_told x.reply) earlier r in
+      let sum = total_push (λ (x : Row). growth_in_reply x.reply) earlier r in
       omega (arith, so_far, here, sum));
 }
   where

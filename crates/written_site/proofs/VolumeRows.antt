@@ -13,7 +13,7 @@ use Rattle.site_base.specs.declared.state.PointState.TheVariants as states
 use Rattle.site_base.specs.declared.config.PointEntry.{PointEntry}
 use Rattle.site_base.specs.Table.{row_of, with_row}
 use Rattle.fuelling_point.specs.declared.event.PointEvent.{PointEvent}
-use Rattle.fuelling_point.specs.Kept.{Facts, is_under_way, volume_of, growth_of}
+use Rattle.fuelling_point.specs.KeptPoints.{Facts, is_under_way, volume_of, growth_of}
 use Rattle.fuelling_point.specs.Laws.{sold_in, drawn_in}
 use Rattle.fuelling_point.specs.PointChecks.{refusal_of}
 use Rattle.fuelling_point.specs.Step.{step_of, after}

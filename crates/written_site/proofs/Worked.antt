@@ -10,7 +10,7 @@ use Rattle.site_base.specs.declared.event.Event.TheVariants.{SignOn, SignOff, Op
 use Rattle.site_base.specs.declared.refusal.Refusal.TheVariants.{NotSignedOn, SignedOn, NoSuchPoint, AssignedToOther, NotYours, NotYourPoint, WrongState}
 use Rattle.site_base.specs.declared.state.PointState.TheVariants.{Closed, Idle}
 use Rattle.site_base.specs.Configured.{Configured}
-use Rattle.fuelling_point.specs.Kept.{fresh, point_view}
+use Rattle.fuelling_point.specs.KeptPoints.{fresh, point_view}
 use Rattle.written_site.specs.SiteState.{SiteState, opening, holder_of}
 use Rattle.written_site.specs.SiteStep.{reply_to, site_after}
 

@@ -14,7 +14,7 @@ use Rattle.site_base.specs.declared.event.Event.TheVariants.{SignOn, SignOff, As
 use Rattle.site_base.specs.declared.row.Row.{Row}
 use Rattle.site_base.specs.declared.state.PointState.{PointState}
 use Rattle.site_base.specs.declared.state.PointState.TheVariants.{Inoperative, Closed, Idle, Calling, Authorised, Started, SuspendedStarted, Fuelling, SuspendedFuelling}
-use Rattle.fuelling_point.specs.Kept.{Facts, fresh}
+use Rattle.fuelling_point.specs.KeptPoints.{Facts, fresh}
 use Rattle.written_site.specs.SiteState.{SiteState, holder_of, is_resting}
 use Rattle.written_site.specs.SiteStep.{site_after, ends_at_sign_off}
 use Rattle.written_site.specs.SiteRun.{row_to}

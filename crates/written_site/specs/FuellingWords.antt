@@ -9,7 +9,7 @@ use Rattle.site_base.specs.declared.event.Event.TheVariants.{SetPrice, Offline, 
 use Rattle.site_base.specs.declared.refusal.Refusal.{Refusal}
 use Rattle.site_base.specs.declared.row.Row.{Row}
 use Rattle.site_base.specs.Configured.{Configured}
-use Rattle.site_base.specs.Events.{point_named, growth_told}
+use Rattle.site_base.specs.Events.{point_named, growth_in_reply}
 use Rattle.site_base.specs.Prices.{prices_of}
 use Rattle.site_base.specs.Table.{row_of}
 use Rattle.meters.specs.Nozzles.{opening_nozzles, product_of}
@@ -107,7 +107,7 @@ ends_at p m = is_ok m.row.reply && end_said p m.row.event
 
 -- the millilitres that a moment tells to have flowed at the point
 abbrev pub growth_at : ℕ → Moment → ℕ
-growth_at p m = if names_point p (point_named m.row.event) then growth_told m.row.reply else 0
+growth_at p m = if names_point p (point_named m.row.event) then growth_in_reply m.row.reply else 0
 
 -- A fuelling of point p goes on at the end of these moments: one of them started it, and none since
 -- has ended it. This nozzle was out as it started, the price is the one that its product had

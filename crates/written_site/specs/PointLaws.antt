@@ -7,7 +7,7 @@ use Rattle.site_base.specs.declared.row.Row.{Row}
 use Rattle.site_base.specs.Configured.{Configured}
 use Rattle.fuelling_point.specs.declared.event.PointEvent.{PointEvent}
 use Rattle.fuelling_point.specs.History.{point_after, reply_to}
-use Rattle.fuelling_point.specs.Kept.{growth_of}
+use Rattle.fuelling_point.specs.KeptPoints.{growth_of}
 use Rattle.fuelling_point.specs.Step.{step_of}
 use Rattle.written_site.specs.Histories.{Moment, moments_of}
 use Rattle.written_site.specs.SiteChecks.{own_event}

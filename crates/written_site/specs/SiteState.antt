@@ -13,7 +13,7 @@ use Rattle.site_base.specs.declared.config.PointEntry.{PointEntry}
 use Rattle.site_base.specs.Configured.{Configured}
 use Rattle.site_base.specs.Prices.{prices_of}
 use Rattle.site_base.specs.Table.{row_of}
-use Rattle.fuelling_point.specs.Kept.{Facts, fresh, point_view}
+use Rattle.fuelling_point.specs.KeptPoints.{Facts, fresh, point_view}
 use Rattle.meters.specs.Nozzles.{Nozzle, opening_nozzles, product_of, reading_of}
 use Rattle.transaction_buffer.specs.Sales.{Key, key, Sales, no_sales, shown}
 
@@ -87,8 +87,8 @@ abbrev pub rests : List (ℕ × Facts) → ℕ → Bool
 rests points p = is_some (row_of p points) && is_resting (facts_in points p).state
 
 -- the point as a read shows it
-abbrev pub point_shown : SiteState → ℕ → Option PointView
-point_shown s p = option_and_then (λ f. Some (point_view f (holder_of s p))) (row_of p s.points)
+abbrev pub view_point : SiteState → ℕ → Option PointView
+view_point s p = option_and_then (λ f. Some (point_view f (holder_of s p))) (row_of p s.points)
 
 -- the number of the open shift
 abbrev pub open_shift : SiteState → ℕ
@@ -103,8 +103,8 @@ abbrev pub key_named : SiteState → ℕ → SaleId → Key
 key_named s p id = key (shift_named s id) p id.seq
 
 -- that sale as a read shows it
-abbrev pub sale_shown : SiteState → ℕ → SaleId → Option TransactionView
-sale_shown s p id = shown (key_named s p id) s.sales
+abbrev pub view_sale : SiteState → ℕ → SaleId → Option TransactionView
+view_sale s p id = shown (key_named s p id) s.sales
 
 -- today's price of the product of nozzle n of point p, if there is such a nozzle
 abbrev pub price_of : List Nozzle → List (ℕ × ℕ) → ℕ → ℕ → Option ℕ

@@ -18,14 +18,14 @@ use Rattle.site_base.specs.Table.{row_of, with_row}
 use Rattle.fuelling_point.specs.declared.event.PointEvent.{PointEvent}
 use Rattle.fuelling_point.specs.declared.step.PointStep.{PointStep}
 use Rattle.fuelling_point.specs.declared.step.PointStep.TheVariants.{Moved, Calling, Start, Flowed, HungUp, NoSale, Sold, Drawn, Stopped, Ending}
-use Rattle.fuelling_point.specs.Kept.{Facts, growth_of, point_view}
+use Rattle.fuelling_point.specs.KeptPoints.{Facts, growth_of, point_view}
 use Rattle.fuelling_point.specs.Step as machine
 use Rattle.meters.specs.Nozzles.{Nozzle, with_last, with_meter}
 use Rattle.till_claims.specs.Holds.{is_held_by}
 use Rattle.transaction_buffer.specs.declared.request.Request.TheVariants as requests
 use Rattle.transaction_buffer.specs.Sales.{Sale, Sales, sale_of, made_at, new_standing, with_new}
 use Rattle.transaction_buffer.specs.TransactionTable.{after_request, after_sign_off}
-use Rattle.written_site.specs.SiteState.{SiteState, facts_in, facts_of, holder_of, is_signed_on, key_named, nothing_drawn, open_shift, rests, sale_shown}
+use Rattle.written_site.specs.SiteState.{SiteState, facts_in, facts_of, holder_of, is_signed_on, key_named, nothing_drawn, open_shift, rests, view_sale}
 use Rattle.written_site.specs.Volumes.{product_out, running_at, product_view}
 use Rattle.written_site.specs.ShiftFigures.{site_view}
 use Rattle.written_site.specs.SiteChecks.{own_event, first_refusal}
@@ -92,7 +92,7 @@ site_answer s (ReadPoint p) = answers.PointIs (point_view (facts_of s p) (holder
 site_answer s (Lock p id) = answers.Locked
 site_answer s (Unlock p id) = answers.Unlocked
 site_answer s (Clear p id) = clear_told (sale_of (key_named s p id) s.sales)
-site_answer s (ReadTransaction p id) = sale_told (sale_shown s p id)
+site_answer s (ReadTransaction p id) = sale_told (view_sale s p id)
 site_answer s (SetPrice q price) = answers.Done
 site_answer s (ReadProduct q) = product_told s q (row_of q s.prices)
 site_answer s CloseShift = answers.ShiftClosed (open_shift s)

@@ -13,7 +13,7 @@ use Rattle.site_base.specs.Configured.{Configured, none_alike, is_site}
 use Rattle.site_base.specs.Events.{reading_carried}
 use Rattle.site_base.specs.Prices.{prices_of, are_in_range}
 use Rattle.site_base.specs.Table.{row_of}
-use Rattle.fuelling_point.specs.Kept.{Facts, is_under_way}
+use Rattle.fuelling_point.specs.KeptPoints.{Facts, is_under_way}
 use Rattle.fuelling_point.specs.Whole.{IsWhole, is_released}
 use Rattle.meters.specs.Metered.{metered_by}
 use Rattle.meters.specs.Nozzles.{AreNozzles, has_nozzle, product_of, reading_of}

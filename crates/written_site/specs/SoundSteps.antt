@@ -10,7 +10,7 @@ use Rattle.site_base.specs.declared.state.Status.TheVariants as statuses
 use Rattle.site_base.specs.Numbered.{numbered}
 use Rattle.fuelling_point.specs.declared.event.PointEvent.{PointEvent}
 use Rattle.fuelling_point.specs.declared.step.PointStep.TheVariants.{Sold, Drawn}
-use Rattle.fuelling_point.specs.Kept.{FitsGrowth, growth_of}
+use Rattle.fuelling_point.specs.KeptPoints.{FitsGrowth, growth_of}
 use Rattle.fuelling_point.specs.Laws.{sold_in, drawn_in, is_end}
 use Rattle.fuelling_point.specs.Step.{step_of}
 use Rattle.meters.specs.Metered.{most_of_a_site, metered_by, product_alone, product_total}

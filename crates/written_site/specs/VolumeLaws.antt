@@ -4,7 +4,7 @@ use Rattle.site_base.specs.declared.limits.TheConstants.{PRODUCTS}
 use Rattle.site_base.specs.declared.row.Row.{Row}
 use Rattle.site_base.specs.declared.state.Status.TheVariants.{Payable, Locked, Cleared}
 use Rattle.site_base.specs.Configured.{Configured, are_points, are_products}
-use Rattle.site_base.specs.Events.{growth_told}
+use Rattle.site_base.specs.Events.{growth_in_reply}
 use Rattle.meters.specs.Metered.{every_product, metered_by, product_total}
 use Rattle.transaction_buffer.specs.Sums.{volume_by}
 use Rattle.written_site.specs.MeteredRows.{metered_rows}
@@ -24,7 +24,7 @@ pub record AreVolumesConserved (c : Configured) (rows : List Row) (s : SiteState
       → metered_rows c q rows
       ≡ running s q + volume_by q Payable s.sales + volume_by q Locked s.sales
       + volume_by q Cleared s.sales + adjusted s q
-  pub grown : total (λ r. growth_told r.reply) rows ≡ metered_by every_product s.nozzles
+  pub grown : total (λ r. growth_in_reply r.reply) rows ≡ metered_by every_product s.nozzles
 
 -- of fit products and points: at the site that any rows lead to, what is metered of the products adds up
 -- to what all meters have counted

@@ -3,7 +3,7 @@
 use Rattle.std.specs.Prelude.{ℕ, ◌+◌, ◌-◌, ◌*◌, List, [], ◌∷◌, unwrap_or, if◌then◌else◌}
 use Rattle.site_base.specs.declared.state.Status.TheVariants.{Payable, Locked, Cleared}
 use Rattle.site_base.specs.declared.view.ProductView.{ProductView}
-use Rattle.fuelling_point.specs.Kept.{Facts, is_under_way}
+use Rattle.fuelling_point.specs.KeptPoints.{Facts, is_under_way}
 use Rattle.meters.specs.Metered.{every_product, metered_by, product_alone, product_total}
 use Rattle.meters.specs.Nozzles.{Nozzle, product_of, reading_of}
 use Rattle.transaction_buffer.specs.Sales.{Sales}

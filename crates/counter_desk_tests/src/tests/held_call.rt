@@ -5,48 +5,16 @@ ghost use Rattle.std.specs.Prelude.{◌≡◌, ◌^◌};
 
 use super::calls::{Calls, by_till};
 use super::site::five_points;
-use counter_desk::{Desk, Gate, Naming, Root, Settled, crew};
+use counter_desk::testing::HoldingGate;
+use counter_desk::{Desk, Naming, Root, Settled, crew};
 use site_base::{Actor, Event, NoMemory, SiteConfig};
 use std::alloc::Global;
 use std::marker::Brand;
 use std::process::Abort;
-use std::sync::atomic::{AtomicU64, Ordering};
 use std::sync::ledger::{Blank, Ledger};
 use std::sync::{Mutex, Wait};
 use std::test::Fail;
-use std::thread;
 use std::thread::Threads;
-
-/// Holds one actor until another was answered, for at most so many turns.
-#[derive(Drop)]
-struct HoldingGate {
-    held: Actor,
-    answered: AtomicU64,
-    gave_up: AtomicU64,
-}
-
-impl Gate for HoldingGate {
-    fn before_lock(&self, actor: Actor) {
-        if actor != self.held {
-            return;
-        }
-        for turn in 0..100_000_000u64 {
-            if self.answered.load(Ordering::SeqCst) != 0 {
-                return;
-            }
-            if turn % 64 == 0 {
-                thread::yield_now();
-            }
-        }
-        self.gave_up.store(1, Ordering::SeqCst);
-    }
-
-    fn after_reply(&self, actor: Actor) {
-        if actor != self.held {
-            self.answered.store(1, Ordering::SeqCst);
-        }
-    }
-}
 
 #[test]
 fn held_call(rt: HostRuntime) -> Result<(), Fail> {
@@ -97,17 +65,13 @@ fn sign_both_on<L: Ledger + Send + Sync, C: Naming + Send + Sync, R: Threads + W
     root: &Mutex<Root<L, C>>,
     held: u8,
 ) -> Result<(), NoMemory> {
-    let gate = HoldingGate {
-        held: by_till(rt, held),
-        answered: AtomicU64::new(0),
-        gave_up: AtomicU64::new(0),
-    };
+    let gate = HoldingGate::new(by_till(rt, held));
     let mut lists = Vec::new(alloc);
     lists.push(sign_on(rt, alloc, 1)?)?;
     lists.push(sign_on(rt, alloc, 2)?)?;
     let ends = crew(rt, alloc, desk, root, &gate, &lists)?;
     assert!(rt;
-        gate.gave_up.load(Ordering::SeqCst) == 0,
+        !gate.gave_up(),
         "the other worker didn't run"
     );
     assert_eq!(rt; ends.len(), 2);

@@ -1,4 +1,4 @@
-//! A day of one share: a sale is paid, and a snapshot sees it. Each growth may be refused once.
+//! A day of one share: a sale is paid, and a snapshot sees it. Each allocation may fail once.
 
 ghost use Rattle.std.specs.Prelude.{◌≡◌, ◌^◌};
 
@@ -7,7 +7,7 @@ use super::site::five_points;
 use counter_desk::{Desk, Naming, SettleFault, Settled, Share, Unsettled};
 use site_base::{
     Actor, Answer, Cents, Event, NoMemory, NoRow, PointState, Preset, ProductView, Refusal, Reply,
-    SiteConfig, TILLS, growth_told,
+    SiteConfig, TILLS, growth_in_reply,
 };
 use std::alloc::Global;
 use std::marker::Brand;
@@ -16,9 +16,9 @@ use std::sync::Wait;
 use std::sync::ledger::{Blank, Ledger};
 use std::test::Fail;
 
-/// Says that a growth was refused in this run.
+/// Says that an allocation failed in this run.
 fn said(rt: &impl Eprint) {
-    let _ = rt.eprintln("a growth was refused");
+    let _ = rt.eprintln("an allocation failed");
 }
 
 #[test]
@@ -107,7 +107,7 @@ fn settled_again<L: Ledger, C: Naming, R: Abort>(
     }
 }
 
-/// Makes a call. After a refused growth the share and the site are as before, and the call is made
+/// Makes a call. After a failed allocation the share and the site are as before, and the call is made
 /// again.
 fn make_call<L: Ledger, C: Naming, R: Wait + Abort + Eprint>(
     rt: &R,
@@ -162,7 +162,7 @@ pub fn pay<L: Ledger, C: Naming, R: Wait + Abort + Eprint>(
     let (dispenser, lifted) = &lift(rt, 1, 0);
     assert!(rt; make_call(rt, alloc, desk, share, dispenser, lifted).is_ok());
     let (dispenser, hung_up) = &hang_up(rt, 1, 10_000);
-    assert!(rt; growth_told(&make_call(rt, alloc, desk, share, dispenser, hung_up)) == 10_000);
+    assert!(rt; growth_in_reply(&make_call(rt, alloc, desk, share, dispenser, hung_up)) == 10_000);
     expect(rt, alloc, desk, share, 1, &lock, &Ok(Answer::Locked));
     let cleared = Ok(Answer::Cleared(Cents::new(1_500).expect(rt, "cents")));
     expect(rt, alloc, desk, share, 1, &clear, &cleared);

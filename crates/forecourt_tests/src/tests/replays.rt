@@ -8,7 +8,7 @@ use std::alloc::Global;
 use std::io::{self, ErrorKind, Read, Write};
 use std::process::Abort;
 use std::test::Fail;
-use till_session::Faulty;
+use till_session::testing::Faulty;
 
 /// Till 1 signs on, opens point 3, and reads it: lines of 36, 36 and 30 octets.
 const ASKED: &str = "\

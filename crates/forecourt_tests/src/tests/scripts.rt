@@ -1,4 +1,4 @@
-//! Made for runs in which one growth is refused: the call says so, and the same call then answers
+//! Made for runs in which one allocation fails: the call says so, and the same call then answers
 //! as ever.
 
 use demo_script::{DemoScript, ScriptFault, Section, read_script};
@@ -17,11 +17,11 @@ lift 1\n\
 pump 1000000\n\
 wait 9";
 
-/// Reads a text, once more if a growth was refused.
+/// Reads a text, once more if an allocation failed.
 fn read(rt: &(impl Abort + Eprint), alloc: Global, text: &[u8]) -> Result<DemoScript, ScriptFault> {
     match read_script(alloc, text) {
         Err(ScriptFault::NoMemory) => {
-            let _ = rt.eprintln("a growth was refused");
+            let _ = rt.eprintln("an allocation failed");
             read_script(alloc, text)
         }
         answer => answer,
@@ -54,7 +54,7 @@ fn each_refused(rt: HostRuntime) {
     }
 }
 
-/// The fault of a script is the same, whatever growth was refused before.
+/// The fault of a script is the same, whatever allocation failed before.
 #[test]
 fn fault_told(rt: HostRuntime) {
     match read(&rt, rt.alloc(), b"010102010041000401013100\ntill\n0101\n") {

@@ -1,4 +1,4 @@
-//! Made for runs in which one growth is refused: no hold changes, and the same call then tells the
+//! Made for runs in which one allocation fails: no hold changes, and the same call then tells the
 //! points.
 
 use super::*;
@@ -13,7 +13,7 @@ fn a_refused_list_changes_no_hold(rt: HostRuntime) {
     let t = till(&rt, 1);
     let held = match claims.held_by(rt.alloc(), t) {
         Err(NoMemory) => {
-            let _ = rt.eprintln("a growth was refused");
+            let _ = rt.eprintln("an allocation failed");
             assert_eq!(rt; claims.holder(point(&rt, 16)), Some(t));
             claims.held_by(rt.alloc(), t)
         }

@@ -5,7 +5,7 @@ use std::alloc::Global;
 use std::cell::Cell;
 use std::io::{self, ErrorKind, Read, Write};
 use std::rc::Rc;
-use till_session::Faulty;
+use till_session::testing::Faulty;
 
 /// How many octets a peer was told. Its two ends and the session's counter look at it.
 pub type Told = Rc<Cell<u64>>;

@@ -1,4 +1,4 @@
-//! The session of two tills, in which each growth may be refused once.
+//! The session of two tills, in which each allocation may fail once.
 
 use super::calls::{TWO_TILLS, octets};
 use super::noting::Call;
@@ -23,9 +23,9 @@ const MAY_BE_TOLD: [&str; 3] = [
  02 01 01 01 00 E2 00 05 01 21 01 01 1F 02 02 01 01 00 E3 00 05 01 01 01 01 39",
 ];
 
-/// Says that a growth was refused in this run.
+/// Says that an allocation failed in this run.
 fn said(rt: &impl Eprint) {
-    let _ = rt.eprintln("a growth was refused");
+    let _ = rt.eprintln("an allocation failed");
 }
 
 #[test]

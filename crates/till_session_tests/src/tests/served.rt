@@ -5,49 +5,18 @@ ghost use Rattle.till_session.specs.declared.server.TheConstants.{SESSIONS};
 
 use super::calls::{by_till, octets};
 use super::site::five_points;
-use counter_desk::{Desk, Gate, Naming, OpenGate, Settled};
+use counter_desk::testing::HoldingGate;
+use counter_desk::{Desk, Naming, OpenGate, Settled};
 use site_base::{Actor, NoMemory, SiteConfig};
 use std::alloc::Global;
 use std::marker::Brand;
 use std::process::Abort;
-use std::sync::atomic::{AtomicU64, Ordering};
 use std::sync::ledger::{Blank, Ledger};
 use std::sync::{Mutex, Wait};
 use std::test::Fail;
-use std::thread;
 use std::thread::Threads;
-use till_session::{Connections, SessionEnd, SessionFault, serve};
-
-/// Holds one actor until another was answered, for at most so many turns.
-#[derive(Drop)]
-struct HoldingGate {
-    held: Actor,
-    answered: AtomicU64,
-    gave_up: AtomicU64,
-}
-
-impl Gate for HoldingGate {
-    fn before_lock(&self, actor: Actor) {
-        if actor != self.held {
-            return;
-        }
-        for turn in 0..100_000_000u64 {
-            if self.answered.load(Ordering::SeqCst) != 0 {
-                return;
-            }
-            if turn % 64 == 0 {
-                thread::yield_now();
-            }
-        }
-        self.gave_up.store(1, Ordering::SeqCst);
-    }
-
-    fn after_reply(&self, actor: Actor) {
-        if actor != self.held {
-            self.answered.store(1, Ordering::SeqCst);
-        }
-    }
-}
+use till_session::testing::Connections;
+use till_session::{SessionEnd, SessionFault, serve};
 
 /// The SignOns of so many tills, a connection each.
 fn sign_ons(rt: &impl Abort, alloc: Global, tills: u8) -> Result<Vec<Vec<u8>>, NoMemory> {
@@ -74,15 +43,11 @@ fn held_call(rt: HostRuntime) -> Result<(), Fail> {
     let alloc = rt.alloc();
     let config = five_points(&rt, alloc, 1_000_000)?;
     for held in 1..3 {
-        let gate = HoldingGate {
-            held: by_till(&rt, held),
-            answered: AtomicU64::new(0),
-            gave_up: AtomicU64::new(0),
-        };
+        let gate = HoldingGate::new(by_till(&rt, held));
         let listener = Connections::new(sign_ons(&rt, alloc, 2)?, 0);
         let day = one_day(&rt, alloc, &config, listener, &gate, 2)?;
         assert!(rt;
-            gate.gave_up.load(Ordering::SeqCst) == 0,
+            !gate.gave_up(),
             "the other worker didn't run"
         );
         assert!(rt; day.ends.len() == 2 && day.settled.rows == 4 && day.settled.shares == 2);

@@ -1,9 +1,9 @@
 use Rattle.std.proofs.Common.{◌≡◌, length, ap, refl, sym, subst, ◌∙◌}
 use Rattle.std.proofs.lemmas.List.{length-map}
 use Rattle.site_base.specs.declared.row.Row.{Row}
-use Rattle.site_base.specs.Events.{cents_told, growth_told}
+use Rattle.site_base.specs.Events.{cents_in_reply, growth_in_reply}
 use Rattle.written_site.specs.RowWords.{total}
-use Rattle.counter_desk.specs.Kept.{book_of}
+use Rattle.counter_desk.specs.KeptHistories.{book_of}
 use Rattle.counter_desk.specs.Marks.{AreAllMarked}
 use Rattle.counter_desk.specs.Receipts.{ReceiptList, cents_receipted, growth_receipted}
 use Rattle.counter_desk.specs.Roots.{lists_of}
@@ -22,7 +22,7 @@ returns-clause-ok g c =
     let as_long : length marks ≡ length rows = c.mark_all.ensures.length in
     let cents = c.amounts-cents.ensures.cents ∙ ap (total cents_receipted) returned in
     let millilitres = c.amounts-cents.ensures.millilitres ∙ ap (total growth_receipted) returned in
-    let grown = millilitres ∙ adds_up (λ (r : Row). growth_told r.reply) rows marks lists all as_long c.requires in
+    let grown = millilitres ∙ adds_up (λ (r : Row). growth_in_reply r.reply) rows marks lists all as_long c.requires in
     let config = g.C.Naming.config in
     let sound = c.kept_histories_are_sound.ensures config (book_of config rows) (length rows)
     (record { of = refl; legal = c.len-rows.ensures.legal; counted = refl }) in
@@ -31,11 +31,11 @@ returns-clause-ok g c =
       dealt = dealt rows marks lists all as_long c.requires;
       rows = c.len-rows.ensures.rows;
       calls = c.len-rows.ensures.rows ∙ sym c.requires;
-      cents = cents ∙ adds_up (λ (r : Row). cents_told r.reply) rows marks lists all as_long c.requires;
+      cents = cents ∙ adds_up (λ (r : Row). cents_in_reply r.reply) rows marks lists all as_long c.requires;
       cents_shared = cents;
       cents_booked =
           cents
-          ∙ adds_up (λ (r : Row). cents_told r.reply) rows marks lists all as_long c.requires
+          ∙ adds_up (λ (r : Row). cents_in_reply r.reply) rows marks lists all as_long c.requires
           ∙ sym c.in-Ok-totals.ensures.sums.cleared;
       millilitres = grown;
       millilitres_shared = millilitres;

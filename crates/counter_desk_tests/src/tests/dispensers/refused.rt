@@ -1,4 +1,4 @@
-//! A run that a refused growth ends goes on with the steps that it left.
+//! A run that a failed allocation ends goes on with the steps that it left.
 
 ghost use Rattle.std.specs.Prelude.{◌≡◌, ◌^◌};
 
@@ -13,9 +13,9 @@ use std::sync::Wait;
 use std::sync::ledger::{Blank, Ledger};
 use std::test::Fail;
 
-/// Says that a growth was refused in this run.
+/// Says that an allocation failed in this run.
 fn said(rt: &impl Eprint) {
-    let _ = rt.eprintln("a growth was refused");
+    let _ = rt.eprintln("an allocation failed");
 }
 
 #[test]
@@ -89,7 +89,7 @@ fn day_of<L: Ledger, C: Naming, R: Wait + Abort + Eprint>(
 }
 
 /// The nozzle is lifted, 4,000 ml are asked for where the preset lets 3,000 through, and it is put
-/// back. Where a growth was refused, the run made a receipt for each step before that, and another
+/// back. Where an allocation failed, the run made a receipt for each step before that, and another
 /// run takes the rest.
 fn fuel<L: Ledger, C: Naming, R: Wait + Abort + Eprint>(
     rt: &R,

@@ -54,7 +54,7 @@ pub fn one_point(
     Ok(SiteConfig::try_new(rows, Vec::new(alloc), products, points).expect(rt, "a site"))
 }
 
-/// Till 1 makes a call, which is accepted; once more, if a growth was refused, and the share is as
+/// Till 1 makes a call, which is accepted; once more, if an allocation failed, and the share is as
 /// before.
 pub fn call<L: Ledger, C: Naming, R: Wait + Abort + Eprint>(
     rt: &R,
@@ -69,7 +69,7 @@ pub fn call<L: Ledger, C: Naming, R: Wait + Abort + Eprint>(
             return;
         }
         Err(NoRow::NoMemory) => {
-            let _ = rt.eprintln("a growth was refused");
+            let _ = rt.eprintln("an allocation failed");
         }
         Err(NoRow::BookFull) => panic!(rt; "the book is full"),
     }

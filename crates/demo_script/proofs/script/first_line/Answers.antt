@@ -7,7 +7,7 @@ use Rattle.demo_script.proofs.script.first_line.Goals as goal
 pub returns-in-Some-clause-line : goal.returns-in-Some-clause-line
 returns-in-Some-clause-line c =
     let is : get_or c.args.text.now c.in-Some.end 0 ≡ 10 = eqb-true _ _ c.in-Some.ensures.1 in
-    let parted : lines_of c.args.text.now ≡ take c.in-Some.end c.args.text.now ∷ lines_of (drop (suc c.in-Some.end) c.args.text.now) =
+    let split_at_space : lines_of c.args.text.now ≡ take c.in-Some.end c.args.text.now ∷ lines_of (drop (suc c.in-Some.end) c.args.text.now) =
     line_first c.args.text.now c.in-Some.end c.in-Some.ensures.0.high is
     (λ k low e. c.in-Some.ensures.0.before k (omega arith) low (eq-eqb _ _ e)) in
     let front : c.split_at.result.0.now ≡ take c.in-Some.end c.args.text.now = c.split_at.ensures.front in

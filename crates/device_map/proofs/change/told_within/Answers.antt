@@ -1,7 +1,7 @@
 use Rattle.device_map.proofs.Short.{command_short}
 use Rattle.device_map.proofs.change.told_within.Goals as goal
 
-pub finished-requires-clause-short : goal.finished-requires-clause-short
-finished-requires-clause-short c =
+pub finish_message-requires-clause-short : goal.finish_message-requires-clause-short
+finish_message-requires-clause-short c =
     rw (c.in_ok-put_preset.ensures, c.in_ok-put_command.ensures, c.in_ok-draft.ensures)
     (command_short c.args.command c.args.preset c.requires)

@@ -1,6 +1,6 @@
 use Rattle.device_map.proofs.Short.{number_short}
 use Rattle.device_map.proofs.reply.number_like.Goals as goal
 
-pub finished-requires-clause-short : goal.finished-requires-clause-short
-finished-requires-clause-short c =
+pub finish_message-requires-clause-short : goal.finish_message-requires-clause-short
+finish_message-requires-clause-short c =
     rw (c.in_ok-put_octet.ensures, c.in_ok-again.ensures) (number_short c.args.number)

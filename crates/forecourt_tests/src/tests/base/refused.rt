@@ -1,4 +1,4 @@
-//! Made for runs in which one growth is refused: what was there stays, and the same call then
+//! Made for runs in which one allocation fails: what was there stays, and the same call then
 //! answers as ever.
 
 use site_base::{
@@ -36,9 +36,9 @@ fn site_of_petrol(alloc: Global) -> Result<Option<SiteConfig>, NoMemory> {
     Ok(SiteConfig::try_new(10, Vec::new(alloc), products, points))
 }
 
-/// Says that a growth was refused in this run.
+/// Says that an allocation failed in this run.
 fn said(rt: &impl Eprint) {
-    let _ = rt.eprintln("a growth was refused");
+    let _ = rt.eprintln("an allocation failed");
 }
 
 #[test]

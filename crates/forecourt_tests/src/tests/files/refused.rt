@@ -1,4 +1,4 @@
-//! Made for runs in which one growth is refused: the call says so, and the same call then answers
+//! Made for runs in which one allocation fails: the call says so, and the same call then answers
 //! as ever.
 
 use super::{assert_known, text_of};
@@ -6,7 +6,7 @@ use site_file::{ConfigFault, read_config};
 use std::alloc::{AllocError, Global};
 use std::process::Abort;
 
-/// The text, after one more try if a growth was refused.
+/// The text, after one more try if an allocation failed.
 fn written_text(alloc: Global, points: u8) -> Result<String, AllocError> {
     match text_of(alloc, points) {
         Ok(text) => Ok(text),
@@ -14,14 +14,14 @@ fn written_text(alloc: Global, points: u8) -> Result<String, AllocError> {
     }
 }
 
-/// Reads the site file of as many points, once more if a growth was refused.
+/// Reads the site file of as many points, once more if an allocation failed.
 fn read(rt: &(impl Abort + Eprint), alloc: Global, points: u8) {
     let Ok(text) = written_text(alloc, points) else {
         panic!(rt; "no text");
     };
     let answer = match read_config(alloc, text.as_bytes()) {
         Err(ConfigFault::NoMemory) => {
-            let _ = rt.eprintln("a growth was refused");
+            let _ = rt.eprintln("an allocation failed");
             read_config(alloc, text.as_bytes())
         }
         answer => answer,

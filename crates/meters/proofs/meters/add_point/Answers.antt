@@ -16,19 +16,19 @@ loop-place-preserved c =
     let kept = c.loop-place.invariant in
     let left : drop i es ≡ get_or es i e ∷ drop (i + 1) es =
     rw add-one (drop-cons es i e (omega (arith, ap length same))) in
-    let first : c.opened.result ≡ opened p (i + 1) (get_or es i e) =
-    c.opened.ensures.value ∙ ap (λ n. opened p n e) c.in-Some.ensures.value
+    let first : c.at_opening.result ≡ opened p (i + 1) (get_or es i e) =
+    c.at_opening.ensures.value ∙ ap (λ n. opened p n e) c.in-Some.ensures.value
     ∙ ap (opened p (i + 1)) (c.nozzle-item.is ∙ ap (λ xs. get_or xs i e) same) in
-    let step : c.opened.result ∷ numbered p (i + 1 + 1) (drop (i + 1) es)
+    let step : c.at_opening.result ∷ numbered p (i + 1 + 1) (drop (i + 1) es)
     ≡ numbered p (i + 1) (drop i es) =
     ap (λ x. x ∷ numbered p (i + 1 + 1) (drop (i + 1) es)) first
     ∙ sym (ap (numbered p (i + 1)) left) in
     record {
       added = ap (λ xs. xs ++ numbered p (i + 1 + 1) (drop (i + 1) es)) c.in_ok-push.ensures.items
-          ∙ append_assoc items (c.opened.result ∷ []) (numbered p (i + 1 + 1) (drop (i + 1) es))
+          ∙ append_assoc items (c.at_opening.result ∷ []) (numbered p (i + 1 + 1) (drop (i + 1) es))
           ∙ ap (λ xs. items ++ xs) step ∙ kept.added;
       few = omega (arith, c.in_ok-push.ensures.len, c.loop-place.invariant.few);
       bounds = subst EachMetered (sym c.in_ok-push.ensures.items)
-          (each_joined items (c.opened.result ∷ []) c.loop-place.invariant.bounds
-          (c.opened.ensures.bounds, tt));
+          (each_joined items (c.at_opening.result ∷ []) c.loop-place.invariant.bounds
+          (c.at_opening.ensures.bounds, tt));
     }

@@ -5,7 +5,7 @@ use Rattle.site_base.specs.declared.limits.TheConstants.{TILLS}
 use Rattle.site_base.specs.SignChanges.{sign_change}
 use Rattle.written_site.specs.SiteStep.{reply_to}
 use Rattle.site_book.specs.Book.{IsBook, book_reply}
-use Rattle.site_book.specs.Signed.{tills_on}
+use Rattle.site_book.specs.SignedOn.{tills_on}
 use Rattle.site_book.proofs.Books.{IsBook-push, tills_with-most}
 use Rattle.written_site.proofs.Growths.{growth_fits}
 use Rattle.site_book.proofs.Signed.{no_more}

@@ -3,7 +3,7 @@ use Rattle.site_base.specs.declared.actor.Actor.{Actor}
 use Rattle.site_base.specs.declared.event.Event.{Event}
 use Rattle.site_base.specs.declared.row.Row.{Row}
 use Rattle.site_base.specs.declared.limits.TheConstants.{TILLS}
-use Rattle.site_book.specs.Signed.{tills_on}
+use Rattle.site_book.specs.SignedOn.{tills_on}
 use Rattle.site_book.proofs.Books.{IsBook-push}
 use Rattle.site_book.proofs.Signed.{no_more, one_on, tills_after}
 use Rattle.site_book.proofs.book.SiteBook.sign_off.Goals as goal

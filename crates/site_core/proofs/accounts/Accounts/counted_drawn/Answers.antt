@@ -2,7 +2,7 @@ use Rattle.std.proofs.Common.{ℕ, ◌<◌, ◌^◌, sym, subst, ◌∙◌, arit
 use Rattle.site_core.proofs.CountedDraws.{drawn_each}
 use Rattle.site_core.proofs.accounts.Accounts.counted_drawn.Goals as goal
 
-pub drawn-requires : goal.drawn-requires
+pub drawn-requires : goal.drawn_volume-requires
 drawn-requires c =
     let fits = rw (← c.self.view_is) at c.requires in
     subst (λ (n : ℕ). n < 2 ^ 64)
@@ -10,4 +10,4 @@ drawn-requires c =
 
 pub returns : goal.returns
 returns c = rw (← c.self.view_is)
-    (c.drawn.ensures ∙ drawn_each c.args.q c.self.inside.shifts.shifts (omega arith))
+    (c.drawn_volume.ensures ∙ drawn_each c.args.q c.self.inside.shifts.shifts (omega arith))

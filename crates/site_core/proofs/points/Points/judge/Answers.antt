@@ -1,5 +1,5 @@
 use Rattle.std.proofs.Common.{◌≡◌, ℕ, List, Some, get_or, ap, sym, ◌∙◌}
-use Rattle.fuelling_point.specs.Kept.{Facts}
+use Rattle.fuelling_point.specs.KeptPoints.{Facts}
 use Rattle.written_site.specs.SiteState.{facts_in}
 use Rattle.written_site.proofs.SoundTables.{facts_there}
 use Rattle.site_core.proofs.points.Points.judge.Goals as goal

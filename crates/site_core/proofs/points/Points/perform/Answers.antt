@@ -1,5 +1,5 @@
 use Rattle.std.proofs.Common.{◌≡◌, ℕ, List, Some, None, get_or, ap, sym, subst, ◌∙◌}
-use Rattle.fuelling_point.specs.Kept.{Facts, FitsGrowth}
+use Rattle.fuelling_point.specs.KeptPoints.{Facts, FitsGrowth}
 use Rattle.fuelling_point.specs.PointChecks.{refusal_of}
 use Rattle.written_site.specs.SiteState.{facts_in}
 use Rattle.written_site.proofs.SoundTables.{facts_there, numbers_kept}

@@ -1,6 +1,6 @@
 use Rattle.std.proofs.Common.{◌≡◌, List, ℕ, get_or, is_some, sym, ap, ◌∙◌, arith}
 use Rattle.site_base.specs.Table.{IsPlace}
-use Rattle.fuelling_point.specs.Kept.{Facts}
+use Rattle.fuelling_point.specs.KeptPoints.{Facts}
 use Rattle.written_site.proofs.SoundTables.{same}
 use Rattle.site_core.proofs.PointPlaces.{alone_place}
 use Rattle.site_core.proofs.points.Points.place.Goals as goal

@@ -1,5 +1,5 @@
 use Rattle.std.proofs.Common.{◌≡◌, ℕ, List, Some, None, get_or, ap, sym, ◌∙◌}
-use Rattle.fuelling_point.specs.Kept.{Facts, point_view}
+use Rattle.fuelling_point.specs.KeptPoints.{Facts, point_view}
 use Rattle.written_site.specs.SiteState.{facts_in}
 use Rattle.written_site.proofs.SoundTables.{facts_there}
 use Rattle.site_core.proofs.points.Points.view.Goals as goal

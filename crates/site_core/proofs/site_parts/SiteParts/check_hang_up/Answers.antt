@@ -1,5 +1,5 @@
 use Rattle.std.proofs.Common.{refl, sym, ap, ◌∙◌}
-use Rattle.fuelling_point.specs.Kept.{Facts}
+use Rattle.fuelling_point.specs.KeptPoints.{Facts}
 use Rattle.written_site.specs.SiteChecks.{put_back_at}
 use Rattle.site_core.specs.SiteParts.{site_of}
 use Rattle.site_core.proofs.ReadyReports.{hang_up_ready}

@@ -26,8 +26,8 @@ pub serve-requires : goal.serve-requires
 serve-requires g c =
     let same : is_another c.args.self.now.peer c.args.message.now.from ≡ false =
     ap (is_another c.args.self.now.peer) (sym c.from.ensures) ∙ sym c.if-is_another.ensures in
-    let peer : c.meet.new.self.peer ≡ peer_after c.args.self.now.peer c.args.message.now.from =
-    ap (λ (s : TalkState). s.peer) c.meet.ensures ∙ ap (peer_after c.args.self.now.peer) c.from-2.ensures in
+    let peer : c.bind_peer.new.self.peer ≡ peer_after c.args.self.now.peer c.args.message.now.from =
+    ap (λ (s : TalkState). s.peer) c.bind_peer.ensures ∙ ap (peer_after c.args.self.now.peer) c.from-2.ensures in
     subst (IsSpokenBy c.in-Ok.actor) (sym peer)
     (spoken_by c.args.self.now.peer c.args.message.now c.in-Ok.actor c.in-Ok.event same c.in-Ok.ensures)
 
@@ -36,17 +36,17 @@ returns-in-Ok-clause-talked g c =
     let st = c.args.self.now in
     let same : is_another st.peer c.args.message.now.from ≡ false =
     ap (is_another st.peer) (sym c.from.ensures) ∙ sym c.if-is_another.ensures in
-    let met : c.meet.new.self ≡ record st { peer = peer_after st.peer c.args.message.now.from } =
-    c.meet.ensures ∙ ap (λ n. record st { peer = peer_after st.peer n }) c.from-2.ensures in
-    talked_asked c.serve.result st c.meet.new.self c.serve.new.self c.in-Ok.actor c.in-Ok.event c.args.message.now _ _ _ _ _ _ same c.in-Ok.ensures met c.serve.ensures.asked c.serve.ensures.ends
+    let met : c.bind_peer.new.self ≡ record st { peer = peer_after st.peer c.args.message.now.from } =
+    c.bind_peer.ensures ∙ ap (λ n. record st { peer = peer_after st.peer n }) c.from-2.ensures in
+    talked_asked c.serve.result st c.bind_peer.new.self c.serve.new.self c.in-Ok.actor c.in-Ok.event c.args.message.now _ _ _ _ _ _ same c.in-Ok.ensures met c.serve.ensures.asked c.serve.ensures.ends
 
 pub returns-in-Err-clause-talked : goal.returns-in-Err-clause-talked
 returns-in-Err-clause-talked g c =
     let st = c.args.self.now in
     let same : is_another st.peer c.args.message.now.from ≡ false =
     ap (is_another st.peer) (sym c.from.ensures) ∙ sym c.if-is_another.ensures in
-    let met : c.meet.new.self ≡ record st { peer = peer_after st.peer c.args.message.now.from } =
-    c.meet.ensures ∙ ap (λ n. record st { peer = peer_after st.peer n }) c.from-2.ensures in
+    let met : c.bind_peer.new.self ≡ record st { peer = peer_after st.peer c.args.message.now.from } =
+    c.bind_peer.ensures ∙ ap (λ n. record st { peer = peer_after st.peer n }) c.from-2.ensures in
     let written = rw c.number.ensures at c.refuse-in-Err.ensures.ok in
     let front = rw c.number.ensures at c.refuse-in-Err.ensures.front in
     rw (c.refuse-in-Err.ensures.same, met)

@@ -6,7 +6,7 @@ use Rattle.till_session.proofs.talk.Talk.serve.Goals as goal
 pub returns-in_err-reply-clause-asked : goal.returns-in_err-reply-clause-asked
 returns-in_err-reply-clause-asked g c =
     let p = err_from_is_err_and c.from_residual.result c.from_residual.ensures.1 in
-    rw (p.1, c.spare.ensures) (record {
+    rw (p.1, c.take_buffer.ensures) (record {
       outcome = c.ask.result;
       told = front_none _ _;
       recorded = c.ask.ensures.rows;

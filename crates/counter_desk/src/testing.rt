@@ -1,0 +1,53 @@
+//! A gate for tests of workers that run side by side.
+
+use crate::gate::Gate;
+use site_base::Actor;
+use std::sync::atomic::{AtomicU64, Ordering};
+use std::thread;
+
+/// Holds one actor before the lock until another was answered, for at most so many turns.
+#[derive(Drop)]
+pub struct HoldingGate {
+    held: Actor,
+    answered: AtomicU64,
+    gave_up: AtomicU64,
+}
+
+impl HoldingGate {
+    /// A gate that holds this actor.
+    pub fn new(held: Actor) -> HoldingGate {
+        HoldingGate {
+            held,
+            answered: AtomicU64::new(0),
+            gave_up: AtomicU64::new(0),
+        }
+    }
+
+    /// Was the actor let through before another was answered, since the turns were used up?
+    pub fn gave_up(&self) -> bool {
+        self.gave_up.load(Ordering::SeqCst) != 0
+    }
+}
+
+impl Gate for HoldingGate {
+    fn before_lock(&self, actor: Actor) {
+        if actor != self.held {
+            return;
+        }
+        for turn in 0..100_000_000u64 {
+            if self.answered.load(Ordering::SeqCst) != 0 {
+                return;
+            }
+            if turn % 64 == 0 {
+                thread::yield_now();
+            }
+        }
+        self.gave_up.store(1, Ordering::SeqCst);
+    }
+
+    fn after_reply(&self, actor: Actor) {
+        if actor != self.held {
+            self.answered.store(1, Ordering::SeqCst);
+        }
+    }
+}

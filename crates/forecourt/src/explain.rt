@@ -1,0 +1,102 @@
+//! `forecourt explain`, of a trace, and `forecourt explain NUMBER`, of a number.
+
+use crate::exit::{COMMAND_LINE, exit_no_memory, exit_replay, exit_unwritten, exit_with};
+use clap::ArgMatches;
+use forecourt_engines::explain::{explain, fault_name};
+use forecourt_engines::{
+    Explained, LINE_OCTETS, NumberMeaning, ReplayFault, TextFault, Trace,
+};
+use site_base::{NoMemory, ReadFault};
+use std::io::{BufRead, BufReader, ErrorKind, Read};
+use std::process::ExitCode;
+
+/// Prints what a number means; without one, each message of standard input in words.
+pub fn run_explain(rt: &HostRuntime, words: &ArgMatches<'_>) -> ExitCode {
+    match words.get_str("NUMBER") {
+        Some(word) => explain_number(rt, word),
+        None => explain_trace(rt),
+    }
+}
+
+/// Prints what a refusal's or fault's number means. Another word is a mistake.
+fn explain_number(rt: &HostRuntime, word: &str) -> ExitCode {
+    match word.parse::<u8>().ok().and_then(NumberMeaning::of) {
+        Some(meaning) => match println!(rt; "{meaning}") {
+            Ok(()) => ExitCode::SUCCESS,
+            Err(_) => exit_unwritten(rt),
+        },
+        None => exit_with(
+            eprintln!(rt; "error: no refusal and no fault has the number '{word}'"),
+            COMMAND_LINE,
+        ),
+    }
+}
+
+/// Prints each message of standard input in words, and says why the trace ended, if it ended with
+/// a fault.
+fn explain_trace(rt: &HostRuntime) -> ExitCode {
+    let alloc = rt.alloc();
+    let mut trace = Trace::new(alloc);
+    let mut reader = match BufReader::new(alloc, rt.stdin()) {
+        Ok(reader) => reader,
+        Err(_) => return exit_no_memory(rt),
+    };
+    for _ in 0..u64::MAX {
+        let mut line = Vec::new(alloc);
+        // No more is read of a line than it takes to see that it is too long.
+        let mut limited = (&mut reader).take(LINE_OCTETS as u64 + 1);
+        match limited.read_until(b'\n', &mut line) {
+            Ok(0) => return exit_replay(rt, trace.end().map(ReplayFault::Text)),
+            Ok(_) => {
+                if let Err(status) = print_line(rt, trace.line(without_line_feed(&line))) {
+                    return status;
+                }
+            }
+            Err(error) if error.kind() == ErrorKind::OutOfMemory => return exit_no_memory(rt),
+            Err(_) => return exit_replay(rt, Some(ReplayFault::Read(ReadFault::Failed))),
+        }
+    }
+    // No trace has so many lines.
+    exit_replay(rt, Some(ReplayFault::Read(ReadFault::TurnLimit)))
+}
+
+/// The line without the line feed that ends it.
+fn without_line_feed(line: &[u8]) -> &[u8] {
+    match line {
+        [front @ .., b'\n'] => front,
+        _ => line,
+    }
+}
+
+/// Prints what a line brought, or how the program ends with it.
+fn print_line(rt: &HostRuntime, brought: Result<Explained, NoMemory>) -> Result<(), ExitCode> {
+    let Explained { messages, stop } = match brought {
+        Ok(brought) => brought,
+        Err(_) => return Err(exit_no_memory(rt)),
+    };
+    for message in messages.as_slice() {
+        let text = match explain(rt.alloc(), message) {
+            Ok(text) => text,
+            Err(_) => return Err(exit_no_memory(rt)),
+        };
+        if println!(rt; "{text}").is_err() {
+            return Err(exit_unwritten(rt));
+        }
+    }
+    match stop {
+        None => Ok(()),
+        Some(fault) => Err(exit_stopped(rt, fault)),
+    }
+}
+
+/// Tells why the trace ended; a fault of its octets by its name, too, where the messages are
+/// printed.
+fn exit_stopped(rt: &HostRuntime, fault: TextFault) -> ExitCode {
+    if let TextFault::Stream(grammar) = fault {
+        let number = grammar.number();
+        if println!(rt; "{} {}", number, fault_name(number).unwrap_or("")).is_err() {
+            return exit_unwritten(rt);
+        }
+    }
+    exit_replay(rt, Some(ReplayFault::Text(fault)))
+}

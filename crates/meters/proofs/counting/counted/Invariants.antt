@@ -1,8 +1,0 @@
-use Rattle.std.proofs.Common.{◌≡◌, ◌+◌, drop}
-use Rattle.meters.specs.Metered.{product_total}
-use Rattle.meters.proofs.counting.counted.Given as goal
-
--- what is counted, with what the nozzles behind have, is what all have
-abbrev pub invariant-loop-meter : goal.invariant-loop-meter
-invariant-loop-meter l = l.sum + product_total l.q (drop l.meter-index l.meters)
-    ≡ product_total l.q l.meters
