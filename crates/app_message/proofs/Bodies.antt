@@ -1,6 +1,8 @@
 -- What octets of a body list, and that bodies list what was written.
-use Rattle.std.proofs.Common.{◌≡◌, ℕ, zero, suc, ◌+◌, ◌-◌, ◌<◌, ◌≤◌, true, false, eqb, refl, sym, ap}
-use Rattle.std.proofs.Common.{subst, ◌∙◌, Some, None, List, [], ◌∷◌, ◌++◌, length, get_or, take, drop, Ok}
+use Rattle.std.proofs.Common.{◌≡◌, ℕ, zero, suc, ◌+◌, ◌-◌, ◌<◌, ◌≤◌, true, false, eqb, refl, sym}
+use Rattle.std.proofs.Common.{ap}
+use Rattle.std.proofs.Common.{subst, ◌∙◌, Some, None, List, [], ◌∷◌, ◌++◌, length, get_or, take}
+use Rattle.std.proofs.Common.{drop, Ok}
 use Rattle.std.proofs.Common.{append_assoc, arith, inl, inr}
 use Rattle.std.specs.List.{flat_map, AllByRecursion}
 use Rattle.std.proofs.lemmas.Bool.{ne_eqb, le-ltb, lt-ltb, cases_lt, cases_Bool}
@@ -12,7 +14,8 @@ use Rattle.app_message.specs.declared.kind.Kind.{Kind}
 use Rattle.app_message.specs.Telegram.{Entry, entry, Telegram, telegram, AreOctets, IsEntry, Rises}
 use Rattle.app_message.specs.Spelling.{item_text, body_text, body, IsHead}
 use Rattle.app_message.specs.Grammar.{Header, items_at, address_at, body_at}
-use Rattle.app_message.specs.Bodies.{listed_in, listed, of_body, AreItems, IsBody, IsDraft, with_item}
+use Rattle.app_message.specs.Bodies.{listed_in, listed, of_body, AreItems, IsBody, IsDraft}
+use Rattle.app_message.specs.Bodies.{with_item}
 use Rattle.app_message.specs.Parts.{parts_fault, do_rise}
 use Rattle.app_message.proofs.Rising.{rises}
 use Rattle.app_message.proofs.Taking.{items_take, body_takes}
@@ -45,7 +48,8 @@ are_items es valid = record {
 -- what was written is the message of its body
 pub of_body_text : (to from : List ℕ) (kind : Kind) (token : ℕ) (address : List ℕ)
     (items : List Entry)
-    → of_body to from kind token (body_text address items) ≡ telegram to from kind token address items
+    → of_body to from kind token (body_text address items)
+    ≡ telegram to from kind token address items
 of_body_text to from kind token address items =
     let more : List ℕ = flat_map item_text items in
     rw (
@@ -192,7 +196,8 @@ pub begun : (to from : List ℕ) (kind : Kind) (token : ℕ) (address s : List �
     × IsDraft (of_body to from kind token s) s
 begun to from kind token address s head octets least most e =
     let m : Telegram = telegram to from kind token address [] in
-    let text : s ≡ body m = e ∙ ap (λ (t : List ℕ). length address ∷ t) (sym (append-nil address)) in
+    let text : s ≡ body m = e ∙ ap (λ (t : List ℕ). length address ∷ t)
+    (sym (append-nil address)) in
     let is : of_body to from kind token s ≡ m = of_body_is m s text in
     let draft : IsDraft m s =
     record {

@@ -1,6 +1,7 @@
 //! A stream of octets that comes in pieces.
 
-ghost use Rattle.std.specs.Prelude.{◌≡◌, ◌≢◌, ◌≤◌, ◌<◌, ◌+◌, [], length, IfOk, OnOk, OnErr, IfSome, IsSome};
+ghost use Rattle.std.specs.Prelude.{◌≡◌, ◌≢◌, ◌≤◌, ◌<◌, ◌+◌, [], length, IfOk, OnOk, OnErr, IfSome};
+ghost use Rattle.std.specs.Prelude.{IsSome};
 ghost use Rattle.std.specs.Prelude.{IsOk, IsOkAnd, Err, Some, None};
 ghost use Rattle.app_message.specs.declared.sizes.TheConstants.{HEADER, LONGEST_BODY};
 ghost use Rattle.app_message.specs.Numbers.{as_message_fault};
@@ -62,13 +63,15 @@ impl Decoder {
     /// same. After `NoMemory` the piece isn't taken: the decoder is as before.
     pub fn feed(&mut self, piece: &[u8]) -> Result<Fed, NoMemory>
         // What the piece brings is the stream of what was kept and the piece.
-        ensures messages { IfOk result (λ fed. fed.messages ≡ (fed_by self.old piece.now).messages) }
+        ensures messages { IfOk result
+            (λ fed. fed.messages ≡ (fed_by self.old piece.now).messages) }
         ensures fault { IfOk result (λ fed. fed.fault ≡ (fed_by self.old piece.now).fault) }
         ensures held { OnOk result (self.new ≡ held (fed_by self.old piece.now)) }
         ensures err { OnErr result (self.new ≡ self.old) }
 
         // After a fault no memory is taken, and the answer is that fault for good.
-        ensures after_fault { IfSome self.old.fault (λ f. IsOkAnd result (λ fed. (fed.messages ≡ []) × (fed.fault ≡ Some f))) }
+        ensures after_fault { IfSome self.old.fault
+            (λ f. IsOkAnd result (λ fed. (fed.messages ≡ []) × (fed.fault ≡ Some f))) }
     {
         let mut messages = Messages::new(self.alloc);
         let fault = self.feed_into(piece, &mut messages)?;
@@ -91,7 +94,8 @@ impl Decoder {
         ensures err { OnErr result (self.new ≡ self.old) }
 
         // After a fault no memory is taken, and the answer is that fault for good.
-        ensures after_fault { IfSome self.old.fault (λ f. (messages.new ≡ []) × IsOkAnd result (λ fault. fault ≡ Some f)) }
+        ensures after_fault { IfSome self.old.fault
+            (λ f. (messages.new ≡ []) × IsOkAnd result (λ fault. fault ≡ Some f)) }
     {
         messages.clear();
         if self.fault.is_some() {
@@ -166,7 +170,8 @@ impl Decoder {
     /// ends inside a message. It takes no memory.
     pub fn finish(&self) -> Result<(), MessageFault>
         ensures faulty { IfSome self.now.fault (λ f. result ≡ Err (as_message_fault f.fault)) }
-        ensures truncated { self.now.fault ≡ None → self.now.rest ≢ [] → result ≡ Err MessageFault.Truncated }
+        ensures truncated { self.now.fault ≡ None → self.now.rest ≢ []
+            → result ≡ Err MessageFault.Truncated }
         ensures whole { self.now.fault ≡ None → self.now.rest ≡ [] → IsOk result }
     {
         if let Some(fault) = self.fault {

@@ -1,6 +1,7 @@
 //! A message in the making.
 
-ghost use Rattle.std.specs.Prelude.{◌≡◌, ◌≢◌, ◌≤◌, ◌<◌, ◌⊎◌, [], ◌++◌, Some, None, length, IfOk, IfErr, OnOk};
+ghost use Rattle.std.specs.Prelude.{◌≡◌, ◌≢◌, ◌≤◌, ◌<◌, ◌⊎◌, [], ◌++◌, Some, None, length, IfOk};
+ghost use Rattle.std.specs.Prelude.{IfErr, OnOk};
 ghost use Rattle.std.specs.Prelude.{OnErr};
 ghost use Rattle.std.specs.Result.{IsErrOf};
 ghost use Rattle.app_message.specs.declared.sizes.TheConstants.{LONGEST_ADDRESS, LONGEST_CONTENT};
@@ -39,12 +40,13 @@ impl Model for Draft {
 
     ghost view = { λ d. of_body d.to d.from d.kind d.token d.body.items };
 
-    ghost invariant = { λ d. IsDraft (of_body d.to d.from d.kind d.token d.body.items) d.body.items };
+    ghost invariant = { λ d. IsDraft (of_body d.to d.from d.kind d.token d.body.items)
+        d.body.items };
 }
 
 impl Draft {
     /// A message without items: the recipient and the originator as subnet and node, and the
-    /// database address, which is to_message, with room for so many octets of items (an item takes two
+    /// database address, which is copied, with room for so many octets of items (an item takes two
     /// and its content), so that putting these is meant to take no memory. It is refused with
     /// `BadLength` if the address is empty or above 8 octets; `NoMemory` comes where the allocator
     /// refuses the room.
@@ -64,7 +66,8 @@ impl Draft {
             → (e ≡ MessageFault.BadLength) × ((length address.now ≡ 0) ⊎ (LONGEST_ADDRESS < length address.now))) }
 
         // Whatever memory there is, such an address is refused.
-        ensures faulty { (length address.now ≡ 0) ⊎ (LONGEST_ADDRESS < length address.now) → IsErrOf result MessageFault.BadLength }
+        ensures faulty { (length address.now ≡ 0) ⊎ (LONGEST_ADDRESS < length address.now)
+            → IsErrOf result MessageFault.BadLength }
     {
         parts::check_address(address)?;
         parts::typed(&to, &from, token);
@@ -93,7 +96,8 @@ impl Draft {
         buffer: Vec<u8>,
         room: usize,
     ) -> Result<Draft, NoMemory>
-        ensures made { IfOk result (λ d. d ≡ telegram request.now.from from kind request.now.token request.now.address []) }
+        ensures made { IfOk result (λ d. d
+            ≡ telegram request.now.from from kind request.now.token request.now.address []) }
         ensures least { OnOk result (1 ≤ length request.now.address) }
         ensures most { OnOk result (length request.now.address ≤ LONGEST_ADDRESS) }
     {
@@ -120,7 +124,8 @@ impl Draft {
         ensures added { OnOk result (self.new ≡ with_item self.old (entry id content.now)) }
         ensures err { OnErr result (self.new ≡ self.old) }
         ensures long { LONGEST_CONTENT < length content.now → IsErrOf result MessageFault.BadItem }
-        ensures fault { IfErr result (λ e. length content.now ≤ LONGEST_CONTENT → e ≡ MessageFault.NoMemory) }
+        ensures fault { IfErr result (λ e. length content.now ≤ LONGEST_CONTENT
+            → e ≡ MessageFault.NoMemory) }
     {
         if content.len() > LONGEST_CONTENT {
             return Err(MessageFault::BadItem);

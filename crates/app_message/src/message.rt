@@ -1,6 +1,7 @@
 //! A message, valid by its type.
 
-ghost use Rattle.std.specs.Prelude.{◌≡◌, ◌≢◌, ◌≤◌, ◌∷◌, true, false, IfOk, OnOk, OnErr, IfErr, IfSome, length, List, Some};
+ghost use Rattle.std.specs.Prelude.{◌≡◌, ◌≢◌, ◌≤◌, ◌∷◌, true, false, IfOk, OnOk, OnErr, IfErr};
+ghost use Rattle.std.specs.Prelude.{IfSome, length, List, Some};
 ghost use Rattle.std.specs.Result.{IsErrOf};
 ghost use Rattle.app_message.specs.declared.sizes.TheConstants.{LONGEST_ADDRESS, LONGEST_BODY};
 ghost use Rattle.app_message.specs.Telegram.{telegram, entries};
@@ -39,11 +40,12 @@ impl Model for Message {
 
     ghost view = { λ m. of_body m.to m.from m.kind m.token m.body.items };
 
-    ghost invariant = { λ m. IsBody (of_body m.to m.from m.kind m.token m.body.items) m.body.items };
+    ghost invariant = { λ m. IsBody (of_body m.to m.from m.kind m.token m.body.items)
+        m.body.items };
 }
 
 impl Message {
-    /// A message of these parts, which are to_message: the recipient and the originator as subnet and
+    /// A message of these parts, which are copied: the recipient and the originator as subnet and
     /// node, the database address, and the items as pairs of identifier and content.
     ///
     /// It is refused with `BadLength` if the address is empty or above 8 octets, or if the address
@@ -61,15 +63,21 @@ impl Message {
         items: &[(u8, &[u8])],
     ) -> Result<Message, MessageFault>
         // An accepted message is the parts handed in, which can be spelled.
-        ensures made { IfOk result (λ m. m ≡ telegram to from kind token address.now (entries items.now)) }
-        ensures accepted { OnOk result (IsMessage (telegram to from kind token address.now (entries items.now))) }
+        ensures made { IfOk result (λ m. m
+            ≡ telegram to from kind token address.now (entries items.now)) }
+        ensures accepted { OnOk result
+            (IsMessage (telegram to from kind token address.now (entries items.now))) }
 
         // Want of memory aside, refused parts can't be spelled, and the first fault is told.
-        ensures refused { IfErr result (λ e. e ≢ MessageFault.NoMemory → ¬ IsMessage (telegram to from kind token address.now (entries items.now))) }
-        ensures fault { IfErr result (λ e. e ≢ MessageFault.NoMemory → parts_fault address.now (entries items.now) ≡ Some e) }
+        ensures refused { IfErr result
+            (λ e. e ≢ MessageFault.NoMemory
+            → ¬ IsMessage (telegram to from kind token address.now (entries items.now))) }
+        ensures fault { IfErr result (λ e. e ≢ MessageFault.NoMemory
+            → parts_fault address.now (entries items.now) ≡ Some e) }
 
         // Whatever memory there is, faulty parts are told their first fault.
-        ensures faulty { IfSome (parts_fault address.now (entries items.now)) (λ e. IsErrOf result e) }
+        ensures faulty { IfSome (parts_fault address.now (entries items.now))
+            (λ e. IsErrOf result e) }
     {
         parts::check(address, items)?;
         let mut draft = Draft::try_new(alloc, to, from, kind, token, address, room_of(items))?;
@@ -98,10 +106,11 @@ impl Message {
     }
 
     /// Takes the place of this message: that of this head and these octets of a body, which are
-    /// to_message into its room. After `NoMemory` it is as it was.
+    /// copied into its room. After `NoMemory` it is as it was.
     pub(crate) fn set(&mut self, head: Head, body: &[u8]) -> Result<(), NoMemory>
         requires { IsBody (of_body head.to head.from head.kind head.token body.now) body.now }
-        ensures set { OnOk result (self.new ≡ of_body head.to head.from head.kind head.token body.now) }
+        ensures set { OnOk result (self.new
+            ≡ of_body head.to head.from head.kind head.token body.now) }
         ensures err { OnErr result (self.new ≡ self.old) }
     {
         self.body

@@ -1,6 +1,7 @@
 //! Whether a message can be made of its parts.
 
-ghost use Rattle.std.specs.Prelude.{◌≡◌, ◌≤◌, ◌<◌, ◌⊎◌, List, length, take, drop, slice_index, nat_le};
+ghost use Rattle.std.specs.Prelude.{◌≡◌, ◌≤◌, ◌<◌, ◌⊎◌, List, length, take, drop, slice_index};
+ghost use Rattle.std.specs.Prelude.{nat_le};
 ghost use Rattle.std.specs.Prelude.{true, Option, Some, None, IfErr, OnOk};
 ghost use Rattle.app_message.specs.declared.sizes.TheConstants.{LONGEST_ADDRESS, LONGEST_BODY};
 ghost use Rattle.app_message.specs.Telegram.{Entry, entries, AreOctets};
@@ -32,8 +33,10 @@ pub fn check(address: &[u8], items: &[(u8, &[u8])]) -> Result<(), MessageFault>
 pub fn check_address(address: &[u8]) -> Result<(), MessageFault>
     ensures least { OnOk result (1 ≤ length address.now) }
     ensures most { OnOk result (length address.now ≤ LONGEST_ADDRESS) }
-    ensures err { IfErr result (λ e. (items : List Entry) → parts_fault address.now items ≡ Some e) }
-    ensures fault { IfErr result (λ e. (e ≡ MessageFault.BadLength) × ((length address.now ≡ 0) ⊎ (LONGEST_ADDRESS < length address.now))) }
+    ensures err { IfErr result (λ e. (items : List Entry)
+        → parts_fault address.now items ≡ Some e) }
+    ensures fault { IfErr result (λ e. (e ≡ MessageFault.BadLength)
+        × ((length address.now ≡ 0) ⊎ (LONGEST_ADDRESS < length address.now))) }
 {
     if address.is_empty() {
         return Err(MessageFault::BadLength);

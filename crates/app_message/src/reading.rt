@@ -2,7 +2,8 @@
 
 ghost use Rattle.std.specs.Prelude.{◌≡◌, ◌+◌, ◌*◌, ◌%◌, ◌≤◌, ◌<◌, length, slice_index};
 ghost use Rattle.std.specs.Prelude.{IfOk, OnOk};
-ghost use Rattle.app_message.specs.declared.sizes.TheConstants.{HEADER, LONGEST_BODY, SHORTEST_BODY};
+ghost use Rattle.app_message.specs.declared.sizes.TheConstants.{HEADER, LONGEST_BODY};
+ghost use Rattle.app_message.specs.declared.sizes.TheConstants.{SHORTEST_BODY};
 ghost use Rattle.app_message.specs.Spelling.{IsHead};
 ghost use Rattle.app_message.specs.Grammar.{kind_at, length_at, header_at, item_at, items_at};
 ghost use Rattle.app_message.specs.Grammar.{address_at, body_at, front_at};

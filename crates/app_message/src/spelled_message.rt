@@ -9,7 +9,7 @@ use site_base::NoMemory;
 use std::alloc::Global;
 use std::marker::Model;
 
-/// A message that was read and not to_message yet: its head, and its body in the octets that it was
+/// A message that was read and not copied yet: its head, and its body in the octets that it was
 /// read from.
 #[derive(Drop)]
 pub struct SpelledMessage<'a> {
@@ -25,7 +25,8 @@ impl<'a> Model for SpelledMessage<'a> {
 
     ghost view = { λ m. of_body m.head.to m.head.from m.head.kind m.head.token m.body.now };
 
-    ghost invariant = { λ m. IsBody (of_body m.head.to m.head.from m.head.kind m.head.token m.body.now) m.body.now };
+    ghost invariant = { λ m. IsBody
+        (of_body m.head.to m.head.from m.head.kind m.head.token m.body.now) m.body.now };
 }
 
 impl<'a> SpelledMessage<'a> {
@@ -37,7 +38,7 @@ impl<'a> SpelledMessage<'a> {
         SpelledMessage { head, body }
     }
 
-    /// The message, to_message.
+    /// The message, copied.
     pub fn to_message(self, alloc: Global) -> Result<Message, NoMemory>
         ensures { IfOk result (λ m. m ≡ self.entry) }
     {
@@ -46,7 +47,7 @@ impl<'a> SpelledMessage<'a> {
         Ok(Message::of_body(head.to, head.from, head.kind, head.token, body))
     }
 
-    /// The message, to_message to the place of another one, whose room serves again. After `NoMemory`
+    /// The message, copied to the place of another one, whose room serves again. After `NoMemory`
     /// that one is as it was.
     pub fn copy_to(self, place: &mut Message) -> Result<(), NoMemory>
         ensures to_message { OnOk result (place.new ≡ self.entry) }

@@ -1,5 +1,6 @@
 -- What the receipts of several shares add up to, one share after another.
-use Rattle.std.proofs.Common.{◌≡◌, ℕ, zero, suc, ◌+◌, ◌<◌, ◌≤◌, List, [], ◌∷◌, ◌++◌, length, take, drop, get_or, sym, ap, ◌∙◌, arith}
+use Rattle.std.proofs.Common.{◌≡◌, ℕ, zero, suc, ◌+◌, ◌<◌, ◌≤◌, List, [], ◌∷◌, ◌++◌, length, take}
+use Rattle.std.proofs.Common.{drop, get_or, sym, ap, ◌∙◌, arith}
 use Rattle.std.proofs.lemmas.List.{map-append, take_more}
 use Rattle.written_site.specs.RowWords.{total}
 use Rattle.counter_desk.specs.declared.receipt.Receipt.{Receipt}
@@ -34,7 +35,8 @@ total_few figure (r ∷ returned) (suc i) =
 -- the lists before one share, its own, and those behind it
 pub lists_split : (returned : List ReceiptList) (i : ℕ) (r : ReceiptList) → i < length returned
     → r ≡ get_or returned i r
-    → lists_of returned ≡ lists_of (take i returned) ++ r.receipts ∷ lists_of (drop (suc i) returned)
+    → lists_of returned ≡ lists_of (take i returned) ++ r.receipts
+    ∷ lists_of (drop (suc i) returned)
 lists_split [] i r within is = absurd (omega (arith, within))
 lists_split (x ∷ returned) zero r within is =
     ap (λ (l : ReceiptList). l.receipts ∷ lists_of returned) (sym is)

@@ -1,6 +1,8 @@
 -- Counting: where as many places are marked as there are, each is marked, and what the receipts add
 -- up to is what the rows do.
-use Rattle.std.proofs.Common.{◌≡◌, ◌≢◌, ℕ, zero, suc, ◌+◌, ◌<◌, ◌≤◌, ◌==◌, Bool, true, false, if◌then◌else◌, Option, Some, None, List, [], ◌∷◌, length, slice_get, refl, sym, ap, ◌∙◌, arith}
+use Rattle.std.proofs.Common.{◌≡◌, ◌≢◌, ℕ, zero, suc, ◌+◌, ◌<◌, ◌≤◌, ◌==◌, Bool, true, false}
+use Rattle.std.proofs.Common.{if◌then◌else◌, Option, Some, None, List, [], ◌∷◌, length, slice_get}
+use Rattle.std.proofs.Common.{refl, sym, ap, ◌∙◌, arith}
 use Rattle.std.proofs.lemmas.Bool.Decides.{nat_tests}
 use Rattle.std.specs.List.{AllByRecursion}
 use Rattle.site_base.specs.declared.row.Row.{Row}
@@ -86,17 +88,20 @@ by_place : (f : Row → ℕ) (rows : List Row)
 by_place f [] = refl
 by_place f (row ∷ rows) =
     let rest = by_place f rows in
-    let behind = shifted (λ k. figure_of f (slice_get (row ∷ rows) k)) (λ k. figure_of f (slice_get rows k)) 0 (length rows) (λ k. refl) in
+    let behind = shifted (λ k. figure_of f (slice_get (row ∷ rows) k))
+    (λ k. figure_of f (slice_get rows k)) 0 (length rows) (λ k. refl) in
     omega (arith, rest, behind)
 
 -- receipts that are the rows at their places add up to the figures there
 standing : (f : Row → ℕ) (rows : List Row) (receipts : List Receipt)
     → AllByRecursion (StandsAt rows) receipts
-    → total (λ r. f (receipted_row r)) receipts ≡ weigh (λ k. figure_of f (slice_get rows k)) receipts
+    → total (λ r. f (receipted_row r)) receipts
+    ≡ weigh (λ k. figure_of f (slice_get rows k)) receipts
 standing f rows [] all = refl
 standing f rows (r ∷ receipts) all =
     let rest = standing f rows receipts all.1 in
-    let here : figure_of f (slice_get rows r.place) ≡ f (receipted_row r) = ap (figure_of f) all.0 in
+    let here : figure_of f (slice_get rows r.place) ≡ f (receipted_row r) =
+    ap (figure_of f) all.0 in
     omega (arith, rest, here)
 
 all_standing : (f : Row → ℕ) (rows : List Row) (lists : List (List Receipt))
@@ -126,7 +131,8 @@ pub dealt : (rows : List Row) (marks : List Bool) (lists : List (List Receipt))
     → IsDealt rows lists
 dealt rows marks lists all same as_many = record {
   once = λ k within.
-      weighs rows marks lists all same as_many (one_at k) ∙ one_place k 0 (length rows) (omega arith) (omega (arith, within));
+      weighs rows marks lists all same as_many (one_at k)
+      ∙ one_place k 0 (length rows) (omega arith) (omega (arith, within));
   in_order = all.in_order;
 }
 

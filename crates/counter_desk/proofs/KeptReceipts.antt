@@ -1,5 +1,6 @@
 -- Receipts as a list keeps them: their places, and their rows.
-use Rattle.std.proofs.Common.{◌≡◌, ℕ, zero, suc, ◌<◌, ◌≤◌, List, [], ◌∷◌, ◌++◌, length, get_or, Some, None, slice_get, refl, ap, arith}
+use Rattle.std.proofs.Common.{◌≡◌, ℕ, zero, suc, ◌<◌, ◌≤◌, List, [], ◌∷◌, ◌++◌, length, get_or}
+use Rattle.std.proofs.Common.{Some, None, slice_get, refl, ap, arith}
 use Rattle.site_base.specs.declared.row.Row.{Row}
 use Rattle.counter_desk.specs.Receipts.{receipt_at, receipts_at}
 

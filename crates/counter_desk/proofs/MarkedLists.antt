@@ -1,12 +1,15 @@
 -- Marking: one receipt after another, one list after another.
-use Rattle.std.proofs.Common.{◌≡◌, ℕ, zero, suc, ◌+◌, ◌<◌, ◌≤◌, Bool, true, false, List, [], ◌∷◌, ◌++◌, length, take, set, get_or, Some, slice_get, drop, replicate, refl, sym, ap, subst, ◌∙◌, inl, inr, ◌⊎◌, arith}
+use Rattle.std.proofs.Common.{◌≡◌, ℕ, zero, suc, ◌+◌, ◌<◌, ◌≤◌, Bool, true, false, List, [], ◌∷◌}
+use Rattle.std.proofs.Common.{◌++◌, length, take, set, get_or, Some, slice_get, drop, replicate}
+use Rattle.std.proofs.Common.{refl, sym, ap, subst, ◌∙◌, inl, inr, ◌⊎◌, arith}
 use Rattle.std.proofs.lemmas.List.{take_more}
 use Rattle.std.proofs.lemmas.Option.{get_or_from_slice_get, slice_get_within}
 use Rattle.std.proofs.lemmas.Bool.Decides.{nat_tests}
 use Rattle.site_base.specs.declared.row.Row.{Row}
 use Rattle.counter_desk.specs.declared.receipt.Receipt.{Receipt}
 use Rattle.counter_desk.specs.Receipts.{StandsAt}
-use Rattle.counter_desk.specs.Settlement.{weigh, one_at, next_from, Rises, IsInOrder, IsStrangeAmong}
+use Rattle.counter_desk.specs.Settlement.{weigh, one_at, next_from, Rises, IsInOrder}
+use Rattle.counter_desk.specs.Settlement.{IsStrangeAmong}
 use Rattle.counter_desk.specs.Marks.{weigh_marks, IsMarked, IsUnmarkable, AreMarked, AreAllMarked}
 use Rattle.counter_desk.proofs.Lists.{all_last, total_last}
 
@@ -55,7 +58,8 @@ marked_counts k from (m ∷ marks) (suc i) here is =
 -- ---- one list
 
 -- what holds while one list's receipts are marked, the next of which may have this place at least
-pub record Marking (history : List Row) (old new : List Bool) (done : List Receipt) (low : ℕ) : Type 0 where
+pub record Marking (history : List Row) (old new : List Bool) (done : List Receipt) (low : ℕ) : Type
+    0 where
   pub marked : AreMarked history old new done
   pub next : next_from 0 done ≡ low
 
@@ -65,7 +69,8 @@ marking_none history marks = record {
   next = refl;
 }
 
-pub marking_more : (history : List Row) (old now new : List Bool) (receipts : List Receipt) (i low : ℕ) (r : Receipt)
+pub marking_more : (history : List Row) (old now new : List Bool) (receipts : List Receipt)
+    (i low : ℕ) (r : Receipt)
     → Marking history old now (take i receipts) low → slice_get receipts i ≡ Some r
     → IsMarked history now new low r → Marking history old new (take (i + 1) receipts) (r.place + 1)
 marking_more history old now new receipts i low r so_far found here =
@@ -77,16 +82,24 @@ marking_more history old now new receipts i low r so_far found here =
     (record {
       marked = record {
         in_order = record {
-          stand = all_last (StandsAt history) (take i receipts) r so_far.marked.in_order.stand here.stands;
-          rise = rises_last 0 (take i receipts) r so_far.marked.in_order.rise (omega (arith, so_far.next, here.above));
+          stand = all_last (StandsAt history) (take i receipts) r so_far.marked.in_order.stand
+              here.stands;
+          rise = rises_last 0 (take i receipts) r so_far.marked.in_order.rise
+              (omega (arith, so_far.next, here.above));
         };
-        weighed = λ h. omega (arith, here.weighed h, so_far.marked.weighed h, total_last (λ (x : Receipt). h x.place) (take i receipts) r);
+        weighed = λ h. omega (
+          arith,
+          here.weighed h,
+          so_far.marked.weighed h,
+          total_last (λ (x : Receipt). h x.place) (take i receipts) r,
+        );
       };
       next = next_last 0 (take i receipts) r;
     })
 
 -- the receipt at this place of the list can't be marked
-pub strange_here : (history : List Row) (old now : List Bool) (receipts : List Receipt) (i low : ℕ) (r : Receipt)
+pub strange_here : (history : List Row) (old now : List Bool) (receipts : List Receipt) (i low : ℕ)
+    (r : Receipt)
     → Marking history old now (take i receipts) low → slice_get receipts i ≡ Some r
     → IsUnmarkable history now low r
     → IsStrangeAmong history (weigh_marks (one_at r.place) 0 old) receipts r.place
@@ -120,10 +133,16 @@ strange_here history old now receipts i low r so_far found why = record {
 pub all_marked_none : (history : List Row) (n : ℕ) → AreAllMarked history (replicate n false) []
 all_marked_none history n = record { in_order = tt; weighed = λ h. unmarked h 0 n }
 
-pub all_marked_more : (history : List Row) (now new : List Bool) (before : List (List Receipt)) (receipts : List Receipt)
+pub all_marked_more : (history : List Row) (now new : List Bool) (before : List (List Receipt))
+    (receipts : List Receipt)
     → AreAllMarked history now before → AreMarked history now new receipts
     → AreAllMarked history new (before ++ receipts ∷ [])
 all_marked_more history now new before receipts so_far here = record {
   in_order = all_last (IsInOrder history) before receipts so_far.in_order here.in_order;
-  weighed = λ h. omega (arith, here.weighed h, so_far.weighed h, total_last (weigh h) before receipts);
+  weighed = λ h. omega (
+    arith,
+    here.weighed h,
+    so_far.weighed h,
+    total_last (weigh h) before receipts,
+  );
 }

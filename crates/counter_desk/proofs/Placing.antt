@@ -10,5 +10,6 @@ pub stands_last : (rows : List Row) (r : Row) → slice_get (rows ++ r ∷ []) (
 stands_last [] r = refl
 stands_last (x ∷ rows) r = stands_last rows r
 
-pub legal_of : (c d : Configured) (rows : List Row) → c ≡ d → IsLegal (opening c) rows → IsLegal (opening d) rows
+pub legal_of : (c d : Configured) (rows : List Row) → c ≡ d → IsLegal (opening c) rows
+    → IsLegal (opening d) rows
 legal_of c d rows same legal = subst (λ x. IsLegal (opening x) rows) same legal

@@ -1,8 +1,15 @@
 -- What `==` finds equal is the same.
-use Rattle.std.proofs.Common.{◌≡◌, ℕ, ◌==◌, ◌&&◌, Bool, true, false, Option, Some, None, refl, ap, ◌∙◌}
+use Rattle.std.proofs.Common.{◌≡◌, ℕ, ◌==◌, ◌&&◌, Bool, true, false, Option, Some, None, refl, ap}
+use Rattle.std.proofs.Common.{◌∙◌}
 use Rattle.std.proofs.lemmas.Bool.{eqb-true}
 use Rattle.site_base.specs.declared.event.Event.{Event}
-use Rattle.site_base.specs.declared.event.Event.TheVariants.{SignOn, SignOff, Open, Close, Assign, Unassign, Release, Prepay, TestRelease, Suspend, Resume, Terminate, ReplaceMeter, ReadPoint, Lock, Unlock, Clear, ReadTransaction, SetPrice, ReadProduct, CloseShift, ReadSite, Online, Offline, Lift, Flow, HangUp}
+use Rattle.site_base.specs.declared.event.Event.TheVariants.{SignOn, SignOff, Open, Close, Assign}
+use Rattle.site_base.specs.declared.event.Event.TheVariants.{Unassign, Release, Prepay, TestRelease}
+use Rattle.site_base.specs.declared.event.Event.TheVariants.{Suspend, Resume, Terminate}
+use Rattle.site_base.specs.declared.event.Event.TheVariants.{ReplaceMeter, ReadPoint, Lock, Unlock}
+use Rattle.site_base.specs.declared.event.Event.TheVariants.{Clear, ReadTransaction, SetPrice}
+use Rattle.site_base.specs.declared.event.Event.TheVariants.{ReadProduct, CloseShift, ReadSite}
+use Rattle.site_base.specs.declared.event.Event.TheVariants.{Online, Offline, Lift, Flow, HangUp}
 use Rattle.site_base.specs.declared.state.Preset.{Preset}
 use Rattle.site_base.specs.declared.state.Preset.TheVariants.{Unset, Volume, Money}
 use Rattle.site_base.specs.declared.sale.SaleId.{SaleId}
@@ -31,7 +38,9 @@ same_presets (Volume n) (Volume m) is = one Volume n m is
 same_presets (Money n) (Money m) is = one Money n m is
 same_presets a b is = clash is
 
-same_shifts : (a b : Option ℕ) (n m : ℕ) → sales.ghosts.eq (record { shift = a; seq = n }) (record { shift = b; seq = m }) ≡ true → (a ≡ b) × (n ≡ m)
+same_shifts : (a b : Option ℕ) (n m : ℕ)
+    → sales.ghosts.eq (record { shift = a; seq = n }) (record { shift = b; seq = m }) ≡ true
+    → (a ≡ b) × (n ≡ m)
 same_shifts (Some h) (Some k) n m is =
     let parts = both (h == k) (n == m) is in
     (one Some h k parts.0, eqb-true n m parts.1)
@@ -66,7 +75,8 @@ same_events (Terminate p) (Terminate q) is = one Terminate p q is
 same_events (ReplaceMeter p n x) (ReplaceMeter q m y) is =
     let parts = both (p == q) (n == m && x == y) is in
     let rest = both (n == m) (x == y) parts.1 in
-    let point = eqb-true p q parts.0 in let nozzle = eqb-true n m rest.0 in let reading = eqb-true x y rest.1 in cc
+    let point = eqb-true p q parts.0 in let nozzle = eqb-true n m rest.0 in let reading =
+    eqb-true x y rest.1 in cc
 same_events (ReadPoint p) (ReadPoint q) is = one ReadPoint p q is
 same_events (Lock p x) (Lock q y) is =
     let parts = both (p == q) (sales.ghosts.eq x y) is in
@@ -89,13 +99,16 @@ same_events (Offline p) (Offline q) is = one Offline p q is
 same_events (Lift p n x) (Lift q m y) is =
     let parts = both (p == q) (n == m && x == y) is in
     let rest = both (n == m) (x == y) parts.1 in
-    let point = eqb-true p q parts.0 in let nozzle = eqb-true n m rest.0 in let reading = eqb-true x y rest.1 in cc
+    let point = eqb-true p q parts.0 in let nozzle = eqb-true n m rest.0 in let reading =
+    eqb-true x y rest.1 in cc
 same_events (Flow p n x) (Flow q m y) is =
     let parts = both (p == q) (n == m && x == y) is in
     let rest = both (n == m) (x == y) parts.1 in
-    let point = eqb-true p q parts.0 in let nozzle = eqb-true n m rest.0 in let reading = eqb-true x y rest.1 in cc
+    let point = eqb-true p q parts.0 in let nozzle = eqb-true n m rest.0 in let reading =
+    eqb-true x y rest.1 in cc
 same_events (HangUp p n x) (HangUp q m y) is =
     let parts = both (p == q) (n == m && x == y) is in
     let rest = both (n == m) (x == y) parts.1 in
-    let point = eqb-true p q parts.0 in let nozzle = eqb-true n m rest.0 in let reading = eqb-true x y rest.1 in cc
+    let point = eqb-true p q parts.0 in let nozzle = eqb-true n m rest.0 in let reading =
+    eqb-true x y rest.1 in cc
 same_events a b is = clash is

@@ -1,5 +1,6 @@
 -- Replies that `==` finds equal are the same.
-use Rattle.std.proofs.Common.{◌≡◌, ℕ, ◌==◌, ◌&&◌, Bool, true, false, nat_eq, Option, Some, None, Result, Ok, Err, refl, ap}
+use Rattle.std.proofs.Common.{◌≡◌, ℕ, ◌==◌, ◌&&◌, Bool, true, false, nat_eq, Option, Some, None}
+use Rattle.std.proofs.Common.{Result, Ok, Err, refl, ap}
 use Rattle.std.specs.Option.{option_eq}
 use Rattle.std.specs.Result.{result_eq}
 use Rattle.std.proofs.Math.Bool.{beq}
@@ -9,7 +10,10 @@ use Rattle.site_base.specs.declared.answer.Answer.TheVariants as answers
 use Rattle.site_base.specs.declared.refusal.Refusal.{Refusal}
 use Rattle.site_base.specs.declared.refusal.Refusal.TheVariants as refusals
 use Rattle.site_base.specs.declared.state.PointState.{PointState}
-use Rattle.site_base.specs.declared.state.PointState.TheVariants.{Inoperative, Closed, Idle, Calling, Authorised, Started, SuspendedStarted, Fuelling, SuspendedFuelling}
+use Rattle.site_base.specs.declared.state.PointState.TheVariants.{Inoperative, Closed, Idle}
+use Rattle.site_base.specs.declared.state.PointState.TheVariants.{Calling, Authorised, Started}
+use Rattle.site_base.specs.declared.state.PointState.TheVariants.{SuspendedStarted, Fuelling}
+use Rattle.site_base.specs.declared.state.PointState.TheVariants.{SuspendedFuelling}
 use Rattle.site_base.specs.declared.state.Preset.{Preset}
 use Rattle.site_base.specs.declared.state.Status.{Status}
 use Rattle.site_base.specs.declared.state.Status.TheVariants.{Cleared, Payable, Locked}
@@ -59,10 +63,33 @@ same_statuses a b is = clash is
 
 -- ---- views
 
-point_parts : (s₁ s₂ : PointState) (o₁ o₂ h₁ h₂ : Option ℕ) (e₁ e₂ t₁ t₂ : Bool) (p₁ p₂ : Preset) (c₁ c₂ : Option ℕ) (m₁ m₂ v₁ v₂ : ℕ)
+point_parts : (s₁ s₂ : PointState) (o₁ o₂ h₁ h₂ : Option ℕ) (e₁ e₂ t₁ t₂ : Bool) (p₁ p₂ : Preset)
+    (c₁ c₂ : Option ℕ) (m₁ m₂ v₁ v₂ : ℕ)
     → s₁ ≡ s₂ → o₁ ≡ o₂ → h₁ ≡ h₂ → e₁ ≡ e₂ → t₁ ≡ t₂ → p₁ ≡ p₂ → c₁ ≡ c₂ → m₁ ≡ m₂ → v₁ ≡ v₂
-    → ◌≡◌ {A = PointView} (record { state = s₁; out = o₁; holder = h₁; ending = e₁; test = t₁; preset = p₁; prepaid = c₁; price = m₁; volume = v₁ })
-    (record { state = s₂; out = o₂; holder = h₂; ending = e₂; test = t₂; preset = p₂; prepaid = c₂; price = m₂; volume = v₂ })
+    → ◌≡◌ {A = PointView} (record {
+      state = s₁;
+      out = o₁;
+      holder = h₁;
+      ending = e₁;
+      test =
+          t₁;
+      preset = p₁;
+      prepaid = c₁;
+      price = m₁;
+      volume = v₁;
+    })
+    (record {
+      state = s₂;
+      out = o₂;
+      holder = h₂;
+      ending = e₂;
+      test = t₂;
+      preset = p₂;
+      prepaid =
+          c₂;
+      price = m₂;
+      volume = v₂;
+    })
 point_parts s₁ s₂ o₁ o₂ h₁ h₂ e₁ e₂ t₁ t₂ p₁ p₂ c₁ c₂ m₁ m₂ v₁ v₂ s o h e t p c m v = cc
 
 same_points : (a b : PointView) → points.ghosts.eq a b ≡ true → a ≡ b
@@ -82,13 +109,37 @@ same_points a b is =
     let p6 = both (presets.ghosts.eq a.preset b.preset) r6 p5.1 in
     let p7 = both (option_eq nat_eq a.prepaid b.prepaid) r7 p6.1 in
     let p8 = both (a.price == b.price) (a.volume == b.volume) p7.1 in
-    point_parts a.state b.state a.out b.out a.holder b.holder a.ending b.ending a.test b.test a.preset b.preset a.prepaid b.prepaid a.price b.price a.volume b.volume
-    (same_states a.state b.state p1.0) (same_options a.out b.out p2.0) (same_options a.holder b.holder p3.0) (same_bools a.ending b.ending p4.0) (same_bools a.test b.test p5.0) (same_presets a.preset b.preset p6.0) (same_options a.prepaid b.prepaid p7.0) (eqb-true a.price b.price p8.0) (eqb-true a.volume b.volume p8.1)
+    point_parts a.state b.state a.out b.out a.holder b.holder a.ending b.ending a.test b.test
+    a.preset b.preset a.prepaid b.prepaid a.price b.price a.volume b.volume
+    (same_states a.state b.state p1.0) (same_options a.out b.out p2.0)
+    (same_options a.holder b.holder p3.0) (same_bools a.ending b.ending p4.0)
+    (same_bools a.test b.test p5.0) (same_presets a.preset b.preset p6.0)
+    (same_options a.prepaid b.prepaid p7.0) (eqb-true a.price b.price p8.0)
+    (eqb-true a.volume b.volume p8.1)
 
-transaction_parts : (m₁ m₂ v₁ v₂ c₁ c₂ : ℕ) (p₁ p₂ : Option ℕ) (s₁ s₂ : Status) (t₁ t₂ : Option ℕ) (q₁ q₂ : ℕ)
+transaction_parts : (m₁ m₂ v₁ v₂ c₁ c₂ : ℕ) (p₁ p₂ : Option ℕ) (s₁ s₂ : Status) (t₁ t₂ : Option ℕ)
+    (q₁ q₂ : ℕ)
     → m₁ ≡ m₂ → v₁ ≡ v₂ → c₁ ≡ c₂ → p₁ ≡ p₂ → s₁ ≡ s₂ → t₁ ≡ t₂ → q₁ ≡ q₂
-    → ◌≡◌ {A = TransactionView} (record { price = m₁; volume = v₁; cents = c₁; prepaid = p₁; status = s₁; till = t₁; product = q₁ })
-    (record { price = m₂; volume = v₂; cents = c₂; prepaid = p₂; status = s₂; till = t₂; product = q₂ })
+    → ◌≡◌ {A = TransactionView} (record {
+      price = m₁;
+      volume = v₁;
+      cents = c₁;
+      prepaid =
+          p₁;
+      status = s₁;
+      till = t₁;
+      product = q₁;
+    })
+    (record {
+      price = m₂;
+      volume = v₂;
+      cents = c₂;
+      prepaid = p₂;
+      status = s₂;
+      till = t₂;
+      product =
+          q₂;
+    })
 transaction_parts m₁ m₂ v₁ v₂ c₁ c₂ p₁ p₂ s₁ s₂ t₁ t₂ q₁ q₂ m v c p s t q = cc
 
 same_transactions : (a b : TransactionView) → transactions.ghosts.eq a b ≡ true → a ≡ b
@@ -104,13 +155,35 @@ same_transactions a b is =
     let p4 = both (option_eq nat_eq a.prepaid b.prepaid) r4 p3.1 in
     let p5 = both (statuses.ghosts.eq a.status b.status) r5 p4.1 in
     let p6 = both (option_eq nat_eq a.till b.till) (a.product == b.product) p5.1 in
-    transaction_parts a.price b.price a.volume b.volume a.cents b.cents a.prepaid b.prepaid a.status b.status a.till b.till a.product b.product
-    (eqb-true a.price b.price p1.0) (eqb-true a.volume b.volume p2.0) (eqb-true a.cents b.cents p3.0) (same_options a.prepaid b.prepaid p4.0) (same_statuses a.status b.status p5.0) (same_options a.till b.till p6.0) (eqb-true a.product b.product p6.1)
+    transaction_parts a.price b.price a.volume b.volume a.cents b.cents a.prepaid b.prepaid a.status
+    b.status a.till b.till a.product b.product
+    (eqb-true a.price b.price p1.0) (eqb-true a.volume b.volume p2.0)
+    (eqb-true a.cents b.cents p3.0) (same_options a.prepaid b.prepaid p4.0)
+    (same_statuses a.status b.status p5.0) (same_options a.till b.till p6.0)
+    (eqb-true a.product b.product p6.1)
 
 product_parts : (m₁ m₂ a₁ a₂ b₁ b₂ c₁ c₂ d₁ d₂ e₁ e₂ f₁ f₂ : ℕ)
     → m₁ ≡ m₂ → a₁ ≡ a₂ → b₁ ≡ b₂ → c₁ ≡ c₂ → d₁ ≡ d₂ → e₁ ≡ e₂ → f₁ ≡ f₂
-    → ◌≡◌ {A = ProductView} (record { price = m₁; metered = a₁; running = b₁; payable = c₁; locked = d₁; cleared = e₁; adjusted = f₁ })
-    (record { price = m₂; metered = a₂; running = b₂; payable = c₂; locked = d₂; cleared = e₂; adjusted = f₂ })
+    → ◌≡◌ {A = ProductView} (record {
+      price = m₁;
+      metered = a₁;
+      running = b₁;
+      payable = c₁;
+      locked =
+          d₁;
+      cleared = e₁;
+      adjusted = f₁;
+    })
+    (record {
+      price = m₂;
+      metered = a₂;
+      running = b₂;
+      payable = c₂;
+      locked = d₂;
+      cleared =
+          e₂;
+      adjusted = f₂;
+    })
 product_parts m₁ m₂ a₁ a₂ b₁ b₂ c₁ c₂ d₁ d₂ e₁ e₂ f₁ f₂ m a b c d e f = cc
 
 same_products : (a b : ProductView) → products.ghosts.eq a b ≡ true → a ≡ b
@@ -126,8 +199,12 @@ same_products a b is =
     let p4 = both (a.payable == b.payable) r4 p3.1 in
     let p5 = both (a.locked == b.locked) r5 p4.1 in
     let p6 = both (a.cleared == b.cleared) (a.adjusted == b.adjusted) p5.1 in
-    product_parts a.price b.price a.metered b.metered a.running b.running a.payable b.payable a.locked b.locked a.cleared b.cleared a.adjusted b.adjusted
-    (eqb-true a.price b.price p1.0) (eqb-true a.metered b.metered p2.0) (eqb-true a.running b.running p3.0) (eqb-true a.payable b.payable p4.0) (eqb-true a.locked b.locked p5.0) (eqb-true a.cleared b.cleared p6.0) (eqb-true a.adjusted b.adjusted p6.1)
+    product_parts a.price b.price a.metered b.metered a.running b.running a.payable b.payable
+    a.locked b.locked a.cleared b.cleared a.adjusted b.adjusted
+    (eqb-true a.price b.price p1.0) (eqb-true a.metered b.metered p2.0)
+    (eqb-true a.running b.running p3.0) (eqb-true a.payable b.payable p4.0)
+    (eqb-true a.locked b.locked p5.0) (eqb-true a.cleared b.cleared p6.0)
+    (eqb-true a.adjusted b.adjusted p6.1)
 
 site_parts : (c₁ c₂ s₁ s₂ : ℕ) → c₁ ≡ c₂ → s₁ ≡ s₂
     → ◌≡◌ {A = SiteView} (record { cents = c₁; shift = s₁ }) (record { cents = c₂; shift = s₂ })
@@ -136,7 +213,8 @@ site_parts c₁ c₂ s₁ s₂ c s = cc
 same_sites : (a b : SiteView) → sites.ghosts.eq a b ≡ true → a ≡ b
 same_sites a b is =
     let p1 = both (a.cents == b.cents) (a.shift == b.shift) is in
-    site_parts a.cents b.cents a.shift b.shift (eqb-true a.cents b.cents p1.0) (eqb-true a.shift b.shift p1.1)
+    site_parts a.cents b.cents a.shift b.shift (eqb-true a.cents b.cents p1.0)
+    (eqb-true a.shift b.shift p1.1)
 
 -- ---- answers and refusals
 
@@ -160,8 +238,10 @@ same_answers (answers.Cleared n) (answers.Cleared m) is = one answers.Cleared n 
 same_answers (answers.ShiftClosed n) (answers.ShiftClosed m) is = one answers.ShiftClosed n m is
 same_answers (answers.Drawn n) (answers.Drawn m) is = one answers.Drawn n m is
 same_answers (answers.PointIs x) (answers.PointIs y) is = ap answers.PointIs (same_points x y is)
-same_answers (answers.TransactionIs x) (answers.TransactionIs y) is = ap answers.TransactionIs (same_transactions x y is)
-same_answers (answers.ProductIs x) (answers.ProductIs y) is = ap answers.ProductIs (same_products x y is)
+same_answers (answers.TransactionIs x) (answers.TransactionIs y) is =
+    ap answers.TransactionIs (same_transactions x y is)
+same_answers (answers.ProductIs x) (answers.ProductIs y) is =
+    ap answers.ProductIs (same_products x y is)
 same_answers (answers.SiteIs x) (answers.SiteIs y) is = ap answers.SiteIs (same_sites x y is)
 same_answers a b is = clash is
 
@@ -175,8 +255,10 @@ same_refusals refusals.NoSuchTransaction refusals.NoSuchTransaction is = refl
 same_refusals refusals.NotManager refusals.NotManager is = refl
 same_refusals refusals.BadPrice refusals.BadPrice is = refl
 same_refusals refusals.BadPreset refusals.BadPreset is = refl
-same_refusals (refusals.WrongState x) (refusals.WrongState y) is = ap refusals.WrongState (same_states x y is)
-same_refusals (refusals.AssignedToOther t) (refusals.AssignedToOther u) is = one refusals.AssignedToOther t u is
+same_refusals (refusals.WrongState x) (refusals.WrongState y) is =
+    ap refusals.WrongState (same_states x y is)
+same_refusals (refusals.AssignedToOther t) (refusals.AssignedToOther u) is =
+    one refusals.AssignedToOther t u is
 same_refusals refusals.NotYours refusals.NotYours is = refl
 same_refusals refusals.NotYourPoint refusals.NotYourPoint is = refl
 same_refusals (refusals.WrongNozzle t) (refusals.WrongNozzle u) is = one refusals.WrongNozzle t u is
@@ -185,9 +267,11 @@ same_refusals refusals.SequenceSpent refusals.SequenceSpent is = refl
 same_refusals (refusals.MeterGap t) (refusals.MeterGap u) is = one refusals.MeterGap t u is
 same_refusals (refusals.MeterBack t) (refusals.MeterBack u) is = one refusals.MeterBack t u is
 same_refusals refusals.MeterJump refusals.MeterJump is = refl
-same_refusals (refusals.LockedByOther t) (refusals.LockedByOther u) is = one refusals.LockedByOther t u is
+same_refusals (refusals.LockedByOther t) (refusals.LockedByOther u) is =
+    one refusals.LockedByOther t u is
 same_refusals refusals.NotLocked refusals.NotLocked is = refl
-same_refusals (refusals.AlreadyCleared t) (refusals.AlreadyCleared u) is = one refusals.AlreadyCleared t u is
+same_refusals (refusals.AlreadyCleared t) (refusals.AlreadyCleared u) is =
+    one refusals.AlreadyCleared t u is
 same_refusals refusals.Ending refusals.Ending is = refl
 same_refusals refusals.ShiftsSpent refusals.ShiftsSpent is = refl
 same_refusals refusals.MeterSpent refusals.MeterSpent is = refl

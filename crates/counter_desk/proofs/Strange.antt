@@ -1,5 +1,6 @@
 -- Where a history is dealt among lists of receipts, none of these is strange.
-use Rattle.std.proofs.Common.{◌≡◌, ℕ, ◌+◌, ◌<◌, ◌≤◌, List, [], ◌∷◌, ◌++◌, inl, inr, ◌⊎◌, ap, subst, arith}
+use Rattle.std.proofs.Common.{◌≡◌, ℕ, ◌+◌, ◌<◌, ◌≤◌, List, [], ◌∷◌, ◌++◌, inl, inr, ◌⊎◌, ap, subst}
+use Rattle.std.proofs.Common.{arith}
 use Rattle.std.proofs.lemmas.Bool.Decides.{nat_tests}
 use Rattle.std.proofs.lemmas.Option.{slice_get_within}
 use Rattle.std.specs.List.{AllByRecursion}
@@ -7,7 +8,8 @@ use Rattle.site_base.specs.declared.row.Row.{Row}
 use Rattle.written_site.specs.RowWords.{total}
 use Rattle.counter_desk.specs.declared.receipt.Receipt.{Receipt}
 use Rattle.counter_desk.specs.Receipts.{StandsAt, receipted_row}
-use Rattle.counter_desk.specs.Settlement.{IsDealt, IsInOrder, IsNoneStrange, IsStrangeAmong, Rises, next_from, one_at, times, weigh}
+use Rattle.counter_desk.specs.Settlement.{IsDealt, IsInOrder, IsNoneStrange, IsStrangeAmong, Rises}
+use Rattle.counter_desk.specs.Settlement.{next_from, one_at, times, weigh}
 
 -- what is so of all, of one in the middle
 of_middle : {A : Type 0} (P : A → Type 0) (xs : List A) (x : A) (ys : List A)
@@ -54,13 +56,18 @@ nothing_strange history lists dealt place strange = by_cause there.why
         let above = risen 0 there.done there.strange there.rest order.rise in
         omega (arith, above, below, there.at)
     by_cause (inr (inr twice)) =
-        let within = slice_get_within history there.strange.place (receipted_row there.strange) stands in
+        let within = slice_get_within history there.strange.place (receipted_row there.strange)
+        stands in
         let one = dealt.once place (omega (arith, within, there.at)) in
-        let lists_are : times place lists ≡ times place (strange.before ++ strange.receipts ∷ strange.after) =
+        let lists_are : times place lists
+        ≡ times place (strange.before ++ strange.receipts ∷ strange.after) =
         ap (times place) strange.parts in
-        let split = total_split (weigh (one_at place)) strange.before strange.receipts strange.after in
-        let own_are : weigh (one_at place) strange.receipts ≡ weigh (one_at place) (there.done ++ there.strange ∷ there.rest) =
+        let split = total_split (weigh (one_at place)) strange.before strange.receipts
+        strange.after in
+        let own_are : weigh (one_at place) strange.receipts
+        ≡ weigh (one_at place) (there.done ++ there.strange ∷ there.rest) =
         ap (weigh (one_at place)) there.parts in
-        let own = total_split (λ (r : Receipt). one_at place r.place) there.done there.strange there.rest in
+        let own = total_split (λ (r : Receipt). one_at place r.place) there.done there.strange
+        there.rest in
         let here = here_once place there.strange.place there.at in
         omega (arith, one, lists_are, split, own_are, own, here, twice)

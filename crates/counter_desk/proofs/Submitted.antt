@@ -1,5 +1,6 @@
 -- Calls that were made, one after another, and tills that were signed off.
-use Rattle.std.proofs.Common.{◌≡◌, ℕ, zero, suc, ◌+◌, ◌<◌, Bool, false, List, [], ◌∷◌, ◌++◌, length, map, take, get_or, set, refl, sym, ap, subst, ◌∙◌, arith}
+use Rattle.std.proofs.Common.{◌≡◌, ℕ, zero, suc, ◌+◌, ◌<◌, Bool, false, List, [], ◌∷◌, ◌++◌, length}
+use Rattle.std.proofs.Common.{map, take, get_or, set, refl, sym, ap, subst, ◌∙◌, arith}
 use Rattle.std.proofs.lemmas.List.{append-nil, append_assoc, map-append, take_more}
 use Rattle.std.specs.List.{AllByRecursion}
 use Rattle.site_base.specs.declared.actor.Actor.{Actor}
@@ -14,7 +15,8 @@ accepted_append : (xs ys : List Receipt) → accepted_in (xs ++ ys) ≡ accepted
 accepted_append [] ys = omega arith
 accepted_append (x ∷ xs) ys = let rest = accepted_append xs ys in omega (arith, rest)
 
-pub submitted_join : (first second : List (Actor × Event)) (old between new : List Receipt) (a b : ℕ)
+pub submitted_join : (first second : List (Actor × Event)) (old between new : List Receipt)
+    (a b : ℕ)
     → AreSubmitted first old between a → AreSubmitted second between new b
     → AreSubmitted (first ++ second) old new (a + b)
 submitted_join first second old between new a b one two = record {
@@ -26,7 +28,8 @@ submitted_join first second old between new a b one two = record {
   counted = omega (arith, one.counted, two.counted, accepted_append one.made two.made);
 }
 
-pub submitted_more : (calls : List (Actor × Event)) (i : ℕ) (call : Actor × Event) (old between new : List Receipt) (a b : ℕ)
+pub submitted_more : (calls : List (Actor × Event)) (i : ℕ) (call : Actor × Event)
+    (old between new : List Receipt) (a b : ℕ)
     → i < length calls → call ≡ get_or calls i call
     → AreSubmitted (take i calls) old between a → AreSubmitted (call ∷ []) between new b
     → AreSubmitted (take (i + 1) calls) old new (a + b)

@@ -1,5 +1,6 @@
 -- The threads of a crew, started one after another and joined one after another.
-use Rattle.std.proofs.Common.{◌≡◌, List, [], ◌∷◌, ◌++◌, Option, Some, None, inl, inr, refl, sym, subst, ◌∙◌}
+use Rattle.std.proofs.Common.{◌≡◌, List, [], ◌∷◌, ◌++◌, Option, Some, None, inl, inr, refl, sym}
+use Rattle.std.proofs.Common.{subst, ◌∙◌}
 use Rattle.std.proofs.lemmas.List.{append-nil, append_assoc}
 use Rattle.std.specs.declared.thread.PromisedHandle.{PromisedHandle}
 use Rattle.site_base.specs.declared.actor.Actor.{Actor}
@@ -9,7 +10,8 @@ use Rattle.counter_desk.specs.declared.worker.ListEnd.{ListEnd}
 use Rattle.counter_desk.specs.Crews.{AreJoining, EachStarted, IsJoined, IsStartOf}
 use Rattle.counter_desk.specs.Work.{EachEnds, IsListEnd, IsWorkersEnd}
 
-pub started_push : (lists : List (List (Actor × Event))) (started : List (Option (PromisedHandle ListEnd EndOf)))
+pub started_push : (lists : List (List (Actor × Event)))
+    (started : List (Option (PromisedHandle ListEnd EndOf)))
     (calls : List (Actor × Event)) (s : Option (PromisedHandle ListEnd EndOf))
     → EachStarted lists started → IsStartOf calls s
     → EachStarted (lists ++ calls ∷ []) (started ++ s ∷ [])
@@ -19,7 +21,8 @@ started_push (l ∷ lists) [] calls s each one = absurd each
 started_push (l ∷ lists) (x ∷ started) calls s each one =
     (each.0, started_push lists started calls s each.1 one)
 
-ends_push : (lists : List (List (Actor × Event))) (ends : List ListEnd) (calls : List (Actor × Event)) (end : ListEnd)
+ends_push : (lists : List (List (Actor × Event))) (ends : List ListEnd)
+    (calls : List (Actor × Event)) (end : ListEnd)
     → EachEnds lists ends → IsListEnd calls end → EachEnds (lists ++ calls ∷ []) (ends ++ end ∷ [])
 ends_push [] [] calls end each one = (one, tt)
 ends_push [] (x ∷ ends) calls end each one = absurd each
@@ -27,7 +30,8 @@ ends_push (l ∷ lists) [] calls end each one = absurd each
 ends_push (l ∷ lists) (x ∷ ends) calls end each one =
     (each.0, ends_push lists ends calls end each.1 one)
 
-pub joining_start : (lists : List (List (Actor × Event))) (started : List (Option (PromisedHandle ListEnd EndOf)))
+pub joining_start : (lists : List (List (Actor × Event)))
+    (started : List (Option (PromisedHandle ListEnd EndOf)))
     → EachStarted lists started → AreJoining lists started []
 joining_start lists started each = record {
   before = [];
@@ -45,7 +49,8 @@ joined calls (Some handle) end start join = inl (subst (λ cs. IsWorkersEnd cs e
 
 pub joining_more : (lists : List (List (Actor × Event))) (s : Option (PromisedHandle ListEnd EndOf))
     (started : List (Option (PromisedHandle ListEnd EndOf))) (ends : List ListEnd) (end : ListEnd)
-    → AreJoining lists (s ∷ started) ends → IsJoined s end → AreJoining lists started (ends ++ end ∷ [])
+    → AreJoining lists (s ∷ started) ends → IsJoined s end
+    → AreJoining lists started (ends ++ end ∷ [])
 joining_more lists s started ends end joining join =
     by_after joining.after joining.parts joining.running
   where
@@ -56,7 +61,8 @@ joining_more lists s started ends end joining join =
       before = joining.before ++ calls ∷ [];
       after = after;
       parts = parts ∙ sym (append_assoc joining.before (calls ∷ []) after);
-      ended = ends_push joining.before ends calls end joining.ended (joined calls s end running.0 join);
+      ended = ends_push joining.before ends calls end joining.ended
+          (joined calls s end running.0 join);
       running = running.1;
     }
 

@@ -63,7 +63,8 @@ pub record IsTallied (cents millilitres : ℕ) (receipts : List Receipt) : Type 
 
 -- places and rows are as many; in both lists there is this room; and the amounts are those of the
 -- receipts
-pub record AreReceiptsKept (places : List ℕ) (list : RowList) (room room_of_places cents millilitres : ℕ) : Type 0 where
+pub record AreReceiptsKept (places : List ℕ) (list : RowList)
+    (room room_of_places cents millilitres : ℕ) : Type 0 where
   pub as_many : length places ≡ length list.rows
   pub room_in_rows : room ≤ list.room
   pub room_in_places : room ≤ room_of_places

@@ -1,5 +1,6 @@
 -- Settlement: a history is dealt among lists of receipts, and what makes a receipt strange.
-use Rattle.std.specs.Prelude.{◌≡◌, ℕ, ◌+◌, ◌<◌, ◌≤◌, ◌==◌, if◌then◌else◌, List, [], ◌∷◌, ◌++◌, length, ◌⊎◌}
+use Rattle.std.specs.Prelude.{◌≡◌, ℕ, ◌+◌, ◌<◌, ◌≤◌, ◌==◌, if◌then◌else◌, List, [], ◌∷◌, ◌++◌}
+use Rattle.std.specs.Prelude.{length, ◌⊎◌}
 use Rattle.std.specs.List.{AllByRecursion}
 use Rattle.site_base.specs.declared.row.Row.{Row}
 use Rattle.site_base.specs.Configured.{Configured}
@@ -83,8 +84,8 @@ IsNoneStrange history lists = (place : ℕ) → IsStrange history lists place �
 -- The shares add up to the history: it is sound (a run of the written one-thread site with just
 -- these replies, in which no fuelling point has two tills at once, no transaction two lockers at
 -- once or two clears, and each product's metered volume is somewhere) and dealt among them; there
--- are as many rows as calls; the cents are those of the rows' Cleared answers, of the shares, and of
--- all tills in the book's figures; the millilitres are those that the rows tell, those of the
+-- are as many rows as calls; the cents are those of the rows' Cleared answers, of the shares, and
+-- of all tills in the book's figures; the millilitres are those that the rows tell, those of the
 -- shares, what all meters have counted, and what was metered of all products in the book's figures;
 -- and these are the history's figures, with one member for each configured product.
 pub record AddsUp (config : Configured) (history : List Row) (lists : List (List Receipt))

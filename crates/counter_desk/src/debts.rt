@@ -67,7 +67,8 @@ impl Owed {
         }
     }
 
-    /// Who is signed on changed so: a till that signs on is owed, one that signs off isn't any more.
+    /// Who is signed on changed so: a till that signs on is owed, one that signs off isn't any
+    /// more.
     pub(crate) fn note(&mut self, change: &Option<SignChange>)
         ensures { self.new ≡ owed_with change.now self.old }
     {

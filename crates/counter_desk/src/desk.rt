@@ -1,8 +1,10 @@
 //! The desk: one site for several workers.
 
-ghost use Rattle.std.specs.Prelude.{◌≡◌, ◌-◌, ◌^◌, ◌≤◌, [], ◌∷◌, ◌++◌, false, true, length, slice_set, Ok, IfOk, IfSome, IsErrOf, OnErr, IfNone};
+ghost use Rattle.std.specs.Prelude.{◌≡◌, ◌-◌, ◌^◌, ◌≤◌, [], ◌∷◌, ◌++◌, false, true, length};
+ghost use Rattle.std.specs.Prelude.{slice_set, Ok, IfOk, IfSome, IsErrOf, OnErr, IfNone};
 ghost use Rattle.site_base.specs.declared.limits.TheConstants.{TILL_CELLS};
-ghost use Rattle.counter_desk.specs.KeptHistories.{AreFiguresInLegal, IsFullInLegal, IsShownInLegal};
+ghost use Rattle.counter_desk.specs.KeptHistories.{AreFiguresInLegal, IsFullInLegal};
+ghost use Rattle.counter_desk.specs.KeptHistories.{IsShownInLegal};
 ghost use Rattle.counter_desk.specs.Receipts.{receipt_of, StandsInLegal};
 ghost use Rattle.counter_desk.specs.Shares.{owed_after, owes, IsAsBefore};
 

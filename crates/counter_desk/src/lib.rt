@@ -4,13 +4,13 @@
 #![tactic(auto)]
 
 mod crews;
+mod debts;
 mod desk;
 mod gate;
 mod laws;
 mod locked;
 mod marks;
 mod naming;
-mod debts;
 mod receipt;
 mod root;
 mod settlement;

@@ -1,6 +1,8 @@
 //! What stands under the site's lock: the book, and the ledger of the calls that made its rows.
 
-ghost use Rattle.std.specs.Prelude.{◌≡◌, ◌+◌, ◌-◌, ◌≤◌, [], ◌∷◌, ◌++◌, false, true, is_some, length, slice_get, slice_set, Ok, IfOk, IfSome, IsErrOf, IsTrue, ◌↔◌, OnErr, IfNone};
+ghost use Rattle.std.specs.Prelude.{◌≡◌, ◌+◌, ◌-◌, ◌≤◌, [], ◌∷◌, ◌++◌, false, true, is_some};
+ghost use Rattle.std.specs.Prelude.{length, slice_get, slice_set, Ok, IfOk, IfSome, IsErrOf};
+ghost use Rattle.std.specs.Prelude.{IsTrue, ◌↔◌, OnErr, IfNone};
 ghost use Rattle.site_base.specs.declared.limits.TheConstants.{GREATEST_ROWS, TILLS};
 ghost use Rattle.written_site.specs.SiteRun.{IsLegal};
 ghost use Rattle.written_site.specs.SiteState.{is_signed_on, opening, view_point};
@@ -79,7 +81,8 @@ impl<L: Ledger, C: Naming> Locked<L, C> {
             share.new.receipts ≡ share.old.receipts ++ receipt_of placed actor.now event.now ∷ []) }
         ensures owed { IfOk result (λ placed.
             share.new.owed ≡ owed_after actor.now event.now placed.reply share.old.owed) }
-        ensures stands { IfOk result (λ placed. StandsAt self.new (receipt_of placed actor.now event.now)) }
+        ensures stands { IfOk result (λ placed. StandsAt self.new
+            (receipt_of placed actor.now event.now)) }
         ensures full { IsErrOf result NoRow.BookFull → is_full (book_of C.config self.old) ≡ true }
         ensures told_full { is_full (book_of C.config self.old) ≡ true
             → IsErrOf result NoRow.BookFull }

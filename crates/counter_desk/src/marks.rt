@@ -1,9 +1,11 @@
 //! Marking: each receipt must be its row, at a place that no other receipt has.
 
-ghost use Rattle.std.specs.Prelude.{◌≡◌, ◌+◌, ◌≤◌, false, length, replicate, IfErr, IfNone, IfOk, IfSome, OnOk};
+ghost use Rattle.std.specs.Prelude.{◌≡◌, ◌+◌, ◌≤◌, false, length, replicate, IfErr, IfNone, IfOk};
+ghost use Rattle.std.specs.Prelude.{IfSome, OnOk};
 ghost use Rattle.site_base.specs.declared.limits.TheConstants.{GREATEST_ROWS, TILLS};
 ghost use Rattle.written_site.specs.RowWords.{total};
-ghost use Rattle.counter_desk.specs.Marks.{AreAllMarked, AreMarked, IsMarked, IsUnmarkable, weigh_marks};
+ghost use Rattle.counter_desk.specs.Marks.{AreAllMarked, AreMarked, IsMarked, IsUnmarkable};
+ghost use Rattle.counter_desk.specs.Marks.{weigh_marks};
 ghost use Rattle.counter_desk.specs.Receipts.{cents_receipted, growth_receipted};
 ghost use Rattle.counter_desk.specs.Roots.{calls_in, lists_of};
 ghost use Rattle.counter_desk.specs.Settlement.{IsStrange, IsStrangeAmong, one_at};

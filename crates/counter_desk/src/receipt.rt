@@ -1,11 +1,16 @@
 //! Receipts: what an actor was told, and at which place of the history its row stands.
 
-ghost use Rattle.std.specs.Prelude.{◌≡◌, ◌+◌, ◌*◌, ◌<◌, ◌≤◌, ◌↔◌, [], ◌∷◌, ◌++◌, length, slice_get, IsTrue, OnOk};
-ghost use Rattle.site_base.specs.declared.limits.TheConstants.{GREATEST_CENTS, GREATEST_ROWS, GROWTH_LIMIT, TILLS};
+ghost use Rattle.std.specs.Prelude.{◌≡◌, ◌+◌, ◌*◌, ◌<◌, ◌≤◌, ◌↔◌, [], ◌∷◌, ◌++◌, length, slice_get};
+ghost use Rattle.std.specs.Prelude.{IsTrue, OnOk};
+ghost use Rattle.site_base.specs.declared.limits.TheConstants.{GREATEST_CENTS, GREATEST_ROWS};
+ghost use Rattle.site_base.specs.declared.limits.TheConstants.{GROWTH_LIMIT, TILLS};
 ghost use Rattle.site_base.specs.Events.{cents_in_reply, growth_in_reply};
-ghost use Rattle.counter_desk.specs.Receipts.{cents_receipted, growth_receipted, receipt_at, receipted_row};
+ghost use Rattle.counter_desk.specs.Receipts.{cents_receipted, growth_receipted, receipt_at};
+ghost use Rattle.counter_desk.specs.Receipts.{receipted_row};
 
-use site_base::{Actor, Answer, Event, NoMemory, Reply, Row, Rows, cents_in_reply, growth_in_reply};
+use site_base::{
+    Actor, Answer, Event, NoMemory, Reply, Row, Rows, cents_in_reply, growth_in_reply,
+};
 use std::alloc::Global;
 use std::marker::Model;
 

@@ -1,6 +1,7 @@
 //! The root: it gives shares and takes them back.
 
-ghost use Rattle.std.specs.Prelude.{◌≡◌, ◌+◌, ◌*◌, ◌^◌, ◌≤◌, [], ◌∷◌, ◌++◌, length, map, IfOk, OnErr, OnOk};
+ghost use Rattle.std.specs.Prelude.{◌≡◌, ◌+◌, ◌*◌, ◌^◌, ◌≤◌, [], ◌∷◌, ◌++◌, length, map, IfOk};
+ghost use Rattle.std.specs.Prelude.{OnErr, OnOk};
 ghost use Rattle.site_base.specs.declared.limits.TheConstants.{GREATEST_CENTS, GROWTH_LIMIT};
 ghost use Rattle.written_site.specs.RowWords.{total};
 ghost use Rattle.counter_desk.specs.Shares.{nobody_owed};

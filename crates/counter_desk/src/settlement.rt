@@ -4,7 +4,8 @@ ghost use Rattle.std.specs.Prelude.{◌≡◌, length, IfErr, IfOk, OnOk};
 ghost use Rattle.written_site.specs.SiteRun.{IsLegal};
 ghost use Rattle.written_site.specs.SiteState.{opening};
 ghost use Rattle.counter_desk.specs.Roots.{calls_in};
-ghost use Rattle.counter_desk.specs.Settlement.{AddsUp, IsFaultIn, IsFaultOf, IsNoneStrange, settle_fault_number, Settles};
+ghost use Rattle.counter_desk.specs.Settlement.{AddsUp, IsFaultIn, IsFaultOf, IsNoneStrange};
+ghost use Rattle.counter_desk.specs.Settlement.{settle_fault_number, Settles};
 
 use crate::desk::Desk;
 use crate::laws::kept_histories_are_sound;
@@ -74,9 +75,10 @@ impl<L: Ledger, C: Naming> Desk<L, C> {
     /// one share, and each share's calls stand there in the order in which it made them. It fails
     /// where a receipt is strange, or an allocation fails; then nothing has changed.
     ///
-    /// The rows stand behind the desk's lock, which forgets all but their type, so `fault` speaks of
-    /// a legal history of this configuration with as many rows as the shares made calls, and can't
-    /// say that it is the desk's own. Under the lock it is: `Locked::settle` compares its own rows.
+    /// The rows stand behind the desk's lock, which forgets all but their type, so `fault` speaks
+    /// of a legal history of this configuration with as many rows as the shares made calls, and
+    /// can't say that it is the desk's own. Under the lock it is: `Locked::settle` compares its own
+    /// rows.
     pub fn settle(self, alloc: Global, root: Root<L, C>) -> Result<Settled, Unsettled<L, C>>
         requires { root.out ≡ 0 }
         ensures ok { IfOk result (λ settled. Settles C.config root.lists settled) }

@@ -1,13 +1,16 @@
 //! A share of the day's work.
 
-ghost use Rattle.std.specs.Prelude.{◌≡◌, ◌+◌, ◌-◌, ◌<◌, ◌≤◌, [], ◌∷◌, ◌++◌, length, false, slice_set, OnOk};
-ghost use Rattle.site_base.specs.declared.limits.TheConstants.{GREATEST_ROWS, GROWTH_LIMIT, TILL_CELLS, TILLS};
+ghost use Rattle.std.specs.Prelude.{◌≡◌, ◌+◌, ◌-◌, ◌<◌, ◌≤◌, [], ◌∷◌, ◌++◌, length, false};
+ghost use Rattle.std.specs.Prelude.{slice_set, OnOk};
+ghost use Rattle.site_base.specs.declared.limits.TheConstants.{GREATEST_ROWS, GROWTH_LIMIT};
+ghost use Rattle.site_base.specs.declared.limits.TheConstants.{TILL_CELLS, TILLS};
 ghost use Rattle.site_base.specs.Events.{growth_in_reply};
 ghost use Rattle.counter_desk.specs.Receipts.{cents_receipted, growth_receipted, receipt_at};
-ghost use Rattle.counter_desk.specs.Shares.{owes, nobody_owed, owed_after, tills_owed, receipts_asked, IsAsBefore};
+ghost use Rattle.counter_desk.specs.Shares.{owes, nobody_owed, owed_after, tills_owed};
+ghost use Rattle.counter_desk.specs.Shares.{receipts_asked, IsAsBefore};
 
-use crate::naming::Naming;
 use crate::debts::Owed;
+use crate::naming::Naming;
 use crate::receipt::Receipts;
 use site_base::{Event, NoMemory, Row, TillNo, sign_change};
 use std::alloc::Global;
@@ -103,7 +106,8 @@ impl<L: Ledger, C: Naming> Share<L, C> {
 
     /// A call was made: the receipt of its row is kept, and the ledger of calls counts it.
     pub(crate) fn note(&mut self, calls: &mut Book<L>, place: u64, row: &Row)
-        requires room { tills_owed (owed_after row.now.actor row.now.event row.now.reply self.old.owed)
+        requires room { tills_owed (owed_after row.now.actor row.now.event row.now.reply
+            self.old.owed)
             < self.old.room + tills_owed self.old.owed }
         requires few { calls.old.total ≤ GREATEST_ROWS + TILLS }
         requires growth { growth_in_reply row.now.reply ≤ GROWTH_LIMIT }

@@ -4,7 +4,8 @@ ghost use Rattle.std.specs.Prelude.{◌≡◌, ◌≤◌, ℕ, [], ◌∷◌, fa
 ghost use Rattle.site_base.specs.declared.limits.TheConstants.{TILLS};
 ghost use Rattle.site_base.specs.Refusals.{no_row_number};
 ghost use Rattle.counter_desk.specs.Shares.{owes};
-ghost use Rattle.counter_desk.specs.Work.{AreSignOffs, AreSubmitted, IsCause, IsStopped, IsWorkersEnd, OwesNobody, Works, work_fault_number};
+ghost use Rattle.counter_desk.specs.Work.{AreSignOffs, AreSubmitted, IsCause, IsStopped};
+ghost use Rattle.counter_desk.specs.Work.{IsWorkersEnd, OwesNobody, Works, work_fault_number};
 
 use crate::desk::Desk;
 use crate::gate::Gate;

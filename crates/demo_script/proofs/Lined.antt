@@ -1,5 +1,6 @@
 -- The first line of a text.
-use Rattle.std.proofs.Common.{◌≡◌, ◌≢◌, ℕ, zero, suc, ◌<◌, ◌==◌, true, false, List, [], ◌∷◌, length, take, drop, get_or, refl, ap, arith}
+use Rattle.std.proofs.Common.{◌≡◌, ◌≢◌, ℕ, zero, suc, ◌<◌, ◌==◌, true, false, List, [], ◌∷◌, length}
+use Rattle.std.proofs.Common.{take, drop, get_or, refl, ap, arith}
 use Rattle.std.proofs.lemmas.Bool.{eq-eqb, ne_eqb}
 use Rattle.demo_script.specs.Lines.{begun, lines_of}
 
@@ -16,7 +17,8 @@ line_first (b ∷ bs) (suc end) within is before =
     line_first bs end (omega arith) is (λ k low. before (suc k) (omega arith)) in
     rw (e, rest) refl
 
-pub line_last : (text : List ℕ) → 0 < length text → ((k : ℕ) → k < length text → get_or text k 0 ≢ 10)
+pub line_last : (text : List ℕ) → 0 < length text
+    → ((k : ℕ) → k < length text → get_or text k 0 ≢ 10)
     → lines_of text ≡ text ∷ []
 line_last [] some none = absurd (omega arith)
 line_last (b ∷ []) some none =

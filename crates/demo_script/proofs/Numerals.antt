@@ -1,11 +1,16 @@
 -- How numbers are written: what `parse` reads of a text that is neither signed nor padded.
-use Rattle.std.proofs.Common.{◌≡◌, ◌≢◌, ℕ, zero, suc, ◌<◌, ◌≤◌, ◌^◌, ◌==◌, ◌||◌, true, false, List, [], ◌∷◌, ◌++◌, length, take, get_or, Ok, Err, decimal, refl, sym, ap, subst, ◌∙◌, arith, lit<}
+use Rattle.std.proofs.Common.{◌≡◌, ◌≢◌, ℕ, zero, suc, ◌<◌, ◌≤◌, ◌^◌, ◌==◌, ◌||◌, true, false, List}
+use Rattle.std.proofs.Common.{[], ◌∷◌, ◌++◌, length, take, get_or, Ok, Err, decimal, refl, sym, ap}
+use Rattle.std.proofs.Common.{subst, ◌∙◌, arith, lit<}
 use Rattle.std.proofs.Math.Seq.{take-append_seam}
 use Rattle.std.proofs.lemmas.List.{append_cancel_left}
 use Rattle.std.proofs.lemmas.Bool.{eqb-false, eq-eqb, ne_eqb}
-use Rattle.std.proofs.lemmas.Fmt.{decimal-digits_value, decimal_digit, digits_value-decimal, first_decimal, parse-decimal}
-use Rattle.std.proofs.lemmas.Str.Parse.{IsNumeralModel, numerals_by_value, tells_digits, without_leading_plus_none}
-use Rattle.std.specs.Str.Parse.{AllDigits, IsNumeral, ParsesUnsigned, digits_value, without_leading_plus}
+use Rattle.std.proofs.lemmas.Fmt.{decimal-digits_value, decimal_digit, digits_value-decimal}
+use Rattle.std.proofs.lemmas.Fmt.{first_decimal, parse-decimal}
+use Rattle.std.proofs.lemmas.Str.Parse.{IsNumeralModel, numerals_by_value, tells_digits}
+use Rattle.std.proofs.lemmas.Str.Parse.{without_leading_plus_none}
+use Rattle.std.specs.Str.Parse.{AllDigits, IsNumeral, ParsesUnsigned, digits_value}
+use Rattle.std.specs.Str.Parse.{without_leading_plus}
 use Rattle.demo_script.specs.Numbers.{is_signed_or_padded}
 
 own : IsNumeralModel (AllDigits 10) (digits_value 10)
@@ -45,13 +50,15 @@ pub signed_is_none : (bs : List ℕ) (most : ℕ) → most < 2 ^ 32 → is_signe
     → (n : ℕ) → n ≤ most → bs ≢ decimal n
 signed_is_none bs most few is n low e =
     let plain : is_signed_or_padded (decimal n) ≡ false = decimal_plain n (omega arith) in
-    let same : is_signed_or_padded bs ≡ is_signed_or_padded (decimal n) = ap is_signed_or_padded e in
+    let same : is_signed_or_padded bs ≡ is_signed_or_padded (decimal n) =
+    ap is_signed_or_padded e in
     cc
 
 -- what `parse` says of the number that it read of a text
 abbrev pub IsParsed : List ℕ → ℕ → Type 0
 IsParsed text n =
-    (IsNumeral 10 (without_leading_plus text) × (digits_value 10 (without_leading_plus text) < 2 ^ 32))
+    (IsNumeral 10 (without_leading_plus text)
+    × (digits_value 10 (without_leading_plus text) < 2 ^ 32))
     × (n ≡ digits_value 10 (without_leading_plus text))
 
 -- another text is the number's that is read of it
@@ -70,7 +77,8 @@ parsed_is_written bs text n same is parsed =
 pub refused_is_none : {E : Type 0} (bs text : List ℕ) (e : E) (most : ℕ) → most < 2 ^ 32 → text ≡ bs
     → ParsesUnsigned 32 10 text (Err e) → (n : ℕ) → n ≤ most → bs ≢ decimal n
 refused_is_none bs text e most few same parsed n low is =
-    let r : Err e ≡ Ok n = parse-decimal 32 n text (Err e) (omega arith) (omega arith) (same ∙ is) parsed in
+    let r : Err e ≡ Ok n = parse-decimal 32 n text (Err e) (omega arith) (omega arith) (same ∙ is)
+    parsed in
     cc
 
 -- and each is read as its number

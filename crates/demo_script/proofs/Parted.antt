@@ -1,5 +1,6 @@
 -- Two numbers with a space between them.
-use Rattle.std.proofs.Common.{◌≡◌, ℕ, suc, ◌<◌, ◌≤◌, ◌^◌, List, [], ◌∷◌, ◌++◌, get_or, refl, sym, ◌∙◌, arith, decimal, codes}
+use Rattle.std.proofs.Common.{◌≡◌, ℕ, suc, ◌<◌, ◌≤◌, ◌^◌, List, [], ◌∷◌, ◌++◌, get_or, refl, sym}
+use Rattle.std.proofs.Common.{◌∙◌, arith, decimal, codes}
 use Rattle.std.proofs.lemmas.Fmt.{decimal_is_IsNumeral}
 use Rattle.std.proofs.lemmas.Str.Parse.{digit_at}
 use Rattle.std.specs.Int.{IsInRange}
@@ -24,17 +25,20 @@ parts_are (x ∷ a) b [] d one two is =
 parts_are (x ∷ a) b (y ∷ c) d one two is =
     let head : x ≡ y = cc in
     let tail : a ++ (32 ∷ b) ≡ c ++ (32 ∷ d) = cc in
-    let rest = parts_are a b c d (λ k low. one (suc k) (omega arith)) (λ k low. two (suc k) (omega arith)) tail in
+    let rest = parts_are a b c d (λ k low. one (suc k) (omega arith))
+    (λ k low. two (suc k) (omega arith)) tail in
     let front : a ≡ c = rest.0 in
     (cc, rest.1)
 
 -- so a dispenser's line has just these two
-pub numbers_are : (text numbers first last : List ℕ) (p polls : ℕ) → text ≡ codes "dispenser " ++ numbers
+pub numbers_are : (text numbers first last : List ℕ) (p polls : ℕ)
+    → text ≡ codes "dispenser " ++ numbers
     → numbers ≡ first ++ (32 ∷ last) → IsWithoutSpace first → IsDispenserText text p polls
     → (first ≡ decimal p) × (last ≡ decimal polls)
 numbers_are text numbers first last p polls is split_at_space unspaced said =
     let behind : numbers ≡ decimal p ++ (32 ∷ decimal polls) =
-    behind_is (codes "dispenser ") text numbers (decimal p ++ (32 ∷ decimal polls)) is said.text_is in
+    behind_is (codes "dispenser ") text numbers (decimal p ++ (32 ∷ decimal polls)) is
+    said.text_is in
     parts_are first last (decimal p) (decimal polls) unspaced
     (decimal_unspaced p (omega (arith, said.most_point))) (sym split_at_space ∙ behind)
 
@@ -51,5 +55,6 @@ pub unparted : (text numbers : List ℕ) (p polls : ℕ) → text ≡ codes "dis
     → IsWithoutSpace numbers → ¬ IsDispenserText text p polls
 unparted text numbers p polls is unspaced said =
     let behind : numbers ≡ decimal p ++ (32 ∷ decimal polls) =
-    behind_is (codes "dispenser ") text numbers (decimal p ++ (32 ∷ decimal polls)) is said.text_is in
+    behind_is (codes "dispenser ") text numbers (decimal p ++ (32 ∷ decimal polls)) is
+    said.text_is in
     spaced (decimal p) (decimal polls) numbers behind unspaced

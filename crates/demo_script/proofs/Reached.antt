@@ -1,5 +1,6 @@
 -- Lines that were read, one behind the other.
-use Rattle.std.proofs.Common.{◌≡◌, ℕ, ◌+◌, ◌-◌, List, [], ◌∷◌, ◌++◌, length, take, get_or, refl, sym, ap, subst, ◌∙◌, arith}
+use Rattle.std.proofs.Common.{◌≡◌, ℕ, ◌+◌, ◌-◌, List, [], ◌∷◌, ◌++◌, length, take, get_or, refl}
+use Rattle.std.proofs.Common.{sym, ap, subst, ◌∙◌, arith}
 use Rattle.std.proofs.lemmas.List.{append-nil, append_assoc, length-append}
 use Rattle.std.proofs.Math.Seq.{take-append_seam}
 use Rattle.demo_script.specs.declared.fault.ScriptFault.{ScriptFault}
@@ -7,7 +8,8 @@ use Rattle.demo_script.specs.declared.fault.ScriptFault.TheVariants as faults
 use Rattle.demo_script.specs.declared.line.Line.{Line}
 use Rattle.demo_script.specs.Lines.{lines_of}
 use Rattle.demo_script.specs.Reading.{IsFaultyLine, IsReadBy, IsReadTo, IsRefusedBy}
-use Rattle.demo_script.specs.Script.{AreRead, DraftFacts, IsFirstFaulty, Says, nothing_read, with_line}
+use Rattle.demo_script.specs.Script.{AreRead, DraftFacts, IsFirstFaulty, Says, nothing_read}
+use Rattle.demo_script.specs.Script.{with_line}
 
 pub reached_none : (text : List ℕ) → IsReadTo text text 0 nothing_read
 reached_none text = record { done = []; parts = refl; counted = refl; read = refl }
@@ -34,7 +36,8 @@ reached_more text rest line others number d e reached is by = record {
   read = read_append nothing_read d e reached.done (line ∷ []) reached.read (read_one d e line by);
 }
 
-at_seam : (xs : List (List ℕ)) (y : List ℕ) (ys : List (List ℕ)) → get_or (xs ++ y ∷ ys) (length xs) [] ≡ y
+at_seam : (xs : List (List ℕ)) (y : List ℕ) (ys : List (List ℕ))
+    → get_or (xs ++ y ∷ ys) (length xs) [] ≡ y
 at_seam [] y ys = refl
 at_seam (x ∷ xs) y ys = at_seam xs y ys
 
@@ -48,14 +51,21 @@ reached_faulty text rest line others number d reached is faulty =
     let before : number + 1 - 1 ≡ length reached.done = omega (arith, reached.counted) in
     let front : take (number + 1 - 1) (lines_of text) ≡ reached.done =
     ap (λ n. take n (lines_of text)) before
-    ∙ ap (take (length reached.done)) parts ∙ take-append_seam reached.done (line ∷ lines_of others) in
+    ∙ ap (take (length reached.done)) parts
+    ∙ take-append_seam reached.done (line ∷ lines_of others) in
     let there : get_or (lines_of text) (number + 1 - 1) [] ≡ line =
     ap (λ n. get_or (lines_of text) n []) before
-    ∙ ap (λ xs. get_or xs (length reached.done) []) parts ∙ at_seam reached.done line (lines_of others) in
+    ∙ ap (λ xs. get_or xs (length reached.done) []) parts
+    ∙ at_seam reached.done line (lines_of others) in
     record {
       draft = d;
       least = omega arith;
-      there = omega (arith, reached.counted, ap length parts, length-append reached.done (line ∷ lines_of others));
+      there = omega (
+        arith,
+        reached.counted,
+        ap length parts,
+        length-append reached.done (line ∷ lines_of others),
+      );
       read = subst (λ xs. AreRead nothing_read xs d) (sym front) reached.read;
       faulty = λ said says. faulty said (subst (λ x. Says d x said) there says);
     }
@@ -65,12 +75,17 @@ pub reached_all : (text rest : List ℕ) (number : ℕ) (d : DraftFacts) → IsR
     → rest ≡ [] → AreRead nothing_read (lines_of text) d × (number ≡ length (lines_of text))
 reached_all text rest number d reached is =
     let none : lines_of rest ≡ [] = ap lines_of is in
-    let parts : lines_of text ≡ reached.done ++ [] = reached.parts ∙ ap (λ x. reached.done ++ x) none in
-    let all : lines_of text ≡ reached.done = simp append-nil at parts in
-    (subst (λ xs. AreRead nothing_read xs d) (sym all) reached.read, reached.counted ∙ ap length (sym all))
+    let parts : lines_of text ≡ reached.done ++ [] = reached.parts
+    ∙ ap (λ x. reached.done ++ x) none in
+    let all : lines_of text ≡ reached.done = simp append-nil at parts in (
+      subst (λ xs. AreRead nothing_read xs d) (sym all) reached.read,
+      reached.counted
+          ∙ ap length (sym all),
+    )
 
 -- a line that was refused, so or for want of memory
-pub reached_refused : (text rest line others : List ℕ) (number : ℕ) (d : DraftFacts) (fault : ScriptFault)
+pub reached_refused : (text rest line others : List ℕ) (number : ℕ) (d : DraftFacts)
+    (fault : ScriptFault)
     → IsReadTo text rest number d → lines_of rest ≡ line ∷ lines_of others
     → IsRefusedBy d line (number + 1) fault → IsFaultyLine text fault
 reached_refused text rest line others number d (faults.Line n) reached is refused =

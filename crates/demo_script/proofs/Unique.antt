@@ -1,5 +1,8 @@
 -- A line says one thing, so a text is the script of one demo, or of none.
-use Rattle.std.proofs.Common.{◌≡◌, ◌≢◌, ℕ, suc, ◌+◌, ◌-◌, ◌*◌, ◌<◌, ◌^◌, ◌==◌, if◌then◌else◌, Bool, true, false, List, [], ◌∷◌, ◌++◌, length, take, drop, get_or, Option, None, Some, Result, Ok, inl, inr, codes, decimal, refl, sym, ap, subst, ◌∙◌, arith, drop-cons}
+use Rattle.std.proofs.Common.{◌≡◌, ◌≢◌, ℕ, suc, ◌+◌, ◌-◌, ◌*◌, ◌<◌, ◌^◌, ◌==◌, if◌then◌else◌, Bool}
+use Rattle.std.proofs.Common.{true, false, List, [], ◌∷◌, ◌++◌, length, take, drop, get_or, Option}
+use Rattle.std.proofs.Common.{None, Some, Result, Ok, inl, inr, codes, decimal, refl, sym, ap}
+use Rattle.std.proofs.Common.{subst, ◌∙◌, arith, drop-cons}
 use Rattle.std.specs.Io.BufRead.{strip_last}
 use Rattle.std.proofs.lemmas.Fmt.{decimal_injective}
 use Rattle.std.proofs.lemmas.List.{take-append-drop}
@@ -20,7 +23,9 @@ use Rattle.demo_script.specs.declared.line.Line.TheVariants as lines
 use Rattle.demo_script.specs.declared.section.Section.{Section}
 use Rattle.demo_script.specs.declared.section.Section.TheVariants as sections
 use Rattle.demo_script.specs.Lines.{lines_of}
-use Rattle.demo_script.specs.Script.{AreRead, Begins, DemoFacts, DraftFacts, IsFirstFaulty, IsRefused, IsScript, IsStepText, IsTask, IsWithoutSections, IsWork, Says, SaysIf, nothing_read, sections_of, with_line}
+use Rattle.demo_script.specs.Script.{AreRead, Begins, DemoFacts, DraftFacts, IsFirstFaulty}
+use Rattle.demo_script.specs.Script.{IsRefused, IsScript, IsStepText, IsTask, IsWithoutSections}
+use Rattle.demo_script.specs.Script.{IsWork, Says, SaysIf, nothing_read, sections_of, with_line}
 use Rattle.demo_script.proofs.Messages.{message_is}
 use Rattle.demo_script.proofs.Numerals.{behind_is}
 use Rattle.demo_script.proofs.Parted.{decimal_unspaced, parts_are}
@@ -95,7 +100,8 @@ step_one text (steps.Pump n) (steps.Pump m) one two =
 step_one text (steps.WaitFor a) (steps.WaitFor b) one two =
     let same : state_number a ≡ state_number b =
     decimal_injective (state_number a) (state_number b) (few_states a) (few_states b)
-    (behind_is (codes "wait ") text (decimal (state_number a)) (decimal (state_number b)) one two) in
+    (behind_is (codes "wait ") text (decimal (state_number a)) (decimal (state_number b)) one
+    two) in
     ap steps.WaitFor (sym (of_its_number a) ∙ ap of_number same ∙ of_its_number b)
 step_one text a b one two =
     let e : step_key a ≡ step_key b = sym (key_is text a one) ∙ key_is text b two in
@@ -106,18 +112,23 @@ step_one text a b one two =
 begins_one : (text : List ℕ) (a b : Line) → Begins text a → Begins text b → a ≡ b
 begins_one text lines.Till lines.Till one two = refl
 begins_one text lines.Till (lines.Dispenser q n) one two =
-    let e : key (codes "till") ≡ 25705 = sym (ap key one) ∙ ap key two.text_is in absurd (omega arith)
+    let e : key (codes "till") ≡ 25705 = sym (ap key one)
+    ∙ ap key two.text_is in absurd (omega arith)
 begins_one text lines.Till b one two = elim two [ ]
 begins_one text (lines.Dispenser p m) lines.Till one two =
-    let e : key (codes "till") ≡ 25705 = sym (ap key two) ∙ ap key one.text_is in absurd (omega arith)
+    let e : key (codes "till") ≡ 25705 = sym (ap key two)
+    ∙ ap key one.text_is in absurd (omega arith)
 begins_one text (lines.Dispenser p m) (lines.Dispenser q n) one two =
     let both : decimal p ++ (32 ∷ decimal m) ≡ decimal q ++ (32 ∷ decimal n) =
-    behind_is (codes "dispenser ") text (decimal p ++ (32 ∷ decimal m)) (decimal q ++ (32 ∷ decimal n)) one.text_is two.text_is in
+    behind_is (codes "dispenser ") text (decimal p ++ (32 ∷ decimal m))
+    (decimal q ++ (32 ∷ decimal n)) one.text_is two.text_is in
     let small_p : p < 2 ^ 64 = omega (arith, one.most_point) in
     let small_q : q < 2 ^ 64 = omega (arith, two.most_point) in
-    let parts = parts_are (decimal p) (decimal m) (decimal q) (decimal n) (decimal_unspaced p small_p) (decimal_unspaced q small_q) both in
+    let parts = parts_are (decimal p) (decimal m) (decimal q) (decimal n)
+    (decimal_unspaced p small_p) (decimal_unspaced q small_q) both in
     let points : p ≡ q = decimal_injective p q small_p small_q parts.0 in
-    let polls : m ≡ n = decimal_injective m n (omega (arith, one.most_polls)) (omega (arith, two.most_polls)) parts.1 in
+    let polls : m ≡ n = decimal_injective m n (omega (arith, one.most_polls))
+    (omega (arith, two.most_polls)) parts.1 in
     cc
 begins_one text (lines.Dispenser p m) b one two = elim two [ ]
 begins_one text a b one two = elim one [ ]
@@ -125,7 +136,8 @@ begins_one text a b one two = elim one [ ]
 work_one : (current : Option Section) (text : List ℕ) (a b : Line)
     → IsWork current text a → IsWork current text b → a ≡ b
 work_one None text (lines.Call x y) (lines.Call z w) one two =
-    let m : one.message ≡ two.message = message_is text one.message two.message one.text_is two.text_is in
+    let m : one.message ≡ two.message =
+    message_is text one.message two.message one.text_is two.text_is in
     let e : ◌≡◌ {A = Result (Actor × Event) MapFault} (Ok (x, y)) (Ok (z, w)) =
     sym one.request ∙ ap request_at m ∙ two.request in
     let p : ◌≡◌ {A = Actor × Event} (x, y) (z, w) = cc in
@@ -154,7 +166,8 @@ text_one : (skipped : Bool) (d : DraftFacts) (text : List ℕ) (a b : Line)
 text_one true d text a b one two = one ∙ sym two
 text_one false d text a b one two = task_one d text a b one two
 
-says_one : (d : DraftFacts) (octets : List ℕ) (a b : Line) → Says d octets a → Says d octets b → a ≡ b
+says_one : (d : DraftFacts) (octets : List ℕ) (a b : Line) → Says d octets a → Says d octets b
+    → a ≡ b
 says_one d octets a b one two =
     text_one (is_skipped (strip_last 13 octets)) d (strip_last 13 octets) a b one.1 two.1
 
@@ -183,9 +196,11 @@ faulty_is_none text number first demo script =
     let behind : drop k all ≡ get_or all k [] ∷ drop (suc k) all = drop-cons all k [] within in
     let split_at_space : all ≡ take k all ++ (get_or all k [] ∷ drop (suc k) all) =
     sym (take-append-drop k all) ∙ ap (λ ys. take k all ++ ys) behind in
-    let split = read_split nothing_read script.draft (take k all) (get_or all k [] ∷ drop (suc k) all)
+    let split = read_split nothing_read script.draft (take k all)
+    (get_or all k [] ∷ drop (suc k) all)
     (subst (λ xs. AreRead nothing_read xs script.draft) split_at_space script.read) in
-    let same : split.0 ≡ first.draft = read_one nothing_read split.0 first.draft (take k all) split.1 first.read in
+    let same : split.0 ≡ first.draft =
+    read_one nothing_read split.0 first.draft (take k all) split.1 first.read in
     first.faulty split.2.0 (subst (λ d. Says d (get_or all k []) split.2.0) same split.2.1)
 
 without_is_none : (text : List ℕ) (number : ℕ) → IsWithoutSections text number
@@ -210,7 +225,8 @@ demo_parts a b x y one two = cc
 -- and a script is that of one demo
 pub script_is_one : (text : List ℕ) (a b : DemoFacts) → IsScript text a → IsScript text b → b ≡ a
 script_is_one text a b one two =
-    let same : one.draft ≡ two.draft = read_one nothing_read one.draft two.draft (lines_of text) one.read two.read in
+    let same : one.draft ≡ two.draft =
+    read_one nothing_read one.draft two.draft (lines_of text) one.read two.read in
     demo_parts b.setup a.setup b.sections a.sections
     (two.setup ∙ ap (λ d. d.setup) (sym same) ∙ sym one.setup)
     (two.sections ∙ ap sections_of (sym same) ∙ sym one.sections)

@@ -1,5 +1,6 @@
 -- How a number isn't written, and where it ends.
-use Rattle.std.specs.Prelude.{ℕ, ◌==◌, ◌||◌, ◌<◌, ◌≢◌, Bool, false, List, [], ◌∷◌, length, slice_index}
+use Rattle.std.specs.Prelude.{ℕ, ◌==◌, ◌||◌, ◌<◌, ◌≢◌, Bool, false, List, [], ◌∷◌, length}
+use Rattle.std.specs.Prelude.{slice_index}
 
 -- it begins with a plus, or with a zero that isn't all
 abbrev pub is_signed_or_padded : List ℕ → Bool

@@ -4,7 +4,8 @@ use Rattle.demo_script.specs.declared.fault.ScriptFault.{ScriptFault}
 use Rattle.demo_script.specs.declared.fault.ScriptFault.TheVariants.{Line, NoMemory}
 use Rattle.demo_script.specs.declared.line.Line as said
 use Rattle.demo_script.specs.Lines.{lines_of}
-use Rattle.demo_script.specs.Script.{DraftFacts, AreRead, IsFirstFaulty, Says, nothing_read, with_line}
+use Rattle.demo_script.specs.Script.{DraftFacts, AreRead, IsFirstFaulty, Says, nothing_read}
+use Rattle.demo_script.specs.Script.{with_line}
 
 -- a line says something, and this was read then
 pub record IsReadBy (before : DraftFacts) (octets : List ℕ) (after : DraftFacts) : Type 0 where

@@ -19,7 +19,8 @@ use Rattle.demo_script.specs.declared.fault.ScriptFault.{ScriptFault}
 use Rattle.demo_script.specs.declared.fault.ScriptFault.TheVariants as faults
 use Rattle.demo_script.specs.declared.line.Line.{Line}
 use Rattle.demo_script.specs.declared.line.Line.TheVariants as lines
-use Rattle.demo_script.specs.declared.limits.TheConstants.{GREATEST_POLLS, GREATEST_PUMPED, SECTIONS}
+use Rattle.demo_script.specs.declared.limits.TheConstants.{GREATEST_POLLS, GREATEST_PUMPED}
+use Rattle.demo_script.specs.declared.limits.TheConstants.{SECTIONS}
 use Rattle.demo_script.specs.declared.section.Section.{Section}
 use Rattle.demo_script.specs.declared.section.Section.TheVariants as sections
 use Rattle.demo_script.specs.Lines.{lines_of}

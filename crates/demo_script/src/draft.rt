@@ -1,10 +1,12 @@
 //! What was read of a script so far.
 
-ghost use Rattle.std.specs.Prelude.{◌≡◌, ◌<◌, ◌≤◌, [], ◌∷◌, ◌++◌, None, Some, length, option_to_list, IfOk, OnOk, IfSome, IfNone, IsTrue, ◌↔◌};
+ghost use Rattle.std.specs.Prelude.{◌≡◌, ◌<◌, ◌≤◌, [], ◌∷◌, ◌++◌, None, Some, length};
+ghost use Rattle.std.specs.Prelude.{option_to_list, IfOk, OnOk, IfSome, IfNone, IsTrue, ◌↔◌};
 ghost use Rattle.std.specs.Io.BufRead.{strip_last};
 ghost use Rattle.demo_script.specs.declared.limits.TheConstants.{SECTIONS};
 ghost use Rattle.demo_script.specs.declared.line.Line.{Line};
-ghost use Rattle.demo_script.specs.Script.{begun_with, nothing_read, sections_of, with_line, with_message, with_step, IsWork, Says, TextSays};
+ghost use Rattle.demo_script.specs.Script.{begun_with, nothing_read, sections_of, with_line};
+ghost use Rattle.demo_script.specs.Script.{with_message, with_step, IsWork, Says, TextSays};
 
 use crate::limits::SECTIONS;
 use crate::line::Line;

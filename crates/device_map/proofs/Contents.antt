@@ -4,7 +4,8 @@ use Rattle.std.specs.Prelude.{◌&&◌, ◌≤◌, ◌^◌, ◌/◌, nat_lt, nat
 use Rattle.std.specs.Int.{w32, w64, byte_at, bytes_high_first, to_be_bytes, from_be_bytes}
 use Rattle.std.specs.List.{flat_map}
 use Rattle.std.proofs.Common.{◌≡◌, ℕ, zero, suc, ◌+◌, ◌<◌, ◌==◌, Bool, true, false, List, [], ◌∷◌}
-use Rattle.std.proofs.Common.{◌++◌, length, Result, Ok, refl, sym, ap, subst, cond, ◌∙◌, arith, lit≤}
+use Rattle.std.proofs.Common.{◌++◌, length, Result, Ok, refl, sym, ap, subst, cond, ◌∙◌, arith}
+use Rattle.std.proofs.Common.{lit≤}
 use Rattle.std.proofs.lemmas.Bool.{and_parts}
 use Rattle.std.proofs.lemmas.Bool.Decides.{nat_tests}
 use Rattle.std.proofs.lemmas.Nat.{be_bytes_4, be_bytes_8, mod_below}

@@ -34,8 +34,8 @@ address_of (Product q) = (ids.PRODUCT_ADDRESS + q) ∷ []
 
 -- ---- the address is there
 
--- where events are asked for: the site, a fuelling point in range, a transaction of one, a product in
--- range
+-- where events are asked for: the site, a fuelling point in range, a transaction of one, a product
+-- in range
 abbrev pub IsAsked : Database → Type 0
 IsAsked Site = Unit {0}
 IsAsked (Point p) = is_between 1 POINTS p ≡ true

@@ -81,7 +81,8 @@ answer_rows =
     []
 
 answers_are_told : map tells answer_rows ≡ map (λ row. row.text ∷ []) answer_rows
-unfolding walk front_at header_at item_at items_at address_at body_at octet two_octets four_octets eight_octets
+unfolding walk front_at header_at item_at items_at address_at body_at octet two_octets four_octets
+    eight_octets
 answers_are_told = refl
 
 -- each refusal, with its detail where it has one
@@ -122,7 +123,8 @@ refusal_rows =
     []
 
 refusals_are_told : map tells refusal_rows ≡ map (λ row. row.text ∷ []) refusal_rows
-unfolding walk front_at header_at item_at items_at address_at body_at octet two_octets four_octets eight_octets
+unfolding walk front_at header_at item_at items_at address_at body_at octet two_octets four_octets
+    eight_octets
 refusals_are_told = refl
 
 -- ---- views
@@ -289,7 +291,8 @@ view_rows =
     []
 
 views_are_told : map tells view_rows ≡ map (λ row. row.text ∷ []) view_rows
-unfolding walk front_at header_at item_at items_at address_at body_at standing_items octet two_octets four_octets eight_octets
+unfolding walk front_at header_at item_at items_at address_at body_at standing_items octet
+    two_octets four_octets eight_octets
 views_are_told = refl
 
 -- ---- the way back: originator, token and address are those of the request
@@ -328,7 +331,8 @@ way_rows =
     []
 
 ways_back : map tells way_rows ≡ map (λ row. row.text ∷ []) way_rows
-unfolding walk front_at header_at item_at items_at address_at body_at standing_items octet two_octets four_octets eight_octets
+unfolding walk front_at header_at item_at items_at address_at body_at standing_items octet
+    two_octets four_octets eight_octets
 ways_back = refl
 
 -- ---- numbers in place of replies, and faults of a stream
@@ -343,7 +347,8 @@ numbered number = numbered_to "01 01 02 01 00 42 00 04 01 23 3C 00" number
 -- the address stands as it came, also where its digits are none
 digits_are_refused : numbered_to "01 01 02 01 00 47 00 07 04 21 21 00 0A 80 00" 55
     ≡ octets "02 01 01 01 00 E7 0008 04 21 21 00 0A 010137" ∷ []
-unfolding walk front_at header_at item_at items_at address_at body_at octet two_octets four_octets eight_octets
+unfolding walk front_at header_at item_at items_at address_at body_at octet two_octets four_octets
+    eight_octets
 digits_are_refused = refl
 
 numbers_are_told : map numbered (30 ∷ 31 ∷ 50 ∷ 58 ∷ [])
@@ -351,7 +356,8 @@ numbers_are_told : map numbered (30 ∷ 31 ∷ 50 ∷ 58 ∷ [])
     (octets "02 01 01 01 00 E2 0005 01 23 01011F" ∷ []) ∷
     (octets "02 01 01 01 00 E2 0005 01 23 010132" ∷ []) ∷
     (octets "02 01 01 01 00 E2 0005 01 23 01013A" ∷ []) ∷ []
-unfolding walk front_at header_at item_at items_at address_at body_at octet two_octets four_octets eight_octets
+unfolding walk front_at header_at item_at items_at address_at body_at octet two_octets four_octets
+    eight_octets
 numbers_are_told = refl
 
 -- a stream of the node 03 09, with token 31

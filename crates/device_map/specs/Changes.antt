@@ -1,4 +1,5 @@
--- The message that tells a dispenser of a change: an accepted command that moves its fuelling point.
+-- The message that tells a dispenser of a change: an accepted command that moves its fuelling
+-- point.
 use Rattle.std.specs.Prelude.{◌≡◌, ℕ, ◌+◌, List, [], ◌∷◌, true, Option, Some, None, is_some}
 use Rattle.std.specs.Prelude.{Result, Ok, Err}
 use Rattle.site_base.specs.declared.limits.TheConstants.{TILLS}
@@ -49,8 +50,8 @@ change_of row = change_where row.event row.reply
 abbrev pub as_command : ℕ → Telegram → Telegram
 as_command t m = telegram site_node (ids.TILL_SUBNET ∷ t ∷ []) kinds.Write m.token m.address m.items
 
--- a change has the address and the items of the request that made it: in any till's command they ask
--- for the event of the row
+-- a change has the address and the items of the request that made it: in any till's command they
+-- ask for the event of the row
 abbrev pub ChangesRepeatRequests : Type 0
 ChangesRepeatRequests = (t : ℕ) (row : Row) (m : Telegram) → is_between 1 TILLS t ≡ true
     → is_in_range row.event ≡ true → change_of row ≡ Some m

@@ -107,7 +107,8 @@ fn told(alloc: Global, point: FpNo, command: u8) -> Result<Message, NoMemory>
 /// The notice of a command with this preset to the dispenser of this point.
 fn told_within(alloc: Global, point: FpNo, command: u8, preset: Preset) -> Result<Message, NoMemory>
     requires { command < PRESET_VOLUME }
-    ensures { IfOk result (λ message. message ≡ notice point (entry command [] ∷ preset_items preset)) }
+    ensures { IfOk result (λ message. message
+        ≡ notice point (entry command [] ∷ preset_items preset)) }
 {
     let to = node::dispenser(point);
     let token = Token::new(0).unwrap();

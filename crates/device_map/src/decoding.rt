@@ -16,7 +16,8 @@ use std::alloc::Global;
 /// The reply that a message from the site tells, if it tells one: of a reply that is answered the
 /// message is just the profile's.
 pub fn decode_reply(alloc: Global, message: &Message) -> Result<Option<Reply>, NoMemory>
-    ensures { IfOk result (λ told. IfSome told (λ reply. message.now ≡ told_message message.now reply)) }
+    ensures { IfOk result (λ told. IfSome told
+        (λ reply. message.now ≡ told_message message.now reply)) }
 {
     match read(message) {
         None => Ok(None),
@@ -33,7 +34,8 @@ pub fn decode_reply(alloc: Global, message: &Message) -> Result<Option<Reply>, N
 /// The number that a message from the site tells in place of a reply, if it tells one: of a number
 /// that is answered the message is just the profile's.
 pub fn decode_number(alloc: Global, message: &Message) -> Result<Option<u8>, NoMemory>
-    ensures { IfOk result (λ told. IfSome told (λ number. message.now ≡ told_number message.now number)) }
+    ensures { IfOk result (λ told. IfSome told
+        (λ number. message.now ≡ told_number message.now number)) }
 {
     match octet(message, ids::RESULT) {
         None => Ok(None),

@@ -13,19 +13,19 @@
 mod address;
 mod change;
 mod decimal;
+mod decoding;
 mod fault;
 mod further_items;
 mod ids;
+mod item_writing;
 mod laws;
 mod node;
-mod item_writing;
 mod reply;
 mod request;
-mod decoding;
 
 pub use change::{change_of, decode_change};
+pub use decoding::{decode_number, decode_reply};
 pub use fault::MapFault;
 pub use laws::{changes_are_told, changes_repeat_requests, one_request};
 pub use reply::{refusal_in, refusal_of, reply_in, reply_of, stream_refusal};
 pub use request::request_of;
-pub use decoding::{decode_number, decode_reply};

@@ -8,7 +8,8 @@ ghost use Rattle.device_map.specs.Replies.{standing_items};
 ghost use Rattle.device_map.specs.Replies.{transaction_items, product_items, site_items, outcome};
 ghost use Rattle.device_map.specs.Replies.{answer_items, answer_kind, detail_items, refusal_items};
 ghost use Rattle.device_map.specs.Replies.{reply_items, reply_kind, reply_message, number_message};
-ghost use Rattle.device_map.specs.Replies.{fault_message, AreShort, back, told_message, told_number};
+ghost use Rattle.device_map.specs.Replies.{fault_message, AreShort, back, told_message};
+ghost use Rattle.device_map.specs.Replies.{told_number};
 ghost use Rattle.device_map.specs.Nodes.{site_node};
 
 use crate::decimal::packed_digits;
@@ -209,7 +210,8 @@ fn put_outcome(draft: &mut Draft, number: u8) -> Result<(), NoMemory>
 }
 
 fn put_start(draft: &mut Draft, preset: Preset, price: Mills) -> Result<(), NoMemory>
-    ensures { OnOk result (draft.new ≡ with_items draft.old (answer_items (Answer.Start preset price))) }
+    ensures { OnOk result (draft.new
+        ≡ with_items draft.old (answer_items (Answer.Start preset price))) }
 {
     put_outcome(draft, 2)?;
     put_preset(draft, preset)?;
@@ -224,7 +226,8 @@ fn put_flowed(draft: &mut Draft, growth: u64) -> Result<(), NoMemory>
 }
 
 fn put_sold(draft: &mut Draft, seq: Seq, growth: u64) -> Result<(), NoMemory>
-    ensures { OnOk result (draft.new ≡ with_items draft.old (answer_items (Answer.Sold seq growth))) }
+    ensures { OnOk result (draft.new
+        ≡ with_items draft.old (answer_items (Answer.Sold seq growth))) }
 {
     put_outcome(draft, 6)?;
     put_eight(draft, ids::VOLUME, growth)?;
@@ -239,7 +242,8 @@ fn put_cleared(draft: &mut Draft, cents: Cents) -> Result<(), NoMemory>
 }
 
 fn put_shift(draft: &mut Draft, shift: ShiftNo) -> Result<(), NoMemory>
-    ensures { OnOk result (draft.new ≡ with_items draft.old (answer_items (Answer.ShiftClosed shift))) }
+    ensures { OnOk result (draft.new
+        ≡ with_items draft.old (answer_items (Answer.ShiftClosed shift))) }
 {
     put_outcome(draft, 12)?;
     put_two(draft, ids::SHIFT, shift.get())

@@ -111,7 +111,10 @@ fn point_event(point: FpNo, command: &Item<'_>, items: Items<'_>) -> Result<Even
     match command.id() {
         ids::OPEN => bare(Event::Open(point), content, items),
         ids::CLOSE => bare(Event::Close(point), content, items),
-        ids::RELEASE => plain(Event::Release(point, further_items::preset(items)?), content),
+        ids::RELEASE => plain(
+            Event::Release(point, further_items::preset(items)?),
+            content,
+        ),
         ids::TERMINATE => bare(Event::Terminate(point), content, items),
         ids::SUSPEND => bare(Event::Suspend(point), content, items),
         ids::RESUME => bare(Event::Resume(point), content, items),
@@ -140,9 +143,18 @@ fn sale_event(
 {
     let content = command.content();
     match command.id() {
-        ids::LOCK => plain(Event::Lock(point, further_items::sale(digits, items)?), content),
-        ids::UNLOCK => plain(Event::Unlock(point, further_items::sale(digits, items)?), content),
-        ids::CLEAR => plain(Event::Clear(point, further_items::sale(digits, items)?), content),
+        ids::LOCK => plain(
+            Event::Lock(point, further_items::sale(digits, items)?),
+            content,
+        ),
+        ids::UNLOCK => plain(
+            Event::Unlock(point, further_items::sale(digits, items)?),
+            content,
+        ),
+        ids::CLEAR => plain(
+            Event::Clear(point, further_items::sale(digits, items)?),
+            content,
+        ),
         _ => Err(MapFault::UnknownItem),
     }
 }

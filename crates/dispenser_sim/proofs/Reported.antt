@@ -1,10 +1,12 @@
 -- Steps that were taken, one after another.
-use Rattle.std.proofs.Common.{◌≡◌, ℕ, ◌+◌, ◌<◌, true, false, List, [], ◌∷◌, ◌++◌, length, take, get_or, if◌then◌else◌, refl, sym, ap, subst, ◌∙◌, arith}
+use Rattle.std.proofs.Common.{◌≡◌, ℕ, ◌+◌, ◌<◌, true, false, List, [], ◌∷◌, ◌++◌, length, take}
+use Rattle.std.proofs.Common.{get_or, if◌then◌else◌, refl, sym, ap, subst, ◌∙◌, arith}
 use Rattle.std.proofs.lemmas.List.{append-nil, append_assoc, take_more}
 use Rattle.site_base.specs.Configured.{Configured}
 use Rattle.counter_desk.specs.declared.receipt.Receipt.{Receipt}
 use Rattle.dispenser_sim.specs.declared.script.Step.{Step}
-use Rattle.dispenser_sim.specs.Reports.{AreReports, AreTaken, DispenserFacts, is_reported, kept_after, kept_after_all, refused_in, reported, sold_in}
+use Rattle.dispenser_sim.specs.Reports.{AreReports, AreTaken, DispenserFacts, is_reported}
+use Rattle.dispenser_sim.specs.Reports.{kept_after, kept_after_all, refused_in, reported, sold_in}
 
 pub taken_none : (config : Configured) (d : DispenserFacts) (old : List Receipt)
     → AreTaken config [] d d old old 0 0
@@ -38,7 +40,8 @@ reported_append (x ∷ xs) ys =
     ≡ (if b then x ∷ reported xs else reported xs) ++ reported ys)
     [ true ↦ ap (λ zs. x ∷ zs) rest | false ↦ rest ]
 
-reports_append : (config : Configured) (d : DispenserFacts) (xs ys : List Step) (rs qs : List Receipt)
+reports_append : (config : Configured) (d : DispenserFacts) (xs ys : List Step)
+    (rs qs : List Receipt)
     → AreReports config d xs rs → AreReports config (kept_after_all rs d) ys qs
     → AreReports config d (xs ++ ys) (rs ++ qs)
 reports_append config d [] ys [] qs one two = two
@@ -67,7 +70,8 @@ taken_join config first second d e f old between new a b m n one two = record {
 }
 
 -- one step more
-pub taken_more : (config : Configured) (steps : List Step) (i : ℕ) (step : Step) (d e f : DispenserFacts)
+pub taken_more : (config : Configured) (steps : List Step) (i : ℕ) (step : Step)
+    (d e f : DispenserFacts)
     (old between new : List Receipt) (a b m n : ℕ) → i < length steps → step ≡ get_or steps i step
     → AreTaken config (take i steps) d e old between a m
     → AreTaken config (step ∷ []) e f between new b n

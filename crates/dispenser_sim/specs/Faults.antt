@@ -1,7 +1,8 @@
 -- Why a run of a dispenser ends before its script does.
 use Rattle.std.specs.Prelude.{ℕ}
 use Rattle.dispenser_sim.specs.declared.end.DispenserFault.{DispenserFault}
-use Rattle.dispenser_sim.specs.declared.end.DispenserFault.TheVariants.{BookFull, NoMemory, PollsSpent}
+use Rattle.dispenser_sim.specs.declared.end.DispenserFault.TheVariants.{BookFull, NoMemory}
+use Rattle.dispenser_sim.specs.declared.end.DispenserFault.TheVariants.{PollsSpent}
 
 -- its number, as a program tells it
 abbrev pub dispenser_fault_number : DispenserFault → ℕ

@@ -1,6 +1,7 @@
 -- What a simulated dispenser keeps, what it reports at each step, and what a run of steps leaves.
 use Rattle.std.specs.Prelude.{◌≡◌, ℕ, ◌+◌, ◌-◌, ◌<◌, ◌≤◌, ◌==◌, Bool, true, false, if◌then◌else◌}
-use Rattle.std.specs.Prelude.{List, [], ◌∷◌, ◌++◌, length, take, slice_get, slice_index_or, slice_set}
+use Rattle.std.specs.Prelude.{List, [], ◌∷◌, ◌++◌, length, take, slice_get, slice_index_or}
+use Rattle.std.specs.Prelude.{slice_set}
 use Rattle.std.specs.Prelude.{Option, None, Some, IfSome, Result, Ok, Err}
 use Rattle.site_base.specs.declared.actor.Actor.TheVariants.{Dispenser}
 use Rattle.site_base.specs.declared.answer.Answer.{Answer}
@@ -18,7 +19,8 @@ use Rattle.counter_desk.specs.KeptHistories.{IsFullInLegal, IsShownInLegal}
 use Rattle.dispenser_sim.specs.declared.end.DispenserFault.{DispenserFault}
 use Rattle.dispenser_sim.specs.declared.end.DispenserFault.TheVariants as faults
 use Rattle.dispenser_sim.specs.declared.script.Step.{Step}
-use Rattle.dispenser_sim.specs.declared.script.Step.TheVariants.{Online, Offline, Lift, Pump, HangUp, WaitFor}
+use Rattle.dispenser_sim.specs.declared.script.Step.TheVariants.{Online, Offline, Lift, Pump}
+use Rattle.dispenser_sim.specs.declared.script.Step.TheVariants.{HangUp, WaitFor}
 use Rattle.dispenser_sim.specs.Flow.{IsFlow}
 
 -- the number of its point, the reading of each nozzle from nozzle 1 on, and the nozzle last lifted

@@ -1,9 +1,13 @@
 //! The simulated dispenser of one fuelling point.
 
-ghost use Rattle.std.specs.Prelude.{◌≡◌, ℕ, ◌+◌, ◌<◌, ◌≤◌, [], ◌∷◌, true, Some, IsTrue, IfOk, IfErr, OnErr, slice_get, slice_index_or};
+ghost use Rattle.std.specs.Prelude.{◌≡◌, ℕ, ◌+◌, ◌<◌, ◌≤◌, [], ◌∷◌, true, Some, IsTrue, IfOk};
+ghost use Rattle.std.specs.Prelude.{IfErr, OnErr, slice_get, slice_index_or};
 ghost use Rattle.site_base.specs.declared.limits.TheConstants.{GREATEST_READING};
 ghost use Rattle.dispenser_sim.specs.declared.dispenser.TheConstants.{METERS};
-ghost use Rattle.dispenser_sim.specs.Reports.{is_reported, kept_after, meter_of, nozzles_of, reading_of, refusals_told, sales_told, AreTaken, IsEndedBy, IsIn, IsNew, IsReport, IsSeenIn, IsSent, IsUnsent, Runs};
+ghost use Rattle.dispenser_sim.specs.Reports.{is_reported, kept_after, meter_of, nozzles_of};
+ghost use Rattle.dispenser_sim.specs.Reports.{reading_of, refusals_told, sales_told, AreTaken};
+ghost use Rattle.dispenser_sim.specs.Reports.{IsEndedBy, IsIn, IsNew, IsReport, IsSeenIn, IsSent};
+ghost use Rattle.dispenser_sim.specs.Reports.{IsUnsent, Runs};
 
 use crate::end::{DispenserEnd, DispenserFault};
 use crate::flow::flow_of;
@@ -251,7 +255,7 @@ fn is_in(seen: &Option<PointView>, state: PointState) -> bool
     }
 }
 
-/// A reading that so much flow has add_flow.
+/// A reading that so much flow has raised.
 fn add_flow(reading: Millilitres, flow: u64) -> Millilitres
     requires { reading + flow ≤ GREATEST_READING }
     ensures { result ≡ reading + flow }

@@ -3,7 +3,8 @@
 ghost use Rattle.std.specs.Prelude.{◌≡◌, ◌≤◌, IfSome, IfNone};
 ghost use Rattle.site_base.specs.declared.limits.TheConstants.{GREATEST_PRICE};
 ghost use Rattle.site_base.specs.Amounts.{IsGreatestVolume};
-ghost use Rattle.dispenser_sim.specs.Flow.{is_under_way, IsFlow, IsFree, IsMost, IsRoom, IsUnlimited};
+ghost use Rattle.dispenser_sim.specs.Flow.{is_under_way, IsFlow, IsFree, IsMost, IsRoom};
+ghost use Rattle.dispenser_sim.specs.Flow.{IsUnlimited};
 
 use site_base::{
     Cents, GREATEST_READING, Millilitres, Mills, PointState, PointView, Preset, greatest_ml,

@@ -3,9 +3,7 @@
 use crate::exit::{COMMAND_LINE, exit_no_memory, exit_replay, exit_unwritten, exit_with};
 use clap::ArgMatches;
 use forecourt_engines::explain::{explain, fault_name};
-use forecourt_engines::{
-    Explained, LINE_OCTETS, NumberMeaning, ReplayFault, TextFault, Trace,
-};
+use forecourt_engines::{Explained, LINE_OCTETS, NumberMeaning, ReplayFault, TextFault, Trace};
 use site_base::{NoMemory, ReadFault};
 use std::io::{BufRead, BufReader, ErrorKind, Read};
 use std::process::ExitCode;

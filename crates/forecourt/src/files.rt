@@ -9,7 +9,8 @@ use std::fs;
 use std::io::ErrorKind;
 use std::process::ExitCode;
 
-/// The site of the file that the words name, or how the program ends: the file can't be read, or has a fault.
+/// The site of the file that the words name, or how the program ends: the file can't be read, or
+/// has a fault.
 pub fn read_site(rt: &HostRuntime, words: &ArgMatches<'_>) -> Result<SiteConfig, ExitCode> {
     let octets = read_octets(rt, words.get_str("FILE").unwrap_or(""))?;
     match read_config(rt.alloc(), &octets) {
@@ -19,11 +20,9 @@ pub fn read_site(rt: &HostRuntime, words: &ArgMatches<'_>) -> Result<SiteConfig,
     }
 }
 
-/// The script of the file that the words name, or how the program ends: the file can't be read, or has a faulty line.
-pub fn read_demo_script(
-    rt: &HostRuntime,
-    words: &ArgMatches<'_>,
-) -> Result<DemoScript, ExitCode> {
+/// The script of the file that the words name, or how the program ends: the file can't be read, or
+/// has a faulty line.
+pub fn read_demo_script(rt: &HostRuntime, words: &ArgMatches<'_>) -> Result<DemoScript, ExitCode> {
     let octets = read_octets(rt, words.get_str("SCRIPT").unwrap_or(""))?;
     match read_script(rt.alloc(), &octets) {
         Ok(script) => Ok(script),

@@ -1,7 +1,7 @@
 //! The forecourt site controller's program: its command line, its files, its exit statuses and its
 //! texts on standard error. Each command stands in a file of its name; what it does stands in
-//! `forecourt_engines` and `forecourt_days`, how a site file is read in `site_file`, how a script is
-//! in `demo_script`.
+//! `forecourt_engines` and `forecourt_days`, how a site file is read in `site_file`, how a script
+//! is in `demo_script`.
 #![tactic(auto)]
 
 mod check;

@@ -13,15 +13,18 @@ pub are_served : (turns : ℕ) (messages : List Telegram) (octets begun : List �
     → octets ≡ octets_of messages → begun ≡ [] → rows ≡ map receipted_row old
     → Served turns (Some octets) left (Some begun) told rows rows_new end
     → AreServed turns messages old end
-are_served turns messages octets begun left told rows rows_new old end spelled empty receipted served =
+are_served turns messages octets begun left told rows rows_new old end spelled empty receipted
+    served =
     record {
       left = left;
       told = told;
       rows = rows_new;
       served =
-          subst (λ r. Served turns (Some r) left (Some []) told (map receipted_row old) rows_new end)
+          subst (λ r. Served turns (Some r) left (Some []) told (map receipted_row old) rows_new
+          end)
           spelled
-          (subst (λ w. Served turns (Some octets) left (Some w) told (map receipted_row old) rows_new end)
+          (subst (λ w. Served turns (Some octets) left (Some w) told (map receipted_row old)
+          rows_new end)
           empty
           (subst (λ rs. Served turns (Some octets) left (Some begun) told rs rows_new end)
           receipted served));

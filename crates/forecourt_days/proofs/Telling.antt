@@ -48,7 +48,8 @@ tells_front config named u v w said port settled same_port same adds_up line rep
     )
 
 -- a demo: a front of the report
-pub tells_report_front : (config : Configured) (setup : List (Actor × Event)) (u v : Option (List ℕ))
+pub tells_report_front : (config : Configured) (setup : List (Actor × Event))
+    (u v : Option (List ℕ))
     (end : DemoEnd) → IsSettledDemo config setup end
     → AppendsFront u v (report_text config end.settled.book end.settled.shares)
     → TellsReportFront config setup u v

@@ -41,15 +41,16 @@ pub record IsRun (named config : Configured) (point : ℕ) (script : List Step)
   pub opened : IsNew config point METERS before
   pub runs : Runs named script before after old new sold refused fault
 
--- A section was worked at through a share, and ended so: a till's messages were served, or not where
--- there was no memory to spell them; a dispenser's script was run. That the counter's rows are those
--- of the share's receipts afterwards can't be said: a session serves through any counter, and no
--- clause of it says that the counter kept the reference to its share.
+-- A section was worked at through a share, and ended so: a till's messages were served, or not
+-- where there was no memory to spell them; a dispenser's script was run. That the counter's rows
+-- are those of the share's receipts afterwards can't be said: a session serves through any counter,
+-- and no clause of it says that the counter kept the reference to its share.
 abbrev pub IsWorkedAt : Configured → Configured → ℕ → Section → List Receipt → List Receipt
     → SectionEnd → Type 0
 IsWorkedAt named config turns (sections.Till messages) old new (ends.Session end) =
     AreServed turns messages old end
 IsWorkedAt named config turns (sections.Till messages) old new ends.Unspelled = new ≡ old
-IsWorkedAt named config turns (sections.Dispenser point polls script) old new (ends.Run sold refused fault) =
+IsWorkedAt named config turns (sections.Dispenser point polls script) old new
+    (ends.Run sold refused fault) =
     IsRun named config point script old new sold refused fault
 IsWorkedAt named config turns section old new end = ⊥

@@ -87,8 +87,8 @@ pub fn demo_day<
 /// settled. What ends one worker's work early doesn't end the demo, but `NoWorker` where one
 /// couldn't be started, and `NoConnection` where a socket couldn't be had.
 ///
-/// What is settled ends with the receipts of the setup's worker, which did the setup's calls, all of
-/// them where its end has no fault. Of
+/// What is settled ends with the receipts of the setup's worker, which did the setup's calls, all
+/// of them where its end has no fault. Of
 /// the sections' receipts a contract can't say more than that they add up with these: their shares
 /// come back through the root's lock, which forgets all but its type. What each worker does through
 /// its share stands at `work_through` (`IsWorkedAt`).

@@ -28,7 +28,8 @@ impl ServerPlan {
     /// 10,000. A sign is no digit.
     pub fn read(port: &str, workers: &str, sessions: &str) -> Result<ServerPlan, OptionFault>
         ensures plan { IfOk result (λ plan. TellsPlan port.now workers.now sessions.now plan) }
-        ensures first { IfErr result (λ fault. IsFirstFault port.now workers.now sessions.now fault) }
+        ensures first { IfErr result (λ fault. IsFirstFault port.now workers.now sessions.now
+            fault) }
     {
         let port = number_in(port, 0, u64::from(u16::MAX)).ok_or(OptionFault::Port)?;
         let workers = number_in(workers, 1, WORKERS as u64).ok_or(OptionFault::Workers)?;

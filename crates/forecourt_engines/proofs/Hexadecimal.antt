@@ -1,5 +1,6 @@
 -- A text that is hexadecimal as it stands has no spaces, and isn't a comment; octets in two parts.
-use Rattle.std.proofs.Common.{◌≡◌, ◌<◌, ℕ, List, [], ◌∷◌, ◌++◌, length, true, false, not, eqb, filter, refl}
+use Rattle.std.proofs.Common.{◌≡◌, ◌<◌, ℕ, List, [], ◌∷◌, ◌++◌, length, true, false, not, eqb}
+use Rattle.std.proofs.Common.{filter, refl}
 use Rattle.std.proofs.Common.{subst, sym, ap, ◌∙◌, Bool, Result, Ok, Err, inl, inr, arith}
 use Rattle.std.specs.Prelude.{◌/◌, ◌%◌, MatchResult, slice_index}
 use Rattle.std.specs.List.{AllByRecursion}
@@ -40,7 +41,8 @@ pub hexadecimal_told : (number : ℕ) (stream : Held) (answerer : Answerer) (tex
     → 0 < length text → decode_of text ≡ Ok octets
     → judged number stream answerer (without_spaces text) ≡ answered answerer (fed_by stream octets)
 hexadecimal_told number stream answerer text octets some is =
-    let digits = recursion_from_All (λ x. is_hex_digit x ≡ true) text (decode_of-ok text octets is).1 in
+    let digits = recursion_from_All (λ x. is_hex_digit x ≡ true) text
+    (decode_of-ok text octets is).1 in
     rw (digits_kept text digits, digits_told text digits some, is) refl
 
 read_so : (number : ℕ) (stream : Held) (answerer : Answerer) (text octets : List ℕ) (is : Bool)

@@ -1,5 +1,7 @@
 -- The text of a replay, line by line.
-use Rattle.std.proofs.Common.{◌≡◌, ℕ, suc, ◌+◌, ◌-◌, ◌<◌, ◌≤◌, List, [], ◌∷◌, ◌++◌, length, take, Bool, true, false, not, eqb, Option, Some, None, inl, inr, refl, sym, ap, ◌∙◌, arith, append_assoc, append-nil, length-append}
+use Rattle.std.proofs.Common.{◌≡◌, ℕ, suc, ◌+◌, ◌-◌, ◌<◌, ◌≤◌, List, [], ◌∷◌, ◌++◌, length, take}
+use Rattle.std.proofs.Common.{Bool, true, false, not, eqb, Option, Some, None, inl, inr, refl, sym}
+use Rattle.std.proofs.Common.{ap, ◌∙◌, arith, append_assoc, append-nil, length-append}
 use Rattle.std.specs.Prelude.{◌&&◌, is_some}
 use Rattle.std.specs.List.{list_all}
 use Rattle.std.proofs.lemmas.Bool.{lt-leb, le-leb, cases_lt}
@@ -8,13 +10,16 @@ use Rattle.forecourt_engines.specs.declared.fault.TextFault.{TextFault}
 use Rattle.forecourt_engines.specs.declared.fault.TextFault.TheVariants.{TooLong}
 use Rattle.forecourt_engines.specs.declared.line.TheConstants.{LINE_OCTETS}
 use Rattle.forecourt_engines.specs.Answers.{Answerer}
-use Rattle.forecourt_engines.specs.Text.{State, kept_of, judged, line_told, next_line, next, said, stepped, says, after, text_from, ended, last_text}
+use Rattle.forecourt_engines.specs.Text.{State, kept_of, judged, line_told, next_line, next, said}
+use Rattle.forecourt_engines.specs.Text.{stepped, says, after, text_from, ended, last_text}
 use Rattle.forecourt_engines.proofs.Running.{after-append, text_from-append}
-use Rattle.forecourt_engines.specs.Laws.{between, IsLine, LineSays, LastLineSays, LongLineSays, NothingFollows}
+use Rattle.forecourt_engines.specs.Laws.{between, IsLine, LineSays, LastLineSays, LongLineSays}
+use Rattle.forecourt_engines.specs.Laws.{NothingFollows}
 
 -- in a line whose first octets are these
 abbrev pub within : List ℕ → ℕ → Held → Answerer → State
-within line number stream answerer = record { line = line; number = number; stream = stream; answerer = answerer; stop = None }
+within line number stream answerer =
+    record { line = line; number = number; stream = stream; answerer = answerer; stop = None }
 
 and_both : (a b : Bool) → (a && b) ≡ true → (a ≡ true) × (b ≡ true)
 and_both true b e = (refl, e)
@@ -25,35 +30,51 @@ not_true true e = absurd cc
 not_true false e = refl
 
 -- an octet that goes on with the line
-pub goes_on : (line : List ℕ) (number : ℕ) (stream : Held) (answerer : Answerer) (b : ℕ) → eqb b 10 ≡ false → length line < LINE_OCTETS
-    → (next (within line number stream answerer) b ≡ within (line ++ b ∷ []) number stream answerer) × (said (within line number stream answerer) b ≡ [])
-goes_on line number stream answerer b other short = (rw (other, lt-leb _ _ short) refl, rw other refl)
+pub goes_on : (line : List ℕ) (number : ℕ) (stream : Held) (answerer : Answerer) (b : ℕ)
+    → eqb b 10 ≡ false → length line < LINE_OCTETS
+    → (next (within line number stream answerer) b ≡ within (line ++ b ∷ []) number stream answerer)
+    × (said (within line number stream answerer) b ≡ [])
+goes_on line number stream answerer b other short =
+    (rw (other, lt-leb _ _ short) refl, rw other refl)
 
 -- octets that go on with the line
-line_goes_on : (line more : List ℕ) (number : ℕ) (stream : Held) (answerer : Answerer) → IsLine more → length line + length more ≤ LINE_OCTETS
-    → (after (within line number stream answerer) more ≡ within (line ++ more) number stream answerer) × (text_from (within line number stream answerer) more ≡ [])
-line_goes_on line [] number stream answerer plain short = (ap (λ (l : List ℕ). within l number stream answerer) (sym (append-nil line)), refl)
+line_goes_on : (line more : List ℕ) (number : ℕ) (stream : Held) (answerer : Answerer) → IsLine more
+    → length line + length more ≤ LINE_OCTETS
+    → (after (within line number stream answerer) more
+    ≡ within (line ++ more) number stream answerer)
+    × (text_from (within line number stream answerer) more ≡ [])
+line_goes_on line [] number stream answerer plain short =
+    (ap (λ (l : List ℕ). within l number stream answerer) (sym (append-nil line)), refl)
 line_goes_on line (b ∷ more) number stream answerer plain short =
     let parts = and_both (not (eqb b 10)) (list_all (λ (x : ℕ). not (eqb x 10)) more) plain in
     let on = goes_on line number stream answerer b (not_true _ parts.0) (omega arith) in
-    let longer : length (line ++ b ∷ []) + length more ≤ LINE_OCTETS = omega (arith, length-append line (b ∷ [])) in
+    let longer : length (line ++ b ∷ []) + length more ≤ LINE_OCTETS =
+    omega (arith, length-append line (b ∷ [])) in
     let rest = line_goes_on (line ++ b ∷ []) more number stream answerer parts.1 longer in (
-      ap (λ (s : State). after s more) on.0 ∙ rest.0 ∙ ap (λ (l : List ℕ). within l number stream answerer) (append_assoc line (b ∷ []) more),
-      ap (λ (t : List ℕ). t ++ text_from (next (within line number stream answerer) b) more) on.1 ∙ ap (λ (s : State). text_from s more) on.0 ∙ rest.1,
+      ap (λ (s : State). after s more) on.0 ∙ rest.0
+          ∙ ap (λ (l : List ℕ). within l number stream answerer) (append_assoc line (b ∷ []) more),
+      ap (λ (t : List ℕ). t ++ text_from (next (within line number stream answerer) b) more) on.1
+          ∙ ap (λ (s : State). text_from s more) on.0 ∙ rest.1,
     )
 
 -- a line feed ends the line
 line_ends : (line : List ℕ) (number : ℕ) (stream : Held) (answerer : Answerer)
-    → (after (within line number stream answerer) (10 ∷ []) ≡ next_line (between number stream answerer) (judged number stream answerer (kept_of line)))
-    × (text_from (within line number stream answerer) (10 ∷ []) ≡ (judged number stream answerer (kept_of line)).text)
-line_ends line number stream answerer = (refl, append-nil (judged number stream answerer (kept_of line)).text)
+    → (after (within line number stream answerer) (10 ∷ [])
+    ≡ next_line (between number stream answerer) (judged number stream answerer (kept_of line)))
+    × (text_from (within line number stream answerer) (10 ∷ [])
+    ≡ (judged number stream answerer (kept_of line)).text)
+line_ends line number stream answerer =
+    (refl, append-nil (judged number stream answerer (kept_of line)).text)
 
 pub line_says : LineSays
 line_says number stream answerer line plain short =
     let on = line_goes_on [] line number stream answerer plain (omega arith) in
     let end = line_ends line number stream answerer in (
-      after-append (between number stream answerer) line (10 ∷ []) ∙ ap (λ (s : State). after s (10 ∷ [])) on.0 ∙ end.0,
-      text_from-append (between number stream answerer) line (10 ∷ []) ∙ ap (λ (t : List ℕ). t ++ text_from (after (between number stream answerer) line) (10 ∷ [])) on.1
+      after-append (between number stream answerer) line (10 ∷ [])
+          ∙ ap (λ (s : State). after s (10 ∷ [])) on.0 ∙ end.0,
+      text_from-append (between number stream answerer) line (10 ∷ [])
+          ∙ ap (λ (t : List ℕ). t ++ text_from (after (between number stream answerer) line)
+          (10 ∷ [])) on.1
           ∙ ap (λ (s : State). text_from s (10 ∷ [])) on.0 ∙ end.1,
     )
 
@@ -61,7 +82,8 @@ pub last_line_says : LastLineSays
 last_line_says number stream answerer line plain short =
     let on = line_goes_on [] line number stream answerer plain (omega arith) in (
       ap ended on.0,
-      ap (λ (t : List ℕ). t ++ last_text (after (between number stream answerer) line)) on.1 ∙ ap last_text on.0,
+      ap (λ (t : List ℕ). t ++ last_text (after (between number stream answerer) line)) on.1
+          ∙ ap last_text on.0,
     )
 
 -- ---- the end of the text
@@ -72,15 +94,27 @@ nothing_follows st f (b ∷ bs) stop =
     let stays : next st b ≡ st = ap (λ (s : Option TextFault). stepped s st b) stop in
     let rest = nothing_follows st f bs stop in (
       ap (λ (s : State). after s bs) stays ∙ rest.0,
-      ap (λ (t : List ℕ). t ++ text_from (next st b) bs) (ap (λ (s : Option TextFault). says s st b) stop) ∙ ap (λ (s : State). text_from s bs) stays ∙ rest.1,
+      ap (λ (t : List ℕ). t ++ text_from (next st b) bs)
+          (ap (λ (s : Option TextFault). says s st b) stop)
+          ∙ ap (λ (s : State). text_from s bs) stays ∙ rest.1,
     )
 
 -- a line as long as a line may be, in which one more octet stands
 abbrev pub stopped : List ℕ → ℕ → Held → Answerer → State
-stopped line number stream answerer = record { line = line; number = number; stream = stream; answerer = answerer; stop = Some (TooLong number) }
+stopped line number stream answerer =
+    record {
+      line = line;
+      number = number;
+      stream = stream;
+      answerer = answerer;
+      stop =
+          Some (TooLong number);
+    }
 
-too_long : (line more : List ℕ) (number : ℕ) (stream : Held) (answerer : Answerer) → IsLine more → length line ≤ LINE_OCTETS → LINE_OCTETS < length line + length more
-    → (after (within line number stream answerer) more ≡ stopped (line ++ take (LINE_OCTETS - length line) more) number stream answerer)
+too_long : (line more : List ℕ) (number : ℕ) (stream : Held) (answerer : Answerer) → IsLine more
+    → length line ≤ LINE_OCTETS → LINE_OCTETS < length line + length more
+    → (after (within line number stream answerer) more
+    ≡ stopped (line ++ take (LINE_OCTETS - length line) more) number stream answerer)
     × (text_from (within line number stream answerer) more ≡ [])
 too_long line [] number stream answerer plain within_limit long = absurd (omega arith)
 too_long line (b ∷ more) number stream answerer plain within_limit long =
@@ -88,25 +122,36 @@ too_long line (b ∷ more) number stream answerer plain within_limit long =
     elim (cases_lt (length line) LINE_OCTETS) [
       | inl short ↦ (
           let on = goes_on line number stream answerer b (not_true _ parts.0) short in
-          let longer : length (line ++ b ∷ []) ≤ LINE_OCTETS = omega (arith, length-append line (b ∷ [])) in
-          let still : LINE_OCTETS < length (line ++ b ∷ []) + length more = omega (arith, length-append line (b ∷ [])) in
+          let longer : length (line ++ b ∷ []) ≤ LINE_OCTETS =
+          omega (arith, length-append line (b ∷ [])) in
+          let still : LINE_OCTETS < length (line ++ b ∷ []) + length more =
+          omega (arith, length-append line (b ∷ [])) in
           let rest = too_long (line ++ b ∷ []) more number stream answerer parts.1 longer still in
-          let room : LINE_OCTETS - length line ≡ suc (LINE_OCTETS - length (line ++ b ∷ [])) = omega (arith, length-append line (b ∷ [])) in
-          let same : (line ++ b ∷ []) ++ take (LINE_OCTETS - length (line ++ b ∷ [])) more ≡ line ++ take (LINE_OCTETS - length line) (b ∷ more) =
-          append_assoc line (b ∷ []) (take (LINE_OCTETS - length (line ++ b ∷ [])) more) ∙ ap (λ (n : ℕ). line ++ take n (b ∷ more)) (sym room) in (
-            ap (λ (s : State). after s more) on.0 ∙ rest.0 ∙ ap (λ (l : List ℕ). stopped l number stream answerer) same,
-            ap (λ (t : List ℕ). t ++ text_from (next (within line number stream answerer) b) more) on.1 ∙ ap (λ (s : State). text_from s more) on.0 ∙ rest.1,
+          let room : LINE_OCTETS - length line ≡ suc (LINE_OCTETS - length (line ++ b ∷ [])) =
+          omega (arith, length-append line (b ∷ [])) in
+          let same : (line ++ b ∷ []) ++ take (LINE_OCTETS - length (line ++ b ∷ [])) more ≡ line
+          ++ take (LINE_OCTETS - length line) (b ∷ more) =
+          append_assoc line (b ∷ []) (take (LINE_OCTETS - length (line ++ b ∷ [])) more)
+          ∙ ap (λ (n : ℕ). line ++ take n (b ∷ more)) (sym room) in (
+            ap (λ (s : State). after s more) on.0 ∙ rest.0
+                ∙ ap (λ (l : List ℕ). stopped l number stream answerer) same,
+            ap (λ (t : List ℕ). t ++ text_from (next (within line number stream answerer) b) more)
+                on.1 ∙ ap (λ (s : State). text_from s more) on.0 ∙ rest.1,
           ))
       | inr full ↦ (
           let other : eqb b 10 ≡ false = not_true _ parts.0 in
-          let stops : next (within line number stream answerer) b ≡ stopped line number stream answerer = rw (other, le-leb _ _ full) refl in
+          let stops : next (within line number stream answerer) b
+          ≡ stopped line number stream answerer = rw (other, le-leb _ _ full) refl in
           let says_nothing : said (within line number stream answerer) b ≡ [] = rw other refl in
-          let rest = nothing_follows (stopped line number stream answerer) (TooLong number) more refl in
+          let rest = nothing_follows (stopped line number stream answerer) (TooLong number) more
+          refl in
           let room : LINE_OCTETS - length line ≡ 0 = omega arith in
           let same : line ≡ line ++ take (LINE_OCTETS - length line) (b ∷ more) =
           sym (append-nil line) ∙ ap (λ (n : ℕ). line ++ take n (b ∷ more)) (sym room) in (
-            ap (λ (s : State). after s more) stops ∙ rest.0 ∙ ap (λ (l : List ℕ). stopped l number stream answerer) same,
-            ap (λ (t : List ℕ). t ++ text_from (next (within line number stream answerer) b) more) says_nothing ∙ ap (λ (s : State). text_from s more) stops ∙ rest.1,
+            ap (λ (s : State). after s more) stops ∙ rest.0
+                ∙ ap (λ (l : List ℕ). stopped l number stream answerer) same,
+            ap (λ (t : List ℕ). t ++ text_from (next (within line number stream answerer) b) more)
+                says_nothing ∙ ap (λ (s : State). text_from s more) stops ∙ rest.1,
           ))
     ]
 
@@ -121,17 +166,25 @@ long_line_says number stream answerer line plain long =
 is_within : (st : State) → st.stop ≡ None → within st.line st.number st.stream st.answerer ≡ st
 is_within st none = ap (λ (f : Option TextFault). record st { stop = f }) (sym none)
 
-pub held_on : (st : State) (more : List ℕ) → st.stop ≡ None → IsLine more → length st.line + length more ≤ LINE_OCTETS
+pub held_on : (st : State) (more : List ℕ) → st.stop ≡ None → IsLine more
+    → length st.line + length more ≤ LINE_OCTETS
     → (after st more ≡ record st { line = st.line ++ more }) × (text_from st more ≡ [])
 held_on st more none plain short =
     let on = line_goes_on st.line more st.number st.stream st.answerer plain short in
     let is = is_within st none in (
-      ap (λ (s : State). after s more) (sym is) ∙ on.0 ∙ ap (λ (s : State). record s { line = st.line ++ more }) is,
+      ap (λ (s : State). after s more) (sym is) ∙ on.0
+          ∙ ap (λ (s : State). record s { line = st.line ++ more }) is,
       ap (λ (s : State). text_from s more) (sym is) ∙ on.1,
     )
 
-pub held_long : (st : State) (more : List ℕ) → st.stop ≡ None → IsLine more → length st.line ≤ LINE_OCTETS → LINE_OCTETS < length st.line + length more
-    → (after st more ≡ record st { line = st.line ++ take (LINE_OCTETS - length st.line) more; stop = Some (TooLong st.number) }) × (text_from st more ≡ [])
+pub held_long : (st : State) (more : List ℕ) → st.stop ≡ None → IsLine more
+    → length st.line ≤ LINE_OCTETS → LINE_OCTETS < length st.line + length more
+    → (after st more ≡ record st {
+      line =
+          st.line ++ take (LINE_OCTETS - length st.line) more;
+      stop = Some (TooLong st.number);
+    })
+    × (text_from st more ≡ [])
 held_long st more none plain fits long =
     let on = too_long st.line more st.number st.stream st.answerer plain fits long in
     let is = is_within st none in (
@@ -140,19 +193,24 @@ held_long st more none plain fits long =
     )
 
 -- a whole line, where none is held
-pub whole_line : (st : State) (line : List ℕ) → st.stop ≡ None → st.line ≡ [] → IsLine line → length line ≤ LINE_OCTETS
-    → (after st (line ++ 10 ∷ []) ≡ next_line st (judged st.number st.stream st.answerer (kept_of line)))
-    × (text_from st (line ++ 10 ∷ []) ≡ (judged st.number st.stream st.answerer (kept_of line)).text)
+pub whole_line : (st : State) (line : List ℕ) → st.stop ≡ None → st.line ≡ [] → IsLine line
+    → length line ≤ LINE_OCTETS
+    → (after st (line ++ 10 ∷ []) ≡ next_line st
+    (judged st.number st.stream st.answerer (kept_of line)))
+    × (text_from st (line ++ 10 ∷ [])
+    ≡ (judged st.number st.stream st.answerer (kept_of line)).text)
 whole_line st line none empty plain short =
     let says = line_says st.number st.stream st.answerer line plain short in
-    let is : st ≡ between st.number st.stream st.answerer = sym (is_within st none) ∙ ap (λ (l : List ℕ). within l st.number st.stream st.answerer) empty in (
+    let is : st ≡ between st.number st.stream st.answerer = sym (is_within st none)
+    ∙ ap (λ (l : List ℕ). within l st.number st.stream st.answerer) empty in (
       ap (λ (s : State). after s (line ++ 10 ∷ [])) is ∙ says.0,
       ap (λ (s : State). text_from s (line ++ 10 ∷ [])) is ∙ says.1,
     )
 
 -- a line feed ends the line that is held
 pub line_feed : (st : State) → st.stop ≡ None
-    → (after st (10 ∷ []) ≡ next_line st (line_told st)) × (text_from st (10 ∷ []) ≡ (line_told st).text)
+    → (after st (10 ∷ []) ≡ next_line st (line_told st))
+    × (text_from st (10 ∷ []) ≡ (line_told st).text)
 line_feed st none =
     let is = is_within st none in
     let ends = line_ends st.line st.number st.stream st.answerer in (
@@ -162,7 +220,8 @@ line_feed st none =
 
 -- octets that say nothing, and then more
 pub then_more : (st : State) (line more : List ℕ) → text_from st line ≡ []
-    → (after st (line ++ more) ≡ after (after st line) more) × (text_from st (line ++ more) ≡ text_from (after st line) more)
+    → (after st (line ++ more) ≡ after (after st line) more)
+    × (text_from st (line ++ more) ≡ text_from (after st line) more)
 then_more st line more silent = (
   after-append st line more,
   text_from-append st line more ∙ ap (λ (t : List ℕ). t ++ text_from (after st line) more) silent,

@@ -147,7 +147,8 @@ reports_early turns c st a b x fault book before r =
       there = λ late. cc;
     }
 
-book_there : (turns : ℕ) (st : State) (a b : Option (List ℕ)) (fault : Option TextFault) (book : Book)
+book_there : (turns : ℕ) (st : State) (a b : Option (List ℕ)) (fault : Option TextFault)
+    (book : Book)
     → (r : Replayed turns st a b None None (as_fault fault) (Some book)) → book ≡ book_of st r.read
 book_there turns st a b fault book r =
     let same : Some book ≡ Some (book_of st r.read) = r.rows (late fault) in

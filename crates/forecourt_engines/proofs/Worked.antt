@@ -1,4 +1,5 @@
--- A full book, by computing the definitions: what a message is answered with, and that it makes no row.
+-- A full book, by computing the definitions: what a message is answered with, and that it makes no
+-- row.
 use Rattle.std.proofs.Common.{◌≡◌, ℕ, [], ◌∷◌, Ok, true, false, refl}
 use Rattle.site_base.specs.declared.actor.Actor.TheVariants.{Till}
 use Rattle.site_base.specs.declared.answer.Answer.TheVariants.{Done}
@@ -19,7 +20,11 @@ signed_on t = record { actor = Till t; event = SignOn; reply = Ok Done }
 
 -- a book that allows two rows, with one and with two
 abbrev one_row : Book
-one_row = record { config = record { rows = 2; managers = []; products = []; points = [] }; rows = signed_on 1 ∷ [] }
+one_row = record {
+  config = record { rows = 2; managers = []; products = []; points = [] };
+  rows =
+      signed_on 1 ∷ [];
+}
 
 abbrev two_rows : Book
 two_rows = record one_row { rows = signed_on 1 ∷ signed_on 2 ∷ [] }

@@ -18,7 +18,8 @@ use Rattle.site_book.specs.Book.{Book, is_full, book_reply, next_row, with_row_o
 -- the answer to a request that means this: the mapping's fault, a full book, or the reply
 abbrev pub answer_meaning : Book → Telegram → Result (Actor × Event) MapFault → Telegram
 answer_meaning b m (Err f) = number_message m (map_number f)
-answer_meaning b m (Ok x) = if is_full b then number_message m (no_row_number BookFull) else reply_message m (book_reply b x.0 x.1)
+answer_meaning b m (Ok x) = if is_full b then number_message m (no_row_number BookFull) else
+    reply_message m (book_reply b x.0 x.1)
 
 abbrev pub book_meaning : Book → Result (Actor × Event) MapFault → Book
 book_meaning b (Err f) = b

@@ -1,16 +1,19 @@
 -- What joins the text of a replay to its lines.
-use Rattle.std.specs.Prelude.{◌≡◌, ℕ, ◌<◌, ◌≤◌, true, not, List, [], ◌∷◌, ◌++◌, length, ◌==◌, Some, None}
+use Rattle.std.specs.Prelude.{◌≡◌, ℕ, ◌<◌, ◌≤◌, true, not, List, [], ◌∷◌, ◌++◌, length, ◌==◌, Some}
+use Rattle.std.specs.Prelude.{None}
 use Rattle.std.specs.List.{list_all}
 use Rattle.app_message.specs.Stream.{Held}
 use Rattle.forecourt_engines.specs.declared.fault.TextFault.{TextFault}
 use Rattle.forecourt_engines.specs.declared.fault.TextFault.TheVariants.{TooLong}
 use Rattle.forecourt_engines.specs.declared.line.TheConstants.{LINE_OCTETS}
 use Rattle.forecourt_engines.specs.Answers.{Answerer}
-use Rattle.forecourt_engines.specs.Text.{State, kept_of, judged, next_line, after, text_from, ended, last_text}
+use Rattle.forecourt_engines.specs.Text.{State, kept_of, judged, next_line, after, text_from, ended}
+use Rattle.forecourt_engines.specs.Text.{last_text}
 
 -- between two lines: no line is begun, and the text goes on
 abbrev pub between : ℕ → Held → Answerer → State
-between number stream answerer = record { line = []; number = number; stream = stream; answerer = answerer; stop = None }
+between number stream answerer =
+    record { line = []; number = number; stream = stream; answerer = answerer; stop = None }
 
 -- octets without a line feed
 abbrev pub IsLine : List ℕ → Type 0
@@ -18,23 +21,32 @@ IsLine line = list_all (λ b. not (b == 10)) line ≡ true
 
 -- a line that isn't too long, with its line feed, says what it says as a whole
 abbrev pub LineSays : Type 0
-LineSays = (number : ℕ) (stream : Held) (answerer : Answerer) (line : List ℕ) → IsLine line → length line ≤ LINE_OCTETS
-    → (after (between number stream answerer) (line ++ 10 ∷ []) ≡ next_line (between number stream answerer) (judged number stream answerer (kept_of line)))
-    × (text_from (between number stream answerer) (line ++ 10 ∷ []) ≡ (judged number stream answerer (kept_of line)).text)
+LineSays = (number : ℕ) (stream : Held) (answerer : Answerer) (line : List ℕ) → IsLine line
+    → length line ≤ LINE_OCTETS
+    → (after (between number stream answerer) (line ++ 10 ∷ [])
+    ≡ next_line (between number stream answerer) (judged number stream answerer (kept_of line)))
+    × (text_from (between number stream answerer) (line ++ 10 ∷ [])
+    ≡ (judged number stream answerer (kept_of line)).text)
 
 -- so does a last line that has no line feed
 abbrev pub LastLineSays : Type 0
-LastLineSays = (number : ℕ) (stream : Held) (answerer : Answerer) (line : List ℕ) → IsLine line → length line ≤ LINE_OCTETS
-    → (ended (after (between number stream answerer) line) ≡ next_line (between number stream answerer) (judged number stream answerer (kept_of line)))
-    × (text_from (between number stream answerer) line ++ last_text (after (between number stream answerer) line) ≡ (judged number stream answerer (kept_of line)).text)
+LastLineSays = (number : ℕ) (stream : Held) (answerer : Answerer) (line : List ℕ) → IsLine line
+    → length line ≤ LINE_OCTETS
+    → (ended (after (between number stream answerer) line)
+    ≡ next_line (between number stream answerer) (judged number stream answerer (kept_of line)))
+    × (text_from (between number stream answerer) line
+    ++ last_text (after (between number stream answerer) line)
+    ≡ (judged number stream answerer (kept_of line)).text)
 
 -- a line that is too long ends the text, says nothing and makes no row
 abbrev pub LongLineSays : Type 0
-LongLineSays = (number : ℕ) (stream : Held) (answerer : Answerer) (line : List ℕ) → IsLine line → LINE_OCTETS < length line
+LongLineSays = (number : ℕ) (stream : Held) (answerer : Answerer) (line : List ℕ) → IsLine line
+    → LINE_OCTETS < length line
     → ((after (between number stream answerer) line).stop ≡ Some (TooLong number))
     × ((after (between number stream answerer) line).answerer ≡ answerer)
     × (text_from (between number stream answerer) line ≡ [])
 
 -- once the text has ended nothing is said, whatever follows
 abbrev pub NothingFollows : Type 0
-NothingFollows = (st : State) (f : TextFault) (input : List ℕ) → st.stop ≡ Some f → (after st input ≡ st) × (text_from st input ≡ [])
+NothingFollows = (st : State) (f : TextFault) (input : List ℕ) → st.stop ≡ Some f
+    → (after st input ≡ st) × (text_from st input ≡ [])

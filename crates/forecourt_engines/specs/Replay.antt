@@ -1,5 +1,6 @@
 -- What a replay has done when it ends.
-use Rattle.std.specs.Prelude.{◌≡◌, ℕ, ◌≤◌, ◌*◌, length, Bool, true, false, ◌⊎◌, List, Option, Some, None, is_some}
+use Rattle.std.specs.Prelude.{◌≡◌, ℕ, ◌≤◌, ◌*◌, length, Bool, true, false, ◌⊎◌, List, Option, Some}
+use Rattle.std.specs.Prelude.{None, is_some}
 use Rattle.std.specs.Io.KnownBytes.{Appends, Consumes, IsAtEnd}
 use Rattle.site_base.specs.Devices.{AppendsFront}
 use Rattle.forecourt_engines.specs.declared.fault.TextFault.{TextFault}
@@ -23,9 +24,11 @@ as_fault (Some f) = Some (faults.Text f)
 abbrev pub StopsThere : State → List ℕ → Option (List ℕ) → Type 0
 StopsThere st read left = (is_some (after st read).stop ≡ true) ⊎ IsAtEnd left
 
--- Some octets were read, a piece a turn at most, and a front of their text was written. Where the replay didn't end early, the
--- whole text was, its fault and its book are the text's, and it read until the text stopped or to the end.
-pub record Replayed (turns : ℕ) (st : State) (left left' holds holds' : Option (List ℕ)) (fault : Option ReplayFault) (book : Option Book) : Type 0 where
+-- Some octets were read, a piece a turn at most, and a front of their text was written. Where the
+-- replay didn't end early, the whole text was, its fault and its book are the text's, and it read
+-- until the text stopped or to the end.
+pub record Replayed (turns : ℕ) (st : State) (left left' holds holds' : Option (List ℕ))
+    (fault : Option ReplayFault) (book : Option Book) : Type 0 where
   pub read : List ℕ
   pub consumed : Consumes left left' read
   pub few : length read ≤ turns * PIECE_OCTETS

@@ -53,4 +53,5 @@ report_text c totals shares = report_of c totals.rows totals.products totals.til
 -- the report of a book's figures, before any share settled
 abbrev pub book_report : Book → List ℕ
 book_report b =
-    report_of b.config (length b.rows) (product_totals (site_of_book b)) (till_totals (site_of_book b)) 0
+    report_of b.config (length b.rows) (product_totals (site_of_book b))
+    (till_totals (site_of_book b)) 0

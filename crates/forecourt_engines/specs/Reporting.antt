@@ -34,7 +34,8 @@ is_before_report other = false
 
 -- A report of a book was written, or a front of it, after a text that ended so. Without an early
 -- end the whole report was, and the end is the text's.
-pub record WritesReport (ended : Option ReplayFault) (b : Book) (holds holds' : Option (List ℕ)) (fault : Option ReplayFault) : Type 0 where
+pub record WritesReport (ended : Option ReplayFault) (b : Book) (holds holds' : Option (List ℕ))
+    (fault : Option ReplayFault) : Type 0 where
   pub front : AppendsFront holds holds' (book_report b)
   pub whole : is_early fault ≡ false → Appends holds holds' (book_report b)
   pub exact : is_early fault ≡ false → fault ≡ ended
@@ -42,7 +43,8 @@ pub record WritesReport (ended : Option ReplayFault) (b : Book) (holds holds' : 
 -- Some octets were read, a piece a turn at most, and a front of the report of their rows was
 -- written. Where it didn't end early, the whole report was, its fault is that of their text, and it
 -- read until the text stopped or to the end.
-pub record Reported (turns : ℕ) (c : Configured) (left left' holds holds' : Option (List ℕ)) (fault : Option ReplayFault) : Type 0 where
+pub record Reported (turns : ℕ) (c : Configured) (left left' holds holds' : Option (List ℕ))
+    (fault : Option ReplayFault) : Type 0 where
   pub read : List ℕ
   pub consumed : Consumes left left' read
   pub few : length read ≤ turns * PIECE_OCTETS

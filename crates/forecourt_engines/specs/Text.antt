@@ -1,5 +1,7 @@
 -- The text of a replay, octet by octet: what is written for an input, and why it ends.
-use Rattle.std.specs.Prelude.{ℕ, ◌+◌, ◌-◌, ◌^◌, Bool, true, not, min, filter, List, [], ◌∷◌, ◌++◌, length, ◌==◌, nat_le, Option, Some, None, Result, Ok, Err, if◌then◌else◌}
+use Rattle.std.specs.Prelude.{ℕ, ◌+◌, ◌-◌, ◌^◌, Bool, true, not, min, filter, List, [], ◌∷◌, ◌++◌}
+use Rattle.std.specs.Prelude.{length, ◌==◌, nat_le, Option, Some, None, Result, Ok, Err}
+use Rattle.std.specs.Prelude.{if◌then◌else◌}
 use Rattle.std.specs.Io.BufRead.{strip_last}
 use Rattle.hex.specs.Hex.{decode_of}
 use Rattle.hex.specs.declared.error.FromHexError.{FromHexError}
@@ -12,8 +14,8 @@ use Rattle.forecourt_engines.specs.declared.line.TheConstants.{LINE_OCTETS}
 use Rattle.site_book.specs.Book.{Book}
 use Rattle.forecourt_engines.specs.Answers.{Answerer, answers_to, after_messages, line_of}
 
--- between two octets of the input: the line so far and its number, the octets of a message to come, the
--- book with whether changes are told, and why the text has ended, if it has
+-- between two octets of the input: the line so far and its number, the octets of a message to come,
+-- the book with whether changes are told, and why the text has ended, if it has
 pub record State : Type 0 where
   pub line : List ℕ
   pub number : ℕ
@@ -57,15 +59,24 @@ fault_text (Some f) = line_of (fault_message f)
 
 -- what a piece of the stream leads to: its messages are answered in order, and then its fault
 abbrev pub answered : Answerer → Stream → Told
-answered b s = record { stream = held s; answerer = after_messages b s.messages; stop = stop_of s.fault; text = answers_to b s.messages ++ fault_text s.fault }
+answered b s = record {
+  stream = held s;
+  answerer = after_messages b s.messages;
+  stop =
+      stop_of s.fault;
+  text = answers_to b s.messages ++ fault_text s.fault;
+}
 
 -- a line that isn't hexadecimal ends the text; else its octets go to the stream
 abbrev pub decoded : ℕ → Held → Answerer → Result (List ℕ) FromHexError → Told
 decoded number stream b (Ok octets) = answered b (fed_by stream octets)
-decoded number stream b (Err e) = record { stream = stream; answerer = b; stop = Some (faults.NotHexadecimal number); text = [] }
+decoded number stream b (Err e) =
+    record { stream = stream; answerer = b; stop = Some (faults.NotHexadecimal number); text = [] }
 
 abbrev pub judged : ℕ → Held → Answerer → List ℕ → Told
-judged number stream b kept = if is_skipped kept then record { stream = stream; answerer = b; stop = None; text = [] } else decoded number stream b (decode_of kept)
+judged number stream b kept = if is_skipped kept then
+    record { stream = stream; answerer = b; stop = None; text = [] } else decoded number stream b
+    (decode_of kept)
 
 -- what the line so far says where it ends here
 abbrev pub line_told : State → Told
@@ -79,7 +90,14 @@ next_number n = min (n + 1) (2 ^ 64 - 1)
 
 -- a line has ended
 abbrev pub next_line : State → Told → State
-next_line st t = record { line = []; number = next_number st.number; stream = t.stream; answerer = t.answerer; stop = t.stop }
+next_line st t = record {
+  line = [];
+  number = next_number st.number;
+  stream = t.stream;
+  answerer =
+      t.answerer;
+  stop = t.stop;
+}
 
 -- what the text of a line says, in this state
 abbrev pub told_by : State → List ℕ → Told
@@ -94,7 +112,8 @@ abbrev pub stepped : Option TextFault → State → ℕ → State
 stepped (Some f) st b = st
 stepped None st b =
     if b == 10 then next_line st (line_told st)
-    else if nat_le LINE_OCTETS (length st.line) then record st { stop = Some (faults.TooLong st.number) }
+    else if nat_le LINE_OCTETS (length st.line) then
+    record st { stop = Some (faults.TooLong st.number) }
     else record st { line = st.line ++ b ∷ [] }
 
 abbrev pub next : State → ℕ → State

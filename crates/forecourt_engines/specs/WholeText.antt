@@ -1,6 +1,7 @@
--- The text of a replay as a whole: its lines make one stream of octets, and the text is the answers to the
--- messages of that stream, whatever the lines cut.
-use Rattle.std.specs.Prelude.{◌≡◌, ℕ, List, [], ◌∷◌, ◌++◌, length, ◌==◌, nat_lt, Option, Some, None, Result, Ok, Err, if◌then◌else◌}
+-- The text of a replay as a whole: its lines make one stream of octets, and the text is the answers
+-- to the messages of that stream, whatever the lines cut.
+use Rattle.std.specs.Prelude.{◌≡◌, ℕ, List, [], ◌∷◌, ◌++◌, length, ◌==◌, nat_lt, Option, Some, None}
+use Rattle.std.specs.Prelude.{Result, Ok, Err, if◌then◌else◌}
 use Rattle.hex.specs.Hex.{decode_of}
 use Rattle.hex.specs.declared.error.FromHexError.{FromHexError}
 use Rattle.app_message.specs.declared.fault.StreamFault.{StreamFault}
@@ -9,7 +10,8 @@ use Rattle.forecourt_engines.specs.declared.fault.TextFault.{TextFault}
 use Rattle.forecourt_engines.specs.declared.fault.TextFault.TheVariants as faults
 use Rattle.forecourt_engines.specs.declared.line.TheConstants.{LINE_OCTETS}
 use Rattle.forecourt_engines.specs.Answers.{Answerer, answers_to, after_messages}
-use Rattle.forecourt_engines.specs.Text.{start, kept_of, is_skipped, next_number, fault_text, left_over, text_of, fault_of, book_of}
+use Rattle.forecourt_engines.specs.Text.{start, kept_of, is_skipped, next_number, fault_text}
+use Rattle.forecourt_engines.specs.Text.{left_over, text_of, fault_of, book_of}
 
 -- what follows the last line feed is a line where it isn't empty
 abbrev pub last_line : List ℕ → List (List ℕ)
@@ -19,7 +21,8 @@ last_line (x ∷ line) = (x ∷ line) ∷ []
 -- the lines of an input whose first line begins with these octets; each ends with a line feed
 abbrev pub lines_from : List ℕ → List ℕ → List (List ℕ)
 lines_from line [] = last_line line
-lines_from line (b ∷ bs) = if b == 10 then line ∷ lines_from [] bs else lines_from (line ++ b ∷ []) bs
+lines_from line (b ∷ bs) = if b == 10 then line
+    ∷ lines_from [] bs else lines_from (line ++ b ∷ []) bs
 
 abbrev pub lines_of : List ℕ → List (List ℕ)
 lines_of input = lines_from [] input
@@ -48,9 +51,11 @@ spoken_then (Err f) rest = record { octets = []; bad = Some f }
 -- what lines speak, of which the first has this number
 abbrev pub spoken : ℕ → List (List ℕ) → Spoken
 spoken number [] = record { octets = []; bad = None }
-spoken number (line ∷ lines) = spoken_then (octets_in number line) (spoken (next_number number) lines)
+spoken number (line ∷ lines) =
+    spoken_then (octets_in number line) (spoken (next_number number) lines)
 
--- why a text ends: the stream's fault, else the bad line, else octets of a message that doesn't come
+-- why a text ends: the stream's fault, else the bad line, else octets of a message that doesn't
+-- come
 abbrev pub end_of : Option StreamFault → Option TextFault → List ℕ → Option TextFault
 end_of (Some f) bad rest = Some (faults.Stream f.fault)
 end_of None (Some bad) rest = Some bad
@@ -62,8 +67,9 @@ pub record IsWhole (b : Answerer) (input : List ℕ) (lines : Spoken) (stream : 
   pub fault : fault_of (start b) input ≡ end_of stream.fault lines.bad stream.rest
   pub book : book_of (start b) input ≡ (after_messages b stream.messages).book
 
--- every text is that of the one stream that its lines before the first bad one spell: for each message its
--- answer as a line, with its change where changes are told, then the line of the stream's fault, if it has one
+-- every text is that of the one stream that its lines before the first bad one spell: for each
+-- message its answer as a line, with its change where changes are told, then the line of the
+-- stream's fault, if it has one
 abbrev pub IsOneStreamOfLines : Type 0
 IsOneStreamOfLines = (b : Answerer) (input : List ℕ)
     → IsWhole b input (spoken 1 (lines_of input)) (stream_of (spoken 1 (lines_of input)).octets)

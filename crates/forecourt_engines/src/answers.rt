@@ -1,6 +1,7 @@
 //! Messages answered over a book.
 
-ghost use Rattle.std.specs.Prelude.{◌≡◌, ◌≤◌, ◌+◌, ◌++◌, ◌∷◌, [], ◌*◌, length, replicate, IfOk, OnOk};
+ghost use Rattle.std.specs.Prelude.{◌≡◌, ◌≤◌, ◌+◌, ◌++◌, ◌∷◌, [], ◌*◌, length, replicate, IfOk};
+ghost use Rattle.std.specs.Prelude.{OnOk};
 ghost use Rattle.hex.specs.Hex.{encode_lower};
 ghost use Rattle.forecourt_engines.specs.Answers.{line_of, change_line, lines_for, after_message};
 ghost use Rattle.forecourt_engines.specs.Answers.{answers_to, after_messages};
@@ -55,7 +56,8 @@ impl Answerer {
         buffer: &mut Vec<u8>,
         out: &mut Vec<u8>,
     ) -> Result<(), NoMemory>
-        ensures text { OnOk result (out.new.items ≡ out.old.items ++ answers_to self.old messages.now) }
+        ensures text { OnOk result (out.new.items ≡ out.old.items
+            ++ answers_to self.old messages.now) }
         ensures state { OnOk result (self.new ≡ after_messages self.old messages.now) }
     {
         for message in messages {
@@ -74,7 +76,8 @@ impl Answerer {
         buffer: Vec<u8>,
         out: &mut Vec<u8>,
     ) -> Result<Vec<u8>, NoMemory>
-        ensures text { OnOk result (out.new.items ≡ out.old.items ++ lines_for self.old message.now) }
+        ensures text { OnOk result (out.new.items ≡ out.old.items
+            ++ lines_for self.old message.now) }
         ensures state { OnOk result (self.new ≡ after_message self.old message.now) }
     {
         let (actor, event) = match request_of(message) {

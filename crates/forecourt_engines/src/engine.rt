@@ -1,8 +1,10 @@
 //! The engine of a replay: octets in, text out.
 
 ghost use Rattle.std.specs.Prelude.{◌≡◌, [], ◌∷◌, ◌++◌, None, IfOk, OnOk};
-ghost use Rattle.forecourt_engines.specs.Text.{start, after, text_from, ended, last_text, last_fault};
-ghost use Rattle.forecourt_engines.specs.Text.{kept_of, judged, answered, told_by, line_told, next_line, talked};
+ghost use Rattle.forecourt_engines.specs.Text.{start, after, text_from, ended, last_text};
+ghost use Rattle.forecourt_engines.specs.Text.{last_fault};
+ghost use Rattle.forecourt_engines.specs.Text.{kept_of, judged, answered, told_by, line_told};
+ghost use Rattle.forecourt_engines.specs.Text.{next_line, talked};
 ghost use Rattle.forecourt_engines.specs.Answers.{line_of};
 ghost use Rattle.device_map.specs.Replies.{fault_message};
 ghost use Rattle.app_message.specs.Stream.{fed_by};
@@ -22,8 +24,8 @@ use std::mem;
 
 /// A replay between two octets of its input. Beside what its text depends on it has buffers that
 /// stay, for a line without its spaces, for its octets, for its messages, and for a reply, so that
-/// a line no longer, and with no more messages, than the line before it is meant to allocate nothing
-/// of its own.
+/// a line no longer, and with no more messages, than the line before it is meant to allocate
+/// nothing of its own.
 #[derive(Drop)]
 pub struct Engine {
     alloc: Global,
@@ -45,7 +47,14 @@ impl Model for Engine {
 
     ghost Value = { State };
 
-    ghost view = { λ e. record { line = e.line.items; number = e.number; stream = e.decoder; answerer = e.answerer; stop = e.stop } };
+    ghost view = { λ e. record {
+      line = e.line.items;
+      number = e.number;
+      stream =
+          e.decoder;
+      answerer = e.answerer;
+      stop = e.stop;
+    } };
 
     ghost invariant = { λ e. length e.line.items ≤ LINE_OCTETS };
 }
@@ -118,7 +127,8 @@ impl Engine {
     fn end_line(&mut self, line: &[u8], out: &mut Vec<u8>) -> Result<(), NoMemory>
         requires { IsLine line.now }
         ensures state { OnOk result (self.new ≡ after self.old (line.now ++ 10 ∷ [])) }
-        ensures text { OnOk result (out.new.items ≡ out.old.items ++ text_from self.old (line.now ++ 10 ∷ [])) }
+        ensures text { OnOk result (out.new.items ≡ out.old.items
+            ++ text_from self.old (line.now ++ 10 ∷ [])) }
     {
         if self.stop.is_none() && self.line.is_empty() && line.len() <= LINE_OCTETS {
             return self.tell(line, out);
@@ -163,8 +173,11 @@ impl Engine {
 
     /// What a line says: the next one begins, and its text is appended.
     fn tell(&mut self, line: &[u8], out: &mut Vec<u8>) -> Result<(), NoMemory>
-        ensures state { OnOk result (self.new ≡ next_line self.old (judged self.old.number self.old.stream self.old.answerer (kept_of line.now))) }
-        ensures text { OnOk result (out.new.items ≡ out.old.items ++ (judged self.old.number self.old.stream self.old.answerer (kept_of line.now)).text) }
+        ensures state { OnOk result (self.new
+            ≡ next_line self.old (judged self.old.number self.old.stream self.old.answerer
+            (kept_of line.now))) }
+        ensures text { OnOk result (out.new.items ≡ out.old.items
+            ++ (judged self.old.number self.old.stream self.old.answerer (kept_of line.now)).text) }
     {
         let text = text_of(line);
         let mut octets = mem::replace(&mut self.octets, Vec::new(self.alloc));
@@ -186,7 +199,8 @@ impl Engine {
     ) -> Result<Option<TextFault>, NoMemory>
         ensures stop { IfOk result (λ stop. stop ≡ (told_by self.old text.now).stop) }
         ensures state { OnOk result (self.new ≡ talked self.old (told_by self.old text.now)) }
-        ensures text { OnOk result (out.new.items ≡ out.old.items ++ (told_by self.old text.now).text) }
+        ensures text { OnOk result (out.new.items ≡ out.old.items
+            ++ (told_by self.old text.now).text) }
     {
         // Most lines are hexadecimal as they stand.
         if !text.is_empty() && decode(text, octets)? {
@@ -204,7 +218,8 @@ impl Engine {
     ) -> Result<Option<TextFault>, NoMemory>
         ensures stop { IfOk result (λ stop. stop ≡ (told_by self.old text.now).stop) }
         ensures state { OnOk result (self.new ≡ talked self.old (told_by self.old text.now)) }
-        ensures text { OnOk result (out.new.items ≡ out.old.items ++ (told_by self.old text.now).text) }
+        ensures text { OnOk result (out.new.items ≡ out.old.items
+            ++ (told_by self.old text.now).text) }
     {
         put_without_spaces(text, &mut self.kept)?;
         if skips(&self.kept) {
@@ -219,9 +234,12 @@ impl Engine {
     /// The messages that these octets end, each answered over the book by a line, and the refusal
     /// of a stream's fault. The answer is why the text ends with them, if it does.
     fn answer(&mut self, octets: &[u8], out: &mut Vec<u8>) -> Result<Option<TextFault>, NoMemory>
-        ensures stop { IfOk result (λ stop. stop ≡ (answered self.old.answerer (fed_by self.old.stream octets.now)).stop) }
-        ensures state { OnOk result (self.new ≡ talked self.old (answered self.old.answerer (fed_by self.old.stream octets.now))) }
-        ensures text { OnOk result (out.new.items ≡ out.old.items ++ (answered self.old.answerer (fed_by self.old.stream octets.now)).text) }
+        ensures stop { IfOk result (λ stop. stop
+            ≡ (answered self.old.answerer (fed_by self.old.stream octets.now)).stop) }
+        ensures state { OnOk result (self.new
+            ≡ talked self.old (answered self.old.answerer (fed_by self.old.stream octets.now))) }
+        ensures text { OnOk result (out.new.items ≡ out.old.items
+            ++ (answered self.old.answerer (fed_by self.old.stream octets.now)).text) }
     {
         let fault = self.decoder.feed_into(octets, &mut self.messages)?;
         let messages = self.messages.as_slice();
@@ -239,7 +257,8 @@ impl Engine {
     /// Appends the refusal of a stream's fault as a line.
     fn refuse(&mut self, fault: &StreamFault, out: &mut Vec<u8>) -> Result<(), NoMemory>
         ensures state { OnOk result (self.new ≡ self.old) }
-        ensures text { OnOk result (out.new.items ≡ out.old.items ++ line_of (fault_message fault.now)) }
+        ensures text { OnOk result (out.new.items ≡ out.old.items
+            ++ line_of (fault_message fault.now)) }
     {
         let refusal = stream_refusal(self.alloc, fault)?;
         put_line(out, &refusal)

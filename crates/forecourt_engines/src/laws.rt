@@ -2,7 +2,8 @@
 //! definitions that the contract of `replay` cites.
 
 ghost use Rattle.forecourt_engines.specs.WholeText.{IsOneStreamOfLines};
-ghost use Rattle.forecourt_engines.specs.Laws.{LineSays, LastLineSays, LongLineSays, NothingFollows};
+ghost use Rattle.forecourt_engines.specs.Laws.{LineSays, LastLineSays, LongLineSays};
+ghost use Rattle.forecourt_engines.specs.Laws.{NothingFollows};
 
 /// A line of at most `LINE_OCTETS` octets and a line feed say what the line says as a whole:
 /// nothing where it is skipped, a bad line where it isn't hexadecimal, else the answers to the

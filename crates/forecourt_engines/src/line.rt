@@ -45,7 +45,8 @@ pub fn skips(kept: &[u8]) -> bool
 
 /// Whether the text is hexadecimal; if so, its octets take the place of what the buffer holds.
 pub fn decode(text: &[u8], octets: &mut Vec<u8>) -> Result<bool, NoMemory>
-    ensures { IfOk result (λ is. MatchResult (decode_of text.now) (λ bytes. (is ≡ true) × (octets.new.items ≡ bytes)) (λ _. is ≡ false)) }
+    ensures { IfOk result (λ is. MatchResult (decode_of text.now)
+        (λ bytes. (is ≡ true) × (octets.new.items ≡ bytes)) (λ _. is ≡ false)) }
 {
     octets.resize(text.len() / 2, 0)?;
     Ok(hex::decode_to_slice(text, octets.as_mut_slice()).is_ok())

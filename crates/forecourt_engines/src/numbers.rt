@@ -24,7 +24,10 @@ impl NumberMeaning {
             59..=65 => fault_of_run(number),
             _ => fault_of_site_file(number),
         };
-        Some(NumberMeaning { number, text: text? })
+        Some(NumberMeaning {
+            number,
+            text: text?,
+        })
     }
 }
 

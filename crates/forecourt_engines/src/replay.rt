@@ -10,7 +10,9 @@ ghost use Rattle.forecourt_engines.specs.Replay.{Replayed};
 
 use crate::engine::Engine;
 use crate::fault::ReplayFault;
-use site_base::{Counted, ReadFault, SiteConfig, WriteFault, PIECE_OCTETS, read_piece, write_whole};
+use site_base::{
+    Counted, PIECE_OCTETS, ReadFault, SiteConfig, WriteFault, read_piece, write_whole,
+};
 use site_book::SiteBook;
 use std::alloc::Global;
 use std::io::{Read, Write};
@@ -39,7 +41,8 @@ pub fn replay<R: Read, W: Write>(
     turns: u64,
     changes: bool,
 ) -> ReplayEnd
-    ensures told { Replayed turns (start (record { book = record { config = config.now; rows = [] }; changes = changes }))
+    ensures told { Replayed turns (start
+        (record { book = record { config = config.now; rows = [] }; changes = changes }))
         (R.remaining (device_of reader.old)) (R.remaining (device_of reader.new))
         (W.contents (device_of writer.old)) (W.contents (device_of writer.new)) result.fault result.book }
     ensures end { result.fault ≡ None → IsAtEnd (R.remaining (device_of reader.new)) }

@@ -15,7 +15,9 @@ ghost use Rattle.forecourt_engines.specs.Reporting.{is_before_report};
 use crate::engine::Engine;
 use crate::fault::{ReplayFault, TextFault};
 use crate::report::report;
-use site_base::{Counted, NoMemory, ReadFault, SiteConfig, WriteFault, PIECE_OCTETS, read_piece, write_whole};
+use site_base::{
+    Counted, NoMemory, PIECE_OCTETS, ReadFault, SiteConfig, WriteFault, read_piece, write_whole,
+};
 use site_book::SiteBook;
 use std::alloc::Global;
 use std::io::{Read, Write};

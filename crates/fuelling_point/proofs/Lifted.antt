@@ -1,5 +1,6 @@
 -- The nozzle that is out.
-use Rattle.std.proofs.Common.{◌≡◌, ℕ, Bool, true, false, List, [], ◌∷◌, ◌⊎◌, inl, inr, Some, None, refl, sym, ap, ◌∙◌, arith}
+use Rattle.std.proofs.Common.{◌≡◌, ℕ, Bool, true, false, List, [], ◌∷◌, ◌⊎◌, inl, inr, Some, None}
+use Rattle.std.proofs.Common.{refl, sym, ap, ◌∙◌, arith}
 use Rattle.std.specs.Prelude.{is_some}
 use Rattle.std.specs.List.{list_any}
 use Rattle.std.proofs.lemmas.Bool.{false≢true}
@@ -10,7 +11,8 @@ use Rattle.fuelling_point.specs.declared.event.PointEvent.TheVariants.{Flow, Han
 use Rattle.fuelling_point.specs.KeptPoints.{Facts, fresh, has_nozzle_out}
 use Rattle.fuelling_point.specs.Whole.{IsWhole}
 use Rattle.fuelling_point.specs.PointChecks.{refusal_of}
-use Rattle.fuelling_point.specs.History.{Moment, history, facts_at_end, facts_after, reply_to, moments_of, point_after}
+use Rattle.fuelling_point.specs.History.{Moment, history, facts_at_end, facts_after, reply_to}
+use Rattle.fuelling_point.specs.History.{moments_of, point_after}
 use Rattle.fuelling_point.specs.Laws.{delivered_by, ends, lifted_by, HasLifted, IsTheLifted}
 use Rattle.fuelling_point.proofs.Whole.{whole_after}
 

@@ -1,5 +1,6 @@
 -- The start of a fuelling that is under way.
-use Rattle.std.proofs.Common.{◌≡◌, ℕ, ◌+◌, Bool, true, false, List, [], ◌∷◌, ◌⊎◌, inl, inr, Option, Ok, sum_by, refl, sym, ap, subst, ◌∙◌, add_assoc, zero-add, arith}
+use Rattle.std.proofs.Common.{◌≡◌, ℕ, ◌+◌, Bool, true, false, List, [], ◌∷◌, ◌⊎◌, inl, inr, Option}
+use Rattle.std.proofs.Common.{Ok, sum_by, refl, sym, ap, subst, ◌∙◌, add_assoc, zero-add, arith}
 use Rattle.std.specs.List.{list_any}
 use Rattle.std.proofs.lemmas.List.Sums.{sum_by-cons}
 use Rattle.fuelling_point.specs.declared.event.PointEvent.{PointEvent}
@@ -7,9 +8,12 @@ use Rattle.site_base.specs.declared.state.PointState.TheVariants.{Closed}
 use Rattle.std.proofs.lemmas.Bool.{false≢true}
 use Rattle.fuelling_point.specs.declared.step.PointStep.TheVariants.{Sold, Drawn}
 use Rattle.fuelling_point.specs.KeptPoints.{Facts, fresh, is_under_way, growth_of}
-use Rattle.fuelling_point.specs.History.{Moment, history, facts_at_end, facts_after, reply_to, moments_of, point_after}
+use Rattle.fuelling_point.specs.History.{Moment, history, facts_at_end, facts_after, reply_to}
+use Rattle.fuelling_point.specs.History.{moments_of, point_after}
 use Rattle.fuelling_point.specs.Laws.{ends, flowed_in, reply_at, HasStarted, IsSoldAsStarted}
-use Rattle.fuelling_point.proofs.Events.{not_ended, price_kept, start_kept, volume_kept, start_taken, volume_none, sold_under_way, sold_price, sold_volume, drawn_under_way, drawn_volume}
+use Rattle.fuelling_point.proofs.Events.{not_ended, price_kept, start_kept, volume_kept}
+use Rattle.fuelling_point.proofs.Events.{start_taken, volume_none, sold_under_way, sold_price}
+use Rattle.fuelling_point.proofs.Events.{sold_volume, drawn_under_way, drawn_volume}
 
 abbrev pub growth_at : Moment → ℕ
 growth_at m = flowed_in (reply_at m)

@@ -7,9 +7,10 @@ use Rattle.fuelling_point.specs.KeptPoints.{Facts}
 use Rattle.fuelling_point.specs.History.{Moment, history, facts_at_end, facts_after}
 use Rattle.fuelling_point.specs.Whole.{is_suspended}
 use Rattle.fuelling_point.specs.Laws.{ends, reply_at}
-use Rattle.fuelling_point.proofs.Events.{suspended_when_terminated, ending_when_terminated, suspended_kept, ending_kept}
+use Rattle.fuelling_point.proofs.Events.{suspended_when_terminated, ending_when_terminated}
+use Rattle.fuelling_point.proofs.Events.{suspended_kept, ending_kept}
 
--- the point is suspend_state, and its fuelling ending
+-- the point is suspended, and its fuelling ending
 pub record IsTerminated (f : Facts) : Type 0 where
   pub suspend_state : is_suspended f.state ≡ true
   pub ending : f.ending ≡ true

@@ -1,5 +1,6 @@
 -- A point is a test from its test release until its fuelling ends or the release is taken back.
-use Rattle.std.proofs.Common.{◌≡◌, ℕ, Bool, true, false, List, [], ◌∷◌, ◌++◌, ◌⊎◌, inl, inr, Option, Ok, refl, ap, subst, arith}
+use Rattle.std.proofs.Common.{◌≡◌, ℕ, Bool, true, false, List, [], ◌∷◌, ◌++◌, ◌⊎◌, inl, inr, Option}
+use Rattle.std.proofs.Common.{Ok, refl, ap, subst, arith}
 use Rattle.std.specs.List.{list_any}
 use Rattle.std.proofs.lemmas.Bool.{false≢true}
 use Rattle.std.proofs.lemmas.Grind.{common_steps}
@@ -8,7 +9,8 @@ use Rattle.fuelling_point.specs.declared.event.PointEvent.{PointEvent}
 use Rattle.fuelling_point.specs.declared.step.PointStep.TheVariants.{Sold, Drawn}
 use Rattle.fuelling_point.specs.KeptPoints.{Facts, fresh}
 use Rattle.fuelling_point.specs.Whole.{IsWhole}
-use Rattle.fuelling_point.specs.History.{Moment, history, facts_at_end, facts_after, reply_to, moments_of, point_after}
+use Rattle.fuelling_point.specs.History.{Moment, history, facts_at_end, facts_after, reply_to}
+use Rattle.fuelling_point.specs.History.{moments_of, point_after}
 use Rattle.fuelling_point.specs.Laws.{ends_release, is_test_released, HasTestRelease, AreTestsDrawn}
 use Rattle.fuelling_point.proofs.Whole.{stays_whole, whole_after}
 use Rattle.fuelling_point.proofs.Suspension.{left_false, right_false}

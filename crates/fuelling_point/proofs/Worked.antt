@@ -3,12 +3,19 @@
 use Rattle.std.proofs.Common.{◌≡◌, List, [], ◌∷◌, Some, None, true, false, Result, Ok, Err, refl}
 use Rattle.site_base.specs.declared.refusal.Refusal.{Refusal}
 use Rattle.site_base.specs.declared.refusal.Refusal.TheVariants as refused
-use Rattle.site_base.specs.declared.state.PointState.TheVariants.{Closed, Idle, Calling, Authorised, Started, Fuelling}
+use Rattle.site_base.specs.declared.state.PointState.TheVariants.{Closed, Idle, Calling, Authorised}
+use Rattle.site_base.specs.declared.state.PointState.TheVariants.{Started, Fuelling}
 use Rattle.site_base.specs.declared.state.Preset.TheVariants.{Unset, Money}
 use Rattle.fuelling_point.specs.declared.event.PointEvent.{PointEvent}
-use Rattle.fuelling_point.specs.declared.event.PointEvent.TheVariants.{Online, Offline, Open, Lift, Release, TestRelease, ReplaceMeter, Suspend, Resume, Terminate, Flow, HangUp}
+use Rattle.fuelling_point.specs.declared.event.PointEvent.TheVariants.{Online, Offline, Open, Lift}
+use Rattle.fuelling_point.specs.declared.event.PointEvent.TheVariants.{Release, TestRelease}
+use Rattle.fuelling_point.specs.declared.event.PointEvent.TheVariants.{ReplaceMeter, Suspend}
+use Rattle.fuelling_point.specs.declared.event.PointEvent.TheVariants.{Resume, Terminate, Flow}
+use Rattle.fuelling_point.specs.declared.event.PointEvent.TheVariants.{HangUp}
 use Rattle.fuelling_point.specs.declared.step.PointStep.{PointStep}
-use Rattle.fuelling_point.specs.declared.step.PointStep.TheVariants.{Moved, Calling, Start, Flowed, NoSale, Sold, Drawn, Stopped, Ending}
+use Rattle.fuelling_point.specs.declared.step.PointStep.TheVariants.{Moved, Calling, Start, Flowed}
+use Rattle.fuelling_point.specs.declared.step.PointStep.TheVariants.{NoSale, Sold, Drawn, Stopped}
+use Rattle.fuelling_point.specs.declared.step.PointStep.TheVariants.{Ending}
 use Rattle.fuelling_point.specs.KeptPoints.{Facts, fresh, point_view}
 use Rattle.fuelling_point.specs.History.{reply_to, facts_after, facts_at_end}
 
@@ -55,7 +62,7 @@ sold_at_the_price_of_the_lift : replies
     ∷ []
 sold_at_the_price_of_the_lift = refl
 
--- a terminated fuelling takes flow until the nozzle is back, and isn't resume_state
+-- a terminated fuelling takes flow until the nozzle is back, and isn't resumed
 terminated_and_sold : replies
     (Open
     ∷ Release Unset None 1000 1650
@@ -103,7 +110,7 @@ drawn_and_then_sold : replies
     ∷ []
 drawn_and_then_sold = refl
 
--- a test that starts in calling, is suspend_state, and draws what flowed in both reports
+-- a test that starts in calling, is suspended, and draws what flowed in both reports
 drawn_from_calling : replies
     (Open
     ∷ Lift 2 1000 1799

@@ -2,7 +2,8 @@
 use Rattle.std.specs.Prelude.{◌≡◌, ℕ, ◌≤◌, Bool, Option, Some, None, is_some}
 use Rattle.site_base.specs.declared.limits.TheConstants.{GREATEST_READING}
 use Rattle.site_base.specs.declared.state.PointState.{PointState}
-use Rattle.site_base.specs.declared.state.PointState.TheVariants.{Started, SuspendedStarted, Fuelling, SuspendedFuelling}
+use Rattle.site_base.specs.declared.state.PointState.TheVariants.{Started, SuspendedStarted}
+use Rattle.site_base.specs.declared.state.PointState.TheVariants.{Fuelling, SuspendedFuelling}
 use Rattle.site_base.specs.declared.state.Preset.{Preset}
 use Rattle.fuelling_point.specs.declared.delivery.Delivery.{Delivery}
 use Rattle.fuelling_point.specs.KeptPoints.{Facts, is_under_way}
@@ -42,13 +43,13 @@ pub record AreWhole (state : PointState) (out : Option ℕ) (ending test : Bool)
   pub under_way : is_some delivery ≡ is_under_way state
   pub in_range : volume_in delivery ≤ GREATEST_READING
 
--- a fuelling in this state, suspend_state
+-- a fuelling in this state, suspended
 abbrev pub suspend_state : PointState → PointState
 suspend_state Started = SuspendedStarted
 suspend_state Fuelling = SuspendedFuelling
 suspend_state state = state
 
--- a suspend_state fuelling in this state that goes on
+-- a suspended fuelling in this state that goes on
 abbrev pub resume_state : PointState → PointState
 resume_state SuspendedStarted = Started
 resume_state SuspendedFuelling = Fuelling

@@ -2,12 +2,15 @@
 use Rattle.std.specs.Prelude.{ℕ, ◌+◌, ◌≤◌, Bool, true, false, Option, Some, None, if◌then◌else◌}
 use Rattle.site_base.specs.declared.limits.TheConstants.{GREATEST_READING}
 use Rattle.site_base.specs.declared.state.PointState.{PointState}
-use Rattle.site_base.specs.declared.state.PointState.TheVariants.{Inoperative, Idle, Calling, Started, SuspendedStarted, Fuelling, SuspendedFuelling}
+use Rattle.site_base.specs.declared.state.PointState.TheVariants.{Inoperative, Idle, Calling}
+use Rattle.site_base.specs.declared.state.PointState.TheVariants.{Started, SuspendedStarted}
+use Rattle.site_base.specs.declared.state.PointState.TheVariants.{Fuelling, SuspendedFuelling}
 use Rattle.site_base.specs.declared.state.Preset.{Preset}
 use Rattle.site_base.specs.declared.state.Preset.TheVariants.{Unset}
 use Rattle.site_base.specs.declared.view.PointView.{PointView}
 use Rattle.fuelling_point.specs.declared.event.PointEvent.{PointEvent}
-use Rattle.fuelling_point.specs.declared.event.PointEvent.TheVariants.{Lift, Release, TestRelease, Terminate, Flow, HangUp}
+use Rattle.fuelling_point.specs.declared.event.PointEvent.TheVariants.{Lift, Release, TestRelease}
+use Rattle.fuelling_point.specs.declared.event.PointEvent.TheVariants.{Terminate, Flow, HangUp}
 use Rattle.fuelling_point.specs.Table.{Move, stay, goes}
 
 -- its state; the nozzle that is out; whether its fuelling is ending, and whether it is a test; the

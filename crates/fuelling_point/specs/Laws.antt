@@ -1,15 +1,18 @@
 -- The laws of a fuelling point: what holds whatever events a new point has had, refused ones among
 -- them.
-use Rattle.std.specs.Prelude.{◌≡◌, ◌↔◌, ℕ, ◌+◌, ◌≤◌, Bool, true, false, ◌&&◌, ◌||◌, List, ◌∷◌, ◌++◌, sum_by, Option, Some, None, is_some, is_ok, Result, Ok, Err}
+use Rattle.std.specs.Prelude.{◌≡◌, ◌↔◌, ℕ, ◌+◌, ◌≤◌, Bool, true, false, ◌&&◌, ◌||◌, List, ◌∷◌, ◌++◌}
+use Rattle.std.specs.Prelude.{sum_by, Option, Some, None, is_some, is_ok, Result, Ok, Err}
 use Rattle.std.specs.List.{list_any}
 use Rattle.site_base.specs.declared.refusal.Refusal.{Refusal}
 use Rattle.site_base.specs.declared.state.PointState.{PointState}
 use Rattle.site_base.specs.declared.state.PointState.TheVariants as states
 use Rattle.site_base.specs.declared.state.Preset.TheVariants.{Unset}
 use Rattle.fuelling_point.specs.declared.event.PointEvent.{PointEvent}
-use Rattle.fuelling_point.specs.declared.event.PointEvent.TheVariants.{Offline, Lift, Release, TestRelease, HangUp}
+use Rattle.fuelling_point.specs.declared.event.PointEvent.TheVariants.{Offline, Lift, Release}
+use Rattle.fuelling_point.specs.declared.event.PointEvent.TheVariants.{TestRelease, HangUp}
 use Rattle.fuelling_point.specs.declared.step.PointStep.{PointStep}
-use Rattle.fuelling_point.specs.declared.step.PointStep.TheVariants.{Flowed, Sold, Drawn, Stopped, Ending}
+use Rattle.fuelling_point.specs.declared.step.PointStep.TheVariants.{Flowed, Sold, Drawn, Stopped}
+use Rattle.fuelling_point.specs.declared.step.PointStep.TheVariants.{Ending}
 use Rattle.fuelling_point.specs.KeptPoints.{Facts, fresh, is_under_way, volume_of, growth_of}
 use Rattle.fuelling_point.specs.Whole.{IsWhole, is_suspended}
 use Rattle.fuelling_point.specs.PointChecks.{refusal_of}
@@ -125,7 +128,7 @@ abbrev pub IsSoldAtEnd : Type 0
 IsSoldAtEnd = (events : List PointEvent) (event : PointEvent)
     → is_some (delivered_by (reply_to event (point_after events))) ≡ true → is_end event ≡ true
 
--- from a terminate that is answered so until an accepted hang up or offline, the point is suspend_state
+-- from a terminate that is answered so until an accepted hang up or offline, the point is suspended
 -- and its fuelling ending
 abbrev pub StaysSuspended : Type 0
 StaysSuspended = (events : List PointEvent) (before since : List Moment) (m : Moment)
@@ -179,8 +182,8 @@ pub record HasTestRelease (moments : List Moment) : Type 0 where
   pub goes_on : list_any ends_release since ≡ false
 
 -- A point is a test just from an accepted test release until the fuelling ends or the release is
--- taken back. It has neither preset nor prepaid cents; it is never sold, and what isn't a test is never
--- drawn.
+-- taken back. It has neither preset nor prepaid cents; it is never sold, and what isn't a test is
+-- never drawn.
 pub record AreTestsDrawn : Type 0 where
   pub released : (events : List PointEvent)
       → ((point_after events).test ≡ true) ↔ HasTestRelease (moments_of events)

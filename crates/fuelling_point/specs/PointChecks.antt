@@ -4,7 +4,8 @@ use Rattle.site_base.specs.declared.refusal.Refusal.{Refusal}
 use Rattle.site_base.specs.declared.refusal.Refusal.TheVariants.{WrongState, WrongNozzle, Ending}
 use Rattle.site_base.specs.Checks.{◌or_else◌, unless}
 use Rattle.fuelling_point.specs.declared.event.PointEvent.{PointEvent}
-use Rattle.fuelling_point.specs.declared.event.PointEvent.TheVariants.{Resume, Terminate, Flow, HangUp}
+use Rattle.fuelling_point.specs.declared.event.PointEvent.TheVariants.{Resume, Terminate, Flow}
+use Rattle.fuelling_point.specs.declared.event.PointEvent.TheVariants.{HangUp}
 use Rattle.fuelling_point.specs.Table.{is_listed}
 use Rattle.fuelling_point.specs.KeptPoints.{Facts}
 
@@ -12,7 +13,7 @@ use Rattle.fuelling_point.specs.KeptPoints.{Facts}
 abbrev pub in_state : PointEvent → Facts → Option Refusal
 in_state event f = unless (is_listed event f.state) (WrongState f.state)
 
--- an ending fuelling is neither resume_state nor terminated again
+-- an ending fuelling is neither resumed nor terminated again
 abbrev pub not_ending : PointEvent → Facts → Option Refusal
 not_ending Resume f = unless (not f.ending) Ending
 not_ending Terminate f = unless (not f.ending) Ending

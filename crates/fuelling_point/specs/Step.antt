@@ -2,8 +2,11 @@
 use Rattle.std.specs.Prelude.{ℕ, Option, Some, None, unwrap_or, if◌then◌else◌}
 use Rattle.fuelling_point.specs.declared.event.PointEvent.{PointEvent}
 use Rattle.fuelling_point.specs.declared.step.PointStep.{PointStep}
-use Rattle.fuelling_point.specs.declared.step.PointStep.TheVariants.{Moved, Calling, Start, Flowed, HungUp, NoSale, Sold, Drawn, Stopped, Ending}
-use Rattle.fuelling_point.specs.Table.{Line, Told, done, calling, start, flowed, hung_up, no_sale, sold, stopped, ending, line_of}
+use Rattle.fuelling_point.specs.declared.step.PointStep.TheVariants.{Moved, Calling, Start, Flowed}
+use Rattle.fuelling_point.specs.declared.step.PointStep.TheVariants.{HungUp, NoSale, Sold, Drawn}
+use Rattle.fuelling_point.specs.declared.step.PointStep.TheVariants.{Stopped, Ending}
+use Rattle.fuelling_point.specs.Table.{Line, Told, done, calling, start, flowed, hung_up, no_sale}
+use Rattle.fuelling_point.specs.Table.{sold, stopped, ending, line_of}
 use Rattle.fuelling_point.specs.KeptPoints.{Facts, growth_of, noted, moved}
 
 -- what is told of a fuelling that is over, of this nozzle and volume: a test is drawn, any other is

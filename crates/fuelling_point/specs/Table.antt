@@ -2,7 +2,10 @@
 -- isn't accepted.
 use Rattle.std.specs.Prelude.{ℕ, Bool, Option, Some, None, is_some, ◌==◌, if◌then◌else◌}
 use Rattle.site_base.specs.declared.state.PointState.{PointState}
-use Rattle.site_base.specs.declared.state.PointState.TheVariants.{Inoperative, Closed, Idle, Calling, Authorised, Started, SuspendedStarted, Fuelling, SuspendedFuelling}
+use Rattle.site_base.specs.declared.state.PointState.TheVariants.{Inoperative, Closed, Idle}
+use Rattle.site_base.specs.declared.state.PointState.TheVariants.{Calling, Authorised, Started}
+use Rattle.site_base.specs.declared.state.PointState.TheVariants.{SuspendedStarted, Fuelling}
+use Rattle.site_base.specs.declared.state.PointState.TheVariants.{SuspendedFuelling}
 use Rattle.fuelling_point.specs.declared.event.PointEvent.{PointEvent}
 use Rattle.fuelling_point.specs.declared.event.PointEvent.TheVariants as events
 

@@ -1,7 +1,8 @@
 -- What is true of every point that began as a new one, whatever events it has had.
 use Rattle.std.specs.Prelude.{◌≡◌, ◌≤◌, Bool, true, false, None, is_some}
 use Rattle.site_base.specs.declared.state.PointState.{PointState}
-use Rattle.site_base.specs.declared.state.PointState.TheVariants.{Authorised, SuspendedStarted, Fuelling, SuspendedFuelling}
+use Rattle.site_base.specs.declared.state.PointState.TheVariants.{Authorised, SuspendedStarted}
+use Rattle.site_base.specs.declared.state.PointState.TheVariants.{Fuelling, SuspendedFuelling}
 use Rattle.site_base.specs.declared.state.Preset.TheVariants.{Unset}
 use Rattle.fuelling_point.specs.KeptPoints.{Facts, is_under_way, has_nozzle_out}
 
@@ -11,7 +12,7 @@ has_flowed Fuelling = true
 has_flowed SuspendedFuelling = true
 has_flowed state = false
 
--- a fuelling is under way, and suspend_state
+-- a fuelling is under way, and suspended
 abbrev pub is_suspended : PointState → Bool
 is_suspended SuspendedStarted = true
 is_suspended SuspendedFuelling = true
@@ -23,7 +24,7 @@ is_released Authorised = true
 is_released state = is_under_way state
 
 -- a nozzle is kept just where one is out; so much has flowed as the state says, nothing or
--- something; only a suspend_state fuelling is ending; price and start reading are kept of a fuelling
+-- something; only a suspended fuelling is ending; price and start reading are kept of a fuelling
 -- under way alone, and preset, prepaid cents and the mark of a test from the release on; a test has
 -- neither preset nor prepaid cents
 pub record IsWhole (f : Facts) : Type 0 where

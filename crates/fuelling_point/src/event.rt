@@ -45,7 +45,7 @@ pub enum PointEvent {
     ReplaceMeter,
     /// A till suspends the fuelling.
     Suspend,
-    /// A till lets the suspend_state fuelling go on.
+    /// A till lets the suspended fuelling go on.
     Resume,
     /// A till ends the release or the fuelling.
     Terminate,

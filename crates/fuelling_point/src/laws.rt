@@ -1,10 +1,12 @@
 //! What holds whatever events a new point has had, refused ones among them. These laws have no
 //! code: each is proved of the definitions that `Point`'s contracts cite.
 
-ghost use Rattle.fuelling_point.specs.Laws.{StaysWhole, IsConserved, IsSoldAtEnd, StaysSuspended, IsKeptFromStart, IsSoldAsStarted, IsTheLifted, IsNeverNothing, AreTestsDrawn};
+ghost use Rattle.fuelling_point.specs.Laws.{StaysWhole, IsConserved, IsSoldAtEnd, StaysSuspended};
+ghost use Rattle.fuelling_point.specs.Laws.{IsKeptFromStart, IsSoldAsStarted, IsTheLifted};
+ghost use Rattle.fuelling_point.specs.Laws.{IsNeverNothing, AreTestsDrawn};
 
 /// A new point is whole, and an event, accepted or refused, leaves a whole point whole: a nozzle is
-/// kept just where one is out, something has flowed just where the state says so, only a suspend_state
+/// kept just where one is out, something has flowed just where the state says so, only a suspended
 /// fuelling is ending, and nothing is kept of a release or a fuelling where there is none.
 pub fn stays_whole()
     ensures { StaysWhole }
@@ -22,7 +24,7 @@ pub fn sold_at_the_end()
     ensures { IsSoldAtEnd }
 {}
 
-/// A terminated fuelling leaves its suspend_state state only by a hang up or an offline.
+/// A terminated fuelling leaves its suspended state only by a hang up or an offline.
 pub fn terminated_stays_suspended()
     ensures { StaysSuspended }
 {}

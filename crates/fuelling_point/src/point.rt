@@ -1,10 +1,12 @@
 //! The machine of one fuelling point.
 
-ghost use Rattle.std.specs.Prelude.{◌≡◌, ℕ, ◌≤◌, ◌+◌, true, false, None, Some, is_some, unwrap_or, MatchResult, OnOk, OnErr, IfOk, IfErr};
+ghost use Rattle.std.specs.Prelude.{◌≡◌, ℕ, ◌≤◌, ◌+◌, true, false, None, Some, is_some, unwrap_or};
+ghost use Rattle.std.specs.Prelude.{MatchResult, OnOk, OnErr, IfOk, IfErr};
 ghost use Rattle.site_base.specs.declared.limits.TheConstants.{GREATEST_READING};
 ghost use Rattle.site_base.specs.declared.state.PointState.TheVariants.{Closed, Started};
 ghost use Rattle.fuelling_point.specs.Table.{is_listed};
-ghost use Rattle.fuelling_point.specs.KeptPoints.{fresh, point_view, FitsGrowth, is_under_way, has_nozzle_out, start_of, volume_of};
+ghost use Rattle.fuelling_point.specs.KeptPoints.{fresh, point_view, FitsGrowth, is_under_way};
+ghost use Rattle.fuelling_point.specs.KeptPoints.{has_nozzle_out, start_of, volume_of};
 ghost use Rattle.fuelling_point.specs.Whole.{IsWhole};
 ghost use Rattle.fuelling_point.specs.Fields.{suspend_state, resume_state, flow_state};
 ghost use Rattle.fuelling_point.specs.PointChecks.{refusal_of, is_out};
@@ -23,7 +25,7 @@ use std::marker::Model;
 /// reported. All of it is forgotten on the way to inoperative and to idle.
 ///
 /// So a nozzle is kept just where one is out, there is a volume just where fuel has flowed, only a
-/// suspend_state fuelling is ending, a test has neither preset nor prepayment, and nothing is kept of a
+/// suspended fuelling is ending, a test has neither preset nor prepayment, and nothing is kept of a
 /// release or a fuelling where there is none. That is true of every point; `view` and `judge` say
 /// so.
 #[derive(Drop)]
@@ -66,7 +68,7 @@ impl Point {
     }
 
     /// The point as a read shows it; its holder isn't known here. Price and volume are 0 unless a
-    /// fuelling is under way: started, fuelling, or either of them suspend_state. The volume is one
+    /// fuelling is under way: started, fuelling, or either of them suspended. The volume is one
     /// that a meter can show.
     pub fn view(&self) -> PointView
         ensures view { result ≡ point_view self.now None }
@@ -105,7 +107,7 @@ impl Point {
     /// changes.
     ///
     /// - `WrongState`: the point table doesn't list the event in the point's state.
-    /// - `Ending`: the fuelling was terminated, so it is neither resume_state nor terminated again.
+    /// - `Ending`: the fuelling was terminated, so it is neither resumed nor terminated again.
     /// - `WrongNozzle`: another nozzle than the one that flows or is put back is out.
     pub fn judge(&self, event: &PointEvent) -> Result<(), Refusal>
         ensures accepted { OnOk result (refusal_of event.now self.now ≡ None) }
@@ -341,7 +343,7 @@ impl Point {
     }
 }
 
-/// The state in which a fuelling in this state is suspend_state.
+/// The state in which a fuelling in this state is suspended.
 fn suspend_state(state: PointState) -> PointState
     ensures { result ≡ suspend_state state }
 {
@@ -363,7 +365,7 @@ fn flow_state(state: PointState) -> PointState
     }
 }
 
-/// The state of a suspend_state fuelling once it goes on.
+/// The state of a suspended fuelling once it goes on.
 fn resume_state(state: PointState) -> PointState
     ensures { result ≡ resume_state state }
 {

@@ -38,6 +38,6 @@ pub enum PointStep {
     },
     /// The release is taken back.
     Stopped,
-    /// The fuelling is suspend_state for good: it ends at hang up or offline.
+    /// The fuelling is suspended for good: it ends at hang up or offline.
     Ending,
 }

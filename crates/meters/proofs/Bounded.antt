@@ -1,8 +1,12 @@
 -- Each nozzle stays within its bounds, so that a site can meter only so much.
-use Rattle.std.proofs.Common.{◌≡◌, ℕ, Bool, true, false, cond, ◌*◌, ◌<◌, ◌≤◌, List, [], ◌∷◌, ◌++◌, length, Some, refl, sym, ap, subst, ◌∙◌, ◌==◌, arith}
+use Rattle.std.proofs.Common.{◌≡◌, ℕ, Bool, true, false, cond, ◌*◌, ◌<◌, ◌≤◌, List, [], ◌∷◌, ◌++◌}
+use Rattle.std.proofs.Common.{length, Some, refl, sym, ap, subst, ◌∙◌, ◌==◌, arith}
 use Rattle.site_base.specs.declared.limits.TheConstants.{GREATEST_READING, REPLACEMENT_LIMIT}
-use Rattle.meters.specs.Nozzles.{Nozzle, is_nozzle, nozzle_of, last_of, times_replaced, with_nozzle, with_last, with_meter, read_at, replaced_at, IsMetered, EachMetered, AreNozzles}
-use Rattle.meters.specs.Metered.{metered, most_of_a_nozzle, most_of_a_site, product_total, metered_by, every_product}
+use Rattle.meters.specs.Nozzles.{Nozzle, is_nozzle, nozzle_of, last_of, times_replaced, with_nozzle}
+use Rattle.meters.specs.Nozzles.{with_last, with_meter, read_at, replaced_at, IsMetered}
+use Rattle.meters.specs.Nozzles.{EachMetered, AreNozzles}
+use Rattle.meters.specs.Metered.{metered, most_of_a_nozzle, most_of_a_site, product_total}
+use Rattle.meters.specs.Metered.{metered_by, every_product}
 use Rattle.meters.specs.Laws.{StaysWithinBounds, TotalsAreMetered}
 use Rattle.meters.proofs.Looked.{told, times_is}
 
@@ -65,7 +69,8 @@ pub reads : (xs : List Nozzle) (p n reading last : ℕ)
 reads xs p n reading last each at above high =
     let found = told (nozzle_of p n xs) (λ x. x.last) last at in
     each_changed p n (read_at reading) xs each (λ x is within.
-    let same : found.nozzle ≡ x = (let both : Some found.nozzle ≡ Some x = sym found.is ∙ is in cc) in
+    let same : found.nozzle ≡ x = (let both : Some found.nozzle ≡ Some x = sym found.is
+    ∙ is in cc) in
     let last_is : x.last ≡ last = ap (λ (y : Nozzle). y.last) (sym same) ∙ found.told in
     read_within x reading within (omega (arith, last_is)) high)
 

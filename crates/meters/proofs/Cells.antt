@@ -1,5 +1,7 @@
 -- The places of the nozzles, cell by cell, as a walk over the nozzles fills them.
-use Rattle.std.proofs.Common.{◌≡◌, ◌≢◌, ℕ, suc, ◌+◌, ◌<◌, ◌≤◌, Bool, true, false, List, [], ◌∷◌, ◌++◌, length, get_or, Option, Some, None, is_some, option_map, if◌then◌else◌, refl, sym, ap, ◌∙◌, arith}
+use Rattle.std.proofs.Common.{◌≡◌, ◌≢◌, ℕ, suc, ◌+◌, ◌<◌, ◌≤◌, Bool, true, false, List, [], ◌∷◌}
+use Rattle.std.proofs.Common.{◌++◌, length, get_or, Option, Some, None, is_some, option_map}
+use Rattle.std.proofs.Common.{if◌then◌else◌, refl, sym, ap, ◌∙◌, arith}
 use Rattle.std.proofs.Math.ListN.{set}
 use Rattle.std.proofs.lemmas.Bool.{false≢true}
 use Rattle.std.proofs.lemmas.Grind.{get_or-set_at, common_steps}
@@ -38,7 +40,8 @@ place_in-push p n (y ∷ ys) x = by_test (is_nozzle p n y) refl (place_in-push p
         → place_in p n (ys ++ x ∷ [])
         ≡ or_place (place_in p n ys) (if is_nozzle p n x then Some (length ys) else None)
         → place_in p n ((y ∷ ys) ++ x ∷ [])
-        ≡ or_place (place_in p n (y ∷ ys)) (if is_nozzle p n x then Some (length (y ∷ ys)) else None)
+        ≡ or_place (place_in p n (y ∷ ys))
+        (if is_nozzle p n x then Some (length (y ∷ ys)) else None)
     by_test true is rest = rw is refl
     by_test false is rest =
         rw (is, rest) (further (place_in p n ys) (is_nozzle p n x) (length ys))
@@ -67,7 +70,8 @@ module _ (xs : List Nozzle) (x : Nozzle) (cells : List (Option ℕ)) (c : ℕ)
       false≢true (sym isnt ∙ is)
 
   -- a cell that was empty tells the place of the one more
-  pub filled : get_or cells c None ≡ None → ArePlaces (xs ++ x ∷ []) (set cells c (Some (length xs)))
+  pub filled : get_or cells c None ≡ None
+      → ArePlaces (xs ++ x ∷ []) (set cells c (Some (length xs)))
   filled none p n low high from most =
       by_test (is_nozzle p n x) refl
     where

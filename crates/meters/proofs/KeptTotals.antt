@@ -1,13 +1,17 @@
 -- What is kept of the nozzles, after a reading and after a replacement.
-use Rattle.std.proofs.Common.{◌≡◌, ◌≢◌, ℕ, true, false, cond, ◌==◌, ◌+◌, ◌-◌, ◌*◌, ◌<◌, ◌≤◌, List, length, get_or, Option, option_map, Some, inl, inr, refl, sym, ap, ◌∙◌, arith}
+use Rattle.std.proofs.Common.{◌≡◌, ◌≢◌, ℕ, true, false, cond, ◌==◌, ◌+◌, ◌-◌, ◌*◌, ◌<◌, ◌≤◌, List}
+use Rattle.std.proofs.Common.{length, get_or, Option, option_map, Some, inl, inr, refl, sym, ap}
+use Rattle.std.proofs.Common.{◌∙◌, arith}
 use Rattle.std.proofs.Math.ListN.{set, replicate}
 use Rattle.std.proofs.lemmas.Bool.{cases_eq}
 use Rattle.std.proofs.lemmas.Bool.Decides.{nat_tests}
 use Rattle.std.proofs.lemmas.Grind.{get_or-set_at}
 use Rattle.std.proofs.lemmas.List.{get_or-set_other, get_or-replicate}
-use Rattle.site_base.specs.declared.limits.TheConstants.{GREATEST_READING, PRODUCT_CELLS, REPLACEMENT_LIMIT}
+use Rattle.site_base.specs.declared.limits.TheConstants.{GREATEST_READING, PRODUCT_CELLS}
+use Rattle.site_base.specs.declared.limits.TheConstants.{REPLACEMENT_LIMIT}
 use Rattle.site_base.specs.declared.config.PointEntry.{PointEntry}
-use Rattle.meters.specs.Nozzles.{Nozzle, nozzle_of, nozzles_of_points, with_last, with_meter, with_nozzle, read_at, replaced_at, times_replaced, AreNozzles}
+use Rattle.meters.specs.Nozzles.{Nozzle, nozzle_of, nozzles_of_points, with_last, with_meter}
+use Rattle.meters.specs.Nozzles.{with_nozzle, read_at, replaced_at, times_replaced, AreNozzles}
 use Rattle.meters.specs.Metered.{product_total, product_alone, most_of_a_site}
 use Rattle.meters.specs.Places.{AreKept, ArePlaces, AreTotals}
 use Rattle.meters.proofs.Looked.{KeepsName, place_in-with_nozzle, length-with_nozzle}
@@ -25,12 +29,14 @@ places_stay : (p n : ℕ) (change : Nozzle → Nozzle) (xs : List Nozzle) (cells
 places_stay p n change xs cells keeps are q m low high from most =
     are q m low high from most ∙ sym (place_in-with_nozzle p n q m change xs keeps)
 
-its_product : (product k growth : ℕ) → k + 1 ≡ product → product_alone (k + 1) product * growth ≡ growth
+its_product : (product k growth : ℕ) → k + 1 ≡ product
+    → product_alone (k + 1) product * growth ≡ growth
 its_product product k growth is =
     let same : (product == k + 1) ≡ true = grind (arith, nat_tests) in
     ap (λ b. cond b 1 0 * growth) same ∙ omega arith
 
-other_product : (product k growth : ℕ) → k + 1 ≢ product → product_alone (k + 1) product * growth ≡ 0
+other_product : (product k growth : ℕ) → k + 1 ≢ product
+    → product_alone (k + 1) product * growth ≡ 0
 other_product product k growth isnt =
     let other : (product == k + 1) ≡ false = grind (arith, nat_tests) in
     ap (λ b. cond b 1 0 * growth) other ∙ omega arith
@@ -93,7 +99,8 @@ kept_replaced xs cells sums p n reading kept fewer high = record {
     each = replaces xs p n reading kept.nozzles.each fewer high;
   };
   places = places_stay p n (replaced_at reading) xs cells (meter_keeps_name reading) kept.places;
-  totals = λ k product. kept.totals k product ∙ sym (meter_keeps (product_alone (k + 1)) p n reading xs);
+  totals = λ k product. kept.totals k product
+      ∙ sym (meter_keeps (product_alone (k + 1)) p n reading xs);
 }
 
 -- a site that opens has metered nothing

@@ -1,9 +1,12 @@
 -- What is looked up of a nozzle, where it stands, and what a change of one nozzle leaves.
-use Rattle.std.proofs.Common.{◌≡◌, ℕ, zero, suc, ◌+◌, ◌<◌, true, false, Bool, List, [], ◌∷◌, length, get_or, Option, Some, None, option_map, is_some, unwrap_or, IfSome, ◌&&◌, ◌==◌, arith, refl, sym, ap, subst, ◌∙◌}
+use Rattle.std.proofs.Common.{◌≡◌, ℕ, zero, suc, ◌+◌, ◌<◌, true, false, Bool, List, [], ◌∷◌, length}
+use Rattle.std.proofs.Common.{get_or, Option, Some, None, option_map, is_some, unwrap_or, IfSome}
+use Rattle.std.proofs.Common.{◌&&◌, ◌==◌, arith, refl, sym, ap, subst, ◌∙◌}
 use Rattle.std.proofs.Math.ListN.{set}
 use Rattle.std.proofs.lemmas.Bool.{false≢true}
 use Rattle.std.proofs.lemmas.Grind.{common_steps}
-use Rattle.meters.specs.Nozzles.{Nozzle, is_nozzle, nozzle_of, has_nozzle, last_of, reading_of, times_replaced, with_nozzle, read_at, replaced_at}
+use Rattle.meters.specs.Nozzles.{Nozzle, is_nozzle, nozzle_of, has_nozzle, last_of, reading_of}
+use Rattle.meters.specs.Nozzles.{times_replaced, with_nozzle, read_at, replaced_at}
 use Rattle.meters.specs.Places.{place_in, IsPlace}
 
 -- ---- a nozzle of which something is told
@@ -17,7 +20,12 @@ pub record IsTold (o : Option Nozzle) (tells : Nozzle → ℕ) (v : ℕ) : Type 
 pub told : (o : Option Nozzle) (tells : Nozzle → ℕ) (v : ℕ) → option_map tells o ≡ Some v
     → IsTold o tells v
 told None tells v is = absurd cc
-told (Some x) tells v is = record { nozzle = x; is = refl; told = (let same : Some (tells x) ≡ Some v = is in cc) }
+told (Some x) tells v is = record {
+  nozzle = x;
+  is = refl;
+  told =
+      (let same : Some (tells x) ≡ Some v = is in cc);
+}
 
 -- the nozzle that is there
 pub record IsThere (o : Option Nozzle) : Type 0 where
@@ -54,7 +62,8 @@ later_is x xs p n i is behind = record {
 }
 
 -- a place that was one further on
-one_further : (o : Option ℕ) (i : ℕ) → option_map (λ j. j + 1) o ≡ Some i → (i ≡ 0 → ⊥) × ((j : ℕ) → i ≡ suc j → o ≡ Some j)
+one_further : (o : Option ℕ) (i : ℕ) → option_map (λ j. j + 1) o ≡ Some i → (i ≡ 0 → ⊥)
+    × ((j : ℕ) → i ≡ suc j → o ≡ Some j)
 one_further None i is = absurd cc
 one_further (Some k) i is =
     let same : k + 1 ≡ i = (let both : Some (k + 1) ≡ Some i = is in cc) in
@@ -71,11 +80,14 @@ stands p n (x ∷ xs) i is = by_test (is_nozzle p n x) refl i is (stands p n xs)
         let same : 0 ≡ i = (let both : Some 0 ≡ Some i = sym first ∙ is in cc) in
         subst (StandsAt p n (x ∷ xs)) same (here_is x xs p n at)
     by_test false at zero is behind =
-        let later : place_in p n (x ∷ xs) ≡ option_map (λ j. j + 1) (place_in p n xs) = rw at refl in
+        let later : place_in p n (x ∷ xs) ≡ option_map (λ j. j + 1) (place_in p n xs) =
+        rw at refl in
         absurd ((one_further (place_in p n xs) 0 (sym later ∙ is)).0 refl)
     by_test false at (suc i) is behind =
-        let later : place_in p n (x ∷ xs) ≡ option_map (λ j. j + 1) (place_in p n xs) = rw at refl in
-        later_is x xs p n i at (behind i ((one_further (place_in p n xs) (suc i) (sym later ∙ is)).1 i refl))
+        let later : place_in p n (x ∷ xs) ≡ option_map (λ j. j + 1) (place_in p n xs) =
+        rw at refl in
+        later_is x xs p n i at (behind i
+        ((one_further (place_in p n xs) (suc i) (sym later ∙ is)).1 i refl))
 
 -- so what is told of the nozzle is told of what stands there
 pub is_place : (p n : ℕ) (xs : List Nozzle) (o : Option ℕ) → o ≡ place_in p n xs
@@ -107,7 +119,8 @@ nowhere p n (x ∷ xs) is = by_test (is_nozzle p n x) refl (nowhere p n xs)
     by_test true at behind =
         let first : place_in p n (x ∷ xs) ≡ Some 0 = rw at refl in absurd cc
     by_test false at behind =
-        let later : place_in p n (x ∷ xs) ≡ option_map (λ j. j + 1) (place_in p n xs) = rw at refl in
+        let later : place_in p n (x ∷ xs) ≡ option_map (λ j. j + 1) (place_in p n xs) =
+        rw at refl in
         rw at (behind (none (place_in p n xs) (sym later ∙ is)))
 
 pub is_there : (p n : ℕ) (xs : List Nozzle) (o : Option ℕ) → o ≡ place_in p n xs
@@ -116,7 +129,16 @@ is_there p n xs None is = ap (λ (x : Option Nozzle). is_some x) (sym (nowhere p
 is_there p n xs (Some i) is = by_nozzle (nozzle_of p n xs) (stands p n xs i (sym is)).nozzle
   where
     nothing : ℕ → Nozzle
-    nothing k = record { point = k; number = k; product = k; began = k; last = k; replaced = k; earlier = k }
+    nothing k = record {
+      point = k;
+      number = k;
+      product = k;
+      began = k;
+      last = k;
+      replaced =
+          k;
+      earlier = k;
+    }
 
     none_there : (x : Nozzle) → None ≡ Some x → ⊥
     none_there x is = cc
@@ -171,7 +193,8 @@ nozzle_of-here p n change (x ∷ xs) keeps =
   where
     by_test : (b : Bool) → is_nozzle p n x ≡ b
         → nozzle_of p n (with_nozzle p n change xs) ≡ option_map change (nozzle_of p n xs)
-        → nozzle_of p n (with_nozzle p n change (x ∷ xs)) ≡ option_map change (nozzle_of p n (x ∷ xs))
+        → nozzle_of p n (with_nozzle p n change (x ∷ xs))
+        ≡ option_map change (nozzle_of p n (x ∷ xs))
     by_test true is rest = rw (is, same_name change p n x keeps, is) refl
     by_test false is rest = rw (is, is) rest
 

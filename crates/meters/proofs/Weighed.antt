@@ -1,6 +1,8 @@
 -- What a report adds to what is metered, however the products are weighed, and that a replacement
 -- adds nothing.
-use Rattle.std.proofs.Common.{◌≡◌, ℕ, Bool, true, false, not, cond, ◌==◌, nat_le, ◌+◌, ◌-◌, ◌*◌, ◌≤◌, List, [], ◌∷◌, ◌++◌, Option, Some, None, refl, sym, ap, ◌∙◌, arith}
+use Rattle.std.proofs.Common.{◌≡◌, ℕ, Bool, true, false, not, cond, ◌==◌, nat_le, ◌+◌, ◌-◌, ◌*◌}
+use Rattle.std.proofs.Common.{◌≤◌, List, [], ◌∷◌, ◌++◌, Option, Some, None, refl, sym, ap, ◌∙◌}
+use Rattle.std.proofs.Common.{arith}
 use Rattle.std.proofs.Math.Nat.{mul-add, mul-zero}
 use Rattle.std.proofs.lemmas.Bool.Decides.{nat_tests}
 use Rattle.site_base.specs.declared.config.NozzleEntry.{NozzleEntry}
@@ -10,7 +12,9 @@ use Rattle.site_base.specs.declared.refusal.Refusal.TheVariants.{MeterGap, Meter
 use Rattle.site_base.specs.declared.config.PointEntry.{PointEntry}
 use Rattle.meters.specs.declared.report.Report.{Report}
 use Rattle.meters.specs.declared.report.Report.TheVariants.{Still, Growing}
-use Rattle.meters.specs.Nozzles.{Nozzle, is_nozzle, nozzle_of, numbered, nozzles_of_point, nozzles_of_points, product_of, reading_of, with_nozzle, with_last, with_meter, read_at, replaced_at, EachMetered}
+use Rattle.meters.specs.Nozzles.{Nozzle, is_nozzle, nozzle_of, numbered, nozzles_of_point}
+use Rattle.meters.specs.Nozzles.{nozzles_of_points, product_of, reading_of, with_nozzle, with_last}
+use Rattle.meters.specs.Nozzles.{with_meter, read_at, replaced_at, EachMetered}
 use Rattle.meters.specs.Metered.{metered, metered_by, product_total, product_alone}
 use Rattle.meters.specs.Reports.{report_refusal, growth_of, unless_refused}
 use Rattle.meters.specs.Laws.{GrowthRaisesOneTotal, ReportsAreMetered}
@@ -23,7 +27,8 @@ opened_nothing : (w : ℕ → ℕ) (p n : ℕ) (es : List NozzleEntry) → meter
 opened_nothing w p n [] = refl
 opened_nothing w p n (e ∷ es) =
     let none : w e.product * ((e.reading - e.reading) + 0) ≡ 0 =
-    ap (λ (k : ℕ). w e.product * k) (let apart : (e.reading - e.reading) + 0 ≡ 0 = omega arith in apart)
+    ap (λ (k : ℕ). w e.product * k)
+    (let apart : (e.reading - e.reading) + 0 ≡ 0 = omega arith in apart)
     ∙ mul-zero (w e.product) in
     omega (arith, none, opened_nothing w p (n + 1) es)
 
@@ -102,7 +107,8 @@ unmoved w p n change (y ∷ ys) same kept =
 -- a reading that isn't below the last one
 pub read_raises : (w : ℕ → ℕ) (p n reading : ℕ) (x : Nozzle) (xs : List Nozzle) → EachMetered xs
     → nozzle_of p n xs ≡ Some x → x.last ≤ reading
-    → metered_by w (with_last p n reading xs) ≡ metered_by w xs + w x.product * growth_of x.last reading
+    → metered_by w (with_last p n reading xs) ≡ metered_by w xs
+    + w x.product * growth_of x.last reading
 read_raises w p n reading x xs each is above =
     raised w p n (reading - x.last) (read_at reading) x xs is refl
     (omega (arith, (each_found p n xs x each is).risen))
@@ -129,7 +135,8 @@ growth_raises_one_total xs p n reading last product q each at of above =
     ap (λ (y : Nozzle). y.product) (sym same) ∙ sells.told in
     read_raises (product_alone q) p n reading found.nozzle xs each found.is
     (omega (arith, found.told))
-    ∙ ap (λ (k : ℕ). product_total q xs + product_alone q k * growth_of found.nozzle.last reading) product_is
+    ∙ ap (λ (k : ℕ). product_total q xs + product_alone q k * growth_of found.nozzle.last reading)
+    product_is
     ∙ ap (λ (k : ℕ). product_total q xs + product_alone q product * growth_of k reading) found.told
     ∙ ap (λ (k : ℕ). product_total q xs + k) (alone (product == q) (growth_of last reading))
 

@@ -1,6 +1,7 @@
 -- Worked reports, by computing the definitions: on a site of the points 2 and 3, each with a nozzle
 -- of product 1 at 0 and one of product 2 at 1000, and on the greatest site.
-use Rattle.std.proofs.Common.{◌≡◌, ℕ, zero, suc, ◌+◌, ◌*◌, List, [], ◌∷◌, map, Option, Some, None, Result, Ok, Err, refl}
+use Rattle.std.proofs.Common.{◌≡◌, ℕ, zero, suc, ◌+◌, ◌*◌, List, [], ◌∷◌, map, Option, Some, None}
+use Rattle.std.proofs.Common.{Result, Ok, Err, refl}
 use Rattle.std.specs.List.{range_with_len}
 use Rattle.site_base.specs.declared.limits.TheConstants.{GROWTH_LIMIT, NOZZLES, POINTS}
 use Rattle.site_base.specs.declared.refusal.Refusal.{Refusal}
@@ -8,7 +9,8 @@ use Rattle.site_base.specs.declared.refusal.Refusal.TheVariants.{MeterGap, Meter
 use Rattle.site_base.specs.declared.config.PointEntry.{PointEntry}
 use Rattle.meters.specs.declared.report.Report.{Report}
 use Rattle.meters.specs.declared.report.Report.TheVariants.{Still, Growing}
-use Rattle.meters.specs.Nozzles.{Nozzle, nozzles_of_points, product_of, last_of, reading_of, replacements_of, with_meter}
+use Rattle.meters.specs.Nozzles.{Nozzle, nozzles_of_points, product_of, last_of, reading_of}
+use Rattle.meters.specs.Nozzles.{replacements_of, with_meter}
 use Rattle.meters.specs.Metered.{product_total, metered_by, every_product}
 use Rattle.meters.specs.Reports.{report_refusal, growth_of, after_report}
 

@@ -1,7 +1,9 @@
 -- The nozzles of a site, and what their meters read.
-use Rattle.std.specs.Prelude.{ℕ, ◌+◌, ◌-◌, ◌*◌, ◌≤◌, Bool, List, [], ◌∷◌, ◌++◌, length, Option, Some, None, option_map, is_some, unwrap_or, ◌&&◌, ◌==◌, if◌then◌else◌}
+use Rattle.std.specs.Prelude.{ℕ, ◌+◌, ◌-◌, ◌*◌, ◌≤◌, Bool, List, [], ◌∷◌, ◌++◌, length, Option}
+use Rattle.std.specs.Prelude.{Some, None, option_map, is_some, unwrap_or, ◌&&◌, ◌==◌, if◌then◌else◌}
 use Rattle.site_base.specs.declared.config.NozzleEntry.{NozzleEntry}
-use Rattle.site_base.specs.declared.limits.TheConstants.{GREATEST_READING, NOZZLES, POINTS, REPLACEMENT_LIMIT}
+use Rattle.site_base.specs.declared.limits.TheConstants.{GREATEST_READING, NOZZLES, POINTS}
+use Rattle.site_base.specs.declared.limits.TheConstants.{REPLACEMENT_LIMIT}
 use Rattle.site_base.specs.declared.config.PointEntry.{PointEntry}
 use Rattle.site_base.specs.Configured.{Configured}
 
@@ -109,8 +111,8 @@ abbrev pub with_meter : ℕ → ℕ → ℕ → List Nozzle → List Nozzle
 with_meter p n reading xs = with_nozzle p n (replaced_at reading) xs
 
 -- what a nozzle always is: its last reading isn't below the one that its meter began with nor above
--- the greatest, its meter was replaced no more often than it may be, and each earlier one metered at
--- most the greatest reading
+-- the greatest, its meter was replaced no more often than it may be, and each earlier one metered
+-- at most the greatest reading
 pub record IsMetered (x : Nozzle) : Type 0 where
   pub risen : x.began ≤ x.last
   pub within : x.last ≤ GREATEST_READING

@@ -1,13 +1,17 @@
 -- Where a nozzle stands in a list, and the cells that tell it.
-use Rattle.std.specs.Prelude.{◌≡◌, ℕ, ◌+◌, ◌-◌, ◌*◌, ◌<◌, ◌≤◌, List, [], ◌∷◌, length, Option, Some, None, option_map, if◌then◌else◌, slice_index, slice_index_or, slice_set}
+use Rattle.std.specs.Prelude.{◌≡◌, ℕ, ◌+◌, ◌-◌, ◌*◌, ◌<◌, ◌≤◌, List, [], ◌∷◌, length, Option, Some}
+use Rattle.std.specs.Prelude.{None, option_map, if◌then◌else◌, slice_index, slice_index_or}
+use Rattle.std.specs.Prelude.{slice_set}
 use Rattle.site_base.specs.declared.limits.TheConstants.{NOZZLES, POINTS, PRODUCT_CELLS}
-use Rattle.meters.specs.Nozzles.{Nozzle, is_nozzle, nozzle_of, product_of, last_of, replacements_of, with_last, with_meter, read_at, replaced_at, AreNozzles}
+use Rattle.meters.specs.Nozzles.{Nozzle, is_nozzle, nozzle_of, product_of, last_of, replacements_of}
+use Rattle.meters.specs.Nozzles.{with_last, with_meter, read_at, replaced_at, AreNozzles}
 use Rattle.meters.specs.Metered.{product_total}
 
 -- the place of nozzle n of point p, if there is such a nozzle
 abbrev pub place_in : ℕ → ℕ → List Nozzle → Option ℕ
 place_in p n [] = None
-place_in p n (x ∷ xs) = if is_nozzle p n x then Some 0 else option_map (λ i. i + 1) (place_in p n xs)
+place_in p n (x ∷ xs) = if is_nozzle p n x then Some 0 else option_map (λ i. i + 1)
+    (place_in p n xs)
 
 -- nozzle n of point p stands at i, and a change of it is a write there
 pub record IsPlace (p n : ℕ) (xs : List Nozzle) (i : ℕ) : Type 0 where

@@ -1,7 +1,8 @@
 //! Laws of the nozzles' meters. They have no code: each is proved of the definitions that the
 //! contracts of this crate cite.
 
-ghost use Rattle.meters.specs.Laws.{GrowthRaisesOneTotal, ReportsAreMetered, StaysWithinBounds, TotalsAreMetered};
+ghost use Rattle.meters.specs.Laws.{GrowthRaisesOneTotal, ReportsAreMetered, StaysWithinBounds};
+ghost use Rattle.meters.specs.Laws.{TotalsAreMetered};
 
 /// A reading that isn't below the last one raises the total of the nozzle's product by the growth,
 /// and no other total.

@@ -3,11 +3,11 @@
 //! moves no meter.
 #![tactic(auto)]
 
-mod recount;
 mod laws;
 mod meter;
 mod meters;
 mod place;
+mod recount;
 mod report;
 
 pub use laws::{

@@ -1,16 +1,19 @@
 //! The meters of a site.
 
-ghost use Rattle.std.specs.Prelude.{◌≡◌, ◌<◌, ◌≤◌, ◌+◌, ◌++◌, true, None, Some, OnOk, IfOk, IfErr, IfSome, is_some, length};
+ghost use Rattle.std.specs.Prelude.{◌≡◌, ◌<◌, ◌≤◌, ◌+◌, ◌++◌, true, None, Some, OnOk, IfOk, IfErr};
+ghost use Rattle.std.specs.Prelude.{IfSome, is_some, length};
 ghost use Rattle.site_base.specs.declared.limits.TheConstants.{NOZZLES, REPLACEMENT_LIMIT};
 ghost use Rattle.meters.specs.declared.report.Report.TheVariants.{Growing};
-ghost use Rattle.meters.specs.Nozzles.{opening_nozzles, nozzles_of_point, product_of, last_of, replacements_of, has_nozzle, reading_of, times_replaced, with_last, with_meter, AreNozzles, EachMetered};
+ghost use Rattle.meters.specs.Nozzles.{opening_nozzles, nozzles_of_point, product_of, last_of};
+ghost use Rattle.meters.specs.Nozzles.{replacements_of, has_nozzle, reading_of, times_replaced};
+ghost use Rattle.meters.specs.Nozzles.{with_last, with_meter, AreNozzles, EachMetered};
 ghost use Rattle.meters.specs.Metered.{most_of_a_site, product_total, metered_by, every_product};
 ghost use Rattle.meters.specs.Places.{IsPlace};
 ghost use Rattle.meters.specs.Reports.{growth_of, report_refusal};
 
-use crate::recount::recount;
 use crate::meter::Meter;
 use crate::place::{cell_of, places_of};
+use crate::recount::recount;
 use crate::report::Report;
 use site_base::{
     FpNo, Millilitres, NOZZLE_CELLS, NoMemory, NozzleNo, PRODUCT_CELLS, PointEntry, ProductNo,

@@ -1,14 +1,18 @@
 -- What a clear and a draw do to the figures of the open shift.
-use Rattle.std.proofs.Common.{◌≡◌, ℕ, zero, suc, Bool, true, false, cond, ◌+◌, ◌-◌, ◌≤◌, List, [], ◌∷◌, length, get_or, Some, unwrap_or, ◌==◌, refl, ap, ◌∙◌, arith}
+use Rattle.std.proofs.Common.{◌≡◌, ℕ, zero, suc, Bool, true, false, cond, ◌+◌, ◌-◌, ◌≤◌, List, []}
+use Rattle.std.proofs.Common.{◌∷◌, length, get_or, Some, unwrap_or, ◌==◌, refl, ap, ◌∙◌, arith}
 use Rattle.std.proofs.lemmas.Bool.Decides.{nat_tests}
 use Rattle.std.specs.List.{All}
 use Rattle.std.proofs.lemmas.List.Elements.{All-append}
 use Rattle.site_base.specs.Numbered.{numbered, with_numbered}
-use Rattle.site_base.proofs.Numbering.{numbered_within, numbered_with_same, numbered_with_other, length-with_numbered}
+use Rattle.site_base.proofs.Numbering.{numbered_within, numbered_with_same, numbered_with_other}
+use Rattle.site_base.proofs.Numbering.{length-with_numbered}
 use Rattle.shift_ledger.specs.declared.row.ShiftRow.{ShiftRow}
-use Rattle.shift_ledger.specs.Figures.{till_figures, product_figure, adjusted_figure, one_clear_more, empty_figures, with_clear, with_draw}
+use Rattle.shift_ledger.specs.Figures.{till_figures, product_figure, adjusted_figure}
+use Rattle.shift_ledger.specs.Figures.{one_clear_more, empty_figures, with_clear, with_draw}
 use Rattle.shift_ledger.specs.Shifts.{Shifts}
-use Rattle.shift_ledger.specs.Laws.{ShiftChange, clears, draws, closes, after_change, IsRow, HaveRows, IsCounted, IsDrawn, HasEveryFigure}
+use Rattle.shift_ledger.specs.Laws.{ShiftChange, clears, draws, closes, after_change, IsRow}
+use Rattle.shift_ledger.specs.Laws.{HaveRows, IsCounted, IsDrawn, HasEveryFigure}
 
 -- a member that is there and is written shows what was written, and every other stays
 written : {A : Type 0} (n m : ℕ) (xs : List A) (y d : A) → 1 ≤ n → n ≤ length xs

@@ -1,11 +1,13 @@
 -- The figures of the open shift, as a look-up of its number shows them.
-use Rattle.std.proofs.Common.{◌≡◌, ℕ, false, ◌+◌, ◌<◌, ◌^◌, ◌-◌, length, get_or, Some, List, arith, sym, subst, ap, ◌∙◌, ◌==◌, unwrap_or}
+use Rattle.std.proofs.Common.{◌≡◌, ℕ, false, ◌+◌, ◌<◌, ◌^◌, ◌-◌, length, get_or, Some, List, arith}
+use Rattle.std.proofs.Common.{sym, subst, ap, ◌∙◌, ◌==◌, unwrap_or}
 use Rattle.std.proofs.lemmas.Bool.Decides.{nat_tests}
 use Rattle.std.proofs.lemmas.Option.{unwrap_or-slice_get}
 use Rattle.shift_ledger.specs.declared.row.ShiftRow.{ShiftRow}
 use Rattle.site_base.specs.Numbered.{numbered}
 use Rattle.site_base.proofs.Numbering.{numbered_push_here}
-use Rattle.shift_ledger.specs.Figures.{till_figures, product_figure, adjusted_figure, FitsClear, FitsDraw}
+use Rattle.shift_ledger.specs.Figures.{till_figures, product_figure, adjusted_figure, FitsClear}
+use Rattle.shift_ledger.specs.Figures.{FitsDraw}
 use Rattle.shift_ledger.specs.Shifts.{Shifts, figures_of}
 
 open_shown : (n : ℕ) (s : Shifts) → n ≡ length s.closed + 1 → figures_of n s ≡ Some s.current

@@ -1,12 +1,14 @@
 -- Rows of closed shifts stay, and each new shift is empty.
-use Rattle.std.proofs.Common.{◌≡◌, ℕ, zero, suc, ◌+◌, ◌-◌, ◌<◌, ◌≤◌, List, [], ◌∷◌, ◌++◌, length, replicate, unwrap_or, refl, sym, ap, ◌∙◌, arith, length-append}
+use Rattle.std.proofs.Common.{◌≡◌, ℕ, zero, suc, ◌+◌, ◌-◌, ◌<◌, ◌≤◌, List, [], ◌∷◌, ◌++◌, length}
+use Rattle.std.proofs.Common.{replicate, unwrap_or, refl, sym, ap, ◌∙◌, arith, length-append}
 use Rattle.site_base.specs.declared.limits.TheConstants.{TILL_CELLS, PRODUCT_CELLS}
 use Rattle.site_base.specs.Numbered.{numbered}
 use Rattle.site_base.proofs.Numbering.{numbered_place, numbered_push_here, numbered_push_other}
 use Rattle.std.specs.List.{slice_get}
 use Rattle.shift_ledger.specs.Figures.{empty_figures}
 use Rattle.shift_ledger.specs.Shifts.{Shifts, open_number, figures_of, after_close}
-use Rattle.shift_ledger.specs.Laws.{ShiftChange, clears, draws, closes, after_change, after_changes, DoStay, IsOpenedEmpty}
+use Rattle.shift_ledger.specs.Laws.{ShiftChange, clears, draws, closes, after_change, after_changes}
+use Rattle.shift_ledger.specs.Laws.{DoStay, IsOpenedEmpty}
 
 -- a member of a list of one value is that value
 all_same : {A : Type 0} (k i : ℕ) (d : A) → unwrap_or (slice_get (replicate k d) i) d ≡ d

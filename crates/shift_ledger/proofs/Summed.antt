@@ -1,5 +1,6 @@
 -- The figures of each shift are the sums of what was noted while it was open.
-use Rattle.std.proofs.Common.{◌≡◌, ◌≢◌, ℕ, Bool, true, false, ◌+◌, ◌-◌, List, [], ◌∷◌, ◌++◌, length, Some, None, unwrap_or, ◌==◌, if◌then◌else◌, refl, sym, ap, ◌∙◌, arith}
+use Rattle.std.proofs.Common.{◌≡◌, ◌≢◌, ℕ, Bool, true, false, ◌+◌, ◌-◌, List, [], ◌∷◌, ◌++◌, length}
+use Rattle.std.proofs.Common.{Some, None, unwrap_or, ◌==◌, if◌then◌else◌, refl, sym, ap, ◌∙◌, arith}
 use Rattle.std.specs.Prelude.{sum_by}
 use Rattle.std.specs.List.{AllByRecursion, slice_get}
 use Rattle.std.proofs.lemmas.Bool.Decides.{nat_tests}
@@ -7,9 +8,13 @@ use Rattle.std.proofs.lemmas.List.Sums.{sum_by-cons}
 use Rattle.site_base.specs.declared.limits.TheConstants.{TILL_CELLS, PRODUCT_CELLS}
 use Rattle.site_base.proofs.Numbering.{numbered_push_here, numbered_push_other, numbered_next}
 use Rattle.shift_ledger.specs.declared.row.ShiftRow.{ShiftRow}
-use Rattle.shift_ledger.specs.Figures.{till_figures, product_figure, adjusted_figure, one_clear_more, empty_figures, with_clear, with_draw}
-use Rattle.shift_ledger.specs.Shifts.{Shifts, first_shift, open_number, figures_of, after_close, after_clear, after_draw}
-use Rattle.shift_ledger.specs.Laws.{ShiftChange, clears, draws, closes, after_changes, IsRow, HaveRows, IsInRange, noted_in, clear_noted, cents_noted, clear_of, draw_of, AreFiguresSums}
+use Rattle.shift_ledger.specs.Figures.{till_figures, product_figure, adjusted_figure}
+use Rattle.shift_ledger.specs.Figures.{one_clear_more, empty_figures, with_clear, with_draw}
+use Rattle.shift_ledger.specs.Shifts.{Shifts, first_shift, open_number, figures_of, after_close}
+use Rattle.shift_ledger.specs.Shifts.{after_clear, after_draw}
+use Rattle.shift_ledger.specs.Laws.{ShiftChange, clears, draws, closes, after_changes, IsRow}
+use Rattle.shift_ledger.specs.Laws.{HaveRows, IsInRange, noted_in, clear_noted, cents_noted}
+use Rattle.shift_ledger.specs.Laws.{clear_of, draw_of, AreFiguresSums}
 use Rattle.shift_ledger.proofs.Counting.{has_every_figure, is_counted, is_drawn}
 use Rattle.shift_ledger.proofs.Standing.{do_stay, next, nothing}
 
@@ -53,7 +58,8 @@ shown_open n s is =
 shown_other : (n : ℕ) (s : Shifts) (row : ShiftRow) → n ≢ open_number s
     → shown n (record { closed = s.closed; current = row }) ≡ shown n s
 shown_other n s row apart = ap (λ o. unwrap_or o empty_figures)
-    (numbered_push_other n s.closed row apart ∙ sym (numbered_push_other n s.closed s.current apart))
+    (numbered_push_other n s.closed row apart
+    ∙ sym (numbered_push_other n s.closed s.current apart))
 
 -- what a change adds to a figure of the open shift
 abbrev Adds : (ShiftRow → ℕ) → (ShiftChange → ℕ) → Type 0
@@ -68,23 +74,33 @@ one_noted : (figure : ShiftRow → ℕ) (weight : ShiftChange → ℕ) → Adds 
     + sum_by weight later
     → total ≡ figure (shown n s)
     + sum_by weight (if n == open_number s then change ∷ later else later)
-one_noted figure weight adds change n s later total is_row range all = by_test (n == open_number s) refl
+one_noted figure weight adds change n s later total is_row range all =
+    by_test (n == open_number s) refl
   where
     by_test : (b : Bool) → (n == open_number s) ≡ b
         → total ≡ figure (shown n s) + sum_by weight (if b then change ∷ later else later)
     by_test true is =
         let same : n ≡ open_number s = grind (arith, nat_tests) in
         let before : figure (shown n s) ≡ figure s.current = ap figure (shown_open n s same) in
-        let after : figure (shown n (record { closed = s.closed; current = row_after change s.current }))
+        let after : figure (shown n (record {
+          closed = s.closed;
+          current =
+              row_after change s.current;
+        }))
         ≡ figure (row_after change s.current) =
-        ap figure (shown_open n (record { closed = s.closed; current = row_after change s.current }) same) in
+        ap figure (shown_open n (record { closed = s.closed; current = row_after change s.current })
+        same) in
         let added = adds change s is_row range in
         let cons : sum_by weight (change ∷ later) ≡ weight change + sum_by weight later =
         sum_by-cons weight change later in
         omega (arith, all, before, after, added, cons)
     by_test false is =
         let apart : n ≢ open_number s = grind (arith, nat_tests) in
-        let stays : figure (shown n (record { closed = s.closed; current = row_after change s.current }))
+        let stays : figure (shown n (record {
+          closed = s.closed;
+          current =
+              row_after change s.current;
+        }))
         ≡ figure (shown n s) =
         ap figure (shown_other n s (row_after change s.current) apart) in
         omega (arith, all, stays)
@@ -132,7 +148,8 @@ first_of_pair false t u s cents same = omega arith
 second_of_pair : (b : Bool) (t u : ℕ) (s : ShiftRow) (cents : ℕ) → (b ≡ true → u ≡ t)
     → (if b then one_clear_more cents (till_figures t s) else till_figures u s).1
     ≡ (till_figures u s).1 + (if b then cents else 0)
-second_of_pair true t u s cents same = ap (λ (k : ℕ). (till_figures k s).1 + cents) (sym (same refl))
+second_of_pair true t u s cents same =
+    ap (λ (k : ℕ). (till_figures k s).1 + cents) (sym (same refl))
 second_of_pair false t u s cents same = omega arith
 
 of_product : (b : Bool) (q r : ℕ) (figure : ℕ → ℕ) (ml : ℕ) → (b ≡ true → r ≡ q)

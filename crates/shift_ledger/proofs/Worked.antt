@@ -1,7 +1,8 @@
 -- Worked figures, by computing the definitions: clears and draws of two shifts.
 use Rattle.std.proofs.Common.{◌≡◌, Some, None, false, refl}
 use Rattle.shift_ledger.specs.Figures.{till_figures, product_figure, adjusted_figure, empty_figures}
-use Rattle.shift_ledger.specs.Shifts.{Shifts, first_shift, open_number, is_last, figures_of, after_close, after_clear, after_draw}
+use Rattle.shift_ledger.specs.Shifts.{Shifts, first_shift, open_number, is_last, figures_of}
+use Rattle.shift_ledger.specs.Shifts.{after_close, after_clear, after_draw}
 
 -- shift 1: till 1 clears 10,000 ml of diesel for 1,500 cents, the last till 7 ml of the last
 -- product for 2 cents, and a test draws 20,000 ml of diesel

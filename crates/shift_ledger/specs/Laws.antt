@@ -1,10 +1,13 @@
 -- What holds of the shifts by their definitions, whatever is cleared, drawn and closed.
-use Rattle.std.specs.Prelude.{◌≡◌, ℕ, ◌+◌, ◌<◌, ◌≤◌, List, [], ◌∷◌, length, sum_by, Some, ◌==◌, if◌then◌else◌}
+use Rattle.std.specs.Prelude.{◌≡◌, ℕ, ◌+◌, ◌<◌, ◌≤◌, List, [], ◌∷◌, length, sum_by, Some, ◌==◌}
+use Rattle.std.specs.Prelude.{if◌then◌else◌}
 use Rattle.std.specs.List.{All, AllByRecursion}
 use Rattle.site_base.specs.declared.limits.TheConstants.{TILL_CELLS, PRODUCT_CELLS}
 use Rattle.shift_ledger.specs.declared.row.ShiftRow.{ShiftRow}
-use Rattle.shift_ledger.specs.Figures.{till_figures, product_figure, adjusted_figure, one_clear_more}
-use Rattle.shift_ledger.specs.Shifts.{Shifts, first_shift, open_number, figures_of, after_close, after_clear, after_draw}
+use Rattle.shift_ledger.specs.Figures.{till_figures, product_figure, adjusted_figure}
+use Rattle.shift_ledger.specs.Figures.{one_clear_more}
+use Rattle.shift_ledger.specs.Shifts.{Shifts, first_shift, open_number, figures_of, after_close}
+use Rattle.shift_ledger.specs.Shifts.{after_clear, after_draw}
 
 -- what changes the shifts: a clear by a till, of a product, so many millilitres and cents; a draw
 -- of a product, so many millilitres; a close

@@ -1,10 +1,12 @@
 //! The shifts of a site.
 
-ghost use Rattle.std.specs.Prelude.{◌≡◌, ◌-◌, ◌^◌, ◌<◌, ◌≤◌, true, false, length, OnOk, OnErr, IfOk, IfErr};
+ghost use Rattle.std.specs.Prelude.{◌≡◌, ◌-◌, ◌^◌, ◌<◌, ◌≤◌, true, false, length, OnOk, OnErr};
+ghost use Rattle.std.specs.Prelude.{IfOk, IfErr};
 ghost use Rattle.site_base.specs.declared.refusal.Refusal.TheVariants.{ShiftsSpent};
 ghost use Rattle.site_base.specs.declared.limits.TheConstants.{GREATEST_SHIFT};
 ghost use Rattle.shift_ledger.specs.Figures.{FitsClear, FitsDraw};
-ghost use Rattle.shift_ledger.specs.Shifts.{drawn_in_all, first_shift, open_number, is_last, figures_of};
+ghost use Rattle.shift_ledger.specs.Shifts.{drawn_in_all, first_shift, open_number, is_last};
+ghost use Rattle.shift_ledger.specs.Shifts.{figures_of};
 ghost use Rattle.shift_ledger.specs.Shifts.{after_close, after_clear, after_draw};
 
 use crate::row::ShiftRow;

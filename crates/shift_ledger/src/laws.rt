@@ -1,7 +1,8 @@
 //! Laws of the shifts' figures. They have no code: each is proved of the definitions that the
 //! contracts of this crate cite.
 
-ghost use Rattle.shift_ledger.specs.Laws.{AreFiguresSums, DoStay, HasEveryFigure, IsCounted, IsDrawn, IsOpenedEmpty};
+ghost use Rattle.shift_ledger.specs.Laws.{AreFiguresSums, DoStay, HasEveryFigure, IsCounted};
+ghost use Rattle.shift_ledger.specs.Laws.{IsDrawn, IsOpenedEmpty};
 
 /// A clear raises in the open shift its till's count by one and that till's cents by its own, and
 /// its product's millilitres by its own. Every other till's figures stay, and every other

@@ -100,7 +100,8 @@ pushed fs fs' ks ks' k at r within figures rows kept place =
     rw (figures, rows, kept, place) (rows_push fs ks r within)
 
 within_push : (fs : List Figures) (ks : List RowFacts) (r : Row) → all_within (length fs) ks ≡ true
-    → all_within (length (fs ++ figures_in_reply r.reply)) (ks ++ kept_row (length fs) r ∷ []) ≡ true
+    → all_within (length (fs ++ figures_in_reply r.reply)) (ks ++ kept_row (length fs) r ∷ [])
+    ≡ true
 within_push fs ks r within =
     let n : ℕ = length (fs ++ figures_in_reply r.reply) in
     list_all-append (λ (k : RowFacts). is_within n k.reply) ks (kept_row (length fs) r ∷ [])
@@ -109,7 +110,8 @@ within_push fs ks r within =
     (and_from (is_within n (kept_reply (length fs) r.reply)) true
     (told_within fs r.reply) refl)
 
-pub pushed_within : (fs fs' : List Figures) (ks ks' : List RowFacts) (k : RowFacts) (at : ℕ) (r : Row)
+pub pushed_within : (fs fs' : List Figures) (ks ks' : List RowFacts) (k : RowFacts) (at : ℕ)
+    (r : Row)
     → all_within (length fs) ks ≡ true → fs' ≡ fs ++ figures_in_reply r.reply → ks' ≡ ks ++ k ∷ []
     → k ≡ kept_row at r → at ≡ length fs → all_within (length fs') ks' ≡ true
 pushed_within fs fs' ks ks' k at r within figures rows kept place =

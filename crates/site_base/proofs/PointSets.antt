@@ -1,9 +1,12 @@
 -- What a write to one bit of a set of points changes, and where its lowest bit stands.
-use Rattle.std.proofs.Common.{◌≡◌, ◌≢◌, ℕ, ◌+◌, ◌-◌, ◌*◌, ◌%◌, ◌^◌, ◌<◌, ◌≤◌, true, false, not, ◌&&◌, ◌||◌, ◌==◌, IfSome, IfNone, IsSome, Option, Some, None, inl, inr, refl, sym, ap, ◌∙◌, arith, w64}
+use Rattle.std.proofs.Common.{◌≡◌, ◌≢◌, ℕ, ◌+◌, ◌-◌, ◌*◌, ◌%◌, ◌^◌, ◌<◌, ◌≤◌, true, false, not}
+use Rattle.std.proofs.Common.{◌&&◌, ◌||◌, ◌==◌, IfSome, IfNone, IsSome, Option, Some, None, inl}
+use Rattle.std.proofs.Common.{inr, refl, sym, ap, ◌∙◌, arith, w64}
 use Rattle.std.proofs.lemmas.Bool.{cases_eq, cases_lt}
 use Rattle.std.proofs.lemmas.Bool.Decides.{nat_tests}
 use Rattle.std.proofs.lemmas.Nat.{and_le_l}
-use Rattle.std.proofs.lemmas.Nat.Bits.{bit_at_set_same, bit_at_set_other, bit_at_clear_same, bit_at_clear_other, bit_at-trailing_zeros, bit_at-zero}
+use Rattle.std.proofs.lemmas.Nat.Bits.{bit_at_set_same, bit_at_set_other, bit_at_clear_same}
+use Rattle.std.proofs.lemmas.Nat.Bits.{bit_at_clear_other, bit_at-trailing_zeros, bit_at-zero}
 use Rattle.std.specs.Prelude.{bit_and, bit_or}
 use Rattle.std.specs.Int.{bit_at, bit_not, trailing_zeros}
 use Rattle.site_base.specs.declared.limits.TheConstants.{POINTS}
@@ -75,7 +78,8 @@ fewer set p cell place within member =
     let back : p - 1 ≡ cell = omega arith in
     let had : bit_at set cell ≡ 1 = ap (bit_at set) (sym back) ∙ member_bit p set member in
     elim (cases_eq left set) [
-      | inl same ↦ absurd (let both : bit_at left cell ≡ bit_at set cell = ap (λ x. bit_at x cell) same in omega arith)
+      | inl same ↦ absurd (let both : bit_at left cell ≡ bit_at set cell =
+          ap (λ x. bit_at x cell) same in omega arith)
       | inr other ↦ omega (arith, and_le_l set (bit_not w64 (1 * 2 ^ cell % 2 ^ 64)))
     ]
 

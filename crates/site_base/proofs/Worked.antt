@@ -1,6 +1,7 @@
 -- Worked amounts, prices and configurations, by computing the definitions.
 use Rattle.std.specs.Prelude.{codes}
-use Rattle.std.proofs.Common.{◌≡◌, ℕ, zero, suc, true, false, List, [], ◌∷◌, Some, None, Ok, Err, refl}
+use Rattle.std.proofs.Common.{◌≡◌, ℕ, zero, suc, true, false, List, [], ◌∷◌, Some, None, Ok, Err}
+use Rattle.std.proofs.Common.{refl}
 use Rattle.site_base.specs.declared.config.NozzleEntry.{NozzleEntry}
 use Rattle.site_base.specs.Amounts.{amount}
 use Rattle.site_base.specs.Ranges.{is_between}
@@ -102,7 +103,8 @@ fit = refl
 most_rows : is_site (record fit_site { rows = 1000000 }) ≡ true
 most_rows = refl
 
-shortest_and_longest_name : is_site (record fit_site { products = named (codes "a") (codes "abcdefghij0123456789") }) ≡ true
+shortest_and_longest_name : is_site
+    (record fit_site { products = named (codes "a") (codes "abcdefghij0123456789") }) ≡ true
 shortest_and_longest_name = refl
 
 no_rows : is_site (record fit_site { rows = 0 }) ≡ false
@@ -114,34 +116,46 @@ too_many_rows = refl
 manager_twice : is_site (record fit_site { managers = 3 ∷ 3 ∷ [] }) ≡ false
 manager_twice = refl
 
-product_twice : is_site (record fit_site { products = product 2 (codes "diesel") ∷ product 2 (codes "petrol-95") ∷ [] }) ≡ false
+product_twice : is_site (record
+    fit_site { products = product 2 (codes "diesel") ∷ product 2 (codes "petrol-95") ∷ [] }) ≡ false
 product_twice = refl
 
-name_twice : is_site (record fit_site { products = named (codes "diesel") (codes "diesel") }) ≡ false
+name_twice : is_site (record fit_site { products = named (codes "diesel") (codes "diesel") })
+    ≡ false
 name_twice = refl
 
 no_name : is_site (record fit_site { products = named (codes "diesel") (codes "") }) ≡ false
 no_name = refl
 
-capital_letter : is_site (record fit_site { products = named (codes "diesel") (codes "Petrol") }) ≡ false
+capital_letter : is_site (record fit_site { products = named (codes "diesel") (codes "Petrol") })
+    ≡ false
 capital_letter = refl
 
-space_in_a_name : is_site (record fit_site { products = named (codes "diesel") (codes "petrol 95") }) ≡ false
+space_in_a_name : is_site (record
+    fit_site { products = named (codes "diesel") (codes "petrol 95") }) ≡ false
 space_in_a_name = refl
 
-name_of_21 : is_site (record fit_site { products = named (codes "diesel") (codes "abcdefghij01234567890") }) ≡ false
+name_of_21 : is_site (record fit_site {
+  products =
+      named (codes "diesel") (codes "abcdefghij01234567890");
+}) ≡ false
 name_of_21 = refl
 
-point_twice : is_site (record fit_site { points = point 4 (nozzles 8 2) ∷ point 4 (nozzles 8 2) ∷ [] }) ≡ false
+point_twice : is_site (record fit_site {
+  points =
+      point 4 (nozzles 8 2) ∷ point 4 (nozzles 8 2) ∷ [];
+}) ≡ false
 point_twice = refl
 
-product_that_is_not_there : is_site (record fit_site { points = point 1 (nozzles 8 3) ∷ point 64 (nozzles 8 3) ∷ [] }) ≡ false
+product_that_is_not_there : is_site
+    (record fit_site { points = point 1 (nozzles 8 3) ∷ point 64 (nozzles 8 3) ∷ [] }) ≡ false
 product_that_is_not_there = refl
 
 no_nozzles : is_site (record fit_site { points = point 1 [] ∷ point 64 [] ∷ [] }) ≡ false
 no_nozzles = refl
 
-nine_nozzles : is_site (record fit_site { points = point 1 (nozzles 9 2) ∷ point 64 (nozzles 9 2) ∷ [] }) ≡ false
+nine_nozzles : is_site (record
+    fit_site { points = point 1 (nozzles 9 2) ∷ point 64 (nozzles 9 2) ∷ [] }) ≡ false
 nine_nozzles = refl
 
 no_products : is_site (record fit_site { products = [] }) ≡ false

@@ -31,7 +31,8 @@ same_point p q = p.number == q.number
 
 -- as many products as may be, each with a fit name, none like another
 abbrev pub are_products : List ProductEntry → Bool
-are_products ps = is_between 1 PRODUCTS (length ps) && list_all (λ p. is_name p.name) ps && none_alike same_product ps
+are_products ps = is_between 1 PRODUCTS (length ps) && list_all (λ p. is_name p.name) ps &&
+    none_alike same_product ps
 
 -- a product with this number is there
 abbrev pub has_product : List ProductEntry → ℕ → Bool
@@ -39,12 +40,15 @@ has_product ps number = list_any (λ p. p.number == number) ps
 
 -- as many nozzles as may be, each of a product that is there
 abbrev pub are_nozzles : List ProductEntry → List NozzleEntry → Bool
-are_nozzles ps nozzles = is_between 1 NOZZLES (length nozzles) && list_all (λ n. has_product ps n.product) nozzles
+are_nozzles ps nozzles = is_between 1 NOZZLES (length nozzles) && list_all
+    (λ n. has_product ps n.product) nozzles
 
 -- as many points as may be, each with fit nozzles, none like another
 abbrev pub are_points : List ProductEntry → List PointEntry → Bool
-are_points products ps = is_between 1 POINTS (length ps) && list_all (λ p. are_nozzles products p.nozzles) ps && none_alike same_point ps
+are_points products ps = is_between 1 POINTS (length ps) && list_all
+    (λ p. are_nozzles products p.nozzles) ps && none_alike same_point ps
 
 -- a fit site: rows in range, no manager twice, fit products and fit points
 abbrev pub is_site : Configured → Bool
-is_site c = is_between 1 GREATEST_ROWS c.rows && none_alike nat_eq c.managers && are_products c.products && are_points c.products c.points
+is_site c = is_between 1 GREATEST_ROWS c.rows && none_alike nat_eq c.managers && are_products
+    c.products && are_points c.products c.points

@@ -1,10 +1,16 @@
--- What an event speaks of, who asks for it, and what a reply tells of money and fuel. Each word on events
--- stands here once; sites, mappings, books and shares read it.
+-- What an event speaks of, who asks for it, and what a reply tells of money and fuel. Each word on
+-- events stands here once; sites, mappings, books and shares read it.
 use Rattle.std.specs.Prelude.{ℕ, Bool, true, false, Option, Some, None, Result, Ok}
 use Rattle.site_base.specs.declared.answer.Answer.{Answer}
 use Rattle.site_base.specs.declared.answer.Answer.TheVariants.{Flowed, Sold, Drawn, Cleared}
 use Rattle.site_base.specs.declared.event.Event.{Event}
-use Rattle.site_base.specs.declared.event.Event.TheVariants.{SignOn, SignOff, Open, Close, Assign, Unassign, Release, Prepay, TestRelease, Suspend, Resume, Terminate, ReplaceMeter, ReadPoint, Lock, Unlock, Clear, ReadTransaction, SetPrice, ReadProduct, CloseShift, ReadSite, Online, Offline, Lift, Flow, HangUp}
+use Rattle.site_base.specs.declared.event.Event.TheVariants.{SignOn, SignOff, Open, Close, Assign}
+use Rattle.site_base.specs.declared.event.Event.TheVariants.{Unassign, Release, Prepay, TestRelease}
+use Rattle.site_base.specs.declared.event.Event.TheVariants.{Suspend, Resume, Terminate}
+use Rattle.site_base.specs.declared.event.Event.TheVariants.{ReplaceMeter, ReadPoint, Lock, Unlock}
+use Rattle.site_base.specs.declared.event.Event.TheVariants.{Clear, ReadTransaction, SetPrice}
+use Rattle.site_base.specs.declared.event.Event.TheVariants.{ReadProduct, CloseShift, ReadSite}
+use Rattle.site_base.specs.declared.event.Event.TheVariants.{Online, Offline, Lift, Flow, HangUp}
 use Rattle.site_base.specs.declared.refusal.Refusal.{Refusal}
 use Rattle.site_base.specs.declared.sale.SaleId.{SaleId}
 

@@ -10,9 +10,11 @@ use Rattle.site_base.specs.declared.kept_row.Figures.{Figures}
 use Rattle.site_base.specs.declared.kept_row.KeptReply.{KeptReply}
 use Rattle.site_base.specs.declared.kept_row.KeptReply.TheVariants.{Refused, Done, Calling, Start}
 use Rattle.site_base.specs.declared.kept_row.KeptReply.TheVariants.{Flowed, HungUp, NoSale, Sold}
-use Rattle.site_base.specs.declared.kept_row.KeptReply.TheVariants.{Stopped, Ending, Locked, Unlocked}
+use Rattle.site_base.specs.declared.kept_row.KeptReply.TheVariants.{Stopped, Ending, Locked}
+use Rattle.site_base.specs.declared.kept_row.KeptReply.TheVariants.{Unlocked}
 use Rattle.site_base.specs.declared.kept_row.KeptReply.TheVariants.{Cleared, ShiftClosed, Drawn}
-use Rattle.site_base.specs.declared.kept_row.KeptReply.TheVariants.{PointIs, TransactionIs, ProductIs}
+use Rattle.site_base.specs.declared.kept_row.KeptReply.TheVariants.{PointIs, TransactionIs}
+use Rattle.site_base.specs.declared.kept_row.KeptReply.TheVariants.{ProductIs}
 use Rattle.site_base.specs.declared.kept_row.KeptReply.TheVariants.{SiteIs}
 use Rattle.site_base.specs.declared.kept_row.PointMarks.{PointMarks}
 use Rattle.site_base.specs.declared.kept_row.SaleMarks.{SaleMarks}
@@ -161,7 +163,8 @@ is_within n reply = true
 
 -- What a list of rows always keeps: each row's figures are there, and in both lists there is room
 -- for as many more as it says.
-pub record AreRowsKept (ks : List RowFacts) (fs : List Figures) (room most_rows most_figures : ℕ) : Type 0 where
+pub record AreRowsKept (ks : List RowFacts) (fs : List Figures) (room most_rows most_figures : ℕ) :
+    Type 0 where
   pub within : list_all (λ k. is_within (length fs) k.reply) ks ≡ true
   pub rows : length ks + room ≤ most_rows
   pub figures : length fs + room ≤ most_figures

@@ -1,7 +1,17 @@
 -- The numbers of refusals, and what goes with them.
 use Rattle.std.specs.Prelude.{ℕ, Option, Some, None}
 use Rattle.site_base.specs.declared.refusal.Refusal.{Refusal}
-use Rattle.site_base.specs.declared.refusal.Refusal.TheVariants.{NotSignedOn, SignedOn, NoSuchPoint, NoSuchNozzle, NoSuchProduct, NoSuchTransaction, NotManager, BadPrice, BadPreset, WrongState, AssignedToOther, NotYours, NotYourPoint, WrongNozzle, BufferFull, SequenceSpent, MeterGap, MeterBack, MeterJump, LockedByOther, NotLocked, AlreadyCleared, Ending, ShiftsSpent, MeterSpent}
+use Rattle.site_base.specs.declared.refusal.Refusal.TheVariants.{NotSignedOn, SignedOn, NoSuchPoint}
+use Rattle.site_base.specs.declared.refusal.Refusal.TheVariants.{NoSuchNozzle, NoSuchProduct}
+use Rattle.site_base.specs.declared.refusal.Refusal.TheVariants.{NoSuchTransaction, NotManager}
+use Rattle.site_base.specs.declared.refusal.Refusal.TheVariants.{BadPrice, BadPreset, WrongState}
+use Rattle.site_base.specs.declared.refusal.Refusal.TheVariants.{AssignedToOther, NotYours}
+use Rattle.site_base.specs.declared.refusal.Refusal.TheVariants.{NotYourPoint, WrongNozzle}
+use Rattle.site_base.specs.declared.refusal.Refusal.TheVariants.{BufferFull, SequenceSpent}
+use Rattle.site_base.specs.declared.refusal.Refusal.TheVariants.{MeterGap, MeterBack, MeterJump}
+use Rattle.site_base.specs.declared.refusal.Refusal.TheVariants.{LockedByOther, NotLocked}
+use Rattle.site_base.specs.declared.refusal.Refusal.TheVariants.{AlreadyCleared, Ending}
+use Rattle.site_base.specs.declared.refusal.Refusal.TheVariants.{ShiftsSpent, MeterSpent}
 use Rattle.site_base.specs.declared.refusal.NoRow.{NoRow}
 use Rattle.site_base.specs.declared.refusal.NoRow.TheVariants as rows
 use Rattle.site_base.specs.States.{state_number}

@@ -2,7 +2,8 @@
 
 ghost use Rattle.std.specs.Prelude.{◌≡◌, ◌≤◌, ◌==◌, nat_eq, is_some, true, IfOk, IfSome};
 ghost use Rattle.std.specs.List.{list_any, list_all};
-ghost use Rattle.site_base.specs.Configured.{none_alike, same_product, same_point, are_products, has_product, are_nozzles, are_points, is_site};
+ghost use Rattle.site_base.specs.Configured.{none_alike, same_product, same_point, are_products};
+ghost use Rattle.site_base.specs.Configured.{has_product, are_nozzles, are_points, is_site};
 ghost use Rattle.site_base.specs.Names.{is_name};
 ghost use Rattle.site_base.specs.Ranges.{is_between};
 
@@ -60,9 +61,22 @@ impl Model for SiteConfig {
 
     ghost Value = { Configured };
 
-    ghost view = { λ c. record { rows = c.rows; managers = c.managers.items; products = c.products.items; points = c.points.items } };
+    ghost view = { λ c. record {
+      rows = c.rows;
+      managers = c.managers.items;
+      products =
+          c.products.items;
+      points = c.points.items;
+    } };
 
-    ghost invariant = { λ c. is_site (record { rows = c.rows; managers = c.managers.items; products = c.products.items; points = c.points.items }) ≡ true };
+    ghost invariant = { λ c. is_site
+        (record {
+          rows = c.rows;
+          managers = c.managers.items;
+          products = c.products.items;
+          points =
+              c.points.items;
+        }) ≡ true };
 }
 
 impl SiteConfig {
@@ -76,8 +90,22 @@ impl SiteConfig {
         products: Vec<ProductEntry>,
         points: Vec<PointEntry>,
     ) -> Option<SiteConfig>
-        ensures fit { is_some result ≡ is_site (record { rows = rows; managers = managers.items; products = products.items; points = points.items }) }
-        ensures value { IfSome result (λ c. c ≡ record { rows = rows; managers = managers.items; products = products.items; points = points.items }) }
+        ensures fit { is_some result ≡ is_site
+            (record {
+              rows = rows;
+              managers = managers.items;
+              products = products.items;
+              points =
+                  points.items;
+            }) }
+        ensures value { IfSome result (λ c. c
+            ≡ record {
+              rows = rows;
+              managers = managers.items;
+              products = products.items;
+              points =
+                  points.items;
+            }) }
     {
         let fit = 1 <= rows
             && rows <= GREATEST_ROWS

@@ -63,7 +63,8 @@ impl<R: Read> Read for Counted<R> {
     /// One read of the device. Its error leaves the input as it was.
     fn read(&mut self, buf: &mut [u8]) -> io::Result<usize>
         ensures bound { ReadsAtMost result buf.new }
-        ensures bytes { ReadConsumes (R.remaining (device_of self.old)) (R.remaining (device_of self.new))
+        ensures bytes { ReadConsumes (R.remaining (device_of self.old))
+            (R.remaining (device_of self.new))
             result buf.new }
         ensures ok { OnOk result (failures_of self.new ≡ failures_of self.old) }
         ensures interrupted { IfErr result (λ e. error_kind e ≡ ErrorKind.Interrupted
@@ -89,7 +90,8 @@ impl<W: Write> Write for Counted<W> {
     /// One write to the device. Its error leaves what was written as it was.
     fn write(&mut self, buf: &[u8]) -> io::Result<usize>
         ensures bound { WritesAtMost result buf.now }
-        ensures bytes { WriteAppends (W.contents (device_of self.old)) (W.contents (device_of self.new))
+        ensures bytes { WriteAppends (W.contents (device_of self.old))
+            (W.contents (device_of self.new))
             result buf.now }
         ensures took { IfOk result (λ n. 0 < n → failures_of self.new ≡ failures_of self.old) }
         ensures took_none { IfOk result (λ n. n ≡ 0

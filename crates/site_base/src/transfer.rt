@@ -139,7 +139,8 @@ pub fn write_whole<W: Write>(
 ) -> Result<(), WriteFault>
     ensures ok { OnOk result
         (Appends (W.contents (device_of writer.old)) (W.contents (device_of writer.new)) text.now) }
-    ensures front { AppendsFront (W.contents (device_of writer.old)) (W.contents (device_of writer.new))
+    ensures front { AppendsFront (W.contents (device_of writer.old))
+        (W.contents (device_of writer.new))
         text.now }
 
     // What the count of failed calls does.

@@ -1,5 +1,6 @@
 -- A book with one more row.
-use Rattle.std.proofs.Common.{◌≡◌, ℕ, ◌+◌, ◌≤◌, false, List, [], ◌∷◌, ◌++◌, length, length-append, Option, Some, None, ap, sym, subst, ◌∙◌, arith}
+use Rattle.std.proofs.Common.{◌≡◌, ℕ, ◌+◌, ◌≤◌, false, List, [], ◌∷◌, ◌++◌, length, length-append}
+use Rattle.std.proofs.Common.{Option, Some, None, ap, sym, subst, ◌∙◌, arith}
 use Rattle.std.proofs.lemmas.Bool.{false≢true}
 use Rattle.std.specs.List.{AllByRecursion}
 use Rattle.std.specs.Ordering.{nat_cmp}
@@ -30,7 +31,8 @@ tills_with-most (Some (Off t)) on = omega arith
 tills_with-most None on = omega arith
 
 -- the book's row of a step
-pub IsBook-push : (config : Configured) (rows : List Row) (site new : SiteState) (on room left : ℕ) (r : Row)
+pub IsBook-push : (config : Configured) (rows : List Row) (site new : SiteState) (on room left : ℕ)
+    (r : Row)
     → IsBook config rows site on room → Steps site r.actor r.event new r.reply
     → InRange r.event → IsTillActor r.actor
     → tills_after r on ≤ left
@@ -42,8 +44,10 @@ IsBook-push config rows site new on room left r book steps range actor reserved 
     ap (tills_after r) book.counted
     ∙ sym (counted_row site r steps.replies)
     ∙ ap tills_on (sym steps.leads) in
-    let tills = subst (λ s. AreTills s) (sym steps.leads) (tills_row site r steps.replies actor book.tills) in
-    let most : tills_after r on ≤ TILLS = subst (λ n. n ≤ TILLS) (sym counted) (no_more TILLS new.signed_on tills) in
+    let tills = subst (λ s. AreTills s) (sym steps.leads)
+    (tills_row site r steps.replies actor book.tills) in
+    let most : tills_after r on ≤ TILLS =
+    subst (λ n. n ≤ TILLS) (sym counted) (no_more TILLS new.signed_on tills) in
     record {
       leads =
           steps.leads
@@ -59,7 +63,8 @@ IsBook-push config rows site new on room left r book steps range actor reserved 
       tills = tills;
       counted = counted;
       reserved = reserved;
-      few = subst (λ n. n + tills_after r on ≤ config.rows + TILLS) (sym (length-append rows (r ∷ []))) (few most);
+      few = subst (λ n. n + tills_after r on ≤ config.rows + TILLS)
+          (sym (length-append rows (r ∷ []))) (few most);
     }
 
 -- the book of an opening site

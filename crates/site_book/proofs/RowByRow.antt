@@ -1,5 +1,7 @@
 -- A list of rows, one after another.
-use Rattle.std.proofs.Common.{◌≡◌, ℕ, zero, suc, ◌+◌, ◌<◌, Bool, true, false, List, [], ◌∷◌, ◌++◌, take, drop, length, filter, slice_get, Some, None, sym, ap, ◌∙◌, refl, if◌then◌else◌, arith}
+use Rattle.std.proofs.Common.{◌≡◌, ℕ, zero, suc, ◌+◌, ◌<◌, Bool, true, false, List, [], ◌∷◌, ◌++◌}
+use Rattle.std.proofs.Common.{take, drop, length, filter, slice_get, Some, None, sym, ap, ◌∙◌, refl}
+use Rattle.std.proofs.Common.{if◌then◌else◌, arith}
 use Rattle.std.proofs.lemmas.List.{drop_more, take_more}
 use Rattle.std.proofs.lemmas.Option.{slice_get_within, get_or_from_slice_get}
 use Rattle.site_base.specs.declared.row.Row.{Row}
@@ -17,7 +19,8 @@ site_more first s new rows i r so_far found leads =
     leads
     ∙ ap (λ x. site_after x r.actor r.event) so_far
     ∙ sym (site_of_rows-push first (take i rows) r)
-    ∙ ap (λ x. site_of_rows first (take i rows ++ x ∷ [])) (sym (get_or_from_slice_get rows i r r found))
+    ∙ ap (λ x. site_of_rows first (take i rows ++ x ∷ []))
+    (sym (get_or_from_slice_get rows i r r found))
     ∙ ap (site_of_rows first) (sym (take_more rows i r (slice_get_within rows i r found)))
 
 -- the changes from a place on are that of its row, if it has one, and those behind it
@@ -25,7 +28,8 @@ pub changes_more : (rows : List Row) (at : ℕ) (r : Row) → slice_get rows at 
     → changes_from at rows ≡ filter is_changing (r ∷ []) ++ changes_from (at + 1) rows
 changes_more rows at r found =
     ap (filter is_changing) (drop_more rows at r (slice_get_within rows at r found))
-    ∙ ap (λ x. filter is_changing (x ∷ drop (at + 1) rows)) (get_or_from_slice_get rows at r r found)
+    ∙ ap (λ x. filter is_changing (x ∷ drop (at + 1) rows))
+    (get_or_from_slice_get rows at r r found)
     ∙ by_test (is_changing r)
   where
     by_test : (b : Bool)

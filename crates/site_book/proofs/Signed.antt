@@ -1,5 +1,7 @@
 -- How many tills are signed on, row by row; no more than there may be.
-use Rattle.std.proofs.Common.{◌≡◌, ◌≢◌, ℕ, zero, suc, ◌+◌, ◌-◌, ◌≤◌, ◌==◌, ◌&&◌, not, Bool, true, false, cond, Option, Some, None, unwrap_or, Ok, Err, refl, sym, ap, ◌∙◌, if◌then◌else◌, is_ok, subst, arith}
+use Rattle.std.proofs.Common.{◌≡◌, ◌≢◌, ℕ, zero, suc, ◌+◌, ◌-◌, ◌≤◌, ◌==◌, ◌&&◌, not, Bool, true}
+use Rattle.std.proofs.Common.{false, cond, Option, Some, None, unwrap_or, Ok, Err, refl, sym, ap}
+use Rattle.std.proofs.Common.{◌∙◌, if◌then◌else◌, is_ok, subst, arith}
 use Rattle.std.proofs.lemmas.Bool.{false≢true}
 use Rattle.std.proofs.lemmas.Bool.Decides.{nat_tests}
 use Rattle.std.specs.Ordering.{nat_cmp}
@@ -118,7 +120,8 @@ nobody s members t = by_test (set.contains s t) refl
 pub no_more : (n : ℕ) (s : set.FinSet nat_cmp)
     → ((t : ℕ) → set.contains s t ≡ true → (1 ≤ t) × (t ≤ n)) → set.len s ≤ n
 no_more zero s members =
-    let none : s ≡ set.empty = set.same_set nat_cmp_total set.nat_cmp-IsAntisymmetric s set.empty (λ t. nobody s members t ∙ sym (set.contains-empty nat_cmp t)) in
+    let none : s ≡ set.empty = set.same_set nat_cmp_total set.nat_cmp-IsAntisymmetric s set.empty
+    (λ t. nobody s members t ∙ sym (set.contains-empty nat_cmp t)) in
     let count : set.len s ≡ 0 = ap set.len none ∙ set.len-empty nat_cmp in
     omega (arith, count)
 no_more (suc n) s members =
@@ -155,5 +158,6 @@ one_on s t is = by_count (tills_on s) refl
     by_count : (n : ℕ) → tills_on s ≡ n → 1 ≤ tills_on s
     by_count zero none =
         let nobody : s.signed_on ≡ set.empty = set.empty_of_len s.signed_on none in
-        absurd (false≢true (sym (set.contains-empty nat_cmp t) ∙ ap (λ (x : set.FinSet nat_cmp). set.contains x t) (sym nobody) ∙ is))
+        absurd (false≢true (sym (set.contains-empty nat_cmp t)
+        ∙ ap (λ (x : set.FinSet nat_cmp). set.contains x t) (sym nobody) ∙ is))
     by_count (suc n) some = omega (arith, some)

@@ -1,5 +1,7 @@
 -- The tills' cents add up to those of the rows' Cleared answers.
-use Rattle.std.proofs.Common.{◌≡◌, ◌≢◌, ℕ, zero, suc, ◌+◌, ◌<◌, ◌≤◌, ◌==◌, Bool, true, false, List, [], ◌∷◌, ◌++◌, Option, Some, None, unwrap_or, Result, Ok, Err, refl, sym, ◌∙◌, if◌then◌else◌, arith}
+use Rattle.std.proofs.Common.{◌≡◌, ◌≢◌, ℕ, zero, suc, ◌+◌, ◌<◌, ◌≤◌, ◌==◌, Bool, true, false, List}
+use Rattle.std.proofs.Common.{[], ◌∷◌, ◌++◌, Option, Some, None, unwrap_or, Result, Ok, Err, refl}
+use Rattle.std.proofs.Common.{sym, ◌∙◌, if◌then◌else◌, arith}
 use Rattle.std.proofs.lemmas.Bool.Decides.{nat_tests}
 use Rattle.std.specs.List.{range_with_len}
 use Rattle.site_base.specs.declared.actor.Actor.{Actor}
@@ -7,7 +9,9 @@ use Rattle.site_base.specs.declared.actor.Actor.TheVariants.{Till, Dispenser}
 use Rattle.site_base.specs.declared.answer.Answer.{Answer}
 use Rattle.site_base.specs.declared.answer.Answer.TheVariants.{Cleared}
 use Rattle.site_base.specs.declared.event.Event.{Event}
-use Rattle.site_base.specs.declared.event.Event.TheVariants.{Clear, Terminate, ReadTransaction, ReadProduct, Lift, Flow, Offline, HangUp}
+use Rattle.site_base.specs.declared.event.Event.TheVariants.{Clear, Terminate, ReadTransaction}
+use Rattle.site_base.specs.declared.event.Event.TheVariants.{ReadProduct, Lift, Flow, Offline}
+use Rattle.site_base.specs.declared.event.Event.TheVariants.{HangUp}
 use Rattle.site_base.specs.declared.limits.TheConstants.{TILLS}
 use Rattle.site_base.specs.declared.refusal.Refusal.{Refusal}
 use Rattle.site_base.specs.declared.row.Row.{Row}
@@ -22,7 +26,8 @@ use Rattle.written_site.specs.ShiftLaws.{AreClearsCounted, cents_cleared, cents_
 use Rattle.written_site.specs.SiteChecks.{Passed, flowed}
 use Rattle.written_site.specs.SiteRun.{IsLegal}
 use Rattle.written_site.specs.SiteState.{SiteState, opening, view_sale}
-use Rattle.written_site.specs.SiteStep.{product_told, reply_to, sale_told, site_after, site_answer, step_at}
+use Rattle.written_site.specs.SiteStep.{product_told, reply_to, sale_told, site_after, site_answer}
+use Rattle.written_site.specs.SiteStep.{step_at}
 use Rattle.written_site.proofs.ListSums.{total_map, total_same, total_swapped, total_zero}
 use Rattle.written_site.proofs.RowWords.{of_row}
 use Rattle.written_site.proofs.ToldCents.{told_step}
@@ -44,7 +49,8 @@ none_later u cents from (suc n) below =
   where
     by_test : (b : Bool) → (u == from) ≡ b
         → ◌≡◌ {A = ℕ} (unwrap_or (if b then Some cents else None) 0) 0
-    by_test true is = let same : u ≡ from = grind (arith, nat_tests) in absurd (omega (arith, same, below))
+    by_test true is = let same : u ≡ from =
+        grind (arith, nat_tests) in absurd (omega (arith, same, below))
     by_test false is = refl
 
 one_till : (u cents from n : ℕ) → from ≤ u → u < from + n
@@ -139,7 +145,9 @@ pub cents_of_tills : (c : Configured) (rows : List Row) → IsLegal (opening c) 
 cents_of_tills c rows legal actors counted =
     let s : SiteState = site_at c rows in
     let moments : List Moment = moments_of c rows in
-    total_map (λ (t : ℕ × ℕ × ℕ). t.2) (λ (t : ℕ). (t, clears_by t s.sales, cents_by t s.sales)) tills
-    ∙ total_same (λ (t : ℕ). cents_by t s.sales) (λ (t : ℕ). total (cents_for t) moments) tills counted.all_cents
+    total_map (λ (t : ℕ × ℕ × ℕ). t.2) (λ (t : ℕ). (t, clears_by t s.sales, cents_by t s.sales))
+    tills
+    ∙ total_same (λ (t : ℕ). cents_by t s.sales) (λ (t : ℕ). total (cents_for t) moments) tills
+    counted.all_cents
     ∙ total_swapped cents_for tills moments
     ∙ all_rows [] (opening c) rows legal actors

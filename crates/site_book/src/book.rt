@@ -1,6 +1,7 @@
 //! The book: its rows and its site, and how a row is added.
 
-ghost use Rattle.std.specs.Prelude.{◌≡◌, ◌+◌, ◌<◌, ◌≤◌, [], ◌∷◌, ◌++◌, length, slice_get, true, false, Ok, IfOk, IfSome, OnOk, OnErr, OnSome, IsErrOf, is_some};
+ghost use Rattle.std.specs.Prelude.{◌≡◌, ◌+◌, ◌<◌, ◌≤◌, [], ◌∷◌, ◌++◌, length, slice_get, true};
+ghost use Rattle.std.specs.Prelude.{false, Ok, IfOk, IfSome, OnOk, OnErr, OnSome, IsErrOf, is_some};
 ghost use Rattle.site_base.specs.declared.limits.TheConstants.{GREATEST_ROWS, GROWTH_LIMIT, TILLS};
 ghost use Rattle.site_base.specs.Events.{growth_in_reply};
 ghost use Rattle.site_core.specs.Views.{HasRoom};
@@ -9,7 +10,8 @@ ghost use Rattle.written_site.specs.SiteState.{is_signed_on, opening, view_point
 ghost use Rattle.written_site.specs.SiteStep.{Steps};
 ghost use Rattle.written_site.specs.Sound.{InRange};
 ghost use Rattle.site_book.specs.SignedOn.{IsTillActor};
-ghost use Rattle.site_book.specs.Book.{AreRowsInRange, book_reply, is_full, site_of_book, with_row_of};
+ghost use Rattle.site_book.specs.Book.{AreRowsInRange, book_reply, is_full, site_of_book};
+ghost use Rattle.site_book.specs.Book.{with_row_of};
 
 use crate::tills::tills_with;
 use site_base::{

@@ -1,16 +1,20 @@
 -- The ledger has the figures of the sales, whatever is sold, locked and drawn, and over a close.
-use Rattle.std.proofs.Common.{◌≡◌, ◌≢◌, ℕ, zero, suc, ◌+◌, true, List, [], ◌∷◌, ◌++◌, length, Option, Some, None, unwrap_or, inl, inr, refl, sym, ap, subst, ◌∙◌, arith, Result, Ok, Err, OnOk, OnErr}
+use Rattle.std.proofs.Common.{◌≡◌, ◌≢◌, ℕ, zero, suc, ◌+◌, true, List, [], ◌∷◌, ◌++◌, length}
+use Rattle.std.proofs.Common.{Option, Some, None, unwrap_or, inl, inr, refl, sym, ap, subst, ◌∙◌}
+use Rattle.std.proofs.Common.{arith, Result, Ok, Err, OnOk, OnErr}
 use Rattle.std.proofs.lemmas.Bool.{cases_eq}
 use Rattle.site_base.specs.declared.view.TransactionView.{TransactionView}
 use Rattle.site_base.specs.Numbered.{numbered}
-use Rattle.site_base.proofs.Numbering.{numbered_next, numbered_place, numbered_push_here, numbered_push_other}
+use Rattle.site_base.proofs.Numbering.{numbered_next, numbered_place, numbered_push_here}
+use Rattle.site_base.proofs.Numbering.{numbered_push_other}
 use Rattle.shift_ledger.specs.declared.row.ShiftRow.{ShiftRow}
 use Rattle.shift_ledger.specs.Figures.{empty_figures, product_figure, till_figures, with_draw}
 use Rattle.shift_ledger.specs.Laws.{closes, draws}
 use Rattle.shift_ledger.specs.Shifts.{Shifts, after_close, after_draw, first_shift, open_number}
 use Rattle.shift_ledger.proofs.Counting.{has_every_figure}
 use Rattle.shift_ledger.proofs.Standing.{is_opened_empty}
-use Rattle.transaction_buffer.specs.Sales.{Sales, is_unpaid, new_sale, new_standing, no_sales, with_new}
+use Rattle.transaction_buffer.specs.Sales.{Sales, is_unpaid, new_sale, new_standing, no_sales}
+use Rattle.transaction_buffer.specs.Sales.{with_new}
 use Rattle.written_site.specs.FigureSteps.{HasSameClears}
 use Rattle.written_site.proofs.ClearFigures.{none_by, none_cleared_in, none_in, sale_keeps}
 use Rattle.site_core.specs.Accounts.{AreFigures, no_clears, row_in}

@@ -1,5 +1,6 @@
 -- What is granted, and what a clear does to the figures of the sales.
-use Rattle.std.proofs.Common.{◌≡◌, ℕ, true, Option, Some, None, unwrap_or, option_map, refl, sym, ap, ◌∙◌}
+use Rattle.std.proofs.Common.{◌≡◌, ℕ, true, Option, Some, None, unwrap_or, option_map, refl, sym}
+use Rattle.std.proofs.Common.{ap, ◌∙◌}
 use Rattle.site_base.specs.declared.view.TransactionView.{TransactionView}
 use Rattle.transaction_buffer.specs.declared.request.Request.{Request}
 use Rattle.transaction_buffer.specs.declared.request.Request.TheVariants.{Lock, Unlock, Clear}

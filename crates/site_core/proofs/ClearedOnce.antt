@@ -1,5 +1,7 @@
 -- A clear that is noted in the ledger: the ledger keeps the figures of the sales.
-use Rattle.std.proofs.Common.{◌≡◌, ℕ, ◌+◌, ◌-◌, ◌≤◌, ◌==◌, ◌&&◌, Bool, true, false, cond, List, [], ◌∷◌, ◌++◌, map, length, get_or, Some, unwrap_or, refl, sym, ap, subst, ◌∙◌, arith, ◌^◌, ◌<◌, zero, suc, inl, inr}
+use Rattle.std.proofs.Common.{◌≡◌, ℕ, ◌+◌, ◌-◌, ◌≤◌, ◌==◌, ◌&&◌, Bool, true, false, cond, List, []}
+use Rattle.std.proofs.Common.{◌∷◌, ◌++◌, map, length, get_or, Some, unwrap_or, refl, sym, ap, subst}
+use Rattle.std.proofs.Common.{◌∙◌, arith, ◌^◌, ◌<◌, zero, suc, inl, inr}
 use Rattle.std.proofs.Math.ListN.{set}
 use Rattle.std.specs.List.{list_all}
 use Rattle.std.proofs.lemmas.Bool.{cases_lt}
@@ -7,16 +9,19 @@ use Rattle.std.proofs.lemmas.Bool.Decides.{nat_tests}
 use Rattle.std.proofs.lemmas.Option.{slice_get_past}
 use Rattle.site_base.specs.declared.limits.TheConstants.{PRODUCTS, TILLS}
 use Rattle.site_base.specs.Numbered.{numbered, with_numbered}
-use Rattle.site_base.proofs.Numbering.{length-with_numbered, numbered_place, numbered_with_other, numbered_with_same, numbered_within, with_numbered_place}
+use Rattle.site_base.proofs.Numbering.{length-with_numbered, numbered_place, numbered_with_other}
+use Rattle.site_base.proofs.Numbering.{numbered_with_same, numbered_within, with_numbered_place}
 use Rattle.shift_ledger.specs.declared.row.ShiftRow.{ShiftRow}
-use Rattle.shift_ledger.specs.Figures.{FitsClear, one_clear_more, product_figure, till_figures, with_clear}
+use Rattle.shift_ledger.specs.Figures.{FitsClear, one_clear_more, product_figure, till_figures}
+use Rattle.shift_ledger.specs.Figures.{with_clear}
 use Rattle.shift_ledger.specs.Laws.{IsRow, clears}
 use Rattle.shift_ledger.specs.Shifts.{Shifts, after_clear, open_number}
 use Rattle.shift_ledger.proofs.Counting.{has_every_figure}
 use Rattle.transaction_buffer.specs.Sales.{Sale, Sales}
 use Rattle.written_site.specs.FigureSteps.{HasClear}
 use Rattle.written_site.specs.ShiftFigures.{cents_by, cents_in, cleared_in, clears_by, clears_in}
-use Rattle.site_core.specs.Accounts.{AreDrawn, AreFigures, draws_of, row_in, total_of, with_one_more}
+use Rattle.site_core.specs.Accounts.{AreDrawn, AreFigures, draws_of, row_in, total_of}
+use Rattle.site_core.specs.Accounts.{with_one_more}
 use Rattle.transaction_buffer.specs.Clears.{FitsOneClear}
 use Rattle.written_site.specs.Sound.{is_draw_row}
 use Rattle.written_site.specs.Volumes.{drawn_of}

@@ -1,5 +1,7 @@
 -- A till is a member just where it is marked.
-use Rattle.std.proofs.Common.{◌≡◌, ℕ, suc, ◌+◌, ◌-◌, ◌<◌, ◌==◌, not, ◌&&◌, ◌||◌, nat_eq, nat_lt, Bool, true, false, List, [], ◌∷◌, length, get_or, refl, sym, ap, ◌∙◌, if◌then◌else◌, arith}
+use Rattle.std.proofs.Common.{◌≡◌, ℕ, suc, ◌+◌, ◌-◌, ◌<◌, ◌==◌, not, ◌&&◌, ◌||◌, nat_eq, nat_lt}
+use Rattle.std.proofs.Common.{Bool, true, false, List, [], ◌∷◌, length, get_or, refl, sym, ap, ◌∙◌}
+use Rattle.std.proofs.Common.{if◌then◌else◌, arith}
 use Rattle.std.proofs.Math.ListN.{set}
 use Rattle.std.proofs.lemmas.Bool.Decides.{nat_tests}
 use Rattle.std.proofs.lemmas.Grind.{get_or-set_at}
@@ -7,7 +9,8 @@ use Rattle.std.proofs.lemmas.List.{get_or-set_other}
 use Rattle.std.specs.List.{list_any}
 use Rattle.std.specs.Ordering.{nat_cmp, eq_by_cmp}
 use Rattle.std.specs.Cmp.{nat_cmp_total, unsigned_tied}
-use Rattle.std.specs.FinSet.{contains, insert, remove, same_set, contains-insert, contains-remove, contains-from_list_nat, nat_cmp-IsAntisymmetric}
+use Rattle.std.specs.FinSet.{contains, insert, remove, same_set, contains-insert, contains-remove}
+use Rattle.std.specs.FinSet.{contains-from_list_nat, nat_cmp-IsAntisymmetric}
 use Rattle.site_core.specs.Tills.{marked_from, members}
 
 -- q is marked, where the marks begin with that of n
@@ -50,7 +53,8 @@ mark_more n q b marks = by_tests (nat_lt q n) refl (nat_eq n q) refl
         let place : q - n ≡ suc (q - (n + 1)) = grind (arith, nat_tests) in
         rw (is, is', later, place) (and_no b)
       where
-        and_no : (a : Bool) → ((a && false) || get_or marks (q - (n + 1)) false) ≡ get_or marks (q - (n + 1)) false
+        and_no : (a : Bool) → ((a && false) || get_or marks (q - (n + 1)) false)
+            ≡ get_or marks (q - (n + 1)) false
         and_no true = refl
         and_no false = refl
 
@@ -77,9 +81,11 @@ other_mark : (marks : List Bool) (q t cell : ℕ) (b : Bool) → cell + 1 ≡ t 
     → is_marked 1 q (set marks cell b) ≡ is_marked 1 q marks
 other_mark marks q t cell b is apart = by_test (nat_lt q 1) refl
   where
-    by_test : (none : Bool) → nat_lt q 1 ≡ none → is_marked 1 q (set marks cell b) ≡ is_marked 1 q marks
+    by_test : (none : Bool) → nat_lt q 1 ≡ none
+        → is_marked 1 q (set marks cell b) ≡ is_marked 1 q marks
     by_test true below = rw below refl
-    by_test false below = rw below (get_or-set_other marks cell (q - 1) b false (λ same. other same))
+    by_test false below = rw below
+        (get_or-set_other marks cell (q - 1) b false (λ same. other same))
       where
         other : q - 1 ≡ cell → ⊥
         other same = grind (arith, nat_tests)
@@ -94,14 +100,17 @@ own_mark marks t cell b is within =
 pub marked : (marks : List Bool) (t cell : ℕ) → cell + 1 ≡ t → cell < length marks
     → members (set marks cell true) ≡ insert (members marks) t
 marked marks t cell is within = same_set nat_cmp_total nat_cmp-IsAntisymmetric _ _ (λ q.
-    is_member (set marks cell true) q ∙ by_test q (q == t) refl ∙ sym (contains-insert nat_cmp_total (members marks) t q))
+    is_member (set marks cell true) q ∙ by_test q (q == t) refl
+    ∙ sym (contains-insert nat_cmp_total (members marks) t q))
   where
     by_test : (q : ℕ) (b : Bool) → (q == t) ≡ b
-        → is_marked 1 q (set marks cell true) ≡ (eq_by_cmp nat_cmp q t || contains (members marks) q)
+        → is_marked 1 q (set marks cell true)
+        ≡ (eq_by_cmp nat_cmp q t || contains (members marks) q)
     by_test q true here =
         let same : q ≡ t = grind (arith, nat_tests) in
         let tied : eq_by_cmp nat_cmp q t ≡ true = unsigned_tied q t ∙ here in
-        rw tied (ap (λ (r : ℕ). is_marked 1 r (set marks cell true)) same ∙ own_mark marks t cell true is within)
+        rw tied (ap (λ (r : ℕ). is_marked 1 r (set marks cell true)) same
+        ∙ own_mark marks t cell true is within)
     by_test q false apart =
         let tied : eq_by_cmp nat_cmp q t ≡ false = unsigned_tied q t ∙ apart in
         rw tied (other_mark marks q t cell true is apart ∙ sym (is_member marks q))
@@ -109,14 +118,17 @@ marked marks t cell is within = same_set nat_cmp_total nat_cmp-IsAntisymmetric _
 pub unmarked : (marks : List Bool) (t cell : ℕ) → cell + 1 ≡ t → cell < length marks
     → members (set marks cell false) ≡ remove (members marks) t
 unmarked marks t cell is within = same_set nat_cmp_total nat_cmp-IsAntisymmetric _ _ (λ q.
-    is_member (set marks cell false) q ∙ by_test q (q == t) refl ∙ sym (contains-remove nat_cmp_total (members marks) t q))
+    is_member (set marks cell false) q ∙ by_test q (q == t) refl
+    ∙ sym (contains-remove nat_cmp_total (members marks) t q))
   where
     by_test : (q : ℕ) (b : Bool) → (q == t) ≡ b
-        → is_marked 1 q (set marks cell false) ≡ (not (eq_by_cmp nat_cmp q t) && contains (members marks) q)
+        → is_marked 1 q (set marks cell false)
+        ≡ (not (eq_by_cmp nat_cmp q t) && contains (members marks) q)
     by_test q true here =
         let same : q ≡ t = grind (arith, nat_tests) in
         let tied : eq_by_cmp nat_cmp q t ≡ true = unsigned_tied q t ∙ here in
-        rw tied (ap (λ (r : ℕ). is_marked 1 r (set marks cell false)) same ∙ own_mark marks t cell false is within)
+        rw tied (ap (λ (r : ℕ). is_marked 1 r (set marks cell false)) same
+        ∙ own_mark marks t cell false is within)
     by_test q false apart =
         let tied : eq_by_cmp nat_cmp q t ≡ false = unsigned_tied q t ∙ apart in
         rw tied (other_mark marks q t cell false is apart ∙ sym (is_member marks q))

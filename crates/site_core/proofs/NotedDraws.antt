@@ -1,5 +1,8 @@
 -- A draw, and a close: the shifts' figures and the kept totals of draws tell them alike.
-use Rattle.std.proofs.Common.{◌≡◌, ◌≢◌, ℕ, zero, suc, ◌+◌, ◌-◌, ◌*◌, ◌<◌, ◌≤◌, ◌==◌, Bool, true, false, List, [], ◌∷◌, ◌++◌, map, length, get_or, replicate, Option, inl, inr, unwrap_or, refl, sym, subst, ap, ◌∙◌, arith, Result, Ok, Err, OnOk, OnErr}
+use Rattle.std.proofs.Common.{◌≡◌, ◌≢◌, ℕ, zero, suc, ◌+◌, ◌-◌, ◌*◌, ◌<◌, ◌≤◌, ◌==◌, Bool, true}
+use Rattle.std.proofs.Common.{false, List, [], ◌∷◌, ◌++◌, map, length, get_or, replicate, Option}
+use Rattle.std.proofs.Common.{inl, inr, unwrap_or, refl, sym, subst, ap, ◌∙◌, arith, Result, Ok}
+use Rattle.std.proofs.Common.{Err, OnOk, OnErr}
 use Rattle.std.proofs.Math.ListN.{set}
 use Rattle.std.proofs.lemmas.Bool.{and_from, and_parts, cases_eq}
 use Rattle.std.proofs.lemmas.Bool.Decides.{nat_tests}

@@ -1,5 +1,6 @@
 -- A cell of a table, by the number that it stands for.
-use Rattle.std.proofs.Common.{◌≡◌, ℕ, ◌+◌, ◌-◌, ◌==◌, false, List, get_or, unwrap_or, ap, ◌∙◌, arith}
+use Rattle.std.proofs.Common.{◌≡◌, ℕ, ◌+◌, ◌-◌, ◌==◌, false, List, get_or, unwrap_or, ap, ◌∙◌}
+use Rattle.std.proofs.Common.{arith}
 use Rattle.std.proofs.lemmas.Bool.Decides.{nat_tests}
 use Rattle.std.proofs.lemmas.Option.{unwrap_or-slice_get}
 use Rattle.site_base.specs.Numbered.{numbered}

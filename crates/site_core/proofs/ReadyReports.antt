@@ -1,5 +1,6 @@
 -- A report that has passed its checks is ready.
-use Rattle.std.proofs.Common.{◌≡◌, ℕ, ◌≤◌, ◌==◌, Bool, true, false, List, Some, None, refl, sym, ap, subst, ◌∙◌, arith}
+use Rattle.std.proofs.Common.{◌≡◌, ℕ, ◌≤◌, ◌==◌, Bool, true, false, List, Some, None, refl, sym, ap}
+use Rattle.std.proofs.Common.{subst, ◌∙◌, arith}
 use Rattle.std.proofs.lemmas.Bool.Decides.{nat_tests}
 use Rattle.std.proofs.lemmas.Grind.{common_steps}
 use Rattle.site_base.specs.Checks.{unless}
@@ -19,7 +20,8 @@ use Rattle.meters.specs.Reports.{report_refusal}
 use Rattle.meters.specs.declared.report.Report.{Report}
 use Rattle.meters.specs.declared.report.Report.TheVariants.{Still, Growing}
 use Rattle.written_site.specs.SiteState.{SiteState, facts_of}
-use Rattle.written_site.specs.SiteChecks.{first_refusal, flowed, is_nozzle_there, is_there, numbers, put_back_at}
+use Rattle.written_site.specs.SiteChecks.{first_refusal, flowed, is_nozzle_there, is_there, numbers}
+use Rattle.written_site.specs.SiteChecks.{put_back_at}
 use Rattle.written_site.specs.Sound.{Sound}
 use Rattle.site_core.specs.declared.points.FoundPoint.{FoundPoint}
 use Rattle.site_core.specs.declared.ready.Ready.TheVariants as ready
@@ -96,7 +98,8 @@ grows Still last reading reads = grind (arith, common_steps, nat_tests)
 hang_up_at : (s : SiteState) (d n reading : ℕ) (report : Report) (point : FoundPoint) → Sound s
     → IsFound point s.points → reading ≤ GREATEST_READING
     → report ≡ put_back_at (facts_of s point.number).state
-    → refusal_of (points.HangUp n (flowed s point.number n reading)) (facts_of s point.number) ≡ None
+    → refusal_of (points.HangUp n (flowed s point.number n reading)) (facts_of s point.number)
+    ≡ None
     → is_there s (Some point.number) ≡ None
     → is_nozzle_there s (Some point.number) (Some n) ≡ None
     → unless (point.number == d) NotYourPoint ≡ None
@@ -107,13 +110,17 @@ hang_up_at s d n reading report point sound found top kind takes there nozzle ow
     let p = point.number in
     let growth = flowed s p n reading in
     let names : numbers s (events.HangUp p n reading) ≡ None = rw (there, nozzle) refl in
-    let agrees : report_refusal (put_back_at (facts_of s p).state) (reading_of p n s.nozzles) reading ≡ None =
+    let agrees : report_refusal (put_back_at (facts_of s p).state) (reading_of p n s.nozzles)
+    reading ≡ None =
     sym (ap (λ (r : Report). report_refusal r (reading_of p n s.nozzles) reading) kind) ∙ reads in
-    let rows : List (ℕ × Facts) = with_row p (after (points.HangUp n growth) (facts_of s p)) s.points in
+    let rows : List (ℕ × Facts) = with_row p (after (points.HangUp n growth) (facts_of s p))
+    s.points in
     let before = hang_up_ends s s.points (with_last p n reading s.nozzles) p n reading growth report
-    (step_of (points.HangUp n growth) (facts_of s p)) sound names refl takes kind reads top refl refl in
+    (step_of (points.HangUp n growth) (facts_of s p)) sound names refl takes kind reads top refl
+    refl in
     let over = hang_up_ends s rows (with_last p n reading s.nozzles) p n reading growth report
-    (step_of (points.HangUp n growth) (facts_of s p)) sound names refl takes kind reads top refl refl in
+    (step_of (points.HangUp n growth) (facts_of s p)) sound names refl takes kind reads top refl
+    refl in
     record {
       accepted = rw (there, nozzle, own, takes, agrees) refl;
       leads = rw (over.sales, over.draws) refl;
@@ -141,7 +148,8 @@ pub hang_up_ready : (s : SiteState) (d p n reading growth : ℕ) (report : Repor
     → report ≡ put_back_at (facts_of s point.number).state
     → report_refusal report (reading_of p n s.nozzles) reading ≡ None
     → IsReady s (Dispenser d) (events.HangUp p n reading) (ready.HangUp point n reading growth)
-hang_up_ready s d p n reading growth report point sound there number found nozzle own is top takes kind reads =
+hang_up_ready s d p n reading growth report point sound there number found nozzle own is top takes
+    kind reads =
     subst (λ q. is_there s (Some q) ≡ None → is_nozzle_there s (Some q) (Some n) ≡ None
     → unless (q == d) NotYourPoint ≡ None
     → report_refusal report (reading_of q n s.nozzles) reading ≡ None
@@ -149,7 +157,8 @@ hang_up_ready s d p n reading growth report point sound there number found nozzl
     → IsReady s (Dispenser d) (events.HangUp q n reading) (ready.HangUp point n reading growth))
     number
     (λ a b e r g. subst (λ k. refusal_of (points.HangUp n k) (facts_of s point.number) ≡ None
-    → IsReady s (Dispenser d) (events.HangUp point.number n reading) (ready.HangUp point n reading k))
+    → IsReady s (Dispenser d) (events.HangUp point.number n reading)
+    (ready.HangUp point n reading k))
     (sym g) (λ t. hang_up_at s d n reading report point sound found top kind t a b e r) takes)
     there nozzle own reads is
 
@@ -163,7 +172,8 @@ offline_at : (s : SiteState) (d : ℕ) (point : FoundPoint) → Sound s → IsFo
 offline_at s d point sound found takes there own =
     let p = point.number in
     let names : numbers s (events.Offline p) ≡ None = rw there refl in
-    let over = offline_ends s s.points p (step_of points.Offline (facts_of s p)) sound names takes refl in
+    let over = offline_ends s s.points p (step_of points.Offline (facts_of s p)) sound names takes
+    refl in
     record {
       accepted = rw (there, own, takes) refl;
       leads = rw (over.sales, over.draws) refl;

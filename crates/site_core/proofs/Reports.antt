@@ -1,5 +1,7 @@
 -- What a sound site gives to a report: what flows fits, and what it ends has its place.
-use Rattle.std.proofs.Common.{◌≡◌, ℕ, ◌+◌, ◌-◌, ◌*◌, ◌<◌, ◌≤◌, ◌==◌, nat_lt, Bool, true, false, List, Option, Some, None, Ok, is_some, unwrap_or, refl, sym, ap, subst, ◌∙◌, arith}
+use Rattle.std.proofs.Common.{◌≡◌, ℕ, ◌+◌, ◌-◌, ◌*◌, ◌<◌, ◌≤◌, ◌==◌, nat_lt, Bool, true, false}
+use Rattle.std.proofs.Common.{List, Option, Some, None, Ok, is_some, unwrap_or, refl, sym, ap}
+use Rattle.std.proofs.Common.{subst, ◌∙◌, arith}
 use Rattle.std.proofs.lemmas.Bool.Decides.{nat_tests}
 use Rattle.std.proofs.lemmas.Grind.{common_steps}
 use Rattle.std.specs.FinMap.{FinMap}
@@ -31,8 +33,10 @@ use Rattle.transaction_buffer.proofs.Summing.{alike_sum}
 use Rattle.transaction_buffer.proofs.Volumes.{add_up}
 use Rattle.site_base.specs.declared.state.Status.TheVariants as statuses
 use Rattle.written_site.specs.SiteState.{SiteState, facts_of, has_point}
-use Rattle.written_site.specs.SiteChecks.{own_event, numbers, flowed, put_back_at, may_ask, first_refusal}
-use Rattle.written_site.specs.SiteStep.{Steps, sales_by, draws_by, nozzles_after, step_told, holds_unless_over}
+use Rattle.written_site.specs.SiteChecks.{own_event, numbers, flowed, put_back_at, may_ask}
+use Rattle.written_site.specs.SiteChecks.{first_refusal}
+use Rattle.written_site.specs.SiteStep.{Steps, sales_by, draws_by, nozzles_after, step_told}
+use Rattle.written_site.specs.SiteStep.{holds_unless_over}
 use Rattle.written_site.specs.SoundSteps.{IsTaken}
 use Rattle.written_site.specs.Sound.{Sound, IsPointSound, MaySell}
 use Rattle.written_site.specs.Volumes.{nozzle_out, running, running_at, sold_by, drawn_of}
@@ -82,7 +86,8 @@ alone q x = by_test (x.product == q) refl
     by_test false is = rw is (omega arith)
 
 -- the volume of the sales of a product
-pub sold_alone : (q : ℕ) (s : SiteState) → sold_by (product_alone q) s.sales ≡ sums.volume_of q s.sales
+pub sold_alone : (q : ℕ) (s : SiteState)
+    → sold_by (product_alone q) s.sales ≡ sums.volume_of q s.sales
 sold_alone q s = alike_sum _ _ (alone q) s.sales
 
 -- what the meters have counted of a product is in fuellings, in sales and in draws
@@ -92,7 +97,8 @@ conserved_of s q sound =
     sound.conserved (product_alone q)
     ∙ ap (λ (v : ℕ). running s q + v + drawn_of q s.drawn) (sold_alone q s)
 
--- what is in fuellings under way is what the meters have counted of a product and no sale or draw has
+-- what is in fuellings under way is what the meters have counted of a product and no sale or draw
+-- has
 pub record IsRest (metered running payable locked cleared adjusted : ℕ) : Type 0 where
   pub whole : metered ≡ running + (payable + locked + cleared) + adjusted
   pub rest : metered - payable - locked - cleared - adjusted ≡ running
@@ -130,18 +136,20 @@ drawn_bound s q sound =
 -- ---- the end of a fuelling
 
 -- these nozzles read what they read in s, but for what flowed in the event at point p
-pub record HasFlowed (s : SiteState) (nozzles : List Nozzle) (p : ℕ) (event : PointEvent) : Type 0 where
-  pub products : (m : ℕ) → product_of p m nozzles ≡ product_of p m s.nozzles
-  pub reads : is_under_way (facts_of s p).state ≡ true
-      → reading_of p (nozzle_out (facts_of s p)) nozzles
-      ≡ reading_of p (nozzle_out (facts_of s p)) s.nozzles + growth_of event
-  pub fits : volume_of (facts_of s p) + growth_of event ≤ GREATEST_READING
+pub record HasFlowed (s : SiteState) (nozzles : List Nozzle) (p : ℕ) (event : PointEvent) : Type 0
+  where
+    pub products : (m : ℕ) → product_of p m nozzles ≡ product_of p m s.nozzles
+    pub reads : is_under_way (facts_of s p).state ≡ true
+        → reading_of p (nozzle_out (facts_of s p)) nozzles
+        ≡ reading_of p (nozzle_out (facts_of s p)) s.nozzles + growth_of event
+    pub fits : volume_of (facts_of s p) + growth_of event ≤ GREATEST_READING
 
 -- what a step of point p ends has its place, and is what the site's rules make of it
-pub record Ended (s mid : SiteState) (nozzles : List Nozzle) (p : ℕ) (step : PointStep) : Type 0 where
-  pub place : MayEnd mid p step
-  pub sales : sales_with mid p step ≡ sales_by s nozzles p step
-  pub draws : draws_with mid p step ≡ draws_by s nozzles p step
+pub record Ended (s mid : SiteState) (nozzles : List Nozzle) (p : ℕ) (step : PointStep) : Type 0
+  where
+    pub place : MayEnd mid p step
+    pub sales : sales_with mid p step ≡ sales_by s nozzles p step
+    pub draws : draws_with mid p step ≡ draws_by s nozzles p step
 
 -- the nozzle that is out where a fuelling is under way
 out_there : (f : Facts) → IsWhole f → is_under_way f.state ≡ true → f.out ≡ Some (nozzle_out f)
@@ -169,7 +177,8 @@ volume_is : (s : SiteState) (nozzles : List Nozzle) (p : ℕ) (event : PointEven
     → volume ≡ running_at nozzles p (facts_of s p)
 volume_is s nozzles p event volume point flowed under_way is =
     let f = facts_of s p in
-    let start : f.start + f.volume ≡ reading_of p (nozzle_out f) s.nozzles = point.flowed under_way in
+    let start : f.start + f.volume ≡ reading_of p (nozzle_out f) s.nozzles =
+    point.flowed under_way in
     let read : reading_of p (nozzle_out f) nozzles
     ≡ reading_of p (nozzle_out f) s.nozzles + growth_of event = flowed.reads under_way in
     let whole : volume ≡ reading_of p (nozzle_out f) nozzles - f.start = omega arith in
@@ -207,10 +216,12 @@ has_place s mid nozzles p event q volume sound point flowed under_way sale is sa
       fits = omega (arith, within, most);
     })
 
-pub ended : (s : SiteState) (rows : List (ℕ × Facts)) (nozzles : List Nozzle) (p : ℕ) (event : PointEvent)
+pub ended : (s : SiteState) (rows : List (ℕ × Facts)) (nozzles : List Nozzle) (p : ℕ)
+    (event : PointEvent)
     → Sound s → has_point s p ≡ true → refusal_of event (facts_of s p) ≡ None
     → HasFlowed s nozzles p event
-    → Ended s (record s { points = rows; nozzles = nozzles }) nozzles p (step_of event (facts_of s p))
+    → Ended s (record s { points = rows; nozzles = nozzles }) nozzles p
+    (step_of event (facts_of s p))
 ended s rows nozzles p event sound there taken flowed = by_step (step_of event (facts_of s p)) refl
   where
     point : IsPointSound s p (facts_of s p)
@@ -219,12 +230,14 @@ ended s rows nozzles p event sound there taken flowed = by_step (step_of event (
     by_step : (step : PointStep) → step_of event (facts_of s p) ≡ step
         → Ended s (record s { points = rows; nozzles = nozzles }) nozzles p step
     by_step (Sold nozzle volume price prepaid) is =
-        let from = sold_from event (facts_of s p) nozzle volume price prepaid point.whole taken is in
+        let from = sold_from event (facts_of s p) nozzle volume price prepaid point.whole taken
+        is in
         let its = volume_is s nozzles p event volume point flowed from.was from.its_volume in
         record {
           place = (
             rw from.its_nozzle (product_there s nozzles p event point flowed from.was),
-            has_place s (record s { points = rows; nozzles = nozzles }) nozzles p event _ volume sound point flowed
+            has_place s (record s { points = rows; nozzles = nozzles }) nozzles p event _ volume
+                sound point flowed
                 from.was from.sale from.its_volume refl refl,
           );
           sales = rw (from.its_nozzle, from.its_price, from.its_prepaid, its) refl;
@@ -314,15 +327,18 @@ pub hang_up_ends : (s : SiteState) (rows : List (ℕ × Facts)) (nozzles : List 
     → nozzles ≡ with_last p n reading s.nozzles
     → step ≡ step_of (points.HangUp n growth) (facts_of s p)
     → Ended s (record s { points = rows; nozzles = nozzles }) nozzles p step
-hang_up_ends s rows nozzles p n reading growth report step sound names is takes asks reads top moved told =
+hang_up_ends s rows nozzles p n reading growth report step sound names is takes asks reads top moved
+    told =
     let fit = hang_up_fits s p n reading growth report sound names is takes reads top in
     let same : refusal_of (points.HangUp n (flowed s p n reading)) (facts_of s p) ≡ None =
     sym (ap (λ (g : ℕ). refusal_of (points.HangUp n g) (facts_of s p)) is) ∙ takes in
-    let agrees : report_refusal (put_back_at (facts_of s p).state) (reading_of p n s.nozzles) reading ≡ None =
+    let agrees : report_refusal (put_back_at (facts_of s p).state) (reading_of p n s.nozzles)
+    reading ≡ None =
     sym (ap (λ (r : Report). report_refusal r (reading_of p n s.nozzles) reading) asks) ∙ reads in
     let fit' : volume_of (facts_of s p) + flowed s p n reading ≤ GREATEST_READING =
     subst (λ (g : ℕ). volume_of (facts_of s p) + g ≤ GREATEST_READING) is fit in
-    rw (moved, told, is) (report_ended s rows (HangUp p n reading) p (points.HangUp n (flowed s p n reading)) sound
+    rw (moved, told, is) (report_ended s rows (HangUp p n reading) p
+    (points.HangUp n (flowed s p n reading)) sound
     (record { names = names; takes = same; reads = agrees; range = top }) refl
     (hung_up_there s p n reading names) same fit')
 
@@ -349,12 +365,15 @@ offline_ends s rows p step sound names takes told =
 -- ---- the written step of a hang up
 
 -- a step is told alike wherever the point's sales are the same
-told_alike : (s : SiteState) (rows : List (ℕ × Facts)) (nozzles : List Nozzle) (p growth : ℕ) (step : PointStep)
-    → step_told (record s { points = rows; nozzles = nozzles }) p growth step ≡ step_told s p growth step
+told_alike : (s : SiteState) (rows : List (ℕ × Facts)) (nozzles : List Nozzle) (p growth : ℕ)
+    (step : PointStep)
+    → step_told (record s { points = rows; nozzles = nozzles }) p growth step
+    ≡ step_told s p growth step
 told_alike s rows nozzles p growth (Sold nozzle volume price prepaid) = refl
 told_alike s rows nozzles p growth step = refl
 
-pub hang_up_steps : (s new : SiteState) (rows : List (ℕ × Facts)) (nozzles : List Nozzle) (holds : FinMap nat_cmp ℕ)
+pub hang_up_steps : (s new : SiteState) (rows : List (ℕ × Facts)) (nozzles : List Nozzle)
+    (holds : FinMap nat_cmp ℕ)
     (d p n reading growth : ℕ) (report : Report) (step : PointStep) (answer : Answer)
     → Ended s (record s { points = rows; nozzles = nozzles }) nozzles p step
     → may_ask s (Dispenser d) (HangUp p n reading) ≡ None → growth ≡ flowed s p n reading
@@ -373,12 +392,15 @@ pub hang_up_steps : (s new : SiteState) (rows : List (ℕ × Facts)) (nozzles : 
     → holds ≡ holds_unless_over p step s.holds
     → answer ≡ step_told (record s { points = rows; nozzles = nozzles }) p growth step
     → Steps s (Dispenser d) (HangUp p n reading) (record new { holds = holds }) (Ok answer)
-hang_up_steps s new rows nozzles holds d p n reading growth report step answer over asks is takes kind reads moved read stepped led held told =
+hang_up_steps s new rows nozzles holds d p n reading growth report step answer over asks is takes
+    kind reads moved read stepped led held told =
     let same : refusal_of (points.HangUp n (flowed s p n reading)) (facts_of s p) ≡ None =
     sym (ap (λ (g : ℕ). refusal_of (points.HangUp n g) (facts_of s p)) is) ∙ takes in
-    let agrees : report_refusal (put_back_at (facts_of s p).state) (reading_of p n s.nozzles) reading ≡ None =
+    let agrees : report_refusal (put_back_at (facts_of s p).state) (reading_of p n s.nozzles)
+    reading ≡ None =
     sym (ap (λ (r : Report). report_refusal r (reading_of p n s.nozzles) reading) kind) ∙ reads in
-    let accepted : first_refusal s (Dispenser d) (HangUp p n reading) ≡ None = rw (asks, same, agrees) refl in
+    let accepted : first_refusal s (Dispenser d) (HangUp p n reading) ≡ None =
+    rw (asks, same, agrees) refl in
     record {
       replies = rw (accepted, told, told_alike s rows nozzles p growth step, stepped, is) refl;
       leads = rw (accepted, led, held, over.sales, over.draws, moved, read, stepped, is) refl;

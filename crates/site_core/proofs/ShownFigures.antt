@@ -1,5 +1,7 @@
 -- What a look-up of a shift shows, by the sales and the draws.
-use Rattle.std.proofs.Common.{◌≡◌, ℕ, zero, suc, ◌+◌, ◌-◌, ◌≤◌, List, [], ◌∷◌, ◌++◌, map, length, Option, Some, None, option_map, unwrap_or, refl, sym, ap, subst, ◌∙◌, arith}
+use Rattle.std.proofs.Common.{◌≡◌, ℕ, zero, suc, ◌+◌, ◌-◌, ◌≤◌, List, [], ◌∷◌, ◌++◌, map, length}
+use Rattle.std.proofs.Common.{Option, Some, None, option_map, unwrap_or, refl, sym, ap, subst, ◌∙◌}
+use Rattle.std.proofs.Common.{arith}
 use Rattle.std.specs.List.{All, fold, range_with_len, slice_get, sum_by}
 use Rattle.std.proofs.lemmas.List.{ext_get_or}
 use Rattle.std.proofs.lemmas.List.Elements.{All-append}
@@ -14,7 +16,8 @@ use Rattle.shift_ledger.specs.Laws.{HaveRows, IsRow}
 use Rattle.shift_ledger.specs.Shifts.{Shifts, figures_of}
 use Rattle.transaction_buffer.specs.Sales.{Sales}
 use Rattle.written_site.specs.ShiftFigures.{cleared_in, takings_in, tills}
-use Rattle.site_core.specs.Accounts.{AreFigures, draws_of, figures_in, products, row_in, shift_row, takings_of}
+use Rattle.site_core.specs.Accounts.{AreFigures, draws_of, figures_in, products, row_in, shift_row}
+use Rattle.site_core.specs.Accounts.{takings_of}
 use Rattle.site_core.proofs.NumberedCells.{member_at}
 
 -- ---- a row has every figure

@@ -5,7 +5,8 @@ use Rattle.site_base.specs.Amounts.{amount}
 use Rattle.fuelling_point.specs.declared.step.PointStep.{PointStep}
 use Rattle.fuelling_point.specs.declared.step.PointStep.TheVariants.{Sold, Drawn}
 use Rattle.meters.specs.Nozzles.{product_of}
-use Rattle.transaction_buffer.specs.Sales.{Sale, Sales, HasNoneLater, new_standing, next_number, unpaid_at, with_new}
+use Rattle.transaction_buffer.specs.Sales.{Sale, Sales, HasNoneLater, new_standing, next_number}
+use Rattle.transaction_buffer.specs.Sales.{unpaid_at, with_new}
 use Rattle.transaction_buffer.specs.Sums.{volume_of}
 use Rattle.written_site.specs.SiteState.{SiteState, open_shift}
 use Rattle.written_site.specs.SiteStep.{draw_noted, first_locker}
@@ -15,7 +16,8 @@ use Rattle.written_site.specs.Volumes.{drawn_of}
 abbrev pub product_by : SiteState → ℕ → ℕ → ℕ
 product_by s p n = unwrap_or (product_of p n s.nozzles) 0
 
--- the sale of a fuelling of point p by this nozzle, of which the point tells volume, price and prepaid cents
+-- the sale of a fuelling of point p by this nozzle, of which the point tells volume, price and
+-- prepaid cents
 abbrev pub sale_told : SiteState → ℕ → ℕ → ℕ → ℕ → Option ℕ → Sale
 sale_told s p nozzle volume price prepaid = record {
   shift = open_shift s;
@@ -29,7 +31,8 @@ sale_told s p nozzle volume price prepaid = record {
 
 -- the sales with that of this step of point p, if it is one
 abbrev pub sales_with : SiteState → ℕ → PointStep → Sales
-sales_with s p (Sold nozzle volume price prepaid) = with_new p (sale_told s p nozzle volume price prepaid) s.sales
+sales_with s p (Sold nozzle volume price prepaid) =
+    with_new p (sale_told s p nozzle volume price prepaid) s.sales
 sales_with s p step = s.sales
 
 -- the draws with that of this step of point p, if it is one

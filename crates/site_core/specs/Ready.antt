@@ -1,6 +1,7 @@
 -- An event that has passed its checks: what it is answered with, the site that it leads to, and
 -- when it may be performed.
-use Rattle.std.specs.Prelude.{◌≡◌, ℕ, ◌-◌, ◌<◌, ◌==◌, true, false, Option, Some, None, Result, Ok, MatchResult}
+use Rattle.std.specs.Prelude.{◌≡◌, ℕ, ◌-◌, ◌<◌, ◌==◌, true, false, Option, Some, None, Result, Ok}
+use Rattle.std.specs.Prelude.{MatchResult}
 use Rattle.std.specs.FinMap as finite
 use Rattle.std.specs.FinSet as set
 use Rattle.site_base.specs.declared.actor.Actor.{Actor}
@@ -24,7 +25,10 @@ use Rattle.written_site.specs.SiteState.{SiteState, holder_of, open_shift}
 use Rattle.written_site.specs.SiteChecks.{first_refusal}
 use Rattle.written_site.specs.SiteStep.{accepted_site, holds_unless_over, site_answer, step_told}
 use Rattle.site_core.specs.declared.ready.Ready.{Ready}
-use Rattle.site_core.specs.declared.ready.Ready.TheVariants.{Tell, SignOn, SignOff, Command, Take, GiveBack, Terminate, Lift, Flow, HangUp, Offline, ReplaceMeter, Ask, SetPrice, CloseShift}
+use Rattle.site_core.specs.declared.ready.Ready.TheVariants.{Tell, SignOn, SignOff, Command, Take}
+use Rattle.site_core.specs.declared.ready.Ready.TheVariants.{GiveBack, Terminate, Lift, Flow}
+use Rattle.site_core.specs.declared.ready.Ready.TheVariants.{HangUp, Offline, ReplaceMeter, Ask}
+use Rattle.site_core.specs.declared.ready.Ready.TheVariants.{SetPrice, CloseShift}
 use Rattle.site_core.specs.Accounts.{FitsGrant}
 use Rattle.site_core.specs.Endings.{MayEnd, draws_with, sales_with}
 use Rattle.site_core.specs.Performance.{MayPerform, done_at, step_at}
@@ -108,7 +112,8 @@ CanPerform s (HangUp point n reading growth) =
     MayPerform s point (points.HangUp n growth)
     × (has_nozzle point.number n s.nozzles ≡ true)
     × (report_refusal Growing (reading_of point.number n s.nozzles) reading ≡ None)
-    × MayEnd (read_at s point.number n reading) point.number (step_at s point (points.HangUp n growth))
+    × MayEnd (read_at s point.number n reading) point.number
+    (step_at s point (points.HangUp n growth))
 CanPerform s (Offline point) =
     MayPerform s point points.Offline × MayEnd s point.number (step_at s point points.Offline)
 CanPerform s (ReplaceMeter point n reading) =

@@ -8,7 +8,8 @@ use Rattle.site_base.specs.declared.refusal.Refusal.{Refusal}
 use Rattle.transaction_buffer.specs.Rooms.{one_taken, room_at}
 use Rattle.written_site.specs.SiteState.{SiteState}
 
--- how many more sales of each point, from 1 on, there is room for, and how many more shifts to close
+-- how many more sales of each point, from 1 on, there is room for, and how many more shifts to
+-- close
 pub record Room : Type 0 where
   pub sales : List ℕ
   pub closes : ℕ
@@ -18,8 +19,8 @@ pub record Seen : Type 0 where
   pub site : SiteState
   pub room : Room
 
--- there is room for what the event adds: the sale of a fuelling that it ends, or the figures of the shift
--- that it closes
+-- there is room for what the event adds: the sale of a fuelling that it ends, or the figures of the
+-- shift that it closes
 abbrev pub HasRoom : Room → Event → Type 0
 HasRoom room CloseShift = 0 < room.closes
 HasRoom room (Offline p) = 0 < room_at p room.sales

@@ -1,14 +1,18 @@
 //! The sales of a site, with the figures of its shifts.
 
-ghost use Rattle.std.specs.Prelude.{◌≡◌, ℕ, ◌+◌, ◌-◌, ◌^◌, ◌<◌, ◌≤◌, ◌==◌, [], ◌∷◌, ◌++◌, None, Some, true, false, is_some, length, sum_by, OnOk, OnErr, IfErr, IfSome};
+ghost use Rattle.std.specs.Prelude.{◌≡◌, ℕ, ◌+◌, ◌-◌, ◌^◌, ◌<◌, ◌≤◌, ◌==◌, [], ◌∷◌, ◌++◌, None};
+ghost use Rattle.std.specs.Prelude.{Some, true, false, is_some, length, sum_by, OnOk, OnErr, IfErr};
+ghost use Rattle.std.specs.Prelude.{IfSome};
 ghost use Rattle.site_base.specs.declared.limits.TheConstants.{GREATEST_SHIFT, UNPAID_LIMIT};
 ghost use Rattle.site_base.specs.Numbered.{numbered};
 ghost use Rattle.transaction_buffer.specs.Figures.{figure_of};
 ghost use Rattle.transaction_buffer.specs.FoundSales.{IsPlaced, key_of};
 ghost use Rattle.transaction_buffer.specs.Rooms.{one_taken, room_at};
-ghost use Rattle.transaction_buffer.specs.Sales.{HasNoneLater, has_sale, is_new, key, new_sale, next_number, no_sales, shown, unpaid_at, with_new};
+ghost use Rattle.transaction_buffer.specs.Sales.{HasNoneLater, has_sale, is_new, key, new_sale};
+ghost use Rattle.transaction_buffer.specs.Sales.{next_number, no_sales, shown, unpaid_at, with_new};
 ghost use Rattle.transaction_buffer.specs.Sums.{volume_by, volume_of};
-ghost use Rattle.transaction_buffer.specs.TransactionTable.{after_request, after_sign_off, answer_of, refusal_of};
+ghost use Rattle.transaction_buffer.specs.TransactionTable.{after_request, after_sign_off};
+ghost use Rattle.transaction_buffer.specs.TransactionTable.{answer_of, refusal_of};
 ghost use Rattle.written_site.specs.SiteState.{nothing_drawn};
 ghost use Rattle.written_site.specs.SiteStep.{draw_noted};
 ghost use Rattle.written_site.specs.ShiftFigures.{cents_by, clears_by, takings_in};

@@ -1,16 +1,24 @@
 //! The site's checks, each by what it checks. An event's own functions ask those that it needs, in
 //! the order of the rules.
 
-ghost use Rattle.std.specs.Prelude.{◌≡◌, true, false, not, is_some, nat_lt, ◌==◌, None, Some, IfOk, OnOk};
-ghost use Rattle.site_base.specs.declared.limits.TheConstants.{GREATEST_PRICE, GREATEST_SHIFT, REPLACEMENT_LIMIT};
-ghost use Rattle.site_base.specs.declared.refusal.Refusal.TheVariants.{BadPreset, BadPrice, MeterSpent, NotManager, NotSignedOn, NotYours, NotYourPoint, ShiftsSpent};
+ghost use Rattle.std.specs.Prelude.{◌≡◌, true, false, not, is_some, nat_lt, ◌==◌, None, Some, IfOk};
+ghost use Rattle.std.specs.Prelude.{OnOk};
+ghost use Rattle.site_base.specs.declared.limits.TheConstants.{GREATEST_PRICE, GREATEST_SHIFT};
+ghost use Rattle.site_base.specs.declared.limits.TheConstants.{REPLACEMENT_LIMIT};
+ghost use Rattle.site_base.specs.declared.refusal.Refusal.TheVariants.{BadPreset, BadPrice};
+ghost use Rattle.site_base.specs.declared.refusal.Refusal.TheVariants.{MeterSpent, NotManager};
+ghost use Rattle.site_base.specs.declared.refusal.Refusal.TheVariants.{NotSignedOn, NotYours};
+ghost use Rattle.site_base.specs.declared.refusal.Refusal.TheVariants.{NotYourPoint, ShiftsSpent};
 ghost use Rattle.site_base.specs.Checks.{unless};
 ghost use Rattle.site_base.specs.Ranges.{is_between};
 ghost use Rattle.site_base.specs.Table.{row_of};
 ghost use Rattle.meters.specs.Nozzles.{times_replaced};
 ghost use Rattle.transaction_buffer.specs.FoundSales.{IsPlaced, key_of};
-ghost use Rattle.written_site.specs.SiteState.{holder_of, is_manager, is_signed_on, key_named, open_shift};
-ghost use Rattle.written_site.specs.SiteChecks.{free_for, is_nozzle_there, is_preset, is_product_there, is_sale_there, is_there, may_sell, numbers};
+ghost use Rattle.written_site.specs.SiteState.{holder_of, is_manager, is_signed_on, key_named};
+ghost use Rattle.written_site.specs.SiteState.{open_shift};
+ghost use Rattle.written_site.specs.SiteChecks.{free_for, is_nozzle_there, is_preset};
+ghost use Rattle.written_site.specs.SiteChecks.{is_product_there, is_sale_there, is_there};
+ghost use Rattle.written_site.specs.SiteChecks.{may_sell, numbers};
 ghost use Rattle.site_core.specs.FoundPoints.{IsFound};
 ghost use Rattle.site_core.specs.Ready.{Passes};
 ghost use Rattle.site_core.specs.SiteParts.{site_of};
@@ -138,7 +146,8 @@ impl SiteParts {
 
     /// The meter of a nozzle may be replaced once more.
     pub(crate) fn check_replaceable(&self, p: FpNo, n: NozzleNo) -> Result<(), Refusal>
-        ensures { Passes (unless (nat_lt (times_replaced p n (site_of self.now).nozzles) REPLACEMENT_LIMIT) MeterSpent) result }
+        ensures { Passes (unless (nat_lt (times_replaced p n (site_of self.now).nozzles)
+            REPLACEMENT_LIMIT) MeterSpent) result }
     {
         let spent = match self.meters.replacements(p, n) {
             Some(replaced) => replaced >= REPLACEMENT_LIMIT,
@@ -149,7 +158,8 @@ impl SiteParts {
 
     /// The open shift isn't the last one that may be.
     pub(crate) fn check_not_last(&self) -> Result<(), Refusal>
-        ensures { Passes (unless (not (open_shift (site_of self.now) == GREATEST_SHIFT)) ShiftsSpent) result }
+        ensures { Passes (unless (not (open_shift (site_of self.now) == GREATEST_SHIFT))
+            ShiftsSpent) result }
     {
         unless(
             self.open_shift().get() != GREATEST_SHIFT,

@@ -10,8 +10,8 @@ ghost use Rattle.site_core.specs.Views.{room_sold};
 ghost use Rattle.site_core.specs.SiteParts.{room_of, site_of};
 ghost use Rattle.meters.specs.Nozzles.{product_of};
 
-use crate::site_parts::SiteParts;
 use crate::answers::answer_to;
+use crate::site_parts::SiteParts;
 use fuelling_point::PointStep;
 use site_base::{
     Answer, FpNo, Millilitres, Mills, NozzleNo, ProductNo, Seq, Status, TillNo, TransactionView,

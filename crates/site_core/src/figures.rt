@@ -3,7 +3,8 @@
 ghost use Rattle.std.specs.Prelude.{◌≡◌, is_some, IfSome};
 ghost use Rattle.transaction_buffer.specs.FoundSales.{IsPlaced, key_of};
 ghost use Rattle.transaction_buffer.specs.Sales.{has_sale};
-ghost use Rattle.written_site.specs.SiteState.{key_named, open_shift, view_point, price_of, view_sale};
+ghost use Rattle.written_site.specs.SiteState.{key_named, open_shift, view_point, price_of};
+ghost use Rattle.written_site.specs.SiteState.{view_sale};
 ghost use Rattle.written_site.specs.Sound.{Sound};
 ghost use Rattle.written_site.specs.Volumes.{product_view};
 ghost use Rattle.site_core.specs.SiteParts.{site_of};

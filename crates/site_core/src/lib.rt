@@ -4,24 +4,24 @@
 #![tactic(auto)]
 
 mod accounts;
+mod answers;
 mod check;
 mod check_commands;
 mod check_payments;
 mod check_reports;
 mod check_site;
 mod checks;
-mod recount;
 mod endings;
 mod figures;
 mod perform;
 mod points;
 mod ranges;
 mod ready;
+mod recount;
+mod releases;
 mod runs;
 mod site;
 mod site_parts;
-mod releases;
-mod answers;
 mod tills;
 mod totals;
 

@@ -9,11 +9,11 @@ ghost use Rattle.written_site.specs.SiteStep.{accepted_site, ends_at_sign_off, h
 ghost use Rattle.site_core.specs.Ready.{Does, MayDo};
 ghost use Rattle.site_core.specs.SiteParts.{room_of, site_of};
 
+use crate::answers::answer_to;
 use crate::endings::give_back;
 use crate::points::{FoundPoint, Points};
 use crate::ready::Ready;
 use crate::site_parts::SiteParts;
-use crate::answers::answer_to;
 use fuelling_point::PointEvent;
 use site_base::{Answer, FpNo, Millilitres, NozzleNo, TillNo};
 use till_claims::Claims;
@@ -158,7 +158,8 @@ fn end_holds(points: &Points, claims: &mut Claims, t: TillNo)
 
 /// Ends the till's hold of the point, if it has one and the point is closed, idle or calling.
 fn let_go_of(points: &Points, claims: &mut Claims, t: TillNo, p: FpNo)
-    ensures { claims.new ≡ (if ends_at_sign_off points.now claims.old t p then finite.remove claims.old p else claims.old) }
+    ensures { claims.new ≡ (if ends_at_sign_off points.now claims.old t p then finite.remove
+        claims.old p else claims.old) }
 {
     if points.rests(p) && claims.holder(p) == Some(t) {
         claims.free(p);

@@ -1,6 +1,7 @@
 //! Lists of events, one after another.
 
-ghost use Rattle.std.specs.Prelude.{◌≡◌, ◌<◌, length, take, IfOk, OnOk, IfErr, vec_len, vec_capacity};
+ghost use Rattle.std.specs.Prelude.{◌≡◌, ◌<◌, length, take, IfOk, OnOk, IfErr, vec_len};
+ghost use Rattle.std.specs.Prelude.{vec_capacity};
 ghost use Rattle.site_core.specs.Views.{HasRoom};
 ghost use Rattle.written_site.specs.SiteRun.{replies_to, site_at_end};
 
@@ -47,7 +48,8 @@ pub fn run(
     ensures replies { IfOk result (λ replies. replies.items ≡ replies_to site.old.site events.now) }
     ensures site { OnOk result (site.new.site ≡ site_at_end site.old.site events.now) }
     ensures within { IfErr result (λ stop. stop.done < length events.now) }
-    ensures stopped { IfErr result (λ stop. site.new.site ≡ site_at_end site.old.site (take stop.done events.now)) }
+    ensures stopped { IfErr result
+        (λ stop. site.new.site ≡ site_at_end site.old.site (take stop.done events.now)) }
 {
     let _told: Option<Told> = None;
     let mut replies = Vec::new(alloc);

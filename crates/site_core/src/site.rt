@@ -35,7 +35,12 @@ impl Model for Site {
 
     ghost Value = { Seen };
 
-    ghost coded = { Prim.hlevel (codes, finite.code {R = nat_cmp} coded_ℕ coded_ℕ, set.code {R = nat_cmp} coded_ℕ, sales_code) };
+    ghost coded = { Prim.hlevel (
+      codes,
+      finite.code {R = nat_cmp} coded_ℕ coded_ℕ,
+      set.code {R = nat_cmp} coded_ℕ,
+      sales_code,
+    ) };
 
     ghost use Rattle.site_core.specs.SiteParts.{site_of, room_of};
 

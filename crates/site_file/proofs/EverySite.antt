@@ -1,20 +1,30 @@
 -- Each fit site is said by the tree of it.
-use Rattle.std.proofs.Common.{◌≡◌, ℕ, true, false, ◌==◌, List, [], ◌∷◌, ◌++◌, length, Ok, nat_eq, refl, sym, ap, ◌∙◌, append_assoc, append-nil, arith}
+use Rattle.std.proofs.Common.{◌≡◌, ℕ, true, false, ◌==◌, List, [], ◌∷◌, ◌++◌, length, Ok, nat_eq}
+use Rattle.std.proofs.Common.{refl, sym, ap, ◌∙◌, append_assoc, append-nil, arith}
 use Rattle.std.proofs.lemmas.Bool.{and_parts}
 use Rattle.std.specs.List.{list_any, list_all}
 use Rattle.std.specs.Str.{bytes_eq}
 use Rattle.toml.specs.Data.{Data}
 use Rattle.site_base.specs.declared.config.NozzleEntry.{NozzleEntry}
-use Rattle.site_base.specs.declared.limits.TheConstants.{GREATEST_PRICE, GREATEST_READING, GREATEST_ROWS, NOZZLES, POINTS, PRODUCTS, TILLS}
+use Rattle.site_base.specs.declared.limits.TheConstants.{GREATEST_PRICE, GREATEST_READING}
+use Rattle.site_base.specs.declared.limits.TheConstants.{GREATEST_ROWS, NOZZLES, POINTS, PRODUCTS}
+use Rattle.site_base.specs.declared.limits.TheConstants.{TILLS}
 use Rattle.site_base.specs.Names.{is_name}
 use Rattle.site_base.specs.Ranges.{is_between}
 use Rattle.site_base.specs.declared.config.PointEntry.{PointEntry}
 use Rattle.site_base.specs.declared.config.ProductEntry.{ProductEntry}
-use Rattle.site_base.specs.Configured.{Configured, none_alike, same_product, same_point, are_products, has_product, are_nozzles, are_points, is_site}
+use Rattle.site_base.specs.Configured.{Configured, none_alike, same_product, same_point}
+use Rattle.site_base.specs.Configured.{are_products, has_product, are_nozzles, are_points, is_site}
 use Rattle.site_file.specs.declared.key.Key.{Key}
 use Rattle.site_file.specs.declared.key.Key.TheVariants.{Rows, Managers, Number, Price, Reading}
-use Rattle.site_file.specs.Laws.{list_tree, number_tree, product_tree, nozzle_tree, point_tree, site_tree, is_product_in_range, is_nozzle_in_range, is_point_in_range, IsInRange}
-use Rattle.site_file.specs.SiteFile.{with_keys, value_at, number_in, number_at, count, list_at, manager_of, managers_from, managers_of, product_number, has_name, product_name, product_of, products_from, products_of, nozzle_of, nozzles_from, nozzles_of, has_point, point_number, point_of, points_from, points_of, site_of}
+use Rattle.site_file.specs.Laws.{list_tree, number_tree, product_tree, nozzle_tree, point_tree}
+use Rattle.site_file.specs.Laws.{site_tree, is_product_in_range, is_nozzle_in_range}
+use Rattle.site_file.specs.Laws.{is_point_in_range, IsInRange}
+use Rattle.site_file.specs.SiteFile.{with_keys, value_at, number_in, number_at, count, list_at}
+use Rattle.site_file.specs.SiteFile.{manager_of, managers_from, managers_of, product_number}
+use Rattle.site_file.specs.SiteFile.{has_name, product_name, product_of, products_from, products_of}
+use Rattle.site_file.specs.SiteFile.{nozzle_of, nozzles_from, nozzles_of, has_point, point_number}
+use Rattle.site_file.specs.SiteFile.{point_of, points_from, points_of, site_of}
 use Rattle.site_file.proofs.Lists.{alike-middle, any_turned_back, neither}
 
 number-said : (key : Key) (low high n : ℕ) → is_between low high n ≡ true

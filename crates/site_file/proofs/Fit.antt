@@ -1,22 +1,34 @@
 -- What a site file says is a fit site: what the judge accepts, a configuration accepts.
-use Rattle.std.proofs.Common.{◌≡◌, ℕ, ◌+◌, ℤ, pos, negsuc, Bool, true, false, not, ◌==◌, List, [], ◌∷◌, ◌++◌, length, Option, Some, None, Result, Ok, Err, IfOk, nat_eq, refl, subst, arith}
+use Rattle.std.proofs.Common.{◌≡◌, ℕ, ◌+◌, ℤ, pos, negsuc, Bool, true, false, not, ◌==◌, List, []}
+use Rattle.std.proofs.Common.{◌∷◌, ◌++◌, length, Option, Some, None, Result, Ok, Err, IfOk, nat_eq}
+use Rattle.std.proofs.Common.{refl, subst, arith}
 use Rattle.std.proofs.lemmas.Result.{IfOk-weaker, IfOk-at_ok}
 use Rattle.std.specs.List.{list_any, list_all}
 use Rattle.std.specs.Str.{bytes_eq}
 use Rattle.toml.specs.Data.{Data, Items, no_items, item, Members, get_member}
 use Rattle.site_base.specs.declared.config.NozzleEntry.{NozzleEntry}
-use Rattle.site_base.specs.declared.limits.TheConstants.{GREATEST_PRICE, GREATEST_READING, GREATEST_ROWS, NOZZLES, POINTS, PRODUCTS, TILLS}
+use Rattle.site_base.specs.declared.limits.TheConstants.{GREATEST_PRICE, GREATEST_READING}
+use Rattle.site_base.specs.declared.limits.TheConstants.{GREATEST_ROWS, NOZZLES, POINTS, PRODUCTS}
+use Rattle.site_base.specs.declared.limits.TheConstants.{TILLS}
 use Rattle.site_base.specs.Names.{is_name}
 use Rattle.site_base.specs.Ranges.{is_between}
 use Rattle.site_base.specs.declared.config.PointEntry.{PointEntry}
 use Rattle.site_base.specs.declared.config.ProductEntry.{ProductEntry}
-use Rattle.site_base.specs.Configured.{Configured, none_alike, same_product, same_point, are_products, has_product, are_nozzles, are_points, is_site}
+use Rattle.site_base.specs.Configured.{Configured, none_alike, same_product, same_point}
+use Rattle.site_base.specs.Configured.{are_products, has_product, are_nozzles, are_points, is_site}
 use Rattle.site_file.proofs.Lists.{all-push, alike-push, any_or, any_turned, length-push}
 use Rattle.site_file.specs.declared.fault.ConfigFault.{ConfigFault}
 use Rattle.site_file.specs.declared.key.Key.{Key}
-use Rattle.site_file.specs.declared.key.Key.TheVariants.{Rows, Managers, Product, Point, Number, Name, Price, Nozzles, Reading}
+use Rattle.site_file.specs.declared.key.Key.TheVariants.{Rows, Managers, Product, Point, Number}
+use Rattle.site_file.specs.declared.key.Key.TheVariants.{Name, Price, Nozzles, Reading}
 use Rattle.site_file.specs.Keys.{key_text}
-use Rattle.site_file.specs.SiteFile.{◌>>=◌, only_if, with_keys, value_at, whole, text, list, table_of, in_range, number_in, number_at, count, list_at, rows_of, manager_of, managers_from, managers_of, product_number, has_name, product_name, product_of, products_from, products_of, product_in, nozzle_of, nozzles_from, nozzles_of, has_point, point_number, point_of, points_from, points_of, site_of}
+use Rattle.site_file.specs.SiteFile.{◌>>=◌, only_if, with_keys, value_at, whole, text, list}
+use Rattle.site_file.specs.SiteFile.{table_of, in_range, number_in, number_at, count, list_at}
+use Rattle.site_file.specs.SiteFile.{rows_of, manager_of, managers_from, managers_of}
+use Rattle.site_file.specs.SiteFile.{product_number, has_name, product_name, product_of}
+use Rattle.site_file.specs.SiteFile.{products_from, products_of, product_in, nozzle_of}
+use Rattle.site_file.specs.SiteFile.{nozzles_from, nozzles_of, has_point, point_number, point_of}
+use Rattle.site_file.specs.SiteFile.{points_from, points_of, site_of}
 
 -- ---- stages
 
@@ -178,7 +190,8 @@ are_products-made n ps between (long, (names, apart)) =
 products_of-fit : (file : Members) → IfOk (products_of file) (λ ps. are_products ps ≡ true)
 unfolding products_of
 products_of-fit file =
-    stage (list_at Product PRODUCTS file) (products_from []) _ _ (list_at-fit Product PRODUCTS file) (λ items between.
+    stage (list_at Product PRODUCTS file) (products_from []) _ _ (list_at-fit Product PRODUCTS file)
+    (λ items between.
     IfOk-weaker (products_from [] items) _ _
     (λ ps made. are_products-made (count items) ps between made)
     (products_from-fit [] items (refl, refl)))
@@ -204,7 +217,8 @@ Supplied products ns = list_all (λ n. has_product products n.product) ns ≡ tr
 
 nozzles_from-fit : (products : List ProductEntry) (taken : List NozzleEntry) (items : Items)
     → Supplied products taken
-    → IfOk (nozzles_from products taken items) (Counted (Supplied products) (length taken + count items))
+    → IfOk (nozzles_from products taken items)
+    (Counted (Supplied products) (length taken + count items))
 nozzles_from-fit products taken no_items fit = (omega arith, fit)
 nozzles_from-fit products taken (item value more) fit =
     stage (nozzle_of products value) _ _ _ (nozzle_of-fit products value) (λ n there.
@@ -225,7 +239,8 @@ nozzles_of-fit : (products : List ProductEntry) (file : Members)
     → IfOk (nozzles_of products file) (λ ns. are_nozzles products ns ≡ true)
 unfolding nozzles_of
 nozzles_of-fit products file =
-    stage (list_at Nozzles NOZZLES file) (nozzles_from products []) _ _ (list_at-fit Nozzles NOZZLES file) (λ items between.
+    stage (list_at Nozzles NOZZLES file) (nozzles_from products []) _ _
+    (list_at-fit Nozzles NOZZLES file) (λ items between.
     IfOk-weaker (nozzles_from products [] items) _ _
     (λ ns made. are_nozzles-made products (count items) ns between made)
     (nozzles_from-fit products [] items refl))
@@ -263,11 +278,13 @@ FitPoints-push products ps p fit new = (
 
 points_from-fit : (products : List ProductEntry) (taken : List PointEntry) (items : Items)
     → FitPoints products taken
-    → IfOk (points_from products taken items) (Counted (FitPoints products) (length taken + count items))
+    → IfOk (points_from products taken items)
+    (Counted (FitPoints products) (length taken + count items))
 points_from-fit products taken no_items fit = (omega arith, fit)
 points_from-fit products taken (item value more) fit =
     stage (point_of products taken value) _ _ _ (point_of-fit products taken value) (λ p new.
-    subst (λ (n : ℕ). IfOk (points_from products (taken ++ p ∷ []) more) (Counted (FitPoints products) n))
+    subst (λ (n : ℕ). IfOk (points_from products (taken ++ p ∷ []) more)
+    (Counted (FitPoints products) n))
     (one_more taken p more)
     (points_from-fit products (taken ++ p ∷ []) more (FitPoints-push products taken p fit new)))
 
@@ -282,7 +299,8 @@ points_of-fit : (products : List ProductEntry) (file : Members)
     → IfOk (points_of products file) (λ ps. are_points products ps ≡ true)
 unfolding points_of
 points_of-fit products file =
-    stage (list_at Point POINTS file) (points_from products []) _ _ (list_at-fit Point POINTS file) (λ items between.
+    stage (list_at Point POINTS file) (points_from products []) _ _ (list_at-fit Point POINTS file)
+    (λ items between.
     IfOk-weaker (points_from products [] items) _ _
     (λ ps made. are_points-made products (count items) ps between made)
     (points_from-fit products [] items (refl, refl)))

@@ -1,5 +1,6 @@
 -- The members of a list, read one after another.
-use Rattle.std.proofs.Common.{◌≡◌, ◌<◌, ℕ, List, [], ◌∷◌, ◌++◌, ◌+◌, Ok, length, drop, get_or, refl, sym}
+use Rattle.std.proofs.Common.{◌≡◌, ◌<◌, ℕ, List, [], ◌∷◌, ◌++◌, ◌+◌, Ok, length, drop, get_or, refl}
+use Rattle.std.proofs.Common.{sym}
 use Rattle.std.proofs.Math.Numerals.{suc-eq-add-one}
 use Rattle.std.proofs.Math.Seq.{drop-cons}
 use Rattle.toml.specs.declared.value.Value.{Value}

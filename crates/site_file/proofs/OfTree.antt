@@ -1,13 +1,18 @@
 -- Which faults are of a text, and which of what it says.
-use Rattle.std.proofs.Common.{◌≡◌, ◌≢◌, ℕ, ℤ, pos, negsuc, Bool, true, false, List, [], ◌∷◌, ◌++◌, if◌then◌else◌, Option, Some, None, Result, Ok, Err, IfErr, refl, inl, inr}
+use Rattle.std.proofs.Common.{◌≡◌, ◌≢◌, ℕ, ℤ, pos, negsuc, Bool, true, false, List, [], ◌∷◌, ◌++◌}
+use Rattle.std.proofs.Common.{if◌then◌else◌, Option, Some, None, Result, Ok, Err, IfErr, refl, inl}
+use Rattle.std.proofs.Common.{inr}
 use Rattle.std.specs.Prelude.{◌⊎◌}
 use Rattle.std.proofs.lemmas.Bool.{false≢true}
 use Rattle.std.proofs.lemmas.Result.{IfErr-at_err}
 use Rattle.std.specs.Str.{is_utf8}
-use Rattle.toml.specs.Data.{Data, string, integer, float, boolean, datetime, array, table, Items, no_items, item, Members, get_member}
+use Rattle.toml.specs.Data.{Data, string, integer, float, boolean, datetime, array, table, Items}
+use Rattle.toml.specs.Data.{no_items, item, Members, get_member}
 use Rattle.toml.specs.Parse.{parse_document}
 use Rattle.site_base.specs.declared.config.NozzleEntry.{NozzleEntry}
-use Rattle.site_base.specs.declared.limits.TheConstants.{GREATEST_PRICE, GREATEST_READING, GREATEST_ROWS, NOZZLES, POINTS, PRODUCTS, TILLS}
+use Rattle.site_base.specs.declared.limits.TheConstants.{GREATEST_PRICE, GREATEST_READING}
+use Rattle.site_base.specs.declared.limits.TheConstants.{GREATEST_ROWS, NOZZLES, POINTS, PRODUCTS}
+use Rattle.site_base.specs.declared.limits.TheConstants.{TILLS}
 use Rattle.site_base.specs.Names.{is_name}
 use Rattle.site_base.specs.declared.config.PointEntry.{PointEntry}
 use Rattle.site_base.specs.declared.config.ProductEntry.{ProductEntry}
@@ -15,10 +20,17 @@ use Rattle.site_base.specs.Configured.{Configured}
 use Rattle.site_file.specs.declared.fault.ConfigFault.{ConfigFault}
 use Rattle.site_file.specs.declared.fault.ConfigFault.TheVariants.{NoMemory, NotToml, OutOfRange}
 use Rattle.site_file.specs.declared.key.Key.{Key}
-use Rattle.site_file.specs.declared.key.Key.TheVariants.{Rows, Managers, Product, Point, Number, Name, Price, Nozzles, Reading}
+use Rattle.site_file.specs.declared.key.Key.TheVariants.{Rows, Managers, Product, Point, Number}
+use Rattle.site_file.specs.declared.key.Key.TheVariants.{Name, Price, Nozzles, Reading}
 use Rattle.site_file.specs.Keys.{key_text, least}
 use Rattle.site_file.specs.Laws.{is_of_tree}
-use Rattle.site_file.specs.SiteFile.{◌>>=◌, only_if, refuse_least, with_keys, unknown_keys, there, value_at, whole, text, list, table_of, in_range, number_in, number_at, list_at, rows_of, manager_of, managers_from, managers_of, product_number, product_name, product_of, products_from, products_of, product_in, nozzle_of, nozzles_from, nozzles_of, point_number, point_of, points_from, points_of, site_of, of_document, tree_of, config_of}
+use Rattle.site_file.specs.SiteFile.{◌>>=◌, only_if, refuse_least, with_keys, unknown_keys, there}
+use Rattle.site_file.specs.SiteFile.{value_at, whole, text, list, table_of, in_range, number_in}
+use Rattle.site_file.specs.SiteFile.{number_at, list_at, rows_of, manager_of, managers_from}
+use Rattle.site_file.specs.SiteFile.{managers_of, product_number, product_name, product_of}
+use Rattle.site_file.specs.SiteFile.{products_from, products_of, product_in, nozzle_of}
+use Rattle.site_file.specs.SiteFile.{nozzles_from, nozzles_of, point_number, point_of, points_from}
+use Rattle.site_file.specs.SiteFile.{points_of, site_of, of_document, tree_of, config_of}
 
 -- a fault, if there is one, is of the tree
 abbrev OfTree : {A : Type 0} → Result A ConfigFault → Type 0
@@ -100,7 +112,8 @@ number_in-tree key low high value =
 number_at-tree : (key : Key) (low high : ℕ) (file : Members) → OfTree (number_at key low high file)
 unfolding number_at
 number_at-tree key low high file =
-    stages (value_at key file) _ (value_at-tree key file) (λ value. number_in-tree key low high value)
+    stages (value_at key file) _ (value_at-tree key file)
+    (λ value. number_in-tree key low high value)
 
 list_at-tree : (key : Key) (most : ℕ) (file : Members) → OfTree (list_at key most file)
 unfolding list_at
@@ -248,14 +261,17 @@ site_of-tree members =
     stages (products_of file) _ (products_of-tree file) (λ products.
     stages (points_of products file) _ (points_of-tree products file) (λ points. tt)))))
 
-pub of_tree : (file : Members) (fault : ConfigFault) → site_of file ≡ Err fault → is_of_tree fault ≡ true
-of_tree file fault said = IfErr-at_err (λ (f : ConfigFault). is_of_tree f ≡ true) said (site_of-tree file)
+pub of_tree : (file : Members) (fault : ConfigFault) → site_of file ≡ Err fault
+    → is_of_tree fault ≡ true
+of_tree file fault said = IfErr-at_err (λ (f : ConfigFault). is_of_tree f ≡ true) said
+    (site_of-tree file)
 
 -- what is said of the octets, by whether they are UTF-8 and which document they are
 abbrev said_of : Bool → Option Members → Result Configured ConfigFault
 said_of utf8 document = (if utf8 then of_document document else Err NotToml) >>= site_of
 
-text_by : (utf8 : Bool) (document : Option Members) → said_of utf8 document ≡ Err NotToml → (utf8 ≡ false) ⊎ (document ≡ None)
+text_by : (utf8 : Bool) (document : Option Members) → said_of utf8 document ≡ Err NotToml
+    → (utf8 ≡ false) ⊎ (document ≡ None)
 text_by false document said = inl refl
 text_by true None said = inr refl
 text_by true (Some file) said = absurd (false≢true (of_tree file NotToml said))
@@ -265,7 +281,8 @@ memory_by false document said = cc
 memory_by true None said = cc
 memory_by true (Some file) said = false≢true (of_tree file NoMemory said)
 
-pub of_text : (octets : List ℕ) → config_of octets ≡ Err NotToml → (is_utf8 octets ≡ false) ⊎ (parse_document octets ≡ None)
+pub of_text : (octets : List ℕ) → config_of octets ≡ Err NotToml → (is_utf8 octets ≡ false)
+    ⊎ (parse_document octets ≡ None)
 unfolding config_of tree_of
 of_text octets said = text_by (is_utf8 octets) (parse_document octets) said
 

@@ -7,10 +7,14 @@ use Rattle.site_base.specs.declared.config.NozzleEntry.{NozzleEntry}
 use Rattle.site_base.specs.declared.config.PointEntry.{PointEntry}
 use Rattle.site_base.specs.declared.config.ProductEntry.{ProductEntry}
 use Rattle.site_base.specs.Configured.{Configured}
-use Rattle.site_file.specs.declared.fault.ConfigFault.TheVariants.{UnknownKey, MissingKey, OutOfRange}
+use Rattle.site_file.specs.declared.fault.ConfigFault.TheVariants.{UnknownKey, MissingKey}
+use Rattle.site_file.specs.declared.fault.ConfigFault.TheVariants.{OutOfRange}
 use Rattle.site_file.specs.declared.key.Key.TheVariants.{Product, Number, Price}
 use Rattle.site_file.specs.Keys.{printed_key}
-use Rattle.site_file.specs.SiteFile.{with_keys, value_at, number_in, number_at, list_at, manager_of, managers_of, product_number, product_name, product_of, products_of, nozzle_of, nozzles_of, point_number, point_of, points_of, site_of, tree_of, config_of}
+use Rattle.site_file.specs.SiteFile.{with_keys, value_at, number_in, number_at, list_at, manager_of}
+use Rattle.site_file.specs.SiteFile.{managers_of, product_number, product_name, product_of}
+use Rattle.site_file.specs.SiteFile.{products_of, nozzle_of, nozzles_of, point_number, point_of}
+use Rattle.site_file.specs.SiteFile.{points_of, site_of, tree_of, config_of}
 
 -- all that a site file's text is computed by
 unfoldable pub on_parts : Unit {0}
@@ -18,7 +22,8 @@ unfolding printed_key with_keys value_at number_in number_at list_at product_num
 on_parts = tt
 
 unfoldable pub on_lists : Unit {0}
-unfolding manager_of managers_of product_of products_of nozzle_of nozzles_of point_number point_of points_of
+unfolding manager_of managers_of product_of products_of nozzle_of nozzles_of point_number point_of
+    points_of
 on_lists = tt
 
 unfoldable pub on_texts : Unit {0}

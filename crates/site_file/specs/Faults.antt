@@ -1,7 +1,10 @@
 -- How a fault of a site file is printed.
 use Rattle.std.specs.Prelude.{ℕ, List, ◌++◌, codes}
 use Rattle.site_file.specs.declared.fault.ConfigFault.{ConfigFault}
-use Rattle.site_file.specs.declared.fault.ConfigFault.TheVariants.{NoMemory, NotToml, UnknownKey, MissingKey, WrongKind, OutOfRange, Repeated, UnknownProduct}
+use Rattle.site_file.specs.declared.fault.ConfigFault.TheVariants.{NoMemory, NotToml, UnknownKey}
+use Rattle.site_file.specs.declared.fault.ConfigFault.TheVariants.{MissingKey, WrongKind}
+use Rattle.site_file.specs.declared.fault.ConfigFault.TheVariants.{OutOfRange, Repeated}
+use Rattle.site_file.specs.declared.fault.ConfigFault.TheVariants.{UnknownProduct}
 use Rattle.site_file.specs.Keys.{key_text}
 
 -- the text of a fault: its number, and its key where it has one

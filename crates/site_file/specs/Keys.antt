@@ -1,12 +1,14 @@
 -- The keys of a site file: how they are spelled, and how an unknown one is printed.
-use Rattle.std.specs.Prelude.{ℕ, Bool, List, [], ◌∷◌, Option, Some, None, if◌then◌else◌, codes, take, map}
+use Rattle.std.specs.Prelude.{ℕ, Bool, List, [], ◌∷◌, Option, Some, None, if◌then◌else◌, codes}
+use Rattle.std.specs.Prelude.{take, map}
 use Rattle.std.specs.List.{list_any}
 use Rattle.std.specs.Str.{bytes_eq}
 use Rattle.std.specs.Ordering.{nat_cmp, is_lt}
 use Rattle.std.specs.Cmp.Lexicographic.{slice_cmp}
 use Rattle.site_base.specs.Ranges.{is_between}
 use Rattle.site_file.specs.declared.key.Key.{Key}
-use Rattle.site_file.specs.declared.key.Key.TheVariants.{Rows, Managers, Product, Point, Number, Name, Price, Nozzles, Reading}
+use Rattle.site_file.specs.declared.key.Key.TheVariants.{Rows, Managers, Product, Point, Number}
+use Rattle.site_file.specs.declared.key.Key.TheVariants.{Name, Price, Nozzles, Reading}
 use Rattle.site_file.specs.declared.printable.TheConstants.{PRINTED_OCTETS}
 
 -- a key as the file has it

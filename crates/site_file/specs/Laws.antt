@@ -1,12 +1,15 @@
--- What the table of the site file is checked by: a file says fit sites, and every fit site; and which
--- faults are of the text, and which of what it says.
-use Rattle.std.specs.Prelude.{◌≡◌, ◌≢◌, ◌⊎◌, ℕ, pos, Bool, true, false, ◌&&◌, List, [], ◌∷◌, None, Ok, Err, codes}
+-- What the table of the site file is checked by: a file says fit sites, and every fit site; and
+-- which faults are of the text, and which of what it says.
+use Rattle.std.specs.Prelude.{◌≡◌, ◌≢◌, ◌⊎◌, ℕ, pos, Bool, true, false, ◌&&◌, List, [], ◌∷◌, None}
+use Rattle.std.specs.Prelude.{Ok, Err, codes}
 use Rattle.std.specs.List.{list_all}
 use Rattle.std.specs.Str.{is_utf8}
-use Rattle.toml.specs.Data.{Data, string, integer, array, table, Items, no_items, item, Members, no_members, member}
+use Rattle.toml.specs.Data.{Data, string, integer, array, table, Items, no_items, item, Members}
+use Rattle.toml.specs.Data.{no_members, member}
 use Rattle.toml.specs.Parse.{parse_document}
 use Rattle.site_base.specs.declared.config.NozzleEntry.{NozzleEntry}
-use Rattle.site_base.specs.declared.limits.TheConstants.{GREATEST_PRICE, GREATEST_READING, POINTS, PRODUCTS, TILLS}
+use Rattle.site_base.specs.declared.limits.TheConstants.{GREATEST_PRICE, GREATEST_READING, POINTS}
+use Rattle.site_base.specs.declared.limits.TheConstants.{PRODUCTS, TILLS}
 use Rattle.site_base.specs.Ranges.{is_between}
 use Rattle.site_base.specs.declared.config.PointEntry.{PointEntry}
 use Rattle.site_base.specs.declared.config.ProductEntry.{ProductEntry}
@@ -76,8 +79,8 @@ is_of_tree NoMemory = false
 is_of_tree NotToml = false
 is_of_tree fault = true
 
--- A tree has no fault but 71 to 76. The octets of a file are no TOML only where they aren't UTF-8 or
--- no document by TOML's grammar. What a file says is never want of memory.
+-- A tree has no fault but 71 to 76. The octets of a file are no TOML only where they aren't UTF-8
+-- or no document by TOML's grammar. What a file says is never want of memory.
 pub record TellsTheTextApart : Type 0 where
   pub tree : (file : Members) (fault : ConfigFault)
       → site_of file ≡ Err fault → is_of_tree fault ≡ true

@@ -1,21 +1,28 @@
 -- What a site file says: the table of its keys, line by line, over the tree of its text. The stages
 -- stand in the order in which they are judged, so the first that fails gives the fault.
-use Rattle.std.specs.Prelude.{ℕ, ◌+◌, ℤ, pos, negsuc, Bool, true, false, not, ◌==◌, List, [], ◌∷◌, ◌++◌, Option, Some, None, Result, Ok, Err, if◌then◌else◌, nat_eq}
+use Rattle.std.specs.Prelude.{ℕ, ◌+◌, ℤ, pos, negsuc, Bool, true, false, not, ◌==◌, List, [], ◌∷◌}
+use Rattle.std.specs.Prelude.{◌++◌, Option, Some, None, Result, Ok, Err, if◌then◌else◌, nat_eq}
 use Rattle.std.specs.List.{list_any}
 use Rattle.std.specs.Str.{bytes_eq, is_utf8}
 use Rattle.toml.specs.Parse.{parse_document}
-use Rattle.toml.specs.Data.{Data, string, integer, array, table, Items, no_items, item, Members, no_members, member, get_member}
+use Rattle.toml.specs.Data.{Data, string, integer, array, table, Items, no_items, item, Members}
+use Rattle.toml.specs.Data.{no_members, member, get_member}
 use Rattle.site_base.specs.declared.config.NozzleEntry.{NozzleEntry}
-use Rattle.site_base.specs.declared.limits.TheConstants.{GREATEST_PRICE, GREATEST_READING, GREATEST_ROWS, NOZZLES, POINTS, PRODUCTS, TILLS}
+use Rattle.site_base.specs.declared.limits.TheConstants.{GREATEST_PRICE, GREATEST_READING}
+use Rattle.site_base.specs.declared.limits.TheConstants.{GREATEST_ROWS, NOZZLES, POINTS, PRODUCTS}
+use Rattle.site_base.specs.declared.limits.TheConstants.{TILLS}
 use Rattle.site_base.specs.Names.{is_name}
 use Rattle.site_base.specs.Ranges.{is_between}
 use Rattle.site_base.specs.declared.config.PointEntry.{PointEntry}
 use Rattle.site_base.specs.declared.config.ProductEntry.{ProductEntry}
 use Rattle.site_base.specs.Configured.{Configured, has_product}
 use Rattle.site_file.specs.declared.fault.ConfigFault.{ConfigFault}
-use Rattle.site_file.specs.declared.fault.ConfigFault.TheVariants.{NotToml, UnknownKey, MissingKey, WrongKind, OutOfRange, Repeated, UnknownProduct}
+use Rattle.site_file.specs.declared.fault.ConfigFault.TheVariants.{NotToml, UnknownKey, MissingKey}
+use Rattle.site_file.specs.declared.fault.ConfigFault.TheVariants.{WrongKind, OutOfRange, Repeated}
+use Rattle.site_file.specs.declared.fault.ConfigFault.TheVariants.{UnknownProduct}
 use Rattle.site_file.specs.declared.key.Key.{Key}
-use Rattle.site_file.specs.declared.key.Key.TheVariants.{Rows, Managers, Product, Point, Number, Name, Price, Nozzles, Reading}
+use Rattle.site_file.specs.declared.key.Key.TheVariants.{Rows, Managers, Product, Point, Number}
+use Rattle.site_file.specs.declared.key.Key.TheVariants.{Name, Price, Nozzles, Reading}
 use Rattle.site_file.specs.Keys.{key_text, printed_key, is_known, least}
 
 -- ---- stages

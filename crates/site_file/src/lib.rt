@@ -7,7 +7,6 @@
 mod by_number;
 mod fault;
 mod key;
-mod unknown_keys;
 mod laws;
 mod managers;
 mod points;
@@ -15,6 +14,7 @@ mod printable;
 mod products;
 mod reading;
 mod site;
+mod unknown_keys;
 mod values;
 
 pub use fault::ConfigFault;

@@ -10,7 +10,7 @@ use crate::by_number::Products;
 use crate::fault::ConfigFault;
 use crate::key::Key;
 use crate::unknown_keys::with_keys;
-use crate::values::{list_at, number_at, table, value_at, read_whole};
+use crate::values::{list_at, number_at, read_whole, table, value_at};
 use site_base::{
     FpNo, GREATEST_READING, Listing, Millilitres, NOZZLES, NozzleEntry, POINTS, PointEntry,
     ProductNo,

@@ -7,10 +7,10 @@ ghost use Rattle.site_file.specs.SiteFile as spec;
 
 use crate::fault::ConfigFault;
 use crate::key::Key;
-use crate::unknown_keys::with_keys;
 use crate::managers::managers_of;
 use crate::points::points_of;
 use crate::products::products_of;
+use crate::unknown_keys::with_keys;
 use crate::values::{found_at, number_in};
 use site_base::{GREATEST_ROWS, SiteConfig};
 use std::alloc::Global;

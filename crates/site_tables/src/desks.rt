@@ -6,9 +6,9 @@ mod counter;
 ghost use Rattle.std.specs.Prelude.{◌≡◌, ◌^◌};
 
 use crate::desks::counter::Counter;
+use crate::words::Step;
 use anyhow::{bail, ensure};
 use counter_desk::{Desk, Naming, Settled};
-use crate::words::Step;
 use site_base::SiteConfig;
 use std::alloc::Global;
 use std::marker::Brand;

@@ -29,10 +29,7 @@ fn main(rt: HostRuntime) -> ExitCode {
 }
 
 /// Runs the table on standard input as the program's word says. A desk takes a lock of `waiting`.
-fn run_table(
-    rt: &HostRuntime,
-    waiting: &(impl Print + Eprint + Wait),
-) -> anyhow::Result<()> {
+fn run_table(rt: &HostRuntime, waiting: &(impl Print + Eprint + Wait)) -> anyhow::Result<()> {
     let alloc = rt.alloc();
     let words: Vec<String> = env::args(rt)?.collect(alloc)?;
     match words.get(1).map(|word| word.as_str()) {

@@ -6,17 +6,13 @@ mod run;
 mod site_and_book;
 
 use crate::sites::site_and_book::SiteAndBook;
-use anyhow::Context;
 use crate::words::Step;
+use anyhow::Context;
 use std::alloc::Global;
 use std::marker::Model;
 
 /// Does the steps of a table, and prints what each shows.
-pub fn run_sites(
-    rt: &(impl Print + Eprint),
-    alloc: Global,
-    steps: &[Step],
-) -> anyhow::Result<()> {
+pub fn run_sites(rt: &(impl Print + Eprint), alloc: Global, steps: &[Step]) -> anyhow::Result<()> {
     let mut table = Table::new(alloc);
     for step in steps {
         table.take(rt, step)?;
@@ -40,7 +36,10 @@ impl Model for Table {
 impl Table {
     /// A table before its first step.
     fn new(alloc: Global) -> Table {
-        Table { alloc, standing: None }
+        Table {
+            alloc,
+            standing: None,
+        }
     }
 
     /// Does a step, and prints what it shows.

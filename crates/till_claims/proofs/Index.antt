@@ -1,5 +1,6 @@
 -- The index of holds by till: what a hold taken or given back does to it.
-use Rattle.std.proofs.Common.{◌≡◌, ◌≢◌, ℕ, ◌+◌, ◌<◌, true, false, ◌==◌, List, length, get_or, Option, Some, None, inl, inr, refl, sym, ap, ◌∙◌, arith, length-set}
+use Rattle.std.proofs.Common.{◌≡◌, ◌≢◌, ℕ, ◌+◌, ◌<◌, true, false, ◌==◌, List, length, get_or}
+use Rattle.std.proofs.Common.{Option, Some, None, inl, inr, refl, sym, ap, ◌∙◌, arith, length-set}
 use Rattle.std.proofs.Math.ListN.{set}
 use Rattle.std.proofs.lemmas.Bool.{cases_eq}
 use Rattle.std.proofs.lemmas.Bool.Decides.{nat_tests}
@@ -26,9 +27,11 @@ module _ (holders : List (Option ℕ)) (held : List ℕ) (i k p t s : ℕ)
     (within : i < length holders) (inside : k < length held) where
   -- a point of which nothing was written, in a set that was written or not
   elsewhere : (holder : Option ℕ) (j m : ℕ) → j ≢ i → j < POINT_CELLS → m < TILL_CELLS
-      → has_point (j + 1) (get_or held m 0) ≡ is_held_by (m + 1) (get_or (set holders i holder) j None)
+      → has_point (j + 1) (get_or held m 0)
+      ≡ is_held_by (m + 1) (get_or (set holders i holder) j None)
   elsewhere holder j m there point till =
-      index.same j m point till ∙ ap (is_held_by (m + 1)) (sym (get_or-set_other holders i j holder None there))
+      index.same j m point till ∙ ap (is_held_by (m + 1))
+      (sym (get_or-set_other holders i j holder None there))
 
   -- a till's set with the point that it takes
   taken_points : is_free_for t (get_or holders i None) ≡ true → IsWith p (get_or held k 0) s
@@ -60,7 +63,8 @@ module _ (holders : List (Option ℕ)) (held : List ℕ) (i k p t s : ℕ)
                   index.same j m point till
                   ∙ ap (λ x. is_held_by (m + 1) (get_or holders x None)) here
                   ∙ held_by_none_else t (m + 1) (get_or holders i None) free (omega arith)
-                  ∙ sym (ap (is_held_by (m + 1)) (get_or-set_at holders i j (Some t) None here within)
+                  ∙ sym (ap (is_held_by (m + 1))
+                  (get_or-set_at holders i j (Some t) None here within)
                   ∙ isnt_t)
               | inr there ↦ elsewhere (Some t) j m there point till
             ]

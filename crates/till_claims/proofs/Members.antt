@@ -1,5 +1,7 @@
 -- The members of a set of points in rising order, as a walk from the first one finds them.
-use Rattle.std.proofs.Common.{◌≡◌, ◌≢◌, ℕ, zero, suc, ◌+◌, ◌<◌, ◌≤◌, Bool, true, false, not, ◌&&◌, ◌==◌, List, [], ◌∷◌, length, get_or, Option, Some, None, if◌then◌else◌, inl, inr, refl, sym, ap, ◌∙◌, arith}
+use Rattle.std.proofs.Common.{◌≡◌, ◌≢◌, ℕ, zero, suc, ◌+◌, ◌<◌, ◌≤◌, Bool, true, false, not, ◌&&◌}
+use Rattle.std.proofs.Common.{◌==◌, List, [], ◌∷◌, length, get_or, Option, Some, None}
+use Rattle.std.proofs.Common.{if◌then◌else◌, inl, inr, refl, sym, ap, ◌∙◌, arith}
 use Rattle.std.proofs.lemmas.Bool.{cases_eq}
 use Rattle.std.proofs.lemmas.Bool.Decides.{nat_tests}
 use Rattle.site_base.specs.declared.limits.TheConstants.{POINTS}
@@ -10,7 +12,8 @@ use Rattle.till_claims.specs.Holds.{is_held_by, points_of}
 -- those of so many numbers from n on that are members of the set
 members_from : ℕ → ℕ → ℕ → List ℕ
 members_from n zero s = []
-members_from n (suc count) s = if has_point n s then n ∷ members_from (n + 1) count s else members_from (n + 1) count s
+members_from n (suc count) s =
+    if has_point n s then n ∷ members_from (n + 1) count s else members_from (n + 1) count s
 
 pub members : ℕ → List ℕ
 members s = members_from 1 POINTS s
@@ -19,7 +22,8 @@ none_from : (n count s : ℕ) → 1 ≤ n → NoneBefore (n + count) s → membe
 unfolding members_from
 none_from n zero s low none = refl
 none_from n (suc count) s low none =
-    rw (none n low (omega arith)) (none_from (n + 1) count s (omega arith) (λ q from before. none q from (omega arith)))
+    rw (none n low (omega arith)) (none_from (n + 1) count s (omega arith)
+    (λ q from before. none q from (omega arith)))
 
 -- an empty set
 pub no_members : (s : ℕ) → NoneBefore (POINTS + 1) s → members s ≡ []
@@ -36,7 +40,8 @@ same_from n (suc count) a b same =
     same_from (n + 1) count a b (λ q from before. same q (omega arith) (omega arith)) in
     rw (same n (omega arith) (omega arith), later) refl
 
-first_from : (n count p a b : ℕ) → 1 ≤ n → n ≤ p → p < n + count → n + count ≤ POINTS + 1 → has_point p a ≡ true
+first_from : (n count p a b : ℕ) → 1 ≤ n → n ≤ p → p < n + count → n + count ≤ POINTS + 1
+    → has_point p a ≡ true
     → NoneBefore p a → IsWithout p a b → members_from n count a ≡ p ∷ members_from n count b
 unfolding members_from
 first_from n zero p a b low from before most member none without = absurd (omega arith)
@@ -57,7 +62,8 @@ first_from n (suc count) p a b low from before most member none without =
           without n low (omega arith)
           ∙ ap (λ x. not x && has_point n a) (other_number n p other) ∙ none_here in
           rw (none_here, none_left)
-          (first_from (n + 1) count p a b (omega arith) (omega arith) (omega arith) (omega arith) member none without)
+          (first_from (n + 1) count p a b (omega arith) (omega arith) (omega arith) (omega arith)
+          member none without)
     ]
   where
     same_number : (q r : ℕ) → q ≡ r → (q == r) ≡ true
@@ -67,7 +73,8 @@ first_from n (suc count) p a b low from before most member none without =
     other_number q r other = grind (arith, nat_tests)
 
 -- the first member, and then those of the set without it
-pub first_of_members : (p a b : ℕ) → 1 ≤ p → p ≤ POINTS → has_point p a ≡ true → NoneBefore p a → IsWithout p a b
+pub first_of_members : (p a b : ℕ) → 1 ≤ p → p ≤ POINTS → has_point p a ≡ true → NoneBefore p a
+    → IsWithout p a b
     → members a ≡ p ∷ members b
 unfolding members
 first_of_members p a b low high member none without =
@@ -80,7 +87,8 @@ members_held : (t n s : ℕ) (cells : List (Option ℕ))
 unfolding members_from
 members_held t n s [] each = refl
 members_held t n s (None ∷ cells) each =
-    let none : has_point n s ≡ false = ap (λ x. has_point x s) (omega arith) ∙ each 0 (omega arith) in
+    let none : has_point n s ≡ false = ap (λ x. has_point x s) (omega arith)
+    ∙ each 0 (omega arith) in
     rw none (members_held t (n + 1) s cells (λ i within.
     ap (λ x. has_point x s) (omega arith) ∙ each (suc i) (omega arith)))
 members_held t n s (Some holder ∷ cells) each =

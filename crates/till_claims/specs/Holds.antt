@@ -1,5 +1,6 @@
 -- The holds of a site: the finite map from the points that are held to the tills that hold them.
-use Rattle.std.specs.Prelude.{◌≡◌, ℕ, ◌+◌, ◌<◌, Bool, true, false, List, map, filter, length, Option, Some, None, ◌==◌, slice_index, slice_index_or}
+use Rattle.std.specs.Prelude.{◌≡◌, ℕ, ◌+◌, ◌<◌, Bool, true, false, List, map, filter, length}
+use Rattle.std.specs.Prelude.{Option, Some, None, ◌==◌, slice_index, slice_index_or}
 use Rattle.std.specs.Ordering.{nat_cmp}
 use Rattle.std.specs.FinMap.{FinMap, entries}
 use Rattle.site_base.specs.declared.limits.TheConstants.{POINT_CELLS, TILL_CELLS}

@@ -1,5 +1,6 @@
 -- Who speaks in a session, and which till it signed on.
-use Rattle.std.proofs.Common.{◌≡◌, ℕ, Bool, true, false, cond, not, List, Option, Some, None, Ok, Err, refl, sym, ap, ◌∙◌}
+use Rattle.std.proofs.Common.{◌≡◌, ℕ, Bool, true, false, cond, not, List, Option, Some, None, Ok}
+use Rattle.std.proofs.Common.{Err, refl, sym, ap, ◌∙◌}
 use Rattle.std.specs.Prelude.{◌&&◌, ◌==◌, slice_index, IfSome}
 use Rattle.std.proofs.lemmas.Bool.{eq-eqb}
 use Rattle.site_base.specs.declared.actor.Actor.{Actor}
@@ -39,7 +40,8 @@ no_dispenser from t is =
     BadOriginator (Ok (Dispenser (slice_index from 1))) (Till t) is in
     let same = ok_is (Dispenser (slice_index from 1)) (Till t) test.1 in absurd cc
 
-by_kind : (kind : Kind) (from : List ℕ) (t : ℕ) → actor_at kind from ≡ Ok (Till t) → slice_index from 1 ≡ t
+by_kind : (kind : Kind) (from : List ℕ) (t : ℕ) → actor_at kind from ≡ Ok (Till t)
+    → slice_index from 1 ≡ t
 by_kind kinds.Read from t is = by_till from t is
 by_kind kinds.Write from t is = by_till from t is
 by_kind kinds.Report from t is = no_dispenser from t is
@@ -54,17 +56,20 @@ asked_by m actor event is =
     let who = bind_ok (actor_at m.kind m.from) _ (actor, event) ours.2 in
     let database = bind_ok (database_at m.address) _ (actor, event) who.2 in
     let asked = bind_ok (event_at m.kind database.0 m.items) _ (actor, event) database.2 in
-    let same : who.0 ≡ actor = ap (λ (p : Actor × Event). p.0) (ok_is (who.0, asked.0) (actor, event) asked.2) in
+    let same : who.0 ≡ actor = ap (λ (p : Actor × Event). p.0)
+    (ok_is (who.0, asked.0) (actor, event) asked.2) in
     who.1 ∙ ap (λ (a : Actor). Ok a) same
 
 both : (a b : Bool) → (a && b) ≡ true → b ≡ true
 both true b is = is
 both false b is = absurd cc
 
-not_another : (peer from : List ℕ) → is_another (Some peer) from ≡ false → slice_index peer 1 ≡ slice_index from 1
+not_another : (peer from : List ℕ) → is_another (Some peer) from ≡ false
+    → slice_index peer 1 ≡ slice_index from 1
 not_another peer from is =
     equal (slice_index peer 1) (slice_index from 1)
-    (both (slice_index peer 0 == slice_index from 0) (slice_index peer 1 == slice_index from 1) (kept (is_same_node peer from) is))
+    (both (slice_index peer 0 == slice_index from 0) (slice_index peer 1 == slice_index from 1)
+    (kept (is_same_node peer from) is))
   where
     kept : (b : Bool) → not b ≡ false → b ≡ true
     kept true is = refl
@@ -82,13 +87,15 @@ spoken_by (Some peer) m (Dispenser p) event same is = tt
 
 -- ---- the till that a session signed on is the one that it serves
 
-pub own_met : (on : Option ℕ) (peer : Option (List ℕ)) (from : List ℕ) → IsOwn on peer → IsOwn on (peer_after peer from)
+pub own_met : (on : Option ℕ) (peer : Option (List ℕ)) (from : List ℕ) → IsOwn on peer
+    → IsOwn on (peer_after peer from)
 own_met None None from own = tt
 own_met None (Some node) from own = tt
 own_met (Some t) None from own = absurd own
 own_met (Some t) (Some node) from own = own
 
-pub own_signed : (actor : Actor) (event : Event) (outcome : Outcome) (on : Option ℕ) (peer : Option (List ℕ))
+pub own_signed : (actor : Actor) (event : Event) (outcome : Outcome) (on : Option ℕ)
+    (peer : Option (List ℕ))
     → IsSpokenBy actor peer → IsOwn on peer → IsOwn (signed_by actor event outcome on) peer
 own_signed (Till t) SignOn (Ok (Ok answer)) on peer spoken own = spoken
 own_signed (Till t) SignOff (Ok (Ok answer)) on peer spoken own = tt
@@ -104,7 +111,8 @@ same_number : (t : ℕ) → (t == t) ≡ true
 same_number t = eq-eqb t t refl
 
 -- the till that is signed on is owed
-pub still_owed : (actor : Actor) (event : Event) (outcome : Outcome) (on : Option ℕ) (owes : ℕ → Bool)
+pub still_owed : (actor : Actor) (event : Event) (outcome : Outcome) (on : Option ℕ)
+    (owes : ℕ → Bool)
     → IfSome on (λ t. owes t ≡ true)
     → IfSome (signed_by actor event outcome on) (λ t. owed_by actor event outcome owes t ≡ true)
 still_owed (Till t) SignOn (Ok (Ok answer)) on owes owed = rw (same_number t) refl
@@ -115,7 +123,8 @@ still_owed (Till t) SignOff (Ok (Err refusal)) on owes owed = owed
 still_owed actor event (Ok (Err refusal)) on owes owed = owed
 still_owed actor event (Err no_row) on owes owed = owed
 
-two_tills : (t : ℕ) (on : Option ℕ) (peer : Option (List ℕ)) (u : ℕ) → IsOwn on peer → IsOwn (Some t) peer
+two_tills : (t : ℕ) (on : Option ℕ) (peer : Option (List ℕ)) (u : ℕ) → IsOwn on peer
+    → IsOwn (Some t) peer
     → (u == t) ≡ false → is_the_one on u ≡ false
 two_tills t None peer u own spoken other = refl
 two_tills t (Some s) None u own spoken other = absurd own
@@ -135,13 +144,16 @@ and_false true = refl
 and_false false = refl
 
 -- no other till is owed
-pub still_alone : (actor : Actor) (event : Event) (outcome : Outcome) (on : Option ℕ) (peer : Option (List ℕ)) (owes : ℕ → Bool)
+pub still_alone : (actor : Actor) (event : Event) (outcome : Outcome) (on : Option ℕ)
+    (peer : Option (List ℕ)) (owes : ℕ → Bool)
     → IsOwn on peer → IsSpokenBy actor peer → ((u : ℕ) → owes u ≡ is_the_one on u)
     → (u : ℕ) → owed_by actor event outcome owes u ≡ is_the_one (signed_by actor event outcome on) u
 still_alone (Till t) SignOn (Ok (Ok answer)) on peer owes own spoken alone u =
-    debt_set (u == t) true (owes u) (λ other. alone u ∙ two_tills t on peer u own spoken other) ∙ and_true (u == t)
+    debt_set (u == t) true (owes u) (λ other. alone u ∙ two_tills t on peer u own spoken other)
+    ∙ and_true (u == t)
 still_alone (Till t) SignOff (Ok (Ok answer)) on peer owes own spoken alone u =
-    debt_set (u == t) false (owes u) (λ other. alone u ∙ two_tills t on peer u own spoken other) ∙ and_false (u == t)
+    debt_set (u == t) false (owes u) (λ other. alone u ∙ two_tills t on peer u own spoken other)
+    ∙ and_false (u == t)
 still_alone actor event (Ok (Ok answer)) on peer owes own spoken alone u = alone u
 still_alone (Till t) SignOn (Ok (Err refusal)) on peer owes own spoken alone u = alone u
 still_alone (Till t) SignOff (Ok (Err refusal)) on peer owes own spoken alone u = alone u

@@ -1,5 +1,6 @@
 -- A session in its course: what it keeps between two messages, and what some messages lead to.
-use Rattle.std.specs.Prelude.{◌≡◌, ℕ, true, false, List, [], ◌∷◌, ◌++◌, map, slice_index, Bool, Option, Some, None, IfSome}
+use Rattle.std.specs.Prelude.{◌≡◌, ℕ, true, false, List, [], ◌∷◌, ◌++◌, map, slice_index, Bool}
+use Rattle.std.specs.Prelude.{Option, Some, None, IfSome}
 use Rattle.std.specs.Io.KnownBytes.{Appends}
 use Rattle.site_base.specs.declared.actor.Actor.{Actor}
 use Rattle.site_base.specs.declared.actor.Actor.TheVariants.{Till, Dispenser}
@@ -14,7 +15,9 @@ use Rattle.till_session.specs.declared.fault.SessionFault.{SessionFault}
 use Rattle.till_session.specs.declared.fault.SessionFault.TheVariants as faults
 use Rattle.till_session.specs.declared.fault.TalkFault.TheVariants as talk
 use Rattle.till_session.specs.declared.fault.TalkFault.TheVariants.{OriginatorChanged}
-use Rattle.till_session.specs.Counters.{Asked, Outcome, is_the_one, outcome_given, owed_by, request_asked, row_made, rows_made, signed_by, signed_on_after}
+use Rattle.till_session.specs.Counters.{Asked, Outcome, is_the_one, outcome_given, owed_by}
+use Rattle.till_session.specs.Counters.{request_asked, row_made, rows_made, signed_by}
+use Rattle.till_session.specs.Counters.{signed_on_after}
 use Rattle.till_session.specs.Text.{changes_in, messages_text, outcome_text, requests_in}
 
 -- whom it serves, the till that it signed on and didn't sign off, and the number of requests asked
@@ -56,7 +59,8 @@ EndsStream f (faults.Talk fault) holds holds' =
 EndsStream f fault holds holds' = ends_early fault ≡ true
 
 -- these messages were answered, and the text goes on behind what was said
-pub record GoesOn (peer peer' : Option (List ℕ)) (ms : List Telegram) (asked : List Asked) (said : List ℕ) : Type 0 where
+pub record GoesOn (peer peer' : Option (List ℕ)) (ms : List Telegram) (asked : List Asked)
+    (said : List ℕ) : Type 0 where
   pub text : (last : List ℕ) (later : List Telegram) (more : List Outcome)
       → messages_text last peer (ms ++ later) (map outcome_given asked ++ more)
       ≡ said ++ messages_text last peer' later more
@@ -65,21 +69,26 @@ pub record GoesOn (peer peer' : Option (List ℕ)) (ms : List Telegram) (asked :
   pub changes : (later : List Telegram) → changes_in peer (ms ++ later) ≡ changes_in peer' later
 
 -- one of these messages came from another originator, and nothing follows what was said
-pub record IsOver (peer : Option (List ℕ)) (ms : List Telegram) (asked : List Asked) (said : List ℕ) : Type 0 where
+pub record IsOver (peer : Option (List ℕ)) (ms : List Telegram) (asked : List Asked)
+    (said : List ℕ) : Type 0 where
   pub text : (last : List ℕ) (later : List Telegram) (more : List Outcome)
       → messages_text last peer (ms ++ later) (map outcome_given asked ++ more) ≡ said
   pub requests : (later : List Telegram) → requests_in peer (ms ++ later) ≡ map request_asked asked
   pub changes : (later : List Telegram) → changes_in peer (ms ++ later) ≡ true
 
 -- the text of these messages begins with what was said
-pub record IsCut (peer : Option (List ℕ)) (ms : List Telegram) (asked : List Asked) (said : List ℕ) : Type 0 where
+pub record IsCut (peer : Option (List ℕ)) (ms : List Telegram) (asked : List Asked)
+    (said : List ℕ) : Type 0 where
   pub text : (last : List ℕ) (later : List Telegram)
-      → (rest : List ℕ) × (messages_text last peer (ms ++ later) (map outcome_given asked) ≡ said ++ rest)
+      → (rest : List ℕ) × (messages_text last peer (ms ++ later) (map outcome_given asked) ≡ said
+      ++ rest)
   pub requests : (later : List Telegram) → (rest : List (Actor × Event))
       × (requests_in peer (ms ++ later) ≡ map request_asked asked ++ rest)
 
--- how messages were answered: all of them; up to another originator; or up to a fault of the session's own
-abbrev pub AreHeard : Option SessionFault → Option (List ℕ) → Option (List ℕ) → List Telegram → List Asked → List ℕ → Type 0
+-- how messages were answered: all of them; up to another originator; or up to a fault of the
+-- session's own
+abbrev pub AreHeard : Option SessionFault → Option (List ℕ) → Option (List ℕ) → List Telegram
+    → List Asked → List ℕ → Type 0
 AreHeard None peer peer' ms asked said = GoesOn peer peer' ms asked said
 AreHeard (Some (faults.Talk OriginatorChanged)) peer peer' ms asked said = IsOver peer ms asked said
 AreHeard (Some fault) peer peer' ms asked said = IsCut peer ms asked said
@@ -95,7 +104,9 @@ IsTold None holds holds' text = Appends holds holds' text
 IsTold (Some fault) holds holds' text = AppendsFront holds holds' text
 
 -- a request was asked once, and what was answered was written
-pub record AsksOnce (fault : Option SessionFault) (old new : TalkState) (actor : Actor) (event : Event) (m : Telegram) (holds holds' : Option (List ℕ)) (rows rows' : List Row) (owes owes' : ℕ → Bool) : Type 0 where
+pub record AsksOnce (fault : Option SessionFault) (old new : TalkState) (actor : Actor)
+    (event : Event) (m : Telegram) (holds holds' : Option (List ℕ)) (rows rows' : List Row)
+    (owes owes' : ℕ → Bool) : Type 0 where
   pub outcome : Outcome
   pub told : IsTold fault holds holds' (outcome_text m outcome)
   pub recorded : rows' ≡ rows ++ row_made actor event outcome
@@ -105,9 +116,11 @@ pub record AsksOnce (fault : Option SessionFault) (old new : TalkState) (actor :
   pub signed : new.on ≡ signed_by actor event outcome old.on
   pub counted : new.asked ≡ one_more old.asked
 
--- Some messages were heard, some requests were asked, and this was said, which was written. The counter has
--- the rows of these requests. Where it owed just the till that the session signed on, it does again.
-pub record Talked (fault : Option SessionFault) (old new : TalkState) (ms : List Telegram) (holds holds' : Option (List ℕ)) (rows rows' : List Row) (owes owes' : ℕ → Bool) : Type 0 where
+-- Some messages were heard, some requests were asked, and this was said, which was written. The
+-- counter has the rows of these requests. Where it owed just the till that the session signed on,
+-- it does again.
+pub record Talked (fault : Option SessionFault) (old new : TalkState) (ms : List Telegram)
+    (holds holds' : Option (List ℕ)) (rows rows' : List Row) (owes owes' : ℕ → Bool) : Type 0 where
   pub asked : List Asked
   pub said : List ℕ
   pub heard : AreHeard fault old.peer new.peer ms asked said

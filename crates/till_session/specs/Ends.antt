@@ -1,5 +1,6 @@
 -- What a session has done when it ends.
-use Rattle.std.specs.Prelude.{◌≡◌, ℕ, ◌*◌, ◌≤◌, Bool, true, false, List, ◌++◌, length, map, take, min, Option, Some, None, IfSome, is_some}
+use Rattle.std.specs.Prelude.{◌≡◌, ℕ, ◌*◌, ◌≤◌, Bool, true, false, List, ◌++◌, length, map, take}
+use Rattle.std.specs.Prelude.{min, Option, Some, None, IfSome, is_some}
 use Rattle.std.specs.Io.KnownBytes.{Appends, Consumes}
 use Rattle.site_base.specs.declared.row.Row.{Row}
 use Rattle.site_base.specs.Devices.{AppendsFront, greatest_count}
@@ -12,7 +13,8 @@ use Rattle.till_session.specs.declared.fault.TalkFault.{TalkFault}
 use Rattle.till_session.specs.declared.fault.TalkFault.TheVariants as talk
 use Rattle.till_session.specs.declared.session.SessionEnd.{SessionEnd}
 use Rattle.site_base.specs.declared.limits.TheConstants.{PIECE_OCTETS}
-use Rattle.till_session.specs.Counters.{Asked, IsLeft, is_the_one, outcome_given, request_asked, rows_made, signed_on_after}
+use Rattle.till_session.specs.Counters.{Asked, IsLeft, is_the_one, outcome_given, request_asked}
+use Rattle.till_session.specs.Counters.{rows_made, signed_on_after}
 use Rattle.till_session.specs.Course.{TalkState}
 use Rattle.till_session.specs.Text.{session_fault, session_requests, session_text}
 
@@ -28,7 +30,9 @@ as_session_fault None = None
 as_session_fault (Some f) = Some (faults.Talk f)
 
 -- What a session has done before a till is left: as `Served` says of its end.
-pub record Conversed (turns : ℕ) (fault : Option SessionFault) (new : TalkState) (left left' holds holds' : Option (List ℕ)) (rows rows' : List Row) (owes owes' : ℕ → Bool) : Type 0 where
+pub record Conversed (turns : ℕ) (fault : Option SessionFault) (new : TalkState)
+    (left left' holds holds' : Option (List ℕ)) (rows rows' : List Row) (owes owes' : ℕ → Bool) :
+    Type 0 where
   pub read : List ℕ
   pub consumed : Consumes left left' read
   pub few : length read ≤ turns * PIECE_OCTETS
@@ -50,12 +54,14 @@ abbrev pub IsClosed : Option ℕ → List Row → List Row → Type 0
 IsClosed None old new = new ≡ old
 IsClosed (Some t) old new = IsLeft t old new
 
--- Some octets were read, a piece a turn at most, and the first requests among their messages were asked, in
--- order; their rows are in the counter's record, and behind them at most the sign-off of the till that
--- these requests signed on and didn't sign off, which the counter was told to leave. A front of the text of
--- what was read, with the answers that these requests were given, was written. Where the session didn't end
--- early, all requests were asked, the whole text was written, and the fault is the text's.
-pub record Served (turns : ℕ) (left left' holds holds' : Option (List ℕ)) (rows rows' : List Row) (end : SessionEnd) : Type 0 where
+-- Some octets were read, a piece a turn at most, and the first requests among their messages were
+-- asked, in order; their rows are in the counter's record, and behind them at most the sign-off of
+-- the till that these requests signed on and didn't sign off, which the counter was told to leave.
+-- A front of the text of what was read, with the answers that these requests were given, was
+-- written. Where the session didn't end early, all requests were asked, the whole text was written,
+-- and the fault is the text's.
+pub record Served (turns : ℕ) (left left' holds holds' : Option (List ℕ)) (rows rows' : List Row)
+    (end : SessionEnd) : Type 0 where
   pub read : List ℕ
   pub consumed : Consumes left left' read
   pub few : length read ≤ turns * PIECE_OCTETS
@@ -65,10 +71,12 @@ pub record Served (turns : ℕ) (left left' holds holds' : Option (List ℕ)) (r
   pub recorded : IsClosed (signed_on_after None asked) (rows ++ rows_made asked) rows'
   pub signed_off : end.signed_off ≡ is_some (signed_on_after None asked)
   pub front : AppendsFront holds holds' (session_text (stream_of read) (map outcome_given asked))
-  pub all_asked : is_early end.fault ≡ false → length asked ≡ length (session_requests (stream_of read))
+  pub all_asked : is_early end.fault ≡ false
+      → length asked ≡ length (session_requests (stream_of read))
   pub whole : is_early end.fault ≡ false
       → Appends holds holds' (session_text (stream_of read) (map outcome_given asked))
-  pub exact : is_early end.fault ≡ false → end.fault ≡ as_session_fault (session_fault (stream_of read))
+  pub exact : is_early end.fault ≡ false
+      → end.fault ≡ as_session_fault (session_fault (stream_of read))
 
 -- the number by which a fault that ends a session is told
 abbrev pub talk_number : TalkFault → ℕ

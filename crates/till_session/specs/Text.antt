@@ -1,6 +1,7 @@
--- The text of a session: what is written for the messages that are read and the answers that are given,
--- in order, and why it ends.
-use Rattle.std.specs.Prelude.{ℕ, Bool, true, false, not, List, [], ◌∷◌, ◌++◌, slice_index, ◌==◌, ◌&&◌, ◌||◌, Option, Some, None, Result, Ok, Err, if◌then◌else◌}
+-- The text of a session: what is written for the messages that are read and the answers that are
+-- given, in order, and why it ends.
+use Rattle.std.specs.Prelude.{ℕ, Bool, true, false, not, List, [], ◌∷◌, ◌++◌, slice_index, ◌==◌}
+use Rattle.std.specs.Prelude.{◌&&◌, ◌||◌, Option, Some, None, Result, Ok, Err, if◌then◌else◌}
 use Rattle.site_base.specs.declared.actor.Actor.{Actor}
 use Rattle.site_base.specs.declared.event.Event.{Event}
 use Rattle.site_base.specs.Refusals.{no_row_number}
@@ -23,7 +24,8 @@ use Rattle.till_session.specs.Counters.{Outcome}
 abbrev pub is_same_node : List ℕ → List ℕ → Bool
 is_same_node a b = slice_index a 0 == slice_index b 0 && slice_index a 1 == slice_index b 1
 
--- it comes from another than the one whom the session serves; before the first message that is nobody
+-- it comes from another than the one whom the session serves; before the first message that is
+-- nobody
 abbrev pub is_another : Option (List ℕ) → List ℕ → Bool
 is_another None from = false
 is_another (Some peer) from = not (is_same_node peer from)
@@ -44,8 +46,8 @@ abbrev pub outcome_text : Telegram → Outcome → List ℕ
 outcome_text m (Ok reply) = spelling (reply_message m reply)
 outcome_text m (Err no_row) = number_text m (no_row_number no_row)
 
--- a message that means this, and what follows: the mapping's fault, or the next answer; nothing more
--- where there is no answer
+-- a message that means this, and what follows: the mapping's fault, or the next answer; nothing
+-- more where there is no answer
 abbrev pub said_to : Telegram → Result (Actor × Event) MapFault → List Outcome
     → (List Outcome → List ℕ) → List ℕ
 said_to m (Err f) answers on = number_text m (map_number f) ++ on answers
@@ -70,7 +72,8 @@ session_text s answers = messages_text (refusal_text s.fault) None s.messages an
 
 -- ---- which requests there are, and why it ends
 
-abbrev pub requests_then : Result (Actor × Event) MapFault → List (Actor × Event) → List (Actor × Event)
+abbrev pub requests_then : Result (Actor × Event) MapFault → List (Actor × Event)
+    → List (Actor × Event)
 requests_then (Err f) requests = requests
 requests_then (Ok request) requests = request ∷ requests
 

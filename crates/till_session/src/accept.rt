@@ -33,8 +33,10 @@ pub trait Accept {
     /// The next connection. It may wait for it.
     fn accept(&mut self, alloc: Global) -> Result<(Self::Reader, Self::Writer), NoConnection>
         ensures given { OnOk result (failed self.new ≡ failed self.old) }
-        ensures no_memory { IsErrOf result NoConnection.NoMemory → failed self.new ≡ failed self.old }
-        ensures failed { IsErrOf result NoConnection.Failed → failed self.new ≡ one_more (failed self.old) };
+        ensures no_memory { IsErrOf result NoConnection.NoMemory
+            → failed self.new ≡ failed self.old }
+        ensures failed { IsErrOf result NoConnection.Failed
+            → failed self.new ≡ one_more (failed self.old) };
 
     /// The number of calls that failed.
     fn failures(&self) -> u64

@@ -1,6 +1,7 @@
 //! The server: workers that serve sessions side by side.
 
-ghost use Rattle.std.specs.Prelude.{◌≡◌, ◌+◌, ◌≤◌, ◌<◌, false, length, vec_capacity, vec_len, IfOk, IfSome, Some};
+ghost use Rattle.std.specs.Prelude.{◌≡◌, ◌+◌, ◌≤◌, ◌<◌, false, length, vec_capacity, vec_len, IfOk};
+ghost use Rattle.std.specs.Prelude.{IfSome, Some};
 ghost use Rattle.std.specs.List.{All};
 ghost use Rattle.counter_desk.specs.declared.crews.TheConstants.{WORKERS};
 ghost use Rattle.till_session.specs.declared.server.TheConstants.{SESSIONS};
@@ -83,10 +84,11 @@ type Started = Option<PromisedHandle<Vec<NumberedEnd>, DrawnEnds>>;
 /// Serves so many sessions by so many workers, all side by side. Each worker takes a share from the
 /// root, draws the numbers of sessions, accepts one connection for each, serves it at the desk, and
 /// hands the share back. The ends come in the order of the sessions' numbers, one for each that was
-/// drawn: that of a session of so many turns, or of a connection that the listener didn't give, with
+/// drawn: that of a session of so many turns, or of a connection that the listener didn't give,
+/// with
 /// `Accept` or `NoMemory`. A worker
-/// that can't be started, or finds no memory for its share or its ends, draws none. An allocation that
-/// is refused here is answered before any worker starts.
+/// that can't be started, or finds no memory for its share or its ends, draws none. An allocation
+/// that is refused here is answered before any worker starts.
 pub fn serve<
     A: Accept + Send + Sync + Drop,
     L: Ledger + Send + Sync,

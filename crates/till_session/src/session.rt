@@ -14,7 +14,7 @@ use crate::counter::Counter;
 use crate::fault::{SessionFault, TalkFault};
 use crate::talk::Talk;
 use app_message::{Decoder, Messages};
-use site_base::{Counted, ReadFault, WriteFault, PIECE_OCTETS, read_piece};
+use site_base::{Counted, PIECE_OCTETS, ReadFault, WriteFault, read_piece};
 use std::alloc::Global;
 use std::io::{Read, Write};
 
@@ -55,7 +55,8 @@ impl Session {
             (C.rows counter.old) (C.rows counter.new) result }
 
         // A counter that owed nobody owes nobody again.
-        ensures nobody { ((t : ℕ) → C.owes counter.old t ≡ false) → (t : ℕ) → C.owes counter.new t ≡ false }
+        ensures nobody { ((t : ℕ) → C.owes counter.old t ≡ false) → (t : ℕ)
+            → C.owes counter.new t ≡ false }
 
         ensures end { result.fault ≡ None → IsAtEnd (R.remaining (device_of reader.new)) }
         ensures no_turns { turns ≡ 0 → result.fault ≡ Some (SessionFault.Read ReadFault.TurnLimit) }

@@ -8,7 +8,8 @@ ghost use Rattle.site_base.specs.Devices.{AppendsFront, Rose, one_more};
 ghost use Rattle.app_message.specs.Spelling.{spelling};
 ghost use Rattle.device_map.specs.Replies.{fault_message};
 ghost use Rattle.till_session.specs.Counters.{owed_by, row_made, signed_by};
-ghost use Rattle.till_session.specs.Course.{silent, ends_early, ends_talk, AsksOnce, EndsStream, IsOwn, IsSpokenBy, Talked};
+ghost use Rattle.till_session.specs.Course.{silent, ends_early, ends_talk, AsksOnce, EndsStream};
+ghost use Rattle.till_session.specs.Course.{IsOwn, IsSpokenBy, Talked};
 ghost use Rattle.till_session.specs.Text.{is_another, peer_after, outcome_text, number_text};
 
 use crate::counter::Counter;
@@ -86,7 +87,8 @@ impl Talk {
         ensures same { self.new ≡ self.old }
         ensures ok { OnOk result
             (Appends (W.contents (device_of writer.old)) (W.contents (device_of writer.new)) (spelling message)) }
-        ensures front { AppendsFront (W.contents (device_of writer.old)) (W.contents (device_of writer.new))
+        ensures front { AppendsFront (W.contents (device_of writer.old))
+            (W.contents (device_of writer.new))
             (spelling message) }
         ensures ends { IfErr result (λ fault. ends_early fault ≡ true) }
         ensures counted { OnOk result (failures_of writer.new ≡ failures_of writer.old) }
@@ -132,7 +134,8 @@ impl Talk {
         turns: &mut u64,
     ) -> Result<(), SessionFault>
         ensures same { self.new ≡ self.old }
-        ensures front { AppendsFront (W.contents (device_of writer.old)) (W.contents (device_of writer.new))
+        ensures front { AppendsFront (W.contents (device_of writer.old))
+            (W.contents (device_of writer.new))
             (spelling (fault_message fault.now)) }
         ensures ends { IfErr result (λ e. EndsStream fault.now e
             (W.contents (device_of writer.old)) (W.contents (device_of writer.new))) }
@@ -204,9 +207,11 @@ impl Talk {
         turns: &mut u64,
     ) -> Result<(), SessionFault>
         ensures same { self.new ≡ self.old }
-        ensures ok { OnOk result (Appends (W.contents (device_of writer.old)) (W.contents (device_of writer.new))
+        ensures ok { OnOk result (Appends (W.contents (device_of writer.old))
+            (W.contents (device_of writer.new))
             (number_text message.now number)) }
-        ensures front { AppendsFront (W.contents (device_of writer.old)) (W.contents (device_of writer.new))
+        ensures front { AppendsFront (W.contents (device_of writer.old))
+            (W.contents (device_of writer.new))
             (number_text message.now number) }
         ensures ends { IfErr result (λ fault. ends_early fault ≡ true) }
         ensures counted { OnOk result (failures_of writer.new ≡ failures_of writer.old) }
@@ -253,8 +258,10 @@ impl Talk {
         event: &Event,
     ) -> Result<Reply, NoRow>
         requires { IsSpokenBy actor.now self.old.peer }
-        ensures rows { C.rows counter.new ≡ C.rows counter.old ++ row_made actor.now event.now result }
-        ensures owes { (t : ℕ) → C.owes counter.new t ≡ owed_by actor.now event.now result (C.owes counter.old) t }
+        ensures rows { C.rows counter.new ≡ C.rows counter.old
+            ++ row_made actor.now event.now result }
+        ensures owes { (t : ℕ) → C.owes counter.new t
+            ≡ owed_by actor.now event.now result (C.owes counter.old) t }
         ensures peer { self.new.peer ≡ self.old.peer }
         ensures own { IsOwn self.old.on self.old.peer }
         ensures on { self.new.on ≡ signed_by actor.now event.now result self.old.on }

@@ -3,7 +3,9 @@ use Rattle.std.proofs.Common.{◌≡◌, ℕ, true, Option, Some, None, Result, 
 use Rattle.site_base.specs.declared.refusal.Refusal.{Refusal}
 use Rattle.transaction_buffer.specs.declared.request.Request.{Request}
 use Rattle.transaction_buffer.specs.Sales.{Key, Sale, Sales, is_unpaid, sale_of, with_sale}
-use Rattle.transaction_buffer.specs.TransactionTable.{Line, after_at, after_line, after_request, line_for, refusal_in, sale_after, sale_after_request}
+use Rattle.transaction_buffer.specs.TransactionTable.{Line, after_at, after_line, after_request}
+use Rattle.transaction_buffer.specs.TransactionTable.{line_for, refusal_in, sale_after}
+use Rattle.transaction_buffer.specs.TransactionTable.{sale_after_request}
 use Rattle.transaction_buffer.proofs.Rules.{accepted_unpaid}
 
 -- a sale that was unpaid, and the same sale in another standing

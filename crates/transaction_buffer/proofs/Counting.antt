@@ -1,11 +1,17 @@
 -- How many sales a point has made, and how many of them are unpaid, after each change.
-use Rattle.std.proofs.Common.{◌≡◌, ℕ, ◌+◌, ◌≤◌, ◌==◌, ◌&&◌, Bool, true, false, cond, List, [], ◌∷◌, ◌++◌, Option, Some, None, Result, Ok, Err, refl, sym, ap, subst, ◌∙◌, arith}
+use Rattle.std.proofs.Common.{◌≡◌, ℕ, ◌+◌, ◌≤◌, ◌==◌, ◌&&◌, Bool, true, false, cond, List, [], ◌∷◌}
+use Rattle.std.proofs.Common.{◌++◌, Option, Some, None, Result, Ok, Err, refl, sym, ap, subst, ◌∙◌}
+use Rattle.std.proofs.Common.{arith}
 use Rattle.std.proofs.lemmas.Bool.Decides.{nat_tests}
 use Rattle.site_base.specs.declared.refusal.Refusal.{Refusal}
-use Rattle.transaction_buffer.proofs.InShift.{of_shift, made_with as counted_with, made_pushed, made_mapped}
+use Rattle.transaction_buffer.proofs.InShift.{of_shift, made_with as counted_with, made_pushed}
+use Rattle.transaction_buffer.proofs.InShift.{made_mapped}
 use Rattle.transaction_buffer.specs.declared.request.Request.{Request}
-use Rattle.transaction_buffer.specs.Sales.{Key, Sale, Sales, sales_at, sale_of, made_in, with_in, made_at, is_unpaid, unpaid_among, unpaid_at, with_sale, with_new}
-use Rattle.transaction_buffer.specs.TransactionTable.{Line, line_for, after_line, after_at, after_request, unlock_all_of, after_sign_off}
+use Rattle.transaction_buffer.specs.Sales.{Key, Sale, Sales, sales_at, sale_of, made_in, with_in}
+use Rattle.transaction_buffer.specs.Sales.{made_at, is_unpaid, unpaid_among, unpaid_at, with_sale}
+use Rattle.transaction_buffer.specs.Sales.{with_new}
+use Rattle.transaction_buffer.specs.TransactionTable.{Line, line_for, after_line, after_at}
+use Rattle.transaction_buffer.specs.TransactionTable.{after_request, unlock_all_of, after_sign_off}
 use Rattle.transaction_buffer.specs.Laws.{IsCountedAfter}
 use Rattle.transaction_buffer.proofs.Reading.{sales_at_insert, sales_at_each, let_go_shift}
 use Rattle.transaction_buffer.proofs.Rules.{accepted_unpaid}

@@ -1,5 +1,6 @@
 -- Where a sale stands that was found.
-use Rattle.std.proofs.Common.{◌≡◌, ℕ, ◌+◌, ◌<◌, List, length, get_or, Option, Some, None, is_some, refl, sym, ap, ◌∙◌}
+use Rattle.std.proofs.Common.{◌≡◌, ℕ, ◌+◌, ◌<◌, List, length, get_or, Option, Some, None, is_some}
+use Rattle.std.proofs.Common.{refl, sym, ap, ◌∙◌}
 use Rattle.transaction_buffer.specs.declared.found_sale.FoundSale.{FoundSale}
 use Rattle.transaction_buffer.specs.declared.standing.Standing.TheVariants.{Payable}
 use Rattle.transaction_buffer.specs.FoundSales.{IsPlaced}

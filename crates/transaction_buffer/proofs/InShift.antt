@@ -1,5 +1,7 @@
 -- A point's sales of one shift: what is found, replaced, added and counted among them.
-use Rattle.std.proofs.Common.{◌≡◌, ◌≢◌, ℕ, ◌+◌, ◌-◌, ◌<◌, ◌==◌, ◌&&◌, Bool, true, false, cond, if◌then◌else◌, List, [], ◌∷◌, ◌++◌, map, Option, option_map, Some, None, refl, sym, ap, ◌∙◌, arith}
+use Rattle.std.proofs.Common.{◌≡◌, ◌≢◌, ℕ, ◌+◌, ◌-◌, ◌<◌, ◌==◌, ◌&&◌, Bool, true, false, cond}
+use Rattle.std.proofs.Common.{if◌then◌else◌, List, [], ◌∷◌, ◌++◌, map, Option, option_map, Some}
+use Rattle.std.proofs.Common.{None, refl, sym, ap, ◌∙◌, arith}
 use Rattle.std.proofs.lemmas.Bool.Decides.{nat_tests}
 use Rattle.transaction_buffer.specs.Sales.{Sale, sale_in, made_in, with_in}
 use Rattle.transaction_buffer.specs.Sums.{sum_among}
@@ -169,7 +171,8 @@ mapped change g m [] keeps = refl
 mapped change g m (z ∷ zs) keeps =
     ap (λ (h : ℕ). if h == g then (if m == 1 then Some (change z)
     else sale_in g (m - 1) (map change zs)) else sale_in g m (map change zs)) (keeps z)
-    ∙ by_tests (z.shift == g) (m == 1) (mapped change g (m - 1) zs keeps) (mapped change g m zs keeps)
+    ∙ by_tests (z.shift == g) (m == 1) (mapped change g (m - 1) zs keeps)
+    (mapped change g m zs keeps)
   where
     by_tests : (a b : Bool)
         → sale_in g (m - 1) (map change zs) ≡ option_map change (sale_in g (m - 1) zs)

@@ -1,5 +1,6 @@
 -- The kept sums after each change.
-use Rattle.std.proofs.Common.{◌≡◌, ℕ, ◌+◌, ◌^◌, ◌<◌, ◌≤◌, ◌==◌, ◌&&◌, Bool, true, false, cond, List, [], ◌∷◌, length, get_or, map, Some, refl, sym, ap, ◌∙◌, arith}
+use Rattle.std.proofs.Common.{◌≡◌, ℕ, ◌+◌, ◌^◌, ◌<◌, ◌≤◌, ◌==◌, ◌&&◌, Bool, true, false, cond, List}
+use Rattle.std.proofs.Common.{[], ◌∷◌, length, get_or, map, Some, refl, sym, ap, ◌∙◌, arith}
 use Rattle.std.proofs.Math.ListN.{set}
 use Rattle.std.proofs.lemmas.Bool.{eq-eqb}
 use Rattle.std.proofs.lemmas.Bool.Decides.{nat_tests}
@@ -7,16 +8,21 @@ use Rattle.site_base.specs.declared.limits.TheConstants.{PRODUCTS}
 use Rattle.site_base.specs.declared.state.Status.{Status}
 use Rattle.site_base.specs.declared.state.Status.TheVariants as statuses
 use Rattle.transaction_buffer.specs.declared.standing.Standing.{Standing}
-use Rattle.transaction_buffer.specs.declared.standing.Standing.TheVariants.{Payable, LockedBy, ClearedBy}
+use Rattle.transaction_buffer.specs.declared.standing.Standing.TheVariants.{Payable, LockedBy}
+use Rattle.transaction_buffer.specs.declared.standing.Standing.TheVariants.{ClearedBy}
 use Rattle.transaction_buffer.specs.declared.sums.Sums.{Sums}
-use Rattle.transaction_buffer.specs.Sales.{Key, Sale, Sales, sale_of, status_of, with_sale, with_new}
+use Rattle.transaction_buffer.specs.Sales.{Key, Sale, Sales, sale_of, status_of, with_sale}
+use Rattle.transaction_buffer.specs.Sales.{with_new}
 use Rattle.transaction_buffer.specs.TransactionTable.{unlock_all_of}
-use Rattle.transaction_buffer.specs.KeptSums.{kept_sum, AreMoved, AreSums, AreWith, AreWithout, CanMove}
+use Rattle.transaction_buffer.specs.KeptSums.{kept_sum, AreMoved, AreSums, AreWith, AreWithout}
+use Rattle.transaction_buffer.specs.KeptSums.{CanMove}
 use Rattle.transaction_buffer.specs.Shelves.{Shelf, sales_on}
-use Rattle.transaction_buffer.specs.Sums.{sum_among, sum_of, has_status, volume_in, volume_with, volume_locked_by, volume_of, volume_by}
+use Rattle.transaction_buffer.specs.Sums.{sum_among, sum_of, has_status, volume_in, volume_with}
+use Rattle.transaction_buffer.specs.Sums.{volume_locked_by, volume_of, volume_by}
 use Rattle.transaction_buffer.proofs.OnShelves.{sums_there, sum_part, sum_changed}
 use Rattle.transaction_buffer.proofs.Summing.{replaced_sum, sold_sum}
-use Rattle.transaction_buffer.proofs.Volumes.{add_up, let_go_payable, let_go_locked, let_go_cleared, let_go_whole}
+use Rattle.transaction_buffer.proofs.Volumes.{add_up, let_go_payable, let_go_locked, let_go_cleared}
+use Rattle.transaction_buffer.proofs.Volumes.{let_go_whole}
 
 -- a sale has its own status
 own_status : (standing : Standing) → has_status (status_of standing) standing ≡ true

@@ -1,6 +1,9 @@
 -- Which till has locked what: what the two unpaid places of a shelf tell of all its sales, and what
 -- each change of a shelf does to the tills' sets.
-use Rattle.std.proofs.Common.{◌≡◌, ℕ, ◌+◌, ◌<◌, ◌==◌, ◌&&◌, not, Bool, true, false, cond, if◌then◌else◌, List, [], ◌∷◌, length, get_or, map, Option, option_map, option_and_then, Some, None, slice_get, inl, inr, refl, sym, ap, subst, ◌∙◌, arith, length-set}
+use Rattle.std.proofs.Common.{◌≡◌, ℕ, ◌+◌, ◌<◌, ◌==◌, ◌&&◌, not, Bool, true, false, cond}
+use Rattle.std.proofs.Common.{if◌then◌else◌, List, [], ◌∷◌, length, get_or, map, Option, option_map}
+use Rattle.std.proofs.Common.{option_and_then, Some, None, slice_get, inl, inr, refl, sym, ap}
+use Rattle.std.proofs.Common.{subst, ◌∙◌, arith, length-set}
 use Rattle.std.proofs.Math.ListN.{set}
 use Rattle.std.proofs.lemmas.Bool.{cases_eq}
 use Rattle.std.proofs.lemmas.Bool.Decides.{nat_tests}
@@ -12,10 +15,13 @@ use Rattle.site_base.specs.PointSets.{has_point}
 use Rattle.transaction_buffer.specs.declared.locked_points.Lockers.{Lockers}
 use Rattle.transaction_buffer.specs.declared.locked_points.LockedPoints.{LockedPoints}
 use Rattle.transaction_buffer.specs.declared.standing.Standing.{Standing}
-use Rattle.transaction_buffer.specs.declared.standing.Standing.TheVariants.{Payable, LockedBy, ClearedBy}
+use Rattle.transaction_buffer.specs.declared.standing.Standing.TheVariants.{Payable, LockedBy}
+use Rattle.transaction_buffer.specs.declared.standing.Standing.TheVariants.{ClearedBy}
 use Rattle.transaction_buffer.specs.KeptSales.{AreNoted}
 use Rattle.transaction_buffer.specs.SignOffs.{IsLetGo, IsLetGoWhere, AreLetGo}
-use Rattle.transaction_buffer.specs.Locked.{locker_at, lockers_at, no_lockers, is_locker, locker_without, lockers_without, AreTold, IsForgotten, IsNoted, KeepsOthers}
+use Rattle.transaction_buffer.specs.Locked.{locker_at, lockers_at, no_lockers, is_locker}
+use Rattle.transaction_buffer.specs.Locked.{locker_without, lockers_without, AreTold, IsForgotten}
+use Rattle.transaction_buffer.specs.Locked.{IsNoted, KeepsOthers}
 use Rattle.transaction_buffer.specs.Sales.{Sale}
 use Rattle.transaction_buffer.specs.Shelves.{Shelf, rooms_on}
 use Rattle.transaction_buffer.specs.TransactionTable.{is_locked_by, unlock_all_of, locker}
@@ -70,7 +76,8 @@ let_go_again t x = by_test (is_locked_by t x.standing) refl
     by_test true is = refl
     by_test false is = ap (λ (b : Bool). cond b (record x { standing = Payable }) x) is
 
-all_again : (t : ℕ) (xs : List Sale) → map (unlock_all_of t) (map (unlock_all_of t) xs) ≡ map (unlock_all_of t) xs
+all_again : (t : ℕ) (xs : List Sale)
+    → map (unlock_all_of t) (map (unlock_all_of t) xs) ≡ map (unlock_all_of t) xs
 all_again t [] = refl
 all_again t (x ∷ xs) =
     ap (λ (y : Sale). y ∷ map (unlock_all_of t) (map (unlock_all_of t) xs)) (let_go_again t x)

@@ -1,6 +1,8 @@
 -- Finite maps from numbers to lists: what stands under a number after a change, and each value
 -- changed.
-use Rattle.std.proofs.Common.{◌≡◌, ℕ, ◌<◌, ◌==◌, ◌&&◌, T, Bool, true, false, cond, List, [], ◌∷◌, map, Option, option_map, Some, None, unwrap_or, Less, refl, sym, ap, subst, ◌∙◌, arith}
+use Rattle.std.proofs.Common.{◌≡◌, ℕ, ◌<◌, ◌==◌, ◌&&◌, T, Bool, true, false, cond, List, [], ◌∷◌}
+use Rattle.std.proofs.Common.{map, Option, option_map, Some, None, unwrap_or, Less, refl, sym, ap}
+use Rattle.std.proofs.Common.{subst, ◌∙◌, arith}
 use Rattle.std.proofs.lemmas.Bool.Decides.{nat_tests}
 use Rattle.std.specs.declared.cmp.Ordering.{Ordering}
 use Rattle.std.specs.declared.cmp.Ordering.TheVariants.{Equal, Greater}
@@ -8,7 +10,9 @@ use Rattle.std.specs.Ordering.{nat_cmp, eq_by_cmp, is_lt}
 use Rattle.std.specs.Cmp.{nat_cmp_total, unsigned_tied}
 use Rattle.std.proofs.lemmas.Cmp.{ranked}
 use Rattle.std.specs.FinMap as finite
-use Rattle.std.specs.FinMap.{FinMap, find, entries, entries_sorted, same_map, get-entries, get-from_entries, get-insert, get-from_sorted, entries-from_sorted, nat_cmp-IsAntisymmetric, is_sorted}
+use Rattle.std.specs.FinMap.{FinMap, find, entries, entries_sorted, same_map, get-entries}
+use Rattle.std.specs.FinMap.{get-from_entries, get-insert, get-from_sorted, entries-from_sorted}
+use Rattle.std.specs.FinMap.{nat_cmp-IsAntisymmetric, is_sorted}
 use Rattle.std.specs.FinMap.Entries.{below_all}
 
 spread : {A : Type 0} (b : Bool) (xs : List A) (o : Option (List A))

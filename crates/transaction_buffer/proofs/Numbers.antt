@@ -1,5 +1,6 @@
 -- The number of the next sale.
-use Rattle.std.proofs.Common.{◌≡◌, ℕ, ◌+◌, ◌<◌, ◌≤◌, Bool, true, false, cond, nat_lt, Option, Some, None, IsSome, IfSome, ◌↔◌, refl, ap, ◌∙◌, arith}
+use Rattle.std.proofs.Common.{◌≡◌, ℕ, ◌+◌, ◌<◌, ◌≤◌, Bool, true, false, cond, nat_lt, Option, Some}
+use Rattle.std.proofs.Common.{None, IsSome, IfSome, ◌↔◌, refl, ap, ◌∙◌, arith}
 use Rattle.std.proofs.lemmas.Bool.Decides.{nat_tests}
 use Rattle.site_base.specs.declared.limits.TheConstants.{GREATEST_SEQ}
 use Rattle.transaction_buffer.specs.Sales.{next_after}

@@ -1,5 +1,8 @@
 -- What the shelves of the points say of the sales, and what a change of one shelf changes.
-use Rattle.std.proofs.Common.{◌≡◌, ◌≢◌, ℕ, zero, suc, ◌+◌, ◌-◌, ◌<◌, ◌≤◌, ◌==◌, Bool, true, false, if◌then◌else◌, List, [], ◌∷◌, ◌++◌, length, get_or, map, Option, Some, None, unwrap_or, inl, inr, refl, sym, ap, subst, ◌∙◌, arith, length-set, get_or-set_same}
+use Rattle.std.proofs.Common.{◌≡◌, ◌≢◌, ℕ, zero, suc, ◌+◌, ◌-◌, ◌<◌, ◌≤◌, ◌==◌, Bool, true, false}
+use Rattle.std.proofs.Common.{if◌then◌else◌, List, [], ◌∷◌, ◌++◌, length, get_or, map, Option, Some}
+use Rattle.std.proofs.Common.{None, unwrap_or, inl, inr, refl, sym, ap, subst, ◌∙◌, arith}
+use Rattle.std.proofs.Common.{length-set, get_or-set_same}
 use Rattle.std.proofs.Math.ListN.{set}
 use Rattle.std.proofs.lemmas.List.{map-set, get_or-map, set-get_or, length-map}
 use Rattle.std.specs.FinMap as finite
@@ -191,7 +194,8 @@ let_go_from t n ((x ∷ xs) ∷ xss) =
     (let_go_from t (n + 1) xss)
 
 pub let_go_there : (t : ℕ) (old new : List Shelf)
-    → map (λ (x : Shelf). x.sales) new ≡ map (map (unlock_all_of t)) (map (λ (x : Shelf). x.sales) old)
+    → map (λ (x : Shelf). x.sales) new
+    ≡ map (map (unlock_all_of t)) (map (λ (x : Shelf). x.sales) old)
     → sales_on new ≡ after_sign_off t (sales_on old)
 let_go_there t old new each =
     ap finite.from_entries

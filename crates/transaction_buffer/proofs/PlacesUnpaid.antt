@@ -1,12 +1,16 @@
 -- The places of the unpaid sales after each change of a shelf.
-use Rattle.std.proofs.Common.{◌≡◌, ◌≢◌, ℕ, ◌+◌, ◌<◌, ◌==◌, ◌||◌, Bool, true, false, cond, if◌then◌else◌, List, [], ◌∷◌, ◌++◌, length, get_or, map, Option, Some, None, inl, inr, refl, sym, ap, ◌∙◌, arith}
+use Rattle.std.proofs.Common.{◌≡◌, ◌≢◌, ℕ, ◌+◌, ◌<◌, ◌==◌, ◌||◌, Bool, true, false, cond}
+use Rattle.std.proofs.Common.{if◌then◌else◌, List, [], ◌∷◌, ◌++◌, length, get_or, map, Option, Some}
+use Rattle.std.proofs.Common.{None, inl, inr, refl, sym, ap, ◌∙◌, arith}
 use Rattle.std.proofs.Math.ListN.{set}
 use Rattle.std.proofs.lemmas.Bool.{cases_eq, cases_lt, false≢true}
 use Rattle.std.proofs.lemmas.Bool.Decides.{nat_tests}
 use Rattle.std.proofs.lemmas.Grind.{get_or-set_at}
-use Rattle.std.proofs.lemmas.List.{get_or-set_other, length_push, length-set, get_or_append_left, get_or-map, length-map}
+use Rattle.std.proofs.lemmas.List.{get_or-set_other, length_push, length-set, get_or_append_left}
+use Rattle.std.proofs.lemmas.List.{get_or-map, length-map}
 use Rattle.transaction_buffer.specs.Sales.{Sale, is_unpaid, unpaid_among}
-use Rattle.transaction_buffer.specs.UnpaidPlaces.{is_at, one_if_kept, place_with, place_kept, place_without, AreUnpaid}
+use Rattle.transaction_buffer.specs.UnpaidPlaces.{is_at, one_if_kept, place_with, place_kept}
+use Rattle.transaction_buffer.specs.UnpaidPlaces.{place_without, AreUnpaid}
 use Rattle.std.proofs.Math.Seq.{get_or-append_seam}
 use Rattle.transaction_buffer.specs.TransactionTable.{unlock_all_of}
 use Rattle.transaction_buffer.proofs.Unpaid.{unpaid_pushed, unpaid_let_go, let_go_unpaid}
@@ -186,7 +190,8 @@ of_left (Some k) i j is = by_test (k == i) is
     by_test true is = cc
     by_test false is = is
 
-fewer_at : (a : Option ℕ) (i : ℕ) → one_if_kept (place_without a i) + cond (is_at a i) 1 0 ≡ one_if_kept a
+fewer_at : (a : Option ℕ) (i : ℕ)
+    → one_if_kept (place_without a i) + cond (is_at a i) 1 0 ≡ one_if_kept a
 fewer_at None i = refl
 fewer_at (Some k) i = by_test (k == i)
   where
@@ -242,7 +247,8 @@ pub places_put : (xs : List Sale) (i : ℕ) (y d : Sale) (a b : Option ℕ) → 
     → i < length xs → is_unpaid (get_or xs i d).standing ≡ true
     → unpaid_among (set xs i y) + 1 ≡ unpaid_among xs + cond (is_unpaid y.standing) 1 0
     → (c : Bool) → c ≡ is_unpaid y.standing
-    → AreUnpaid (set xs i y) (if c then a else place_without a i) (if c then b else place_without b i)
+    → AreUnpaid (set xs i y) (if c then a else place_without a i)
+    (if c then b else place_without b i)
 places_put xs i y d a b are inside was count true is =
     places_kept xs i y d a b are inside was (sym is)
     (count ∙ ap (λ (e : Bool). unpaid_among xs + cond e 1 0) (sym is))

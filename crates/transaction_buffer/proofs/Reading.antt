@@ -1,13 +1,19 @@
 -- What stands under a name after each change.
-use Rattle.std.proofs.Common.{◌≡◌, ◌≢◌, ℕ, ◌+◌, ◌==◌, ◌&&◌, Bool, true, false, cond, List, [], ◌∷◌, ◌++◌, map, Option, option_map, Some, None, unwrap_or, Result, Ok, Err, refl, sym, ap, ◌∙◌, arith}
+use Rattle.std.proofs.Common.{◌≡◌, ◌≢◌, ℕ, ◌+◌, ◌==◌, ◌&&◌, Bool, true, false, cond, List, [], ◌∷◌}
+use Rattle.std.proofs.Common.{◌++◌, map, Option, option_map, Some, None, unwrap_or, Result, Ok, Err}
+use Rattle.std.proofs.Common.{refl, sym, ap, ◌∙◌, arith}
 use Rattle.std.proofs.lemmas.Bool.{and_parts}
 use Rattle.std.proofs.lemmas.Bool.Decides.{nat_tests}
 use Rattle.std.specs.FinMap as finite
 use Rattle.site_base.specs.declared.refusal.Refusal.{Refusal}
 use Rattle.transaction_buffer.specs.declared.request.Request.{Request}
 use Rattle.transaction_buffer.specs.declared.standing.Standing.TheVariants.{Payable}
-use Rattle.transaction_buffer.specs.Sales.{Key, next_key, Sale, sale_in, made_in, with_in, Sales, sales_at, sale_of, same_key, with_sale, with_new, each_changed}
-use Rattle.transaction_buffer.specs.TransactionTable.{Line, line_for, sale_after, sale_after_request, after_line, after_at, after_request, is_locked_by, unlock_all_of}
+use Rattle.transaction_buffer.specs.Sales.{Key, next_key, Sale, sale_in, made_in, with_in, Sales}
+use Rattle.transaction_buffer.specs.Sales.{sales_at, sale_of, same_key, with_sale, with_new}
+use Rattle.transaction_buffer.specs.Sales.{each_changed}
+use Rattle.transaction_buffer.specs.TransactionTable.{Line, line_for, sale_after}
+use Rattle.transaction_buffer.specs.TransactionTable.{sale_after_request, after_line, after_at}
+use Rattle.transaction_buffer.specs.TransactionTable.{after_request, is_locked_by, unlock_all_of}
 use Rattle.transaction_buffer.specs.Laws.{IsReadAfter}
 use Rattle.transaction_buffer.proofs.InShift.{of_shift, with_same, with_other, pushed, mapped}
 use Rattle.transaction_buffer.proofs.Maps.{at_insert, get_each}
@@ -34,7 +40,8 @@ one_sale k j s is =
 
 -- the sale of a name, after the sales of a point were replaced
 read_insert : (k : Key) (p : ℕ) (xs : List Sale) (s : Sales)
-    → sale_of k (finite.insert s p xs) ≡ cond (k.point == p) (sale_in k.shift k.number xs) (sale_of k s)
+    → sale_of k (finite.insert s p xs)
+    ≡ cond (k.point == p) (sale_in k.shift k.number xs) (sale_of k s)
 read_insert k p xs s = ap (sale_in k.shift k.number) (sales_at_insert s p xs k.point)
     ∙ by_test (k.point == p)
   where

@@ -8,7 +8,8 @@ use Rattle.site_base.specs.Checks.{reply_or}
 use Rattle.transaction_buffer.specs.Requests.{Asked}
 use Rattle.transaction_buffer.specs.Laws.{DoTell}
 use Rattle.transaction_buffer.specs.Sales.{Key, Sale, Sales, sale_of, with_sale}
-use Rattle.transaction_buffer.specs.TransactionTable.{Line, line_for, line_of, refusal_in, answer_in, after_line, after_at}
+use Rattle.transaction_buffer.specs.TransactionTable.{Line, line_for, line_of, refusal_in}
+use Rattle.transaction_buffer.specs.TransactionTable.{answer_in, after_line, after_at}
 
 -- what an answer and a refusal tell
 pub replies_tell : DoTell

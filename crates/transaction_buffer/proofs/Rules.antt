@@ -1,5 +1,7 @@
 -- The rules of locks and clears.
-use Rattle.std.proofs.Common.{◌≡◌, ℕ, ◌==◌, ◌⊎◌, inl, inr, Bool, true, false, cond, List, [], Option, option_map, option_and_then, Some, None, unwrap_or, Result, Ok, refl, sym, ap, ◌∙◌}
+use Rattle.std.proofs.Common.{◌≡◌, ℕ, ◌==◌, ◌⊎◌, inl, inr, Bool, true, false, cond, List, []}
+use Rattle.std.proofs.Common.{Option, option_map, option_and_then, Some, None, unwrap_or, Result}
+use Rattle.std.proofs.Common.{Ok, refl, sym, ap, ◌∙◌}
 use Rattle.std.proofs.Common.{arith}
 use Rattle.std.proofs.lemmas.Bool.{eq-eqb}
 use Rattle.std.proofs.lemmas.Bool.Decides.{nat_tests}
@@ -11,12 +13,22 @@ use Rattle.site_base.specs.Checks.{reply_or}
 use Rattle.transaction_buffer.specs.declared.request.Request.{Request}
 use Rattle.transaction_buffer.specs.declared.request.Request.TheVariants.{Lock, Unlock, Clear}
 use Rattle.transaction_buffer.specs.declared.standing.Standing.{Standing}
-use Rattle.transaction_buffer.specs.declared.standing.Standing.TheVariants.{Payable, LockedBy, ClearedBy}
-use Rattle.transaction_buffer.specs.Sales.{Key, next_key, Sale, Sales, sale_in, sales_at, sale_of, same_key, is_unpaid, with_sale}
-use Rattle.transaction_buffer.specs.TransactionTable.{Line, Seen, payable, locked_by_it, locked_by_other, cleared_by, line, seen_by, line_for, line_of, refusal_in, answer_in, sale_after, sale_after_request, refusal_of, after_line, after_at, after_request, is_locked_by, unlock_all_of, locker, locker_of}
-use Rattle.transaction_buffer.specs.Laws.{asks, signs_off, sells, IsClearedForGood, IsClear, IsClearedByItsLocker, unless_signed_off, HasOneLocker}
+use Rattle.transaction_buffer.specs.declared.standing.Standing.TheVariants.{Payable, LockedBy}
+use Rattle.transaction_buffer.specs.declared.standing.Standing.TheVariants.{ClearedBy}
+use Rattle.transaction_buffer.specs.Sales.{Key, next_key, Sale, Sales, sale_in, sales_at, sale_of}
+use Rattle.transaction_buffer.specs.Sales.{same_key, is_unpaid, with_sale}
+use Rattle.transaction_buffer.specs.TransactionTable.{Line, Seen, payable, locked_by_it}
+use Rattle.transaction_buffer.specs.TransactionTable.{locked_by_other, cleared_by, line, seen_by}
+use Rattle.transaction_buffer.specs.TransactionTable.{line_for, line_of, refusal_in, answer_in}
+use Rattle.transaction_buffer.specs.TransactionTable.{sale_after, sale_after_request, refusal_of}
+use Rattle.transaction_buffer.specs.TransactionTable.{after_line, after_at, after_request}
+use Rattle.transaction_buffer.specs.TransactionTable.{is_locked_by, unlock_all_of, locker}
+use Rattle.transaction_buffer.specs.TransactionTable.{locker_of}
+use Rattle.transaction_buffer.specs.Laws.{asks, signs_off, sells, IsClearedForGood, IsClear}
+use Rattle.transaction_buffer.specs.Laws.{IsClearedByItsLocker, unless_signed_off, HasOneLocker}
 use Rattle.transaction_buffer.proofs.Maps.{insert_same}
-use Rattle.transaction_buffer.proofs.Reading.{one_sale, read_request, read_each, read_new, let_go_shift}
+use Rattle.transaction_buffer.proofs.Reading.{one_sale, read_request, read_each, read_new}
+use Rattle.transaction_buffer.proofs.Reading.{let_go_shift}
 
 same : (n m : ℕ) → (n == m) ≡ true → n ≡ m
 same n m is = grind (arith, nat_tests)
@@ -128,14 +140,16 @@ cleared_for_good (signs_off t) s k x u shift there is =
     read_each (unlock_all_of t) k s (let_go_shift t) ∙ ap (option_map (unlock_all_of t)) there
     ∙ ap Some (let_go_cleared t u shift x is)
 cleared_for_good (sells p y) s k x u shift there is =
-    read_new p y k s ∙ ap (λ (b : Bool). cond b (Some y) (sale_of k s)) (not_next p y.shift k x s there)
+    read_new p y k s ∙ ap (λ (b : Bool). cond b (Some y) (sale_of k s))
+    (not_next p y.shift k x s there)
     ∙ there
 
 -- ---- a clear, and one locker
 
 one_key : (k : Key) → same_key k k ≡ true
 one_key k =
-    rw (eq-eqb k.point k.point refl, eq-eqb k.shift k.shift refl, eq-eqb k.number k.number refl) refl
+    rw (eq-eqb k.point k.point refl, eq-eqb k.shift k.shift refl, eq-eqb k.number k.number refl)
+    refl
 
 -- the transaction after the request that names it
 after_its_request : (t : ℕ) (request : Request) (k : Key) (x : Sale) (s : Sales)
@@ -300,7 +314,8 @@ one_locker = record {
       (λ x accepted. ap locker (left_by_unlock t x.cents x (seen_by t x.standing) accepted));
   by_clear = λ t shift j k s. locker_after (Clear shift) t None j k s
       (λ x accepted. ap locker (left_by_clear t shift x.cents x (seen_by t x.standing) accepted));
-  by_sign_off = λ t k s. ap locker_in (read_each (unlock_all_of t) k s (let_go_shift t)) ∙ let_go_at t (sale_of k s);
+  by_sign_off = λ t k s. ap locker_in (read_each (unlock_all_of t) k s (let_go_shift t))
+      ∙ let_go_at t (sale_of k s);
   by_sale = λ p x k s. ap locker_in (read_new p x k s)
       ∙ new_at (same_key k (next_key p x.shift s)) x (sale_of k s);
 }

@@ -1,5 +1,7 @@
 -- Where the sales of a shift stand: places by the shifts alone, and the spans that tell them.
-use Rattle.std.proofs.Common.{◌≡◌, ◌≢◌, ℕ, zero, suc, ◌+◌, ◌-◌, ◌<◌, ◌≤◌, ◌==◌, Bool, true, false, cond, if◌then◌else◌, List, [], ◌∷◌, ◌++◌, length, get_or, map, Option, option_map, Some, None, inl, inr, refl, sym, ap, subst, ◌∙◌, arith}
+use Rattle.std.proofs.Common.{◌≡◌, ◌≢◌, ℕ, zero, suc, ◌+◌, ◌-◌, ◌<◌, ◌≤◌, ◌==◌, Bool, true, false}
+use Rattle.std.proofs.Common.{cond, if◌then◌else◌, List, [], ◌∷◌, ◌++◌, length, get_or, map, Option}
+use Rattle.std.proofs.Common.{option_map, Some, None, inl, inr, refl, sym, ap, subst, ◌∙◌, arith}
 use Rattle.std.proofs.Math.ListN.{set}
 use Rattle.std.proofs.lemmas.Bool.{cases_eq, cases_lt}
 use Rattle.std.proofs.lemmas.Bool.Decides.{nat_tests}
@@ -8,7 +10,8 @@ use Rattle.std.proofs.lemmas.List.{get_or-set_other, length_push}
 use Rattle.site_base.specs.declared.limits.TheConstants.{GREATEST_SEQ, GREATEST_SHIFT}
 use Rattle.transaction_buffer.specs.declared.span.Span.{Span}
 use Rattle.transaction_buffer.specs.Sales.{Sale, sale_in, made_in, with_in}
-use Rattle.transaction_buffer.specs.Shelves.{shifts_of, count_in, place_in, NoneAfter, IsSpan, AreSpans, no_span}
+use Rattle.transaction_buffer.specs.Shelves.{shifts_of, count_in, place_in, NoneAfter, IsSpan}
+use Rattle.transaction_buffer.specs.Shelves.{AreSpans, no_span}
 use Rattle.transaction_buffer.specs.Spans.{grown}
 
 same : (n m : ℕ) → (n == m) ≡ true → n ≡ m
@@ -125,14 +128,16 @@ shifts_with h n (z ∷ zs) y its =
         rw (here, later) (ap (λ ks. z.shift ∷ ks) (behind (n - 1)))
     by_tests false there b first behind = rw there (ap (λ ks. z.shift ∷ ks) (behind n))
 
-pub shifts_mapped : (change : Sale → Sale) (xs : List Sale) → ((x : Sale) → (change x).shift ≡ x.shift)
+pub shifts_mapped : (change : Sale → Sale) (xs : List Sale)
+    → ((x : Sale) → (change x).shift ≡ x.shift)
     → shifts_of (map change xs) ≡ shifts_of xs
 shifts_mapped change [] keeps = refl
 shifts_mapped change (x ∷ xs) keeps =
     ap (λ (k : ℕ). k ∷ shifts_of (map change xs)) (keeps x)
     ∙ ap (λ ks. x.shift ∷ ks) (shifts_mapped change xs keeps)
 
-pub shifts_pushed : (xs : List Sale) (x : Sale) → shifts_of (xs ++ x ∷ []) ≡ shifts_of xs ++ x.shift ∷ []
+pub shifts_pushed : (xs : List Sale) (x : Sale)
+    → shifts_of (xs ++ x ∷ []) ≡ shifts_of xs ++ x.shift ∷ []
 shifts_pushed [] x = refl
 shifts_pushed (z ∷ zs) x = ap (λ ks. z.shift ∷ ks) (shifts_pushed zs x)
 
@@ -224,7 +229,8 @@ module _ (gs : List ℕ) (g : ℕ) (none_after : NoneAfter g gs) (top : g ≤ GR
       count_pushed g gs g ∙ ap (λ (b : Bool). count_in g gs + cond b 1 0) own
 
   -- where the new one of the shift stands, from the first of the shift on
-  last_place : (span : Span) → IsSpan g gs span → (grown span (length gs)).first + span.count ≡ length gs
+  last_place : (span : Span) → IsSpan g gs span
+      → (grown span (length gs)).first + span.count ≡ length gs
   last_place span is = by_count (span.count == 0) refl
     where
       by_count : (b : Bool) → (span.count == 0) ≡ b
@@ -258,7 +264,8 @@ module _ (gs : List ℕ) (g : ℕ) (none_after : NoneAfter g gs) (top : g ≤ GR
         omega (arith, last_place span is, count);
   }
 
-  pub span_kept : (h : ℕ) (span : Span) → h ≢ g → h ≤ GREATEST_SHIFT → IsSpan h gs span → IsSpan h (gs ++ g ∷ []) span
+  pub span_kept : (h : ℕ) (span : Span) → h ≢ g → h ≤ GREATEST_SHIFT → IsSpan h gs span
+      → IsSpan h (gs ++ g ∷ []) span
   span_kept h span other high is =
       let isnt : (g == h) ≡ false = is_apart g h (λ e. other (sym e)) in
       let counts : count_in h (gs ++ g ∷ []) ≡ count_in h gs =
@@ -268,8 +275,10 @@ module _ (gs : List ℕ) (g : ℕ) (none_after : NoneAfter g gs) (top : g ≤ GR
         few = is.few;
         places = λ n below. kept_place h (n + 1) gs g (span.first + n) (is.places n below);
         ends = λ none some. elim (cases_lt h g) [
-          | inl before ↦ absurd (let zero_own : count_in g (gs ++ g ∷ []) ≡ 0 = none g before top in omega (arith, count_own))
-          | inr after ↦ absurd (let zero_old : count_in h gs ≡ 0 = none_after h (omega arith) high in omega (arith, is.counts))
+          | inl before ↦ absurd (let zero_own : count_in g (gs ++ g ∷ []) ≡ 0 =
+              none g before top in omega (arith, count_own))
+          | inr after ↦ absurd (let zero_old : count_in h gs ≡ 0 =
+              none_after h (omega arith) high in omega (arith, is.counts))
         ];
       }
 
@@ -287,16 +296,20 @@ module _ (gs : List ℕ) (g : ℕ) (none_after : NoneAfter g gs) (top : g ≤ GR
             let new : IsSpan g (gs ++ g ∷ []) (grown (get_or cells i no_span) (length gs)) =
             span_grown (get_or cells i no_span) old fewer in
             subst (λ (s : Span). IsSpan h (gs ++ g ∷ []) s)
-            (sym (get_or-set_at cells i (h - 1) (grown (get_or cells i no_span) (length gs)) no_span cell within))
-            (subst (λ (k : ℕ). IsSpan k (gs ++ g ∷ []) (grown (get_or cells i no_span) (length gs))) (sym own) new)
+            (sym (get_or-set_at cells i (h - 1) (grown (get_or cells i no_span) (length gs)) no_span
+            cell within))
+            (subst (λ (k : ℕ). IsSpan k (gs ++ g ∷ []) (grown (get_or cells i no_span) (length gs)))
+            (sym own) new)
         | inr other ↦
             subst (λ (s : Span). IsSpan h (gs ++ g ∷ []) s)
-            (sym (get_or-set_other cells i (h - 1) (grown (get_or cells i no_span) (length gs)) no_span (omega arith)))
+            (sym (get_or-set_other cells i (h - 1) (grown (get_or cells i no_span) (length gs))
+            no_span (omega arith)))
             (span_kept h (get_or cells (h - 1) no_span) other high (are h low high))
       ]
 
 -- what has no place isn't there
-pub nowhere : (h n : ℕ) (xs : List Sale) → place_in h n (shifts_of xs) ≡ None → sale_in h n xs ≡ None
+pub nowhere : (h n : ℕ) (xs : List Sale) → place_in h n (shifts_of xs) ≡ None
+    → sale_in h n xs ≡ None
 nowhere h n [] is = refl
 nowhere h n (x ∷ xs) is =
     by_tests (x.shift == h) refl (n == 1) refl (λ m. nowhere h m xs)

@@ -1,13 +1,16 @@
 -- How changes move the sum of a figure over the sales.
-use Rattle.std.proofs.Common.{◌≡◌, ℕ, ◌+◌, T, cond, List, [], ◌∷◌, ◌++◌, map, Option, Some, None, unwrap_or, Less, refl, ap, ◌∙◌, arith}
+use Rattle.std.proofs.Common.{◌≡◌, ℕ, ◌+◌, T, cond, List, [], ◌∷◌, ◌++◌, map, Option, Some, None}
+use Rattle.std.proofs.Common.{unwrap_or, Less, refl, ap, ◌∙◌, arith}
 use Rattle.std.specs.declared.cmp.Ordering.{Ordering}
 use Rattle.std.specs.declared.cmp.Ordering.TheVariants.{Equal, Greater}
 use Rattle.std.specs.Ordering.{nat_cmp, is_eq}
 use Rattle.std.proofs.lemmas.Cmp.{ranked, nat_cmp_total}
 use Rattle.std.specs.FinMap as finite
-use Rattle.std.specs.FinMap.{find, entries, entries_sorted, entries-insert, get-entries, is_sorted, put}
+use Rattle.std.specs.FinMap.{find, entries, entries_sorted, entries-insert, get-entries, is_sorted}
+use Rattle.std.specs.FinMap.{put}
 use Rattle.std.specs.FinMap.Entries.{by_order, below_all}
-use Rattle.transaction_buffer.specs.Sales.{Key, Sale, Sales, with_in, sales_at, sale_of, with_sale, with_new, each_changed}
+use Rattle.transaction_buffer.specs.Sales.{Key, Sale, Sales, with_in, sales_at, sale_of, with_sale}
+use Rattle.transaction_buffer.specs.Sales.{with_new, each_changed}
 use Rattle.transaction_buffer.specs.Sums.{sum_among, sum_over, sum_of}
 use Rattle.transaction_buffer.specs.Laws.{IsSummedAfter}
 use Rattle.transaction_buffer.proofs.InShift.{with_sum}

@@ -1,11 +1,14 @@
 -- What the two unpaid places tell of all sales: a change of unpaid sales alone, and a figure of
 -- unpaid sales alone.
-use Rattle.std.proofs.Common.{◌≡◌, ℕ, zero, suc, ◌+◌, ◌<◌, ◌==◌, ◌||◌, Bool, true, false, cond, if◌then◌else◌, List, [], ◌∷◌, length, get_or, map, Option, Some, None, IfSome, refl, sym, ap, ◌∙◌, arith}
+use Rattle.std.proofs.Common.{◌≡◌, ℕ, zero, suc, ◌+◌, ◌<◌, ◌==◌, ◌||◌, Bool, true, false, cond}
+use Rattle.std.proofs.Common.{if◌then◌else◌, List, [], ◌∷◌, length, get_or, map, Option, Some, None}
+use Rattle.std.proofs.Common.{IfSome, refl, sym, ap, ◌∙◌, arith}
 use Rattle.std.proofs.lemmas.Bool.{false≢true}
 use Rattle.std.proofs.lemmas.Bool.Decides.{nat_tests}
 use Rattle.std.proofs.lemmas.List.{same_lists, get_or-map, length-map}
 use Rattle.transaction_buffer.specs.declared.standing.Standing.{Standing}
-use Rattle.transaction_buffer.specs.declared.standing.Standing.TheVariants.{Payable, LockedBy, ClearedBy}
+use Rattle.transaction_buffer.specs.declared.standing.Standing.TheVariants.{Payable, LockedBy}
+use Rattle.transaction_buffer.specs.declared.standing.Standing.TheVariants.{ClearedBy}
 use Rattle.transaction_buffer.specs.Sales.{Sale, is_unpaid}
 use Rattle.transaction_buffer.specs.Sums.{sum_among, volume_in, volume_locked_by}
 use Rattle.transaction_buffer.specs.TransactionTable.{unlock_all_of, is_locked_by}
@@ -70,7 +73,10 @@ let_go_both t xs ys zs a b are first second =
 -- both places are among the sales
 pub places_within : (xs : List Sale) (a b : Option ℕ) → AreUnpaid xs a b
     → IfSome a (λ i. i < length xs) × IfSome b (λ i. i < length xs)
-places_within xs a b are = (of_first a (λ i is. are.within i is), of_second a b (λ i is. are.within i is))
+places_within xs a b are = (
+  of_first a (λ i is. are.within i is),
+  of_second a b (λ i is. are.within i is),
+)
   where
     either : (e : Bool) → (e || true) ≡ true
     either true = refl
@@ -80,13 +86,16 @@ places_within xs a b are = (of_first a (λ i is. are.within i is), of_second a b
         → IfSome c (λ i. i < length xs)
     of_first None within = tt
     of_first (Some k) within =
-        within k (ap (λ e. e || is_at b k) (let same_k : (k == k) ≡ true = grind (arith, nat_tests) in same_k))
+        within k (ap (λ e. e || is_at b k)
+        (let same_k : (k == k) ≡ true = grind (arith, nat_tests) in same_k))
 
     of_second : (c d : Option ℕ) → ((i : ℕ) → (is_at c i || is_at d i) ≡ true → i < length xs)
         → IfSome d (λ i. i < length xs)
     of_second c None within = tt
     of_second c (Some k) within =
-        within k (ap (λ e. is_at c k || e) (let same_k : (k == k) ≡ true = grind (arith, nat_tests) in same_k) ∙ either (is_at c k))
+        within k (ap (λ e. is_at c k || e)
+        (let same_k : (k == k) ≡ true = grind (arith, nat_tests) in same_k)
+        ∙ either (is_at c k))
 
 -- ---- a figure of unpaid sales
 

@@ -1,8 +1,10 @@
 -- How many sales are unpaid.
-use Rattle.std.proofs.Common.{◌≡◌, ℕ, Bool, true, false, cond, zero, suc, ◌+◌, ◌<◌, ◌≤◌, List, [], ◌∷◌, ◌++◌, length, get_or, map, Some, refl, sym, ap, ◌∙◌, arith}
+use Rattle.std.proofs.Common.{◌≡◌, ℕ, Bool, true, false, cond, zero, suc, ◌+◌, ◌<◌, ◌≤◌, List, []}
+use Rattle.std.proofs.Common.{◌∷◌, ◌++◌, length, get_or, map, Some, refl, sym, ap, ◌∙◌, arith}
 use Rattle.std.proofs.Math.ListN.{set}
 use Rattle.transaction_buffer.specs.declared.standing.Standing.{Standing}
-use Rattle.transaction_buffer.specs.declared.standing.Standing.TheVariants.{Payable, LockedBy, ClearedBy}
+use Rattle.transaction_buffer.specs.declared.standing.Standing.TheVariants.{Payable, LockedBy}
+use Rattle.transaction_buffer.specs.declared.standing.Standing.TheVariants.{ClearedBy}
 use Rattle.transaction_buffer.specs.Sales.{Sale, sale_in, with_in, is_unpaid, unpaid_among}
 use Rattle.transaction_buffer.specs.Sums.{sum_among}
 use Rattle.transaction_buffer.proofs.InShift.{with_sum}
@@ -56,11 +58,13 @@ same_unpaid t x true is = sym (locked_unpaid t x.standing is)
 same_unpaid t x false is = refl
 
 -- a sign-off leaves a sale unpaid or paid
-pub let_go_unpaid : (t : ℕ) (x : Sale) → is_unpaid (unlock_all_of t x).standing ≡ is_unpaid x.standing
+pub let_go_unpaid : (t : ℕ) (x : Sale)
+    → is_unpaid (unlock_all_of t x).standing ≡ is_unpaid x.standing
 let_go_unpaid t x = same_unpaid t x (is_locked_by t x.standing) refl
 
 -- what a sign-off lets go stays unpaid
-pub unpaid_let_go : (t : ℕ) (xs : List Sale) → unpaid_among (map (unlock_all_of t) xs) ≡ unpaid_among xs
+pub unpaid_let_go : (t : ℕ) (xs : List Sale)
+    → unpaid_among (map (unlock_all_of t) xs) ≡ unpaid_among xs
 unpaid_let_go t [] = refl
 unpaid_let_go t (x ∷ xs) =
     ap (λ (b : Bool). cond b 1 0 + unpaid_among (map (unlock_all_of t) xs))

@@ -1,15 +1,21 @@
 -- A product's volumes by status: how they add up, and how each change moves them.
-use Rattle.std.proofs.Common.{◌≡◌, ℕ, ◌+◌, ◌&&◌, ◌==◌, Bool, true, false, cond, Option, Some, None, Result, Ok, Err, refl, sym, ap, ◌∙◌, arith}
+use Rattle.std.proofs.Common.{◌≡◌, ℕ, ◌+◌, ◌&&◌, ◌==◌, Bool, true, false, cond, Option, Some, None}
+use Rattle.std.proofs.Common.{Result, Ok, Err, refl, sym, ap, ◌∙◌, arith}
 use Rattle.site_base.specs.declared.refusal.Refusal.{Refusal}
 use Rattle.site_base.specs.declared.state.Status.TheVariants as statuses
 use Rattle.transaction_buffer.specs.declared.request.Request.{Request}
 use Rattle.transaction_buffer.specs.declared.standing.Standing.{Standing}
-use Rattle.transaction_buffer.specs.declared.standing.Standing.TheVariants.{Payable, LockedBy, ClearedBy}
+use Rattle.transaction_buffer.specs.declared.standing.Standing.TheVariants.{Payable, LockedBy}
+use Rattle.transaction_buffer.specs.declared.standing.Standing.TheVariants.{ClearedBy}
 use Rattle.transaction_buffer.specs.Sales.{Key, Sale, Sales, sale_of}
-use Rattle.transaction_buffer.specs.TransactionTable.{Line, line_for, sale_after, sale_after_request, after_line, after_at, after_request, is_locked_by, unlock_all_of}
-use Rattle.transaction_buffer.specs.Sums.{sum_of, has_status, volume_in, volume_with, volume_locked_by, volume_of, volume_by, locked_volume}
+use Rattle.transaction_buffer.specs.TransactionTable.{Line, line_for, sale_after}
+use Rattle.transaction_buffer.specs.TransactionTable.{sale_after_request, after_line, after_at}
+use Rattle.transaction_buffer.specs.TransactionTable.{after_request, is_locked_by, unlock_all_of}
+use Rattle.transaction_buffer.specs.Sums.{sum_of, has_status, volume_in, volume_with}
+use Rattle.transaction_buffer.specs.Sums.{volume_locked_by, volume_of, volume_by, locked_volume}
 use Rattle.transaction_buffer.specs.Laws.{DoAddUp, DoMove}
-use Rattle.transaction_buffer.proofs.Summing.{replaced_sum, sold_sum, changed_sum, alike_sum, added_sum}
+use Rattle.transaction_buffer.proofs.Summing.{replaced_sum, sold_sum, changed_sum, alike_sum}
+use Rattle.transaction_buffer.proofs.Summing.{added_sum}
 
 -- ---- the three statuses
 
@@ -160,7 +166,8 @@ move = record {
   locked_at_sign_off = λ q t s.
       ap (λ (n : ℕ). n + locked_volume q t s)
       (changed_sum (volume_with q statuses.Locked) (unlock_all_of t) s)
-      ∙ sym (added_sum (λ x. volume_with q statuses.Locked (unlock_all_of t x)) (volume_locked_by q t) s)
+      ∙ sym (added_sum (λ x. volume_with q statuses.Locked (unlock_all_of t x))
+      (volume_locked_by q t) s)
       ∙ alike_sum (λ x. volume_with q statuses.Locked (unlock_all_of t x) + volume_locked_by q t x)
       (volume_with q statuses.Locked) (let_go_locked q t) s;
   cleared_at_sign_off = λ q t s.

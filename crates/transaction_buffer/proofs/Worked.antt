@@ -4,14 +4,17 @@ use Rattle.std.proofs.Common.{◌≡◌, List, [], ◌∷◌, map, Some, None, R
 use Rattle.site_base.specs.declared.answer.Answer.{Answer}
 use Rattle.site_base.specs.declared.answer.Answer.TheVariants.{Locked, Unlocked, Cleared}
 use Rattle.site_base.specs.declared.refusal.Refusal.{Refusal}
-use Rattle.site_base.specs.declared.refusal.Refusal.TheVariants.{NoSuchTransaction, LockedByOther, NotLocked, AlreadyCleared}
+use Rattle.site_base.specs.declared.refusal.Refusal.TheVariants.{NoSuchTransaction, LockedByOther}
+use Rattle.site_base.specs.declared.refusal.Refusal.TheVariants.{NotLocked, AlreadyCleared}
 use Rattle.transaction_buffer.specs.declared.request.Request.{Request}
 use Rattle.transaction_buffer.specs.declared.request.Request.TheVariants.{Lock, Unlock, Clear}
 use Rattle.transaction_buffer.specs.declared.standing.Standing.{Standing}
-use Rattle.transaction_buffer.specs.declared.standing.Standing.TheVariants.{Payable, LockedBy, ClearedBy}
+use Rattle.transaction_buffer.specs.declared.standing.Standing.TheVariants.{Payable, LockedBy}
+use Rattle.transaction_buffer.specs.declared.standing.Standing.TheVariants.{ClearedBy}
 use Rattle.site_base.specs.Checks.{reply_or}
 use Rattle.transaction_buffer.specs.Sales.{Sale}
-use Rattle.transaction_buffer.specs.TransactionTable.{Line, line_of, refusal_in, answer_in, sale_after_request}
+use Rattle.transaction_buffer.specs.TransactionTable.{Line, line_of, refusal_in, answer_in}
+use Rattle.transaction_buffer.specs.TransactionTable.{sale_after_request}
 
 -- 5,000 ml at 1,500 mills
 abbrev sold : Standing → Sale

@@ -4,7 +4,8 @@ use Rattle.std.specs.Coded.{Coded, code_by, coded_ℕ, coded×, coded_list, code
 use Rattle.std.specs.Ordering.{nat_cmp}
 use Rattle.std.specs.FinMap as finite
 use Rattle.transaction_buffer.specs.declared.standing.Standing.{Standing}
-use Rattle.transaction_buffer.specs.declared.standing.Standing.TheVariants.{Payable, LockedBy, ClearedBy}
+use Rattle.transaction_buffer.specs.declared.standing.Standing.TheVariants.{Payable, LockedBy}
+use Rattle.transaction_buffer.specs.declared.standing.Standing.TheVariants.{ClearedBy}
 use Rattle.transaction_buffer.specs.Sales.{Sale, Sales}
 use Rattle.transaction_buffer.specs.Rooms.{Buffered}
 

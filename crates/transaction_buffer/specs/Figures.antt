@@ -1,7 +1,9 @@
 -- The figures that can be counted over the sales.
 use Rattle.std.specs.Prelude.{ℕ, if◌then◌else◌}
 use Rattle.transaction_buffer.specs.declared.figure.Figure.{Figure}
-use Rattle.transaction_buffer.specs.declared.figure.Figure.TheVariants.{Volume, Clears, Cents, ClearsIn, CentsIn, ClearedIn}
+use Rattle.transaction_buffer.specs.declared.figure.Figure.TheVariants.{Volume, Clears, Cents}
+use Rattle.transaction_buffer.specs.declared.figure.Figure.TheVariants.{ClearsIn, CentsIn}
+use Rattle.transaction_buffer.specs.declared.figure.Figure.TheVariants.{ClearedIn}
 use Rattle.transaction_buffer.specs.Clears.{is_clear_of, is_cleared_by, is_cleared_in}
 use Rattle.transaction_buffer.specs.Sales.{Sale, Sales}
 use Rattle.transaction_buffer.specs.Sums.{sum_of, volume_in, volume_with}

@@ -1,5 +1,6 @@
 -- What holds of the sales by their definitions, whatever a till asks, signs off or a point sells.
-use Rattle.std.specs.Prelude.{◌≡◌, ℕ, ◌+◌, ◌≤◌, ◌⊎◌, Option, option_map, Some, None, Ok, Err, ◌==◌, ◌&&◌, if◌then◌else◌}
+use Rattle.std.specs.Prelude.{◌≡◌, ℕ, ◌+◌, ◌≤◌, ◌⊎◌, Option, option_map, Some, None, Ok, Err, ◌==◌}
+use Rattle.std.specs.Prelude.{◌&&◌, if◌then◌else◌}
 use Rattle.site_base.specs.declared.answer.Answer.{Answer}
 use Rattle.site_base.specs.declared.answer.Answer.TheVariants.{Cleared}
 use Rattle.site_base.specs.declared.refusal.Refusal.{Refusal}
@@ -9,9 +10,13 @@ use Rattle.transaction_buffer.specs.declared.request.Request.{Request}
 use Rattle.transaction_buffer.specs.declared.request.Request.TheVariants.{Lock, Unlock, Clear}
 use Rattle.transaction_buffer.specs.declared.standing.Standing.TheVariants.{LockedBy, ClearedBy}
 use Rattle.transaction_buffer.specs.Requests.{Asked, reply_of}
-use Rattle.transaction_buffer.specs.Sales.{Key, next_key, Sale, Sales, sale_of, same_key, made_at, is_unpaid, unpaid_at, with_sale, with_new, each_changed}
-use Rattle.transaction_buffer.specs.TransactionTable.{refusal_of, answer_of, after_request, sale_after_request, unlock_all_of, after_sign_off, locker, locker_of}
-use Rattle.transaction_buffer.specs.Sums.{sum_of, volume_in, volume_with, volume_of, volume_by, locked_volume}
+use Rattle.transaction_buffer.specs.Sales.{Key, next_key, Sale, Sales, sale_of, same_key, made_at}
+use Rattle.transaction_buffer.specs.Sales.{is_unpaid, unpaid_at, with_sale, with_new, each_changed}
+use Rattle.transaction_buffer.specs.TransactionTable.{refusal_of, answer_of, after_request}
+use Rattle.transaction_buffer.specs.TransactionTable.{sale_after_request, unlock_all_of}
+use Rattle.transaction_buffer.specs.TransactionTable.{after_sign_off, locker, locker_of}
+use Rattle.transaction_buffer.specs.Sums.{sum_of, volume_in, volume_with, volume_of, volume_by}
+use Rattle.transaction_buffer.specs.Sums.{locked_volume}
 
 -- what changes the sales: what a till asks of a transaction, the sign-off of a till, a sale of a
 -- point

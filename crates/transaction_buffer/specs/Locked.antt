@@ -1,6 +1,8 @@
 -- Which till has locked the sales at the two unpaid places of a point, and for each till the points
 -- where it has.
-use Rattle.std.specs.Prelude.{◌≡◌, ◌≢◌, ℕ, ◌+◌, ◌<◌, ◌≤◌, Bool, false, not, ◌&&◌, ◌||◌, ◌==◌, if◌then◌else◌, List, map, Option, option_and_then, Some, None, slice_get, slice_index}
+use Rattle.std.specs.Prelude.{◌≡◌, ◌≢◌, ℕ, ◌+◌, ◌<◌, ◌≤◌, Bool, false, not, ◌&&◌, ◌||◌, ◌==◌}
+use Rattle.std.specs.Prelude.{if◌then◌else◌, List, map, Option, option_and_then, Some, None}
+use Rattle.std.specs.Prelude.{slice_get, slice_index}
 use Rattle.site_base.specs.declared.limits.TheConstants.{POINTS, TILL_CELLS}
 use Rattle.site_base.specs.PointSets.{has_point}
 use Rattle.transaction_buffer.specs.declared.locked_points.Lockers.{Lockers}

@@ -1,6 +1,7 @@
 -- How the buffer keeps the sales: on a shelf for each point, each shift's sales one behind the
 -- other.
-use Rattle.std.specs.Prelude.{◌≡◌, ℕ, ◌+◌, ◌-◌, ◌<◌, ◌≤◌, List, [], ◌∷◌, length, map, Option, option_map, Some, None, ◌==◌, if◌then◌else◌, slice_index_or}
+use Rattle.std.specs.Prelude.{◌≡◌, ℕ, ◌+◌, ◌-◌, ◌<◌, ◌≤◌, List, [], ◌∷◌, length, map, Option}
+use Rattle.std.specs.Prelude.{option_map, Some, None, ◌==◌, if◌then◌else◌, slice_index_or}
 use Rattle.std.specs.FinMap as finite
 use Rattle.site_base.specs.declared.limits.TheConstants.{GREATEST_SEQ, GREATEST_SHIFT, UNPAID_LIMIT}
 use Rattle.site_base.specs.Cells.{entries_from}

@@ -1,5 +1,6 @@
 -- Shelves on which a till's locked sales are let go, at some points.
-use Rattle.std.specs.Prelude.{◌≡◌, ℕ, ◌+◌, ◌<◌, Bool, true, false, List, map, length, slice_index_or}
+use Rattle.std.specs.Prelude.{◌≡◌, ℕ, ◌+◌, ◌<◌, Bool, true, false, List, map, length}
+use Rattle.std.specs.Prelude.{slice_index_or}
 use Rattle.site_base.specs.PointSets.{has_point}
 use Rattle.transaction_buffer.specs.Locked.{AreTold, lockers_without}
 use Rattle.transaction_buffer.specs.Shelves.{Shelf}

@@ -1,5 +1,7 @@
 -- The two places at which a shelf's unpaid sales stand.
-use Rattle.std.specs.Prelude.{◌≡◌, ℕ, ◌+◌, ◌<◌, List, Bool, true, false, Option, Some, None, ◌||◌, ◌==◌, if◌then◌else◌, length, option_map, slice_get, slice_index_or, unwrap_or}
+use Rattle.std.specs.Prelude.{◌≡◌, ℕ, ◌+◌, ◌<◌, List, Bool, true, false, Option, Some, None, ◌||◌}
+use Rattle.std.specs.Prelude.{◌==◌, if◌then◌else◌, length, option_map, slice_get, slice_index_or}
+use Rattle.std.specs.Prelude.{unwrap_or}
 use Rattle.transaction_buffer.specs.Sales.{Sale, is_unpaid, unpaid_among}
 use Rattle.transaction_buffer.specs.TransactionTable.{unlock_all_of}
 

@@ -1,13 +1,17 @@
 //! The transaction buffer of a site.
 
-ghost use Rattle.std.specs.Prelude.{◌≡◌, ◌≢◌, ℕ, ◌+◌, ◌^◌, ◌<◌, ◌≤◌, true, Some, None, is_some, length, IfErr, IfSome, OnErr, OnOk};
+ghost use Rattle.std.specs.Prelude.{◌≡◌, ◌≢◌, ℕ, ◌+◌, ◌^◌, ◌<◌, ◌≤◌, true, Some, None, is_some};
+ghost use Rattle.std.specs.Prelude.{length, IfErr, IfSome, OnErr, OnOk};
 ghost use Rattle.site_base.specs.declared.limits.TheConstants.{POINT_CELLS, UNPAID_LIMIT};
-ghost use Rattle.transaction_buffer.specs.Sales.{key, no_sales, HasNoneLater, has_sale, sale_of, next_number, unpaid_at, with_new, is_new, new_sale, shown};
+ghost use Rattle.transaction_buffer.specs.Sales.{key, no_sales, HasNoneLater, has_sale, sale_of};
+ghost use Rattle.transaction_buffer.specs.Sales.{next_number, unpaid_at, with_new, is_new};
+ghost use Rattle.transaction_buffer.specs.Sales.{new_sale, shown};
 ghost use Rattle.transaction_buffer.specs.Requests.{Asked};
 ghost use Rattle.transaction_buffer.specs.Figures.{figure_of};
 ghost use Rattle.transaction_buffer.specs.FoundSales.{key_of, IsPlaced};
 ghost use Rattle.transaction_buffer.specs.SignOffs.{AreLetGo};
-ghost use Rattle.transaction_buffer.specs.TransactionTable.{after_request, after_sign_off, answer_of, refusal_of};
+ghost use Rattle.transaction_buffer.specs.TransactionTable.{after_request, after_sign_off};
+ghost use Rattle.transaction_buffer.specs.TransactionTable.{answer_of, refusal_of};
 ghost use Rattle.transaction_buffer.specs.Sums.{volume_of, volume_by};
 ghost use Rattle.transaction_buffer.specs.Rooms.{one_taken, room_at};
 ghost use Rattle.transaction_buffer.specs.Shelves.{sales_on};

@@ -1,7 +1,9 @@
 //! Laws of the transactions. They have no code: each is proved of the definitions that the
 //! contracts of this crate cite.
 
-ghost use Rattle.transaction_buffer.specs.Laws.{DoAddUp, DoMove, DoTell, HasOneLocker, IsClearedByItsLocker, IsClearedForGood, IsCountedAfter, IsReadAfter, IsSummedAfter};
+ghost use Rattle.transaction_buffer.specs.Laws.{DoAddUp, DoMove, DoTell, HasOneLocker};
+ghost use Rattle.transaction_buffer.specs.Laws.{IsClearedByItsLocker, IsClearedForGood};
+ghost use Rattle.transaction_buffer.specs.Laws.{IsCountedAfter, IsReadAfter, IsSummedAfter};
 
 /// What a reply tells. An answer: nothing refused the request, and it is the one of the table's
 /// line. A refusal: it is the one of the table's line, and no transaction changes.

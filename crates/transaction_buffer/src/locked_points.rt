@@ -28,7 +28,8 @@ pub struct LockedPoints {
 
 impl LockedPoints {
     ghost use Rattle.std.specs.Prelude.{ℕ};
-    ghost use Rattle.transaction_buffer.specs.Locked.{no_lockers, IsForgotten, IsNoted, KeepsOthers};
+    ghost use Rattle.transaction_buffer.specs.Locked.{no_lockers, IsForgotten, IsNoted};
+    ghost use Rattle.transaction_buffer.specs.Locked.{KeepsOthers};
 
     /// No till has locked anything.
     pub fn new() -> Self

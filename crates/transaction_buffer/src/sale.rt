@@ -3,7 +3,8 @@
 ghost use Rattle.std.specs.Prelude.{◌≡◌, ◌≤◌, None, Some, IfErr, OnOk};
 ghost use Rattle.site_base.specs.declared.limits.TheConstants.{PRODUCTS};
 ghost use Rattle.transaction_buffer.specs.Sales.{is_unpaid, new_sale, status_of, view_of};
-ghost use Rattle.transaction_buffer.specs.TransactionTable.{answer_in, unlock_all_of, line_for, locker, refusal_in, sale_after_request};
+ghost use Rattle.transaction_buffer.specs.TransactionTable.{answer_in, unlock_all_of, line_for};
+ghost use Rattle.transaction_buffer.specs.TransactionTable.{locker, refusal_in, sale_after_request};
 ghost use Rattle.transaction_buffer.specs.Clears.{is_cleared_by, is_cleared_in};
 ghost use Rattle.transaction_buffer.specs.Sums.{has_status, volume_in, volume_locked_by};
 

@@ -1,8 +1,11 @@
 //! The sales of one fuelling point.
 
-ghost use Rattle.std.specs.Prelude.{◌≡◌, ℕ, ◌+◌, ◌-◌, ◌^◌, ◌<◌, ◌≤◌, [], ◌∷◌, ◌++◌, true, IfSome, length, map, OnErr, OnOk, slice_index_or, slice_set};
-ghost use Rattle.site_base.specs.declared.limits.TheConstants.{GREATEST_SEQ, GREATEST_SHIFT, UNPAID_LIMIT};
-ghost use Rattle.transaction_buffer.specs.Sales.{Sale, is_unpaid, made_in, next_after, unpaid_among};
+ghost use Rattle.std.specs.Prelude.{◌≡◌, ℕ, ◌+◌, ◌-◌, ◌^◌, ◌<◌, ◌≤◌, [], ◌∷◌, ◌++◌, true, IfSome};
+ghost use Rattle.std.specs.Prelude.{length, map, OnErr, OnOk, slice_index_or, slice_set};
+ghost use Rattle.site_base.specs.declared.limits.TheConstants.{GREATEST_SEQ, GREATEST_SHIFT};
+ghost use Rattle.site_base.specs.declared.limits.TheConstants.{UNPAID_LIMIT};
+ghost use Rattle.transaction_buffer.specs.Sales.{Sale, is_unpaid, made_in, next_after};
+ghost use Rattle.transaction_buffer.specs.Sales.{unpaid_among};
 ghost use Rattle.transaction_buffer.specs.Shelves.{NoneAfter, no_span, place_in, shifts_of};
 ghost use Rattle.transaction_buffer.specs.TransactionTable.{unlock_all_of};
 ghost use Rattle.transaction_buffer.specs.UnpaidPlaces.{figure_at, AreUnpaid, IsLetGoAt};

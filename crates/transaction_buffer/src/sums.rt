@@ -21,7 +21,8 @@ pub struct Sums {
 }
 
 impl Sums {
-    ghost use Rattle.transaction_buffer.specs.KeptSums.{kept_sum, AreMoved, AreWith, AreWithout, CanMove};
+    ghost use Rattle.transaction_buffer.specs.KeptSums.{kept_sum, AreMoved, AreWith, AreWithout};
+    ghost use Rattle.transaction_buffer.specs.KeptSums.{CanMove};
     ghost use Rattle.transaction_buffer.specs.Sums.{volume_locked_by};
 
     /// No volume.

@@ -1,7 +1,8 @@
 //! The places of a shelf's unpaid sales.
 
 ghost use Rattle.std.specs.Prelude.{◌≡◌, ◌+◌, if◌then◌else◌};
-ghost use Rattle.transaction_buffer.specs.UnpaidPlaces.{one_if_kept, place_kept, place_with, place_without};
+ghost use Rattle.transaction_buffer.specs.UnpaidPlaces.{one_if_kept, place_kept, place_with};
+ghost use Rattle.transaction_buffer.specs.UnpaidPlaces.{place_without};
 
 /// The places of a shelf's unpaid sales: at most two, one for each unpaid sale that a point may
 /// have.

@@ -12,10 +12,14 @@ use Rattle.transaction_buffer.specs.declared.request.Request.{Request}
 use Rattle.transaction_buffer.specs.declared.request.Request.TheVariants as requests
 use Rattle.transaction_buffer.specs.Requests.{reply_of}
 use Rattle.transaction_buffer.specs.Sales.{Key, Sale, Sales, sale_of}
-use Rattle.transaction_buffer.specs.TransactionTable.{Seen, payable, locked_by_it, locked_by_other, cleared_by, line, line_of, seen_by, answer_in, refusal_in, answer_of, refusal_of, after_request}
+use Rattle.transaction_buffer.specs.TransactionTable.{Seen, payable, locked_by_it, locked_by_other}
+use Rattle.transaction_buffer.specs.TransactionTable.{cleared_by, line, line_of, seen_by, answer_in}
+use Rattle.transaction_buffer.specs.TransactionTable.{refusal_in, answer_of, refusal_of}
+use Rattle.transaction_buffer.specs.TransactionTable.{after_request}
 use Rattle.written_site.specs.SiteChecks.{may_ask, can_do, first_refusal}
 use Rattle.written_site.specs.SiteState.{SiteState, key_named, open_shift}
-use Rattle.written_site.specs.SiteStep.{accepted_site, site_after, site_answer, clear_told, reply_to}
+use Rattle.written_site.specs.SiteStep.{accepted_site, site_after, site_answer, clear_told}
+use Rattle.written_site.specs.SiteStep.{reply_to}
 use Rattle.written_site.proofs.ClearFigures.{refused_leaves}
 
 -- what an accepted request of a sale is answered with

@@ -1,11 +1,14 @@
 -- What a till asks of a sale, and the sums of figures over all sales.
-use Rattle.std.proofs.Common.{◌≡◌, ℕ, ◌+◌, Option, Some, None, Result, Ok, Err, refl, ap, ◌∙◌, arith}
+use Rattle.std.proofs.Common.{◌≡◌, ℕ, ◌+◌, Option, Some, None, Result, Ok, Err, refl, ap, ◌∙◌}
+use Rattle.std.proofs.Common.{arith}
 use Rattle.site_base.specs.declared.refusal.Refusal.{Refusal}
 use Rattle.transaction_buffer.specs.declared.request.Request.{Request}
 use Rattle.transaction_buffer.specs.declared.standing.Standing.{Standing}
 use Rattle.transaction_buffer.specs.Sales.{Key, Sale, Sales, sale_of}
 use Rattle.transaction_buffer.specs.Sums.{sum_of}
-use Rattle.transaction_buffer.specs.TransactionTable.{Line, line_for, sale_after, sale_after_request, after_line, after_at, after_request}
+use Rattle.transaction_buffer.specs.TransactionTable.{Line, line_for, sale_after}
+use Rattle.transaction_buffer.specs.TransactionTable.{sale_after_request, after_line, after_at}
+use Rattle.transaction_buffer.specs.TransactionTable.{after_request}
 use Rattle.transaction_buffer.proofs.Summing.{replaced_sum}
 
 -- a figure, after the table's line for a sale that is there

@@ -16,7 +16,12 @@ run s (r ∷ rs) legal =
     record {
       rows =
           ap (λ x. record { actor = r.actor; event = r.event; reply = x } ∷ rs) legal.0
-          ∙ ap (λ xs. record { actor = r.actor; event = r.event; reply = reply_to s r.actor r.event } ∷ xs) rest.rows;
+          ∙ ap (λ xs. record {
+            actor = r.actor;
+            event = r.event;
+            reply =
+                reply_to s r.actor r.event;
+          } ∷ xs) rest.rows;
       replies =
           ap (λ x. x ∷ replies_of rs) legal.0
           ∙ ap (λ xs. reply_to s r.actor r.event ∷ xs) rest.replies;

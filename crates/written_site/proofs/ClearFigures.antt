@@ -1,19 +1,26 @@
 -- The figures of what tills cleared, over sales alone: how a clear moves them, and what leaves
 -- them.
-use Rattle.std.proofs.Common.{◌≡◌, ℕ, ◌+◌, ◌==◌, ◌&&◌, Bool, true, false, cond, Option, Some, None, Result, Ok, Err, refl, sym, ap, ◌∙◌, arith}
+use Rattle.std.proofs.Common.{◌≡◌, ℕ, ◌+◌, ◌==◌, ◌&&◌, Bool, true, false, cond, Option, Some, None}
+use Rattle.std.proofs.Common.{Result, Ok, Err, refl, sym, ap, ◌∙◌, arith}
 use Rattle.site_base.specs.declared.refusal.Refusal.{Refusal}
 use Rattle.transaction_buffer.specs.declared.request.Request.{Request}
 use Rattle.transaction_buffer.specs.declared.request.Request.TheVariants as requests
 use Rattle.transaction_buffer.specs.declared.standing.Standing.{Standing}
-use Rattle.transaction_buffer.specs.declared.standing.Standing.TheVariants.{Payable, LockedBy, ClearedBy}
+use Rattle.transaction_buffer.specs.declared.standing.Standing.TheVariants.{Payable, LockedBy}
+use Rattle.transaction_buffer.specs.declared.standing.Standing.TheVariants.{ClearedBy}
 use Rattle.transaction_buffer.specs.Sales.{Key, Sale, Sales, is_unpaid, no_sales, sale_of, with_new}
 use Rattle.transaction_buffer.specs.Sums.{sum_of, volume_in}
-use Rattle.transaction_buffer.specs.TransactionTable.{Line, locked_by_it, locked_by_other, line, line_for, line_of, seen_by, sale_after, sale_after_request, refusal_in, after_line, after_at, after_request, after_sign_off, is_locked_by, let_go, refusal_of}
+use Rattle.transaction_buffer.specs.TransactionTable.{Line, locked_by_it, locked_by_other, line}
+use Rattle.transaction_buffer.specs.TransactionTable.{line_for, line_of, seen_by, sale_after}
+use Rattle.transaction_buffer.specs.TransactionTable.{sale_after_request, refusal_in, after_line}
+use Rattle.transaction_buffer.specs.TransactionTable.{after_at, after_request, after_sign_off}
+use Rattle.transaction_buffer.specs.TransactionTable.{is_locked_by, let_go, refusal_of}
 use Rattle.transaction_buffer.proofs.OnShelves.{nothing_sold}
 use Rattle.transaction_buffer.proofs.Rules.{cleared_by_its_locker}
 use Rattle.transaction_buffer.proofs.Summing.{alike_sum, changed_sum, sold_sum}
 use Rattle.written_site.specs.FigureSteps.{HasClear, HasSameClears}
-use Rattle.written_site.specs.ShiftFigures.{is_cleared_by, is_cleared_in, clears_in, cents_in, cleared_in, clears_by, cents_by}
+use Rattle.written_site.specs.ShiftFigures.{is_cleared_by, is_cleared_in, clears_in, cents_in}
+use Rattle.written_site.specs.ShiftFigures.{cleared_in, clears_by, cents_by}
 use Rattle.written_site.proofs.AskedSums.{asked_sum, asked_leaves}
 use Rattle.written_site.proofs.SoundTables.{itself, told_once, turned}
 

@@ -1,11 +1,15 @@
 -- What was cleared of each product in a shift is what the rows tell, for every legal history.
-use Rattle.std.proofs.Common.{◌≡◌, ℕ, ◌+◌, ◌==◌, ◌&&◌, Bool, true, false, cond, List, [], ◌∷◌, ◌++◌, Option, option_map, Some, None, Result, Ok, Err, refl, sym, ap, ◌∙◌, if◌then◌else◌, arith, not}
+use Rattle.std.proofs.Common.{◌≡◌, ℕ, ◌+◌, ◌==◌, ◌&&◌, Bool, true, false, cond, List, [], ◌∷◌, ◌++◌}
+use Rattle.std.proofs.Common.{Option, option_map, Some, None, Result, Ok, Err, refl, sym, ap, ◌∙◌}
+use Rattle.std.proofs.Common.{if◌then◌else◌, arith, not}
 use Rattle.std.specs.FinMap.{get-empty}
 use Rattle.std.specs.Ordering.{nat_cmp}
 use Rattle.site_base.specs.declared.actor.Actor.{Actor}
 use Rattle.site_base.specs.declared.actor.Actor.TheVariants.{Till, Dispenser}
 use Rattle.site_base.specs.declared.event.Event.{Event}
-use Rattle.site_base.specs.declared.event.Event.TheVariants.{SignOff, Lock, Unlock, Clear, Terminate, ReadTransaction, Lift, Flow, Offline, HangUp}
+use Rattle.site_base.specs.declared.event.Event.TheVariants.{SignOff, Lock, Unlock, Clear}
+use Rattle.site_base.specs.declared.event.Event.TheVariants.{Terminate, ReadTransaction, Lift, Flow}
+use Rattle.site_base.specs.declared.event.Event.TheVariants.{Offline, HangUp}
 use Rattle.site_base.specs.declared.refusal.Refusal.{Refusal}
 use Rattle.site_base.specs.declared.row.Row.{Row}
 use Rattle.site_base.specs.Configured.{Configured}
@@ -17,10 +21,15 @@ use Rattle.fuelling_point.specs.declared.step.PointStep.TheVariants.{Sold}
 use Rattle.fuelling_point.specs.Step.{step_of}
 use Rattle.transaction_buffer.specs.declared.request.Request.{Request}
 use Rattle.transaction_buffer.specs.declared.request.Request.TheVariants as requests
-use Rattle.transaction_buffer.specs.declared.standing.Standing.TheVariants.{Payable, LockedBy, ClearedBy}
-use Rattle.transaction_buffer.specs.Sales.{Key, key, Sale, Sales, no_sales, made_at, next_key, same_key, sales_at, sale_of, is_unpaid}
+use Rattle.transaction_buffer.specs.declared.standing.Standing.TheVariants.{Payable, LockedBy}
+use Rattle.transaction_buffer.specs.declared.standing.Standing.TheVariants.{ClearedBy}
+use Rattle.transaction_buffer.specs.Sales.{Key, key, Sale, Sales, no_sales, made_at, next_key}
+use Rattle.transaction_buffer.specs.Sales.{same_key, sales_at, sale_of, is_unpaid}
 use Rattle.transaction_buffer.specs.Sums.{volume_in, volume_by, volume_with}
-use Rattle.transaction_buffer.specs.TransactionTable.{Line, line_for, sale_after, sale_after_request, after_request, after_sign_off, is_locked_by, let_go, refusal_of, refusal_in, line_of, seen_by}
+use Rattle.transaction_buffer.specs.TransactionTable.{Line, line_for, sale_after}
+use Rattle.transaction_buffer.specs.TransactionTable.{sale_after_request, after_request}
+use Rattle.transaction_buffer.specs.TransactionTable.{after_sign_off, is_locked_by, let_go}
+use Rattle.transaction_buffer.specs.TransactionTable.{refusal_of, refusal_in, line_of, seen_by}
 use Rattle.transaction_buffer.proofs.InShift.{none_next}
 use Rattle.transaction_buffer.proofs.Reading.{read_after, one_sale}
 use Rattle.transaction_buffer.proofs.Rules.{cleared_by_its_locker, accepted_unpaid}
@@ -30,7 +39,8 @@ use Rattle.transaction_buffer.proofs.Volumes.{move as volumes_move}
 use Rattle.meters.specs.Nozzles.{Nozzle}
 use Rattle.site_base.specs.declared.state.Status.TheVariants as statuses
 use Rattle.written_site.proofs.UnpaidRows.{pays, unpaid_in, leaves_unpaid}
-use Rattle.written_site.specs.ClearedLaws.{cleared_for, sold_as_told, sold_for, volume_told, cleared_while, AreVolumesCleared}
+use Rattle.written_site.specs.ClearedLaws.{cleared_for, sold_as_told, sold_for, volume_told}
+use Rattle.written_site.specs.ClearedLaws.{cleared_while, AreVolumesCleared}
 use Rattle.written_site.specs.DrawLaws.{run_at, product_read}
 use Rattle.written_site.specs.Histories.{Moment, moments_of}
 use Rattle.written_site.specs.RowWords.{OfBooks, open_after}
@@ -38,7 +48,8 @@ use Rattle.written_site.specs.SaleWords.{key_sold, number_sold}
 use Rattle.written_site.specs.ShiftFigures.{cleared_in}
 use Rattle.written_site.specs.SiteChecks.{Passed, own_event, flowed}
 use Rattle.written_site.specs.SiteState.{SiteState, opening, facts_of, key_named, open_shift}
-use Rattle.written_site.specs.SiteStep.{site_answer, step_at, step_told, nozzles_after, sales_after, sales_by, sale_made, reply_to, site_after, first_locker}
+use Rattle.written_site.specs.SiteStep.{site_answer, step_at, step_told, nozzles_after, sales_after}
+use Rattle.written_site.specs.SiteStep.{sales_by, sale_made, reply_to, site_after, first_locker}
 use Rattle.written_site.specs.Volumes.{product_out, running_at}
 use Rattle.written_site.proofs.ClearFigures.{none_cleared_in}
 use Rattle.written_site.proofs.FigureMoves.{keeps_clears, has_clear, new_unpaid}

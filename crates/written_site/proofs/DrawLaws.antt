@@ -1,5 +1,8 @@
 -- The draws of tests are what the rows tell, for every legal history.
-use Rattle.std.proofs.Common.{◌≡◌, ℕ, zero, suc, ◌+◌, ◌-◌, ◌*◌, ◌≤◌, ◌<◌, ◌==◌, ◌&&◌, nat_le, Bool, true, false, cond, List, [], ◌∷◌, length, replicate, Option, Some, None, unwrap_or, Ok, Err, refl, sym, ap, ◌∙◌, if◌then◌else◌, ◌⊎◌, inl, inr, arith}
+use Rattle.std.proofs.Common.{◌≡◌, ℕ, zero, suc, ◌+◌, ◌-◌, ◌*◌, ◌≤◌, ◌<◌, ◌==◌, ◌&&◌, nat_le, Bool}
+use Rattle.std.proofs.Common.{true, false, cond, List, [], ◌∷◌, length, replicate, Option, Some}
+use Rattle.std.proofs.Common.{None, unwrap_or, Ok, Err, refl, sym, ap, ◌∙◌, if◌then◌else◌, ◌⊎◌, inl}
+use Rattle.std.proofs.Common.{inr, arith}
 use Rattle.std.proofs.lemmas.Bool.Decides.{nat_tests}
 use Rattle.std.specs.List.{list_all}
 use Rattle.std.specs.Prelude.{slice_get}
@@ -21,13 +24,15 @@ use Rattle.fuelling_point.specs.declared.step.PointStep.TheVariants.{Drawn}
 use Rattle.fuelling_point.specs.KeptPoints.{growth_of}
 use Rattle.fuelling_point.specs.Step.{step_of}
 use Rattle.meters.specs.Metered.{product_alone}
-use Rattle.written_site.specs.DrawLaws.{tells_drawn, run_at, product_read, draws_at, drawn_for, drawn_while, AreDrawsCounted}
+use Rattle.written_site.specs.DrawLaws.{tells_drawn, run_at, product_read, draws_at, drawn_for}
+use Rattle.written_site.specs.DrawLaws.{drawn_while, AreDrawsCounted}
 use Rattle.written_site.specs.Histories.{Moment}
 use Rattle.written_site.specs.RowWords.{OfBooks, open_after}
 use Rattle.written_site.specs.ShiftFigures.{shift_drawn}
 use Rattle.written_site.specs.SiteChecks.{Passed, own_event, flowed}
 use Rattle.written_site.specs.SiteState.{SiteState, nothing_drawn, facts_of, open_shift}
-use Rattle.written_site.specs.SiteStep.{accepted_site, site_answer, step_at, step_told, nozzles_after, draws_by, draw_noted, reply_to, site_after}
+use Rattle.written_site.specs.SiteStep.{accepted_site, site_answer, step_at, step_told}
+use Rattle.written_site.specs.SiteStep.{nozzles_after, draws_by, draw_noted, reply_to, site_after}
 use Rattle.written_site.specs.Sound.{is_draw_row}
 use Rattle.written_site.specs.Volumes.{product_out, running_at, drawn_by, adjusted}
 use Rattle.written_site.proofs.FigureDraws.{drawn_there, noted_figure, opened_figure}

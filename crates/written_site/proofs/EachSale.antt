@@ -1,8 +1,10 @@
 -- What is so of every sale, after each change of the sales.
-use Rattle.std.proofs.Common.{◌≡◌, ℕ, Bool, true, false, cond, Option, option_map, Some, None, refl, sym, subst, ◌∙◌}
+use Rattle.std.proofs.Common.{◌≡◌, ℕ, Bool, true, false, cond, Option, option_map, Some, None, refl}
+use Rattle.std.proofs.Common.{sym, subst, ◌∙◌}
 use Rattle.transaction_buffer.specs.declared.request.Request.{Request}
 use Rattle.transaction_buffer.specs.Sales.{Key, Sale, Sales, next_key, same_key, sale_of, with_new}
-use Rattle.transaction_buffer.specs.TransactionTable.{after_request, after_sign_off, let_go, sale_after_request}
+use Rattle.transaction_buffer.specs.TransactionTable.{after_request, after_sign_off, let_go}
+use Rattle.transaction_buffer.specs.TransactionTable.{sale_after_request}
 use Rattle.transaction_buffer.proofs.Reading.{read_after}
 use Rattle.written_site.proofs.SoundTables.{told_once}
 

@@ -1,5 +1,7 @@
 -- How an event moves what tests drew in a shift.
-use Rattle.std.proofs.Common.{◌≡◌, ◌≢◌, ℕ, zero, suc, ◌+◌, ◌-◌, ◌≤◌, ◌==◌, ◌&&◌, Bool, true, false, cond, List, [], ◌∷◌, ◌++◌, length, get_or, Option, option_map, Some, None, unwrap_or, refl, sym, ap, ◌∙◌, arith}
+use Rattle.std.proofs.Common.{◌≡◌, ◌≢◌, ℕ, zero, suc, ◌+◌, ◌-◌, ◌≤◌, ◌==◌, ◌&&◌, Bool, true, false}
+use Rattle.std.proofs.Common.{cond, List, [], ◌∷◌, ◌++◌, length, get_or, Option, option_map, Some}
+use Rattle.std.proofs.Common.{None, unwrap_or, refl, sym, ap, ◌∙◌, arith}
 use Rattle.std.proofs.lemmas.Bool.Decides.{nat_tests}
 use Rattle.std.specs.List.{slice_get}
 use Rattle.site_base.specs.declared.actor.Actor.{Actor}
@@ -7,7 +9,9 @@ use Rattle.site_base.specs.declared.event.Event.{Event}
 use Rattle.site_base.specs.declared.event.Event.TheVariants.{CloseShift, Offline, HangUp}
 use Rattle.site_base.specs.declared.limits.TheConstants.{PRODUCT_CELLS}
 use Rattle.site_base.specs.Numbered.{numbered}
-use Rattle.site_base.proofs.Numbering.{numbered_place, numbered_within, numbered_with_same, numbered_with_other, numbered_push_here, numbered_push_other, numbered_next}
+use Rattle.site_base.proofs.Numbering.{numbered_place, numbered_within, numbered_with_same}
+use Rattle.site_base.proofs.Numbering.{numbered_with_other, numbered_push_here, numbered_push_other}
+use Rattle.site_base.proofs.Numbering.{numbered_next}
 use Rattle.fuelling_point.specs.declared.event.PointEvent.{PointEvent}
 use Rattle.fuelling_point.specs.declared.event.PointEvent.TheVariants as points
 use Rattle.fuelling_point.specs.declared.step.PointStep.{PointStep}
@@ -18,7 +22,8 @@ use Rattle.fuelling_point.specs.Step.{step_of}
 use Rattle.written_site.specs.ShiftFigures.{shift_drawn}
 use Rattle.written_site.specs.SiteChecks.{own_event, flowed}
 use Rattle.written_site.specs.SiteState.{SiteState, facts_of, nothing_drawn, open_shift}
-use Rattle.written_site.specs.SiteStep.{accepted_site, draw_noted, draws_by, nozzles_after, one_more_drawn, step_at}
+use Rattle.written_site.specs.SiteStep.{accepted_site, draw_noted, draws_by, nozzles_after}
+use Rattle.written_site.specs.SiteStep.{one_more_drawn, step_at}
 use Rattle.written_site.specs.Sound.{Sound}
 use Rattle.written_site.specs.SoundSteps.{IsTaken, drawn_at, product_at}
 use Rattle.written_site.specs.Volumes.{nozzle_out, product_out, running_at}
@@ -26,7 +31,8 @@ use Rattle.written_site.proofs.SoundMachine.{drawn_from}
 use Rattle.written_site.proofs.SoundSold.{own_point, run_own}
 use Rattle.written_site.proofs.SoundTables.{same}
 use Rattle.written_site.proofs.SoundUses.{draw_cells}
-use Rattle.written_site.proofs.SoundVolumes.{none_drawn, nozzle_there, product_out_after, product_supplied}
+use Rattle.written_site.proofs.SoundVolumes.{none_drawn, nozzle_there, product_out_after}
+use Rattle.written_site.proofs.SoundVolumes.{product_supplied}
 
 -- ---- the draws of a shift
 
@@ -86,7 +92,8 @@ more_figure q r v row low high = by_test (r == q) refl
         (numbered_with_other q r row (unwrap_or (numbered q row) 0 + v) (apart at))
         ∙ (omega arith)
 
-pub noted_figure : (q v g r : ℕ) (rows : List (List ℕ)) → 1 ≤ length rows → 1 ≤ q → q ≤ PRODUCT_CELLS
+pub noted_figure : (q v g r : ℕ) (rows : List (List ℕ)) → 1 ≤ length rows → 1 ≤ q
+    → q ≤ PRODUCT_CELLS
     → ((h : ℕ) (row : List ℕ) → numbered h rows ≡ Some row → length row ≡ PRODUCT_CELLS)
     → drawn_there g r (draw_noted q v rows)
     ≡ drawn_there g r rows + cond (g == length rows && r == q) v 0

@@ -3,7 +3,8 @@ use Rattle.std.proofs.Common.{◌≡◌, ℕ, false, true, List, Option, Some, N
 use Rattle.site_base.specs.declared.actor.Actor.{Actor}
 use Rattle.site_base.specs.declared.actor.Actor.TheVariants.{Till}
 use Rattle.site_base.specs.declared.event.Event.{Event}
-use Rattle.site_base.specs.declared.event.Event.TheVariants.{SignOff, Lock, Unlock, Clear, Offline, HangUp}
+use Rattle.site_base.specs.declared.event.Event.TheVariants.{SignOff, Lock, Unlock, Clear, Offline}
+use Rattle.site_base.specs.declared.event.Event.TheVariants.{HangUp}
 use Rattle.site_base.specs.declared.sale.SaleId.{SaleId}
 use Rattle.fuelling_point.specs.declared.step.PointStep.{PointStep}
 use Rattle.fuelling_point.specs.declared.step.PointStep.TheVariants.{Sold}
@@ -12,8 +13,10 @@ use Rattle.transaction_buffer.specs.Sales.{Sale, is_unpaid, new_standing, sale_o
 use Rattle.written_site.specs.FigureSteps.{HasClear, HasSameClears, is_clear}
 use Rattle.written_site.specs.SiteChecks.{at_sale}
 use Rattle.written_site.specs.SiteState.{SiteState, facts_of, key_named, open_shift}
-use Rattle.written_site.specs.SiteStep.{step_at, nozzles_after, sales_after, sales_by, sale_made, first_locker}
-use Rattle.written_site.proofs.ClearFigures.{clear_counts, lock_keeps, unlock_keeps, sign_off_keeps, sale_keeps, nothing_keeps}
+use Rattle.written_site.specs.SiteStep.{step_at, nozzles_after, sales_after, sales_by, sale_made}
+use Rattle.written_site.specs.SiteStep.{first_locker}
+use Rattle.written_site.proofs.ClearFigures.{clear_counts, lock_keeps, unlock_keeps, sign_off_keeps}
+use Rattle.written_site.proofs.ClearFigures.{sale_keeps, nothing_keeps}
 
 pub new_unpaid : (locker : Option ℕ) → is_unpaid (new_standing locker) ≡ true
 new_unpaid None = refl

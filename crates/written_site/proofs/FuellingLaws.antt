@@ -1,10 +1,13 @@
 -- What is sold is what the rows tell of its fuelling, and it stands for good.
-use Rattle.std.proofs.Common.{◌≡◌, ℕ, ◌+◌, Bool, true, false, cond, List, [], ◌∷◌, ◌++◌, Option, option_map, Some, None, unwrap_or, Result, Ok, Err, refl, sym, ap, subst, ◌∙◌, if◌then◌else◌}
+use Rattle.std.proofs.Common.{◌≡◌, ℕ, ◌+◌, Bool, true, false, cond, List, [], ◌∷◌, ◌++◌, Option}
+use Rattle.std.proofs.Common.{option_map, Some, None, unwrap_or, Result, Ok, Err, refl, sym, ap}
+use Rattle.std.proofs.Common.{subst, ◌∙◌, if◌then◌else◌}
 use Rattle.site_base.specs.declared.actor.Actor.{Actor}
 use Rattle.site_base.specs.declared.actor.Actor.TheVariants.{Till}
 use Rattle.site_base.specs.declared.answer.Answer.TheVariants.{Cleared}
 use Rattle.site_base.specs.declared.event.Event.{Event}
-use Rattle.site_base.specs.declared.event.Event.TheVariants.{SignOff, Lock, Unlock, Clear, Offline, HangUp}
+use Rattle.site_base.specs.declared.event.Event.TheVariants.{SignOff, Lock, Unlock, Clear, Offline}
+use Rattle.site_base.specs.declared.event.Event.TheVariants.{HangUp}
 use Rattle.site_base.specs.declared.refusal.Refusal.{Refusal}
 use Rattle.site_base.specs.declared.row.Row.{Row}
 use Rattle.site_base.specs.Configured.{Configured}
@@ -17,19 +20,23 @@ use Rattle.transaction_buffer.specs.declared.request.Request.TheVariants as requ
 use Rattle.transaction_buffer.specs.declared.standing.Standing.{Standing}
 use Rattle.transaction_buffer.specs.declared.standing.Standing.TheVariants.{Payable}
 use Rattle.transaction_buffer.specs.Sales.{Key, Sale, Sales, same_key, next_key, sales_at, sale_of}
-use Rattle.transaction_buffer.specs.TransactionTable.{Line, line_for, sale_after, sale_after_request, after_request, after_sign_off, is_locked_by, let_go}
+use Rattle.transaction_buffer.specs.TransactionTable.{Line, line_for, sale_after}
+use Rattle.transaction_buffer.specs.TransactionTable.{sale_after_request, after_request}
+use Rattle.transaction_buffer.specs.TransactionTable.{after_sign_off, is_locked_by, let_go}
 use Rattle.transaction_buffer.proofs.Reading.{read_after, one_sale}
 use Rattle.transaction_buffer.proofs.InShift.{none_next}
 use Rattle.transaction_buffer.proofs.Rules.{cleared_by_its_locker}
 use Rattle.written_site.specs.SiteState.{SiteState, opening, facts_of, key_named, open_shift}
 use Rattle.written_site.specs.SiteChecks.{Passed}
-use Rattle.written_site.specs.SiteStep.{site_answer, clear_told, step_at, nozzles_after, sales_after, sales_by, sale_made, reply_to, site_after}
+use Rattle.written_site.specs.SiteStep.{site_answer, clear_told, step_at, nozzles_after}
+use Rattle.written_site.specs.SiteStep.{sales_after, sales_by, sale_made, reply_to, site_after}
 use Rattle.written_site.specs.SiteRun.{site_of_rows, IsLegal}
 use Rattle.written_site.specs.Histories.{Moment, moments_of}
 use Rattle.written_site.specs.RowWords.{OfBooks}
 use Rattle.written_site.specs.SaleWords.{key_after, release_after, sold_as, clears_sale}
 use Rattle.written_site.specs.FuellingWords.{product_at, growth_at, HasFuelling}
-use Rattle.written_site.specs.FuellingLaws.{cents_paid, IsSoldAsRead, IsKeptAsRead, AreSalesKept, IsPricedAtStart, ArePricedAtStart}
+use Rattle.written_site.specs.FuellingLaws.{cents_paid, IsSoldAsRead, IsKeptAsRead, AreSalesKept}
+use Rattle.written_site.specs.FuellingLaws.{IsPricedAtStart, ArePricedAtStart}
 use Rattle.written_site.specs.Volumes.{nozzle_out}
 use Rattle.written_site.proofs.FuellingMoves.{growth_moves}
 use Rattle.written_site.proofs.FuellingRows.{KnowsFuel, fuel_at}

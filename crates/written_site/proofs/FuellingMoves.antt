@@ -1,5 +1,6 @@
 -- What an accepted event does to its point, and what its row says of that.
-use Rattle.std.proofs.Common.{◌≡◌, ℕ, ◌==◌, Bool, true, false, List, Option, Some, None, is_some, unwrap_or, Ok, refl, ap, ◌∙◌, if◌then◌else◌, ◌⊎◌, arith}
+use Rattle.std.proofs.Common.{◌≡◌, ℕ, ◌==◌, Bool, true, false, List, Option, Some, None, is_some}
+use Rattle.std.proofs.Common.{unwrap_or, Ok, refl, ap, ◌∙◌, if◌then◌else◌, ◌⊎◌, arith}
 use Rattle.std.proofs.lemmas.Bool.Decides.{nat_tests}
 use Rattle.std.proofs.lemmas.Grind.{common_steps}
 use Rattle.site_base.specs.declared.actor.Actor.{Actor}
@@ -18,7 +19,8 @@ use Rattle.written_site.specs.SiteState.{SiteState, facts_of}
 use Rattle.written_site.specs.SiteChecks.{Passed, own_event, flowed, lifted}
 use Rattle.written_site.specs.SiteStep.{site_answer}
 use Rattle.written_site.specs.Holders.{names_point}
-use Rattle.written_site.specs.FuellingWords.{nozzle_said, calling_said, tells_calling, is_started, end_said, growth_at}
+use Rattle.written_site.specs.FuellingWords.{nozzle_said, calling_said, tells_calling, is_started}
+use Rattle.written_site.specs.FuellingWords.{end_said, growth_at}
 use Rattle.written_site.specs.SaleWords.{release_said}
 use Rattle.written_site.specs.SoundSteps.{growth_by}
 use Rattle.written_site.proofs.FuellingTold.{growth_is}

@@ -1,5 +1,7 @@
 -- The fuellings under way at a site are those that the rows so far tell.
-use Rattle.std.proofs.Common.{◌≡◌, ℕ, ◌+◌, ◌==◌, ◌&&◌, ◌||◌, Bool, true, false, List, [], ◌∷◌, ◌++◌, Option, option_and_then, Some, None, is_some, unwrap_or, Ok, Err, refl, sym, ap, subst, ◌∙◌, if◌then◌else◌, ◌⊎◌, inl, inr, arith}
+use Rattle.std.proofs.Common.{◌≡◌, ℕ, ◌+◌, ◌==◌, ◌&&◌, ◌||◌, Bool, true, false, List, [], ◌∷◌, ◌++◌}
+use Rattle.std.proofs.Common.{Option, option_and_then, Some, None, is_some, unwrap_or, Ok, Err}
+use Rattle.std.proofs.Common.{refl, sym, ap, subst, ◌∙◌, if◌then◌else◌, ◌⊎◌, inl, inr, arith}
 use Rattle.std.proofs.lemmas.Bool.{false≢true}
 use Rattle.std.proofs.lemmas.Grind.{common_steps}
 use Rattle.std.proofs.lemmas.List.{append_assoc}
@@ -22,20 +24,27 @@ use Rattle.fuelling_point.proofs.Whole.{whole_accepted}
 use Rattle.meters.specs.Nozzles.{product_of, reading_of}
 use Rattle.written_site.specs.SiteState.{SiteState, opening, facts_of, price_at_start}
 use Rattle.written_site.specs.SiteChecks.{Passed, own_event, numbers}
-use Rattle.written_site.specs.SiteStep.{accepted_site, site_answer, prices_after, reply_to, site_after}
+use Rattle.written_site.specs.SiteStep.{accepted_site, site_answer, prices_after, reply_to}
+use Rattle.written_site.specs.SiteStep.{site_after}
 use Rattle.written_site.specs.SiteRun.{site_of_rows, IsLegal}
 use Rattle.written_site.specs.Histories.{Moment, moments_of}
 use Rattle.written_site.specs.Holders.{names_point}
 use Rattle.written_site.specs.RowWords.{last_said, latest}
 use Rattle.written_site.specs.SaleWords.{release_of, release_said}
-use Rattle.written_site.specs.FuellingWords.{nozzle_said, nozzle_of_row, nozzle_after, calling_said, calling_of_row, calls_after, price_said, price_of_row, price_after, product_at, price_read, is_started, starts, ends_at, growth_at, HasFuelling}
+use Rattle.written_site.specs.FuellingWords.{nozzle_said, nozzle_of_row, nozzle_after, calling_said}
+use Rattle.written_site.specs.FuellingWords.{calling_of_row, calls_after, price_said, price_of_row}
+use Rattle.written_site.specs.FuellingWords.{price_after, product_at, price_read, is_started}
+use Rattle.written_site.specs.FuellingWords.{starts, ends_at, growth_at, HasFuelling}
 use Rattle.written_site.specs.Volumes.{nozzle_out}
-use Rattle.written_site.proofs.FuellingMoves.{nozzle_moves, nozzle_away, calls_moves, calling_away, starts_moves, not_ended, end_away, growth_moves, growth_away}
+use Rattle.written_site.proofs.FuellingMoves.{nozzle_moves, nozzle_away, calls_moves, calling_away}
+use Rattle.written_site.proofs.FuellingMoves.{starts_moves, not_ended, end_away, growth_moves}
+use Rattle.written_site.proofs.FuellingMoves.{growth_away}
 use Rattle.written_site.proofs.Histories.{site_of_rows-push}
 use Rattle.written_site.proofs.MomentRows.{moments_push}
 use Rattle.written_site.proofs.PointAfter.{FactsAfter, stays, moves, facts_after, opens_closed}
 use Rattle.written_site.proofs.RowFacts.{Known, known_more, known_first}
-use Rattle.written_site.proofs.RowWords.{told_row, of_row, kept, said_again, said_last, latest_push, total_push}
+use Rattle.written_site.proofs.RowWords.{told_row, of_row, kept, said_again, said_last, latest_push}
+use Rattle.written_site.proofs.RowWords.{total_push}
 use Rattle.written_site.proofs.SlotRows.{moment_at}
 use Rattle.written_site.proofs.SoundMachine.{goes_on, starts as begins}
 use Rattle.written_site.proofs.SoundMeters.{product_after}

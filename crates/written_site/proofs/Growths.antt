@@ -1,9 +1,12 @@
 -- No reply tells more growth than one report may have.
-use Rattle.std.proofs.Common.{◌≡◌, ℕ, ◌+◌, ◌-◌, ◌≤◌, ◌==◌, Bool, true, false, not, cond, nat_le, Option, Some, None, unwrap_or, Ok, refl, arith}
+use Rattle.std.proofs.Common.{◌≡◌, ℕ, ◌+◌, ◌-◌, ◌≤◌, ◌==◌, Bool, true, false, not, cond, nat_le}
+use Rattle.std.proofs.Common.{Option, Some, None, unwrap_or, Ok, refl, arith}
 use Rattle.std.proofs.lemmas.Bool.Decides.{nat_tests}
 use Rattle.site_base.specs.declared.actor.Actor.{Actor}
 use Rattle.site_base.specs.declared.event.Event.{Event}
-use Rattle.site_base.specs.declared.event.Event.TheVariants.{Terminate, Clear, ReadTransaction, ReadProduct, Lift, Offline, Flow, HangUp}
+use Rattle.site_base.specs.declared.event.Event.TheVariants.{Terminate, Clear, ReadTransaction}
+use Rattle.site_base.specs.declared.event.Event.TheVariants.{ReadProduct, Lift, Offline, Flow}
+use Rattle.site_base.specs.declared.event.Event.TheVariants.{HangUp}
 use Rattle.site_base.specs.declared.limits.TheConstants.{GROWTH_LIMIT}
 use Rattle.site_base.specs.declared.refusal.Refusal.TheVariants.{MeterGap, MeterBack, MeterJump}
 use Rattle.site_base.specs.declared.row.Row.{Row}
@@ -14,7 +17,8 @@ use Rattle.fuelling_point.specs.declared.event.PointEvent.{PointEvent}
 use Rattle.fuelling_point.specs.declared.event.PointEvent.TheVariants as points
 use Rattle.fuelling_point.specs.KeptPoints.{Facts, growth_of, noted}
 use Rattle.fuelling_point.specs.Step as machine
-use Rattle.fuelling_point.specs.Table.{Line, Told, done, calling, start, flowed, hung_up, no_sale, sold, stopped, ending, line_of}
+use Rattle.fuelling_point.specs.Table.{Line, Told, done, calling, start, flowed, hung_up, no_sale}
+use Rattle.fuelling_point.specs.Table.{sold, stopped, ending, line_of}
 use Rattle.meters.specs.declared.report.Report.{Report}
 use Rattle.meters.specs.declared.report.Report.TheVariants.{Still, Growing}
 use Rattle.meters.specs.Nozzles.{reading_of}
@@ -22,7 +26,8 @@ use Rattle.meters.specs.Reports.{report_refusal}
 use Rattle.transaction_buffer.specs.Sales.{Sale, sale_of}
 use Rattle.written_site.specs.SiteState.{SiteState, facts_of, key_named, view_sale}
 use Rattle.written_site.specs.SiteChecks as checks
-use Rattle.written_site.specs.SiteStep.{step_told, sale_told, clear_told, product_told, site_answer, reply_to}
+use Rattle.written_site.specs.SiteStep.{step_told, sale_told, clear_told, product_told, site_answer}
+use Rattle.written_site.specs.SiteStep.{reply_to}
 use Rattle.written_site.specs.SiteRun.{row_to}
 use Rattle.written_site.proofs.RowWords.{of_row}
 
@@ -38,14 +43,16 @@ told_growth s p growth no_sale f = omega arith
 told_growth s p growth sold f = by_test f.test
   where
     by_test : (test : Bool)
-        → growth_in_reply (Ok (step_told s p growth (machine.told_over (unwrap_or f.out 0) f.volume (record f { test = test })))) ≤ growth
+        → growth_in_reply (Ok (step_told s p growth
+        (machine.told_over (unwrap_or f.out 0) f.volume (record f { test = test })))) ≤ growth
     by_test true = omega arith
     by_test false = omega arith
 told_growth s p growth stopped f = omega arith
 told_growth s p growth ending f = omega arith
 
 line_growth : (s : SiteState) (p : ℕ) (line : Option Line) (event : PointEvent) (f : Facts)
-    → growth_in_reply (Ok (step_told s p (growth_of event) (machine.step_by line event f))) ≤ growth_of event
+    → growth_in_reply (Ok (step_told s p (growth_of event) (machine.step_by line event f)))
+    ≤ growth_of event
 line_growth s p None event f = omega arith
 line_growth s p (Some line) event f =
     told_growth s p (growth_of event) line.told (noted event line.move f)
@@ -93,13 +100,16 @@ answer_growth s (Flow p n reading) reads =
 answer_growth s (HangUp p n reading) reads =
     let event : PointEvent = points.HangUp n (checks.flowed s p n reading) in
     let told = line_growth s p (line_of event (facts_of s p).state) event (facts_of s p) in
-    let most = report_growth (checks.put_back_at (facts_of s p).state) (reading_of p n s.nozzles) reading reads in
+    let most = report_growth (checks.put_back_at (facts_of s p).state) (reading_of p n s.nozzles)
+    reading reads in
     omega (arith, told, most)
 answer_growth s (Terminate p) reads =
-    let told = line_growth s p (line_of points.Terminate (facts_of s p).state) points.Terminate (facts_of s p) in
+    let told = line_growth s p (line_of points.Terminate (facts_of s p).state) points.Terminate
+    (facts_of s p) in
     omega (arith, told)
 answer_growth s (Offline p) reads =
-    let told = line_growth s p (line_of points.Offline (facts_of s p).state) points.Offline (facts_of s p) in
+    let told = line_growth s p (line_of points.Offline (facts_of s p).state) points.Offline
+    (facts_of s p) in
     omega (arith, told)
 answer_growth s (Lift p n reading) reads =
     let event : PointEvent = checks.lifted s p n in
@@ -110,8 +120,10 @@ answer_growth s (ReadTransaction p id) reads = sale_growth (view_sale s p id)
 answer_growth s (ReadProduct q) reads = product_growth s q (row_of q s.prices)
 answer_growth s e reads = omega arith
 
-pub growth_fits : (s : SiteState) (a : Actor) (e : Event) → growth_in_reply (reply_to s a e) ≤ GROWTH_LIMIT
+pub growth_fits : (s : SiteState) (a : Actor) (e : Event)
+    → growth_in_reply (reply_to s a e) ≤ GROWTH_LIMIT
 growth_fits s a e =
-    of_row (λ (r : Row) (after : SiteState). growth_in_reply r.reply ≤ GROWTH_LIMIT) s (row_to s a e) refl
+    of_row (λ (r : Row) (after : SiteState). growth_in_reply r.reply ≤ GROWTH_LIMIT) s
+    (row_to s a e) refl
     (λ refusal. omega arith)
     (λ passes. answer_growth s e passes.reads)

@@ -1,19 +1,28 @@
 -- The holder of a point is a slot of the site's history.
-use Rattle.std.proofs.Common.{◌≡◌, ℕ, ◌==◌, not, ◌&&◌, Bool, true, false, cond, List, [], ◌∷◌, ◌++◌, Option, Some, None, is_some, Ok, refl, sym, ap, subst, ◌∙◌, if◌then◌else◌, arith}
+use Rattle.std.proofs.Common.{◌≡◌, ℕ, ◌==◌, not, ◌&&◌, Bool, true, false, cond, List, [], ◌∷◌, ◌++◌}
+use Rattle.std.proofs.Common.{Option, Some, None, is_some, Ok, refl, sym, ap, subst, ◌∙◌}
+use Rattle.std.proofs.Common.{if◌then◌else◌, arith}
 use Rattle.std.proofs.lemmas.Bool.Decides.{nat_tests}
 use Rattle.std.specs.Ordering.{nat_cmp}
 use Rattle.std.specs.Cmp.{nat_cmp_total}
 use Rattle.std.specs.FinMap as finite
-use Rattle.std.specs.FinMap.{FinMap, get-empty, get-insert, get-remove, get-retain_keys, nat_cmp-IsAntisymmetric}
+use Rattle.std.specs.FinMap.{FinMap, get-empty, get-insert, get-remove, get-retain_keys}
+use Rattle.std.specs.FinMap.{nat_cmp-IsAntisymmetric}
 use Rattle.site_base.specs.declared.actor.Actor.{Actor}
 use Rattle.site_base.specs.declared.actor.Actor.TheVariants.{Till}
 use Rattle.site_base.specs.declared.event.Event.{Event}
-use Rattle.site_base.specs.declared.event.Event.TheVariants.{SignOff, Assign, Unassign, Release, Prepay, TestRelease, Terminate, Clear, ReadTransaction, ReadProduct, Lift, Offline, Flow, HangUp}
+use Rattle.site_base.specs.declared.event.Event.TheVariants.{SignOff, Assign, Unassign, Release}
+use Rattle.site_base.specs.declared.event.Event.TheVariants.{Prepay, TestRelease, Terminate, Clear}
+use Rattle.site_base.specs.declared.event.Event.TheVariants.{ReadTransaction, ReadProduct, Lift}
+use Rattle.site_base.specs.declared.event.Event.TheVariants.{Offline, Flow, HangUp}
 use Rattle.site_base.specs.declared.refusal.Refusal.{Refusal}
 use Rattle.site_base.specs.declared.refusal.Refusal.TheVariants.{AssignedToOther}
 use Rattle.site_base.specs.declared.row.Row.{Row}
 use Rattle.site_base.specs.declared.state.PointState.{PointState}
-use Rattle.site_base.specs.declared.state.PointState.TheVariants.{Inoperative, Closed, Idle, Calling, Authorised, Started, SuspendedStarted, Fuelling, SuspendedFuelling}
+use Rattle.site_base.specs.declared.state.PointState.TheVariants.{Inoperative, Closed, Idle}
+use Rattle.site_base.specs.declared.state.PointState.TheVariants.{Calling, Authorised, Started}
+use Rattle.site_base.specs.declared.state.PointState.TheVariants.{SuspendedStarted, Fuelling}
+use Rattle.site_base.specs.declared.state.PointState.TheVariants.{SuspendedFuelling}
 use Rattle.site_base.specs.declared.view.TransactionView.{TransactionView}
 use Rattle.site_base.specs.Checks.{unless}
 use Rattle.fuelling_point.specs.declared.event.PointEvent.TheVariants as points
@@ -21,16 +30,23 @@ use Rattle.fuelling_point.specs.declared.step.PointStep.{PointStep}
 use Rattle.fuelling_point.specs.declared.step.PointStep.TheVariants.{NoSale, Sold, Drawn, Stopped}
 use Rattle.fuelling_point.specs.KeptPoints.{Facts}
 use Rattle.fuelling_point.specs.Step as machine
-use Rattle.fuelling_point.specs.Table.{line_of, line, Growth, zero, above_zero, Flow as flow, growth_in}
+use Rattle.fuelling_point.specs.Table.{line_of, line, Growth, zero, above_zero, Flow as flow}
+use Rattle.fuelling_point.specs.Table.{growth_in}
 use Rattle.site_base.specs.Table.{row_of}
 use Rattle.till_claims.specs.Holds.{is_held_by}
 use Rattle.transaction_buffer.specs.Sales.{Sale, sale_of}
-use Rattle.written_site.specs.SiteState.{SiteState, opening, facts_of, holder_of, is_resting, key_named, rests, view_sale, price_at_start, reading_at_start}
+use Rattle.written_site.specs.SiteState.{SiteState, opening, facts_of, holder_of, is_resting}
+use Rattle.written_site.specs.SiteState.{key_named, rests, view_sale, price_at_start}
+use Rattle.written_site.specs.SiteState.{reading_at_start}
 use Rattle.written_site.specs.SiteChecks.{first_refusal, free_for, flowed}
-use Rattle.written_site.specs.SiteStep.{accepted_site, site_after, site_answer, step_told, sale_told, clear_told, product_told, ends_at_sign_off, holds_without, holds_unless_over}
+use Rattle.written_site.specs.SiteStep.{accepted_site, site_after, site_answer, step_told}
+use Rattle.written_site.specs.SiteStep.{sale_told, clear_told, product_told, ends_at_sign_off}
+use Rattle.written_site.specs.SiteStep.{holds_without, holds_unless_over}
 use Rattle.written_site.specs.SiteRun.{row_to, rows_of, events_of, site_at_end, site_of_rows}
 use Rattle.written_site.specs.Histories.{Moment, moments_after, moments_of}
-use Rattle.written_site.specs.Holders.{is_at_rest, stands_at_rest, takes_hold, ends_hold, hold_taker, is_end, tells_end, AreHeldByOne, AreHoldsOf, IsHeldByOne, AreUnendedTakes, AreBooksHeldByOne}
+use Rattle.written_site.specs.Holders.{is_at_rest, stands_at_rest, takes_hold, ends_hold}
+use Rattle.written_site.specs.Holders.{hold_taker, is_end, tells_end, AreHeldByOne, AreHoldsOf}
+use Rattle.written_site.specs.Holders.{IsHeldByOne, AreUnendedTakes, AreBooksHeldByOne}
 use Rattle.site_base.proofs.Cells.{apart, alike}
 use Rattle.written_site.proofs.Passed.{passed}
 use Rattle.written_site.proofs.Bridge.{legal_histories_are_runs}
@@ -57,17 +73,21 @@ may_take t (Some u) free = by_test (u == t) refl free
 
 -- Assign of q by t
 assigned : (holds : FinMap nat_cmp ℕ) (p q t : ℕ) → MayTake (Some t) (finite.get holds q)
-    → Does (finite.get holds p) (finite.get (finite.insert holds q t) p) (if q == p then Some t else None) (λ u. false)
+    → Does (finite.get holds p) (finite.get (finite.insert holds q t) p)
+    (if q == p then Some t else None) (λ u. false)
 assigned holds p q t may = by_test (q == p) refl
   where
-    by_test : (b : Bool) → (q == p) ≡ b → Does (finite.get holds p) (finite.get (finite.insert holds q t) p) (if q == p then Some t else None) (λ u. false)
+    by_test : (b : Bool) → (q == p) ≡ b
+        → Does (finite.get holds p) (finite.get (finite.insert holds q t) p)
+        (if q == p then Some t else None) (λ u. false)
     by_test true is =
         let same : q ≡ p = grind (arith, nat_tests) in
         rw is (record {
           holder = get-insert nat_cmp_total holds q t p ∙ rw (alike p q (sym same)) refl;
           may = subst (λ x. MayTake (Some t) (finite.get holds x)) same may;
         })
-    by_test false is = rw (is, get-insert nat_cmp_total holds q t p, apart p q (λ same. other same)) (idle (finite.get holds p))
+    by_test false is = rw (is, get-insert nat_cmp_total holds q t p, apart p q (λ same. other same))
+        (idle (finite.get holds p))
       where
         other : p ≡ q → ⊥
         other same = grind (arith, nat_tests)
@@ -78,20 +98,26 @@ given_back None = record { holder = refl; may = tt }
 given_back (Some u) = record { holder = refl; may = tt }
 
 -- Unassign of q
-unassigned : (holds : FinMap nat_cmp ℕ) (p q : ℕ) → Does (finite.get holds p) (finite.get (finite.remove holds q) p) None (λ u. q == p)
+unassigned : (holds : FinMap nat_cmp ℕ) (p q : ℕ)
+    → Does (finite.get holds p) (finite.get (finite.remove holds q) p) None (λ u. q == p)
 unassigned holds p q = by_test (q == p) refl
   where
-    by_test : (b : Bool) → (q == p) ≡ b → Does (finite.get holds p) (finite.get (finite.remove holds q) p) None (λ u. q == p)
+    by_test : (b : Bool) → (q == p) ≡ b
+        → Does (finite.get holds p) (finite.get (finite.remove holds q) p) None (λ u. q == p)
     by_test true is =
         let same : p ≡ q = grind (arith, nat_tests) in
-        rw (is, get-remove nat_cmp_total holds q p, alike p q same) (given_back (finite.get holds p))
-    by_test false is = rw (is, get-remove nat_cmp_total holds q p, apart p q (λ same. other same)) (idle (finite.get holds p))
+        rw (is, get-remove nat_cmp_total holds q p, alike p q same)
+        (given_back (finite.get holds p))
+    by_test false is = rw (is, get-remove nat_cmp_total holds q p, apart p q (λ same. other same))
+        (idle (finite.get holds p))
       where
         other : p ≡ q → ⊥
         other same = grind (arith, nat_tests)
 
 -- a hold that a sign-off ends, or leaves
-let_go : (resting : Bool) (t : ℕ) (holder : Option ℕ) → Does holder (cond (not (resting && is_held_by t holder)) holder None) None (λ u. resting && u == t)
+let_go : (resting : Bool) (t : ℕ) (holder : Option ℕ)
+    → Does holder (cond (not (resting && is_held_by t holder)) holder None) None
+    (λ u. resting && u == t)
 let_go true t None = record { holder = refl; may = tt }
 let_go false t None = record { holder = refl; may = tt }
 let_go resting t (Some u) = record { holder = turned (resting && u == t); may = tt }
@@ -101,11 +127,16 @@ let_go resting t (Some u) = record { holder = turned (resting && u == t); may = 
     turned false = refl
 
 -- SignOff of t
-signed_off : (s : SiteState) (t p : ℕ) → Does (holder_of s p) (finite.get (holds_without s.points s.holds t) p) None (λ u. rests s.points p && u == t)
-signed_off s t p = rw (get-retain_keys s.holds (λ q. not (ends_at_sign_off s.points s.holds t q)) p (λ x tied. ap (λ (y : ℕ). not (ends_at_sign_off s.points s.holds t y)) (sym (nat_cmp-IsAntisymmetric p x tied))))
+signed_off : (s : SiteState) (t p : ℕ)
+    → Does (holder_of s p) (finite.get (holds_without s.points s.holds t) p) None
+    (λ u. rests s.points p && u == t)
+signed_off s t p = rw (get-retain_keys s.holds (λ q. not (ends_at_sign_off s.points s.holds t q)) p
+    (λ x tied. ap (λ (y : ℕ). not (ends_at_sign_off s.points s.holds t y))
+    (sym (nat_cmp-IsAntisymmetric p x tied))))
     (let_go (rests s.points p) t (holder_of s p))
 
--- what a step of q is told as, and what it leaves of the holds, agree: both end the hold, or neither does
+-- what a step of q is told as, and what it leaves of the holds, agree: both end the hold, or
+-- neither does
 stepped : (s : SiteState) (holds : FinMap nat_cmp ℕ) (p q growth : ℕ) (step : PointStep)
     → Does (finite.get holds p) (finite.get (holds_unless_over q step holds) p) None
     (λ u. tells_end (Ok (step_told s q growth step)) && q == p)
@@ -117,14 +148,17 @@ stepped s holds p q growth step = idle (finite.get holds p)
 
 -- a lift ends nothing
 lifts : (s : SiteState) (q n last price : ℕ) (f : Facts) (state : PointState)
-    → tells_end (Ok (step_told s q 0 (machine.step_by (line_of (points.Lift n last price) state) (points.Lift n last price) f))) ≡ false
+    → tells_end (Ok (step_told s q 0
+    (machine.step_by (line_of (points.Lift n last price) state) (points.Lift n last price) f)))
+    ≡ false
 lifts s q n last price f Idle = refl
 lifts s q n last price f Authorised = refl
 lifts s q n last price f state = refl
 
 -- nor does a flow
 flows : (s : SiteState) (q n growth : ℕ) (f : Facts) (size : Growth) (state : PointState)
-    → tells_end (Ok (step_told s q growth (machine.step_by (line (flow size) state) (points.Flow n growth) f))) ≡ false
+    → tells_end (Ok (step_told s q growth
+    (machine.step_by (line (flow size) state) (points.Flow n growth) f))) ≡ false
 flows s q n growth f zero Started = refl
 flows s q n growth f zero SuspendedStarted = refl
 flows s q n growth f zero Fuelling = refl
@@ -144,7 +178,8 @@ clears_sale : (sale : Option Sale) → tells_end (Ok (clear_told sale)) ≡ fals
 clears_sale None = refl
 clears_sale (Some x) = refl
 
-shows_product : (s : SiteState) (q : ℕ) (price : Option ℕ) → tells_end (Ok (product_told s q price)) ≡ false
+shows_product : (s : SiteState) (q : ℕ) (price : Option ℕ)
+    → tells_end (Ok (product_told s q price)) ≡ false
 shows_product s q None = refl
 shows_product s q (Some price) = refl
 
@@ -166,23 +201,35 @@ at_rest s p =
 
 -- an accepted event, with its answer
 accepted : (s : SiteState) (a : Actor) (e : Event) (p : ℕ) → first_refusal s a e ≡ None
-    → Does (holder_of s p) (holder_of (accepted_site s a e) p) (hold_taker p a e) (λ t. is_end p t s a e (Ok (site_answer s e)))
-accepted s (Till t) (Assign q) p ok = assigned s.holds p q t (may_take t (holder_of s q) (passed s (Till t) (Assign q) ok).free)
-accepted s (Till t) (Release q preset) p ok = assigned s.holds p q t (may_take t (holder_of s q) (passed s (Till t) (Release q preset) ok).free)
-accepted s (Till t) (Prepay q cents) p ok = assigned s.holds p q t (may_take t (holder_of s q) (passed s (Till t) (Prepay q cents) ok).free)
-accepted s (Till t) (TestRelease q) p ok = assigned s.holds p q t (may_take t (holder_of s q) (passed s (Till t) (TestRelease q) ok).free)
+    → Does (holder_of s p) (holder_of (accepted_site s a e) p) (hold_taker p a e)
+    (λ t. is_end p t s a e (Ok (site_answer s e)))
+accepted s (Till t) (Assign q) p ok =
+    assigned s.holds p q t (may_take t (holder_of s q) (passed s (Till t) (Assign q) ok).free)
+accepted s (Till t) (Release q preset) p ok =
+    assigned s.holds p q t (may_take t (holder_of s q)
+    (passed s (Till t) (Release q preset) ok).free)
+accepted s (Till t) (Prepay q cents) p ok =
+    assigned s.holds p q t (may_take t (holder_of s q) (passed s (Till t) (Prepay q cents) ok).free)
+accepted s (Till t) (TestRelease q) p ok =
+    assigned s.holds p q t (may_take t (holder_of s q) (passed s (Till t) (TestRelease q) ok).free)
 accepted s (Till t) (Unassign q) p ok = unassigned s.holds p q
 accepted s (Till t) SignOff p ok =
     subst (λ (b : Bool). Does (holder_of s p) (finite.get (holds_without s.points s.holds t) p) None
     (λ u. b && u == t)) (sym (at_rest s p)) (signed_off s t p)
 accepted s a (Offline q) p ok = unassigned s.holds p q
-accepted s a (HangUp q n reading) p ok = stepped s s.holds p q (flowed s q n reading) (machine.step_of (points.HangUp n (flowed s q n reading)) (facts_of s q))
-accepted s a (Terminate q) p ok = stepped s s.holds p q 0 (machine.step_of points.Terminate (facts_of s q))
+accepted s a (HangUp q n reading) p ok =
+    stepped s s.holds p q (flowed s q n reading)
+    (machine.step_of (points.HangUp n (flowed s q n reading)) (facts_of s q))
+accepted s a (Terminate q) p ok =
+    stepped s s.holds p q 0 (machine.step_of points.Terminate (facts_of s q))
 accepted s a (Lift q n reading) p ok =
-    rw (lifts s q n (reading_at_start s q (Some n)) (price_at_start s q (Some n)) (facts_of s q) (facts_of s q).state) (idle (holder_of s p))
+    rw (lifts s q n (reading_at_start s q (Some n)) (price_at_start s q (Some n)) (facts_of s q)
+    (facts_of s q).state) (idle (holder_of s p))
 accepted s a (Flow q n reading) p ok =
-    rw (flows s q n (flowed s q n reading) (facts_of s q) (growth_in (flowed s q n reading)) (facts_of s q).state) (idle (holder_of s p))
-accepted s a (ReadProduct q) p ok = rw (shows_product s q (row_of q s.prices)) (idle (holder_of s p))
+    rw (flows s q n (flowed s q n reading) (facts_of s q) (growth_in (flowed s q n reading))
+    (facts_of s q).state) (idle (holder_of s p))
+accepted s a (ReadProduct q) p ok =
+    rw (shows_product s q (row_of q s.prices)) (idle (holder_of s p))
 accepted s a (Clear q id) p ok =
     rw (clears_sale (sale_of (key_named s q id) s.sales)) (idle (holder_of s p))
 accepted s a (ReadTransaction q id) p ok = rw (shows_sale (view_sale s q id)) (idle (holder_of s p))
@@ -194,11 +241,13 @@ moment earlier s a e = record { earlier = earlier; before = s; row = row_to s a 
 
 -- a refused or accepted event
 does : (earlier : List Row) (s : SiteState) (a : Actor) (e : Event) (p : ℕ)
-    → Does (holder_of s p) (holder_of (site_after s a e) p) (takes_hold p (moment earlier s a e)) (λ t. ends_hold p t (moment earlier s a e))
+    → Does (holder_of s p) (holder_of (site_after s a e) p) (takes_hold p (moment earlier s a e))
+    (λ t. ends_hold p t (moment earlier s a e))
 does earlier s a e p = by_refusal (first_refusal s a e) refl
   where
     by_refusal : (r : Option Refusal) → first_refusal s a e ≡ r
-        → Does (holder_of s p) (holder_of (site_after s a e) p) (takes_hold p (moment earlier s a e)) (λ t. ends_hold p t (moment earlier s a e))
+        → Does (holder_of s p) (holder_of (site_after s a e) p)
+        (takes_hold p (moment earlier s a e)) (λ t. ends_hold p t (moment earlier s a e))
     by_refusal (Some refusal) is = rw is (idle (holder_of s p))
     by_refusal None is = rw is (accepted s a e p is)
 
@@ -206,34 +255,44 @@ does earlier s a e p = by_refusal (first_refusal s a e) refl
 abbrev moments_from : List Row → SiteState → List (Actor × Event) → List Moment
 moments_from earlier s es = moments_after earlier s (rows_of s es)
 
-fair_run : (p : ℕ) (earlier : List Row) (s : SiteState) (es : List (Actor × Event)) → Fair (takes_hold p) (ends_hold p) (holder_of s p) (moments_from earlier s es)
+fair_run : (p : ℕ) (earlier : List Row) (s : SiteState) (es : List (Actor × Event))
+    → Fair (takes_hold p) (ends_hold p) (holder_of s p) (moments_from earlier s es)
 fair_run p earlier s [] = tt
 fair_run p earlier s (e ∷ es) =
     let done = does earlier s e.0 e.1 p in
-    let later = earlier ++ row_to s e.0 e.1 ∷ [] in
-    (done.may, subst (λ holder. Fair (takes_hold p) (ends_hold p) holder (moments_from later (site_after s e.0 e.1) es)) done.holder (fair_run p later (site_after s e.0 e.1) es))
+    let later = earlier ++ row_to s e.0 e.1 ∷ [] in (
+      done.may,
+      subst (λ holder. Fair (takes_hold p) (ends_hold p) holder
+          (moments_from later (site_after s e.0 e.1) es)) done.holder
+          (fair_run p later (site_after s e.0 e.1) es),
+    )
 
 stands_at_end : (p : ℕ) (earlier : List Row) (s : SiteState) (es : List (Actor × Event))
-    → standing (takes_hold p) (ends_hold p) (holder_of s p) (moments_from earlier s es) ≡ holder_of (site_at_end s es) p
+    → standing (takes_hold p) (ends_hold p) (holder_of s p) (moments_from earlier s es)
+    ≡ holder_of (site_at_end s es) p
 stands_at_end p earlier s [] = refl
 stands_at_end p earlier s (e ∷ es) =
     let done = does earlier s e.0 e.1 p in
     let later = earlier ++ row_to s e.0 e.1 ∷ [] in
-    ap (λ holder. standing (takes_hold p) (ends_hold p) holder (moments_from later (site_after s e.0 e.1) es)) (sym done.holder)
+    ap (λ holder. standing (takes_hold p) (ends_hold p) holder
+    (moments_from later (site_after s e.0 e.1) es)) (sym done.holder)
     ∙ stands_at_end p later (site_after s e.0 e.1) es
 
 pub held_by_one : IsHeldByOne
 held_by_one c events p t u before between since first second parts taken taken' differ =
     end_between (takes_hold p) (ends_hold p) _ t u before first between second since
-    (subst (Fair (takes_hold p) (ends_hold p) (holder_of (opening c) p)) parts (fair_run p [] (opening c) events))
+    (subst (Fair (takes_hold p) (ends_hold p) (holder_of (opening c) p)) parts
+    (fair_run p [] (opening c) events))
     taken taken' differ
 
 pub holds_are_unended_takes : AreUnendedTakes
 holds_are_unended_takes c events p t =
     let moments = moments_of c (rows_of (opening c) events) in
     let free : holder_of (opening c) p ≡ None = get-empty nat_cmp p in
-    let fair = subst (λ holder. Fair (takes_hold p) (ends_hold p) holder moments) free (fair_run p [] (opening c) events) in
-    let stands = ap (λ holder. standing (takes_hold p) (ends_hold p) holder moments) (sym free) ∙ stands_at_end p [] (opening c) events in
+    let fair = subst (λ holder. Fair (takes_hold p) (ends_hold p) holder moments) free
+    (fair_run p [] (opening c) events) in
+    let stands = ap (λ holder. standing (takes_hold p) (ends_hold p) holder moments) (sym free)
+    ∙ stands_at_end p [] (opening c) events in
     let last = last_take (takes_hold p) (ends_hold p) t moments fair in
     (λ is. last.0 (stands ∙ is), λ taken. sym stands ∙ last.1 taken)
 
@@ -243,8 +302,11 @@ books_held_by_one c rows legal =
     let run = legal_histories_are_runs.run (opening c) rows legal in
     let events = events_of rows in
     record {
-      one = subst (λ history. AreHeldByOne (moments_of c history)) (sym run.rows) (held_by_one c events);
+      one = subst (λ history. AreHeldByOne (moments_of c history)) (sym run.rows)
+          (held_by_one c events);
       unended =
-          subst (λ history. AreHoldsOf (site_of_rows (opening c) rows) (moments_of c history)) (sym run.rows)
-          (subst (λ s. AreHoldsOf s (moments_of c (rows_of (opening c) events))) (sym run.leads) (holds_are_unended_takes c events));
+          subst (λ history. AreHoldsOf (site_of_rows (opening c) rows) (moments_of c history))
+          (sym run.rows)
+          (subst (λ s. AreHoldsOf s (moments_of c (rows_of (opening c) events))) (sym run.leads)
+          (holds_are_unended_takes c events));
     }

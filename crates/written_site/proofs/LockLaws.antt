@@ -1,11 +1,14 @@
 -- One locker and one clear, for every legal history.
-use Rattle.std.proofs.Common.{◌≡◌, ◌≢◌, ◌↔◌, ℕ, ◌==◌, ◌&&◌, ◌||◌, Bool, true, false, List, [], ◌∷◌, ◌++◌, Option, option_and_then, Some, None, is_some, Ok, ◌⊎◌, inl, inr, refl, sym, ap, subst, ◌∙◌, if◌then◌else◌}
+use Rattle.std.proofs.Common.{◌≡◌, ◌≢◌, ◌↔◌, ℕ, ◌==◌, ◌&&◌, ◌||◌, Bool, true, false, List, [], ◌∷◌}
+use Rattle.std.proofs.Common.{◌++◌, Option, option_and_then, Some, None, is_some, Ok, ◌⊎◌, inl, inr}
+use Rattle.std.proofs.Common.{refl, sym, ap, subst, ◌∙◌, if◌then◌else◌}
 use Rattle.std.specs.List.{list_any}
 use Rattle.std.proofs.lemmas.List.{append_assoc}
 use Rattle.site_base.specs.declared.actor.Actor.{Actor}
 use Rattle.site_base.specs.declared.actor.Actor.TheVariants.{Till}
 use Rattle.site_base.specs.declared.event.Event.{Event}
-use Rattle.site_base.specs.declared.event.Event.TheVariants.{SignOff, Lock, Unlock, Clear, Offline, HangUp}
+use Rattle.site_base.specs.declared.event.Event.TheVariants.{SignOff, Lock, Unlock, Clear, Offline}
+use Rattle.site_base.specs.declared.event.Event.TheVariants.{HangUp}
 use Rattle.site_base.specs.declared.row.Row.{Row}
 use Rattle.site_base.specs.Configured.{Configured}
 use Rattle.fuelling_point.specs.declared.step.PointStep.{PointStep}
@@ -22,7 +25,8 @@ use Rattle.transaction_buffer.proofs.Reading.{one_sale}
 use Rattle.transaction_buffer.proofs.Rules.{cleared_for_good, cleared_by_its_locker, one_locker}
 use Rattle.written_site.specs.SiteState.{SiteState, opening, key_named, open_shift}
 use Rattle.written_site.specs.SiteChecks.{Passed}
-use Rattle.written_site.specs.SiteStep.{accepted_site, site_answer, step_at, nozzles_after, sales_after, sales_by, sale_made, reply_to, site_after}
+use Rattle.written_site.specs.SiteStep.{accepted_site, site_answer, step_at, nozzles_after}
+use Rattle.written_site.specs.SiteStep.{sales_after, sales_by, sale_made, reply_to, site_after}
 use Rattle.written_site.specs.SiteRun.{site_of_rows, IsLegal}
 use Rattle.written_site.specs.Histories.{Moment, moments_after, moments_of}
 use Rattle.written_site.specs.RowWords.{OfBooks}

@@ -1,9 +1,14 @@
 -- The locker of a transaction is a slot of the site's history.
-use Rattle.std.proofs.Common.{◌≡◌, ℕ, ◌+◌, ◌==◌, ◌&&◌, Bool, true, false, List, Option, option_and_then, Some, None, is_some, unwrap_or, Ok, ◌⊎◌, inl, inr, refl, sym, ap, subst, ◌∙◌, if◌then◌else◌}
+use Rattle.std.proofs.Common.{◌≡◌, ℕ, ◌+◌, ◌==◌, ◌&&◌, Bool, true, false, List, Option}
+use Rattle.std.proofs.Common.{option_and_then, Some, None, is_some, unwrap_or, Ok, ◌⊎◌, inl, inr}
+use Rattle.std.proofs.Common.{refl, sym, ap, subst, ◌∙◌, if◌then◌else◌}
 use Rattle.site_base.specs.declared.actor.Actor.{Actor}
 use Rattle.site_base.specs.declared.actor.Actor.TheVariants.{Till}
 use Rattle.site_base.specs.declared.event.Event.{Event}
-use Rattle.site_base.specs.declared.event.Event.TheVariants.{SignOff, Lock, Unlock, Clear, Terminate, ReadTransaction, ReadProduct, Lift, Flow, Offline, HangUp}
+use Rattle.site_base.specs.declared.event.Event.TheVariants.{SignOff, Lock, Unlock, Clear}
+use Rattle.site_base.specs.declared.event.Event.TheVariants.{Terminate, ReadTransaction}
+use Rattle.site_base.specs.declared.event.Event.TheVariants.{ReadProduct, Lift, Flow, Offline}
+use Rattle.site_base.specs.declared.event.Event.TheVariants.{HangUp}
 use Rattle.site_base.specs.declared.row.Row.{Row}
 use Rattle.site_base.specs.declared.sale.SaleId.{SaleId}
 use Rattle.fuelling_point.specs.declared.event.PointEvent.{PointEvent}
@@ -13,16 +18,21 @@ use Rattle.fuelling_point.specs.declared.step.PointStep.TheVariants.{Sold}
 use Rattle.fuelling_point.specs.Step.{step_of}
 use Rattle.transaction_buffer.specs.declared.request.Request.TheVariants as requests
 use Rattle.transaction_buffer.specs.Laws.{unless_signed_off}
-use Rattle.transaction_buffer.specs.Sales.{Key, key, Sale, Sales, made_at, next_key, new_standing, same_key, sales_at, with_new}
-use Rattle.transaction_buffer.specs.TransactionTable.{refusal_of, after_request, after_sign_off, locker, locker_of}
+use Rattle.transaction_buffer.specs.Sales.{Key, key, Sale, Sales, made_at, next_key, new_standing}
+use Rattle.transaction_buffer.specs.Sales.{same_key, sales_at, with_new}
+use Rattle.transaction_buffer.specs.TransactionTable.{refusal_of, after_request, after_sign_off}
+use Rattle.transaction_buffer.specs.TransactionTable.{locker, locker_of}
 use Rattle.transaction_buffer.proofs.InShift.{none_next}
 use Rattle.transaction_buffer.proofs.Reading.{one_sale}
 use Rattle.transaction_buffer.proofs.Rules.{one_locker}
 use Rattle.written_site.specs.SiteState.{SiteState, facts_of, key_named, open_shift}
 use Rattle.written_site.specs.SiteChecks.{Passed, own_event, flowed}
-use Rattle.written_site.specs.SiteStep.{site_answer, step_at, step_told, nozzles_after, sales_after, sales_by, sale_made, first_locker, if_signed_on, reply_to, site_after}
+use Rattle.written_site.specs.SiteStep.{site_answer, step_at, step_told, nozzles_after, sales_after}
+use Rattle.written_site.specs.SiteStep.{sales_by, sale_made, first_locker, if_signed_on, reply_to}
+use Rattle.written_site.specs.SiteStep.{site_after}
 use Rattle.written_site.specs.RowWords.{on_after, open_after}
-use Rattle.written_site.specs.SaleWords.{key_after, key_sold, number_sold, locker_from, lock_sold, locks_sale, ends_lock, release_after}
+use Rattle.written_site.specs.SaleWords.{key_after, key_sold, number_sold, locker_from, lock_sold}
+use Rattle.written_site.specs.SaleWords.{locks_sale, ends_lock, release_after}
 use Rattle.written_site.proofs.RowFacts.{Known, IsReleasedSo, own_after}
 use Rattle.written_site.proofs.RowWords.{told_row, of_row}
 use Rattle.written_site.proofs.Slots.{MayTake}

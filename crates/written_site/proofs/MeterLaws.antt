@@ -1,5 +1,7 @@
 -- The meters are those that the rows tell.
-use Rattle.std.proofs.Common.{◌≡◌, ℕ, ◌+◌, ◌-◌, ◌==◌, Bool, true, false, List, [], ◌∷◌, ◌++◌, Option, option_map, Some, None, unwrap_or, Ok, Err, refl, sym, ap, subst, ◌∙◌, if◌then◌else◌, arith}
+use Rattle.std.proofs.Common.{◌≡◌, ℕ, ◌+◌, ◌-◌, ◌==◌, Bool, true, false, List, [], ◌∷◌, ◌++◌}
+use Rattle.std.proofs.Common.{Option, option_map, Some, None, unwrap_or, Ok, Err, refl, sym, ap}
+use Rattle.std.proofs.Common.{subst, ◌∙◌, if◌then◌else◌, arith}
 use Rattle.std.proofs.lemmas.Bool.{and_parts}
 use Rattle.std.proofs.lemmas.Bool.Decides.{nat_tests}
 use Rattle.std.proofs.lemmas.Grind.{common_steps}
@@ -10,10 +12,14 @@ use Rattle.site_base.specs.declared.event.Event.TheVariants.{ReplaceMeter, Lift,
 use Rattle.site_base.specs.declared.row.Row.{Row}
 use Rattle.site_base.specs.declared.config.PointEntry.{PointEntry}
 use Rattle.site_base.specs.Configured.{Configured}
-use Rattle.meters.specs.Nozzles.{Nozzle, is_nozzle, numbered, nozzles_of_point, nozzles_of_points, opening_nozzles, nozzle_of, has_nozzle, reading_of, with_nozzle, with_last, read_at, replaced_at}
+use Rattle.meters.specs.Nozzles.{Nozzle, is_nozzle, numbered, nozzles_of_point, nozzles_of_points}
+use Rattle.meters.specs.Nozzles.{opening_nozzles, nozzle_of, has_nozzle, reading_of, with_nozzle}
+use Rattle.meters.specs.Nozzles.{with_last, read_at, replaced_at}
 use Rattle.meters.proofs.Looked.{KeepsName, nozzle_of-here, nozzle_of-other, reading_is}
 use Rattle.written_site.specs.Histories.{Moment, moments_of}
-use Rattle.written_site.specs.MeterLaws.{is_its, replace_said, begun_said, read_said, begun_of_row, read_of_row, replaces_meter, read_after, counted_at, IsNozzleRead, AreMetersRead}
+use Rattle.written_site.specs.MeterLaws.{is_its, replace_said, begun_said, read_said, begun_of_row}
+use Rattle.written_site.specs.MeterLaws.{read_of_row, replaces_meter, read_after, counted_at}
+use Rattle.written_site.specs.MeterLaws.{IsNozzleRead, AreMetersRead}
 use Rattle.written_site.specs.RowWords.{OfBooks, latest, total, count}
 use Rattle.written_site.specs.SiteChecks.{Passed, metering}
 use Rattle.written_site.specs.SiteRun.{site_of_rows}
@@ -21,7 +27,8 @@ use Rattle.written_site.specs.SiteState.{SiteState, opening}
 use Rattle.written_site.specs.SiteStep.{site_answer, nozzles_after, reply_to, site_after}
 use Rattle.written_site.proofs.Histories.{site_of_rows-push}
 use Rattle.written_site.proofs.MomentRows.{moments_push}
-use Rattle.written_site.proofs.RowWords.{told_row, of_row, kept, said_again, latest_push, total_push}
+use Rattle.written_site.proofs.RowWords.{told_row, of_row, kept, said_again, latest_push}
+use Rattle.written_site.proofs.RowWords.{total_push}
 use Rattle.written_site.proofs.SlotRows.{moment_at}
 use Rattle.written_site.proofs.SoundMeters.{read_keeps, replaced_keeps, nozzle_after, product_after}
 use Rattle.written_site.proofs.SoundTables.{same, told_once}

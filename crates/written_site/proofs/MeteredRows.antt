@@ -1,12 +1,14 @@
 -- What the meters of a product have counted is what the rows tell.
-use Rattle.std.proofs.Common.{◌≡◌, ℕ, ◌+◌, ◌-◌, ◌*◌, ◌==◌, ◌&&◌, ◌||◌, not, Bool, true, false, cond, List, [], ◌∷◌, Some, refl, sym, ap, subst, ◌∙◌, if◌then◌else◌, arith}
+use Rattle.std.proofs.Common.{◌≡◌, ℕ, ◌+◌, ◌-◌, ◌*◌, ◌==◌, ◌&&◌, ◌||◌, not, Bool, true, false, cond}
+use Rattle.std.proofs.Common.{List, [], ◌∷◌, Some, refl, sym, ap, subst, ◌∙◌, if◌then◌else◌, arith}
 use Rattle.std.proofs.lemmas.Bool.{and_parts, false≢true}
 use Rattle.site_base.specs.declared.event.Event.{Event}
 use Rattle.site_base.specs.declared.event.Event.TheVariants.{ReplaceMeter, Flow, HangUp}
 use Rattle.site_base.specs.declared.row.Row.{Row}
 use Rattle.site_base.specs.Configured.{Configured}
 use Rattle.meters.specs.Metered.{metered, metered_by, product_alone, product_total}
-use Rattle.meters.specs.Nozzles.{Nozzle, is_nozzle, opening_nozzles, nozzle_of, with_nozzle, read_at, replaced_at}
+use Rattle.meters.specs.Nozzles.{Nozzle, is_nozzle, opening_nozzles, nozzle_of, with_nozzle}
+use Rattle.meters.specs.Nozzles.{read_at, replaced_at}
 use Rattle.meters.proofs.Looked.{KeepsName}
 use Rattle.written_site.specs.MeteredRows.{metered_read, is_among, metered_of, metered_rows}
 use Rattle.written_site.specs.MeterLaws.{began_after, read_after}

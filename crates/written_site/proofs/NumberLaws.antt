@@ -1,5 +1,7 @@
 -- A sale finds room and the next number, for every legal history.
-use Rattle.std.proofs.Common.{◌≡◌, ℕ, ◌+◌, ◌≤◌, ◌==◌, ◌&&◌, Bool, true, false, List, [], ◌∷◌, ◌++◌, Option, Some, None, Ok, refl, sym, ap, subst, ◌∙◌, if◌then◌else◌, arith}
+use Rattle.std.proofs.Common.{◌≡◌, ℕ, ◌+◌, ◌≤◌, ◌==◌, ◌&&◌, Bool, true, false, List, [], ◌∷◌, ◌++◌}
+use Rattle.std.proofs.Common.{Option, Some, None, Ok, refl, sym, ap, subst, ◌∙◌, if◌then◌else◌}
+use Rattle.std.proofs.Common.{arith}
 use Rattle.std.proofs.lemmas.Bool.{false≢true}
 use Rattle.std.specs.FinMap.{get-empty}
 use Rattle.std.specs.Ordering.{nat_cmp}
@@ -7,7 +9,9 @@ use Rattle.site_base.specs.Events.{point_named}
 use Rattle.site_base.specs.declared.actor.Actor.{Actor}
 use Rattle.site_base.specs.declared.actor.Actor.TheVariants.{Till}
 use Rattle.site_base.specs.declared.event.Event.{Event}
-use Rattle.site_base.specs.declared.event.Event.TheVariants.{SignOff, Lock, Unlock, Clear, Terminate, ReadTransaction, Lift, Flow, Offline, HangUp}
+use Rattle.site_base.specs.declared.event.Event.TheVariants.{SignOff, Lock, Unlock, Clear}
+use Rattle.site_base.specs.declared.event.Event.TheVariants.{Terminate, ReadTransaction, Lift, Flow}
+use Rattle.site_base.specs.declared.event.Event.TheVariants.{Offline, HangUp}
 use Rattle.site_base.specs.declared.limits.TheConstants.{UNPAID_LIMIT}
 use Rattle.site_base.specs.declared.row.Row.{Row}
 use Rattle.site_base.specs.Configured.{Configured}
@@ -22,9 +26,12 @@ use Rattle.meters.specs.Nozzles.{Nozzle}
 use Rattle.transaction_buffer.specs.declared.request.Request.TheVariants as requests
 use Rattle.transaction_buffer.specs.Sales.{Key, no_sales, made_at, unpaid_at}
 use Rattle.transaction_buffer.proofs.Counting.{counted_after}
-use Rattle.written_site.specs.SiteState.{SiteState, opening, facts_in, facts_of, key_named, open_shift}
+use Rattle.written_site.specs.SiteState.{SiteState, opening, facts_in, facts_of, key_named}
+use Rattle.written_site.specs.SiteState.{open_shift}
 use Rattle.written_site.specs.SiteChecks.{Passed, own_event, flowed}
-use Rattle.written_site.specs.SiteStep.{accepted_site, site_answer, step_at, step_told, nozzles_after, points_after, sales_after, sales_by, sale_made, reply_to, site_after}
+use Rattle.written_site.specs.SiteStep.{accepted_site, site_answer, step_at, step_told}
+use Rattle.written_site.specs.SiteStep.{nozzles_after, points_after, sales_after, sales_by}
+use Rattle.written_site.specs.SiteStep.{sale_made, reply_to, site_after}
 use Rattle.written_site.specs.SiteRun.{site_of_rows, IsLegal}
 use Rattle.written_site.specs.Histories.{Moment, moments_of}
 use Rattle.written_site.specs.RowWords.{OfBooks, open_after, count}
@@ -40,7 +47,8 @@ use Rattle.written_site.proofs.SoldRows.{sells_here, total_moments}
 use Rattle.written_site.proofs.SoundDraws.{shifts_kept}
 use Rattle.written_site.proofs.SoundMachine.{sold_from}
 use Rattle.written_site.proofs.SoundPoints.{NoneLater, room_kept, room_own}
-use Rattle.written_site.proofs.SoundSales.{sells, let_go_counts, asked_counts, counts_after, unpaid_by}
+use Rattle.written_site.proofs.SoundSales.{sells, let_go_counts, asked_counts, counts_after}
+use Rattle.written_site.proofs.SoundSales.{unpaid_by}
 use Rattle.written_site.proofs.SoundSold.{order_after, under_way_released, sale_of_step}
 use Rattle.written_site.proofs.SoundTables.{turned}
 use Rattle.written_site.proofs.UnpaidRows.{unpaid_so_far}

@@ -5,7 +5,9 @@ use Rattle.site_base.specs.declared.event.Event.{Event}
 use Rattle.site_base.specs.declared.refusal.Refusal.{Refusal}
 use Rattle.site_base.specs.Checks.{◌or_else◌}
 use Rattle.written_site.specs.SiteState.{SiteState}
-use Rattle.written_site.specs.SiteChecks.{Passed, first_refusal, may_ask, can_do, signing, numbers, own_kind, managed, pricing, presets, not_held, at_point, is_held, sale_room, metering, at_sale, closing}
+use Rattle.written_site.specs.SiteChecks.{Passed, first_refusal, may_ask, can_do, signing, numbers}
+use Rattle.written_site.specs.SiteChecks.{own_kind, managed, pricing, presets, not_held, at_point}
+use Rattle.written_site.specs.SiteChecks.{is_held, sale_room, metering, at_sale, closing}
 
 -- two checks one after the other that refuse nothing: neither does
 pub both_pass : (a b : Option Refusal) → a or_else b ≡ None → (a ≡ None) × (b ≡ None)

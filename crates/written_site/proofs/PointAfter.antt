@@ -1,5 +1,6 @@
 -- What each point keeps after an accepted event, whatever the configuration.
-use Rattle.std.proofs.Common.{◌≡◌, ℕ, ◌==◌, Bool, true, false, List, [], ◌∷◌, Option, Some, None, unwrap_or, refl, sym, ap, ◌∙◌}
+use Rattle.std.proofs.Common.{◌≡◌, ℕ, ◌==◌, Bool, true, false, List, [], ◌∷◌, Option, Some, None}
+use Rattle.std.proofs.Common.{unwrap_or, refl, sym, ap, ◌∙◌}
 use Rattle.std.proofs.lemmas.Bool.{false≢true}
 use Rattle.site_base.specs.declared.actor.Actor.{Actor}
 use Rattle.site_base.specs.declared.event.Event.{Event}
@@ -13,7 +14,8 @@ use Rattle.fuelling_point.specs.Step.{after}
 use Rattle.written_site.specs.SiteState.{SiteState, opening, points_of, facts_in, facts_of}
 use Rattle.written_site.specs.SiteChecks.{Passed, own_event, point_refusal}
 use Rattle.written_site.specs.SiteStep.{with_event, points_after}
-use Rattle.written_site.proofs.SoundTables.{same, itself, told_once, facts_there, row_there, row_of-same, row_of-other}
+use Rattle.written_site.proofs.SoundTables.{same, itself, told_once, facts_there, row_there}
+use Rattle.written_site.proofs.SoundTables.{row_of-same, row_of-other}
 use Rattle.written_site.proofs.SoundSold.{own_there}
 
 -- a point that the event isn't of stays as it was; its own does what the point table says, and

@@ -1,5 +1,6 @@
 -- The points of a site are points, for every legal history.
-use Rattle.std.proofs.Common.{◌≡◌, ℕ, ◌==◌, Bool, true, false, List, [], ◌∷◌, ◌++◌, Option, Some, None, Ok, Err, is_ok, refl, sym, ap, ◌∙◌, if◌then◌else◌, arith}
+use Rattle.std.proofs.Common.{◌≡◌, ℕ, ◌==◌, Bool, true, false, List, [], ◌∷◌, ◌++◌, Option, Some}
+use Rattle.std.proofs.Common.{None, Ok, Err, is_ok, refl, sym, ap, ◌∙◌, if◌then◌else◌, arith}
 use Rattle.std.proofs.lemmas.Grind.{common_steps}
 use Rattle.site_base.specs.declared.answer.Answer.{Answer}
 use Rattle.site_base.specs.declared.event.Event.{Event}
@@ -8,17 +9,20 @@ use Rattle.site_base.specs.declared.row.Row.{Row}
 use Rattle.site_base.specs.Checks.{reply_or, value_or}
 use Rattle.site_base.specs.Configured.{Configured}
 use Rattle.fuelling_point.specs.declared.event.PointEvent.{PointEvent}
-use Rattle.fuelling_point.specs.History.{facts_after as point_step, facts_at_end, point_after, reply_to as point_reply}
+use Rattle.fuelling_point.specs.History.{facts_after as point_step, facts_at_end, point_after}
+use Rattle.fuelling_point.specs.History.{reply_to as point_reply}
 use Rattle.fuelling_point.specs.KeptPoints.{Facts, growth_of}
 use Rattle.fuelling_point.specs.PointChecks.{refusal_of}
 use Rattle.fuelling_point.specs.Step.{step_of, after}
 use Rattle.written_site.specs.Histories.{Moment, moments_of}
-use Rattle.written_site.specs.PointLaws.{event_for, own_of, added, own_events, tells_step, ArePointsTheirOwn}
+use Rattle.written_site.specs.PointLaws.{event_for, own_of, added, own_events, tells_step}
+use Rattle.written_site.specs.PointLaws.{ArePointsTheirOwn}
 use Rattle.written_site.specs.RowWords.{OfBooks}
 use Rattle.written_site.specs.SiteChecks.{own_event}
 use Rattle.written_site.specs.SiteRun.{site_of_rows, IsLegal}
 use Rattle.written_site.specs.SiteState.{SiteState, opening, facts_in, facts_of}
-use Rattle.written_site.specs.SiteStep.{site_answer, points_after, reply_to, site_after, step_told, told_by}
+use Rattle.written_site.specs.SiteStep.{site_answer, points_after, reply_to, site_after, step_told}
+use Rattle.written_site.specs.SiteStep.{told_by}
 use Rattle.written_site.proofs.Histories.{site_of_rows-push}
 use Rattle.written_site.proofs.MomentRows.{moments_push, placed}
 use Rattle.written_site.proofs.PointAfter.{FactsAfter, stays, moves, facts_after, opens_closed}

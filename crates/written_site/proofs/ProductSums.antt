@@ -1,5 +1,7 @@
 -- The products' metered volumes add up to what all meters have counted.
-use Rattle.std.proofs.Common.{◌≡◌, ℕ, ◌+◌, ◌*◌, ◌==◌, ◌&&◌, ◌||◌, not, Bool, true, false, List, [], ◌∷◌, ◌++◌, length, map, Option, Some, None, refl, sym, ap, subst, ◌∙◌, if◌then◌else◌, arith}
+use Rattle.std.proofs.Common.{◌≡◌, ℕ, ◌+◌, ◌*◌, ◌==◌, ◌&&◌, ◌||◌, not, Bool, true, false, List, []}
+use Rattle.std.proofs.Common.{◌∷◌, ◌++◌, length, map, Option, Some, None, refl, sym, ap, subst, ◌∙◌}
+use Rattle.std.proofs.Common.{if◌then◌else◌, arith}
 use Rattle.std.proofs.lemmas.Bool.{and_parts, or_parts}
 use Rattle.std.specs.List.{AllByRecursion, list_all, list_any}
 use Rattle.std.specs.Str.{bytes_eq}
@@ -16,9 +18,11 @@ use Rattle.site_base.specs.Names.{is_name}
 use Rattle.site_base.specs.Ranges.{is_between}
 use Rattle.site_base.specs.declared.config.PointEntry.{PointEntry}
 use Rattle.site_base.specs.declared.config.ProductEntry.{ProductEntry}
-use Rattle.site_base.specs.Configured.{are_nozzles, has_product, none_alike, same_point, same_product}
+use Rattle.site_base.specs.Configured.{are_nozzles, has_product, none_alike, same_point}
+use Rattle.site_base.specs.Configured.{same_product}
 use Rattle.meters.specs.Metered.{every_product, metered, metered_by, product_alone, product_total}
-use Rattle.meters.specs.Nozzles.{Nozzle, is_nozzle, nozzles_of_points, numbered, read_at, replaced_at, with_nozzle}
+use Rattle.meters.specs.Nozzles.{Nozzle, is_nozzle, nozzles_of_points, numbered, read_at}
+use Rattle.meters.specs.Nozzles.{replaced_at, with_nozzle}
 use Rattle.written_site.specs.RowWords.{total}
 use Rattle.written_site.specs.SiteChecks.{first_refusal}
 use Rattle.written_site.specs.SiteRun.{site_of_rows}
@@ -59,11 +63,13 @@ once p ml (n ∷ ns) apart there = by_test (p == n) refl (once p ml ns apart.1)
         → (list_any (λ m. m == p) ns ≡ true → total (share p ml) ns ≡ ml)
         → total (share p ml) (n ∷ ns) ≡ ml
     by_test true is later =
-        let rest = absent p ml ns (subst (λ m. list_any (λ k. m == k) ns ≡ false) (sym (same p n is)) apart.0) in
+        let rest = absent p ml ns (subst (λ m. list_any (λ k. m == k) ns ≡ false)
+        (sym (same p n is)) apart.0) in
         let here : product_alone n p ≡ 1 = ap (λ (b : Bool). if b then 1 else 0) is in
         omega (arith, rest, ap (λ (w : ℕ). w * ml) here)
     by_test false is later =
-        let behind : list_any (λ m. m == p) ns ≡ true = ap (λ (b : Bool). b || list_any (λ m. m == p) ns) (sym (turned n p ∙ is)) ∙ there in
+        let behind : list_any (λ m. m == p) ns ≡ true =
+        ap (λ (b : Bool). b || list_any (λ m. m == p) ns) (sym (turned n p ∙ is)) ∙ there in
         let rest = later behind in
         let here : product_alone n p ≡ 0 = ap (λ (b : Bool). if b then 1 else 0) is in
         omega (arith, rest, ap (λ (w : ℕ). w * ml) here)
@@ -127,7 +133,8 @@ numbers_apart : (ps : List ProductEntry) → none_alike same_product ps ≡ true
     → Apart (configured_numbers ps)
 numbers_apart [] alone = tt
 numbers_apart (p ∷ ps) alone =
-    let parts = and_parts (not (list_any (λ q. same_product p q) ps)) (none_alike same_product ps) alone in
+    let parts = and_parts (not (list_any (λ q. same_product p q) ps)) (none_alike same_product ps)
+    alone in
     (differs ps (negated (list_any (λ q. same_product p q) ps) parts.0), numbers_apart ps parts.1)
   where
     negated : (b : Bool) → not b ≡ true → b ≡ false
@@ -164,7 +171,8 @@ point_there : (ps : List ProductEntry) (p n : ℕ) (es : List NozzleEntry)
     → AreThere (configured_numbers ps) (products_of (numbered p n es))
 point_there ps p n [] all = tt
 point_there ps p n (e ∷ es) all =
-    let parts = and_parts (has_product ps e.product) (list_all (λ x. has_product ps x.product) es) all in
+    let parts = and_parts (has_product ps e.product) (list_all (λ x. has_product ps x.product) es)
+    all in
     (has_number ps e.product parts.0, point_there ps p (n + 1) es parts.1)
 
 points_there : (ps : List ProductEntry) (points : List PointEntry)
@@ -172,8 +180,10 @@ points_there : (ps : List ProductEntry) (points : List PointEntry)
     → AreThere (configured_numbers ps) (products_of (nozzles_of_points points))
 points_there ps [] all = tt
 points_there ps (p ∷ points) all =
-    let parts = and_parts (are_nozzles ps p.nozzles) (list_all (λ x. are_nozzles ps x.nozzles) points) all in
-    let own = and_parts (is_between 1 NOZZLES (length p.nozzles)) (list_all (λ n. has_product ps n.product) p.nozzles) parts.0 in
+    let parts = and_parts (are_nozzles ps p.nozzles)
+    (list_all (λ x. are_nozzles ps x.nozzles) points) all in
+    let own = and_parts (is_between 1 NOZZLES (length p.nozzles))
+    (list_all (λ n. has_product ps n.product) p.nozzles) parts.0 in
     there_joined (configured_numbers ps) (numbered p.number 1 p.nozzles) (nozzles_of_points points)
     (point_there ps p.number 1 p.nozzles own.1)
     (points_there ps points parts.1)
@@ -183,7 +193,8 @@ points_there ps (p ∷ points) all =
 pub metered_of_products : DoProductsAddUp
 metered_of_products c rows products points =
     let s : SiteState = site_of_rows (opening c) rows in
-    let counted : Bool = is_between 1 PRODUCTS (length c.products) && list_all (λ p. is_name p.name) c.products in
+    let counted : Bool = is_between 1 PRODUCTS (length c.products) && list_all (λ p. is_name p.name)
+    c.products in
     let fit = and_parts counted (none_alike same_product c.products) products in
     let served : Bool = list_all (λ p. are_nozzles c.products p.nozzles) c.points in
     let count : Bool = is_between 1 POINTS (length c.points) in

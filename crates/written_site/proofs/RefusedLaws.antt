@@ -1,9 +1,12 @@
 -- What one step tells: a refusal changes nothing, and Cleared is answered to accepted Clears alone.
-use Rattle.std.proofs.Common.{◌≡◌, ℕ, Bool, true, false, ◌&&◌, List, [], ◌∷◌, Option, Some, None, Ok, Err, is_some, refl, ◌∙◌}
+use Rattle.std.proofs.Common.{◌≡◌, ℕ, Bool, true, false, ◌&&◌, List, [], ◌∷◌, Option, Some, None}
+use Rattle.std.proofs.Common.{Ok, Err, is_some, refl, ◌∙◌}
 use Rattle.std.specs.List.{AllByRecursion}
 use Rattle.site_base.specs.declared.actor.Actor.{Actor}
 use Rattle.site_base.specs.declared.event.Event.{Event}
-use Rattle.site_base.specs.declared.event.Event.TheVariants.{Clear, Terminate, ReadTransaction, ReadProduct, Lift, Flow, Offline, HangUp}
+use Rattle.site_base.specs.declared.event.Event.TheVariants.{Clear, Terminate, ReadTransaction}
+use Rattle.site_base.specs.declared.event.Event.TheVariants.{ReadProduct, Lift, Flow, Offline}
+use Rattle.site_base.specs.declared.event.Event.TheVariants.{HangUp}
 use Rattle.site_base.specs.declared.refusal.Refusal.{Refusal}
 use Rattle.site_base.specs.declared.refusal.Refusal.TheVariants.{NoSuchTransaction}
 use Rattle.site_base.specs.declared.row.Row.{Row}
@@ -14,11 +17,14 @@ use Rattle.fuelling_point.specs.declared.event.PointEvent.{PointEvent}
 use Rattle.fuelling_point.specs.declared.step.PointStep.{PointStep}
 use Rattle.fuelling_point.specs.declared.step.PointStep.TheVariants.{Moved}
 use Rattle.transaction_buffer.specs.Sales.{Sale, sale_of}
-use Rattle.written_site.specs.SiteChecks.{Passed, first_refusal, is_nozzle_there, is_product_there, is_sale_there, is_there, own_event}
+use Rattle.written_site.specs.SiteChecks.{Passed, first_refusal, is_nozzle_there, is_product_there}
+use Rattle.written_site.specs.SiteChecks.{is_sale_there, is_there, own_event}
 use Rattle.written_site.specs.SiteRun.{IsLegal}
 use Rattle.written_site.specs.SiteState.{SiteState, key_named, opening, view_sale}
-use Rattle.written_site.specs.SiteStep.{accepted_site, clear_told, product_told, reply_to, sale_told, site_after, site_answer, step_told, told_by}
-use Rattle.written_site.specs.StepLaws.{AreClearsTold, DoRefusalsLeave, IsClearTold, is_clear, is_cleared}
+use Rattle.written_site.specs.SiteStep.{accepted_site, clear_told, product_told, reply_to}
+use Rattle.written_site.specs.SiteStep.{sale_told, site_after, site_answer, step_told, told_by}
+use Rattle.written_site.specs.StepLaws.{AreClearsTold, DoRefusalsLeave, IsClearTold, is_clear}
+use Rattle.written_site.specs.StepLaws.{is_cleared}
 use Rattle.written_site.specs.RowWords.{OfBooks}
 use Rattle.written_site.proofs.Passed.{both_pass}
 use Rattle.written_site.proofs.RowWords.{of_row}
@@ -64,7 +70,8 @@ accepted : (s : SiteState) (a : Actor) (e : Event) → Passed s a e
 accepted s a (Clear p id) passes =
     let to_nozzle = both_pass (is_there s (Some p)) _ passes.names in
     let to_product = both_pass (is_nozzle_there s (Some p) None) _ to_nozzle.1 in
-    let to_sale = both_pass (is_product_there s None) (is_sale_there s (Some p) (Some id)) to_product.1 in
+    let to_sale = both_pass (is_product_there s None) (is_sale_there s (Some p) (Some id))
+    to_product.1 in
     told_clear (sale_of (key_named s p id) s.sales) to_sale.1
 accepted s a (Terminate p) passes = told_event s (own_event s (Terminate p))
 accepted s a (Offline p) passes = told_event s (own_event s (Offline p))

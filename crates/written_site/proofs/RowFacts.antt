@@ -1,6 +1,8 @@
 -- What rows say so far agrees with the site that they led to: the open shift, the tills that are
 -- signed on, and how each released point was released.
-use Rattle.std.proofs.Common.{◌≡◌, ℕ, ◌==◌, not, ◌&&◌, Bool, true, false, cond, List, [], ◌∷◌, ◌++◌, Option, Some, None, is_some, unwrap_or, Ok, Err, refl, sym, ap, subst, ◌∙◌, if◌then◌else◌, arith}
+use Rattle.std.proofs.Common.{◌≡◌, ℕ, ◌==◌, not, ◌&&◌, Bool, true, false, cond, List, [], ◌∷◌, ◌++◌}
+use Rattle.std.proofs.Common.{Option, Some, None, is_some, unwrap_or, Ok, Err, refl, sym, ap, subst}
+use Rattle.std.proofs.Common.{◌∙◌, if◌then◌else◌, arith}
 use Rattle.std.proofs.lemmas.Bool.{false≢true}
 use Rattle.std.proofs.lemmas.Grind.{common_steps}
 use Rattle.std.specs.Ordering.{nat_cmp}
@@ -10,7 +12,9 @@ use Rattle.std.specs.FinSet as set
 use Rattle.site_base.specs.declared.actor.Actor.{Actor}
 use Rattle.site_base.specs.declared.actor.Actor.TheVariants.{Till, Dispenser}
 use Rattle.site_base.specs.declared.event.Event.{Event}
-use Rattle.site_base.specs.declared.event.Event.TheVariants.{SignOff, Assign, Unassign, Release, Prepay, TestRelease, Terminate, Offline, HangUp}
+use Rattle.site_base.specs.declared.event.Event.TheVariants.{SignOff, Assign, Unassign, Release}
+use Rattle.site_base.specs.declared.event.Event.TheVariants.{Prepay, TestRelease, Terminate}
+use Rattle.site_base.specs.declared.event.Event.TheVariants.{Offline, HangUp}
 use Rattle.site_base.specs.declared.row.Row.{Row}
 use Rattle.site_base.specs.declared.state.Preset.{Preset}
 use Rattle.site_base.specs.declared.state.Preset.TheVariants.{Money}
@@ -24,15 +28,21 @@ use Rattle.fuelling_point.specs.Whole.{IsWhole, is_released}
 use Rattle.fuelling_point.proofs.Whole.{whole_accepted, stays_whole}
 use Rattle.till_claims.specs.Holds.{is_held_by}
 use Rattle.site_base.specs.Table.{row_of}
-use Rattle.written_site.specs.SiteState.{SiteState, opening, facts_in, facts_of, holder_of, is_signed_on, is_resting, open_shift}
+use Rattle.written_site.specs.SiteState.{SiteState, opening, facts_in, facts_of, holder_of}
+use Rattle.written_site.specs.SiteState.{is_signed_on, is_resting, open_shift}
 use Rattle.written_site.specs.SiteChecks.{Passed, own_event, flowed, released, test_released}
-use Rattle.written_site.specs.SiteStep.{accepted_site, points_after, holds_after, holds_unless_over, ends_at_sign_off, ends_release, reply_to, site_after, site_answer}
-use Rattle.written_site.specs.RowWords.{last_said, latest, signing_of, on_after, closes_shift, open_after}
-use Rattle.written_site.specs.SaleWords.{ToldRelease, by_till, for_test, release_said, release_of, release_after}
+use Rattle.written_site.specs.SiteStep.{accepted_site, points_after, holds_after, holds_unless_over}
+use Rattle.written_site.specs.SiteStep.{ends_at_sign_off, ends_release, reply_to, site_after}
+use Rattle.written_site.specs.SiteStep.{site_answer}
+use Rattle.written_site.specs.RowWords.{last_said, latest, signing_of, on_after, closes_shift}
+use Rattle.written_site.specs.RowWords.{open_after}
+use Rattle.written_site.specs.SaleWords.{ToldRelease, by_till, for_test, release_said, release_of}
+use Rattle.written_site.specs.SaleWords.{release_after}
 use Rattle.written_site.proofs.PointAfter.{FactsAfter, stays, moves, facts_after, opens_closed}
 use Rattle.written_site.proofs.RowWords.{told_row, of_row, said_again, latest_push, total_push}
 use Rattle.written_site.proofs.SigningLaws.{signed_row, shift_row}
-use Rattle.written_site.proofs.SoundHolds.{taken_hold, ended_hold, goes_on_released, offline_ends, unassigned_rests, doesn't_rest}
+use Rattle.written_site.proofs.SoundHolds.{taken_hold, ended_hold, goes_on_released, offline_ends}
+use Rattle.written_site.proofs.SoundHolds.{unassigned_rests, doesn't_rest}
 use Rattle.written_site.proofs.SoundMachine.{is_release, released_after}
 use Rattle.written_site.proofs.SoundTables.{same, turned, itself, told_once}
 

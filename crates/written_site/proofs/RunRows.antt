@@ -1,5 +1,7 @@
 -- The volume of a fuelling under way is what the rows tell since its start.
-use Rattle.std.proofs.Common.{◌≡◌, ℕ, ◌+◌, ◌==◌, ◌&&◌, ◌||◌, Bool, true, false, List, [], ◌∷◌, ◌++◌, Some, None, is_some, unwrap_or, Ok, Err, refl, sym, ap, ◌∙◌, if◌then◌else◌, arith, Option}
+use Rattle.std.proofs.Common.{◌≡◌, ℕ, ◌+◌, ◌==◌, ◌&&◌, ◌||◌, Bool, true, false, List, [], ◌∷◌, ◌++◌}
+use Rattle.std.proofs.Common.{Some, None, is_some, unwrap_or, Ok, Err, refl, sym, ap, ◌∙◌}
+use Rattle.std.proofs.Common.{if◌then◌else◌, arith, Option}
 use Rattle.std.proofs.lemmas.Bool.{false≢true}
 use Rattle.std.proofs.lemmas.Bool.Decides.{nat_tests}
 use Rattle.std.proofs.lemmas.Grind.{common_steps}
@@ -17,13 +19,15 @@ use Rattle.fuelling_point.specs.KeptPoints.{Facts, is_under_way}
 use Rattle.fuelling_point.specs.PointChecks.{refusal_of}
 use Rattle.fuelling_point.specs.Step.{after}
 use Rattle.written_site.specs.DrawLaws.{run_of, run_at, product_read}
-use Rattle.written_site.specs.FuellingWords.{product_at, is_started, tells_start, calls_after, starts, growth_at}
+use Rattle.written_site.specs.FuellingWords.{product_at, is_started, tells_start, calls_after}
+use Rattle.written_site.specs.FuellingWords.{starts, growth_at}
 use Rattle.written_site.specs.Histories.{Moment, moments_of}
 use Rattle.written_site.specs.Holders.{names_point}
 use Rattle.written_site.specs.SaleWords.{by_till, for_test, release_of, release_said}
 use Rattle.written_site.specs.SiteChecks.{Passed, own_event, lifted, released, test_released}
 use Rattle.written_site.specs.SiteState.{SiteState, opening, facts_in, facts_of}
-use Rattle.written_site.specs.SiteStep.{nozzles_after, site_answer, points_after, reply_to, site_after}
+use Rattle.written_site.specs.SiteStep.{nozzles_after, site_answer, points_after, reply_to}
+use Rattle.written_site.specs.SiteStep.{site_after}
 use Rattle.written_site.specs.Volumes.{nozzle_out, product_out, running_at}
 use Rattle.written_site.proofs.FuellingMoves.{growth_moves, growth_away}
 use Rattle.written_site.proofs.FuellingRows.{starts_more}

@@ -1,9 +1,13 @@
 -- What tills cleared is what the rows tell.
-use Rattle.std.proofs.Common.{◌≡◌, ℕ, ◌+◌, ◌==◌, ◌&&◌, Bool, true, false, List, Option, Some, None, is_some, unwrap_or, Ok, Err, refl, sym, ap, subst, ◌∙◌, if◌then◌else◌, arith}
+use Rattle.std.proofs.Common.{◌≡◌, ℕ, ◌+◌, ◌==◌, ◌&&◌, Bool, true, false, List, Option, Some, None}
+use Rattle.std.proofs.Common.{is_some, unwrap_or, Ok, Err, refl, sym, ap, subst, ◌∙◌, if◌then◌else◌}
+use Rattle.std.proofs.Common.{arith}
 use Rattle.site_base.specs.declared.actor.Actor.{Actor}
 use Rattle.site_base.specs.declared.actor.Actor.TheVariants.{Till, Dispenser}
 use Rattle.site_base.specs.declared.event.Event.{Event}
-use Rattle.site_base.specs.declared.event.Event.TheVariants.{Clear, Terminate, ReadTransaction, ReadProduct, Lift, Flow, Offline, HangUp}
+use Rattle.site_base.specs.declared.event.Event.TheVariants.{Clear, Terminate, ReadTransaction}
+use Rattle.site_base.specs.declared.event.Event.TheVariants.{ReadProduct, Lift, Flow, Offline}
+use Rattle.site_base.specs.declared.event.Event.TheVariants.{HangUp}
 use Rattle.site_base.specs.declared.refusal.Refusal.{Refusal}
 use Rattle.site_base.specs.declared.row.Row.{Row}
 use Rattle.site_base.specs.declared.view.TransactionView.{TransactionView}
@@ -15,10 +19,12 @@ use Rattle.transaction_buffer.proofs.Rules.{cleared_by_its_locker}
 use Rattle.written_site.specs.FigureSteps.{HasClear, HasSameClears, is_clear}
 use Rattle.written_site.specs.RowWords.{OfBooks, open_after}
 use Rattle.written_site.specs.ShiftFigures.{clears_in, cents_in, clears_by, cents_by}
-use Rattle.written_site.specs.ShiftLaws.{cents_cleared, cleared_cents, clears_for, cents_for, clears_while, cents_while, AreClearsCounted}
+use Rattle.written_site.specs.ShiftLaws.{cents_cleared, cleared_cents, clears_for, cents_for}
+use Rattle.written_site.specs.ShiftLaws.{clears_while, cents_while, AreClearsCounted}
 use Rattle.written_site.specs.SiteChecks.{Passed, flowed}
 use Rattle.written_site.specs.SiteState.{SiteState, key_named, open_shift, view_sale}
-use Rattle.written_site.specs.SiteStep.{site_answer, step_at, step_told, sale_told, clear_told, product_told, sales_after, reply_to, site_after}
+use Rattle.written_site.specs.SiteStep.{site_answer, step_at, step_told, sale_told, clear_told}
+use Rattle.written_site.specs.SiteStep.{product_told, sales_after, reply_to, site_after}
 use Rattle.written_site.proofs.ClearFigures.{nothing_keeps, none_in, none_by}
 use Rattle.written_site.proofs.FigureMoves.{keeps_clears, has_clear}
 use Rattle.written_site.proofs.RowFacts.{Known, known_more, known_first}

@@ -1,16 +1,21 @@
 -- The tills that are signed on, and the open shift, are those that the rows say.
-use Rattle.std.proofs.Common.{◌≡◌, ℕ, ◌+◌, ◌==◌, ◌||◌, ◌&&◌, not, Bool, true, false, ◌∷◌, [], length-append, Some, None, unwrap_or, refl, ap, ◌∙◌, if◌then◌else◌, arith}
+use Rattle.std.proofs.Common.{◌≡◌, ℕ, ◌+◌, ◌==◌, ◌||◌, ◌&&◌, not, Bool, true, false, ◌∷◌, []}
+use Rattle.std.proofs.Common.{length-append, Some, None, unwrap_or, refl, ap, ◌∙◌, if◌then◌else◌}
+use Rattle.std.proofs.Common.{arith}
 use Rattle.std.specs.Ordering.{nat_cmp}
 use Rattle.std.specs.Cmp.{nat_cmp_total, unsigned_tied}
 use Rattle.std.specs.FinSet as set
 use Rattle.site_base.specs.declared.actor.Actor.{Actor}
 use Rattle.site_base.specs.declared.actor.Actor.TheVariants.{Till}
 use Rattle.site_base.specs.declared.event.Event.{Event}
-use Rattle.site_base.specs.declared.event.Event.TheVariants.{SignOn, SignOff, CloseShift, Offline, HangUp}
+use Rattle.site_base.specs.declared.event.Event.TheVariants.{SignOn, SignOff, CloseShift, Offline}
+use Rattle.site_base.specs.declared.event.Event.TheVariants.{HangUp}
 use Rattle.site_base.specs.declared.row.Row.{Row}
-use Rattle.written_site.specs.SiteState.{SiteState, opening, is_signed_on, nothing_drawn, open_shift}
+use Rattle.written_site.specs.SiteState.{SiteState, opening, is_signed_on, nothing_drawn}
+use Rattle.written_site.specs.SiteState.{open_shift}
 use Rattle.written_site.specs.SiteStep.{accepted_site, step_at, nozzles_after, reply_to, site_after}
-use Rattle.written_site.specs.RowWords.{OfBooks, signing_said, signing_of, is_close, closes_shift, latest}
+use Rattle.written_site.specs.RowWords.{OfBooks, signing_said, signing_of, is_close, closes_shift}
+use Rattle.written_site.specs.RowWords.{latest}
 use Rattle.written_site.specs.SigningLaws.{AreSignedOnByRows, IsShiftByRows}
 use Rattle.written_site.proofs.RowWords.{of_row, latest_word, total_word}
 use Rattle.written_site.proofs.SoundDraws.{by_length}

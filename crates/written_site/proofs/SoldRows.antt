@@ -1,9 +1,11 @@
 -- What is known of a row that tells a sale.
-use Rattle.std.proofs.Common.{◌≡◌, ℕ, ◌+◌, List, [], ◌∷◌, ◌++◌, Option, Some, None, Ok, refl, sym, ap, ◌∙◌, arith}
+use Rattle.std.proofs.Common.{◌≡◌, ℕ, ◌+◌, List, [], ◌∷◌, ◌++◌, Option, Some, None, Ok, refl, sym}
+use Rattle.std.proofs.Common.{ap, ◌∙◌, arith}
 use Rattle.site_base.specs.declared.actor.Actor.{Actor}
 use Rattle.site_base.specs.declared.actor.Actor.TheVariants.{Till, Dispenser}
 use Rattle.site_base.specs.declared.event.Event.{Event}
-use Rattle.site_base.specs.declared.event.Event.TheVariants.{Terminate, Clear, ReadTransaction, Lift, Flow, Offline, HangUp}
+use Rattle.site_base.specs.declared.event.Event.TheVariants.{Terminate, Clear, ReadTransaction}
+use Rattle.site_base.specs.declared.event.Event.TheVariants.{Lift, Flow, Offline, HangUp}
 use Rattle.site_base.specs.declared.row.Row.{Row}
 use Rattle.site_base.specs.Configured.{Configured}
 use Rattle.site_base.specs.Events.{point_named}
@@ -17,7 +19,9 @@ use Rattle.fuelling_point.specs.Step.{step_of}
 use Rattle.transaction_buffer.specs.Sales.{Key, key, made_at, next_key, with_new}
 use Rattle.written_site.specs.SiteState.{SiteState, opening, facts_of, open_shift}
 use Rattle.written_site.specs.SiteChecks.{Passed, own_event, flowed}
-use Rattle.written_site.specs.SiteStep.{accepted_site, site_answer, step_at, step_told, nozzles_after, sales_after, sales_by, sale_made, reply_to, site_after}
+use Rattle.written_site.specs.SiteStep.{accepted_site, site_answer, step_at, step_told}
+use Rattle.written_site.specs.SiteStep.{nozzles_after, sales_after, sales_by, sale_made, reply_to}
+use Rattle.written_site.specs.SiteStep.{site_after}
 use Rattle.written_site.specs.SiteRun.{site_of_rows, IsLegal}
 use Rattle.written_site.specs.Histories.{Moment, moments_after, moments_of}
 use Rattle.written_site.specs.RowWords.{open_after, total}

@@ -1,6 +1,9 @@
 -- The draws by shift, once one is noted: the open shift stays open, each shift has its figures, and
 -- they weigh what they did, with the draw.
-use Rattle.std.proofs.Common.{◌≡◌, ℕ, suc, ◌==◌, not, Bool, true, false, List, [], ◌∷◌, ◌++◌, length, length-append, replicate, ◌⊎◌, inl, inr, refl, sym, ap, subst, ◌∙◌, zero, ◌+◌, ◌-◌, ◌*◌, ◌≤◌, ◌<◌, get_or, Some, None, unwrap_or, arith}
+use Rattle.std.proofs.Common.{◌≡◌, ℕ, suc, ◌==◌, not, Bool, true, false, List, [], ◌∷◌, ◌++◌}
+use Rattle.std.proofs.Common.{length, length-append, replicate, ◌⊎◌, inl, inr, refl, sym, ap, subst}
+use Rattle.std.proofs.Common.{◌∙◌, zero, ◌+◌, ◌-◌, ◌*◌, ◌≤◌, ◌<◌, get_or, Some, None, unwrap_or}
+use Rattle.std.proofs.Common.{arith}
 use Rattle.std.proofs.lemmas.Bool.{and_parts, and_from}
 use Rattle.std.proofs.lemmas.Bool.Decides.{nat_tests}
 use Rattle.std.proofs.lemmas.List.Folds.{list_all-append}
@@ -18,7 +21,8 @@ use Rattle.fuelling_point.specs.declared.step.PointStep.TheVariants.{Drawn}
 use Rattle.meters.specs.Nozzles.{Nozzle}
 use Rattle.written_site.specs.SiteState.{SiteState, facts_of, nothing_drawn, open_shift}
 use Rattle.written_site.specs.SiteChecks.{closing}
-use Rattle.written_site.specs.SiteStep.{step_at, nozzles_after, drawn_after, draws_by, draw_noted, one_more_drawn}
+use Rattle.written_site.specs.SiteStep.{step_at, nozzles_after, drawn_after, draws_by, draw_noted}
+use Rattle.written_site.specs.SiteStep.{one_more_drawn}
 use Rattle.written_site.specs.Sound.{IsShift, is_draw_row}
 use Rattle.written_site.specs.Volumes.{product_out, running_at, weighed_from, drawn_by}
 use Rattle.std.proofs.Math.ListN.{set}

@@ -1,15 +1,19 @@
 -- A released point stays held.
-use Rattle.std.proofs.Common.{◌≡◌, ℕ, ◌==◌, not, Bool, true, false, cond, Option, Some, None, is_some, refl, sym, ap, ◌∙◌, arith}
+use Rattle.std.proofs.Common.{◌≡◌, ℕ, ◌==◌, not, Bool, true, false, cond, Option, Some, None}
+use Rattle.std.proofs.Common.{is_some, refl, sym, ap, ◌∙◌, arith}
 use Rattle.std.proofs.lemmas.Bool.{false≢true}
 use Rattle.std.proofs.lemmas.Grind.{common_steps}
 use Rattle.std.specs.Ordering.{nat_cmp}
 use Rattle.std.specs.Cmp.{nat_cmp_total, unsigned_tied}
 use Rattle.std.specs.FinMap as finite
-use Rattle.std.specs.FinMap.{FinMap, get-insert, get-remove, get-retain_keys, nat_cmp-IsAntisymmetric}
+use Rattle.std.specs.FinMap.{FinMap, get-insert, get-remove, get-retain_keys}
+use Rattle.std.specs.FinMap.{nat_cmp-IsAntisymmetric}
 use Rattle.site_base.specs.declared.actor.Actor.{Actor}
 use Rattle.site_base.specs.declared.actor.Actor.TheVariants.{Till, Dispenser}
 use Rattle.site_base.specs.declared.event.Event.{Event}
-use Rattle.site_base.specs.declared.event.Event.TheVariants.{SignOff, Assign, Unassign, Release, Prepay, TestRelease, Terminate, Offline, HangUp}
+use Rattle.site_base.specs.declared.event.Event.TheVariants.{SignOff, Assign, Unassign, Release}
+use Rattle.site_base.specs.declared.event.Event.TheVariants.{Prepay, TestRelease, Terminate}
+use Rattle.site_base.specs.declared.event.Event.TheVariants.{Offline, HangUp}
 use Rattle.site_base.specs.declared.state.PointState.{PointState}
 use Rattle.site_base.specs.declared.state.Preset.TheVariants.{Money}
 use Rattle.site_base.specs.Table.{row_of}
@@ -21,8 +25,10 @@ use Rattle.fuelling_point.specs.Step.{step_of, after}
 use Rattle.fuelling_point.specs.Whole.{is_released}
 use Rattle.written_site.specs.SiteState.{SiteState, facts_of, holder_of, is_resting}
 use Rattle.written_site.specs.SiteChecks.{Passed, own_event, flowed, released, test_released}
-use Rattle.written_site.specs.SiteStep.{with_event, points_after, holds_after, holds_unless_over, ends_at_sign_off, holds_without, ends_release}
-use Rattle.written_site.proofs.SoundTables.{same, told_once, facts_there, row_of-other, RowAfter, kept, done, row_after}
+use Rattle.written_site.specs.SiteStep.{with_event, points_after, holds_after, holds_unless_over}
+use Rattle.written_site.specs.SiteStep.{ends_at_sign_off, holds_without, ends_release}
+use Rattle.written_site.proofs.SoundTables.{same, told_once, facts_there, row_of-other, RowAfter}
+use Rattle.written_site.proofs.SoundTables.{kept, done, row_after}
 use Rattle.written_site.proofs.SoundMachine.{is_release, released_after}
 
 -- ---- one hold

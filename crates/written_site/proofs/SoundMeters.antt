@@ -1,10 +1,12 @@
 -- The nozzles after an event: their names and products stay, and only the reading of the nozzle
 -- that is named moves.
-use Rattle.std.proofs.Common.{◌≡◌, ℕ, ◌&&◌, ◌==◌, Bool, true, false, List, Option, option_map, Some, None, is_some, unwrap_or, refl, sym, ap, ◌∙◌}
+use Rattle.std.proofs.Common.{◌≡◌, ℕ, ◌&&◌, ◌==◌, Bool, true, false, List, Option, option_map, Some}
+use Rattle.std.proofs.Common.{None, is_some, unwrap_or, refl, sym, ap, ◌∙◌}
 use Rattle.std.proofs.lemmas.Bool.{and_parts}
 use Rattle.site_base.specs.declared.event.Event.{Event}
 use Rattle.site_base.specs.declared.event.Event.TheVariants.{ReplaceMeter, Flow, HangUp}
-use Rattle.meters.specs.Nozzles.{Nozzle, nozzle_of, has_nozzle, product_of, reading_of, with_nozzle, with_last, read_at, replaced_at}
+use Rattle.meters.specs.Nozzles.{Nozzle, nozzle_of, has_nozzle, product_of, reading_of, with_nozzle}
+use Rattle.meters.specs.Nozzles.{with_last, read_at, replaced_at}
 use Rattle.meters.proofs.Looked.{KeepsName, nozzle_of-here, nozzle_of-other, there, reading_is}
 use Rattle.written_site.specs.SiteState.{SiteState}
 use Rattle.written_site.specs.SiteStep.{nozzles_after}

@@ -1,5 +1,7 @@
 -- The opening site of a fit configuration is sound.
-use Rattle.std.proofs.Common.{◌++◌, ◌≡◌, ℕ, suc, ◌+◌, ◌*◌, ◌≤◌, ◌==◌, ◌&&◌, ◌||◌, not, nat_le, Bool, true, false, List, [], ◌∷◌, length, length-append, Option, Some, None, is_some, unwrap_or, refl, sym, ap, subst, ◌∙◌, arith}
+use Rattle.std.proofs.Common.{◌++◌, ◌≡◌, ℕ, suc, ◌+◌, ◌*◌, ◌≤◌, ◌==◌, ◌&&◌, ◌||◌, not, nat_le, Bool}
+use Rattle.std.proofs.Common.{true, false, List, [], ◌∷◌, length, length-append, Option, Some, None}
+use Rattle.std.proofs.Common.{is_some, unwrap_or, refl, sym, ap, subst, ◌∙◌, arith}
 use Rattle.std.proofs.Math.Nat.{mul-zero}
 use Rattle.std.proofs.lemmas.Bool.{and_parts, and_from, leb-true, le-leb, false≢true}
 use Rattle.std.proofs.lemmas.Bool.Decides.{nat_tests}
@@ -9,24 +11,29 @@ use Rattle.std.specs.Ordering.{nat_cmp}
 use Rattle.std.specs.Prelude.{nat_eq}
 use Rattle.std.specs.FinMap.{get-empty}
 use Rattle.site_base.specs.declared.config.NozzleEntry.{NozzleEntry}
-use Rattle.site_base.specs.declared.limits.TheConstants.{GREATEST_READING, GREATEST_ROWS, NOZZLES, POINTS, PRODUCTS}
+use Rattle.site_base.specs.declared.limits.TheConstants.{GREATEST_READING, GREATEST_ROWS, NOZZLES}
+use Rattle.site_base.specs.declared.limits.TheConstants.{POINTS, PRODUCTS}
 use Rattle.site_base.specs.declared.state.PointState.TheVariants.{Closed}
 use Rattle.site_base.specs.Ranges.{is_between}
 use Rattle.site_base.specs.declared.config.PointEntry.{PointEntry}
 use Rattle.site_base.specs.declared.config.ProductEntry.{ProductEntry}
-use Rattle.site_base.specs.Configured.{Configured, none_alike, same_point, are_points, are_nozzles, are_products, has_product, is_site}
+use Rattle.site_base.specs.Configured.{Configured, none_alike, same_point, are_points, are_nozzles}
+use Rattle.site_base.specs.Configured.{are_products, has_product, is_site}
 use Rattle.site_base.specs.Prices.{prices_of}
 use Rattle.site_base.specs.Table.{row_of}
 use Rattle.fuelling_point.specs.KeptPoints.{Facts, fresh}
 use Rattle.fuelling_point.proofs.Whole.{stays_whole}
 use Rattle.meters.specs.Metered.{metered_by}
-use Rattle.meters.specs.Nozzles.{Nozzle, product_of, is_nozzle, numbered, nozzles_of_point, nozzles_of_points, opening_nozzles, EachMetered, AreNozzles}
+use Rattle.meters.specs.Nozzles.{Nozzle, product_of, is_nozzle, numbered, nozzles_of_point}
+use Rattle.meters.specs.Nozzles.{nozzles_of_points, opening_nozzles, EachMetered, AreNozzles}
 use Rattle.meters.proofs.Bounded.{each_joined}
 use Rattle.meters.proofs.Weighed.{open_nothing}
-use Rattle.transaction_buffer.specs.Sales.{Key, Sale, no_sales, sales_at, sale_in, sale_of, made_in, made_at, unpaid_among, unpaid_at}
+use Rattle.transaction_buffer.specs.Sales.{Key, Sale, no_sales, sales_at, sale_in, sale_of, made_in}
+use Rattle.transaction_buffer.specs.Sales.{made_at, unpaid_among, unpaid_at}
 use Rattle.transaction_buffer.proofs.OnShelves.{nothing_sold}
 use Rattle.written_site.specs.SiteState.{SiteState, opening, points_of, nothing_drawn}
-use Rattle.written_site.specs.Sound.{IsFit, are_numbered, are_readable, IsPointSound, IsSupplied, Sound, numbers_of}
+use Rattle.written_site.specs.Sound.{IsFit, are_numbered, are_readable, IsPointSound, IsSupplied}
+use Rattle.written_site.specs.Sound.{Sound, numbers_of}
 use Rattle.written_site.specs.Volumes.{running_by, sold_by, drawn_by}
 use Rattle.written_site.proofs.SoundTables.{same, told_once}
 

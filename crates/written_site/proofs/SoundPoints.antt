@@ -1,5 +1,7 @@
 -- Each point stays sound.
-use Rattle.std.proofs.Common.{◌≡◌, ℕ, ◌+◌, ◌-◌, ◌<◌, ◌==◌, Bool, true, false, cond, List, [], ◌∷◌, length, Option, option_and_then, Some, None, is_some, unwrap_or, ◌⊎◌, inl, inr, refl, sym, ap, subst, ◌∙◌, arith}
+use Rattle.std.proofs.Common.{◌≡◌, ℕ, ◌+◌, ◌-◌, ◌<◌, ◌==◌, Bool, true, false, cond, List, [], ◌∷◌}
+use Rattle.std.proofs.Common.{length, Option, option_and_then, Some, None, is_some, unwrap_or, ◌⊎◌}
+use Rattle.std.proofs.Common.{inl, inr, refl, sym, ap, subst, ◌∙◌, arith}
 use Rattle.std.proofs.lemmas.Bool.{and_parts}
 use Rattle.std.proofs.lemmas.Bool.Decides.{nat_tests}
 use Rattle.std.proofs.lemmas.Grind.{common_steps}
@@ -19,14 +21,17 @@ use Rattle.fuelling_point.specs.Whole.{IsWhole, is_released}
 use Rattle.fuelling_point.proofs.Whole.{whole_accepted}
 use Rattle.meters.specs.Nozzles.{Nozzle, has_nozzle, product_of, reading_of}
 use Rattle.transaction_buffer.specs.Sales.{made_at}
-use Rattle.written_site.specs.SiteState.{SiteState, facts_of, open_shift, price_at_start, reading_at_start}
+use Rattle.written_site.specs.SiteState.{SiteState, facts_of, open_shift, price_at_start}
+use Rattle.written_site.specs.SiteState.{reading_at_start}
 use Rattle.written_site.specs.SiteChecks.{Passed, own_event, numbers, sale_room, may_sell}
-use Rattle.written_site.specs.SiteStep.{accepted_site, nozzles_after, points_after, holds_after, sales_after, drawn_after}
+use Rattle.written_site.specs.SiteStep.{accepted_site, nozzles_after, points_after, holds_after}
+use Rattle.written_site.specs.SiteStep.{sales_after, drawn_after}
 use Rattle.written_site.specs.Sound.{IsPointSound, IsPrice, MaySell, Sound}
 use Rattle.written_site.specs.SoundSteps.{IsTaken}
 use Rattle.written_site.specs.Volumes.{nozzle_out, running_at}
 use Rattle.written_site.proofs.SoundTables.{told_once, facts_there, RowAfter, kept, done, row_after}
-use Rattle.written_site.proofs.SoundMachine.{is_sale_release, out_after, sells_after, goes_on, starts}
+use Rattle.written_site.proofs.SoundMachine.{is_sale_release, out_after, sells_after, goes_on}
+use Rattle.written_site.proofs.SoundMachine.{starts}
 use Rattle.written_site.proofs.SoundMeters.{nozzle_after}
 use Rattle.written_site.proofs.SoundReports.{IsRead, read_of, reading_elsewhere, reading_read}
 use Rattle.written_site.proofs.SoundHolds.{held_after}

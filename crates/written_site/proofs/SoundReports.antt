@@ -1,27 +1,34 @@
 -- The meter of the nozzle that is out, and the point that its reports are of.
-use Rattle.std.proofs.Common.{◌≡◌, ℕ, ◌+◌, ◌≤◌, ◌<◌, ◌==◌, Bool, true, false, List, Option, Some, None, refl, ap, subst, arith}
+use Rattle.std.proofs.Common.{◌≡◌, ℕ, ◌+◌, ◌≤◌, ◌<◌, ◌==◌, Bool, true, false, List, Option, Some}
+use Rattle.std.proofs.Common.{None, refl, ap, subst, arith}
 use Rattle.std.proofs.lemmas.Bool.Decides.{nat_tests}
 use Rattle.std.proofs.lemmas.Grind.{common_steps}
 use Rattle.site_base.specs.declared.event.Event.{Event}
-use Rattle.site_base.specs.declared.event.Event.TheVariants.{SignOn, SignOff, ReplaceMeter, ReadPoint, Lock, Unlock, Clear, ReadTransaction, SetPrice, ReadProduct, CloseShift, ReadSite, Flow, HangUp}
+use Rattle.site_base.specs.declared.event.Event.TheVariants.{SignOn, SignOff, ReplaceMeter}
+use Rattle.site_base.specs.declared.event.Event.TheVariants.{ReadPoint, Lock, Unlock, Clear}
+use Rattle.site_base.specs.declared.event.Event.TheVariants.{ReadTransaction, SetPrice, ReadProduct}
+use Rattle.site_base.specs.declared.event.Event.TheVariants.{CloseShift, ReadSite, Flow, HangUp}
 use Rattle.site_base.specs.declared.limits.TheConstants.{GREATEST_READING, REPLACEMENT_LIMIT}
 use Rattle.fuelling_point.specs.declared.event.PointEvent.{PointEvent}
 use Rattle.fuelling_point.specs.declared.event.PointEvent.TheVariants as points
 use Rattle.fuelling_point.specs.KeptPoints.{Facts, growth_of, is_under_way}
 use Rattle.fuelling_point.specs.PointChecks.{refusal_of}
 use Rattle.fuelling_point.specs.Whole.{IsWhole}
-use Rattle.meters.specs.Nozzles.{Nozzle, reading_of, has_nozzle, times_replaced, with_nozzle, with_last, read_at, replaced_at, AreNozzles, EachMetered}
+use Rattle.meters.specs.Nozzles.{Nozzle, reading_of, has_nozzle, times_replaced, with_nozzle}
+use Rattle.meters.specs.Nozzles.{with_last, read_at, replaced_at, AreNozzles, EachMetered}
 use Rattle.meters.specs.declared.report.Report.TheVariants.{Growing}
 use Rattle.meters.proofs.Bounded.{reads, replaces}
 use Rattle.meters.proofs.Looked.{length-with_nozzle, read_there}
 use Rattle.meters.proofs.Weighed.{accepted_above}
 use Rattle.written_site.specs.SiteState.{SiteState, facts_of}
-use Rattle.written_site.specs.SiteChecks.{own_event, numbers, at_point, metering, flowed, put_back_at}
+use Rattle.written_site.specs.SiteChecks.{own_event, numbers, at_point, metering, flowed}
+use Rattle.written_site.specs.SiteChecks.{put_back_at}
 use Rattle.written_site.specs.SiteStep.{nozzles_after}
 use Rattle.written_site.specs.SoundSteps.{IsTaken, growth_at, growth_by}
 use Rattle.written_site.specs.Volumes.{nozzle_out}
 use Rattle.written_site.proofs.SoundTables.{same}
-use Rattle.written_site.proofs.SoundMeters.{read_keeps, replaced_keeps, reading_taken, reading_other}
+use Rattle.written_site.proofs.SoundMeters.{read_keeps, replaced_keeps, reading_taken}
+use Rattle.written_site.proofs.SoundMeters.{reading_other}
 
 -- ---- the event that an event is to a point
 

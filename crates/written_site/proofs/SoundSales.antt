@@ -1,11 +1,13 @@
 -- What holds of sales and draws stays so.
-use Rattle.std.proofs.Common.{◌≡◌, ℕ, ◌+◌, ◌≤◌, ◌<◌, ◌==◌, ◌&&◌, Bool, true, false, cond, List, Option, Some, Result, Ok, Err, refl, sym, ap, subst, ◌∙◌, arith}
+use Rattle.std.proofs.Common.{◌≡◌, ℕ, ◌+◌, ◌≤◌, ◌<◌, ◌==◌, ◌&&◌, Bool, true, false, cond, List}
+use Rattle.std.proofs.Common.{Option, Some, Result, Ok, Err, refl, sym, ap, subst, ◌∙◌, arith}
 use Rattle.std.proofs.lemmas.Bool.{and_right, true≢false}
 use Rattle.std.proofs.lemmas.Bool.Decides.{nat_tests}
 use Rattle.site_base.specs.declared.actor.Actor.{Actor}
 use Rattle.site_base.specs.declared.actor.Actor.TheVariants.{Till}
 use Rattle.site_base.specs.declared.event.Event.{Event}
-use Rattle.site_base.specs.declared.event.Event.TheVariants.{SignOff, Lock, Unlock, Clear, Offline, HangUp}
+use Rattle.site_base.specs.declared.event.Event.TheVariants.{SignOff, Lock, Unlock, Clear, Offline}
+use Rattle.site_base.specs.declared.event.Event.TheVariants.{HangUp}
 use Rattle.fuelling_point.specs.declared.event.PointEvent.{PointEvent}
 use Rattle.fuelling_point.specs.declared.event.PointEvent.TheVariants as points
 use Rattle.fuelling_point.specs.declared.step.PointStep.{PointStep}
@@ -17,8 +19,11 @@ use Rattle.transaction_buffer.specs.declared.request.Request.{Request}
 use Rattle.transaction_buffer.specs.declared.request.Request.TheVariants as requests
 use Rattle.transaction_buffer.specs.declared.standing.Standing.TheVariants.{Payable}
 use Rattle.site_base.specs.declared.limits.TheConstants.{UNPAID_LIMIT}
-use Rattle.transaction_buffer.specs.Sales.{Key, Sale, Sales, made_at, unpaid_at, with_new, is_unpaid}
-use Rattle.transaction_buffer.specs.TransactionTable.{Line, line_for, sale_after, sale_after_request, after_request, after_sign_off, let_go, is_locked_by}
+use Rattle.transaction_buffer.specs.Sales.{Key, Sale, Sales, made_at, unpaid_at, with_new}
+use Rattle.transaction_buffer.specs.Sales.{is_unpaid}
+use Rattle.transaction_buffer.specs.TransactionTable.{Line, line_for, sale_after}
+use Rattle.transaction_buffer.specs.TransactionTable.{sale_after_request, after_request}
+use Rattle.transaction_buffer.specs.TransactionTable.{after_sign_off, let_go, is_locked_by}
 use Rattle.transaction_buffer.proofs.Counting.{counted_after}
 use Rattle.written_site.specs.SiteState.{SiteState, facts_of, key_named, open_shift}
 use Rattle.written_site.specs.SiteChecks.{own_event, flowed}

@@ -1,10 +1,12 @@
 -- Where the point of an event sells or draws, at a sound site.
-use Rattle.std.proofs.Common.{◌≡◌, ℕ, ◌+◌, ◌-◌, ◌≤◌, ◌<◌, true, Option, Some, None, refl, ◌∙◌, arith}
+use Rattle.std.proofs.Common.{◌≡◌, ℕ, ◌+◌, ◌-◌, ◌≤◌, ◌<◌, true, Option, Some, None, refl, ◌∙◌}
+use Rattle.std.proofs.Common.{arith}
 use Rattle.std.proofs.lemmas.Grind.{common_steps}
 use Rattle.site_base.specs.declared.actor.Actor.{Actor}
 use Rattle.site_base.specs.declared.actor.Actor.TheVariants.{Till}
 use Rattle.site_base.specs.declared.event.Event.{Event}
-use Rattle.site_base.specs.declared.event.Event.TheVariants.{SignOff, Lock, Unlock, Clear, Offline, HangUp}
+use Rattle.site_base.specs.declared.event.Event.TheVariants.{SignOff, Lock, Unlock, Clear, Offline}
+use Rattle.site_base.specs.declared.event.Event.TheVariants.{HangUp}
 use Rattle.site_base.specs.declared.limits.TheConstants.{UNPAID_LIMIT}
 use Rattle.site_base.specs.declared.state.PointState.{PointState}
 use Rattle.site_base.specs.Table.{row_of}
@@ -29,7 +31,8 @@ use Rattle.written_site.proofs.EachSale.{Each}
 use Rattle.written_site.proofs.SoundTables.{row_there}
 use Rattle.written_site.proofs.SoundMachine.{sold_from}
 use Rattle.written_site.proofs.SoundReports.{IsRead, read_of, reading_read}
-use Rattle.written_site.proofs.SoundSales.{sells, let_go_counts, asked_counts, unpaid_by, order_by, signed_off_sales, asked_sales, sales_by_step}
+use Rattle.written_site.proofs.SoundSales.{sells, let_go_counts, asked_counts, unpaid_by, order_by}
+use Rattle.written_site.proofs.SoundSales.{signed_off_sales, asked_sales, sales_by_step}
 
 -- ---- the event's own point
 

@@ -1,5 +1,6 @@
 -- The lockers of sales stay signed on, and no sale is cleared in a shift to come.
-use Rattle.std.proofs.Common.{◌≡◌, ℕ, ◌≤◌, ◌==◌, ◌&&◌, ◌||◌, not, Bool, true, false, cond, List, Option, Some, None, refl, sym, ap, subst, ◌∙◌, arith}
+use Rattle.std.proofs.Common.{◌≡◌, ℕ, ◌≤◌, ◌==◌, ◌&&◌, ◌||◌, not, Bool, true, false, cond, List}
+use Rattle.std.proofs.Common.{Option, Some, None, refl, sym, ap, subst, ◌∙◌, arith}
 use Rattle.std.specs.Ordering.{nat_cmp}
 use Rattle.std.specs.Cmp.{nat_cmp_total, unsigned_tied}
 use Rattle.std.specs.Ordering.{eq_by_cmp}
@@ -7,7 +8,8 @@ use Rattle.std.specs.FinSet as set
 use Rattle.site_base.specs.declared.actor.Actor.{Actor}
 use Rattle.site_base.specs.declared.actor.Actor.TheVariants.{Till}
 use Rattle.site_base.specs.declared.event.Event.{Event}
-use Rattle.site_base.specs.declared.event.Event.TheVariants.{SignOn, SignOff, Lock, Unlock, Clear, Offline, HangUp}
+use Rattle.site_base.specs.declared.event.Event.TheVariants.{SignOn, SignOff, Lock, Unlock, Clear}
+use Rattle.site_base.specs.declared.event.Event.TheVariants.{Offline, HangUp}
 use Rattle.site_base.specs.declared.refusal.Refusal.TheVariants.{NotSignedOn}
 use Rattle.fuelling_point.specs.declared.step.PointStep.{PointStep}
 use Rattle.fuelling_point.specs.declared.step.PointStep.TheVariants.{Sold}
@@ -15,12 +17,17 @@ use Rattle.meters.specs.Nozzles.{Nozzle}
 use Rattle.transaction_buffer.specs.declared.request.Request.{Request}
 use Rattle.transaction_buffer.specs.declared.request.Request.TheVariants as requests
 use Rattle.transaction_buffer.specs.declared.standing.Standing.{Standing}
-use Rattle.transaction_buffer.specs.declared.standing.Standing.TheVariants.{Payable, LockedBy, ClearedBy}
+use Rattle.transaction_buffer.specs.declared.standing.Standing.TheVariants.{Payable, LockedBy}
+use Rattle.transaction_buffer.specs.declared.standing.Standing.TheVariants.{ClearedBy}
 use Rattle.transaction_buffer.specs.Sales.{Sale, new_standing}
-use Rattle.transaction_buffer.specs.TransactionTable.{Seen, payable, locked_by_it, locked_by_other, cleared_by, line, seen_by, sale_after, sale_after_request, is_locked_by, let_go}
-use Rattle.written_site.specs.SiteState.{SiteState, facts_of, holder_of, is_signed_on, key_named, open_shift}
+use Rattle.transaction_buffer.specs.TransactionTable.{Seen, payable, locked_by_it, locked_by_other}
+use Rattle.transaction_buffer.specs.TransactionTable.{cleared_by, line, seen_by, sale_after}
+use Rattle.transaction_buffer.specs.TransactionTable.{sale_after_request, is_locked_by, let_go}
+use Rattle.written_site.specs.SiteState.{SiteState, facts_of, holder_of, is_signed_on, key_named}
+use Rattle.written_site.specs.SiteState.{open_shift}
 use Rattle.written_site.specs.SiteChecks.{Passed}
-use Rattle.written_site.specs.SiteStep.{accepted_site, step_at, nozzles_after, sales_after, sales_by, sale_made, first_locker, if_signed_on}
+use Rattle.written_site.specs.SiteStep.{accepted_site, step_at, nozzles_after, sales_after}
+use Rattle.written_site.specs.SiteStep.{sales_by, sale_made, first_locker, if_signed_on}
 use Rattle.written_site.specs.Sound.{IsStanding, Sound}
 use Rattle.written_site.proofs.EachSale.{Each, each_let_go, each_asked, each_sold}
 use Rattle.written_site.proofs.SoundDraws.{shifts_kept}

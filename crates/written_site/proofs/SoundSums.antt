@@ -1,5 +1,7 @@
 -- The volumes of a sound site add up, and each of them fits in 64 bits.
-use Rattle.std.proofs.Common.{◌≡◌, ◌≢◌, ℕ, zero, suc, ◌+◌, ◌-◌, ◌*◌, ◌^◌, ◌≤◌, ◌<◌, ◌==◌, Bool, true, false, cond, List, [], ◌∷◌, length, get_or, Option, Some, None, unwrap_or, refl, sym, ap, ◌∙◌, arith}
+use Rattle.std.proofs.Common.{◌≡◌, ◌≢◌, ℕ, zero, suc, ◌+◌, ◌-◌, ◌*◌, ◌^◌, ◌≤◌, ◌<◌, ◌==◌, Bool}
+use Rattle.std.proofs.Common.{true, false, cond, List, [], ◌∷◌, length, get_or, Option, Some, None}
+use Rattle.std.proofs.Common.{unwrap_or, refl, sym, ap, ◌∙◌, arith}
 use Rattle.std.proofs.Math.Nat.{mul-zero}
 use Rattle.std.proofs.lemmas.Bool.Decides.{nat_tests}
 use Rattle.std.specs.List.{slice_get}
@@ -18,8 +20,10 @@ use Rattle.transaction_buffer.proofs.Volumes.{add_up}
 use Rattle.written_site.specs.SiteState.{SiteState}
 use Rattle.written_site.specs.SiteStep.{nozzles_after, points_after}
 use Rattle.written_site.specs.Sound.{Sound}
-use Rattle.written_site.specs.SoundSteps.{IsTaken, AddUp, MovesRunning, growth_at, product_at, sold_at, drawn_at}
-use Rattle.written_site.specs.Volumes.{product_out, running_at, running_by, sold_by, weighed_from, drawn_by, running, adjusted}
+use Rattle.written_site.specs.SoundSteps.{IsTaken, AddUp, MovesRunning, growth_at, product_at}
+use Rattle.written_site.specs.SoundSteps.{sold_at, drawn_at}
+use Rattle.written_site.specs.Volumes.{product_out, running_at, running_by, sold_by, weighed_from}
+use Rattle.written_site.specs.Volumes.{drawn_by, running, adjusted}
 use Rattle.written_site.proofs.SoundTables.{same, itself, told_once}
 use Rattle.written_site.proofs.SoundVolumes.{running_moves}
 

@@ -1,6 +1,8 @@
 -- What the code of the site uses of a sound site: what grows fits, and a sale or a draw finds what
 -- it needs.
-use Rattle.std.proofs.Common.{◌≡◌, ℕ, zero, suc, ◌+◌, ◌-◌, ◌*◌, ◌^◌, ◌≤◌, ◌<◌, Bool, true, false, cond, List, [], ◌∷◌, length, Option, option_map, option_and_then, Some, None, is_some, unwrap_or, refl, sym, ap, subst, ◌∙◌, arith}
+use Rattle.std.proofs.Common.{◌≡◌, ℕ, zero, suc, ◌+◌, ◌-◌, ◌*◌, ◌^◌, ◌≤◌, ◌<◌, Bool, true, false}
+use Rattle.std.proofs.Common.{cond, List, [], ◌∷◌, length, Option, option_map, option_and_then}
+use Rattle.std.proofs.Common.{Some, None, is_some, unwrap_or, refl, sym, ap, subst, ◌∙◌, arith}
 use Rattle.std.proofs.lemmas.Bool.{and_parts}
 use Rattle.std.proofs.lemmas.Bool.Decides.{nat_tests}
 use Rattle.std.proofs.lemmas.Grind.{common_steps}
@@ -32,19 +34,30 @@ use Rattle.transaction_buffer.specs.Sums.{volume_of, volume_by, volume_with}
 use Rattle.transaction_buffer.specs.TransactionTable.{after_request}
 use Rattle.transaction_buffer.proofs.Volumes.{move}
 use Rattle.written_site.specs.SiteState.{SiteState, facts_of, open_shift, price_of, price_at_start}
-use Rattle.written_site.specs.SiteChecks.{own_event, first_refusal, flowed, put_back_at, sale_request}
-use Rattle.written_site.specs.SiteStep.{nozzles_after, points_after, sales_after, drawn_after, step_at, step_by}
-use Rattle.written_site.specs.Sound.{InRange, IsPointSound, IsPrice, IsSupplied, MaySell, Sound, is_draw_row}
-use Rattle.written_site.specs.SoundSteps.{IsTaken, FitsOwn, IsDelivery, IsSaleFit, IsDrawFit, MovesStatus, DoVolumesAddUp, FindsRoom, ends_by, open_draws, growth_at, product_at, product_by, sold_at, drawn_at}
-use Rattle.written_site.specs.Volumes.{nozzle_out, product_out, running_at, running_by, sold_by, drawn_by, running, adjusted}
+use Rattle.written_site.specs.SiteChecks.{own_event, first_refusal, flowed, put_back_at}
+use Rattle.written_site.specs.SiteChecks.{sale_request}
+use Rattle.written_site.specs.SiteStep.{nozzles_after, points_after, sales_after, drawn_after}
+use Rattle.written_site.specs.SiteStep.{step_at, step_by}
+use Rattle.written_site.specs.Sound.{InRange, IsPointSound, IsPrice, IsSupplied, MaySell, Sound}
+use Rattle.written_site.specs.Sound.{is_draw_row}
+use Rattle.written_site.specs.SoundSteps.{IsTaken, FitsOwn, IsDelivery, IsSaleFit, IsDrawFit}
+use Rattle.written_site.specs.SoundSteps.{MovesStatus, DoVolumesAddUp, FindsRoom, ends_by}
+use Rattle.written_site.specs.SoundSteps.{open_draws, growth_at, product_at, product_by, sold_at}
+use Rattle.written_site.specs.SoundSteps.{drawn_at}
+use Rattle.written_site.specs.Volumes.{nozzle_out, product_out, running_at, running_by, sold_by}
+use Rattle.written_site.specs.Volumes.{drawn_by, running, adjusted}
 use Rattle.written_site.proofs.Passed.{passed}
 use Rattle.written_site.proofs.Sound.{taken_when_passed}
 use Rattle.written_site.proofs.SoundTables.{same, told_once}
 use Rattle.written_site.proofs.SoundMachine.{sold_from, drawn_from}
-use Rattle.written_site.proofs.SoundReports.{flow_nozzle, hung_up_nozzle, flow_is_out, hung_up_is_out, nozzles_stay}
+use Rattle.written_site.proofs.SoundReports.{flow_nozzle, hung_up_nozzle, flow_is_out}
+use Rattle.written_site.proofs.SoundReports.{hung_up_is_out, nozzles_stay}
 use Rattle.written_site.proofs.SoundSold.{own_point, run_own, under_way_released}
-use Rattle.written_site.proofs.SoundSums.{adds_up, run_within, own_weight, sold_alone, moves_running, figure_drawn, most_fits}
-use Rattle.written_site.proofs.SoundVolumes.{nozzle_there, product_supplied, product_out_after, none_sold, none_drawn, running_moves, moves_volumes, conserved_after}
+use Rattle.written_site.proofs.SoundSums.{adds_up, run_within, own_weight, sold_alone}
+use Rattle.written_site.proofs.SoundSums.{moves_running, figure_drawn, most_fits}
+use Rattle.written_site.proofs.SoundVolumes.{nozzle_there, product_supplied, product_out_after}
+use Rattle.written_site.proofs.SoundVolumes.{none_sold, none_drawn, running_moves, moves_volumes}
+use Rattle.written_site.proofs.SoundVolumes.{conserved_after}
 
 -- ---- readings and volumes
 

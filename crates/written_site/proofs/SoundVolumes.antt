@@ -1,5 +1,7 @@
 -- How an event moves the volumes of a sound site.
-use Rattle.std.proofs.Common.{◌≡◌, ℕ, ◌+◌, ◌-◌, ◌*◌, ◌≤◌, Bool, true, false, cond, List, Option, option_map, Some, None, is_some, unwrap_or, refl, sym, ap, subst, ◌∙◌, ◌⊎◌, inl, inr, arith}
+use Rattle.std.proofs.Common.{◌≡◌, ℕ, ◌+◌, ◌-◌, ◌*◌, ◌≤◌, Bool, true, false, cond, List, Option}
+use Rattle.std.proofs.Common.{option_map, Some, None, is_some, unwrap_or, refl, sym, ap, subst, ◌∙◌}
+use Rattle.std.proofs.Common.{◌⊎◌, inl, inr, arith}
 use Rattle.std.proofs.Math.Nat.{mul-zero, mul-add}
 use Rattle.std.proofs.lemmas.Bool.{false≢true}
 use Rattle.std.proofs.lemmas.Bool.Decides.{nat_tests}
@@ -7,7 +9,9 @@ use Rattle.std.proofs.lemmas.Grind.{common_steps}
 use Rattle.site_base.specs.declared.actor.Actor.{Actor}
 use Rattle.site_base.specs.declared.actor.Actor.TheVariants.{Till}
 use Rattle.site_base.specs.declared.event.Event.{Event}
-use Rattle.site_base.specs.declared.event.Event.TheVariants.{SignOff, ReplaceMeter, Lock, Unlock, Clear, CloseShift, Offline, Flow, HangUp}
+use Rattle.site_base.specs.declared.event.Event.TheVariants.{SignOff, ReplaceMeter, Lock, Unlock}
+use Rattle.site_base.specs.declared.event.Event.TheVariants.{Clear, CloseShift, Offline, Flow}
+use Rattle.site_base.specs.declared.event.Event.TheVariants.{HangUp}
 use Rattle.site_base.specs.declared.state.PointState.TheVariants as states
 use Rattle.std.specs.Prelude.{nat_eq}
 use Rattle.site_base.specs.Configured.{none_alike}
@@ -21,7 +25,8 @@ use Rattle.fuelling_point.specs.Laws.{sold_in, drawn_in}
 use Rattle.fuelling_point.specs.Step.{step_of, after}
 use Rattle.fuelling_point.proofs.Whole.{conserved}
 use Rattle.meters.specs.Metered.{metered_by}
-use Rattle.meters.specs.Nozzles.{Nozzle, AreNozzles, nozzle_of, product_of, reading_of, has_nozzle, with_last}
+use Rattle.meters.specs.Nozzles.{Nozzle, AreNozzles, nozzle_of, product_of, reading_of, has_nozzle}
+use Rattle.meters.specs.Nozzles.{with_last}
 use Rattle.meters.proofs.Looked.{there, reading_is}
 use Rattle.meters.proofs.Weighed.{read_raises, meter_keeps, accepted_above}
 use Rattle.meters.specs.declared.report.Report.TheVariants.{Growing}
@@ -29,19 +34,26 @@ use Rattle.transaction_buffer.specs.declared.standing.Standing.TheVariants.{Paya
 use Rattle.transaction_buffer.specs.declared.request.Request.{Request}
 use Rattle.transaction_buffer.specs.declared.request.Request.TheVariants as requests
 use Rattle.transaction_buffer.specs.Sales.{Key, Sale, Sales}
-use Rattle.transaction_buffer.specs.TransactionTable.{after_request, after_sign_off, let_go, is_locked_by}
+use Rattle.transaction_buffer.specs.TransactionTable.{after_request, after_sign_off, let_go}
+use Rattle.transaction_buffer.specs.TransactionTable.{is_locked_by}
 use Rattle.transaction_buffer.proofs.Summing.{sold_sum, changed_sum, alike_sum}
 use Rattle.written_site.specs.SiteState.{SiteState, facts_in, facts_of, key_named, open_shift}
 use Rattle.written_site.specs.SiteChecks.{own_event, flowed, put_back_at}
-use Rattle.written_site.specs.SiteStep.{nozzles_after, points_after, sales_after, sales_by, sale_made, drawn_after, draws_by, step_at, step_by, with_event}
+use Rattle.written_site.specs.SiteStep.{nozzles_after, points_after, sales_after, sales_by}
+use Rattle.written_site.specs.SiteStep.{sale_made, drawn_after, draws_by, step_at, step_by}
+use Rattle.written_site.specs.SiteStep.{with_event}
 use Rattle.written_site.specs.Sound.{IsPointSound, IsSupplied, Sound, numbers_of}
-use Rattle.written_site.specs.SoundSteps.{IsTaken, MovesVolumes, ends_by, growth_at, growth_by, product_at, product_by, sold_at, drawn_at}
-use Rattle.written_site.specs.Volumes.{nozzle_out, product_out, running_at, running_by, sold_by, drawn_by}
+use Rattle.written_site.specs.SoundSteps.{IsTaken, MovesVolumes, ends_by, growth_at, growth_by}
+use Rattle.written_site.specs.SoundSteps.{product_at, product_by, sold_at, drawn_at}
+use Rattle.written_site.specs.Volumes.{nozzle_out, product_out, running_at, running_by, sold_by}
+use Rattle.written_site.specs.Volumes.{drawn_by}
 use Rattle.written_site.proofs.SoundTables.{numbers_kept}
-use Rattle.written_site.proofs.SoundMachine.{same_nozzle, sold_from, drawn_from, nothing_sold, nothing_drawn}
+use Rattle.written_site.proofs.SoundMachine.{same_nozzle, sold_from, drawn_from, nothing_sold}
+use Rattle.written_site.proofs.SoundMachine.{nothing_drawn}
 use Rattle.written_site.proofs.SoundPoints.{out_under_way, run_is_volume, run_after}
 use Rattle.written_site.proofs.SoundMeters.{product_after}
-use Rattle.written_site.proofs.SoundReports.{flow_nozzle, hung_up_nozzle, flow_is_out, hung_up_is_out}
+use Rattle.written_site.proofs.SoundReports.{flow_nozzle, hung_up_nozzle, flow_is_out}
+use Rattle.written_site.proofs.SoundReports.{hung_up_is_out}
 use Rattle.written_site.proofs.SoundRunning.{flowed_by, running_is, flowed_products, flowed_with}
 use Rattle.written_site.proofs.SoundSold.{own_point, run_own}
 use Rattle.written_site.proofs.SoundDraws.{drawn_more, opened_weighs}

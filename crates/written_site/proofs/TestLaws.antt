@@ -1,5 +1,7 @@
 -- Tests are drawn and nothing else is, and each fuelling has one start, for every legal history.
-use Rattle.std.proofs.Common.{◌≡◌, ℕ, ◌&&◌, ◌||◌, Bool, true, false, List, [], ◌∷◌, ◌++◌, Option, Some, None, is_some, unwrap_or, Ok, ◌⊎◌, inl, inr, refl, sym, ap, subst, ◌∙◌}
+use Rattle.std.proofs.Common.{◌≡◌, ℕ, ◌&&◌, ◌||◌, Bool, true, false, List, [], ◌∷◌, ◌++◌, Option}
+use Rattle.std.proofs.Common.{Some, None, is_some, unwrap_or, Ok, ◌⊎◌, inl, inr, refl, sym, ap}
+use Rattle.std.proofs.Common.{subst, ◌∙◌}
 use Rattle.std.proofs.Common.{arith}
 use Rattle.std.proofs.lemmas.Bool.{false≢true}
 use Rattle.std.proofs.lemmas.Bool.Decides.{nat_tests}
@@ -22,14 +24,16 @@ use Rattle.fuelling_point.specs.PointChecks.{refusal_of}
 use Rattle.fuelling_point.specs.Step.{step_of, after}
 use Rattle.transaction_buffer.specs.Sales.{Key}
 use Rattle.written_site.specs.DrawLaws.{tells_drawn}
-use Rattle.written_site.specs.FuellingWords.{calling_said, calling_of_row, calls_after, is_started, starts, end_said, ends_at, HasFuelling}
+use Rattle.written_site.specs.FuellingWords.{calling_said, calling_of_row, calls_after, is_started}
+use Rattle.written_site.specs.FuellingWords.{starts, end_said, ends_at, HasFuelling}
 use Rattle.written_site.specs.Histories.{Moment, moments_after, moments_of}
 use Rattle.written_site.specs.RowWords.{OfBooks, latest}
 use Rattle.written_site.specs.SaleWords.{release_said, sold_as}
 use Rattle.written_site.specs.SiteChecks.{Passed, own_event, flowed}
 use Rattle.written_site.specs.SiteRun.{site_of_rows, IsLegal}
 use Rattle.written_site.specs.SiteState.{SiteState, opening, facts_in, facts_of}
-use Rattle.written_site.specs.SiteStep.{site_answer, step_at, step_told, points_after, reply_to, site_after}
+use Rattle.written_site.specs.SiteStep.{site_answer, step_at, step_told, points_after, reply_to}
+use Rattle.written_site.specs.SiteStep.{site_after}
 use Rattle.written_site.specs.TestLaws.{IsReleasedAs, IsDrawnAsRead, AreTestsApart}
 use Rattle.written_site.specs.Volumes.{nozzle_out}
 use Rattle.written_site.proofs.DrawLaws.{never_drawn}
@@ -39,7 +43,8 @@ use Rattle.written_site.proofs.MomentRows.{head_is, placed}
 use Rattle.written_site.proofs.PointAfter.{FactsAfter, stays, moves, facts_after}
 use Rattle.written_site.proofs.RowFacts.{own_after}
 use Rattle.written_site.proofs.RowWords.{told_row, of_row, kept, said_again, latest_push}
-use Rattle.written_site.proofs.RunRows.{KnowsRuns, runs_more, runs_first, not_started, started_away, release_away, refused_none}
+use Rattle.written_site.proofs.RunRows.{KnowsRuns, runs_more, runs_first, not_started, started_away}
+use Rattle.written_site.proofs.RunRows.{release_away, refused_none}
 use Rattle.written_site.proofs.SlotRows.{moment_at}
 use Rattle.written_site.proofs.SoldRows.{sells_here}
 use Rattle.written_site.proofs.SoundMachine.{sold_from, drawn_from}

@@ -3,17 +3,23 @@ use Rattle.std.proofs.Common.{◌≡◌, ℕ, Bool, true, false, Option, Some, N
 use Rattle.site_base.specs.declared.answer.Answer.{Answer}
 use Rattle.site_base.specs.declared.answer.Answer.TheVariants.{Sold, Drawn}
 use Rattle.site_base.specs.declared.event.Event.{Event}
-use Rattle.site_base.specs.declared.event.Event.TheVariants.{Terminate, Clear, ReadTransaction, ReadProduct, Lift, Offline, Flow, HangUp}
+use Rattle.site_base.specs.declared.event.Event.TheVariants.{Terminate, Clear, ReadTransaction}
+use Rattle.site_base.specs.declared.event.Event.TheVariants.{ReadProduct, Lift, Offline, Flow}
+use Rattle.site_base.specs.declared.event.Event.TheVariants.{HangUp}
 use Rattle.site_base.specs.declared.state.PointState.{PointState}
-use Rattle.site_base.specs.declared.state.PointState.TheVariants.{Idle, Authorised, Started, SuspendedStarted, Fuelling, SuspendedFuelling}
+use Rattle.site_base.specs.declared.state.PointState.TheVariants.{Idle, Authorised, Started}
+use Rattle.site_base.specs.declared.state.PointState.TheVariants.{SuspendedStarted, Fuelling}
+use Rattle.site_base.specs.declared.state.PointState.TheVariants.{SuspendedFuelling}
 use Rattle.site_base.specs.declared.view.TransactionView.{TransactionView}
 use Rattle.site_base.specs.Table.{row_of}
 use Rattle.fuelling_point.specs.declared.event.PointEvent.TheVariants as points
 use Rattle.fuelling_point.specs.KeptPoints.{Facts}
 use Rattle.fuelling_point.specs.Step as machine
-use Rattle.fuelling_point.specs.Table.{line_of, line, Growth, zero, above_zero, Flow as flow, growth_in}
+use Rattle.fuelling_point.specs.Table.{line_of, line, Growth, zero, above_zero, Flow as flow}
+use Rattle.fuelling_point.specs.Table.{growth_in}
 use Rattle.transaction_buffer.specs.Sales.{Sale, sale_of}
-use Rattle.written_site.specs.SiteState.{SiteState, facts_of, key_named, view_sale, price_at_start, reading_at_start}
+use Rattle.written_site.specs.SiteState.{SiteState, facts_of, key_named, view_sale, price_at_start}
+use Rattle.written_site.specs.SiteState.{reading_at_start}
 use Rattle.written_site.specs.SiteChecks.{flowed}
 use Rattle.written_site.specs.SiteStep.{site_answer, step_told, sale_told, clear_told, product_told}
 use Rattle.written_site.specs.SaleWords.{number_sold}

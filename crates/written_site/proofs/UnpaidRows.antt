@@ -1,11 +1,15 @@
 -- The unpaid sales of a point are those that rows sold and no row has cleared.
-use Rattle.std.proofs.Common.{◌≡◌, ℕ, ◌+◌, ◌==◌, not, Bool, true, false, cond, List, [], ◌∷◌, ◌++◌, Option, Some, None, Result, Ok, Err, refl, sym, ap, ◌∙◌, if◌then◌else◌, arith}
+use Rattle.std.proofs.Common.{◌≡◌, ℕ, ◌+◌, ◌==◌, not, Bool, true, false, cond, List, [], ◌∷◌, ◌++◌}
+use Rattle.std.proofs.Common.{Option, Some, None, Result, Ok, Err, refl, sym, ap, ◌∙◌}
+use Rattle.std.proofs.Common.{if◌then◌else◌, arith}
 use Rattle.std.specs.FinMap.{get-empty}
 use Rattle.std.specs.Ordering.{nat_cmp}
 use Rattle.site_base.specs.declared.actor.Actor.{Actor}
 use Rattle.site_base.specs.declared.actor.Actor.TheVariants.{Till, Dispenser}
 use Rattle.site_base.specs.declared.event.Event.{Event}
-use Rattle.site_base.specs.declared.event.Event.TheVariants.{SignOff, Lock, Unlock, Clear, Terminate, ReadTransaction, Lift, Flow, Offline, HangUp}
+use Rattle.site_base.specs.declared.event.Event.TheVariants.{SignOff, Lock, Unlock, Clear}
+use Rattle.site_base.specs.declared.event.Event.TheVariants.{Terminate, ReadTransaction, Lift, Flow}
+use Rattle.site_base.specs.declared.event.Event.TheVariants.{Offline, HangUp}
 use Rattle.site_base.specs.declared.refusal.Refusal.{Refusal}
 use Rattle.site_base.specs.declared.row.Row.{Row}
 use Rattle.site_base.specs.Configured.{Configured}
@@ -15,8 +19,12 @@ use Rattle.fuelling_point.specs.declared.step.PointStep.TheVariants.{Sold}
 use Rattle.meters.specs.Nozzles.{Nozzle}
 use Rattle.transaction_buffer.specs.declared.request.Request.{Request}
 use Rattle.transaction_buffer.specs.declared.request.Request.TheVariants as requests
-use Rattle.transaction_buffer.specs.Sales.{Key, Sale, Sales, no_sales, is_unpaid, sales_at, sale_of, unpaid_among, unpaid_at, with_in, with_sale}
-use Rattle.transaction_buffer.specs.TransactionTable.{Line, Seen, payable, locked_by_it, locked_by_other, cleared_by, line, line_for, line_of, seen_by, refusal_in, refusal_of, after_at, after_line, after_request}
+use Rattle.transaction_buffer.specs.Sales.{Key, Sale, Sales, no_sales, is_unpaid, sales_at, sale_of}
+use Rattle.transaction_buffer.specs.Sales.{unpaid_among, unpaid_at, with_in, with_sale}
+use Rattle.transaction_buffer.specs.TransactionTable.{Line, Seen, payable, locked_by_it}
+use Rattle.transaction_buffer.specs.TransactionTable.{locked_by_other, cleared_by, line, line_for}
+use Rattle.transaction_buffer.specs.TransactionTable.{line_of, seen_by, refusal_in, refusal_of}
+use Rattle.transaction_buffer.specs.TransactionTable.{after_at, after_line, after_request}
 use Rattle.transaction_buffer.proofs.Counting.{counted_after}
 use Rattle.transaction_buffer.proofs.Reading.{sales_at_insert}
 use Rattle.transaction_buffer.proofs.Rules.{accepted_unpaid}
@@ -28,7 +36,9 @@ use Rattle.written_site.specs.SaleWords.{key_sold, number_sold}
 use Rattle.written_site.specs.SiteChecks.{Passed, flowed}
 use Rattle.written_site.specs.SiteRun.{site_of_rows, IsLegal}
 use Rattle.written_site.specs.SiteState.{SiteState, opening, facts_of, key_named, open_shift}
-use Rattle.written_site.specs.SiteStep.{site_answer, step_at, step_told, first_locker, nozzles_after, sales_after, sales_by, sale_made, reply_to, site_after}
+use Rattle.written_site.specs.SiteStep.{site_answer, step_at, step_told, first_locker}
+use Rattle.written_site.specs.SiteStep.{nozzles_after, sales_after, sales_by, sale_made, reply_to}
+use Rattle.written_site.specs.SiteStep.{site_after}
 use Rattle.written_site.proofs.FigureMoves.{new_unpaid}
 use Rattle.written_site.proofs.Histories.{site_of_rows-push}
 use Rattle.written_site.proofs.MomentRows.{moments_push}

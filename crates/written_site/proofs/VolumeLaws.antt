@@ -1,5 +1,7 @@
 -- Volumes are conserved, for every legal history.
-use Rattle.std.proofs.Common.{◌≡◌, ℕ, ◌+◌, ◌-◌, ◌*◌, ◌≤◌, ◌<◌, ◌==◌, nat_le, Bool, true, false, List, [], ◌∷◌, ◌++◌, length, Some, unwrap_or, refl, sym, ap, subst, ◌∙◌, ◌⊎◌, inl, inr, arith}
+use Rattle.std.proofs.Common.{◌≡◌, ℕ, ◌+◌, ◌-◌, ◌*◌, ◌≤◌, ◌<◌, ◌==◌, nat_le, Bool, true, false}
+use Rattle.std.proofs.Common.{List, [], ◌∷◌, ◌++◌, length, Some, unwrap_or, refl, sym, ap, subst}
+use Rattle.std.proofs.Common.{◌∙◌, ◌⊎◌, inl, inr, arith}
 use Rattle.std.proofs.lemmas.Bool.{and_parts}
 use Rattle.std.proofs.lemmas.Bool.Decides.{nat_tests}
 use Rattle.std.proofs.lemmas.List.{set_past}
@@ -8,7 +10,9 @@ use Rattle.std.specs.List.{list_all}
 use Rattle.site_base.specs.declared.actor.Actor.{Actor}
 use Rattle.site_base.specs.declared.actor.Actor.TheVariants.{Till}
 use Rattle.site_base.specs.declared.event.Event.{Event}
-use Rattle.site_base.specs.declared.event.Event.TheVariants.{SignOff, Lock, Unlock, Clear, CloseShift, ReplaceMeter, Flow, Offline, HangUp}
+use Rattle.site_base.specs.declared.event.Event.TheVariants.{SignOff, Lock, Unlock, Clear}
+use Rattle.site_base.specs.declared.event.Event.TheVariants.{CloseShift, ReplaceMeter, Flow}
+use Rattle.site_base.specs.declared.event.Event.TheVariants.{Offline, HangUp}
 use Rattle.site_base.specs.declared.limits.TheConstants.{PRODUCT_CELLS}
 use Rattle.site_base.specs.declared.row.Row.{Row}
 use Rattle.site_base.specs.Configured.{Configured}
@@ -35,10 +39,14 @@ use Rattle.transaction_buffer.proofs.Volumes.{add_up}
 use Rattle.written_site.specs.RowWords.{OfBooks, total}
 use Rattle.written_site.specs.SiteChecks.{Passed, own_event, flowed, put_back_at}
 use Rattle.written_site.specs.SiteRun.{site_of_rows}
-use Rattle.written_site.specs.SiteState.{SiteState, opening, points_of, nothing_drawn, facts_of, key_named, open_shift}
-use Rattle.written_site.specs.SiteStep.{accepted_site, step_at, nozzles_after, points_after, sales_after, sales_by, sale_made, drawn_after, draws_by, draw_noted, one_more_drawn, reply_to, site_after}
+use Rattle.written_site.specs.SiteState.{SiteState, opening, points_of, nothing_drawn, facts_of}
+use Rattle.written_site.specs.SiteState.{key_named, open_shift}
+use Rattle.written_site.specs.SiteStep.{accepted_site, step_at, nozzles_after, points_after}
+use Rattle.written_site.specs.SiteStep.{sales_after, sales_by, sale_made, drawn_after, draws_by}
+use Rattle.written_site.specs.SiteStep.{draw_noted, one_more_drawn, reply_to, site_after}
 use Rattle.written_site.specs.Sound.{is_draw_row}
-use Rattle.written_site.specs.SoundSteps.{growth_at as growth_of_event, product_at, sold_at, drawn_at}
+use Rattle.written_site.specs.SoundSteps.{growth_at as growth_of_event, product_at, sold_at}
+use Rattle.written_site.specs.SoundSteps.{drawn_at}
 use Rattle.written_site.specs.VolumeLaws.{AreVolumesConserved}
 use Rattle.written_site.specs.Volumes.{product_out, running_at, running_by, sold_by, drawn_by}
 use Rattle.written_site.proofs.FuellingRows.{KnowsFuel, fuel_more, fuel_first}
@@ -50,15 +58,18 @@ use Rattle.written_site.proofs.RowWords.{of_row, kept, total_push}
 use Rattle.written_site.proofs.SoundDraws.{drawn_more, drawn_rows, opened_weighs}
 use Rattle.written_site.proofs.SoundMachine.{sold_from, drawn_from}
 use Rattle.written_site.proofs.SoundMeters.{read_keeps, replaced_keeps, product_after}
-use Rattle.written_site.proofs.SoundOpening.{closed_volumes, nothing_weighs, balanced as balanced_first}
+use Rattle.written_site.proofs.SoundOpening.{closed_volumes, nothing_weighs}
+use Rattle.written_site.proofs.SoundOpening.{balanced as balanced_first}
 use Rattle.written_site.proofs.SoundPoints.{run_is_volume}
 use Rattle.written_site.proofs.SoundReports.{IsRead}
 use Rattle.written_site.proofs.SoundRunning.{flowed_by, flowed_products}
 use Rattle.written_site.proofs.SoundSold.{run_read}
 use Rattle.written_site.proofs.SoundSums.{other_weight, sold_alone}
 use Rattle.written_site.proofs.SoundTables.{same, facts_there}
-use Rattle.written_site.proofs.SoundVolumes.{weighs_none, stays_so, weight_of, sign_off_weighs, asked_weighs, over_is, none_sold, none_drawn, balanced}
-use Rattle.written_site.proofs.VolumeRows.{AreRisen, meters_move, kept_move, Quiet, quiet_first, quiet_after, runs_as_kept}
+use Rattle.written_site.proofs.SoundVolumes.{weighs_none, stays_so, weight_of, sign_off_weighs}
+use Rattle.written_site.proofs.SoundVolumes.{asked_weighs, over_is, none_sold, none_drawn, balanced}
+use Rattle.written_site.proofs.VolumeRows.{AreRisen, meters_move, kept_move, Quiet, quiet_first}
+use Rattle.written_site.proofs.VolumeRows.{quiet_after, runs_as_kept}
 
 -- ---- meters rise
 

@@ -1,6 +1,8 @@
 -- How an accepted event moves the volumes, whatever the configuration: what is metered, and what
 -- the points keep of fuellings under way.
-use Rattle.std.proofs.Common.{◌≡◌, ℕ, ◌+◌, ◌-◌, ◌*◌, ◌≤◌, ◌==◌, ◌||◌, Bool, true, false, List, [], ◌∷◌, Option, option_map, Some, None, unwrap_or, refl, sym, ap, subst, ◌∙◌, arith}
+use Rattle.std.proofs.Common.{◌≡◌, ℕ, ◌+◌, ◌-◌, ◌*◌, ◌≤◌, ◌==◌, ◌||◌, Bool, true, false, List, []}
+use Rattle.std.proofs.Common.{◌∷◌, Option, option_map, Some, None, unwrap_or, refl, sym, ap, subst}
+use Rattle.std.proofs.Common.{◌∙◌, arith}
 use Rattle.std.proofs.lemmas.Bool.{false≢true}
 use Rattle.std.proofs.lemmas.Bool.Decides.{nat_tests}
 use Rattle.std.proofs.lemmas.Grind.{common_steps}
@@ -21,7 +23,8 @@ use Rattle.fuelling_point.specs.Whole.{IsWhole}
 use Rattle.fuelling_point.proofs.Whole.{conserved}
 use Rattle.meters.specs.declared.report.Report.TheVariants.{Growing}
 use Rattle.meters.specs.Metered.{metered_by}
-use Rattle.meters.specs.Nozzles.{Nozzle, nozzle_of, has_nozzle, product_of, reading_of, with_last, read_at}
+use Rattle.meters.specs.Nozzles.{Nozzle, nozzle_of, has_nozzle, product_of, reading_of, with_last}
+use Rattle.meters.specs.Nozzles.{read_at}
 use Rattle.meters.proofs.Looked.{there, reading_is}
 use Rattle.meters.proofs.Weighed.{raised, meter_keeps, accepted_above}
 use Rattle.written_site.specs.SiteState.{SiteState, points_of, facts_in, facts_of}
@@ -30,7 +33,8 @@ use Rattle.written_site.specs.SiteStep.{nozzles_after, step_by, with_event}
 use Rattle.written_site.specs.SoundSteps.{growth_at, growth_by, product_at, product_by}
 use Rattle.written_site.specs.Volumes.{nozzle_out, product_out, running_at, running_by}
 use Rattle.written_site.proofs.SoundMachine.{same_nozzle}
-use Rattle.written_site.proofs.SoundReports.{flow_nozzle, hung_up_nozzle, flow_is_out, hung_up_is_out}
+use Rattle.written_site.proofs.SoundReports.{flow_nozzle, hung_up_nozzle, flow_is_out}
+use Rattle.written_site.proofs.SoundReports.{hung_up_is_out}
 use Rattle.written_site.proofs.SoundRunning.{flowed_by, flowed_with}
 use Rattle.written_site.proofs.SoundSold.{own_there}
 use Rattle.written_site.proofs.SoundTables.{same, turned, itself, row_there}

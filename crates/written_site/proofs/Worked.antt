@@ -6,8 +6,11 @@ use Rattle.std.specs.FinMap as finite
 use Rattle.std.specs.FinMap.{get-empty, get-insert}
 use Rattle.site_base.specs.declared.actor.Actor.TheVariants.{Till, Dispenser}
 use Rattle.site_base.specs.declared.answer.Answer.TheVariants.{Done, PointIs}
-use Rattle.site_base.specs.declared.event.Event.TheVariants.{SignOn, SignOff, Open, Close, Assign, Unassign, ReadPoint}
-use Rattle.site_base.specs.declared.refusal.Refusal.TheVariants.{NotSignedOn, SignedOn, NoSuchPoint, AssignedToOther, NotYours, NotYourPoint, WrongState}
+use Rattle.site_base.specs.declared.event.Event.TheVariants.{SignOn, SignOff, Open, Close, Assign}
+use Rattle.site_base.specs.declared.event.Event.TheVariants.{Unassign, ReadPoint}
+use Rattle.site_base.specs.declared.refusal.Refusal.TheVariants.{NotSignedOn, SignedOn, NoSuchPoint}
+use Rattle.site_base.specs.declared.refusal.Refusal.TheVariants.{AssignedToOther, NotYours}
+use Rattle.site_base.specs.declared.refusal.Refusal.TheVariants.{NotYourPoint, WrongState}
 use Rattle.site_base.specs.declared.state.PointState.TheVariants.{Closed, Idle}
 use Rattle.site_base.specs.Configured.{Configured}
 use Rattle.fuelling_point.specs.KeptPoints.{fresh, point_view}
@@ -15,7 +18,13 @@ use Rattle.written_site.specs.SiteState.{SiteState, opening, holder_of}
 use Rattle.written_site.specs.SiteStep.{reply_to, site_after}
 
 abbrev pub two_points : Configured
-two_points = record { rows = 10; managers = []; products = []; points = record { number = 2; nozzles = [] } ∷ record { number = 3; nozzles = [] } ∷ [] }
+two_points = record {
+  rows = 10;
+  managers = [];
+  products = [];
+  points =
+      record { number = 2; nozzles = [] } ∷ record { number = 3; nozzles = [] } ∷ [];
+}
 
 -- the opening site, and the site after till 1 has signed on
 abbrev pub first : SiteState
@@ -54,7 +63,8 @@ free_3 = get-empty nat_cmp 3
 opens : reply_to second (Till 1) (Open 3) ≡ Ok Done
 opens = rw (till_1, free_3) refl
 
-opens_it_alone : (site_after second (Till 1) (Open 3)).points ≡ (2, fresh Closed) ∷ (3, fresh Idle) ∷ []
+opens_it_alone : (site_after second (Till 1) (Open 3)).points ≡ (2, fresh Closed) ∷ (3, fresh Idle)
+    ∷ []
 opens_it_alone = rw (till_1, free_3) refl
 
 pub free_2 : holder_of second 2 ≡ None
@@ -78,7 +88,11 @@ shows = rw (till_1, get-empty nat_cmp 3) refl
 
 -- the tills 1 and 2 signed on, and point 2 held by till 1
 abbrev pub third : SiteState
-third = record first { holds = finite.insert finite.empty 2 1; signed_on = set.insert (set.insert set.empty 1) 2 }
+third = record first {
+  holds = finite.insert finite.empty 2 1;
+  signed_on =
+      set.insert (set.insert set.empty 1) 2;
+}
 
 pub held : holder_of third 2 ≡ Some 1
 held = get-insert nat_cmp_total finite.empty 2 1 2

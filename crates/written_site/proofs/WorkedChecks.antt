@@ -1,8 +1,15 @@
 -- Worked rows of the order of the checks of what tills ask: of two that fail the earlier decides.
 use Rattle.std.proofs.Common.{[], ◌∷◌, ◌++◌, Ok, Err}
 use Rattle.site_base.specs.declared.answer.Answer.TheVariants.{Done, Start, Stopped}
-use Rattle.site_base.specs.declared.event.Event.TheVariants.{SignOn, Open, Assign, Release, Prepay, TestRelease, Suspend, Resume, Terminate, ReplaceMeter, ReadTransaction, ReadProduct, Lift}
-use Rattle.site_base.specs.declared.refusal.Refusal.TheVariants.{NotSignedOn, NoSuchPoint, NoSuchNozzle, NoSuchProduct, NoSuchTransaction, NotManager, BadPreset, AssignedToOther, NotYourPoint, WrongState}
+use Rattle.site_base.specs.declared.event.Event.TheVariants.{SignOn, Open, Assign, Release, Prepay}
+use Rattle.site_base.specs.declared.event.Event.TheVariants.{TestRelease, Suspend, Resume}
+use Rattle.site_base.specs.declared.event.Event.TheVariants.{Terminate, ReplaceMeter}
+use Rattle.site_base.specs.declared.event.Event.TheVariants.{ReadTransaction, ReadProduct, Lift}
+use Rattle.site_base.specs.declared.refusal.Refusal.TheVariants.{NotSignedOn, NoSuchPoint}
+use Rattle.site_base.specs.declared.refusal.Refusal.TheVariants.{NoSuchNozzle, NoSuchProduct}
+use Rattle.site_base.specs.declared.refusal.Refusal.TheVariants.{NoSuchTransaction, NotManager}
+use Rattle.site_base.specs.declared.refusal.Refusal.TheVariants.{BadPreset, AssignedToOther}
+use Rattle.site_base.specs.declared.refusal.Refusal.TheVariants.{NotYourPoint, WrongState}
 use Rattle.site_base.specs.declared.state.PointState.TheVariants.{Closed, Idle}
 use Rattle.site_base.specs.declared.state.Preset.TheVariants.{Unset, Volume, Money}
 use Rattle.written_site.proofs.WorkedRows.{known_site, t1, t2, t3, d1, at_work, sale, AreAnswered}

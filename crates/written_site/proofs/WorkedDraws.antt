@@ -1,11 +1,17 @@
 -- Worked rows of test draws, and of a meter that was replaced.
 use Rattle.std.proofs.Common.{◌++◌, [], ◌∷◌, true, Some, None, Ok, Err}
-use Rattle.site_base.specs.declared.answer.Answer.TheVariants.{Done, Calling, Start, Flowed, NoSale, Drawn, PointIs, ProductIs}
-use Rattle.site_base.specs.declared.event.Event.TheVariants.{SignOn, Open, Close, Release, TestRelease, ReplaceMeter, ReadPoint, ReadTransaction, ReadProduct, Offline, Lift, Flow, HangUp}
-use Rattle.site_base.specs.declared.refusal.Refusal.TheVariants.{NoSuchTransaction, NotManager, WrongState, BufferFull, MeterGap}
+use Rattle.site_base.specs.declared.answer.Answer.TheVariants.{Done, Calling, Start, Flowed, NoSale}
+use Rattle.site_base.specs.declared.answer.Answer.TheVariants.{Drawn, PointIs, ProductIs}
+use Rattle.site_base.specs.declared.event.Event.TheVariants.{SignOn, Open, Close, Release}
+use Rattle.site_base.specs.declared.event.Event.TheVariants.{TestRelease, ReplaceMeter, ReadPoint}
+use Rattle.site_base.specs.declared.event.Event.TheVariants.{ReadTransaction, ReadProduct, Offline}
+use Rattle.site_base.specs.declared.event.Event.TheVariants.{Lift, Flow, HangUp}
+use Rattle.site_base.specs.declared.refusal.Refusal.TheVariants.{NoSuchTransaction, NotManager}
+use Rattle.site_base.specs.declared.refusal.Refusal.TheVariants.{WrongState, BufferFull, MeterGap}
 use Rattle.site_base.specs.declared.state.PointState.TheVariants.{Idle, Authorised}
 use Rattle.site_base.specs.declared.state.Preset.TheVariants.{Unset}
-use Rattle.written_site.proofs.WorkedRows.{known_site, sold_twice, t1, t2, d1, point, sale, product, AreAnswered}
+use Rattle.written_site.proofs.WorkedRows.{known_site, sold_twice, t1, t2, d1, point, sale, product}
+use Rattle.written_site.proofs.WorkedRows.{AreAnswered}
 use Rattle.written_site.proofs.WorkedReplies.{answered, kit}
 
 -- a test draw: managers alone, no sale, and the fuel is adjusted; a replaced meter keeps what was

@@ -1,8 +1,13 @@
 -- Worked takes and ends of the hold of a point, by every event that takes it and every reply that
 -- tells an end.
-use Rattle.std.proofs.Common.{◌≡◌, ℕ, Bool, false, true, List, [], ◌∷◌, ◌++◌, map, Option, Some, None, Ok, Err, refl, sym, ap, ◌∙◌}
-use Rattle.site_base.specs.declared.answer.Answer.TheVariants.{Done, Start, Flowed, NoSale, Sold, Stopped, Drawn, Ending}
-use Rattle.site_base.specs.declared.event.Event.TheVariants.{SignOn, SignOff, Open, Assign, Unassign, Release, Prepay, TestRelease, Terminate, Online, Offline, Lift, Flow, HangUp}
+use Rattle.std.proofs.Common.{◌≡◌, ℕ, Bool, false, true, List, [], ◌∷◌, ◌++◌, map, Option, Some}
+use Rattle.std.proofs.Common.{None, Ok, Err, refl, sym, ap, ◌∙◌}
+use Rattle.site_base.specs.declared.answer.Answer.TheVariants.{Done, Start, Flowed, NoSale, Sold}
+use Rattle.site_base.specs.declared.answer.Answer.TheVariants.{Stopped, Drawn, Ending}
+use Rattle.site_base.specs.declared.event.Event.TheVariants.{SignOn, SignOff, Open, Assign}
+use Rattle.site_base.specs.declared.event.Event.TheVariants.{Unassign, Release, Prepay, TestRelease}
+use Rattle.site_base.specs.declared.event.Event.TheVariants.{Terminate, Online, Offline, Lift, Flow}
+use Rattle.site_base.specs.declared.event.Event.TheVariants.{HangUp}
 use Rattle.site_base.specs.declared.refusal.Refusal.TheVariants.{AssignedToOther, WrongState}
 use Rattle.site_base.specs.declared.row.Row.{Row}
 use Rattle.site_base.specs.declared.state.PointState.TheVariants.{Closed}

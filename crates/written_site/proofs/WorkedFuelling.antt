@@ -2,13 +2,22 @@
 -- that is suspended, and what a meter may say meanwhile.
 use Rattle.std.proofs.Common.{◌++◌, [], ◌∷◌, true, Some, None, Ok, Err}
 use Rattle.site_base.specs.declared.answer.Answer.TheVariants as answers
-use Rattle.site_base.specs.declared.answer.Answer.TheVariants.{Done, Calling, Start, Flowed, HungUp, Sold, PointIs, TransactionIs}
-use Rattle.site_base.specs.declared.event.Event.TheVariants.{SignOn, Open, Release, Suspend, Resume, Terminate, ReadPoint, ReadTransaction, Online, Offline, Lift, Flow, HangUp}
-use Rattle.site_base.specs.declared.refusal.Refusal.TheVariants.{NoSuchPoint, NoSuchNozzle, NotYourPoint, AssignedToOther, WrongState, WrongNozzle, MeterGap, MeterBack, MeterJump, Ending}
-use Rattle.site_base.specs.declared.state.PointState.TheVariants.{Inoperative, Started, SuspendedStarted, Fuelling, SuspendedFuelling}
+use Rattle.site_base.specs.declared.answer.Answer.TheVariants.{Done, Calling, Start, Flowed, HungUp}
+use Rattle.site_base.specs.declared.answer.Answer.TheVariants.{Sold, PointIs, TransactionIs}
+use Rattle.site_base.specs.declared.event.Event.TheVariants.{SignOn, Open, Release, Suspend, Resume}
+use Rattle.site_base.specs.declared.event.Event.TheVariants.{Terminate, ReadPoint, ReadTransaction}
+use Rattle.site_base.specs.declared.event.Event.TheVariants.{Online, Offline, Lift, Flow, HangUp}
+use Rattle.site_base.specs.declared.refusal.Refusal.TheVariants.{NoSuchPoint, NoSuchNozzle}
+use Rattle.site_base.specs.declared.refusal.Refusal.TheVariants.{NotYourPoint, AssignedToOther}
+use Rattle.site_base.specs.declared.refusal.Refusal.TheVariants.{WrongState, WrongNozzle, MeterGap}
+use Rattle.site_base.specs.declared.refusal.Refusal.TheVariants.{MeterBack, MeterJump, Ending}
+use Rattle.site_base.specs.declared.state.PointState.TheVariants.{Inoperative, Started}
+use Rattle.site_base.specs.declared.state.PointState.TheVariants.{SuspendedStarted, Fuelling}
+use Rattle.site_base.specs.declared.state.PointState.TheVariants.{SuspendedFuelling}
 use Rattle.site_base.specs.declared.state.Preset.TheVariants.{Unset}
 use Rattle.site_base.specs.Configured.{Configured}
-use Rattle.written_site.proofs.WorkedRows.{diesel, known_site, flowing, t1, t2, d1, d2, point, sale, payable, AreAnswered}
+use Rattle.written_site.proofs.WorkedRows.{diesel, known_site, flowing, t1, t2, d1, d2, point, sale}
+use Rattle.written_site.proofs.WorkedRows.{payable, AreAnswered}
 use Rattle.written_site.proofs.WorkedReplies.{answered, kit}
 
 -- a dispenser goes offline in the middle of a fuelling: sold as far as it was metered; the next

@@ -1,6 +1,7 @@
 -- Worked holds: how one is taken and ended, and a history in which two tills hold a point one after
 -- the other.
-use Rattle.std.proofs.Common.{◌≡◌, ◌≢◌, ℕ, Bool, List, [], ◌∷◌, ◌++◌, not, Some, None, false, true, refl, ap, ◌∙◌, sym, arith}
+use Rattle.std.proofs.Common.{◌≡◌, ◌≢◌, ℕ, Bool, List, [], ◌∷◌, ◌++◌, not, Some, None, false, true}
+use Rattle.std.proofs.Common.{refl, ap, ◌∙◌, sym, arith}
 use Rattle.std.proofs.lemmas.Bool.Decides.{nat_tests}
 use Rattle.std.specs.Cmp.{nat_cmp_total}
 use Rattle.std.specs.FinSet as set
@@ -13,7 +14,10 @@ use Rattle.site_base.specs.declared.event.Event.{Event}
 use Rattle.site_base.specs.declared.event.Event.TheVariants.{SignOn, SignOff, Assign, Unassign}
 use Rattle.site_base.specs.declared.row.Row.{Row}
 use Rattle.site_base.specs.declared.state.PointState.{PointState}
-use Rattle.site_base.specs.declared.state.PointState.TheVariants.{Inoperative, Closed, Idle, Calling, Authorised, Started, SuspendedStarted, Fuelling, SuspendedFuelling}
+use Rattle.site_base.specs.declared.state.PointState.TheVariants.{Inoperative, Closed, Idle}
+use Rattle.site_base.specs.declared.state.PointState.TheVariants.{Calling, Authorised, Started}
+use Rattle.site_base.specs.declared.state.PointState.TheVariants.{SuspendedStarted, Fuelling}
+use Rattle.site_base.specs.declared.state.PointState.TheVariants.{SuspendedFuelling}
 use Rattle.fuelling_point.specs.KeptPoints.{Facts, fresh}
 use Rattle.written_site.specs.SiteState.{SiteState, holder_of, is_resting}
 use Rattle.written_site.specs.SiteStep.{site_after, ends_at_sign_off}
@@ -21,7 +25,8 @@ use Rattle.written_site.specs.SiteRun.{row_to}
 use Rattle.written_site.specs.Histories.{Moment, history}
 use Rattle.written_site.specs.Holders.{takes_hold, ends_hold}
 use Rattle.written_site.proofs.Holders.{held_by_one}
-use Rattle.written_site.proofs.Worked.{two_points, first, second, third, till_1, till_2, free_2, held, one_of_two, two_of_two, leads_to_second}
+use Rattle.written_site.proofs.Worked.{two_points, first, second, third, till_1, till_2, free_2}
+use Rattle.written_site.proofs.Worked.{held, one_of_two, two_of_two, leads_to_second}
 
 -- an Assign takes the hold
 assigns : holder_of (site_after second (Till 1) (Assign 2)) 2 ≡ Some 1

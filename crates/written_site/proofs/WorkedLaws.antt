@@ -1,11 +1,18 @@
 -- The laws at work on a day of the known site: diesel is sold at point 1 while its price changes,
 -- till 1 locks the sale and lets it go, till 2 locks it and clears it, and the shift is closed. No
 -- law is empty: each has its premise met here.
-use Rattle.std.proofs.Common.{◌≡◌, ◌≢◌, ℕ, ◌+◌, true, false, List, [], ◌∷◌, ◌++◌, Some, Ok, is_some, refl, sym, ap, arith, option_map, ◌∙◌, None, subst}
+use Rattle.std.proofs.Common.{◌≡◌, ◌≢◌, ℕ, ◌+◌, true, false, List, [], ◌∷◌, ◌++◌, Some, Ok, is_some}
+use Rattle.std.proofs.Common.{refl, sym, ap, arith, option_map, ◌∙◌, None, subst}
 use Rattle.std.proofs.lemmas.Bool.Decides.{nat_tests}
 use Rattle.std.specs.List.{list_any}
-use Rattle.site_base.specs.declared.answer.Answer.TheVariants.{Done, Start, Flowed, Sold, Drawn, Stopped, Locked, Unlocked, Cleared, ShiftClosed}
-use Rattle.site_base.specs.declared.event.Event.TheVariants.{SignOn, Open, Release, Prepay, TestRelease, Lock, Unlock, Clear, SetPrice, CloseShift, Lift, Flow, HangUp, SignOff, Close, Terminate, ReplaceMeter}
+use Rattle.site_base.specs.declared.answer.Answer.TheVariants.{Done, Start, Flowed, Sold, Drawn}
+use Rattle.site_base.specs.declared.answer.Answer.TheVariants.{Stopped, Locked, Unlocked, Cleared}
+use Rattle.site_base.specs.declared.answer.Answer.TheVariants.{ShiftClosed}
+use Rattle.site_base.specs.declared.event.Event.TheVariants.{SignOn, Open, Release, Prepay}
+use Rattle.site_base.specs.declared.event.Event.TheVariants.{TestRelease, Lock, Unlock, Clear}
+use Rattle.site_base.specs.declared.event.Event.TheVariants.{SetPrice, CloseShift, Lift, Flow}
+use Rattle.site_base.specs.declared.event.Event.TheVariants.{HangUp, SignOff, Close, Terminate}
+use Rattle.site_base.specs.declared.event.Event.TheVariants.{ReplaceMeter}
 use Rattle.site_base.specs.declared.row.Row.{Row}
 use Rattle.site_base.specs.declared.state.Preset.TheVariants.{Unset, Money}
 use Rattle.site_base.specs.declared.state.Status.TheVariants as statuses

@@ -1,17 +1,24 @@
 -- Worked locks, clears, prices and shifts, by computing the definitions on a site of which one sale
 -- is made: at point 2 in shift 1, 10,000 millilitres of product 1 for 1,500 cents. Tills 1 and 2
 -- are signed on, and till 1 is a manager.
-use Rattle.std.proofs.Common.{◌≡◌, ℕ, ◌+◌, [], ◌∷◌, Some, None, Ok, Err, if◌then◌else◌, refl, ap, ◌∙◌, nat_cmp, arith}
+use Rattle.std.proofs.Common.{◌≡◌, ℕ, ◌+◌, [], ◌∷◌, Some, None, Ok, Err, if◌then◌else◌, refl, ap}
+use Rattle.std.proofs.Common.{◌∙◌, nat_cmp, arith}
 use Rattle.std.specs.List.{sum_by}
 use Rattle.std.specs.FinMap.{get-empty}
 use Rattle.std.specs.FinSet as set
 use Rattle.site_base.specs.declared.actor.Actor.TheVariants.{Till, Dispenser}
-use Rattle.site_base.specs.declared.answer.Answer.TheVariants.{Done, Locked, Unlocked, Cleared, ShiftClosed, SiteIs}
-use Rattle.site_base.specs.declared.event.Event.TheVariants.{Lock, Unlock, Clear, SetPrice, CloseShift, ReadSite}
-use Rattle.site_base.specs.declared.refusal.Refusal.TheVariants.{NoSuchProduct, NoSuchTransaction, NotManager, BadPrice, NotYourPoint, LockedByOther, NotLocked, AlreadyCleared}
+use Rattle.site_base.specs.declared.answer.Answer.TheVariants.{Done, Locked, Unlocked, Cleared}
+use Rattle.site_base.specs.declared.answer.Answer.TheVariants.{ShiftClosed, SiteIs}
+use Rattle.site_base.specs.declared.event.Event.TheVariants.{Lock, Unlock, Clear, SetPrice}
+use Rattle.site_base.specs.declared.event.Event.TheVariants.{CloseShift, ReadSite}
+use Rattle.site_base.specs.declared.refusal.Refusal.TheVariants.{NoSuchProduct, NoSuchTransaction}
+use Rattle.site_base.specs.declared.refusal.Refusal.TheVariants.{NotManager, BadPrice, NotYourPoint}
+use Rattle.site_base.specs.declared.refusal.Refusal.TheVariants.{LockedByOther, NotLocked}
+use Rattle.site_base.specs.declared.refusal.Refusal.TheVariants.{AlreadyCleared}
 use Rattle.site_base.specs.declared.sale.SaleId.{SaleId}
 use Rattle.transaction_buffer.specs.declared.standing.Standing.{Standing}
-use Rattle.transaction_buffer.specs.declared.standing.Standing.TheVariants.{Payable, LockedBy, ClearedBy}
+use Rattle.transaction_buffer.specs.declared.standing.Standing.TheVariants.{Payable, LockedBy}
+use Rattle.transaction_buffer.specs.declared.standing.Standing.TheVariants.{ClearedBy}
 use Rattle.transaction_buffer.specs.Sales.{Sale, Sales, key, no_sales, sale_of, with_new}
 use Rattle.transaction_buffer.proofs.OnShelves.{nothing_sold}
 use Rattle.transaction_buffer.proofs.Reading.{read_after}

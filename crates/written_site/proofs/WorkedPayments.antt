@@ -1,10 +1,22 @@
--- Worked rows of payments: who locks and clears a sale, and what a price or a shift that changes leaves.
+-- Worked rows of payments: who locks and clears a sale, and what a price or a shift that changes
+-- leaves.
 use Rattle.std.proofs.Common.{[], ◌∷◌, Some, Ok, Err}
-use Rattle.site_base.specs.declared.answer.Answer.TheVariants.{Done, Start, Sold, Locked, Unlocked, Cleared, ShiftClosed, TransactionIs, ProductIs, SiteIs}
-use Rattle.site_base.specs.declared.event.Event.TheVariants.{SignOn, SignOff, Open, Release, Lock, Unlock, Clear, Prepay, SetPrice, CloseShift, Suspend, Resume, ReadTransaction, ReadProduct, ReadSite, Lift, HangUp}
-use Rattle.site_base.specs.declared.refusal.Refusal.TheVariants.{NotSignedOn, NoSuchProduct, NoSuchTransaction, NotManager, BadPrice, BufferFull, AssignedToOther, LockedByOther, NotLocked, AlreadyCleared}
+use Rattle.site_base.specs.declared.answer.Answer.TheVariants.{Done, Start, Sold, Locked, Unlocked}
+use Rattle.site_base.specs.declared.answer.Answer.TheVariants.{Cleared, ShiftClosed, TransactionIs}
+use Rattle.site_base.specs.declared.answer.Answer.TheVariants.{ProductIs, SiteIs}
+use Rattle.site_base.specs.declared.event.Event.TheVariants.{SignOn, SignOff, Open, Release, Lock}
+use Rattle.site_base.specs.declared.event.Event.TheVariants.{Unlock, Clear, Prepay, SetPrice}
+use Rattle.site_base.specs.declared.event.Event.TheVariants.{CloseShift, Suspend, Resume}
+use Rattle.site_base.specs.declared.event.Event.TheVariants.{ReadTransaction, ReadProduct, ReadSite}
+use Rattle.site_base.specs.declared.event.Event.TheVariants.{Lift, HangUp}
+use Rattle.site_base.specs.declared.refusal.Refusal.TheVariants.{NotSignedOn, NoSuchProduct}
+use Rattle.site_base.specs.declared.refusal.Refusal.TheVariants.{NoSuchTransaction, NotManager}
+use Rattle.site_base.specs.declared.refusal.Refusal.TheVariants.{BadPrice, BufferFull}
+use Rattle.site_base.specs.declared.refusal.Refusal.TheVariants.{AssignedToOther, LockedByOther}
+use Rattle.site_base.specs.declared.refusal.Refusal.TheVariants.{NotLocked, AlreadyCleared}
 use Rattle.site_base.specs.declared.state.Preset.TheVariants.{Unset, Money}
-use Rattle.written_site.proofs.WorkedRows.{known_site, t1, t2, d1, sale, payable, product, AreAnswered}
+use Rattle.written_site.proofs.WorkedRows.{known_site, t1, t2, d1, sale, payable, product}
+use Rattle.written_site.proofs.WorkedRows.{AreAnswered}
 use Rattle.written_site.proofs.WorkedReplies.{answered, kit}
 
 -- one locker: another till neither locks nor clears; its sign-off lets the sale go
@@ -99,7 +111,8 @@ prepaid_cleared : AreAnswered known_site
     ∷ [])
 prepaid_cleared = answered (simp kit)
 
--- a sale of an earlier shift isn't found where no shift is named; the next sale's number begins again
+-- a sale of an earlier shift isn't found where no shift is named; the next sale's number begins
+-- again
 next_shift : AreAnswered known_site
     (t1 SignOn (Ok Done)
     ∷ t2 SignOn (Ok Done)

@@ -1,13 +1,17 @@
 -- Worked rows of prepaid fuellings: whose their sale is.
 use Rattle.std.proofs.Common.{[], ◌∷◌, Some, Ok, Err}
-use Rattle.site_base.specs.declared.answer.Answer.TheVariants.{Done, Start, Sold, PointIs, TransactionIs, ProductIs}
-use Rattle.site_base.specs.declared.event.Event.TheVariants.{SignOn, SignOff, Open, Release, Prepay, Suspend, ReadPoint, ReadTransaction, ReadProduct, Lift, HangUp}
+use Rattle.site_base.specs.declared.answer.Answer.TheVariants.{Done, Start, Sold, PointIs}
+use Rattle.site_base.specs.declared.answer.Answer.TheVariants.{TransactionIs, ProductIs}
+use Rattle.site_base.specs.declared.event.Event.TheVariants.{SignOn, SignOff, Open, Release, Prepay}
+use Rattle.site_base.specs.declared.event.Event.TheVariants.{Suspend, ReadPoint, ReadTransaction}
+use Rattle.site_base.specs.declared.event.Event.TheVariants.{ReadProduct, Lift, HangUp}
 use Rattle.site_base.specs.declared.refusal.Refusal.TheVariants.{AssignedToOther}
 use Rattle.site_base.specs.declared.state.PointState.TheVariants.{Authorised}
 use Rattle.site_base.specs.declared.state.Preset.TheVariants.{Unset, Money}
 use Rattle.site_base.specs.declared.state.Status.TheVariants.{Locked}
 use Rattle.site_base.specs.declared.view.TransactionView.{TransactionView}
-use Rattle.written_site.proofs.WorkedRows.{known_site, t1, t2, d1, point, sale, payable, product, AreAnswered}
+use Rattle.written_site.proofs.WorkedRows.{known_site, t1, t2, d1, point, sale, payable, product}
+use Rattle.written_site.proofs.WorkedRows.{AreAnswered}
 use Rattle.written_site.proofs.WorkedReplies.{answered, kit}
 
 -- 10,000 ml of diesel for which 2,000 cents were prepaid: payable, and locked by till 2

@@ -1,9 +1,11 @@
 -- How worked rows are computed: each at the site that the rows before it tell of, by the lemmas of
 -- the maps and sets in which a site has its holds, its sales and its tills.
-use Rattle.std.proofs.Common.{◌≡◌, ℕ, List, [], ◌∷◌, Bool, cond, Option, Some, None, Result, Ok, Err, refl, sym, ap, subst, ◌∙◌, length, arith}
+use Rattle.std.proofs.Common.{◌≡◌, ℕ, List, [], ◌∷◌, Bool, cond, Option, Some, None, Result, Ok}
+use Rattle.std.proofs.Common.{Err, refl, sym, ap, subst, ◌∙◌, length, arith}
 use Rattle.std.specs.Ordering.{nat_cmp}
 use Rattle.std.specs.FinMap as finite
-use Rattle.std.specs.FinMap.{FinMap, entries, entries-insert, len-entries, len-empty, get-retain_keys, nat_cmp-IsAntisymmetric, gets}
+use Rattle.std.specs.FinMap.{FinMap, entries, entries-insert, len-entries, len-empty}
+use Rattle.std.specs.FinMap.{get-retain_keys, nat_cmp-IsAntisymmetric, gets}
 use Rattle.std.specs.FinSet.{members}
 use Rattle.site_base.specs.declared.actor.Actor.{Actor}
 use Rattle.site_base.specs.declared.answer.Answer.{Answer}

@@ -2,8 +2,11 @@
 -- decides.
 use Rattle.std.proofs.Common.{[], ◌∷◌, ◌++◌, Ok, Err}
 use Rattle.site_base.specs.declared.answer.Answer.TheVariants.{Done, Calling, HungUp}
-use Rattle.site_base.specs.declared.event.Event.TheVariants.{Assign, Online, Offline, Lift, Flow, HangUp}
-use Rattle.site_base.specs.declared.refusal.Refusal.TheVariants.{NotSignedOn, NoSuchPoint, NoSuchNozzle, NotYourPoint, WrongState, WrongNozzle, MeterGap}
+use Rattle.site_base.specs.declared.event.Event.TheVariants.{Assign, Online, Offline, Lift, Flow}
+use Rattle.site_base.specs.declared.event.Event.TheVariants.{HangUp}
+use Rattle.site_base.specs.declared.refusal.Refusal.TheVariants.{NotSignedOn, NoSuchPoint}
+use Rattle.site_base.specs.declared.refusal.Refusal.TheVariants.{NoSuchNozzle, NotYourPoint}
+use Rattle.site_base.specs.declared.refusal.Refusal.TheVariants.{WrongState, WrongNozzle, MeterGap}
 use Rattle.site_base.specs.declared.state.PointState.TheVariants as states
 use Rattle.site_base.specs.declared.state.PointState.TheVariants.{Inoperative, Closed, Idle}
 use Rattle.written_site.proofs.WorkedRows.{known_site, t1, t2, t3, d1, d2, d3, at_work, AreAnswered}

@@ -4,7 +4,8 @@ use Rattle.std.proofs.Common.{◌≡◌, ℕ, ◌+◌, ◌^◌, ◌<◌, List, [
 use Rattle.site_base.specs.declared.actor.Actor.TheVariants.{Dispenser}
 use Rattle.site_base.specs.declared.answer.Answer.TheVariants.{Done, Start, Flowed}
 use Rattle.site_base.specs.declared.event.Event.{Event}
-use Rattle.site_base.specs.declared.event.Event.TheVariants.{SignOn, Open, TestRelease, Lift, Flow, HangUp, Offline}
+use Rattle.site_base.specs.declared.event.Event.TheVariants.{SignOn, Open, TestRelease, Lift, Flow}
+use Rattle.site_base.specs.declared.event.Event.TheVariants.{HangUp, Offline}
 use Rattle.site_base.specs.declared.row.Row.{Row}
 use Rattle.site_base.specs.declared.state.Preset.TheVariants.{Unset}
 use Rattle.fuelling_point.specs.declared.event.PointEvent.TheVariants as points
@@ -13,7 +14,9 @@ use Rattle.written_site.specs.SiteChecks.{own_event}
 use Rattle.written_site.specs.SiteRun.{events_of, replies_of}
 use Rattle.written_site.specs.Sound.{IsFit, Sound}
 use Rattle.written_site.specs.SoundRuns.{AreInRange}
-use Rattle.written_site.specs.SoundSteps.{IsTaken, FitsOwn, IsSaleFit, IsDrawFit, AddUp, MovesVolumes, MovesRunning, growth_at, product_at, sold_at, drawn_at}
+use Rattle.written_site.specs.SoundSteps.{IsTaken, FitsOwn, IsSaleFit, IsDrawFit, AddUp}
+use Rattle.written_site.specs.SoundSteps.{MovesVolumes, MovesRunning, growth_at, product_at}
+use Rattle.written_site.specs.SoundSteps.{sold_at, drawn_at}
 use Rattle.written_site.specs.Volumes.{running}
 use Rattle.written_site.proofs.SoundRuns.{runs_stay_sound}
 use Rattle.written_site.proofs.SoundUses.{volumes_add_up, finds_room}

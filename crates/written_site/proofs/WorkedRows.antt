@@ -6,7 +6,8 @@ use Rattle.site_base.specs.declared.actor.Actor.TheVariants.{Till, Dispenser}
 use Rattle.site_base.specs.declared.answer.Answer.{Answer}
 use Rattle.site_base.specs.declared.answer.Answer.TheVariants.{Done, Start, Flowed, Sold}
 use Rattle.site_base.specs.declared.event.Event.{Event}
-use Rattle.site_base.specs.declared.event.Event.TheVariants.{SignOn, Open, Assign, Release, Lift, Flow, HangUp}
+use Rattle.site_base.specs.declared.event.Event.TheVariants.{SignOn, Open, Assign, Release, Lift}
+use Rattle.site_base.specs.declared.event.Event.TheVariants.{Flow, HangUp}
 use Rattle.site_base.specs.declared.refusal.Refusal.{Refusal}
 use Rattle.site_base.specs.declared.row.Row.{Row}
 use Rattle.site_base.specs.declared.sale.SaleId.{SaleId}

@@ -1,15 +1,22 @@
 -- Worked rows of fuellings that end in a sale, and of one without fuel.
 use Rattle.std.proofs.Common.{◌≡◌, ℕ, ◌++◌, [], ◌∷◌, Some, None, Ok, Err, refl, arith}
 use Rattle.site_base.specs.declared.actor.Actor.TheVariants.{Till, Dispenser}
-use Rattle.site_base.specs.declared.answer.Answer.TheVariants.{Done, Calling, Start, Flowed, NoSale, Sold, PointIs, TransactionIs, ProductIs}
-use Rattle.site_base.specs.declared.event.Event.TheVariants.{SignOn, Open, Close, Release, Prepay, ReadPoint, ReadTransaction, ReadProduct, Lift, Flow, HangUp}
-use Rattle.site_base.specs.declared.refusal.Refusal.TheVariants.{NoSuchTransaction, BadPreset, WrongState, BufferFull}
+use Rattle.site_base.specs.declared.answer.Answer.TheVariants.{Done, Calling, Start, Flowed, NoSale}
+use Rattle.site_base.specs.declared.answer.Answer.TheVariants.{Sold, PointIs, TransactionIs}
+use Rattle.site_base.specs.declared.answer.Answer.TheVariants.{ProductIs}
+use Rattle.site_base.specs.declared.event.Event.TheVariants.{SignOn, Open, Close, Release, Prepay}
+use Rattle.site_base.specs.declared.event.Event.TheVariants.{ReadPoint, ReadTransaction}
+use Rattle.site_base.specs.declared.event.Event.TheVariants.{ReadProduct, Lift, Flow, HangUp}
+use Rattle.site_base.specs.declared.refusal.Refusal.TheVariants.{NoSuchTransaction, BadPreset}
+use Rattle.site_base.specs.declared.refusal.Refusal.TheVariants.{WrongState, BufferFull}
 use Rattle.site_base.specs.declared.sale.SaleId.{SaleId}
 use Rattle.site_base.specs.declared.state.PointState.TheVariants as states
 use Rattle.site_base.specs.declared.state.Preset.TheVariants.{Unset, Volume}
 use Rattle.site_base.specs.Amounts.{amount, IsGreatestVolume}
 use Rattle.site_base.specs.Configured.{Configured}
-use Rattle.written_site.proofs.WorkedRows.{diesel, petrol, point_with_two, known_site, sold_twice, told, t1, d1, d3, point, sale, payable, product, AreAnswered}
+use Rattle.written_site.proofs.WorkedRows.{diesel, petrol, point_with_two, known_site, sold_twice}
+use Rattle.written_site.proofs.WorkedRows.{told, t1, d1, d3, point, sale, payable, product}
+use Rattle.written_site.proofs.WorkedRows.{AreAnswered}
 use Rattle.written_site.proofs.WorkedReplies.{answered, kit}
 
 -- the sale with this number in shift h

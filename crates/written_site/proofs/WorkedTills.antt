@@ -1,8 +1,12 @@
 -- Worked rows of two tills at one point.
 use Rattle.std.proofs.Common.{[], ◌∷◌, Some, None, Ok, Err}
 use Rattle.site_base.specs.declared.answer.Answer.TheVariants.{Done, Stopped, PointIs}
-use Rattle.site_base.specs.declared.event.Event.TheVariants.{SignOn, SignOff, Open, Assign, Unassign, Release, Terminate, ReadPoint}
-use Rattle.site_base.specs.declared.refusal.Refusal.TheVariants.{NotSignedOn, SignedOn, AssignedToOther, NotYours, WrongState}
+use Rattle.site_base.specs.declared.event.Event.TheVariants.{SignOn, SignOff, Open, Assign}
+use Rattle.site_base.specs.declared.event.Event.TheVariants.{Unassign, Release, Terminate}
+use Rattle.site_base.specs.declared.event.Event.TheVariants.{ReadPoint}
+use Rattle.site_base.specs.declared.refusal.Refusal.TheVariants.{NotSignedOn, SignedOn}
+use Rattle.site_base.specs.declared.refusal.Refusal.TheVariants.{AssignedToOther, NotYours}
+use Rattle.site_base.specs.declared.refusal.Refusal.TheVariants.{WrongState}
 use Rattle.site_base.specs.declared.state.PointState.TheVariants.{Closed, Idle, Authorised}
 use Rattle.site_base.specs.declared.state.Preset.TheVariants.{Unset}
 use Rattle.written_site.proofs.WorkedRows.{known_site, t1, t2, point, AreAnswered}

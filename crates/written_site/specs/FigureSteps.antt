@@ -1,5 +1,6 @@
 -- How an event moves the figures of the shifts, and why they fit in 64 bits.
-use Rattle.std.specs.Prelude.{◌≡◌, ℕ, ◌+◌, ◌^◌, ◌<◌, Bool, true, false, ◌&&◌, ◌==◌, if◌then◌else◌, Some, None, sum_by}
+use Rattle.std.specs.Prelude.{◌≡◌, ℕ, ◌+◌, ◌^◌, ◌<◌, Bool, true, false, ◌&&◌, ◌==◌, if◌then◌else◌}
+use Rattle.std.specs.Prelude.{Some, None, sum_by}
 use Rattle.site_base.specs.declared.actor.Actor.{Actor}
 use Rattle.site_base.specs.declared.actor.Actor.TheVariants.{Till}
 use Rattle.site_base.specs.declared.event.Event.{Event}
@@ -10,7 +11,8 @@ use Rattle.transaction_buffer.specs.Sales.{Key, Sale, Sales, sale_of, is_unpaid}
 use Rattle.written_site.specs.SiteState.{SiteState, key_named, nothing_drawn, open_shift}
 use Rattle.written_site.specs.SiteChecks.{at_sale}
 use Rattle.written_site.specs.SiteStep.{accepted_site, sales_after}
-use Rattle.written_site.specs.ShiftFigures.{clears_in, cents_in, cleared_in, clears_by, cents_by, takings_in, shift_draws, shift_drawn, tills}
+use Rattle.written_site.specs.ShiftFigures.{clears_in, cents_in, cleared_in, clears_by, cents_by}
+use Rattle.written_site.specs.ShiftFigures.{takings_in, shift_draws, shift_drawn, tills}
 use Rattle.written_site.specs.Sound.{Sound}
 use Rattle.written_site.specs.SoundSteps.{IsTaken, product_at, drawn_at}
 

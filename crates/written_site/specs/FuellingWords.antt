@@ -1,6 +1,8 @@
 -- What rows say of fuellings: the nozzle that is out, today's prices, which row starts a fuelling
 -- and which ends it, and how much flows in it.
-use Rattle.std.specs.Prelude.{◌≡◌, ℕ, Bool, true, false, ◌&&◌, ◌||◌, ◌==◌, if◌then◌else◌, List, [], ◌∷◌, ◌++◌, Option, option_and_then, Some, None, is_some, unwrap_or, Result, Ok, is_ok}
+use Rattle.std.specs.Prelude.{◌≡◌, ℕ, Bool, true, false, ◌&&◌, ◌||◌, ◌==◌, if◌then◌else◌, List, []}
+use Rattle.std.specs.Prelude.{◌∷◌, ◌++◌, Option, option_and_then, Some, None, is_some, unwrap_or}
+use Rattle.std.specs.Prelude.{Result, Ok, is_ok}
 use Rattle.std.specs.List.{list_any}
 use Rattle.site_base.specs.declared.answer.Answer.{Answer}
 use Rattle.site_base.specs.declared.answer.Answer.TheVariants.{Calling, Start}

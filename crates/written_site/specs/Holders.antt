@@ -1,16 +1,21 @@
 -- Takes and ends of a point's hold, read from the rows of a history, and the law of one holder.
-use Rattle.std.specs.Prelude.{◌≡◌, ◌≢◌, ◌↔◌, ℕ, Bool, true, false, ◌&&◌, ◌==◌, if◌then◌else◌, List, ◌∷◌, ◌++◌, Option, Some, None, is_some, Result, Ok, is_ok}
+use Rattle.std.specs.Prelude.{◌≡◌, ◌≢◌, ◌↔◌, ℕ, Bool, true, false, ◌&&◌, ◌==◌, if◌then◌else◌, List}
+use Rattle.std.specs.Prelude.{◌∷◌, ◌++◌, Option, Some, None, is_some, Result, Ok, is_ok}
 use Rattle.std.specs.List.{list_any}
 use Rattle.site_base.specs.declared.actor.Actor.{Actor}
 use Rattle.site_base.specs.declared.actor.Actor.TheVariants.{Till}
 use Rattle.site_base.specs.declared.answer.Answer.{Answer}
 use Rattle.site_base.specs.declared.answer.Answer.TheVariants.{Stopped, NoSale, Sold, Drawn}
 use Rattle.site_base.specs.declared.event.Event.{Event}
-use Rattle.site_base.specs.declared.event.Event.TheVariants.{SignOff, Assign, Unassign, Release, Prepay, TestRelease, Offline}
+use Rattle.site_base.specs.declared.event.Event.TheVariants.{SignOff, Assign, Unassign, Release}
+use Rattle.site_base.specs.declared.event.Event.TheVariants.{Prepay, TestRelease, Offline}
 use Rattle.site_base.specs.declared.refusal.Refusal.{Refusal}
 use Rattle.site_base.specs.declared.row.Row.{Row}
 use Rattle.site_base.specs.declared.state.PointState.{PointState}
-use Rattle.site_base.specs.declared.state.PointState.TheVariants.{Inoperative, Closed, Idle, Calling, Authorised, Started, SuspendedStarted, Fuelling, SuspendedFuelling}
+use Rattle.site_base.specs.declared.state.PointState.TheVariants.{Inoperative, Closed, Idle}
+use Rattle.site_base.specs.declared.state.PointState.TheVariants.{Calling, Authorised, Started}
+use Rattle.site_base.specs.declared.state.PointState.TheVariants.{SuspendedStarted, Fuelling}
+use Rattle.site_base.specs.declared.state.PointState.TheVariants.{SuspendedFuelling}
 use Rattle.site_base.specs.Configured.{Configured}
 use Rattle.site_base.specs.Events.{point_named}
 use Rattle.site_base.specs.Table.{row_of}
@@ -27,12 +32,13 @@ hold_taker p (Till t) (Prepay q cents) = if q == p then Some t else None
 hold_taker p (Till t) (TestRelease q) = if q == p then Some t else None
 hold_taker p actor event = None
 
--- a take of the point: an accepted Assign, Release, Prepay or TestRelease, by the till that asks for it
+-- a take of the point: an accepted Assign, Release, Prepay or TestRelease, by the till that asks
+-- for it
 abbrev pub takes_hold : ℕ → Moment → Option ℕ
 takes_hold p m = if is_ok m.row.reply then hold_taker p m.row.actor m.row.event else None
 
--- the reply tells that what the point was released for is over: the release is taken back, or the fuelling
--- has ended
+-- the reply tells that what the point was released for is over: the release is taken back, or the
+-- fuelling has ended
 abbrev pub tells_end : Result Answer Refusal → Bool
 tells_end (Ok Stopped) = true
 tells_end (Ok NoSale) = true
@@ -68,9 +74,9 @@ is_end p t s actor (Offline q) reply = q == p
 is_end p t s (Till u) SignOff reply = stands_at_rest s p && t == u
 is_end p t s actor event reply = tells_end reply && names_point p (point_named event)
 
--- an end of the till's hold of the point: an accepted Unassign or Offline of it, an answer of it that tells that its
--- release is taken back or its fuelling over, or the till's accepted sign-off where the point is closed,
--- idle or calling
+-- an end of the till's hold of the point: an accepted Unassign or Offline of it, an answer of it
+-- that tells that its release is taken back or its fuelling over, or the till's accepted sign-off
+-- where the point is closed, idle or calling
 abbrev pub ends_hold : ℕ → ℕ → Moment → Bool
 ends_hold p t m = is_ok m.row.reply && is_end p t m.before m.row.actor m.row.event m.row.reply
 
@@ -83,7 +89,8 @@ AreHeldByOne moments = (p t u : ℕ) (before between since : List Moment) (first
 
 -- the holds of this site are exactly the takes without a later end
 abbrev pub AreHoldsOf : SiteState → List Moment → Type 0
-AreHoldsOf s moments = (p t : ℕ) → (holder_of s p ≡ Some t) ↔ IsLastTake (takes_hold p) (ends_hold p) t moments
+AreHoldsOf s moments = (p t : ℕ) → (holder_of s p ≡ Some t)
+    ↔ IsLastTake (takes_hold p) (ends_hold p) t moments
 
 -- one holder, for every list of events from the opening site of any configuration
 abbrev pub IsHeldByOne : Type 0
@@ -100,4 +107,5 @@ pub record IsBookHeldByOne (c : Configured) (rows : List Row) : Type 0 where
   pub unended : AreHoldsOf (site_of_rows (opening c) rows) (moments_of c rows)
 
 abbrev pub AreBooksHeldByOne : Type 0
-AreBooksHeldByOne = (c : Configured) (rows : List Row) → IsLegal (opening c) rows → IsBookHeldByOne c rows
+AreBooksHeldByOne = (c : Configured) (rows : List Row) → IsLegal (opening c) rows
+    → IsBookHeldByOne c rows

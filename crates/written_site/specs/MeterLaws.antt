@@ -1,11 +1,13 @@
 -- The meters of a site, as rows tell them: with which reading each began, its last accepted
 -- reading, how often a nozzle's meter was replaced, and what its earlier meters counted.
-use Rattle.std.specs.Prelude.{◌≡◌, ℕ, ◌-◌, Bool, false, ◌&&◌, ◌==◌, if◌then◌else◌, List, Option, Some, None, unwrap_or, is_ok}
+use Rattle.std.specs.Prelude.{◌≡◌, ℕ, ◌-◌, Bool, false, ◌&&◌, ◌==◌, if◌then◌else◌, List, Option}
+use Rattle.std.specs.Prelude.{Some, None, unwrap_or, is_ok}
 use Rattle.site_base.specs.declared.event.Event.{Event}
 use Rattle.site_base.specs.declared.event.Event.TheVariants.{ReplaceMeter, Lift, Flow, HangUp}
 use Rattle.site_base.specs.declared.row.Row.{Row}
 use Rattle.site_base.specs.Configured.{Configured}
-use Rattle.meters.specs.Nozzles.{Nozzle, opening_nozzles, has_nozzle, nozzle_of, product_of, reading_of}
+use Rattle.meters.specs.Nozzles.{Nozzle, opening_nozzles, has_nozzle, nozzle_of, product_of}
+use Rattle.meters.specs.Nozzles.{reading_of}
 use Rattle.written_site.specs.Histories.{Moment, moments_of}
 use Rattle.written_site.specs.RowWords.{latest, total, count}
 use Rattle.written_site.specs.SiteState.{SiteState}

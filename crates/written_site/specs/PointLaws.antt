@@ -1,6 +1,7 @@
--- The points of a site are points: what each keeps is what its own events make of a new one, and what
--- it does of an event is what its row tells.
-use Rattle.std.specs.Prelude.{◌≡◌, ℕ, Bool, true, false, ◌==◌, if◌then◌else◌, List, [], ◌∷◌, ◌++◌, Option, Some, None, Ok, is_ok}
+-- The points of a site are points: what each keeps is what its own events make of a new one, and
+-- what it does of an event is what its row tells.
+use Rattle.std.specs.Prelude.{◌≡◌, ℕ, Bool, true, false, ◌==◌, if◌then◌else◌, List, [], ◌∷◌, ◌++◌}
+use Rattle.std.specs.Prelude.{Option, Some, None, Ok, is_ok}
 use Rattle.site_base.specs.declared.event.Event.{Event}
 use Rattle.site_base.specs.declared.event.Event.TheVariants.{Terminate, Offline, Lift, Flow, HangUp}
 use Rattle.site_base.specs.declared.row.Row.{Row}
@@ -33,7 +34,8 @@ abbrev pub own_events : ℕ → List Moment → List PointEvent
 own_events p [] = []
 own_events p (m ∷ ms) = added (own_of p m) (own_events p ms)
 
--- what the point does of such an event is told in its reply; any other that a point accepts is answered Done
+-- what the point does of such an event is told in its reply; any other that a point accepts is
+-- answered Done
 abbrev pub tells_step : Event → Bool
 tells_step (Terminate p) = true
 tells_step (Offline p) = true
@@ -43,8 +45,8 @@ tells_step (HangUp p n reading) = true
 tells_step event = false
 
 -- What a point keeps is what its own events make of a new point, one after another, at the end and
--- before each of them; it accepts each of them, and what it does of one is what the row tells of it,
--- a sale with its number. So whatever holds of every point that began as
+-- before each of them; it accepts each of them, and what it does of one is what the row tells of
+-- it, a sale with its number. So whatever holds of every point that began as
 -- a new one, for any list of its events, holds of each point of the site.
 pub record ArePointsTheirOwn (c : Configured) (rows : List Row) (s : SiteState) : Type 0 where
   pub facts : (p : ℕ) → facts_of s p ≡ point_after (own_events p (moments_of c rows))

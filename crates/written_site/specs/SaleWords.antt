@@ -1,12 +1,14 @@
 -- What rows say of transactions: how they are named, who released the point that sold one, which
 -- row sells, locks, unlocks or clears one.
-use Rattle.std.specs.Prelude.{ℕ, Bool, true, false, ◌&&◌, ◌==◌, if◌then◌else◌, List, Option, Some, None, is_some, unwrap_or, Result, Ok, is_ok}
+use Rattle.std.specs.Prelude.{ℕ, Bool, true, false, ◌&&◌, ◌==◌, if◌then◌else◌, List, Option, Some}
+use Rattle.std.specs.Prelude.{None, is_some, unwrap_or, Result, Ok, is_ok}
 use Rattle.site_base.specs.declared.actor.Actor.{Actor}
 use Rattle.site_base.specs.declared.actor.Actor.TheVariants.{Till}
 use Rattle.site_base.specs.declared.answer.Answer.{Answer}
 use Rattle.site_base.specs.declared.answer.Answer.TheVariants.{Sold}
 use Rattle.site_base.specs.declared.event.Event.{Event}
-use Rattle.site_base.specs.declared.event.Event.TheVariants.{SignOff, Release, Prepay, TestRelease, Lock, Unlock, Clear}
+use Rattle.site_base.specs.declared.event.Event.TheVariants.{SignOff, Release, Prepay, TestRelease}
+use Rattle.site_base.specs.declared.event.Event.TheVariants.{Lock, Unlock, Clear}
 use Rattle.site_base.specs.declared.refusal.Refusal.{Refusal}
 use Rattle.site_base.specs.declared.row.Row.{Row}
 use Rattle.site_base.specs.declared.sale.SaleId.{SaleId}

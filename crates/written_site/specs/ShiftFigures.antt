@@ -6,7 +6,16 @@ use Rattle.site_base.specs.declared.limits.TheConstants.{TILLS}
 use Rattle.site_base.specs.declared.view.ProductView.{ProductView}
 use Rattle.site_base.specs.declared.view.SiteView.{SiteView}
 use Rattle.site_base.specs.Numbered.{numbered}
-pub use Rattle.transaction_buffer.specs.Clears.{is_cleared_by, is_cleared_in, is_clear_of, clears_in, cents_in, cleared_in, clears_by, cents_by}
+pub use Rattle.transaction_buffer.specs.Clears.{
+  is_cleared_by,
+  is_cleared_in,
+  is_clear_of,
+  clears_in,
+  cents_in,
+  cleared_in,
+  clears_by,
+  cents_by,
+}
 use Rattle.transaction_buffer.specs.Sales.{Sales}
 use Rattle.written_site.specs.SiteState.{SiteState, nothing_drawn, open_shift}
 use Rattle.written_site.specs.Volumes.{product_view}

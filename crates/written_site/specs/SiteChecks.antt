@@ -1,12 +1,28 @@
 -- The first refusal: the checks of an event in their order, of which the first that fails decides.
-use Rattle.std.specs.Prelude.{◌≡◌, ℕ, Bool, true, false, not, ◌&&◌, Option, Some, None, is_none, is_some, ◌==◌, nat_lt, if◌then◌else◌}
+use Rattle.std.specs.Prelude.{◌≡◌, ℕ, Bool, true, false, not, ◌&&◌, Option, Some, None, is_none}
+use Rattle.std.specs.Prelude.{is_some, ◌==◌, nat_lt, if◌then◌else◌}
 use Rattle.site_base.specs.declared.actor.Actor.{Actor}
 use Rattle.site_base.specs.declared.actor.Actor.TheVariants.{Till, Dispenser}
 use Rattle.site_base.specs.declared.event.Event.{Event}
-use Rattle.site_base.specs.declared.event.Event.TheVariants.{SignOn, SignOff, Open, Close, Assign, Unassign, Release, Prepay, TestRelease, Suspend, Resume, Terminate, ReplaceMeter, ReadPoint, Lock, Unlock, Clear, ReadTransaction, SetPrice, ReadProduct, CloseShift, ReadSite, Online, Offline, Lift, Flow, HangUp}
-use Rattle.site_base.specs.declared.limits.TheConstants.{GREATEST_PRESET, GREATEST_PRICE, GREATEST_SHIFT, REPLACEMENT_LIMIT, UNPAID_LIMIT}
+use Rattle.site_base.specs.declared.event.Event.TheVariants.{SignOn, SignOff, Open, Close, Assign}
+use Rattle.site_base.specs.declared.event.Event.TheVariants.{Unassign, Release, Prepay, TestRelease}
+use Rattle.site_base.specs.declared.event.Event.TheVariants.{Suspend, Resume, Terminate}
+use Rattle.site_base.specs.declared.event.Event.TheVariants.{ReplaceMeter, ReadPoint, Lock, Unlock}
+use Rattle.site_base.specs.declared.event.Event.TheVariants.{Clear, ReadTransaction, SetPrice}
+use Rattle.site_base.specs.declared.event.Event.TheVariants.{ReadProduct, CloseShift, ReadSite}
+use Rattle.site_base.specs.declared.event.Event.TheVariants.{Online, Offline, Lift, Flow, HangUp}
+use Rattle.site_base.specs.declared.limits.TheConstants.{GREATEST_PRESET, GREATEST_PRICE}
+use Rattle.site_base.specs.declared.limits.TheConstants.{GREATEST_SHIFT, REPLACEMENT_LIMIT}
+use Rattle.site_base.specs.declared.limits.TheConstants.{UNPAID_LIMIT}
 use Rattle.site_base.specs.declared.refusal.Refusal.{Refusal}
-use Rattle.site_base.specs.declared.refusal.Refusal.TheVariants.{NotSignedOn, SignedOn, NoSuchPoint, NoSuchNozzle, NoSuchProduct, NoSuchTransaction, NotManager, BadPrice, BadPreset, AssignedToOther, NotYours, NotYourPoint, BufferFull, SequenceSpent, ShiftsSpent, MeterSpent}
+use Rattle.site_base.specs.declared.refusal.Refusal.TheVariants.{NotSignedOn, SignedOn, NoSuchPoint}
+use Rattle.site_base.specs.declared.refusal.Refusal.TheVariants.{NoSuchNozzle, NoSuchProduct}
+use Rattle.site_base.specs.declared.refusal.Refusal.TheVariants.{NoSuchTransaction, NotManager}
+use Rattle.site_base.specs.declared.refusal.Refusal.TheVariants.{BadPrice, BadPreset}
+use Rattle.site_base.specs.declared.refusal.Refusal.TheVariants.{AssignedToOther, NotYours}
+use Rattle.site_base.specs.declared.refusal.Refusal.TheVariants.{NotYourPoint, BufferFull}
+use Rattle.site_base.specs.declared.refusal.Refusal.TheVariants.{SequenceSpent, ShiftsSpent}
+use Rattle.site_base.specs.declared.refusal.Refusal.TheVariants.{MeterSpent}
 use Rattle.site_base.specs.declared.sale.SaleId.{SaleId}
 use Rattle.site_base.specs.declared.state.PointState.{PointState}
 use Rattle.site_base.specs.declared.state.PointState.TheVariants.{Calling}
@@ -15,7 +31,8 @@ use Rattle.site_base.specs.declared.state.Preset.TheVariants.{Unset, Volume, Mon
 use Rattle.site_base.specs.Checks.{◌or_else◌, unless}
 use Rattle.site_base.specs.Ranges.{is_between}
 use Rattle.site_base.specs.Table.{row_of}
-use Rattle.site_base.specs.Events.{point_named, nozzle_named, sale_named, product_named, reported_by, needs_free_point, needs_manager}
+use Rattle.site_base.specs.Events.{point_named, nozzle_named, sale_named, product_named}
+use Rattle.site_base.specs.Events.{reported_by, needs_free_point, needs_manager}
 use Rattle.fuelling_point.specs.declared.event.PointEvent.{PointEvent}
 use Rattle.fuelling_point.specs.declared.event.PointEvent.TheVariants as points
 use Rattle.fuelling_point.specs.PointChecks as machine
@@ -27,17 +44,21 @@ use Rattle.transaction_buffer.specs.declared.request.Request.{Request}
 use Rattle.transaction_buffer.specs.declared.request.Request.TheVariants as requests
 use Rattle.transaction_buffer.specs.Sales.{Key, has_sale, next_number, unpaid_at}
 use Rattle.transaction_buffer.specs.TransactionTable as transactions
-use Rattle.written_site.specs.SiteState.{SiteState, is_signed_on, is_manager, has_point, facts_of, holder_of, open_shift, key_named, price_at_start, reading_at_start}
+use Rattle.written_site.specs.SiteState.{SiteState, is_signed_on, is_manager, has_point, facts_of}
+use Rattle.written_site.specs.SiteState.{holder_of, open_shift, key_named, price_at_start}
+use Rattle.written_site.specs.SiteState.{reading_at_start}
 
--- a release of point p within this preset, which may be prepaid: a fuelling that it starts is of the
--- nozzle that is out
+-- a release of point p within this preset, which may be prepaid: a fuelling that it starts is of
+-- the nozzle that is out
 abbrev pub released : SiteState → ℕ → Preset → Option ℕ → PointEvent
 released s p preset prepaid =
-    points.Release preset prepaid (reading_at_start s p (facts_of s p).out) (price_at_start s p (facts_of s p).out)
+    points.Release preset prepaid (reading_at_start s p (facts_of s p).out)
+    (price_at_start s p (facts_of s p).out)
 
 -- a release of point p for a test
 abbrev pub test_released : SiteState → ℕ → PointEvent
-test_released s p = points.TestRelease (reading_at_start s p (facts_of s p).out) (price_at_start s p (facts_of s p).out)
+test_released s p = points.TestRelease (reading_at_start s p (facts_of s p).out)
+    (price_at_start s p (facts_of s p).out)
 
 -- nozzle n of point p is taken out
 abbrev pub lifted : SiteState → ℕ → ℕ → PointEvent
@@ -164,7 +185,8 @@ asks_free_point s t event = needs_free_point event && not (is_exempt s t event)
 
 -- no other till holds the point, where a till's event is for one that no other holds
 abbrev pub not_held : SiteState → Actor → Event → Option Refusal
-not_held s (Till t) event = if asks_free_point s t event then free_for t (holder_named s (point_named event)) else None
+not_held s (Till t) event = if asks_free_point s t event then free_for t
+    (holder_named s (point_named event)) else None
 not_held s (Dispenser d) event = None
 
 -- why the point refuses what the event is to it
@@ -181,7 +203,8 @@ abbrev pub is_held : SiteState → Event → Option Refusal
 is_held s (Unassign p) = unless (is_some (holder_of s p)) NotYours
 is_held s event = None
 
--- the point may make one more sale: fewer than two are unpaid, and the open shift has a number for it
+-- the point may make one more sale: fewer than two are unpaid, and the open shift has a number for
+-- it
 abbrev pub may_sell : SiteState → ℕ → Option Refusal
 may_sell s p =
     unless (nat_lt (unpaid_at p s.sales) UNPAID_LIMIT) BufferFull
@@ -198,9 +221,9 @@ abbrev pub put_back_at : PointState → Report
 put_back_at Calling = Still
 put_back_at state = Growing
 
--- the meter agrees: a nozzle that is lifted, or put back where its point only calls, reads what it read
--- last; one that flows, or is put back after a fuelling, may have grown; and a meter is replaced no more
--- often than it may be
+-- the meter agrees: a nozzle that is lifted, or put back where its point only calls, reads what it
+-- read last; one that flows, or is put back after a fuelling, may have grown; and a meter is
+-- replaced no more often than it may be
 abbrev pub metering : SiteState → Event → Option Refusal
 metering s (Lift p n reading) = report_refusal Still (reading_of p n s.nozzles) reading
 metering s (Flow p n reading) = report_refusal Growing (reading_of p n s.nozzles) reading
@@ -279,4 +302,5 @@ pub record Passed (s : SiteState) (actor : Actor) (event : Event) : Type 0 where
 
 -- an event that isn't refused has passed each check
 abbrev pub PassesEachCheck : Type 0
-PassesEachCheck = (s : SiteState) (actor : Actor) (event : Event) → first_refusal s actor event ≡ None → Passed s actor event
+PassesEachCheck = (s : SiteState) (actor : Actor) (event : Event)
+    → first_refusal s actor event ≡ None → Passed s actor event

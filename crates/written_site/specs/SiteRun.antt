@@ -1,5 +1,5 @@
--- The written run: what a list of events is answered and leads to, which rows it makes, and which histories
--- are legal.
+-- The written run: what a list of events is answered and leads to, which rows it makes, and which
+-- histories are legal.
 use Rattle.std.specs.Prelude.{◌≡◌, List, [], ◌∷◌, map, Result}
 use Rattle.site_base.specs.declared.actor.Actor.{Actor}
 use Rattle.site_base.specs.declared.answer.Answer.{Answer}
@@ -36,7 +36,8 @@ site_of_rows s (r ∷ rs) = site_of_rows (site_after s r.actor r.event) rs
 -- each reply is the written step's, at the site that the rows before it led to
 abbrev pub IsLegal : SiteState → List Row → Type 0
 IsLegal s [] = Unit {0}
-IsLegal s (r ∷ rs) = (r.reply ≡ reply_to s r.actor r.event) × IsLegal (site_after s r.actor r.event) rs
+IsLegal s (r ∷ rs) = (r.reply ≡ reply_to s r.actor r.event)
+    × IsLegal (site_after s r.actor r.event) rs
 
 -- the events of these rows, with their actors
 abbrev pub events_of : List Row → List (Actor × Event)

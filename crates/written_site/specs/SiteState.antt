@@ -1,5 +1,6 @@
 -- The site state, and the words that read it.
-use Rattle.std.specs.Prelude.{ℕ, Bool, true, false, ◌&&◌, List, [], ◌∷◌, map, length, replicate, Option, option_and_then, Some, None, is_some, unwrap_or}
+use Rattle.std.specs.Prelude.{ℕ, Bool, true, false, ◌&&◌, List, [], ◌∷◌, map, length, replicate}
+use Rattle.std.specs.Prelude.{Option, option_and_then, Some, None, is_some, unwrap_or}
 use Rattle.std.specs.Ordering.{nat_cmp}
 use Rattle.std.specs.FinMap as finite
 use Rattle.std.specs.FinSet as set
@@ -19,8 +20,8 @@ use Rattle.transaction_buffer.specs.Sales.{Key, key, Sales, no_sales, shown}
 
 -- The points by their numbers, in configured order; the nozzles with their meters; which till holds
 -- which point; the sales; the products' numbers with today's prices, in configured order; the tills
--- that are managers, and those that are signed on; and for each shift, from the first to the open one,
--- the millilitres that tests drew of each product, from product 1 on.
+-- that are managers, and those that are signed on; and for each shift, from the first to the open
+-- one, the millilitres that tests drew of each product, from product 1 on.
 pub record SiteState : Type 0 where
   pub points : List (ℕ × Facts)
   pub nozzles : List Nozzle
@@ -110,8 +111,8 @@ view_sale s p id = shown (key_named s p id) s.sales
 abbrev pub price_of : List Nozzle → List (ℕ × ℕ) → ℕ → ℕ → Option ℕ
 price_of nozzles prices p n = option_and_then (λ q. row_of q prices) (product_of p n nozzles)
 
--- the price that a fuelling takes which starts at point p by this nozzle, in mills: today's price of
--- the nozzle's product. Without a nozzle nothing starts, and the least price stands for it.
+-- the price that a fuelling takes which starts at point p by this nozzle, in mills: today's price
+-- of the nozzle's product. Without a nozzle nothing starts, and the least price stands for it.
 abbrev pub price_at_start : SiteState → ℕ → Option ℕ → ℕ
 price_at_start s p None = 1
 price_at_start s p (Some n) = unwrap_or (price_of s.nozzles s.prices p n) 1

@@ -1,5 +1,6 @@
 -- The written step: what the one-thread site answers to an event, and the site that it leads to.
-use Rattle.std.specs.Prelude.{◌≡◌, ℕ, ◌+◌, Bool, true, false, not, ◌&&◌, List, [], ◌∷◌, ◌++◌, Option, Some, None, Result, unwrap_or, if◌then◌else◌}
+use Rattle.std.specs.Prelude.{◌≡◌, ℕ, ◌+◌, Bool, true, false, not, ◌&&◌, List, [], ◌∷◌, ◌++◌}
+use Rattle.std.specs.Prelude.{Option, Some, None, Result, unwrap_or, if◌then◌else◌}
 use Rattle.std.specs.Ordering.{nat_cmp}
 use Rattle.std.specs.FinMap as finite
 use Rattle.std.specs.FinSet as set
@@ -8,7 +9,13 @@ use Rattle.site_base.specs.declared.actor.Actor.TheVariants.{Till}
 use Rattle.site_base.specs.declared.answer.Answer.{Answer}
 use Rattle.site_base.specs.declared.answer.Answer.TheVariants as answers
 use Rattle.site_base.specs.declared.event.Event.{Event}
-use Rattle.site_base.specs.declared.event.Event.TheVariants.{SignOn, SignOff, Open, Close, Assign, Unassign, Release, Prepay, TestRelease, Suspend, Resume, Terminate, ReplaceMeter, ReadPoint, Lock, Unlock, Clear, ReadTransaction, SetPrice, ReadProduct, CloseShift, ReadSite, Online, Offline, Lift, Flow, HangUp}
+use Rattle.site_base.specs.declared.event.Event.TheVariants.{SignOn, SignOff, Open, Close, Assign}
+use Rattle.site_base.specs.declared.event.Event.TheVariants.{Unassign, Release, Prepay, TestRelease}
+use Rattle.site_base.specs.declared.event.Event.TheVariants.{Suspend, Resume, Terminate}
+use Rattle.site_base.specs.declared.event.Event.TheVariants.{ReplaceMeter, ReadPoint, Lock, Unlock}
+use Rattle.site_base.specs.declared.event.Event.TheVariants.{Clear, ReadTransaction, SetPrice}
+use Rattle.site_base.specs.declared.event.Event.TheVariants.{ReadProduct, CloseShift, ReadSite}
+use Rattle.site_base.specs.declared.event.Event.TheVariants.{Online, Offline, Lift, Flow, HangUp}
 use Rattle.site_base.specs.declared.refusal.Refusal.{Refusal}
 use Rattle.site_base.specs.declared.view.TransactionView.{TransactionView}
 use Rattle.site_base.specs.Checks.{reply_or, value_or}
@@ -17,7 +24,9 @@ use Rattle.site_base.specs.Numbered.{numbered, with_numbered}
 use Rattle.site_base.specs.Table.{row_of, with_row}
 use Rattle.fuelling_point.specs.declared.event.PointEvent.{PointEvent}
 use Rattle.fuelling_point.specs.declared.step.PointStep.{PointStep}
-use Rattle.fuelling_point.specs.declared.step.PointStep.TheVariants.{Moved, Calling, Start, Flowed, HungUp, NoSale, Sold, Drawn, Stopped, Ending}
+use Rattle.fuelling_point.specs.declared.step.PointStep.TheVariants.{Moved, Calling, Start, Flowed}
+use Rattle.fuelling_point.specs.declared.step.PointStep.TheVariants.{HungUp, NoSale, Sold, Drawn}
+use Rattle.fuelling_point.specs.declared.step.PointStep.TheVariants.{Stopped, Ending}
 use Rattle.fuelling_point.specs.KeptPoints.{Facts, growth_of, point_view}
 use Rattle.fuelling_point.specs.Step as machine
 use Rattle.meters.specs.Nozzles.{Nozzle, with_last, with_meter}
@@ -25,7 +34,8 @@ use Rattle.till_claims.specs.Holds.{is_held_by}
 use Rattle.transaction_buffer.specs.declared.request.Request.TheVariants as requests
 use Rattle.transaction_buffer.specs.Sales.{Sale, Sales, sale_of, made_at, new_standing, with_new}
 use Rattle.transaction_buffer.specs.TransactionTable.{after_request, after_sign_off}
-use Rattle.written_site.specs.SiteState.{SiteState, facts_in, facts_of, holder_of, is_signed_on, key_named, nothing_drawn, open_shift, rests, view_sale}
+use Rattle.written_site.specs.SiteState.{SiteState, facts_in, facts_of, holder_of, is_signed_on}
+use Rattle.written_site.specs.SiteState.{key_named, nothing_drawn, open_shift, rests, view_sale}
 use Rattle.written_site.specs.Volumes.{product_out, running_at, product_view}
 use Rattle.written_site.specs.ShiftFigures.{site_view}
 use Rattle.written_site.specs.SiteChecks.{own_event, first_refusal}
@@ -39,8 +49,8 @@ step_by s (Some e) = machine.step_of e.1 (facts_of s e.0)
 abbrev pub step_at : SiteState → Event → PointStep
 step_at s event = step_by s (own_event s event)
 
--- how this step of point p is told, which took this growth; a sale with its number, the next one of the
--- point in the open shift
+-- how this step of point p is told, which took this growth; a sale with its number, the next one of
+-- the point in the open shift
 abbrev pub step_told : SiteState → ℕ → ℕ → PointStep → Answer
 step_told s p growth Moved = answers.Done
 step_told s p growth Calling = answers.Calling
@@ -48,7 +58,8 @@ step_told s p growth (Start preset price) = answers.Start preset price
 step_told s p growth (Flowed flowed) = answers.Flowed flowed
 step_told s p growth HungUp = answers.HungUp
 step_told s p growth NoSale = answers.NoSale
-step_told s p growth (Sold nozzle volume price prepaid) = answers.Sold (made_at p (open_shift s) s.sales + 1) growth
+step_told s p growth (Sold nozzle volume price prepaid) =
+    answers.Sold (made_at p (open_shift s) s.sales + 1) growth
 step_told s p growth (Drawn nozzle volume) = answers.Drawn growth
 step_told s p growth Stopped = answers.Stopped
 step_told s p growth Ending = answers.Ending
@@ -126,7 +137,8 @@ ends_at_sign_off points holds t p = rests points p && is_held_by t (finite.get h
 
 -- the holds that outlive a till's sign-off
 abbrev pub holds_without : List (ℕ × Facts) → finite.FinMap nat_cmp ℕ → ℕ → finite.FinMap nat_cmp ℕ
-holds_without points holds t = finite.retain_keys holds (λ p. not (ends_at_sign_off points holds t p))
+holds_without points holds t =
+    finite.retain_keys holds (λ p. not (ends_at_sign_off points holds t p))
 
 -- the step ends what the point was released for: a release that is taken back, or a fuelling
 abbrev pub ends_release : PointStep → Bool
@@ -149,7 +161,8 @@ holds_after s (Till t) (Prepay p cents) = finite.insert s.holds p t
 holds_after s (Till t) (TestRelease p) = finite.insert s.holds p t
 holds_after s (Till t) (Unassign p) = finite.remove s.holds p
 holds_after s actor (Offline p) = finite.remove s.holds p
-holds_after s actor (HangUp p n reading) = holds_unless_over p (step_at s (HangUp p n reading)) s.holds
+holds_after s actor (HangUp p n reading) =
+    holds_unless_over p (step_at s (HangUp p n reading)) s.holds
 holds_after s actor (Terminate p) = holds_unless_over p (step_at s (Terminate p)) s.holds
 holds_after s actor event = s.holds
 
@@ -158,13 +171,14 @@ abbrev pub if_signed_on : SiteState → Option ℕ → Option ℕ
 if_signed_on s None = None
 if_signed_on s (Some t) = if is_signed_on s t then Some t else None
 
--- the till that has locked a sale from its beginning: of a prepaid one the holder, where it is signed on
+-- the till that has locked a sale from its beginning: of a prepaid one the holder, where it is
+-- signed on
 abbrev pub first_locker : SiteState → ℕ → Option ℕ → Option ℕ
 first_locker s p None = None
 first_locker s p (Some prepaid) = if_signed_on s (holder_of s p)
 
--- the sale of the fuelling of point p that is over, with these nozzles' last readings: the volume since its
--- start, at the price it took
+-- the sale of the fuelling of point p that is over, with these nozzles' last readings: the volume
+-- since its start, at the price it took
 abbrev pub sale_made : SiteState → List Nozzle → ℕ → Sale
 sale_made s nozzles p =
     record {
@@ -252,6 +266,7 @@ abbrev pub site_after : SiteState → Actor → Event → SiteState
 site_after s actor event = value_or (first_refusal s actor event) (accepted_site s actor event) s
 
 -- from old, the event of the actor is answered with the reply and leads to new
-pub record Steps (old : SiteState) (actor : Actor) (event : Event) (new : SiteState) (reply : Result Answer Refusal) : Type 0 where
+pub record Steps (old : SiteState) (actor : Actor) (event : Event) (new : SiteState)
+    (reply : Result Answer Refusal) : Type 0 where
   pub replies : reply ≡ reply_to old actor event
   pub leads : new ≡ site_after old actor event

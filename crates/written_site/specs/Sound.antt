@@ -1,11 +1,14 @@
 -- What a site always keeps: the facts on which the code of the site and its laws rely. An opening
 -- site has them, and every event leaves them.
-use Rattle.std.specs.Prelude.{◌≡◌, ℕ, ◌+◌, ◌<◌, ◌≤◌, Bool, true, false, List, map, length, Some, is_some, IfSome, ◌==◌, nat_eq, nat_le}
+use Rattle.std.specs.Prelude.{◌≡◌, ℕ, ◌+◌, ◌<◌, ◌≤◌, Bool, true, false, List, map, length, Some}
+use Rattle.std.specs.Prelude.{is_some, IfSome, ◌==◌, nat_eq, nat_le}
 use Rattle.std.specs.List.{list_all}
 use Rattle.site_base.specs.declared.actor.Actor.{Actor}
 use Rattle.site_base.specs.declared.config.NozzleEntry.{NozzleEntry}
 use Rattle.site_base.specs.declared.event.Event.{Event}
-use Rattle.site_base.specs.declared.limits.TheConstants.{GREATEST_PRICE, GREATEST_READING, GREATEST_SEQ, GREATEST_SHIFT, PRODUCT_CELLS, PRODUCTS, UNPAID_LIMIT}
+use Rattle.site_base.specs.declared.limits.TheConstants.{GREATEST_PRICE, GREATEST_READING}
+use Rattle.site_base.specs.declared.limits.TheConstants.{GREATEST_SEQ, GREATEST_SHIFT}
+use Rattle.site_base.specs.declared.limits.TheConstants.{PRODUCT_CELLS, PRODUCTS, UNPAID_LIMIT}
 use Rattle.site_base.specs.Amounts.{amount}
 use Rattle.site_base.specs.Ranges.{is_between}
 use Rattle.site_base.specs.declared.config.ProductEntry.{ProductEntry}
@@ -18,7 +21,8 @@ use Rattle.fuelling_point.specs.Whole.{IsWhole, is_released}
 use Rattle.meters.specs.Metered.{metered_by}
 use Rattle.meters.specs.Nozzles.{AreNozzles, has_nozzle, product_of, reading_of}
 use Rattle.transaction_buffer.specs.declared.standing.Standing.{Standing}
-use Rattle.transaction_buffer.specs.declared.standing.Standing.TheVariants.{Payable, LockedBy, ClearedBy}
+use Rattle.transaction_buffer.specs.declared.standing.Standing.TheVariants.{Payable, LockedBy}
+use Rattle.transaction_buffer.specs.declared.standing.Standing.TheVariants.{ClearedBy}
 use Rattle.transaction_buffer.specs.Sales.{Key, Sale, sale_of, made_at, unpaid_at}
 use Rattle.written_site.specs.SiteState.{SiteState, opening, holder_of, is_signed_on, open_shift}
 use Rattle.written_site.specs.SiteStep.{site_after}

@@ -1,10 +1,12 @@
 -- What is promised of an event at a sound site: how it moves the volumes, that what grows fits, and
 -- what is true where its point sells or draws.
-use Rattle.std.specs.Prelude.{◌≡◌, ◌≢◌, ℕ, ◌+◌, ◌*◌, ◌^◌, ◌<◌, ◌≤◌, Bool, true, false, List, length, Option, Some, None, is_some, unwrap_or}
+use Rattle.std.specs.Prelude.{◌≡◌, ◌≢◌, ℕ, ◌+◌, ◌*◌, ◌^◌, ◌<◌, ◌≤◌, Bool, true, false, List, length}
+use Rattle.std.specs.Prelude.{Option, Some, None, is_some, unwrap_or}
 use Rattle.site_base.specs.declared.actor.Actor.{Actor}
 use Rattle.site_base.specs.declared.actor.Actor.TheVariants.{Till}
 use Rattle.site_base.specs.declared.event.Event.{Event}
-use Rattle.site_base.specs.declared.limits.TheConstants.{GREATEST_READING, PRODUCT_CELLS, UNPAID_LIMIT}
+use Rattle.site_base.specs.declared.limits.TheConstants.{GREATEST_READING, PRODUCT_CELLS}
+use Rattle.site_base.specs.declared.limits.TheConstants.{UNPAID_LIMIT}
 use Rattle.site_base.specs.declared.state.Status.{Status}
 use Rattle.site_base.specs.declared.state.Status.TheVariants as statuses
 use Rattle.site_base.specs.Numbered.{numbered}
@@ -21,9 +23,11 @@ use Rattle.transaction_buffer.specs.Sums.{volume_of, volume_by, volume_with}
 use Rattle.transaction_buffer.specs.TransactionTable.{sale_after_request}
 use Rattle.written_site.specs.SiteState.{SiteState, facts_of, holder_of, open_shift}
 use Rattle.written_site.specs.SiteChecks.{own_event, numbers, at_point, metering, sale_request}
-use Rattle.written_site.specs.SiteStep.{step_at, nozzles_after, points_after, sales_after, drawn_after}
+use Rattle.written_site.specs.SiteStep.{step_at, nozzles_after, points_after, sales_after}
+use Rattle.written_site.specs.SiteStep.{drawn_after}
 use Rattle.written_site.specs.Sound.{InRange, IsPrice, IsSupplied, Sound}
-use Rattle.written_site.specs.Volumes.{nozzle_out, product_out, running_at, running_by, sold_by, drawn_by, running, adjusted}
+use Rattle.written_site.specs.Volumes.{nozzle_out, product_out, running_at, running_by, sold_by}
+use Rattle.written_site.specs.Volumes.{drawn_by, running, adjusted}
 
 -- The event passes the checks on which points and volumes depend: what it names is there, its point
 -- takes it, and its meter agrees. Its reading is in range.

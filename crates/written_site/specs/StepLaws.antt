@@ -1,4 +1,5 @@
--- The laws of one step: a refusal changes nothing, and Cleared is answered to accepted Clears alone.
+-- The laws of one step: a refusal changes nothing, and Cleared is answered to accepted Clears
+-- alone.
 use Rattle.std.specs.Prelude.{◌≡◌, Bool, true, false, ◌&&◌, List, Result, Ok, Err, is_ok}
 use Rattle.std.specs.List.{AllByRecursion}
 use Rattle.site_base.specs.declared.actor.Actor.{Actor}

@@ -26,8 +26,8 @@ pub record AreVolumesConserved (c : Configured) (rows : List Row) (s : SiteState
       + volume_by q Cleared s.sales + adjusted s q
   pub grown : total (λ r. growth_in_reply r.reply) rows ≡ metered_by every_product s.nozzles
 
--- of fit products and points: at the site that any rows lead to, what is metered of the products adds up
--- to what all meters have counted
+-- of fit products and points: at the site that any rows lead to, what is metered of the products
+-- adds up to what all meters have counted
 abbrev pub DoProductsAddUp : Type 0
 DoProductsAddUp = (c : Configured) (rows : List Row)
     → are_products c.products ≡ true → are_points c.products c.points ≡ true

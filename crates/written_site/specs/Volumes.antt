@@ -1,5 +1,5 @@
--- The volumes of a site, each product's weighed: what its meters have counted, what is in fuellings under
--- way, in sales, and drawn by tests.
+-- The volumes of a site, each product's weighed: what its meters have counted, what is in fuellings
+-- under way, in sales, and drawn by tests.
 use Rattle.std.specs.Prelude.{ℕ, ◌+◌, ◌-◌, ◌*◌, List, [], ◌∷◌, unwrap_or, if◌then◌else◌}
 use Rattle.site_base.specs.declared.state.Status.TheVariants.{Payable, Locked, Cleared}
 use Rattle.site_base.specs.declared.view.ProductView.{ProductView}
@@ -18,8 +18,8 @@ nozzle_out f = unwrap_or f.out 0
 abbrev pub product_out : List Nozzle → ℕ → Facts → ℕ
 product_out nozzles p f = unwrap_or (product_of p (nozzle_out f) nozzles) 0
 
--- the millilitres of the fuelling under way at point p: the last reading of the nozzle that is out, less
--- the one at its start; 0 where none is under way
+-- the millilitres of the fuelling under way at point p: the last reading of the nozzle that is out,
+-- less the one at its start; 0 where none is under way
 abbrev pub running_at : List Nozzle → ℕ → Facts → ℕ
 running_at nozzles p f =
     if is_under_way f.state then reading_of p (nozzle_out f) nozzles - f.start else 0

@@ -70,10 +70,7 @@ fn sign_both_on<L: Ledger + Send + Sync, C: Naming + Send + Sync, R: Threads + W
     lists.push(sign_on(rt, alloc, 1)?)?;
     lists.push(sign_on(rt, alloc, 2)?)?;
     let ends = crew(rt, alloc, desk, root, &gate, &lists)?;
-    assert!(rt;
-        !gate.gave_up(),
-        "the other worker didn't run"
-    );
+    assert!(rt; !gate.gave_up(), "the other worker didn't run");
     assert_eq!(rt; ends.len(), 2);
     for end in &ends {
         assert!(rt; end.placed == 1 && end.accepted == 1 && end.fault.is_none());

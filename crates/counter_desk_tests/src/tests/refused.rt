@@ -107,8 +107,8 @@ fn settled_again<L: Ledger, C: Naming, R: Abort>(
     }
 }
 
-/// Makes a call. After a failed allocation the share and the site are as before, and the call is made
-/// again.
+/// Makes a call. After a failed allocation the share and the site are as before, and the call is
+/// made again.
 fn make_call<L: Ledger, C: Naming, R: Wait + Abort + Eprint>(
     rt: &R,
     alloc: Global,

@@ -1,8 +1,8 @@
 //! One share at a desk, which submits what a table asks, and prints the rows.
 
+use crate::words::{Line, Step};
 use anyhow::{bail, ensure};
 use counter_desk::{Desk, Naming, Share};
-use crate::words::{Line, Step};
 use site_base::{Actor, Event, NoRow, Placed, Row, TillNo};
 use std::sync::Wait;
 use std::sync::ledger::Ledger;
@@ -116,8 +116,8 @@ impl Counter {
     }
 }
 
-/// Submits an event: its row, or None where the book is full. After an allocation that failed, which has
-/// left the desk as it was, it is submitted again.
+/// Submits an event: its row, or None where the book is full. After an allocation that failed,
+/// which has left the desk as it was, it is submitted again.
 fn submit<L: Ledger, C: Naming>(
     rt: &(impl Eprint + Wait),
     desk: &Desk<L, C>,

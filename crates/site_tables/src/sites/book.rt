@@ -16,8 +16,8 @@ pub fn open_book(rt: &impl Eprint, alloc: Global, config: &SiteConfig) -> anyhow
     }
 }
 
-/// Applies an event to the book. After an allocation that failed, which has left the book as it was, it is
-/// applied again.
+/// Applies an event to the book. After an allocation that failed, which has left the book as it
+/// was, it is applied again.
 fn apply(
     rt: &impl Eprint,
     book: &mut SiteBook,

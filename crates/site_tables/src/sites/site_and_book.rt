@@ -1,10 +1,10 @@
 //! The site that a table runs, and its book.
 
 use crate::sites::book::{apply_alone, apply_beside, audit, leave, open_book, print_changes};
-use crate::sites::run::{Replies, open_site, print_rows, replies_to};
 use crate::sites::printing::{ensure_counted, print_point, print_sale, print_shift, print_totals};
-use anyhow::{bail, ensure};
+use crate::sites::run::{Replies, open_site, print_rows, replies_to};
 use crate::words::Line;
+use anyhow::{bail, ensure};
 use site_base::{Actor, Event, FpNo, ShiftNo, SiteConfig, TillNo};
 use site_book::SiteBook;
 use site_core::Site;

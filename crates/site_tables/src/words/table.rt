@@ -1,7 +1,7 @@
 //! A table, read line by line.
 
-use crate::words::event::{LastNamed, read_event};
 use crate::words::draft::Draft;
+use crate::words::event::{LastNamed, read_event};
 use crate::words::line::Line;
 use anyhow::Context;
 use site_base::{Actor, Event, GREATEST_ROWS, SiteConfig};

@@ -6,7 +6,7 @@ ghost use Rattle.till_session.specs.declared.server.TheConstants.{SESSIONS};
 use super::calls::{by_till, octets};
 use super::site::five_points;
 use counter_desk::testing::HoldingGate;
-use counter_desk::{Desk, Naming, OpenGate, Settled};
+use counter_desk::{Desk, Gate, Naming, OpenGate, Settled};
 use site_base::{Actor, NoMemory, SiteConfig};
 use std::alloc::Global;
 use std::marker::Brand;
@@ -46,10 +46,7 @@ fn held_call(rt: HostRuntime) -> Result<(), Fail> {
         let gate = HoldingGate::new(by_till(&rt, held));
         let listener = Connections::new(sign_ons(&rt, alloc, 2)?, 0);
         let day = one_day(&rt, alloc, &config, listener, &gate, 2)?;
-        assert!(rt;
-            !gate.gave_up(),
-            "the other worker didn't run"
-        );
+        assert!(rt; !gate.gave_up(), "the other worker didn't run");
         assert!(rt; day.ends.len() == 2 && day.settled.rows == 4 && day.settled.shares == 2);
         for end in &day.ends {
             assert!(rt; end.fault.is_none() && end.asked == 1 && end.signed_off);

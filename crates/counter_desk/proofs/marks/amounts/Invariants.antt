@@ -10,5 +10,6 @@ invariant-loop-receipts l = record {
   cents : l.cents ≡ total cents_receipted (lists_of (take l.receipts-index l.lists));
   millilitres : l.millilitres ≡ total growth_receipted (lists_of (take l.receipts-index l.lists));
   few_cents : l.cents ≤ calls_in (lists_of (take l.receipts-index l.lists)) * GREATEST_CENTS;
-  few_millilitres : l.millilitres ≤ calls_in (lists_of (take l.receipts-index l.lists)) * GROWTH_LIMIT;
+  few_millilitres : l.millilitres
+      ≤ calls_in (lists_of (take l.receipts-index l.lists)) * GROWTH_LIMIT;
 }

@@ -14,5 +14,10 @@ returns-clause-marked g c =
       stands = stands;
       weighed = λ h.
           let at : h (0 + place) ≡ h place = ap h (omega arith) in
-          omega (arith, at, marked_set h 0 c.args.marks.now place (omega (arith, within)) c.if-marks-place.false);
+          omega (
+            arith,
+            at,
+            marked_set h 0 c.args.marks.now place (omega (arith, within))
+                c.if-marks-place.false,
+          );
     }

@@ -38,5 +38,7 @@ loop-receipts-preserved g c =
       all =
           subst (λ lists. AreAllMarked c.args.site.now c.mark_list.new.marks lists)
           (sym (lists_more c.args.lists.now i r (omega arith) c.receipts-item.is))
-          (all_marked_more c.args.site.now c.loop-receipts.marks c.mark_list.new.marks (lists_of (take i c.args.lists.now)) r.receipts c.loop-receipts.invariant.all c.in-Ok.ensures.ok);
+          (all_marked_more c.args.site.now c.loop-receipts.marks c.mark_list.new.marks
+          (lists_of (take i c.args.lists.now)) r.receipts c.loop-receipts.invariant.all
+          c.in-Ok.ensures.ok);
     }

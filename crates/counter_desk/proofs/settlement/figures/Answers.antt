@@ -22,7 +22,8 @@ returns-clause-ok g c =
     let as_long : length marks ≡ length rows = c.mark_all.ensures.length in
     let cents = c.amounts-cents.ensures.cents ∙ ap (total cents_receipted) returned in
     let millilitres = c.amounts-cents.ensures.millilitres ∙ ap (total growth_receipted) returned in
-    let grown = millilitres ∙ adds_up (λ (r : Row). growth_in_reply r.reply) rows marks lists all as_long c.requires in
+    let grown = millilitres ∙ adds_up (λ (r : Row). growth_in_reply r.reply) rows marks lists all
+    as_long c.requires in
     let config = g.C.Naming.config in
     let sound = c.kept_histories_are_sound.ensures config (book_of config rows) (length rows)
     (record { of = refl; legal = c.len-rows.ensures.legal; counted = refl }) in
@@ -31,7 +32,8 @@ returns-clause-ok g c =
       dealt = dealt rows marks lists all as_long c.requires;
       rows = c.len-rows.ensures.rows;
       calls = c.len-rows.ensures.rows ∙ sym c.requires;
-      cents = cents ∙ adds_up (λ (r : Row). cents_in_reply r.reply) rows marks lists all as_long c.requires;
+      cents = cents ∙ adds_up (λ (r : Row). cents_in_reply r.reply) rows marks lists all as_long
+          c.requires;
       cents_shared = cents;
       cents_booked =
           cents
@@ -41,7 +43,8 @@ returns-clause-ok g c =
       millilitres_shared = millilitres;
       metered = grown ∙ sound.conserved.grown;
       millilitres_booked = grown ∙ sym c.in-Ok-totals.ensures.sums.metered;
-      shares = sym (length-map c.returned-returned.result.now (λ (l : ReceiptList). l.receipts)) ∙ ap length returned;
+      shares = sym (length-map c.returned-returned.result.now (λ (l : ReceiptList). l.receipts))
+          ∙ ap length returned;
       book = c.in-Ok-totals.ensures.totals;
       products = c.in-Ok-totals.ensures.products;
     }
@@ -52,5 +55,6 @@ returns-clause-none g c =
     let lists = c.args.root.now.lists in
     let marks = c.mark_all.new.marks in
     let all : AreAllMarked rows marks lists =
-    subst (λ ls. AreAllMarked rows marks ls) c.returned-returned.ensures c.in-Ok-mark_all.ensures.ok in
+    subst (λ ls. AreAllMarked rows marks ls) c.returned-returned.ensures
+    c.in-Ok-mark_all.ensures.ok in
     nothing_strange rows lists (dealt rows marks lists all c.mark_all.ensures.length c.requires)

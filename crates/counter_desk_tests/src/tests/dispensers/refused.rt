@@ -128,8 +128,8 @@ fn fuel<L: Ledger, C: Naming, R: Wait + Abort + Eprint>(
     share
 }
 
-/// After so many steps of the run: the share made a call for each behind the three that released the
-/// point, it owes till 1, and the site has what these calls led to.
+/// After so many steps of the run: the share made a call for each behind the three that released
+/// the point, it owes till 1, and the site has what these calls led to.
 fn see<L: Ledger, C: Naming, R: Wait + Abort>(
     rt: &R,
     alloc: Global,

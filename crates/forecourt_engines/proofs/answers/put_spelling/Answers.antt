@@ -1,4 +1,5 @@
-use Rattle.std.proofs.Common.{◌≡◌, ◌++◌, ◌∙◌, ◌+◌, ◌-◌, ◌*◌, List, ℕ, length, take, drop, ap, arith, length-append}
+use Rattle.std.proofs.Common.{◌≡◌, ◌++◌, ◌∙◌, ◌+◌, ◌-◌, ◌*◌, List, ℕ, length, take, drop, ap, arith}
+use Rattle.std.proofs.Common.{length-append}
 use Rattle.std.proofs.Math.Seq.{drop-append_seam}
 use Rattle.std.proofs.lemmas.List.{take_all, length-replicate}
 use Rattle.std.specs.Prelude.{replicate, vec_len}
@@ -15,7 +16,8 @@ spell-requires c =
     let whole : c.deref_mut.result.now ≡ old ++ feeds =
     c.deref_mut.ensures.value ∙ c.in_ok-resize.ensures.items
     ∙ ap (λ (xs : List ℕ). xs ++ replicate (size - vec_len c.args.out.now) 10) first
-    ∙ ap (λ n. old ++ replicate n 10) (let left : size - vec_len c.args.out.now ≡ more = omega arith in left) in
+    ∙ ap (λ n. old ++ replicate n 10)
+    (let left : size - vec_len c.args.out.now ≡ more = omega arith in left) in
     let place : drop c.len-size.result c.deref_mut.result.now ≡ feeds =
     ap (drop c.len-size.result) whole
     ∙ ap (λ n. drop n (old ++ feeds)) (let is : c.len-size.result ≡ length old = omega arith in is)

@@ -1,4 +1,5 @@
-use Rattle.std.proofs.Common.{◌≡◌, ◌∷◌, [], ◌∙◌, ◌+◌, ◌-◌, ◌*◌, List, ℕ, length, drop, ap, append_assoc, sym, arith}
+use Rattle.std.proofs.Common.{◌≡◌, ◌∷◌, [], ◌∙◌, ◌+◌, ◌-◌, ◌*◌, List, ℕ, length, drop, ap}
+use Rattle.std.proofs.Common.{append_assoc, sym, arith}
 use Rattle.std.proofs.lemmas.List.{drop-replicate}
 use Rattle.std.specs.Prelude.{replicate}
 use Rattle.hex.specs.Hex.{encode_lower, lower_digits}

@@ -5,7 +5,9 @@ use Rattle.forecourt_engines.proofs.replay.run.Given as goal
 
 abbrev pub invariant-loop-n : goal.invariant-loop-n
 invariant-loop-n g l = record {
-  running : Running l.fn.turns l.turns l.fn.engine l.engine (g.R.Read.remaining (device_of l.fn.reader)) (g.R.Read.remaining (device_of l.reader)) (g.W.Write.contents (device_of l.fn.writer)) (g.W.Write.contents (device_of l.writer));
+  running : Running l.fn.turns l.turns l.fn.engine l.engine
+      (g.R.Read.remaining (device_of l.fn.reader)) (g.R.Read.remaining (device_of l.reader))
+      (g.W.Write.contents (device_of l.fn.writer)) (g.W.Write.contents (device_of l.writer));
   reads : failures_of l.reader ≡ failures_of l.fn.reader;
   writes : failures_of l.writer ≡ failures_of l.fn.writer;
   unturned : l.turns ≤ l.fn.turns;

@@ -18,7 +18,8 @@ pub returns-in_err-finish-clause-told : goal.returns-in_err-finish-clause-told
 returns-in_err-finish-clause-told g c =
     let none = ap (λ (k : ℕ). take k c.read_piece.new.buf) c.if-n-eq0.true in
     let p =
-    err_from_is_err_and c.from_residual-in_err-finish.result c.from_residual-in_err-finish.ensures.1 in
+    err_from_is_err_and c.from_residual-in_err-finish.result
+    c.from_residual-in_err-finish.ensures.1 in
     rw p.1 (ends_late _ _ _ _ _ _ _ _ _ _ _ _ _ (ap (λ (f : ReplayFault). is_early (Some f)) p.2)
     c.loop-n.invariant.running none c.in_ok-n.ensures.bytes (AppendsFront-none None _))
 

@@ -5,4 +5,5 @@ use Rattle.fuelling_point.proofs.laws.terminated_stays_suspended.Goals as goal
 
 pub returns : goal.returns
 returns c = λ events before since m parts told on. let t =
-    stays_terminated (fresh Closed) events before since m parts told on in (t.suspend_state, t.ending)
+    stays_terminated (fresh Closed) events before since m parts told on in
+    (t.suspend_state, t.ending)

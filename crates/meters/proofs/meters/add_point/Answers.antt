@@ -1,4 +1,5 @@
-use Rattle.std.proofs.Common.{◌≡◌, ◌+◌, ◌++◌, ◌∷◌, [], List, drop, get_or, length, sym, ap, subst, ◌∙◌, append_assoc, add-one, arith}
+use Rattle.std.proofs.Common.{◌≡◌, ◌+◌, ◌++◌, ◌∷◌, [], List, drop, get_or, length, sym, ap, subst}
+use Rattle.std.proofs.Common.{◌∙◌, append_assoc, add-one, arith}
 use Rattle.std.proofs.Math.Seq.{drop-cons}
 use Rattle.site_base.specs.declared.config.NozzleEntry.{NozzleEntry}
 use Rattle.meters.specs.Nozzles.{Nozzle, opened, numbered, EachMetered}

@@ -1,4 +1,5 @@
-use Rattle.std.proofs.Common.{◌≡◌, ◌+◌, ◌++◌, ◌∷◌, [], List, ℕ, Option, Some, None, length, ◌<◌, get_or, take, sym, ap, subst, ◌∙◌, arith, length-take-le, length-set}
+use Rattle.std.proofs.Common.{◌≡◌, ◌+◌, ◌++◌, ◌∷◌, [], List, ℕ, Option, Some, None, length, ◌<◌}
+use Rattle.std.proofs.Common.{get_or, take, sym, ap, subst, ◌∙◌, arith, length-take-le, length-set}
 use Rattle.std.proofs.Math.ListN.{set}
 use Rattle.std.proofs.lemmas.List.{get_or-replicate, length-replicate, take_more, take_all}
 use Rattle.site_base.specs.declared.limits.TheConstants.{NOZZLE_CELLS}
@@ -31,7 +32,8 @@ loop-place-preserved c =
           let none : get_or cells n None ≡ None =
           is_nothing (get_or cells n None) w.if-is_none.ensures in
           record {
-            cells = ap length w.places-is ∙ length-set cells n (Some i) ∙ c.loop-place.invariant.cells;
+            cells = ap length w.places-is ∙ length-set cells n (Some i)
+                ∙ c.loop-place.invariant.cells;
             places = subst (λ ys. ArePlaces ys c.if-is_none.places) more
                 (subst (ArePlaces (take i xs ++ x ∷ []))
                 (ap (λ k. set cells n (Some k)) count ∙ sym w.places-is)

@@ -6,7 +6,8 @@ use Rattle.site_base.proofs.transfer.read_piece.Given as goal
 
 abbrev pub invariant-loop-turns : goal.invariant-loop-turns
 invariant-loop-turns g l = record {
-  kept : Keeps (g.R.Read.remaining (device_of l.fn.reader)) (g.R.Read.remaining (device_of l.reader));
+  kept : Keeps (g.R.Read.remaining (device_of l.fn.reader))
+      (g.R.Read.remaining (device_of l.reader));
   counted : failures_of l.reader ≡ failures_of l.fn.reader;
   room : length l.buf ≡ length l.fn.buf;
   turns : l.turns ≤ l.fn.turns;

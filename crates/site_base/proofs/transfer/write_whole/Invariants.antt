@@ -6,7 +6,8 @@ use Rattle.site_base.proofs.transfer.write_whole.Given as goal
 
 abbrev pub invariant-loop-done : goal.invariant-loop-done
 invariant-loop-done g l = record {
-  written : Appends (g.W.Write.contents (device_of l.fn.writer)) (g.W.Write.contents (device_of l.writer)) (take l.done l.text);
+  written : Appends (g.W.Write.contents (device_of l.fn.writer))
+      (g.W.Write.contents (device_of l.writer)) (take l.done l.text);
   within : l.done ≤ length l.text;
   counted : failures_of l.writer ≡ failures_of l.fn.writer;
   turns : l.turns ≤ l.fn.turns;

@@ -12,7 +12,9 @@ loop-row-preserved c = record {
       let rows = c.rows-row-items.result.now in
       let i = c.loop-row.row-index in
       let row = c.row-item.result in
-      let split : row ∷ drop (i + 1) rows ≡ drop i rows = ap (λ x. x ∷ drop (i + 1) rows) c.row-item.is ∙ sym (drop_more rows i row c.loop-row-test.true) in
+      let split : row ∷ drop (i + 1) rows ≡ drop i rows =
+      ap (λ x. x ∷ drop (i + 1) rows) c.row-item.is
+      ∙ sym (drop_more rows i row c.loop-row-test.true) in
       ap (λ claims. left points t (drop (i + 1) rows) q (finite.get claims q)) c.let_go_of.ensures
       ∙ left_next points t row (drop (i + 1) rows) c.loop-row.claims q
       ∙ ap (λ some. left points t some q (finite.get c.loop-row.claims q)) split
@@ -21,6 +23,8 @@ loop-row-preserved c = record {
 
 pub returns : goal.returns
 returns c = all_left c.args.points.now c.args.t c.args.claims.now c.loop-row.claims (λ q.
-    ap (λ some. left c.args.points.now c.args.t some q (finite.get c.loop-row.claims q)) (sym (drop_all c.loop-row.row-index c.rows-row-items.result.now c.loop-row-test.false))
+    ap (λ some. left c.args.points.now c.args.t some q (finite.get c.loop-row.claims q))
+    (sym (drop_all c.loop-row.row-index c.rows-row-items.result.now c.loop-row-test.false))
     ∙ c.loop-row.invariant.left q
-    ∙ ap (λ rows. left c.args.points.now c.args.t rows q (finite.get c.args.claims.now q)) c.rows-row-items.ensures)
+    ∙ ap (λ rows. left c.args.points.now c.args.t rows q (finite.get c.args.claims.now q))
+    c.rows-row-items.ensures)

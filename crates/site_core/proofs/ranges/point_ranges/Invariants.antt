@@ -5,4 +5,5 @@ use Rattle.site_core.proofs.ranges.point_ranges.Given as goal
 
 abbrev pub invariant-loop-point : goal.invariant-loop-point
 invariant-loop-point l =
-    list_all (λ p. list_all (λ n. nat_le n.reading GREATEST_READING) p.nozzles) (take l.point-index l.points) ≡ true
+    list_all (λ p. list_all (λ n. nat_le n.reading GREATEST_READING) p.nozzles)
+    (take l.point-index l.points) ≡ true

@@ -5,4 +5,5 @@ use Rattle.site_base.specs.Ranges.{is_between}
 use Rattle.site_core.proofs.ranges.product_ranges.Given as goal
 
 abbrev pub invariant-loop-product : goal.invariant-loop-product
-invariant-loop-product l = list_all (λ p. is_between 1 PRODUCTS p.number) (take l.product-index l.products) ≡ true
+invariant-loop-product l = list_all (λ p. is_between 1 PRODUCTS p.number)
+    (take l.product-index l.products) ≡ true

@@ -12,12 +12,18 @@ loop-entry-preserved c =
     let s = c.loop-entry.site.site in
     let new = c.step.new.self.site in
     let is : IsNext events i e = (c.loop-entry-test.true, c.entry-item.is) in
-    let replied : c.step.result ≡ reply_to s e.0 e.1 = c.step.ensures.step.replies ∙ ap (λ x. reply_to x e.0 e.1) c.make_room.ensures.site in
-    let leads : new ≡ site_after s e.0 e.1 = c.step.ensures.step.leads ∙ ap (λ x. site_after x e.0 e.1) c.make_room.ensures.site in
-    let told = c.push_reserved.ensures.items ∙ ap (λ x. x ++ c.step.result ∷ []) c.make_room.ensures.replies in
+    let replied : c.step.result ≡ reply_to s e.0 e.1 = c.step.ensures.step.replies
+    ∙ ap (λ x. reply_to x e.0 e.1) c.make_room.ensures.site in
+    let leads : new ≡ site_after s e.0 e.1 = c.step.ensures.step.leads
+    ∙ ap (λ x. site_after x e.0 e.1) c.make_room.ensures.site in
+    let told = c.push_reserved.ensures.items
+    ∙ ap (λ x. x ++ c.step.result ∷ []) c.make_room.ensures.replies in
     record {
-      told = ap (λ x. x ++ replies_to new (drop (i + 1) events)) told ∙ told_more c.loop-entry.replies.items s new events i e c.step.result is replied leads ∙ c.loop-entry.invariant.told;
+      told = ap (λ x. x ++ replies_to new (drop (i + 1) events)) told
+          ∙ told_more c.loop-entry.replies.items s new events i e c.step.result is replied leads
+          ∙ c.loop-entry.invariant.told;
       rest = end_more s new events i e is leads ∙ c.loop-entry.invariant.rest;
-      so_far = so_far_more c.args.site.now.site s new events i e is c.loop-entry.invariant.so_far leads;
+      so_far = so_far_more c.args.site.now.site s new events i e is c.loop-entry.invariant.so_far
+          leads;
       count = search rules;
     }

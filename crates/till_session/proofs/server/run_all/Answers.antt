@@ -10,7 +10,12 @@ loop-preserved g c =
       | in-Ok w ↦ record {
         room =
             rw w.started-is
-            (omega (arith, w.push_reserved.ensures.len, w.push_reserved.ensures.capacity, c.loop.invariant.room));
+            (omega (
+              arith,
+              w.push_reserved.ensures.len,
+              w.push_reserved.ensures.capacity,
+              c.loop.invariant.room,
+            ));
         plan =
             rw (w.started-is, w.push_reserved.ensures.items)
             (All-push (IsStartOf c.args.plan) c.loop.started.items _ c.loop.invariant.plan
@@ -19,7 +24,12 @@ loop-preserved g c =
       | in-Err w ↦ record {
         room =
             rw w.started-is
-            (omega (arith, w.push_reserved-in-Err.ensures.len, w.push_reserved-in-Err.ensures.capacity, c.loop.invariant.room));
+            (omega (
+              arith,
+              w.push_reserved-in-Err.ensures.len,
+              w.push_reserved-in-Err.ensures.capacity,
+              c.loop.invariant.room,
+            ));
         plan =
             rw (w.started-is, w.push_reserved-in-Err.ensures.items)
             (All-push (IsStartOf c.args.plan) c.loop.started.items _ c.loop.invariant.plan tt);

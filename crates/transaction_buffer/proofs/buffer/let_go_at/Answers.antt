@@ -16,10 +16,12 @@ loop-p-preserved c =
     record {
       cells = length-set old i c.unlock_all_of.new.self ∙ c.loop-p.invariant.cells;
       stages = stages_next c.args.t c.args.points c.loop-p.left c.remove.new.self c.in-Some.p i
-          c.args.shelves.now old d c.unlock_all_of.new.self c.requires.cells c.loop-p.invariant.cells
+          c.args.shelves.now old d c.unlock_all_of.new.self c.requires.cells
+          c.loop-p.invariant.cells
           c.cell.ensures.place (omega arith) c.in-Some.ensures.member c.remove.ensures.others
           c.unlock_all_of.ensures c.loop-p.invariant.stages;
       sums = kept_let_go c.args.t old i d c.loop-p.sums (omega (arith, c.loop-p.invariant.cells))
-          c.loop-p.invariant.sums c.unlock_all_of.new.self c.unlock_all_of.ensures.sales c.let_go_sums.new.sums
+          c.loop-p.invariant.sums c.unlock_all_of.new.self c.unlock_all_of.ensures.sales
+          c.let_go_sums.new.sums
           c.let_go_sums.ensures;
     }

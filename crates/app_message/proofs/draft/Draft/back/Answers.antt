@@ -28,6 +28,7 @@ returns-clause-made c =
       c.clear.ensures.items,
       c.spelled_address.ensures.text,
     ) refl in
-    rw (← c.from-to.ensures, ← c.token-token.ensures) (begun c.from-to.result c.args.from c.args.kind
+    rw (← c.from-to.ensures, ← c.token-token.ensures)
+    (begun c.from-to.result c.args.from c.args.kind
     c.token-token.result request.address c.put_address.new.out.items c.typed.ensures
     valid.address_octets valid.address_least valid.address_most text).0

@@ -4,7 +4,8 @@ use Rattle.app_message.specs.Telegram.{Entry, Telegram}
 use Rattle.app_message.proofs.Bodies.{draft_long, draft_falls, draft_fits}
 use Rattle.app_message.proofs.draft.Draft.finish.Goals as goal
 
-pub returns-then-len-gt-LONGEST_BODY-clause-fault : goal.returns-then-len-gt-LONGEST_BODY-clause-fault
+pub returns-then-len-gt-LONGEST_BODY-clause-fault :
+    goal.returns-then-len-gt-LONGEST_BODY-clause-fault
 returns-then-len-gt-LONGEST_BODY-clause-fault c =
     rw (← c.self.view_is) (draft_long _ c.self.inside.body.items c.self.invariant
     (omega (arith, c.if-len-gt-LONGEST_BODY.true, c.len.ensures)))

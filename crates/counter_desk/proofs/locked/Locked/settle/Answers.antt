@@ -6,8 +6,10 @@ use Rattle.counter_desk.proofs.locked.Locked.settle.Goals as goal
 
 pub returns-clause-none : goal.returns-clause-none
 returns-clause-none g c =
-    subst (λ (rows : List Row). OnOk c.figures.result (IsNoneStrange rows c.args.root.now.lists)) c.audit.ensures.rows
+    subst (λ (rows : List Row). OnOk c.figures.result (IsNoneStrange rows c.args.root.now.lists))
+    c.audit.ensures.rows
     (
-    subst (λ (r : RootFacts). OnOk c.figures.result (IsNoneStrange c.audit.new.self r.lists)) c.audit.ensures.root
+    subst (λ (r : RootFacts). OnOk c.figures.result (IsNoneStrange c.audit.new.self r.lists))
+    c.audit.ensures.root
     c.figures.ensures.none
     )

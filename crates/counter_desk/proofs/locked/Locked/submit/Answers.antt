@@ -9,7 +9,8 @@ use Rattle.counter_desk.proofs.locked.Locked.submit.Goals as goal
 
 pub note-requires-clause-room : goal.note-requires-clause-room
 note-requires-clause-room g c =
-    let asked = room_asked c.args.actor.now c.args.event.now c.in_ok-placed.field-0.reply c.args.share.now.owed in
+    let asked = room_asked c.args.actor.now c.args.event.now c.in_ok-placed.field-0.reply
+    c.args.share.now.owed in
     omega (arith, asked, c.requires)
 
 pub returns-clause-stands : goal.returns-clause-stands
@@ -20,4 +21,5 @@ returns-clause-stands g c =
     ap (λ (b : Book). slice_get b.rows placed.place) c.in_ok-placed.ensures.row
     ∙ ap (λ (k : ℕ). slice_get (old.rows ++ row ∷ []) k) c.in_ok-placed.ensures.place
     ∙ stands_last old.rows row
-    ∙ ap (λ (reply : Result Answer Refusal). Some (record row { reply = reply })) (sym c.in_ok-placed.ensures.reply)
+    ∙ ap (λ (reply : Result Answer Refusal). Some (record row { reply = reply }))
+    (sym c.in_ok-placed.ensures.reply)

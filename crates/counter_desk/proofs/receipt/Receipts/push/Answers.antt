@@ -29,15 +29,45 @@ invariant_of-self c =
     let one = length_push receipts receipt in
     let tallied = kept.tallied in
     record {
-      as_many = omega (arith, kept.as_many, ap length c.push_reserved.ensures.items, ap length c.push.ensures.rows, length_push inside.places.items c.args.place, length_push inside.rows.rows c.args.row.now);
+      as_many = omega (
+        arith,
+        kept.as_many,
+        ap length c.push_reserved.ensures.items,
+        ap length c.push.ensures.rows,
+        length_push inside.places.items c.args.place,
+        length_push inside.rows.rows c.args.row.now,
+      );
       room_in_rows = omega (arith, kept.room_in_rows, c.push.ensures.room);
-      room_in_places = omega (arith, kept.room_in_places, c.push_reserved.ensures.len, c.push_reserved.ensures.capacity);
-      tallied = subst (IsTallied (inside.cents + c.cents_of.result) (inside.millilitres + c.growth_in_reply.result)) (sym (pushed (goal.at.invariant_of-self c).After-push)) (record {
-        cents_are = omega (arith, tallied.cents_are, c.cents_of.ensures.value, total_last (λ (r : Receipt). cents_in_reply r.reply) receipts receipt);
-        millilitres_are = omega (arith, tallied.millilitres_are, c.growth_in_reply.ensures, total_last (λ (r : Receipt). growth_in_reply r.reply) receipts receipt);
-        few_cents = omega (arith, tallied.few_cents, c.cents_of.ensures.range, one);
-        few_millilitres = omega (arith, tallied.few_millilitres, c.growth_in_reply.ensures, c.requires.growth, one);
-      });
+      room_in_places = omega (
+        arith,
+        kept.room_in_places,
+        c.push_reserved.ensures.len,
+        c.push_reserved.ensures.capacity,
+      );
+      tallied = subst (IsTallied (inside.cents + c.cents_of.result)
+          (inside.millilitres + c.growth_in_reply.result))
+          (sym (pushed (goal.at.invariant_of-self c).After-push)) (record {
+            cents_are = omega (
+              arith,
+              tallied.cents_are,
+              c.cents_of.ensures.value,
+              total_last (λ (r : Receipt). cents_in_reply r.reply) receipts receipt,
+            );
+            millilitres_are = omega (
+              arith,
+              tallied.millilitres_are,
+              c.growth_in_reply.ensures,
+              total_last (λ (r : Receipt). growth_in_reply r.reply) receipts receipt,
+            );
+            few_cents = omega (arith, tallied.few_cents, c.cents_of.ensures.range, one);
+            few_millilitres = omega (
+              arith,
+              tallied.few_millilitres,
+              c.growth_in_reply.ensures,
+              c.requires.growth,
+              one,
+            );
+          });
     }
 
 pub returns-clause-receipts : goal.returns-clause-receipts

@@ -10,10 +10,13 @@ invariant_of-self g c =
     let old = c.self.inside.returned.items in
     let came = c.into_parts-receipts.result.0 in
     let lists : lists_of c.push_reserved.new.self.items ≡ lists_of old ++ came.receipts ∷ [] =
-    ap lists_of c.push_reserved.ensures.items ∙ map-append (λ (l : ReceiptList). l.receipts) old (came ∷ []) in
-    let calls : calls_in (lists_of c.push_reserved.new.self.items) ≡ calls_in (lists_of old) + length came.receipts =
+    ap lists_of c.push_reserved.ensures.items
+    ∙ map-append (λ (l : ReceiptList). l.receipts) old (came ∷ []) in
+    let calls : calls_in (lists_of c.push_reserved.new.self.items) ≡ calls_in (lists_of old)
+    + length came.receipts =
     ap calls_in lists ∙ total_last length (lists_of old) came.receipts in
-    let same : length came.receipts ≡ length c.args.share.receipts = ap length c.into_parts-receipts.ensures.receipts in
+    let same : length came.receipts ≡ length c.args.share.receipts =
+    ap length c.into_parts-receipts.ensures.receipts in
     record {
       whole = c.self.invariant.whole;
       rest = omega arith;

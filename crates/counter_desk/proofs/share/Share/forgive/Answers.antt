@@ -6,5 +6,6 @@ pub invariant_of-self : goal.invariant_of-self
 invariant_of-self g c = record {
   part = c.self.invariant.part;
   counted = c.self.invariant.counted;
-  reserved = rw c.set.ensures (omega (arith, set_fewer c.self.inside.owed (c.args.t - 1), c.self.invariant.reserved));
+  reserved = rw c.set.ensures (omega
+      (arith, set_fewer c.self.inside.owed (c.args.t - 1), c.self.invariant.reserved));
 }

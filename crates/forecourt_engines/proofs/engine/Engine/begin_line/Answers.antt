@@ -26,7 +26,8 @@ returns-in_ok-extend_from_slice-clause-state c =
       size,
     ) (sym long.0)
 
-pub returns-in_ok-extend_from_slice-clause-silent : goal.returns-in_ok-extend_from_slice-clause-silent
+pub returns-in_ok-extend_from_slice-clause-silent :
+    goal.returns-in_ok-extend_from_slice-clause-silent
 returns-in_ok-extend_from_slice-clause-silent c =
     let none = goes_on_still c.self.inside.stop (sym c.if-is_some.ensures) in
     let long =
@@ -34,7 +35,8 @@ returns-in_ok-extend_from_slice-clause-silent c =
     (omega (arith, c.if-more-room.true, c.len-room.ensures)) in
     rw (← c.self.view_is) long.1
 
-pub returns-in_ok-extend_from_slice-2-clause-state : goal.returns-in_ok-extend_from_slice-2-clause-state
+pub returns-in_ok-extend_from_slice-2-clause-state :
+    goal.returns-in_ok-extend_from_slice-2-clause-state
 returns-in_ok-extend_from_slice-2-clause-state c =
     let none = goes_on_still c.self.inside.stop (sym c.if-is_some.ensures) in
     let on =
@@ -42,7 +44,8 @@ returns-in_ok-extend_from_slice-2-clause-state c =
     (omega (arith, c.if-more-room.false, c.len-room.ensures, c.self.invariant)) in
     rw (← c.self.view_is, c.in_ok-extend_from_slice-2.ensures.items) (sym on.0)
 
-pub returns-in_ok-extend_from_slice-2-clause-silent : goal.returns-in_ok-extend_from_slice-2-clause-silent
+pub returns-in_ok-extend_from_slice-2-clause-silent :
+    goal.returns-in_ok-extend_from_slice-2-clause-silent
 returns-in_ok-extend_from_slice-2-clause-silent c =
     let none = goes_on_still c.self.inside.stop (sym c.if-is_some.ensures) in
     let on =

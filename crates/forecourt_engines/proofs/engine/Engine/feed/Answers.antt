@@ -14,7 +14,9 @@ loop-end-preserved c =
     let at = found 10 rest c.in-Some.end c.in-Some.ensures in
     let others = behind_byte rest c.in-Some.end at.within in
     let ended = rw c.split_at.ensures.front at c.in_ok-end_line.ensures in
-    let on = line_by_line c.loop-end.self c.end_line.new.self rest (take c.in-Some.end rest) (drop (suc c.in-Some.end) rest) c.loop-end.out.items c.end_line.new.out.items ended.state ended.text at.parts in
+    let on = line_by_line c.loop-end.self c.end_line.new.self rest (take c.in-Some.end rest)
+    (drop (suc c.in-Some.end) rest) c.loop-end.out.items c.end_line.new.out.items ended.state
+    ended.text at.parts in
     rw (c.split_at.ensures.back, others) (record {
       state = on.0 ∙ c.loop-end.invariant.state;
       text = on.1 ∙ c.loop-end.invariant.text;

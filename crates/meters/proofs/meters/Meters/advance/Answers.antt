@@ -1,4 +1,5 @@
-use Rattle.std.proofs.Common.{◌≡◌, ◌<◌, ◌≤◌, ◌+◌, ◌-◌, List, length, get_or, arith, rules, sym, subst, ap, ◌∙◌}
+use Rattle.std.proofs.Common.{◌≡◌, ◌<◌, ◌≤◌, ◌+◌, ◌-◌, List, length, get_or, arith, rules, sym}
+use Rattle.std.proofs.Common.{subst, ap, ◌∙◌}
 use Rattle.std.proofs.Math.ListN.{set}
 use Rattle.meters.specs.declared.report.Report.TheVariants.{Growing}
 use Rattle.meters.specs.Nozzles.{Nozzle, reading_of, with_last, read_at}
@@ -36,17 +37,20 @@ grown : (c : After-cell) → c.advance-growth.result ≡ c.args.reading - (nozzl
 grown c = c.advance-growth.ensures.growth
     ∙ ap (λ (x : Nozzle). growth_of x.last c.args.reading) c.index_mut-meter.ensures.value
 
-fitting : (c : After-cell) → get_or c.self.inside.totals c.cell.result 0 + c.advance-growth.result ≤ most_of_a_site
+fitting : (c : After-cell) → get_or c.self.inside.totals c.cell.result 0 + c.advance-growth.result
+    ≤ most_of_a_site
 fitting c =
     let found = rw (← c.self.view_is) at c.in-Some.ensures.found in
     let within : c.cell.result < length c.self.inside.totals = omega arith in
     let is = grown c in
-    rw is (fits c.self.inside.meters.items c.self.inside.places c.self.inside.totals c.args.p c.args.n
+    rw is (fits c.self.inside.meters.items c.self.inside.places c.self.inside.totals c.args.p
+    c.args.n
     c.args.reading c.cell.result (nozzle_was c) c.self.invariant
     (found.nozzle c.index_mut-meter.result.now) (above c) c.advance-growth.ensures.range (its c)
     within c.cell.ensures.within)
 
-kept : (c : After-cell) → AreKept (set c.self.inside.meters.items c.in-Some.place c.advance-growth.new.self)
+kept : (c : After-cell) → AreKept
+    (set c.self.inside.meters.items c.in-Some.place c.advance-growth.new.self)
     c.self.inside.places
     (set c.self.inside.totals c.cell.result
     (get_or c.self.inside.totals c.cell.result 0 + c.advance-growth.result))

@@ -17,6 +17,7 @@ invariant_of-result c =
     (sym none_left)
     ∙ c.loop-entry.invariant.added in
     let places : ArePlaces c.loop-entry.meters.items c.places_of-places.result =
-    subst (λ xs. ArePlaces xs c.places_of-places.result) c.deref.ensures.value c.places_of-places.ensures in
+    subst (λ xs. ArePlaces xs c.places_of-places.result) c.deref.ensures.value
+    c.places_of-places.ensures in
     kept_opened points c.loop-entry.meters.items c.places_of-places.result all
     (record { few = search rules; each = c.loop-entry.invariant.bounds }) places

@@ -13,26 +13,42 @@ use Rattle.site_book.proofs.book.SiteBook.apply.Goals as goal
 
 pub tills_with-self-inside-requires : goal.tills_with-self-inside-requires
 tills_with-self-inside-requires c =
-    let most : tills_on c.self.inside.site.site ≤ TILLS = no_more TILLS c.self.inside.site.site.signed_on c.self.invariant.tills in
+    let most : tills_on c.self.inside.site.site ≤ TILLS =
+    no_more TILLS c.self.inside.site.site.signed_on c.self.invariant.tills in
     omega (arith, most, c.self.invariant.counted)
 
 pub invariant_of-self-2 : goal.invariant_of-self-2
 invariant_of-self-2 c =
     let on : ℕ = c.self.inside.on in
-    let book : IsBook c.self.inside.config c.reserve.new.self.rows c.prepare.new.self.site on c.self.inside.rows.room =
+    let book : IsBook c.self.inside.config c.reserve.new.self.rows c.prepare.new.self.site on
+    c.self.inside.rows.room =
     rw (c.in_ok-reserve.ensures.rows, c.in_ok-prepare.ensures.site) c.self.invariant in
-    let row : Row = record { actor = c.args.actor; event = c.args.event; reply = c.add_row-placed.result.reply } in
+    let row : Row = record {
+      actor = c.args.actor;
+      event = c.args.event;
+      reply =
+          c.add_row-placed.result.reply;
+    } in
     rw (c.add_row-placed.ensures.rows, c.tills_with-self-inside.ensures, c.sign_change.ensures)
     (
-    IsBook-push c.self.inside.config c.reserve.new.self.rows c.prepare.new.self.site c.add_row-placed.new.site.site on c.self.inside.rows.room c.add_row-placed.new.rows.room row book c.add_row-placed.ensures.step c.add_row-placed.ensures.range c.add_row-placed.ensures.till
-    (omega (arith, tills_with-most (sign_change row.actor row.event row.reply) on, c.add_row-placed.ensures.room, c.in_ok-reserve.ensures.room))
+    IsBook-push c.self.inside.config c.reserve.new.self.rows c.prepare.new.self.site
+    c.add_row-placed.new.site.site on c.self.inside.rows.room c.add_row-placed.new.rows.room row
+    book c.add_row-placed.ensures.step c.add_row-placed.ensures.range
+    c.add_row-placed.ensures.till
+    (omega (
+      arith,
+      tills_with-most (sign_change row.actor row.event row.reply) on,
+      c.add_row-placed.ensures.room,
+      c.in_ok-reserve.ensures.room,
+    ))
     (λ most. rw c.in_ok-reserve.ensures.rows (grind (arith, nat_tests)))
     )
 
 pub returns-clause-reply : goal.returns-clause-reply
 returns-clause-reply c =
     c.add_row-placed.ensures.step.replies
-    ∙ ap (λ s. reply_to s c.args.actor c.args.event) (c.in_ok-prepare.ensures.site ∙ c.self.invariant.leads)
+    ∙ ap (λ s. reply_to s c.args.actor c.args.event)
+    (c.in_ok-prepare.ensures.site ∙ c.self.invariant.leads)
     ∙ ap (λ b. book_reply b c.args.actor c.args.event) c.self.view_is
 
 pub returns-clause-growth : goal.returns-clause-growth

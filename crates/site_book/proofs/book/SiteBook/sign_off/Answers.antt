@@ -10,25 +10,35 @@ use Rattle.site_book.proofs.book.SiteBook.sign_off.Goals as goal
 
 pub add_sign_off-placed-requires-clause-row : goal.add_sign_off-placed-requires-clause-row
 add_sign_off-placed-requires-clause-row c =
-    let one : 1 ≤ tills_on c.self.inside.site.site = one_on c.self.inside.site.site c.args.t (sym c.if-not-signed_on.ensures) in
+    let one : 1 ≤ tills_on c.self.inside.site.site =
+    one_on c.self.inside.site.site c.args.t (sym c.if-not-signed_on.ensures) in
     omega (arith, one, c.self.invariant.counted, c.self.invariant.reserved)
 
 pub tills_with-self-inside-requires : goal.tills_with-self-inside-requires
 tills_with-self-inside-requires c =
-    let most : tills_on c.self.inside.site.site ≤ TILLS = no_more TILLS c.self.inside.site.site.signed_on c.self.invariant.tills in
+    let most : tills_on c.self.inside.site.site ≤ TILLS =
+    no_more TILLS c.self.inside.site.site.signed_on c.self.invariant.tills in
     omega (arith, most, c.self.invariant.counted)
 
 pub invariant_of-self : goal.invariant_of-self
 invariant_of-self c =
     let on : ℕ = c.self.inside.on in
     let left = c.add_sign_off-placed.new.rows.room in
-    let row : Row = record { actor = Actor.Till c.args.t; event = Event.SignOff; reply = c.add_sign_off-placed.result.reply } in
-    let one : 1 ≤ tills_on c.self.inside.site.site = one_on c.self.inside.site.site c.args.t (sym c.if-not-signed_on.ensures) in
+    let row : Row = record {
+      actor = Actor.Till c.args.t;
+      event = Event.SignOff;
+      reply =
+          c.add_sign_off-placed.result.reply;
+    } in
+    let one : 1 ≤ tills_on c.self.inside.site.site =
+    one_on c.self.inside.site.site c.args.t (sym c.if-not-signed_on.ensures) in
     let off : tills_after row on ≡ on - 1 = rw c.add_sign_off-placed.ensures.reply refl in
     let fewer : tills_after row on + 1 ≤ on = omega (arith, off, one, c.self.invariant.counted) in
     rw (c.add_sign_off-placed.ensures.rows, c.tills_with-self-inside.ensures, sym off)
     (
-    IsBook-push c.self.inside.config c.self.inside.rows.rows c.self.inside.site.site c.add_sign_off-placed.new.site.site on c.self.inside.rows.room left row c.self.invariant c.add_sign_off-placed.ensures.step tt c.add_sign_off-placed.ensures.till
+    IsBook-push c.self.inside.config c.self.inside.rows.rows c.self.inside.site.site
+    c.add_sign_off-placed.new.site.site on c.self.inside.rows.room left row c.self.invariant
+    c.add_sign_off-placed.ensures.step tt c.add_sign_off-placed.ensures.till
     (omega (arith, fewer, c.add_sign_off-placed.ensures.room, c.self.invariant.reserved))
     (λ most. omega (arith, fewer, c.self.invariant.few))
     )

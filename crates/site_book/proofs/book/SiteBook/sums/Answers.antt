@@ -8,4 +8,5 @@ pub returns : goal.returns
 returns c =
     let b : Book = record { config = c.self.inside.config; rows = c.self.inside.rows.rows } in
     subst DoFiguresAddUp c.self.view_is
-    (figures_add_up b c.self.invariant.legal c.self.invariant.ranges c.products.ensures.fit c.points.ensures.fit)
+    (figures_add_up b c.self.invariant.legal c.self.invariant.ranges c.products.ensures.fit
+    c.points.ensures.fit)

@@ -1,4 +1,5 @@
-use Rattle.std.proofs.Common.{◌≡◌, ℕ, ◌+◌, ◌<◌, ◌^◌, Some, None, true, length, get_or, sym, ap, subst, ◌∙◌, rules}
+use Rattle.std.proofs.Common.{◌≡◌, ℕ, ◌+◌, ◌<◌, ◌^◌, Some, None, true, length, get_or, sym, ap}
+use Rattle.std.proofs.Common.{subst, ◌∙◌, rules}
 use Rattle.shift_ledger.specs.Figures.{FitsClear}
 use Rattle.shift_ledger.specs.Shifts.{after_clear, open_number}
 use Rattle.transaction_buffer.specs.declared.request.Request.{Request}
@@ -62,7 +63,8 @@ fits c =
     let one : FitsOneClear (open_number inside.shifts.shifts) c.args.t x.0 sales =
     subst (λ h. FitsOneClear h c.args.t x.0 sales) (draws-open inside.shifts.shifts)
     ((asks c).1 x.0 x.1.there x.1.unpaid) in
-    subst (λ view. FitsClear c.args.t view.product view.volume view.cents inside.shifts.shifts.current
+    subst (λ view. FitsClear c.args.t view.product view.volume view.cents
+    inside.shifts.shifts.current
     × ((total_of c.args.t inside.tills).0 + 1 < 2 ^ 64)
     × ((total_of c.args.t inside.tills).1 + view.cents < 2 ^ 64)) x.1.shows
     (clear_fits sales inside.shifts.shifts inside.tills c.args.t x.0 c.self.invariant.figures one)

@@ -11,7 +11,8 @@ judged : (c : After-judge)
 judged c =
     let d = c.index.result.now in
     facts_there c.args.self.now c.args.point.now.number d.1 (c.requires.row d
-    ∙ ap (λ (ys : List (ℕ × Facts)). Some (get_or ys c.args.point.now.place d).1) (sym c.self.view_is)
+    ∙ ap (λ (ys : List (ℕ × Facts)). Some (get_or ys c.args.point.now.place d).1)
+    (sym c.self.view_is)
     ∙ ap (λ (x : ℕ × Facts). Some x.1) (sym c.index.ensures))
 
 pub returns-clause-accepted : goal.returns-clause-accepted

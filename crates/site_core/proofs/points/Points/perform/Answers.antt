@@ -17,7 +17,8 @@ kept : (c : After-index_mut)
 kept c =
     let d = c.index_mut.result.now in
     facts_there c.args.self.now c.args.point.now.number d.1 (c.requires.found.row d
-    ∙ ap (λ (ys : List (ℕ × Facts)). Some (get_or ys c.args.point.now.place d).1) (sym c.self.view_is)
+    ∙ ap (λ (ys : List (ℕ × Facts)). Some (get_or ys c.args.point.now.place d).1)
+    (sym c.self.view_is)
     ∙ ap (λ (x : ℕ × Facts). Some x.1) (sym c.index_mut.ensures.value))
 
 pub perform-requires-clause-accepted : goal.perform-requires-clause-accepted

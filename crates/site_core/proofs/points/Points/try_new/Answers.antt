@@ -12,5 +12,6 @@ pub invariant_of-result : goal.invariant_of-result
 invariant_of-result c =
     let entries : List PointEntry = c.args.entries.now in
     ap (λ ys. none_alike nat_eq (numbers_of ys))
-    (c.loop-entry.invariant.rows ∙ ap points_of (take_all c.loop-entry.entry-index entries c.loop-entry-test.false))
+    (c.loop-entry.invariant.rows ∙ ap points_of
+    (take_all c.loop-entry.entry-index entries c.loop-entry-test.false))
     ∙ numbers_alone entries ∙ c.requires

@@ -9,6 +9,7 @@ returns c =
     let d = c.index.result.now in
     let same : facts_in c.args.self.now c.args.point.now.number ≡ d.1 =
     facts_there c.args.self.now c.args.point.now.number d.1 (c.requires.row d
-    ∙ ap (λ (ys : List (ℕ × Facts)). Some (get_or ys c.args.point.now.place d).1) (sym c.self.view_is)
+    ∙ ap (λ (ys : List (ℕ × Facts)). Some (get_or ys c.args.point.now.place d).1)
+    (sym c.self.view_is)
     ∙ ap (λ (x : ℕ × Facts). Some x.1) (sym c.index.ensures)) in
     c.view.ensures.view ∙ ap (λ (f : Facts). point_view f None) (sym same)

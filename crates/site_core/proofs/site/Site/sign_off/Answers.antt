@@ -11,7 +11,9 @@ use Rattle.site_core.proofs.site.Site.sign_off.Goals as goal
 pub invariant_of-self : goal.invariant_of-self
 invariant_of-self c =
     let s = site_of c.self.inside.parts in
-    let signed : is_signed_on s c.args.t ≡ true = ap (λ x. is_signed_on x.site c.args.t) c.self.view_is ∙ c.requires in
-    let done : site_after s (Till c.args.t) SignOff ≡ accepted_site s (Till c.args.t) SignOff = rw signed refl in
+    let signed : is_signed_on s c.args.t ≡ true =
+    ap (λ x. is_signed_on x.site c.args.t) c.self.view_is ∙ c.requires in
+    let done : site_after s (Till c.args.t) SignOff ≡ accepted_site s (Till c.args.t) SignOff =
+    rw signed refl in
     subst Sound (sym (c.leave.ensures.site ∙ sym done))
     (stays_sound.keeps s (Till c.args.t) SignOff tt c.self.invariant)

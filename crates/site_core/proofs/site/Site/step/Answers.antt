@@ -7,7 +7,8 @@ use Rattle.site_core.proofs.site.Site.step.Goals as goal
 pub invariant_of-self : goal.invariant_of-self
 invariant_of-self c =
     subst Sound (sym c.step.ensures.steps.leads)
-    (stays_sound.keeps (site_of c.self.inside.parts) c.args.actor c.args.event c.reading.ensures.range c.self.invariant)
+    (stays_sound.keeps (site_of c.self.inside.parts) c.args.actor c.args.event
+    c.reading.ensures.range c.self.invariant)
 
 pub returns : goal.returns
 returns c = rw (← c.self.view_is) (record {

@@ -5,7 +5,9 @@ use Rattle.site_core.proofs.Reports.{IsRest, rest_told}
 use Rattle.site_core.proofs.site_parts.SiteParts.product_view.Goals as goal
 
 -- the figures that were read, as the site's rules have them
-abbrev rest : (c : goal.After-drawn_volume-adjusted) → IsRest c.product_total-metered.result (running (site_of c.args.self.now) c.args.q) c.sum-payable.result
+abbrev rest : (c : goal.After-drawn_volume-adjusted)
+    → IsRest c.product_total-metered.result (running (site_of c.args.self.now) c.args.q)
+    c.sum-payable.result
     c.sum-locked.result c.sum-cleared.result c.drawn_volume-adjusted.result
 rest c =
     rest_told (site_of c.args.self.now) c.args.q c.product_total-metered.result c.sum-payable.result

@@ -12,4 +12,5 @@ loop-till-preserved c =
     ∙ ap (λ s. insert s c.till-item.result) c.loop-till.invariant
     ∙ sym (from_list_push nat_cmp_total nat_cmp-IsAntisymmetric (take i tills) c.till-item.result)
     ∙ ap (λ x. from_list {R = nat_cmp} (take i tills ++ x ∷ [])) c.till-item.is
-    ∙ ap (from_list {R = nat_cmp}) (sym (take_more tills i c.till-item.result c.loop-till-test.true))
+    ∙ ap (from_list {R = nat_cmp})
+    (sym (take_more tills i c.till-item.result c.loop-till-test.true))

@@ -13,7 +13,8 @@ returns-in_default c =
     none_there (get_or cells c.cell-cell.result None) (λ x is. c.in_default.not-Some x
     (get_or_default cells c.cell-cell.result _ _ (omega arith) ∙ is)) in
     rw (← c.self.view_is)
-    (ap map_in (sym (set-get_or cells c.cell-cell.result None) ∙ ap (set cells c.cell-cell.result) none)
+    (ap map_in (sym (set-get_or cells c.cell-cell.result None)
+    ∙ ap (set cells c.cell-cell.result) none)
     ∙ cell_emptied cells c.cell-cell.result c.args.p c.cell-cell.ensures.place (omega arith))
 
 pub returns : goal.returns
@@ -33,5 +34,6 @@ invariant_of-self c =
     let his : get_or c.self.inside.holders c.cell-cell.result None ≡ Some c.in-Some.t =
     get_or_default c.self.inside.holders c.cell-cell.result _ _ (omega arith) ∙ c.in-Some.is in
     freed c.self.inside.holders held c.cell-cell.result k c.args.p c.in-Some.t c.remove.new.self
-    c.self.invariant c.cell-cell.ensures.place c.cell-place.ensures.place (omega arith) (omega arith)
+    c.self.invariant c.cell-cell.ensures.place c.cell-place.ensures.place (omega arith)
+    (omega arith)
     his without

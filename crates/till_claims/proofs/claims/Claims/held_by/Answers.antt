@@ -1,4 +1,5 @@
-use Rattle.std.proofs.Common.{◌≡◌, ◌+◌, ◌<◌, ℕ, ◌++◌, ◌∷◌, [], length, sym, ap, ◌∙◌, get_or, None, append-nil, append_assoc, arith}
+use Rattle.std.proofs.Common.{◌≡◌, ◌+◌, ◌<◌, ℕ, ◌++◌, ◌∷◌, [], length, sym, ap, ◌∙◌, get_or, None}
+use Rattle.std.proofs.Common.{append-nil, append_assoc, arith}
 use Rattle.std.proofs.lemmas.List.{get_or_default}
 use Rattle.site_base.specs.Cells.{entries_from}
 use Rattle.site_base.proofs.Cells.{entries_of_cells}

@@ -14,8 +14,10 @@ loop-slot-preserved c =
             room = rw w.ends-is (omega (arith, push.capacity, c.loop-slot.invariant.room));
             drawn =
                 rw (w.ends-is, push.items)
-                (All-push (IsDrawnEnd c.args.self.turns) c.loop-slot.ends.items _ c.loop-slot.invariant.drawn
-                (subst (IsSlotOf c.args.self) w.in-Some.is (c.requires.slots c.loop-slot.slot-index None (omega arith))));
+                (All-push (IsDrawnEnd c.args.self.turns) c.loop-slot.ends.items _
+                c.loop-slot.invariant.drawn
+                (subst (IsSlotOf c.args.self) w.in-Some.is
+                (c.requires.slots c.loop-slot.slot-index None (omega arith))));
           }
       | in_default w ↦ record {
         few = rw w.ends-is (omega (arith, c.loop-slot.invariant.few));

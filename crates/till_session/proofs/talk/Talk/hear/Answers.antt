@@ -16,8 +16,11 @@ returns-in_err-answer-clause-talked g c =
     let i = c.loop-message.message-index in
     let ms = c.args.messages.now in
     let p = err_from_is_err_and c.from_residual.result c.from_residual.ensures.1 in
-    let one = talked_more (Some c.in_err-answer.field-0.0) ms i c.message-item.result c.args.self.now c.loop-message.self c.answer.new.self _ _ _ _ _ _ _ _ _ (omega arith) c.message-item.is c.loop-message.invariant.talked c.in_err-answer.ensures.talked in
-    let all = talked_all c.in_err-answer.field-0.0 ms (i + 1) c.args.self.now c.answer.new.self _ _ _ _ _ _ one in
+    let one = talked_more (Some c.in_err-answer.field-0.0) ms i c.message-item.result
+    c.args.self.now c.loop-message.self c.answer.new.self _ _ _ _ _ _ _ _ _ (omega arith)
+    c.message-item.is c.loop-message.invariant.talked c.in_err-answer.ensures.talked in
+    let all = talked_all c.in_err-answer.field-0.0 ms (i + 1) c.args.self.now c.answer.new.self _ _
+    _ _ _ _ one in
     rw (p.1, p.2) all
 
 pub loop-message-preserved : goal.loop-message-preserved
@@ -25,7 +28,9 @@ loop-message-preserved g c =
     let i = c.loop-message.message-index in
     let ms = c.args.messages.now in
     record {
-      talked = talked_more None ms i c.message-item.result c.args.self.now c.loop-message.self c.answer.new.self _ _ _ _ _ _ _ _ _ (omega arith) c.message-item.is c.loop-message.invariant.talked c.in_ok-answer.ensures.talked;
+      talked = talked_more None ms i c.message-item.result c.args.self.now c.loop-message.self
+          c.answer.new.self _ _ _ _ _ _ _ _ _ (omega arith) c.message-item.is
+          c.loop-message.invariant.talked c.in_ok-answer.ensures.talked;
       writes = c.in_ok-answer.ensures.counted ∙ c.loop-message.invariant.writes;
       unturned = omega (arith, c.loop-message.invariant.unturned, c.in_ok-answer.ensures.turns);
     }

@@ -1,11 +1,13 @@
-use Rattle.std.proofs.Common.{◌≡◌, ◌+◌, ◌^◌, ◌<◌, ◌++◌, ◌∷◌, [], List, get_or, Some, is_some, sym, ap, subst, ◌∙◌, arith}
+use Rattle.std.proofs.Common.{◌≡◌, ◌+◌, ◌^◌, ◌<◌, ◌++◌, ◌∷◌, [], List, get_or, Some, is_some, sym}
+use Rattle.std.proofs.Common.{ap, subst, ◌∙◌, arith}
 use Rattle.std.specs.FinMap as finite
 use Rattle.std.proofs.Math.ListN.{set}
 use Rattle.transaction_buffer.specs.KeptSums.{AreSums}
 use Rattle.transaction_buffer.specs.Sales.{Sale, made_in, next_after, with_new}
 use Rattle.transaction_buffer.specs.Sums.{volume_of}
 use Rattle.transaction_buffer.specs.Shelves.{sales_on, stock}
-use Rattle.transaction_buffer.proofs.OnShelves.{sales_there, room_taken, room_there, shelf_filled, stock_push}
+use Rattle.transaction_buffer.proofs.OnShelves.{sales_there, room_taken, room_there, shelf_filled}
+use Rattle.transaction_buffer.proofs.OnShelves.{stock_push}
 use Rattle.transaction_buffer.proofs.Kept.{fits_more, kept_sold}
 use Rattle.transaction_buffer.proofs.Lockers.{noted_there, noted_after}
 use Rattle.transaction_buffer.proofs.Spans.{made_counts}
@@ -17,7 +19,8 @@ unwrap-seq-requires c =
     let there = sales_there c.self.inside.shelves c.cell.result c.args.p c.index-self-cell.result
     c.cell.ensures.place (omega arith) in
     let required = rw (← c.self.view_is) at c.requires.number in
-    ap is_some (c.next_seq.ensures ∙ sym (ap (λ (xs : List Sale). next_after (made_in c.args.shift xs)) there))
+    ap is_some (c.next_seq.ensures
+    ∙ sym (ap (λ (xs : List Sale). next_after (made_in c.args.shift xs)) there))
     ∙ required
 
 pub push-requires-clause-room : goal.push-requires-clause-room
@@ -58,7 +61,8 @@ sold c =
     (added ∙ ap (λ (xs : List Sale). xs ++ x ∷ []) (sym there))
 
 fitting : (c : After-push)
-    → volume_of c.new-sale.result.product (sales_on c.self.inside.shelves) + c.new-sale.result.volume
+    → volume_of c.new-sale.result.product (sales_on c.self.inside.shelves)
+    + c.new-sale.result.volume
     < 2 ^ 64
 fitting c =
     let required = rw (← c.self.view_is) at c.requires.fits in
@@ -79,7 +83,8 @@ push-requires-clause-order c =
 pub returns-clause-sales : goal.returns-clause-sales
 returns-clause-sales c =
     rw (← c.self.view_is) (sold (goal.at.returns-clause-sales c).After-push
-    ∙ ap (λ (x : Sale). with_new c.args.p x (sales_on c.self.inside.shelves)) c.new-sale.ensures.value)
+    ∙ ap (λ (x : Sale). with_new c.args.p x (sales_on c.self.inside.shelves))
+    c.new-sale.ensures.value)
 
 pub returns-clause-rooms : goal.returns-clause-rooms
 returns-clause-rooms c =
@@ -92,7 +97,8 @@ add-requires c =
     ap (λ (x : Sale). x.product) c.new-sale.ensures.value in
     fits_more (sales_on c.self.inside.shelves) c.self.inside.sums c.args.p c.new-sale.result
     c.self.invariant.sums (fitting (goal.at.add-requires c).After-push)
-    (omega (arith, product, c.new-sale.ensures.range)) (omega (arith, product, c.new-sale.ensures.range))
+    (omega (arith, product, c.new-sale.ensures.range))
+    (omega (arith, product, c.new-sale.ensures.range))
 
 pub note-requires : goal.note-requires
 note-requires c =

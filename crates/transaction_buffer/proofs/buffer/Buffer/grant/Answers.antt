@@ -1,11 +1,14 @@
-use Rattle.std.proofs.Common.{◌≡◌, ℕ, List, get_or, Option, Some, None, sym, ap, subst, ◌∙◌, arith, refl}
+use Rattle.std.proofs.Common.{◌≡◌, ℕ, List, get_or, Option, Some, None, sym, ap, subst, ◌∙◌, arith}
+use Rattle.std.proofs.Common.{refl}
 use Rattle.std.proofs.Math.ListN.{set}
 use Rattle.std.specs.FinMap as finite
 use Rattle.transaction_buffer.specs.KeptSums.{AreSums}
 use Rattle.transaction_buffer.specs.FoundSales.{key_of}
-use Rattle.transaction_buffer.specs.Sales.{Sale, is_unpaid, sale_in, sale_of, sales_at, with_in, with_sale}
+use Rattle.transaction_buffer.specs.Sales.{Sale, is_unpaid, sale_in, sale_of, sales_at, with_in}
+use Rattle.transaction_buffer.specs.Sales.{with_sale}
 use Rattle.transaction_buffer.specs.Shelves.{stock, sales_on}
-use Rattle.transaction_buffer.specs.TransactionTable.{line_for, line_of, refusal_in, sale_after_request}
+use Rattle.transaction_buffer.specs.TransactionTable.{line_for, line_of, refusal_in}
+use Rattle.transaction_buffer.specs.TransactionTable.{sale_after_request}
 use Rattle.transaction_buffer.proofs.Accepted.{IsAccepted, accepted, granted}
 use Rattle.transaction_buffer.proofs.FoundSales.{found_there}
 use Rattle.transaction_buffer.proofs.Kept.{among, fits_again, kept_replaced}
@@ -70,7 +73,8 @@ written c =
     let new : Sale = c.grant-new.result.0 in
     let here = sales_there shelves c.cell.result found.point d c.cell.ensures.place (omega arith) in
     let placed = rw (← c.self.view_is) at c.requires.placed in
-    let stands = found_there found shelves c.cell.result d c.cell.ensures.place (omega arith) placed in
+    let stands = found_there found shelves c.cell.result d c.cell.ensures.place (omega arith)
+    placed in
     let put : c.put.new.self.sales ≡ with_in found.shift found.number new old =
     c.put.ensures.sales ∙ sym (stands.write new) in
     let some : stock c.put.new.self.sales ≡ Some c.put.new.self.sales =
@@ -80,11 +84,13 @@ written c =
     let changed : c.put.new.self.sales
     ≡ with_in found.shift found.number new (sales_at found.point (sales_on shelves)) =
     put ∙ ap (with_in found.shift found.number new) (sym here) in
-    shelf_filled shelves c.cell.result found.point c.put.new.self c.cell.ensures.place (omega arith) some
+    shelf_filled shelves c.cell.result found.point c.put.new.self c.cell.ensures.place (omega arith)
+    some
     ∙ ap (finite.insert (sales_on shelves) found.point) changed
 
 pub put-requires-clause-within : goal.put-requires-clause-within
-put-requires-clause-within c = (at (goal.at.put-requires-clause-within c).After-lockers-before).within
+put-requires-clause-within c =
+    (at (goal.at.put-requires-clause-within c).After-lockers-before).within
 
 pub put-requires-clause-unpaid : goal.put-requires-clause-unpaid
 put-requires-clause-unpaid c =

@@ -1,4 +1,5 @@
-use Rattle.std.proofs.Common.{◌≡◌, ℕ, ◌+◌, ◌<◌, [], length, get_or, refl, sym, subst, ◌∙◌, arith, rules}
+use Rattle.std.proofs.Common.{◌≡◌, ℕ, ◌+◌, ◌<◌, [], length, get_or, refl, sym, subst, ◌∙◌, arith}
+use Rattle.std.proofs.Common.{rules}
 use Rattle.transaction_buffer.specs.KeptSums.{AreSums}
 use Rattle.transaction_buffer.specs.Sales.{no_sales}
 use Rattle.transaction_buffer.specs.Shelves.{Shelf, sales_on}

@@ -1,6 +1,7 @@
 use Rattle.std.proofs.Common.{◌≡◌, Result, Ok, Err, OnErr, refl, sym, subst, arith}
 use Rattle.std.proofs.Math.ListN.{set}
-use Rattle.transaction_buffer.proofs.OnShelves.{shelf_same, room_written, room_elsewhere, room_kept, rooms_same}
+use Rattle.transaction_buffer.proofs.OnShelves.{shelf_same, room_written, room_elsewhere, room_kept}
+use Rattle.transaction_buffer.proofs.OnShelves.{rooms_same}
 use Rattle.transaction_buffer.specs.Rooms.{Buffered}
 use Rattle.transaction_buffer.specs.Shelves.{sales_on, rooms_on}
 use Rattle.transaction_buffer.proofs.Lockers.{noted_same}

@@ -10,7 +10,8 @@ its_span : (c : After-get-number)
     → IsSpan c.args.shift (shifts_of c.self.inside.sales.items) c.span_of-span.result
 its_span c =
     let span : c.span_of-span.result ≡ get_or c.self.inside.spans.items (c.args.shift - 1) no_span =
-    c.span_of-span.ensures.span ∙ ap (λ ys. get_or ys (c.args.shift - 1) no_span) c.deref.ensures.value in
+    c.span_of-span.ensures.span ∙ ap (λ ys. get_or ys (c.args.shift - 1) no_span)
+    c.deref.ensures.value in
     let range = c.span_of-span.ensures.range in
     subst (λ (s : Span). IsSpan c.args.shift (shifts_of c.self.inside.sales.items) s) (sym span)
     (c.self.invariant.spans c.args.shift range.0 range.1)

@@ -1,4 +1,5 @@
-use Rattle.std.proofs.Common.{◌≡◌, ◌≤◌, ◌+◌, ◌-◌, ◌∷◌, [], List, ◌++◌, length, get_or, if◌then◌else◌, vec_len, vec_capacity, sym, ap, subst, ◌∙◌, arith}
+use Rattle.std.proofs.Common.{◌≡◌, ◌≤◌, ◌+◌, ◌-◌, ◌∷◌, [], List, ◌++◌, length, get_or}
+use Rattle.std.proofs.Common.{if◌then◌else◌, vec_len, vec_capacity, sym, ap, subst, ◌∙◌, arith}
 use Rattle.std.proofs.Math.ListN.{set}
 use Rattle.std.proofs.lemmas.List.{length-map, length-set, get_or_default}
 use Rattle.site_base.specs.declared.limits.TheConstants.{GREATEST_SHIFT}
@@ -24,7 +25,8 @@ its_span : (c : After-index-span)
     → c.index-span.result.now ≡ get_or c.self.inside.spans.items (c.from-cell.result - 1) no_span
 its_span c =
     let cells = full c in
-    c.index-span.ensures ∙ get_or_default c.self.inside.spans.items (c.from-cell.result - 1) _ no_span
+    c.index-span.ensures ∙ get_or_default c.self.inside.spans.items (c.from-cell.result - 1) _
+    no_span
     (omega (arith, cells))
 
 pub grown-requires : goal.grown-requires
@@ -53,10 +55,12 @@ invariant_of-self c =
     let span : c.grown.result ≡ grown (get_or cells i no_span) (length (shifts_of xs)) =
     c.grown.ensures ∙ ap (λ s. grown s c.len-place.result) (its_span d)
     ∙ ap (λ n. grown (get_or cells i no_span) n) (omega (arith, count)) in
-    let spans = spans_grown (shifts_of xs) x.shift requires.order (omega arith) cells i (omega arith)
+    let spans = spans_grown (shifts_of xs) x.shift requires.order (omega arith) cells i
+    (omega arith)
     (omega (arith, whole)) (omega (arith, made_counts x.shift xs, requires.number))
     c.self.invariant.spans in
-    let as_many : length (set cells i c.grown.result) ≡ length cells = length-set cells i c.grown.result in
+    let as_many : length (set cells i c.grown.result) ≡ length cells =
+    length-set cells i c.grown.result in
     let place : c.len-place.result ≡ length xs = omega arith in
     let unpaid : unpaid_among (xs ++ x ∷ []) ≤ unpaid_among xs + 1 = unpaid_push xs x in
     rw c.push_reserved.ensures.items (record {
@@ -73,6 +77,7 @@ invariant_of-self c =
           c.self.invariant.places requires.unpaid c.is_unpaid.result c.is_unpaid.ensures));
       few = omega (arith, as_many, whole);
       spans = subst (λ s. AreSpans (shifts_of (xs ++ x ∷ [])) (set cells i s)) (sym span)
-          (subst (λ gs. AreSpans gs (set cells i (grown (get_or cells i no_span) (length (shifts_of xs)))))
+          (subst (λ gs. AreSpans gs (set cells i
+          (grown (get_or cells i no_span) (length (shifts_of xs)))))
           (sym (shifts_pushed xs x)) spans);
     })

@@ -1,4 +1,5 @@
-use Rattle.std.proofs.Common.{◌≡◌, ◌+◌, ◌≤◌, cond, if◌then◌else◌, true, List, get_or, sym, ap, subst, arith}
+use Rattle.std.proofs.Common.{◌≡◌, ◌+◌, ◌≤◌, cond, if◌then◌else◌, true, List, get_or, sym, ap}
+use Rattle.std.proofs.Common.{subst, arith}
 use Rattle.std.proofs.Math.ListN.{set}
 use Rattle.transaction_buffer.specs.Sales.{Sale, is_unpaid, unpaid_among}
 use Rattle.transaction_buffer.specs.Shelves.{AreSpans, shifts_of}
@@ -21,8 +22,10 @@ invariant_of-self c =
     let fewer : unpaid_among (set xs i x) ≤ unpaid_among xs = unpaid_set xs i x x within unpaid in
     let a = c.self.inside.unpaid.one in
     let b = c.self.inside.unpaid.other in
-    let places : AreUnpaid (set xs i x) c.after_change-self-inside.result.one c.after_change-self-inside.result.other =
-    subst (λ o. AreUnpaid (set xs i x) o c.after_change-self-inside.result.other) (sym c.after_change-self-inside.ensures.one)
+    let places : AreUnpaid (set xs i x) c.after_change-self-inside.result.one
+    c.after_change-self-inside.result.other =
+    subst (λ o. AreUnpaid (set xs i x) o c.after_change-self-inside.result.other)
+    (sym c.after_change-self-inside.ensures.one)
     (subst (λ o. AreUnpaid (set xs i x) (if c.is_unpaid.result then a else place_without a i) o)
     (sym c.after_change-self-inside.ensures.other)
     (places_put xs i x x a b c.self.invariant.places within unpaid moved c.is_unpaid.result
