@@ -2,6 +2,7 @@
 
 mod calls;
 mod crew_day;
+mod day;
 mod dispensers;
 mod full_desk;
 mod full_list;
@@ -9,6 +10,5 @@ mod held_call;
 mod no_lists;
 mod refused;
 mod share_out;
-mod site;
 mod snapshot;
 mod unstarted;

@@ -23,11 +23,15 @@ known_point p = record { number = p; nozzles = known_nozzles }
 abbrev pub known_points : List PointEntry
 known_points = known_point 1 ∷ known_point 2 ∷ known_point 3 ∷ known_point 4 ∷ known_point 5 ∷ []
 
--- two products, five points of two nozzles, till 1 a manager
-abbrev pub known_site : Configured
-known_site = record {
-  rows = 1000000;
+-- two products, five points of two nozzles, till 1 a manager, and a book of so many rows
+abbrev pub known_site_of : ℕ → Configured
+known_site_of rows = record {
+  rows = rows;
   managers = 1 ∷ [];
   products = diesel ∷ petrol ∷ [];
   points = known_points;
 }
+
+-- the same, with as many rows as a site file may allow
+abbrev pub known_site : Configured
+known_site = known_site_of 1000000

@@ -29,6 +29,6 @@ pub use laws::{
 pub use line::LINE_OCTETS;
 pub use numbers::NumberMeaning;
 pub use site_book::SiteBook;
-pub use sites::known_site;
+pub use sites::{known_site, known_site_of};
 pub use sizes::Sizes;
 pub use trace::{Explained, Trace};

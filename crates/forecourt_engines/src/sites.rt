@@ -1,8 +1,9 @@
 //! The site that the program knows by itself.
 
 ghost use Rattle.std.specs.Prelude.{◌≡◌, ◌≤◌, true, IfOk};
+ghost use Rattle.site_base.specs.declared.limits.TheConstants.{GREATEST_ROWS};
 ghost use Rattle.site_base.specs.Names.{is_name};
-ghost use Rattle.forecourt_engines.specs.Sites.{known_site, known_points, known_point};
+ghost use Rattle.forecourt_engines.specs.Sites.{known_site, known_site_of, known_points, known_point};
 
 use site_base::{
     FpNo, GREATEST_PRICE, GREATEST_READING, GREATEST_ROWS, Listing, Millilitres, Mills, NoMemory,
@@ -11,11 +12,19 @@ use site_base::{
 };
 use std::alloc::Global;
 
-/// Two products (diesel at 1500 mills, petrol at 1799), five fuelling points that each have a
-/// nozzle of diesel from reading 0 and a nozzle of petrol from reading 1000, and till 1 as a
-/// manager.
+/// The known site, with as many rows as a site file may allow.
 pub fn known_site(alloc: Global) -> Result<SiteConfig, NoMemory>
     ensures { IfOk result (λ config. config ≡ known_site) }
+{
+    known_site_of(alloc, GREATEST_ROWS)
+}
+
+/// Two products (diesel at 1500 mills, petrol at 1799), five fuelling points that each have a
+/// nozzle of diesel from reading 0 and a nozzle of petrol from reading 1000, and till 1 as a
+/// manager. Its book has at most so many rows.
+pub fn known_site_of(alloc: Global, rows: u32) -> Result<SiteConfig, NoMemory>
+    requires { (1 ≤ rows) × (rows ≤ GREATEST_ROWS) }
+    ensures { IfOk result (λ config. config ≡ known_site_of rows) }
 {
     let mut managers = Vec::new(alloc);
     managers.push(TillNo::new(1).unwrap())?;
@@ -23,7 +32,7 @@ pub fn known_site(alloc: Global) -> Result<SiteConfig, NoMemory>
     products.push(product(alloc, 1, "diesel", 1500)?)?;
     products.push(product(alloc, 2, "petrol", 1799)?)?;
     let points = points(alloc)?;
-    Ok(SiteConfig::try_new(GREATEST_ROWS, managers, products, points).unwrap())
+    Ok(SiteConfig::try_new(rows, managers, products, points).unwrap())
 }
 
 fn product(alloc: Global, number: u8, name: &str, price: u32) -> Result<ProductEntry, NoMemory>

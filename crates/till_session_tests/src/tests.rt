@@ -10,6 +10,5 @@ mod refused;
 mod replies;
 mod served;
 mod sessions;
-mod site;
 mod spelling;
 mod streams;

@@ -3,8 +3,8 @@
 ghost use Rattle.std.specs.Prelude.{◌≡◌, ◌^◌};
 
 use super::calls::{clears, setup};
-use super::site::five_points;
 use counter_desk::{Desk, Naming, OpenGate, Root, Settled, crew};
+use forecourt_engines::known_site_of;
 use site_base::{NoMemory, SiteConfig};
 use std::alloc::Global;
 use std::marker::Brand;
@@ -16,7 +16,7 @@ use std::thread::Threads;
 
 #[test]
 fn crew_day(rt: HostRuntime) -> Result<(), Fail> {
-    let config = five_points(&rt, rt.alloc(), 1_000_000)?;
+    let config = known_site_of(rt.alloc(), 1_000_000)?;
     for _ in 0..20 {
         let settled = one_day(&rt, rt.alloc(), &config)?;
         assert_eq!(rt; settled.rows, 81);

@@ -1,65 +1,49 @@
 //! A worker whose list goes on when the book is full: it stops there, and signs its tills off.
 
-ghost use Rattle.std.specs.Prelude.{◌≡◌, ◌^◌};
-
 use super::calls::{Calls, by_till, point};
-use super::site::five_points;
-use counter_desk::{Desk, Naming, OpenGate, Settled, WorkFault, work};
-use site_base::{Event, NoMemory, SiteConfig};
+use super::day::{Day, run_day};
+use counter_desk::{Desk, Naming, OpenGate, Share, WorkFault, work};
+use forecourt_engines::known_site_of;
+use site_base::{Event, NoMemory};
 use std::alloc::Global;
-use std::marker::Brand;
 use std::process::Abort;
 use std::sync::Wait;
-use std::sync::ledger::{Blank, Ledger};
+use std::sync::ledger::Ledger;
 use std::test::Fail;
 
 #[test]
 fn full_list(rt: HostRuntime) -> Result<(), Fail> {
-    let config = five_points(&rt, rt.alloc(), 3)?;
-    let settled = one_day(&rt, rt.alloc(), &config)?;
+    let config = known_site_of(rt.alloc(), 3)?;
+    let calls = four_calls(&rt, rt.alloc())?;
+    let settled = run_day(&rt, rt.alloc(), &config, &mut FullList { calls })?;
     assert_eq!(rt; settled.rows, 5);
     assert_eq!(rt; settled.shares, 1);
     Ok(())
 }
 
-fn one_day<R: Wait + Abort>(
-    rt: &R,
-    alloc: Global,
-    config: &SiteConfig,
-) -> Result<Settled, NoMemory> {
-    day_of::<Brand, Brand, R>(rt, alloc, Blank::new(1 << 63), config)
+/// Four calls, where the book allows three rows.
+#[derive(Drop)]
+struct FullList {
+    calls: Calls,
 }
 
-fn day_of<L: Ledger, C: Naming, R: Wait + Abort>(
-    rt: &R,
-    alloc: Global,
-    blank: Blank,
-    config: &SiteConfig,
-) -> Result<Settled, NoMemory>
-    requires ledger { (blank.name ≡ L.name) × (blank.parts ≡ L.parts) × (blank.parts ≡ 2 ^ 63) }
-    requires config { config.now ≡ C.config }
-{
-    let (desk, root) = Desk::<L, C>::try_open(alloc, blank, config)?;
-    let mut root = root;
-    let calls = four_calls(rt, alloc)?;
-    match root.give() {
-        Ok(share) => {
-            let mut share = share;
-            let end = work(rt, &desk, &mut share, &OpenGate, &calls);
-            assert!(rt; end.placed == 3 && end.accepted == 3);
-            assert!(rt;
-                end.fault == Some(WorkFault::BookFull),
-                "the book isn't full"
-            );
-            assert_eq!(rt; share.calls(), 5);
-            root.take_back(share);
-        }
-        Err(NoMemory) => panic!(rt; "no share"),
-    }
-    assert!(rt; root.out() == 0, "a share is out");
-    match desk.settle(alloc, root) {
-        Ok(settled) => Ok(settled),
-        Err(_) => panic!(rt; "the day isn't settled"),
+impl Day for FullList {
+    fn work<L: Ledger, C: Naming, R: Wait + Abort + Eprint>(
+        &mut self,
+        rt: &R,
+        _alloc: Global,
+        desk: &Desk<L, C>,
+        share: Share<L, C>,
+    ) -> Share<L, C> {
+        let mut share = share;
+        let end = work(rt, desk, &mut share, &OpenGate, &self.calls);
+        assert!(rt; end.placed == 3 && end.accepted == 3);
+        assert!(rt;
+            end.fault == Some(WorkFault::BookFull),
+            "the book isn't full"
+        );
+        assert_eq!(rt; share.calls(), 5);
+        share
     }
 }
 

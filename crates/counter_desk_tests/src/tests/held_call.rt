@@ -4,9 +4,9 @@
 ghost use Rattle.std.specs.Prelude.{◌≡◌, ◌^◌};
 
 use super::calls::{Calls, by_till};
-use super::site::five_points;
 use counter_desk::testing::HoldingGate;
 use counter_desk::{Desk, Naming, Root, Settled, crew};
+use forecourt_engines::known_site_of;
 use site_base::{Actor, Event, NoMemory, SiteConfig};
 use std::alloc::Global;
 use std::marker::Brand;
@@ -18,7 +18,7 @@ use std::thread::Threads;
 
 #[test]
 fn held_call(rt: HostRuntime) -> Result<(), Fail> {
-    let config = five_points(&rt, rt.alloc(), 1_000_000)?;
+    let config = known_site_of(rt.alloc(), 1_000_000)?;
     for held in 1..3 {
         let settled = one_day(&rt, rt.alloc(), &config, held)?;
         assert_eq!(rt; settled.rows, 4);

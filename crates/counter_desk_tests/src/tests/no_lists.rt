@@ -2,8 +2,8 @@
 
 ghost use Rattle.std.specs.Prelude.{◌≡◌, ◌^◌};
 
-use super::site::five_points;
 use counter_desk::{Desk, Naming, OpenGate, Settled, crew};
+use forecourt_engines::known_site_of;
 use site_base::{NoMemory, SiteConfig};
 use std::alloc::Global;
 use std::marker::Brand;
@@ -15,7 +15,7 @@ use std::thread::Threads;
 
 #[test]
 fn no_lists(rt: HostRuntime) -> Result<(), Fail> {
-    let config = five_points(&rt, rt.alloc(), 1_000_000)?;
+    let config = known_site_of(rt.alloc(), 1_000_000)?;
     let settled = one_day(&rt, rt.alloc(), &config)?;
     assert_eq!(rt; settled.rows, 0);
     assert_eq!(rt; settled.shares, 0);

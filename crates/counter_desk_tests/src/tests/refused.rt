@@ -1,40 +1,33 @@
 //! A day of one share: a sale is paid, and a snapshot sees it. Each allocation may fail once.
 
-ghost use Rattle.std.specs.Prelude.{◌≡◌, ◌^◌};
-
 use super::calls::{by_till, hang_up, lift, point, sale, till};
-use super::site::five_points;
-use counter_desk::{Desk, Naming, SettleFault, Settled, Share, Unsettled};
+use super::day::{Day, run_day, say_failed};
+use counter_desk::{Desk, Naming, Share};
+use forecourt_engines::known_site_of;
 use site_base::{
     Actor, Answer, Cents, Event, NoMemory, NoRow, PointState, Preset, ProductView, Refusal, Reply,
-    SiteConfig, TILLS, growth_in_reply,
+    TILLS, growth_in_reply,
 };
 use std::alloc::Global;
-use std::marker::Brand;
 use std::process::Abort;
 use std::sync::Wait;
-use std::sync::ledger::{Blank, Ledger};
+use std::sync::ledger::Ledger;
 use std::test::Fail;
-
-/// Says that an allocation failed in this run.
-fn said(rt: &impl Eprint) {
-    let _ = rt.eprintln("an allocation failed");
-}
 
 #[test]
 fn each_refused(rt: HostRuntime) -> Result<(), Fail> {
-    let config = match five_points(&rt, rt.alloc(), 1_000_000) {
+    let config = match known_site_of(rt.alloc(), 1_000_000) {
         Ok(config) => config,
         Err(NoMemory) => {
-            said(&rt);
-            five_points(&rt, rt.alloc(), 1_000_000)?
+            say_failed(&rt);
+            known_site_of(rt.alloc(), 1_000_000)?
         }
     };
-    let settled = match one_day(&rt, rt.alloc(), &config) {
+    let settled = match run_day(&rt, rt.alloc(), &config, &mut PaidDay) {
         Ok(settled) => settled,
         Err(NoMemory) => {
-            said(&rt);
-            one_day(&rt, rt.alloc(), &config)?
+            say_failed(&rt);
+            run_day(&rt, rt.alloc(), &config, &mut PaidDay)?
         }
     };
     assert_eq!(rt; settled.rows, 12);
@@ -44,66 +37,26 @@ fn each_refused(rt: HostRuntime) -> Result<(), Fail> {
     Ok(())
 }
 
-fn one_day<R: Wait + Abort + Eprint>(
-    rt: &R,
-    alloc: Global,
-    config: &SiteConfig,
-) -> Result<Settled, NoMemory> {
-    day_of::<Brand, Brand, R>(rt, alloc, Blank::new(1 << 63), config)
-}
+/// A day in which a sale is paid.
+#[derive(Drop)]
+struct PaidDay;
 
-fn day_of<L: Ledger, C: Naming, R: Wait + Abort + Eprint>(
-    rt: &R,
-    alloc: Global,
-    blank: Blank,
-    config: &SiteConfig,
-) -> Result<Settled, NoMemory>
-    requires ledger { (blank.name ≡ L.name) × (blank.parts ≡ L.parts) × (blank.parts ≡ 2 ^ 63) }
-    requires config { config.now ≡ C.config }
-{
-    let (desk, root) = Desk::<L, C>::try_open(alloc, blank, config)?;
-    let mut root = root;
-    let given = match root.give() {
-        Ok(share) => Ok(share),
-        Err(NoMemory) => {
-            said(rt);
-            root.give()
-        }
-    };
-    match given {
-        Ok(share) => {
-            let mut share = share;
-            pay(rt, alloc, &desk, &mut share);
-            see(rt, alloc, &desk, 10);
-            leave(rt, &desk, &mut share, 1);
-            leave(rt, &desk, &mut share, 2);
-            assert!(rt; share.calls() == 12 && share.cents() == 1_500);
-            assert_eq!(rt; share.millilitres(), 10_000);
-            root.take_back(share);
-        }
-        Err(NoMemory) => panic!(rt; "no share"),
-    }
-    assert!(rt; root.out() == 0, "a share is out");
-    match desk.settle(alloc, root) {
-        Ok(settled) => Ok(settled),
-        Err(unsettled) => {
-            said(rt);
-            Ok(settled_again(rt, alloc, unsettled))
-        }
-    }
-}
-
-fn settled_again<L: Ledger, C: Naming, R: Abort>(
-    rt: &R,
-    alloc: Global,
-    unsettled: Unsettled<L, C>,
-) -> Settled {
-    let Unsettled { fault, desk, root } = unsettled;
-    assert!(rt; fault == SettleFault::NoMemory, "a strange receipt");
-    assert!(rt; root.out() == 0, "a share is out");
-    match desk.settle(alloc, root) {
-        Ok(settled) => settled,
-        Err(_) => panic!(rt; "the day isn't settled"),
+impl Day for PaidDay {
+    fn work<L: Ledger, C: Naming, R: Wait + Abort + Eprint>(
+        &mut self,
+        rt: &R,
+        alloc: Global,
+        desk: &Desk<L, C>,
+        share: Share<L, C>,
+    ) -> Share<L, C> {
+        let mut share = share;
+        pay(rt, alloc, desk, &mut share);
+        see(rt, alloc, desk, 10);
+        leave(rt, desk, &mut share, 1);
+        leave(rt, desk, &mut share, 2);
+        assert!(rt; share.calls() == 12 && share.cents() == 1_500);
+        assert_eq!(rt; share.millilitres(), 10_000);
+        share
     }
 }
 
@@ -121,7 +74,7 @@ fn make_call<L: Ledger, C: Naming, R: Wait + Abort + Eprint>(
     owes_both(rt, share, calls);
     match &desk.submit(rt, share, *actor, *event) {
         Ok(placed) => return placed.reply,
-        Err(NoRow::NoMemory) => said(rt),
+        Err(NoRow::NoMemory) => say_failed(rt),
         Err(NoRow::BookFull) => panic!(rt; "the book is full"),
     }
     assert_eq!(rt; share.calls(), calls);
@@ -196,7 +149,7 @@ pub fn see<L: Ledger, C: Naming, R: Wait + Abort + Eprint>(
     let totals = match desk.snapshot(rt, alloc) {
         Ok(totals) => Ok(totals),
         Err(NoMemory) => {
-            said(rt);
+            say_failed(rt);
             desk.snapshot(rt, alloc)
         }
     };

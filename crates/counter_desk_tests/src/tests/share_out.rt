@@ -4,8 +4,8 @@ ghost use Rattle.std.specs.Prelude.{◌≡◌, ◌^◌};
 
 use super::calls::{by_till, point};
 use super::refused::leave;
-use super::site::five_points;
 use counter_desk::{Desk, Naming, Root, SettleFault, Settled, Share, Unsettled, settle_all};
+use forecourt_engines::known_site_of;
 use site_base::{Event, NoMemory, SiteConfig};
 use std::alloc::Global;
 use std::marker::Brand;
@@ -16,7 +16,7 @@ use std::test::Fail;
 
 #[test]
 fn share_out(rt: HostRuntime) -> Result<(), Fail> {
-    let config = five_points(&rt, rt.alloc(), 1_000_000)?;
+    let config = known_site_of(rt.alloc(), 1_000_000)?;
     let settled = one_day(&rt, rt.alloc(), &config)?;
     assert_eq!(rt; settled.rows, 3);
     assert_eq!(rt; settled.shares, 1);

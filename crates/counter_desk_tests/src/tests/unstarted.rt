@@ -4,8 +4,8 @@
 ghost use Rattle.std.specs.Prelude.{◌≡◌, ◌^◌};
 
 use super::calls::{Calls, by_till};
-use super::site::five_points;
 use counter_desk::{Desk, ListEnd, Naming, OpenGate, Settled, WorkFault, crew};
+use forecourt_engines::known_site_of;
 use site_base::{Event, NoMemory, SiteConfig};
 use std::alloc::Global;
 use std::marker::Brand;
@@ -17,7 +17,7 @@ use std::thread::Threads;
 
 #[test]
 fn each_unstarted(rt: HostRuntime) -> Result<(), Fail> {
-    let config = five_points(&rt, rt.alloc(), 1_000_000)?;
+    let config = known_site_of(rt.alloc(), 1_000_000)?;
     let (started, settled) = one_day(&rt, rt.alloc(), &config)?;
     assert_eq!(rt; settled.shares, started);
     // A SignOn of each, and its sign-off.

@@ -4,7 +4,7 @@ use super::calls::{TWO_TILLS, TWO_TILLS_TOLD, octets};
 use super::noting::Call;
 use super::peers::Peer;
 use super::sessions::{Seen, session};
-use super::site::five_points;
+use forecourt_engines::known_site_of;
 use site_base::{NoMemory, ReadFault, TillNo, WriteFault};
 use std::alloc::Global;
 use std::process::Abort;
@@ -14,7 +14,7 @@ use till_session::{SessionFault, TalkFault};
 #[test]
 fn each_call_fails(rt: HostRuntime) -> Result<(), Fail> {
     let alloc = rt.alloc();
-    let config = five_points(&rt, alloc, 1_000_000)?;
+    let config = known_site_of(alloc, 1_000_000)?;
     // The text of 36 octets takes eight reads of at most 5. A reply of 16 takes four writes of at
     // most 5, the one of 13 takes three.
     for (most, reads, writes) in [(usize::MAX, 1u64, 3u64), (5, 8, 11)] {
@@ -105,7 +105,7 @@ fn left(rt: &impl Abort) -> Call {
 #[test]
 fn the_reader_fails(rt: HostRuntime) -> Result<(), Fail> {
     let alloc = rt.alloc();
-    let config = five_points(&rt, alloc, 1_000_000)?;
+    let config = known_site_of(alloc, 1_000_000)?;
     let told = octets(&rt, alloc, TWO_TILLS_TOLD)?;
     let input = octets(&rt, alloc, TWO_TILLS)?;
     assert!(rt; input.len() == 36 && told.len() == 45);
@@ -128,7 +128,7 @@ fn the_reader_fails(rt: HostRuntime) -> Result<(), Fail> {
 #[test]
 fn a_writer_takes_nothing(rt: HostRuntime) -> Result<(), Fail> {
     let alloc = rt.alloc();
-    let config = five_points(&rt, alloc, 1_000_000)?;
+    let config = known_site_of(alloc, 1_000_000)?;
     let mut peer = Peer::of(octets(&rt, alloc, TWO_TILLS)?);
     peer.write_most = 0;
     let seen = session(&rt, alloc, &config, &[], peer)?;
@@ -141,7 +141,7 @@ fn a_writer_takes_nothing(rt: HostRuntime) -> Result<(), Fail> {
 #[test]
 fn turns_are_used_up(rt: HostRuntime) -> Result<(), Fail> {
     let alloc = rt.alloc();
-    let config = five_points(&rt, alloc, 1_000_000)?;
+    let config = known_site_of(alloc, 1_000_000)?;
     let input = octets(&rt, alloc, TWO_TILLS)?;
     assert!(rt; input.len() == 36);
     for (turns, asked) in [(0u64, 0usize), (1, 2)] {
@@ -158,7 +158,7 @@ fn turns_are_used_up(rt: HostRuntime) -> Result<(), Fail> {
 #[test]
 fn writes_are_interrupted_without_end(rt: HostRuntime) -> Result<(), Fail> {
     let alloc = rt.alloc();
-    let config = five_points(&rt, alloc, 1_000_000)?;
+    let config = known_site_of(alloc, 1_000_000)?;
     let told = octets(&rt, alloc, TWO_TILLS_TOLD)?;
     // The first write that is interrupted, and the most that a call moves; how often was read, what
     // was told, how many requests were asked and how many replies written.
@@ -193,7 +193,7 @@ fn writes_are_interrupted_without_end(rt: HostRuntime) -> Result<(), Fail> {
 #[test]
 fn an_interrupted_write_is_made_again(rt: HostRuntime) -> Result<(), Fail> {
     let alloc = rt.alloc();
-    let config = five_points(&rt, alloc, 1_000_000)?;
+    let config = known_site_of(alloc, 1_000_000)?;
     // One read, nine interrupted writes, and no turn is left; three writes are made.
     for first in 1..4 {
         let mut peer = Peer::of(octets(&rt, alloc, TWO_TILLS)?);

@@ -4,7 +4,7 @@ use super::calls::{THREE_REQUESTS, THREE_TOLD, octets};
 use super::noting::Call;
 use super::peers::Peer;
 use super::sessions::session;
-use super::site::five_points;
+use forecourt_engines::known_site_of;
 use site_base::TillNo;
 use std::test::Fail;
 
@@ -14,7 +14,7 @@ const ONE_BY_ONE: &[(u64, usize)] = &[(0, 12), (16, 24), (32, 34)];
 #[test]
 fn each_reply_is_written_before_the_next_request_is_asked(rt: HostRuntime) -> Result<(), Fail> {
     let alloc = rt.alloc();
-    let config = five_points(&rt, alloc, 1_000_000)?;
+    let config = known_site_of(alloc, 1_000_000)?;
     let told = octets(&rt, alloc, THREE_TOLD)?;
     for waits in [false, true] {
         for most in [usize::MAX, 5] {

@@ -4,7 +4,7 @@ use super::calls::{TWO_TILLS, octets};
 use super::noting::Call;
 use super::peers::Peer;
 use super::sessions::{Seen, session};
-use super::site::five_points;
+use forecourt_engines::known_site_of;
 use site_base::{NoMemory, SiteConfig, TillNo};
 use std::alloc::Global;
 use std::process::Abort;
@@ -60,7 +60,7 @@ fn session_refused(rt: HostRuntime) -> Result<(), Fail> {
 }
 
 fn one_run<R: Wait + Abort>(rt: &R, alloc: Global) -> Result<Seen, NoMemory> {
-    let config: SiteConfig = five_points(rt, alloc, 1_000_000)?;
+    let config: SiteConfig = known_site_of(alloc, 1_000_000)?;
     let peer = Peer::of(octets(rt, alloc, TWO_TILLS)?);
     session(rt, alloc, &config, &[], peer)
 }

@@ -4,9 +4,9 @@ ghost use Rattle.std.specs.Prelude.{◌≡◌, ◌≤◌, ◌^◌};
 ghost use Rattle.till_session.specs.declared.server.TheConstants.{SESSIONS};
 
 use super::calls::{by_till, octets};
-use super::site::five_points;
 use counter_desk::testing::HoldingGate;
 use counter_desk::{Desk, Gate, Naming, OpenGate, Settled};
+use forecourt_engines::known_site_of;
 use site_base::{Actor, NoMemory, SiteConfig};
 use std::alloc::Global;
 use std::marker::Brand;
@@ -41,7 +41,7 @@ struct Day {
 #[test]
 fn held_call(rt: HostRuntime) -> Result<(), Fail> {
     let alloc = rt.alloc();
-    let config = five_points(&rt, alloc, 1_000_000)?;
+    let config = known_site_of(alloc, 1_000_000)?;
     for held in 1..3 {
         let gate = HoldingGate::new(by_till(&rt, held));
         let listener = Connections::new(sign_ons(&rt, alloc, 2)?, 0);
@@ -58,7 +58,7 @@ fn held_call(rt: HostRuntime) -> Result<(), Fail> {
 #[test]
 fn accept_fails(rt: HostRuntime) -> Result<(), Fail> {
     let alloc = rt.alloc();
-    let config = five_points(&rt, alloc, 1_000_000)?;
+    let config = known_site_of(alloc, 1_000_000)?;
     for k in 1..4usize {
         let listener = Connections::new(sign_ons(&rt, alloc, 2)?, k as u64);
         let day = one_day(&rt, alloc, &config, listener, &OpenGate, 3)?;

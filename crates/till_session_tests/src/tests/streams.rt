@@ -6,8 +6,8 @@ use super::calls::{THREE_REQUESTS, THREE_TOLD, TWO_TILLS, TWO_TILLS_TOLD, octets
 use super::noting::Call;
 use super::peers::Peer;
 use super::sessions::session;
-use super::site::five_points;
 use app_message::GrammarFault;
+use forecourt_engines::known_site_of;
 use site_base::TillNo;
 use std::test::Fail;
 use till_session::{SessionFault, TalkFault};
@@ -15,7 +15,7 @@ use till_session::{SessionFault, TalkFault};
 #[test]
 fn another_originator(rt: HostRuntime) -> Result<(), Fail> {
     let alloc = rt.alloc();
-    let config = five_points(&rt, alloc, 1_000_000)?;
+    let config = known_site_of(alloc, 1_000_000)?;
     let peer = Peer::of(octets(&rt, alloc, TWO_TILLS)?);
     let seen = session(&rt, alloc, &config, &[], peer)?;
     assert!(rt;
@@ -36,7 +36,7 @@ fn another_originator(rt: HostRuntime) -> Result<(), Fail> {
 #[test]
 fn faults(rt: HostRuntime) -> Result<(), Fail> {
     let alloc = rt.alloc();
-    let config = five_points(&rt, alloc, 1_000_000)?;
+    let config = known_site_of(alloc, 1_000_000)?;
     let cases = [
         (
             "01 01 02 01 00 A3 00 02 01 23",
@@ -67,7 +67,7 @@ fn faults(rt: HostRuntime) -> Result<(), Fail> {
 #[test]
 fn noise(rt: HostRuntime) -> Result<(), Fail> {
     let alloc = rt.alloc();
-    let config = five_points(&rt, alloc, 1_000_000)?;
+    let config = known_site_of(alloc, 1_000_000)?;
     let peer = Peer::of(vec![in alloc; 0xFFu8; 65_536]?);
     let seen = session(&rt, alloc, &config, &[], peer)?;
     let told = octets(&rt, alloc, "FF FF 01 01 00 FF 00 05 01 01 01 01 28")?;
@@ -81,7 +81,7 @@ fn noise(rt: HostRuntime) -> Result<(), Fail> {
 #[test]
 fn flood(rt: HostRuntime) -> Result<(), Fail> {
     let alloc = rt.alloc();
-    let config = five_points(&rt, alloc, 1_000_000)?;
+    let config = known_site_of(alloc, 1_000_000)?;
     let clear = octets(&rt, alloc, "01 01 02 01 00 44 00 07 04 21 21 00 01 82 00")?;
     let cleared = octets(
         &rt,
@@ -109,7 +109,7 @@ fn flood(rt: HostRuntime) -> Result<(), Fail> {
 #[test]
 fn cut(rt: HostRuntime) -> Result<(), Fail> {
     let alloc = rt.alloc();
-    let config = five_points(&rt, alloc, 1_000_000)?;
+    let config = known_site_of(alloc, 1_000_000)?;
     let input = octets(&rt, alloc, THREE_REQUESTS)?;
     let told = octets(&rt, alloc, THREE_TOLD)?;
     assert!(rt; input.len() == 34 && told.len() == 70);

@@ -1,37 +1,31 @@
 //! A run that a failed allocation ends goes on with the steps that it left.
 
-ghost use Rattle.std.specs.Prelude.{◌≡◌, ◌^◌};
-
 use super::site::{call, leave, lift, one_point, point, pump, till};
-use counter_desk::{Desk, Naming, SettleFault, Settled, Share, Unsettled};
+use crate::tests::day::{Day, run_day, say_failed};
+use counter_desk::{Desk, Naming, Share};
 use dispenser_sim::{Dispenser, DispenserEnd, DispenserFault, Script, Step};
 use site_base::{Event, NoMemory, PointState, Preset, SiteConfig};
 use std::alloc::{AllocError, Global};
-use std::marker::Brand;
 use std::process::Abort;
 use std::sync::Wait;
-use std::sync::ledger::{Blank, Ledger};
+use std::sync::ledger::Ledger;
 use std::test::Fail;
-
-/// Says that an allocation failed in this run.
-fn said(rt: &impl Eprint) {
-    let _ = rt.eprintln("an allocation failed");
-}
 
 #[test]
 fn each_refused(rt: HostRuntime) -> Result<(), Fail> {
     let config = match one_point(&rt, rt.alloc(), 10_000, 0) {
         Ok(config) => config,
         Err(NoMemory) => {
-            said(&rt);
+            say_failed(&rt);
             one_point(&rt, rt.alloc(), 10_000, 0)?
         }
     };
-    let settled = match one_day(&rt, rt.alloc(), &config) {
+    let day = &mut CutDay { config: &config };
+    let settled = match run_day(&rt, rt.alloc(), &config, day) {
         Ok(settled) => settled,
         Err(NoMemory) => {
-            said(&rt);
-            one_day(&rt, rt.alloc(), &config)?
+            say_failed(&rt);
+            run_day(&rt, rt.alloc(), &config, day)?
         }
     };
     assert_eq!(rt; settled.rows, 8);
@@ -39,52 +33,28 @@ fn each_refused(rt: HostRuntime) -> Result<(), Fail> {
     Ok(())
 }
 
-fn one_day<R: Wait + Abort + Eprint>(
-    rt: &R,
-    alloc: Global,
-    config: &SiteConfig,
-) -> Result<Settled, NoMemory> {
-    day_of::<Brand, Brand, R>(rt, alloc, Blank::new(1 << 63), config)
+/// A day whose flow is cut by its preset.
+#[derive(Drop)]
+struct CutDay<'a> {
+    config: &'a SiteConfig,
 }
 
-fn day_of<L: Ledger, C: Naming, R: Wait + Abort + Eprint>(
-    rt: &R,
-    alloc: Global,
-    blank: Blank,
-    config: &SiteConfig,
-) -> Result<Settled, NoMemory>
-    requires ledger { (blank.name ≡ L.name) × (blank.parts ≡ L.parts) × (blank.parts ≡ 2 ^ 63) }
-    requires config { config.now ≡ C.config }
-{
-    let (desk, root) = Desk::<L, C>::try_open(alloc, blank, config)?;
-    let mut root = root;
-    let given = match root.give() {
-        Ok(share) => Ok(share),
-        Err(NoMemory) => {
-            said(rt);
-            root.give()
-        }
-    };
-    match given {
-        Ok(share) => {
-            let mut share = share;
-            let preset = Preset::Volume(3_000);
-            call(rt, &desk, &mut share, &Event::SignOn);
-            call(rt, &desk, &mut share, &Event::Open(point(rt, 1)));
-            call(rt, &desk, &mut share, &Event::Release(point(rt, 1), preset));
-            let mut share = fuel(rt, alloc, &desk, share, config);
-            leave(rt, &desk, &mut share);
-            root.take_back(share);
-        }
-        Err(NoMemory) => panic!(rt; "no share"),
-    }
-    assert!(rt; root.out() == 0, "a share is out");
-    match desk.settle(alloc, root) {
-        Ok(settled) => Ok(settled),
-        Err(unsettled) => {
-            said(rt);
-            Ok(settled_again(rt, alloc, unsettled))
-        }
+impl<'a> Day for CutDay<'a> {
+    fn work<L: Ledger, C: Naming, R: Wait + Abort + Eprint>(
+        &mut self,
+        rt: &R,
+        alloc: Global,
+        desk: &Desk<L, C>,
+        share: Share<L, C>,
+    ) -> Share<L, C> {
+        let mut share = share;
+        let preset = Preset::Volume(3_000);
+        call(rt, desk, &mut share, &Event::SignOn);
+        call(rt, desk, &mut share, &Event::Open(point(rt, 1)));
+        call(rt, desk, &mut share, &Event::Release(point(rt, 1), preset));
+        let mut share = fuel(rt, alloc, desk, share, self.config);
+        leave(rt, desk, &mut share);
+        share
     }
 }
 
@@ -115,7 +85,7 @@ fn fuel<L: Ledger, C: Naming, R: Wait + Abort + Eprint>(
         }
         Some(fault) => assert!(rt; fault == DispenserFault::NoMemory && taken < 4 && sold == 0),
     }
-    said(rt);
+    say_failed(rt);
     see(rt, alloc, desk, &share, taken);
     let DispenserEnd {
         share,
@@ -172,7 +142,7 @@ fn flowed(taken: u64) -> u64 {
 fn script_from(rt: &(impl Abort + Eprint), alloc: Global, taken: u64) -> Script {
     match steps_from(rt, alloc, taken) {
         Ok(script) => return script,
-        Err(_) => said(rt),
+        Err(_) => say_failed(rt),
     }
     steps_from(rt, alloc, taken).expect(rt, "no script")
 }
@@ -186,18 +156,4 @@ fn steps_from(rt: &impl Abort, alloc: Global, taken: u64) -> Result<Script, Allo
         }
     }
     Ok(Script::new(steps))
-}
-
-fn settled_again<L: Ledger, C: Naming, R: Abort>(
-    rt: &R,
-    alloc: Global,
-    unsettled: Unsettled<L, C>,
-) -> Settled {
-    let Unsettled { fault, desk, root } = unsettled;
-    assert!(rt; fault == SettleFault::NoMemory, "a strange receipt");
-    assert!(rt; root.out() == 0, "a share is out");
-    match desk.settle(alloc, root) {
-        Ok(settled) => settled,
-        Err(_) => panic!(rt; "the day isn't settled"),
-    }
 }

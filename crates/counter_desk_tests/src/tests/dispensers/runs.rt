@@ -1,26 +1,68 @@
 //! Runs of the dispenser of point 1, each at a desk of its own.
 
-ghost use Rattle.std.specs.Prelude.{◌≡◌, ◌^◌};
-
 use super::site::{call, leave, lift, one_point, point, pump};
-use counter_desk::{Desk, Naming, Settled};
+use crate::tests::day::{Day, run_day};
+use counter_desk::{Desk, Naming, Settled, Share};
 use dispenser_sim::{Dispenser, DispenserEnd, DispenserFault, Script, Step};
 use site_base::{Event, NoMemory, PointState, Preset, SiteConfig};
 use std::alloc::Global;
-use std::marker::Brand;
 use std::process::Abort;
 use std::sync::Wait;
-use std::sync::ledger::{Blank, Ledger};
+use std::sync::ledger::Ledger;
 use std::test::Fail;
 
 /// A day of one fuelling point: till 1 signs on, opens the point, and releases it within this
 /// preset, where there is one. Then a dispenser takes these steps.
 #[derive(Drop)]
-struct Day {
+struct Fuelling {
     release: Option<Preset>,
     dispenser: u8,
     script: Script,
     polls: u64,
+}
+
+/// A fuelling on the site of a configuration, and how it ended.
+#[derive(Drop)]
+struct FuellingDay<'a> {
+    config: &'a SiteConfig,
+    fuelling: &'a Fuelling,
+    evening: Evening,
+}
+
+impl<'a> Day for FuellingDay<'a> {
+    fn work<L: Ledger, C: Naming, R: Wait + Abort + Eprint>(
+        &mut self,
+        rt: &R,
+        _alloc: Global,
+        desk: &Desk<L, C>,
+        share: Share<L, C>,
+    ) -> Share<L, C> {
+        let mut share = share;
+        call(rt, desk, &mut share, &Event::SignOn);
+        call(rt, desk, &mut share, &Event::Open(point(rt, 1)));
+        if let Some(preset) = self.fuelling.release {
+            call(rt, desk, &mut share, &Event::Release(point(rt, 1), preset));
+        }
+        let before = share.calls();
+        let mut dispenser = Dispenser::new(self.config, point(rt, self.fuelling.dispenser));
+        let script = &self.fuelling.script;
+        let DispenserEnd {
+            share,
+            sold,
+            refused,
+            fault,
+        } = dispenser.run(rt, desk, share, script, self.fuelling.polls);
+        let mut share = share;
+        self.evening = Evening {
+            sold,
+            refused,
+            fault,
+            reports: share.calls().saturating_sub(before),
+            payable: 0,
+        };
+        leave(rt, desk, &mut share);
+        share
+    }
 }
 
 /// How the dispenser's run ended, and the millilitres then payable.
@@ -41,77 +83,39 @@ fn evening_of<R: Wait + Abort + Eprint>(
     steps: Vec<Step>,
 ) -> Result<Evening, NoMemory> {
     let config = one_point(rt, alloc, 10_000, 0)?;
-    let day = Day {
+    let fuelling = Fuelling {
         release,
         dispenser: 1,
         script: Script::new(steps),
         polls: 3,
     };
-    one_day(rt, alloc, &config, &day)
+    run_fuelling(rt, alloc, &config, &fuelling)
 }
 
-fn one_day<R: Wait + Abort + Eprint>(
+/// Runs a day of this fuelling, and tells how it ended.
+fn run_fuelling<R: Wait + Abort + Eprint>(
     rt: &R,
     alloc: Global,
     config: &SiteConfig,
-    day: &Day,
+    fuelling: &Fuelling,
 ) -> Result<Evening, NoMemory> {
-    day_of::<Brand, Brand, R>(rt, alloc, Blank::new(1 << 63), config, day)
-}
-
-fn day_of<L: Ledger, C: Naming, R: Wait + Abort + Eprint>(
-    rt: &R,
-    alloc: Global,
-    blank: Blank,
-    config: &SiteConfig,
-    day: &Day,
-) -> Result<Evening, NoMemory>
-    requires ledger { (blank.name ≡ L.name) × (blank.parts ≡ L.parts) × (blank.parts ≡ 2 ^ 63) }
-    requires config { config.now ≡ C.config }
-{
-    let (desk, root) = Desk::<L, C>::try_open(alloc, blank, config)?;
-    let mut root = root;
-    let mut evening = Evening {
+    let evening = Evening {
         sold: 0,
         refused: 0,
         fault: None,
         reports: 0,
         payable: 0,
     };
-    match root.give() {
-        Ok(share) => {
-            let mut share = share;
-            call(rt, &desk, &mut share, &Event::SignOn);
-            call(rt, &desk, &mut share, &Event::Open(point(rt, 1)));
-            if let Some(preset) = day.release {
-                call(rt, &desk, &mut share, &Event::Release(point(rt, 1), preset));
-            }
-            let before = share.calls();
-            let mut dispenser = Dispenser::new(config, point(rt, day.dispenser));
-            let DispenserEnd {
-                share,
-                sold,
-                refused,
-                fault,
-            } = dispenser.run(rt, &desk, share, &day.script, day.polls);
-            let mut share = share;
-            evening.sold = sold;
-            evening.refused = refused;
-            evening.fault = fault;
-            evening.reports = share.calls().saturating_sub(before);
-            leave(rt, &desk, &mut share);
-            root.take_back(share);
-        }
-        Err(NoMemory) => panic!(rt; "no share"),
-    }
-    assert!(rt; root.out() == 0, "a share is out");
-    match desk.settle(alloc, root) {
-        Ok(settled) => {
-            evening.payable = payable(rt, &settled);
-            Ok(evening)
-        }
-        Err(_) => panic!(rt; "the day isn't settled"),
-    }
+    let mut day = FuellingDay {
+        config,
+        fuelling,
+        evening,
+    };
+    let settled = run_day(rt, alloc, config, &mut day)?;
+    Ok(Evening {
+        payable: payable(rt, &settled),
+        ..day.evening
+    })
 }
 
 /// The millilitres of diesel that are payable.
@@ -216,13 +220,13 @@ fn refused_flows(rt: HostRuntime) -> Result<(), Fail> {
 fn greatest_reading(rt: HostRuntime) -> Result<(), Fail> {
     let config = one_point(&rt, rt.alloc(), 10_000, 999_999_999_990)?;
     let steps = [lift(&rt, 1), pump(&rt, 100), pump(&rt, 1), Step::HangUp];
-    let day = Day {
+    let fuelling = Fuelling {
         release: Some(Preset::Unset),
         dispenser: 1,
         script: Script::new(Vec::from_array(rt.alloc(), steps)?),
         polls: 1,
     };
-    let seen = one_day(&rt, rt.alloc(), &config, &day)?;
+    let seen = run_fuelling(&rt, rt.alloc(), &config, &fuelling)?;
     assert!(rt; seen.sold == 1 && seen.refused == 0 && seen.payable == 9);
     Ok(())
 }
@@ -232,13 +236,13 @@ fn greatest_reading(rt: HostRuntime) -> Result<(), Fail> {
 fn no_such_point(rt: HostRuntime) -> Result<(), Fail> {
     let config = one_point(&rt, rt.alloc(), 10_000, 7)?;
     let steps = [Step::Online, lift(&rt, 8), pump(&rt, 9), Step::HangUp];
-    let day = Day {
+    let fuelling = Fuelling {
         release: None,
         dispenser: 64,
         script: Script::new(Vec::from_array(rt.alloc(), steps)?),
         polls: 1,
     };
-    let seen = one_day(&rt, rt.alloc(), &config, &day)?;
+    let seen = run_fuelling(&rt, rt.alloc(), &config, &fuelling)?;
     assert!(rt; seen.sold == 0 && seen.refused == 4 && seen.fault.is_none());
     assert_eq!(rt; seen.reports, 4);
     Ok(())
@@ -249,13 +253,13 @@ fn no_such_point(rt: HostRuntime) -> Result<(), Fail> {
 fn full_book(rt: HostRuntime) -> Result<(), Fail> {
     let config = one_point(&rt, rt.alloc(), 3, 0)?;
     let steps = [lift(&rt, 1), Step::HangUp, Step::Offline];
-    let day = Day {
+    let fuelling = Fuelling {
         release: None,
         dispenser: 1,
         script: Script::new(Vec::from_array(rt.alloc(), steps)?),
         polls: 1,
     };
-    let seen = one_day(&rt, rt.alloc(), &config, &day)?;
+    let seen = run_fuelling(&rt, rt.alloc(), &config, &fuelling)?;
     assert!(rt; seen.fault == Some(DispenserFault::BookFull) && seen.reports == 1);
     Ok(())
 }
