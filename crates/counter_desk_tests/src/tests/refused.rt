@@ -5,8 +5,8 @@ use super::day::{Day, run_day, say_failed};
 use counter_desk::{Desk, Naming, Share};
 use forecourt_engines::known_site_of;
 use site_base::{
-    Actor, Answer, Cents, Event, NoMemory, NoRow, PointState, Preset, ProductView, Refusal, Reply,
-    TILLS, growth_in_reply,
+    Actor, Answer, Cents, Event, Mills, NoMemory, NoRow, PointState, Preset, ProductView, Refusal,
+    Reply, Seq, TILLS,
 };
 use std::alloc::Global;
 use std::process::Abort;
@@ -112,16 +112,40 @@ pub fn pay<L: Ledger, C: Naming, R: Wait + Abort + Eprint>(
     expect(rt, alloc, desk, share, 2, &Event::SignOn, &done);
     expect(rt, alloc, desk, share, 1, &open, &done);
     expect(rt, alloc, desk, share, 1, &release, &done);
-    let (dispenser, lifted) = &lift(rt, 1, 0);
-    assert!(rt; make_call(rt, alloc, desk, share, dispenser, lifted).is_ok());
-    let (dispenser, hung_up) = &hang_up(rt, 1, 10_000);
-    assert!(rt; growth_in_reply(&make_call(rt, alloc, desk, share, dispenser, hung_up)) == 10_000);
+    fuel(rt, alloc, desk, share);
     expect(rt, alloc, desk, share, 1, &lock, &Ok(Answer::Locked));
     let cleared = Ok(Answer::Cleared(Cents::new(1_500).expect(rt, "cents")));
     expect(rt, alloc, desk, share, 1, &clear, &cleared);
     let twice = Err(Refusal::AlreadyCleared(till(rt, 1)));
     expect(rt, alloc, desk, share, 1, &clear, &twice);
     expect(rt, alloc, desk, share, 2, &lock, &twice);
+}
+
+/// 10,000 ml of diesel flow at point 1 at 1500 mills, and are the shift's first sale.
+fn fuel<L: Ledger, C: Naming, R: Wait + Abort + Eprint>(
+    rt: &R,
+    alloc: Global,
+    desk: &Desk<L, C>,
+    share: &mut Share<L, C>,
+) {
+    let start = Ok(Answer::Start {
+        preset: Preset::Unset,
+        price: Mills::new(1_500).expect(rt, "a price"),
+    });
+    let sold = Ok(Answer::Sold {
+        seq: Seq::new(1).expect(rt, "a number"),
+        growth: 10_000,
+    });
+    let (dispenser, lifted) = &lift(rt, 1, 0);
+    assert!(rt;
+        make_call(rt, alloc, desk, share, dispenser, lifted) == start,
+        "no start"
+    );
+    let (dispenser, hung_up) = &hang_up(rt, 1, 10_000);
+    assert!(rt;
+        make_call(rt, alloc, desk, share, dispenser, hung_up) == sold,
+        "no sale"
+    );
 }
 
 /// A call of a till is answered so.
