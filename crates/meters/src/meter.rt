@@ -3,8 +3,8 @@
 ghost use Rattle.std.specs.Prelude.{◌≡◌, ◌<◌, ◌≤◌, None, Some, OnOk, IfOk, IfErr};
 ghost use Rattle.site_base.specs.declared.limits.TheConstants.{GREATEST_READING, NOZZLE_CELLS};
 ghost use Rattle.site_base.specs.declared.limits.TheConstants.{NOZZLES, POINTS, REPLACEMENT_LIMIT};
-ghost use Rattle.meters.specs.Metered.{metered_volume, most_of_a_nozzle};
-ghost use Rattle.meters.specs.Nozzles.{at_opening, read_at, replaced_at, IsMetered};
+ghost use Rattle.meters.specs.Metered.{metered, most_of_a_nozzle};
+ghost use Rattle.meters.specs.Nozzles.{opened, read_at, replaced_at, IsMetered};
 ghost use Rattle.meters.specs.Places.{nozzle_cell};
 ghost use Rattle.meters.specs.Reports.{growth_of, report_refusal};
 

@@ -1,6 +1,6 @@
 use Rattle.std.proofs.Common.{◌≡◌, ◌+◌, drop}
 use Rattle.meters.specs.Metered.{product_total}
-use Rattle.meters.proofs.recount.counted.Given as goal
+use Rattle.meters.proofs.recount.recount.Given as goal
 
 -- what is counted, with what the nozzles behind have, is what all have
 abbrev pub invariant-loop-meter : goal.invariant-loop-meter

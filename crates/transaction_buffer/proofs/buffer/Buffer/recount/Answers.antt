@@ -1,7 +1,7 @@
 use Rattle.std.proofs.Common.{◌<◌, ◌^◌, ℕ, sym, subst, ◌∙◌}
 use Rattle.transaction_buffer.specs.Figures.{figure_in}
 use Rattle.transaction_buffer.proofs.OnShelves.{sums_there}
-use Rattle.transaction_buffer.proofs.buffer.Buffer.counted.Goals as goal
+use Rattle.transaction_buffer.proofs.buffer.Buffer.recount.Goals as goal
 
 pub counted_on-requires : goal.counted_on-requires
 counted_on-requires c =
