@@ -194,7 +194,8 @@ record IsRest (b : Answerer) (a : List ℕ) (st : State) (input : List ℕ) (lin
   where
     text : answers_to b (stream_of a).messages ++ (text_from st input ++ last_text (after st input))
         ≡ answers_to b (total a lines).messages ++ fault_text (total a lines).fault
-    fault : last_fault (after st input) ≡ end_of (total a lines).fault lines.bad (total a lines).rest
+    fault : last_fault (after st input)
+        ≡ end_of (total a lines).fault lines.bad (total a lines).rest
     answerer : (ended (after st input)).answerer ≡ after_messages b (total a lines).messages
 
 -- a state in which the text has ended, whatever follows

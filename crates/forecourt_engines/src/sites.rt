@@ -3,7 +3,8 @@
 ghost use Rattle.std.specs.Prelude.{◌≡◌, ◌≤◌, true, IfOk};
 ghost use Rattle.site_base.specs.declared.limits.TheConstants.{GREATEST_ROWS};
 ghost use Rattle.site_base.specs.Names.{is_name};
-ghost use Rattle.forecourt_engines.specs.Sites.{known_site, known_site_of, known_points, known_point};
+ghost use Rattle.forecourt_engines.specs.Sites.{known_site, known_site_of, known_points};
+ghost use Rattle.forecourt_engines.specs.Sites.{known_point};
 
 use site_base::{
     FpNo, GREATEST_PRICE, GREATEST_READING, GREATEST_ROWS, Listing, Millilitres, Mills, NoMemory,

@@ -14,7 +14,7 @@ use Rattle.transaction_buffer.specs.TransactionTable.{Line, locked_by_it, locked
 use Rattle.transaction_buffer.specs.TransactionTable.{line_for, line_of, seen_by, sale_after}
 use Rattle.transaction_buffer.specs.TransactionTable.{sale_after_request, refusal_in, after_line}
 use Rattle.transaction_buffer.specs.TransactionTable.{after_at, after_request, after_sign_off}
-use Rattle.transaction_buffer.specs.TransactionTable.{is_locked_by, let_go, refusal_of}
+use Rattle.transaction_buffer.specs.TransactionTable.{is_locked_by, unlock_all_of, refusal_of}
 use Rattle.transaction_buffer.proofs.OnShelves.{nothing_sold}
 use Rattle.transaction_buffer.proofs.Rules.{cleared_by_its_locker}
 use Rattle.transaction_buffer.proofs.Summing.{alike_sum, changed_sum, sold_sum}
@@ -110,7 +110,7 @@ asked_stays test value request t k sales of_cleared other =
     asked_alike test value request t x.cents x x.standing of_cleared other refl)
 
 let_go_alike : (test : Standing → Bool) (value : Sale → ℕ) (t : ℕ) → IsOfCleared test value
-    → (x : Sale) → figure_where test value (let_go t x) ≡ figure_where test value x
+    → (x : Sale) → figure_where test value (unlock_all_of t x) ≡ figure_where test value x
 let_go_alike test value t of_cleared x = by_standing x.standing refl
   where
     by_standing : (y : Standing) → x.standing ≡ y
@@ -148,8 +148,8 @@ let_go_stays : (test : Standing → Bool) (value : Sale → ℕ) (t : ℕ) (sale
     → sum_of (figure_where test value) (after_sign_off t sales)
     ≡ sum_of (figure_where test value) sales
 let_go_stays test value t sales of_cleared =
-    changed_sum (figure_where test value) (let_go t) sales
-    ∙ alike_sum (λ x. figure_where test value (let_go t x)) (figure_where test value)
+    changed_sum (figure_where test value) (unlock_all_of t) sales
+    ∙ alike_sum (λ x. figure_where test value (unlock_all_of t x)) (figure_where test value)
     (let_go_alike test value t of_cleared) sales
 
 -- ---- the five figures

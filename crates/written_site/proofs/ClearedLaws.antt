@@ -28,7 +28,7 @@ use Rattle.transaction_buffer.specs.Sales.{same_key, sales_at, sale_of, is_unpai
 use Rattle.transaction_buffer.specs.Sums.{volume_in, volume_by, volume_with}
 use Rattle.transaction_buffer.specs.TransactionTable.{Line, line_for, sale_after}
 use Rattle.transaction_buffer.specs.TransactionTable.{sale_after_request, after_request}
-use Rattle.transaction_buffer.specs.TransactionTable.{after_sign_off, is_locked_by, let_go}
+use Rattle.transaction_buffer.specs.TransactionTable.{after_sign_off, is_locked_by, unlock_all_of}
 use Rattle.transaction_buffer.specs.TransactionTable.{refusal_of, refusal_in, line_of, seen_by}
 use Rattle.transaction_buffer.proofs.InShift.{none_next}
 use Rattle.transaction_buffer.proofs.Reading.{read_after, one_sale}
@@ -95,7 +95,8 @@ asked_keeps q request t j k sales =
     by_name true = asked_volume q request t (sale_of k sales)
     by_name false = refl
 
-let_go_volume : (q t : ℕ) (o : Option Sale) → volume_if q (option_map (let_go t) o) ≡ volume_if q o
+let_go_volume : (q t : ℕ) (o : Option Sale)
+    → volume_if q (option_map (unlock_all_of t) o) ≡ volume_if q o
 let_go_volume q t None = refl
 let_go_volume q t (Some x) = by_test (is_locked_by t x.standing)
   where

@@ -3,7 +3,7 @@ use Rattle.std.proofs.Common.{◌≡◌, ℕ, Bool, true, false, cond, Option, o
 use Rattle.std.proofs.Common.{sym, subst, ◌∙◌}
 use Rattle.transaction_buffer.specs.declared.request.Request.{Request}
 use Rattle.transaction_buffer.specs.Sales.{Key, Sale, Sales, next_key, same_key, sale_of, with_new}
-use Rattle.transaction_buffer.specs.TransactionTable.{after_request, after_sign_off, let_go}
+use Rattle.transaction_buffer.specs.TransactionTable.{after_request, after_sign_off, unlock_all_of}
 use Rattle.transaction_buffer.specs.TransactionTable.{sale_after_request}
 use Rattle.transaction_buffer.proofs.Reading.{read_after}
 use Rattle.written_site.proofs.SoundTables.{told_once}
@@ -13,13 +13,14 @@ abbrev pub Each : (Sale → Type 0) → Sales → Type 0
 Each P sales = (k : Key) (x : Sale) → sale_of k sales ≡ Some x → P x
 
 pub each_let_go : (P Q : Sale → Type 0) (t : ℕ) (sales : Sales)
-    → ((x : Sale) → P x → Q (let_go t x)) → Each P sales → Each Q (after_sign_off t sales)
+    → ((x : Sale) → P x → Q (unlock_all_of t x)) → Each P sales → Each Q (after_sign_off t sales)
 each_let_go P Q t sales keeps all k x is =
     by_sale (sale_of k sales) refl (sym (read_after.signed_off t k sales) ∙ is)
   where
-    by_sale : (o : Option Sale) → sale_of k sales ≡ o → option_map (let_go t) o ≡ Some x → Q x
+    by_sale : (o : Option Sale) → sale_of k sales ≡ o → option_map (unlock_all_of t) o ≡ Some x
+        → Q x
     by_sale None at made = cc
-    by_sale (Some y) at made = subst Q (told_once (let_go t y) x made) (keeps y (all k y at))
+    by_sale (Some y) at made = subst Q (told_once (unlock_all_of t y) x made) (keeps y (all k y at))
 
 pub each_sold : (P Q : Sale → Type 0) (p : ℕ) (y : Sale) (sales : Sales)
     → ((x : Sale) → P x → Q x) → Q y → Each P sales → Each Q (with_new p y sales)

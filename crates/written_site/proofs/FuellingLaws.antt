@@ -22,7 +22,7 @@ use Rattle.transaction_buffer.specs.declared.standing.Standing.TheVariants.{Paya
 use Rattle.transaction_buffer.specs.Sales.{Key, Sale, Sales, same_key, next_key, sales_at, sale_of}
 use Rattle.transaction_buffer.specs.TransactionTable.{Line, line_for, sale_after}
 use Rattle.transaction_buffer.specs.TransactionTable.{sale_after_request, after_request}
-use Rattle.transaction_buffer.specs.TransactionTable.{after_sign_off, is_locked_by, let_go}
+use Rattle.transaction_buffer.specs.TransactionTable.{after_sign_off, is_locked_by, unlock_all_of}
 use Rattle.transaction_buffer.proofs.Reading.{read_after, one_sale}
 use Rattle.transaction_buffer.proofs.InShift.{none_next}
 use Rattle.transaction_buffer.proofs.Rules.{cleared_by_its_locker}
@@ -110,10 +110,11 @@ signed_off_stands : (t : ℕ) (k : Key) (x : Sale) (sales : Sales)
     → Stands k x sales → Stands k x (after_sign_off t sales)
 signed_off_stands t k x sales is =
     by_test (is_locked_by t is.standing) refl
-    (read_after.signed_off t k sales ∙ ap (option_map (let_go t)) is.there)
+    (read_after.signed_off t k sales ∙ ap (option_map (unlock_all_of t)) is.there)
   where
     by_test : (b : Bool) → is_locked_by t is.standing ≡ b
-        → sale_of k (after_sign_off t sales) ≡ Some (let_go t (record x { standing = is.standing }))
+        → sale_of k (after_sign_off t sales)
+            ≡ Some (unlock_all_of t (record x { standing = is.standing }))
         → Stands k x (after_sign_off t sales)
     by_test true at read = record {
       standing = Payable;

@@ -115,12 +115,12 @@ unassigned holds p q = by_test (q == p) refl
         other same = grind (arith, nat_tests)
 
 -- a hold that a sign-off ends, or leaves
-let_go : (resting : Bool) (t : ℕ) (holder : Option ℕ)
+unlock_all_of : (resting : Bool) (t : ℕ) (holder : Option ℕ)
     → Does holder (cond (not (resting && is_held_by t holder)) holder None) None
     (λ u. resting && u == t)
-let_go true t None = record { holder = refl; may = tt }
-let_go false t None = record { holder = refl; may = tt }
-let_go resting t (Some u) = record { holder = turned (resting && u == t); may = tt }
+unlock_all_of true t None = record { holder = refl; may = tt }
+unlock_all_of false t None = record { holder = refl; may = tt }
+unlock_all_of resting t (Some u) = record { holder = turned (resting && u == t); may = tt }
   where
     turned : (b : Bool) → cond (not b) (Some u) None ≡ (if b then None else Some u)
     turned true = refl
@@ -133,7 +133,7 @@ signed_off : (s : SiteState) (t p : ℕ)
 signed_off s t p = rw (get-retain_keys s.holds (λ q. not (ends_at_sign_off s.points s.holds t q)) p
     (λ x tied. ap (λ (y : ℕ). not (ends_at_sign_off s.points s.holds t y))
     (sym (nat_cmp-IsAntisymmetric p x tied))))
-    (let_go (rests s.points p) t (holder_of s p))
+    (unlock_all_of (rests s.points p) t (holder_of s p))
 
 -- what a step of q is told as, and what it leaves of the holds, agree: both end the hold, or
 -- neither does

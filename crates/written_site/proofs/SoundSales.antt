@@ -23,7 +23,7 @@ use Rattle.transaction_buffer.specs.Sales.{Key, Sale, Sales, made_at, unpaid_at,
 use Rattle.transaction_buffer.specs.Sales.{is_unpaid}
 use Rattle.transaction_buffer.specs.TransactionTable.{Line, line_for, sale_after}
 use Rattle.transaction_buffer.specs.TransactionTable.{sale_after_request, after_request}
-use Rattle.transaction_buffer.specs.TransactionTable.{after_sign_off, let_go, is_locked_by}
+use Rattle.transaction_buffer.specs.TransactionTable.{after_sign_off, unlock_all_of, is_locked_by}
 use Rattle.transaction_buffer.proofs.Counting.{counted_after}
 use Rattle.written_site.specs.SiteState.{SiteState, facts_of, key_named, open_shift}
 use Rattle.written_site.specs.SiteChecks.{own_event, flowed}
@@ -145,7 +145,7 @@ order_by s nozzles p step none q h later = none q h later
 
 -- ---- each sale is as it always is
 
-sound_let_go : (t : ℕ) (x : Sale) → IsSaleSound x → IsSaleSound (let_go t x)
+sound_let_go : (t : ℕ) (x : Sale) → IsSaleSound x → IsSaleSound (unlock_all_of t x)
 sound_let_go t x is = by_test (is_locked_by t x.standing)
   where
     by_test : (b : Bool) → IsSaleSound (cond b (record x { standing = Payable }) x)

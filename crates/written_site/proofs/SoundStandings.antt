@@ -22,7 +22,8 @@ use Rattle.transaction_buffer.specs.declared.standing.Standing.TheVariants.{Clea
 use Rattle.transaction_buffer.specs.Sales.{Sale, new_standing}
 use Rattle.transaction_buffer.specs.TransactionTable.{Seen, payable, locked_by_it, locked_by_other}
 use Rattle.transaction_buffer.specs.TransactionTable.{cleared_by, line, seen_by, sale_after}
-use Rattle.transaction_buffer.specs.TransactionTable.{sale_after_request, is_locked_by, let_go}
+use Rattle.transaction_buffer.specs.TransactionTable.{sale_after_request, is_locked_by}
+use Rattle.transaction_buffer.specs.TransactionTable.{unlock_all_of}
 use Rattle.written_site.specs.SiteState.{SiteState, facts_of, holder_of, is_signed_on, key_named}
 use Rattle.written_site.specs.SiteState.{open_shift}
 use Rattle.written_site.specs.SiteChecks.{Passed}
@@ -92,7 +93,7 @@ other_signed_on s t u other on =
     ∙ ap (λ (b : Bool). not b && is_signed_on s u) (unsigned_tied u t ∙ other) ∙ on
 
 let_go_stands : (s : SiteState) (t : ℕ) (x : Sale) → StandsIn s x
-    → StandsIn (accepted_site s (Till t) SignOff) (let_go t x)
+    → StandsIn (accepted_site s (Till t) SignOff) (unlock_all_of t x)
 let_go_stands s t x is = by_standing x.standing refl is
   where
     new : SiteState

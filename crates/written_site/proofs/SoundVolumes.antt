@@ -34,7 +34,7 @@ use Rattle.transaction_buffer.specs.declared.standing.Standing.TheVariants.{Paya
 use Rattle.transaction_buffer.specs.declared.request.Request.{Request}
 use Rattle.transaction_buffer.specs.declared.request.Request.TheVariants as requests
 use Rattle.transaction_buffer.specs.Sales.{Key, Sale, Sales}
-use Rattle.transaction_buffer.specs.TransactionTable.{after_request, after_sign_off, let_go}
+use Rattle.transaction_buffer.specs.TransactionTable.{after_request, after_sign_off, unlock_all_of}
 use Rattle.transaction_buffer.specs.TransactionTable.{is_locked_by}
 use Rattle.transaction_buffer.proofs.Summing.{sold_sum, changed_sum, alike_sum}
 use Rattle.written_site.specs.SiteState.{SiteState, facts_in, facts_of, key_named, open_shift}
@@ -209,7 +209,7 @@ stays_so weight all volume none =
 abbrev pub weight_of : (ℕ → ℕ) → Sale → ℕ
 weight_of w x = w x.product * x.volume
 
-let_go_weighs : (w : ℕ → ℕ) (t : ℕ) (x : Sale) → weight_of w (let_go t x) ≡ weight_of w x
+let_go_weighs : (w : ℕ → ℕ) (t : ℕ) (x : Sale) → weight_of w (unlock_all_of t x) ≡ weight_of w x
 let_go_weighs w t x = by_test (is_locked_by t x.standing)
   where
     by_test : (b : Bool)
@@ -220,8 +220,8 @@ let_go_weighs w t x = by_test (is_locked_by t x.standing)
 pub sign_off_weighs : (w : ℕ → ℕ) (t : ℕ) (sales : Sales)
     → sold_by w (after_sign_off t sales) ≡ sold_by w sales
 sign_off_weighs w t sales =
-    changed_sum (weight_of w) (let_go t) sales
-    ∙ alike_sum (λ x. weight_of w (let_go t x)) (weight_of w) (let_go_weighs w t) sales
+    changed_sum (weight_of w) (unlock_all_of t) sales
+    ∙ alike_sum (λ x. weight_of w (unlock_all_of t x)) (weight_of w) (let_go_weighs w t) sales
 
 -- what a till asks of a sale doesn't change its product or its volume
 pub asked_weighs : (w : ℕ → ℕ) (request : Request) (t : ℕ) (k : Key) (sales : Sales)
