@@ -114,7 +114,7 @@ signed_off_stands t k x sales is =
   where
     by_test : (b : Bool) → is_locked_by t is.standing ≡ b
         → sale_of k (after_sign_off t sales)
-            ≡ Some (unlock_all_of t (record x { standing = is.standing }))
+        ≡ Some (unlock_all_of t (record x { standing = is.standing }))
         → Stands k x (after_sign_off t sales)
     by_test true at read = record {
       standing = Payable;
