@@ -2,6 +2,7 @@
 
 mod calls;
 mod crew_day;
+mod crews;
 mod day;
 mod dispensers;
 mod full_desk;

@@ -97,3 +97,16 @@ pub fn clear(
     calls.push((by_till(rt, t), Event::Clear(point(rt, p), sale(rt, number))))?;
     Ok(())
 }
+
+/// A crew of two workers, which sign on till 1 and till 2.
+pub fn sign_on_both(rt: &impl Abort, alloc: Global) -> Result<Vec<Vec<Calls>>, NoMemory> {
+    let mut lists = Vec::new(alloc);
+    for number in 1..3 {
+        let mut calls = Vec::new(alloc);
+        calls.push((by_till(rt, number), Event::SignOn))?;
+        lists.push(calls)?;
+    }
+    let mut crews = Vec::new(alloc);
+    crews.push(lists)?;
+    Ok(crews)
+}
