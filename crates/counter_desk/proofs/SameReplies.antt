@@ -71,8 +71,7 @@ point_parts : (s₁ s₂ : PointState) (o₁ o₂ h₁ h₂ : Option ℕ) (e₁ 
       out = o₁;
       holder = h₁;
       ending = e₁;
-      test =
-          t₁;
+      test = t₁;
       preset = p₁;
       prepaid = c₁;
       price = m₁;
@@ -85,8 +84,7 @@ point_parts : (s₁ s₂ : PointState) (o₁ o₂ h₁ h₂ : Option ℕ) (e₁ 
       ending = e₂;
       test = t₂;
       preset = p₂;
-      prepaid =
-          c₂;
+      prepaid = c₂;
       price = m₂;
       volume = v₂;
     })
@@ -124,8 +122,7 @@ transaction_parts : (m₁ m₂ v₁ v₂ c₁ c₂ : ℕ) (p₁ p₂ : Option �
       price = m₁;
       volume = v₁;
       cents = c₁;
-      prepaid =
-          p₁;
+      prepaid = p₁;
       status = s₁;
       till = t₁;
       product = q₁;
@@ -137,8 +134,7 @@ transaction_parts : (m₁ m₂ v₁ v₂ c₁ c₂ : ℕ) (p₁ p₂ : Option �
       prepaid = p₂;
       status = s₂;
       till = t₂;
-      product =
-          q₂;
+      product = q₂;
     })
 transaction_parts m₁ m₂ v₁ v₂ c₁ c₂ p₁ p₂ s₁ s₂ t₁ t₂ q₁ q₂ m v c p s t q = cc
 
@@ -169,8 +165,7 @@ product_parts : (m₁ m₂ a₁ a₂ b₁ b₂ c₁ c₂ d₁ d₂ e₁ e₂ f�
       metered = a₁;
       running = b₁;
       payable = c₁;
-      locked =
-          d₁;
+      locked = d₁;
       cleared = e₁;
       adjusted = f₁;
     })
@@ -180,8 +175,7 @@ product_parts : (m₁ m₂ a₁ a₂ b₁ b₂ c₁ c₂ d₁ d₂ e₁ e₂ f�
       running = b₂;
       payable = c₂;
       locked = d₂;
-      cleared =
-          e₂;
+      cleared = e₂;
       adjusted = f₂;
     })
 product_parts m₁ m₂ a₁ a₂ b₁ b₂ c₁ c₂ d₁ d₂ e₁ e₂ f₁ f₂ m a b c d e f = cc

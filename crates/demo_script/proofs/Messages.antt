@@ -51,6 +51,18 @@ pub record IsFed (octets : List ℕ) (h : Held) (messages : List Telegram)
   pub fault_is : fault ≡ (fed_by h octets).fault
   pub held_is : kept ≡ held (fed_by h octets)
 
+pub fed_of : (octets : List ℕ) (h : Held) (messages : List Telegram) (fault : Option StreamFault)
+    (kept : Held)
+    → h ≡ held_after [] → messages ≡ (fed_by h octets).messages → fault ≡ (fed_by h octets).fault
+    → kept ≡ held (fed_by h octets) → IsFed octets h messages fault kept
+fed_of octets h messages fault kept start messages_are fault_is held_is =
+    record {
+      start = start;
+      messages_are = messages_are;
+      fault_is = fault_is;
+      held_is = held_is;
+    }
+
 fed_all : (octets : List ℕ) (h : Held) → h ≡ held_after [] → fed_by h octets ≡ stream_of octets
 fed_all octets h start = ap (λ x. fed_by x octets) start ∙ fed_first octets
 

@@ -107,8 +107,7 @@ stopped line number stream answerer =
       number = number;
       stream = stream;
       answerer = answerer;
-      stop =
-          Some (TooLong number);
+      stop = Some (TooLong number);
     }
 
 too_long : (line more : List ℕ) (number : ℕ) (stream : Held) (answerer : Answerer) → IsLine more
@@ -180,8 +179,7 @@ held_on st more none plain short =
 pub held_long : (st : State) (more : List ℕ) → st.stop ≡ None → IsLine more
     → length st.line ≤ LINE_OCTETS → LINE_OCTETS < length st.line + length more
     → (after st more ≡ record st {
-      line =
-          st.line ++ take (LINE_OCTETS - length st.line) more;
+      line = st.line ++ take (LINE_OCTETS - length st.line) more;
       stop = Some (TooLong st.number);
     })
     × (text_from st more ≡ [])

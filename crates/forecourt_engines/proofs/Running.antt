@@ -46,8 +46,7 @@ starts turns st a b = record {
   read = [];
   consumed = Consumes-none a;
   few = omega arith;
-  leads =
-      refl;
+  leads = refl;
   written = Appends-none b;
 }
 

@@ -49,8 +49,7 @@ in_line b a number line = record {
   line = line;
   number = number;
   stream = held_after a;
-  answerer =
-      after_messages b (stream_of a).messages;
+  answerer = after_messages b (stream_of a).messages;
   stop = None;
 }
 
@@ -260,15 +259,13 @@ goes_rest b a number line bs octets rest g on =
       line = [];
       number = next_number number;
       stream = s;
-      answerer =
-          t.answerer;
+      answerer = t.answerer;
       stop = t.stop;
     }) g.stream
     ∙ ap (λ (c : Answerer). record {
       line = [];
       number = next_number number;
-      stream =
-          held_after (a ++ octets);
+      stream = held_after (a ++ octets);
       answerer = c;
       stop = t.stop;
     }) g.answerer
@@ -276,10 +273,8 @@ goes_rest b a number line bs octets rest g on =
     record {
       line = [];
       number = next_number number;
-      stream =
-          held_after (a ++ octets);
-      answerer =
-          after_messages b (stream_of (a ++ octets)).messages;
+      stream = held_after (a ++ octets);
+      answerer = after_messages b (stream_of (a ++ octets)).messages;
       stop = f;
     }) g.stop in
     let joined : stream_of ((a ++ octets) ++ rest.octets)
@@ -393,32 +388,28 @@ empty_says : (number : ℕ) (stream : Held) (answerer : Answerer) (stop : Option
       number = number;
       stream = stream;
       answerer = answerer;
-      stop =
-          stop;
+      stop = stop;
     }) ≡ [])
     × ((ended (record {
       line = [];
       number = number;
       stream = stream;
       answerer = answerer;
-      stop =
-          stop;
+      stop = stop;
     })).answerer ≡ answerer)
     × ((ended (record {
       line = [];
       number = number;
       stream = stream;
       answerer = answerer;
-      stop =
-          stop;
+      stop = stop;
     })).stop ≡ stop)
     × ((ended (record {
       line = [];
       number = number;
       stream = stream;
       answerer = answerer;
-      stop =
-          stop;
+      stop = stop;
     })).stream ≡ stream)
 empty_says number stream answerer None = (refl, refl, refl, refl)
 empty_says number stream answerer (Some e) = (refl, refl, refl, refl)
@@ -563,8 +554,7 @@ one_stream_of_lines b input =
       line = [];
       number = 1;
       stream = held_after [];
-      answerer =
-          after_messages b s.messages;
+      answerer = after_messages b s.messages;
       stop = None;
     }) (sym no_octets) in
     let rest = rest_of b [] 1 [] input (ap (λ (s : Stream). s.fault) no_octets) (omega arith) in

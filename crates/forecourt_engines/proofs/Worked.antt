@@ -22,8 +22,7 @@ signed_on t = record { actor = Till t; event = SignOn; reply = Ok Done }
 abbrev one_row : Book
 one_row = record {
   config = record { rows = 2; managers = []; products = []; points = [] };
-  rows =
-      signed_on 1 ∷ [];
+  rows = signed_on 1 ∷ [];
 }
 
 abbrev two_rows : Book

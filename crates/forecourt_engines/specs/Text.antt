@@ -62,8 +62,7 @@ abbrev pub answered : Answerer → Stream → Told
 answered b s = record {
   stream = held s;
   answerer = after_messages b s.messages;
-  stop =
-      stop_of s.fault;
+  stop = stop_of s.fault;
   text = answers_to b s.messages ++ fault_text s.fault;
 }
 
@@ -94,8 +93,7 @@ next_line st t = record {
   line = [];
   number = next_number st.number;
   stream = t.stream;
-  answerer =
-      t.answerer;
+  answerer = t.answerer;
   stop = t.stop;
 }
 

@@ -50,8 +50,7 @@ impl Model for Engine {
     ghost view = { λ e. record {
       line = e.line.items;
       number = e.number;
-      stream =
-          e.decoder;
+      stream = e.decoder;
       answerer = e.answerer;
       stop = e.stop;
     } };

@@ -1,65 +1,34 @@
 use Rattle.std.proofs.Common.{◌≡◌, None, length, ap, sym, ◌∙◌, arith}
-use Rattle.demo_script.proofs.Messages.{IsFed, fed_whole, is_none, isnt_none, whole_fed}
+use Rattle.demo_script.proofs.Messages.{fed_of, fed_whole, is_none, isnt_none, whole_fed}
 use Rattle.demo_script.proofs.message.whole_message.Goals as goal
 
 pub returns-then-is_some-clause-other : goal.returns-then-is_some-clause-other
 returns-then-is_some-clause-other c = λ m is.
-    let fed : IsFed c.args.octets.now c.new-decoder.result c.in-Ok.fed.messages c.in-Ok.fed.fault
-    c.feed.new.self =
-    record {
-      start = c.new-decoder.ensures;
-      messages_are = c.in-Ok.ensures.messages;
-      fault_is =
-          c.in-Ok.ensures.fault;
-      held_is = c.in-Ok.ensures.held;
-    } in
-    let facts = whole_fed c.args.octets.now c.new-decoder.result c.in-Ok.fed.messages
-    c.in-Ok.fed.fault c.feed.new.self m fed is in
+    let fed = fed_of c.args.octets.now _ _ _ _ c.new-decoder.ensures c.in-Ok.ensures.messages
+    c.in-Ok.ensures.fault c.in-Ok.ensures.held in
+    let facts = whole_fed c.args.octets.now _ _ _ _ m fed is in
     isnt_none c.in-Ok.fed.fault (sym c.is_some.ensures ∙ c.if-is_some.true) facts.1
 
 pub returns-then-held-gt0-clause-other : goal.returns-then-held-gt0-clause-other
 returns-then-held-gt0-clause-other c = λ m is.
-    let fed : IsFed c.args.octets.now c.new-decoder.result c.in-Ok.fed.messages c.in-Ok.fed.fault
-    c.feed.new.self =
-    record {
-      start = c.new-decoder.ensures;
-      messages_are = c.in-Ok.ensures.messages;
-      fault_is =
-          c.in-Ok.ensures.fault;
-      held_is = c.in-Ok.ensures.held;
-    } in
-    let facts = whole_fed c.args.octets.now c.new-decoder.result c.in-Ok.fed.messages
-    c.in-Ok.fed.fault c.feed.new.self m fed is in
+    let fed = fed_of c.args.octets.now _ _ _ _ c.new-decoder.ensures c.in-Ok.ensures.messages
+    c.in-Ok.ensures.fault c.in-Ok.ensures.held in
+    let facts = whole_fed c.args.octets.now _ _ _ _ m fed is in
     let none : length c.feed.new.self.rest ≡ 0 = ap length facts.2 in
     omega arith
 
 pub returns-in-Some-clause-found : goal.returns-in-Some-clause-found
 returns-in-Some-clause-found c =
-    let fed : IsFed c.args.octets.now c.new-decoder.result c.in-Ok.fed.messages c.in-Ok.fed.fault
-    c.feed.new.self =
-    record {
-      start = c.new-decoder.ensures;
-      messages_are = c.in-Ok.ensures.messages;
-      fault_is =
-          c.in-Ok.ensures.fault;
-      held_is = c.in-Ok.ensures.held;
-    } in
+    let fed = fed_of c.args.octets.now _ _ _ _ c.new-decoder.ensures c.in-Ok.ensures.messages
+    c.in-Ok.ensures.fault c.in-Ok.ensures.held in
     let none : c.in-Ok.fed.fault ≡ None =
     is_none c.in-Ok.fed.fault (sym c.is_some.ensures ∙ c.if-is_some.false) in
-    fed_whole c.args.octets.now c.new-decoder.result c.in-Ok.fed.messages c.in-Ok.fed.fault
-    c.feed.new.self c.in-Some.message fed c.in-Some.ensures.found none (omega arith)
+    fed_whole c.args.octets.now _ _ _ _ c.in-Some.message fed c.in-Some.ensures.found none
+    (omega arith)
 
 pub returns-in-Ok-clause-other : goal.returns-in-Ok-clause-other
 returns-in-Ok-clause-other c = λ m is.
-    let fed : IsFed c.args.octets.now c.new-decoder.result c.in-Ok.fed.messages c.in-Ok.fed.fault
-    c.feed.new.self =
-    record {
-      start = c.new-decoder.ensures;
-      messages_are = c.in-Ok.ensures.messages;
-      fault_is =
-          c.in-Ok.ensures.fault;
-      held_is = c.in-Ok.ensures.held;
-    } in
-    let facts = whole_fed c.args.octets.now c.new-decoder.result c.in-Ok.fed.messages
-    c.in-Ok.fed.fault c.feed.new.self m fed is in
+    let fed = fed_of c.args.octets.now _ _ _ _ c.new-decoder.ensures c.in-Ok.ensures.messages
+    c.in-Ok.ensures.fault c.in-Ok.ensures.held in
+    let facts = whole_fed c.args.octets.now _ _ _ _ m fed is in
     c.in-None.ensures.other m facts.0

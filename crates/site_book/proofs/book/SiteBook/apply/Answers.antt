@@ -26,8 +26,7 @@ invariant_of-self-2 c =
     let row : Row = record {
       actor = c.args.actor;
       event = c.args.event;
-      reply =
-          c.add_row-placed.result.reply;
+      reply = c.add_row-placed.result.reply;
     } in
     rw (c.add_row-placed.ensures.rows, c.tills_with-self-inside.ensures, c.sign_change.ensures)
     (

@@ -27,8 +27,7 @@ invariant_of-self c =
     let row : Row = record {
       actor = Actor.Till c.args.t;
       event = Event.SignOff;
-      reply =
-          c.add_sign_off-placed.result.reply;
+      reply = c.add_sign_off-placed.result.reply;
     } in
     let one : 1 ≤ tills_on c.self.inside.site.site =
     one_on c.self.inside.site.site c.args.t (sym c.if-not-signed_on.ensures) in
