@@ -3,6 +3,7 @@
 import contextlib
 import os
 import pathlib
+import re
 import resource
 import subprocess
 import sys
@@ -134,3 +135,10 @@ def list_tests(program):
     """The names of the tests of a program of tests."""
     lines = [line.rsplit(": ", 1) for line in run(program, "--list").out.decode().splitlines()]
     return [line[0] for line in lines if line[-1] == "test"]
+
+
+def count_lanes():
+    """How many checks run side by side, each on one processor: as many as there are processors, and as find 4 GB of
+    memory. A check that is split over several processors costs nearly half more of their time."""
+    available = re.search(r"^MemAvailable: +(\d+)", pathlib.Path("/proc/meminfo").read_text(), re.M)
+    return max(1, min(os.cpu_count(), int(available.group(1)) // 4_000_000))
