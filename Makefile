@@ -1,23 +1,23 @@
 # The forecourt site controller. `make` alone says what there is.
 
 PROGRAM := crates/forecourt/out/forecourt
-ROWS := crates/worked_rows/out/worked_rows
-DESK_ROWS := crates/desk_rows/out/desk_rows
-COSTS := crates/parts_cost/out/parts_cost
+TABLES := crates/site_tables/out/site_tables
 CRATES := $(patsubst crates/%/wrong-bodies,%,$(wildcard crates/*/wrong-bodies))
 
-.PHONY: help run build check test audit bench
+.PHONY: help run build check smoke test audit bench
 
 help:
 	@echo 'make run      compiles the program without proof and runs it on the three stored messages'
 	@echo 'make build    proves and builds the program: $(PROGRAM)'
 	@echo 'make check    proves every crate, lowest first'
-	@echo 'make test     the gate: every proof from nothing, the wrong bodies of the first shelf, every test,'
-	@echo '              the built programs, refused growths and failing devices'
-	@echo 'make audit    the wrong bodies of the second shelf, of every crate or of CRATES="a b"'
-	@echo 'make bench    messages a second, memory, and their growth with the input; calls a second of tills that'
-	@echo '              collide; what a call of a part costs, a row of a book of a million, and a request of a'
-	@echo '              server beside an echo'
+	@echo 'make smoke    builds without proof, and runs every test of programs: minutes, and not the gate'
+	@echo 'make test     the gate: every proof from nothing, the mutants of the gate, every test, and the'
+	@echo '              built programs on their tables and cases, with allocations and devices that fail'
+	@echo 'make audit    the mutants of the audit, of every crate or of CRATES="a b"'
+	@echo 'make bench    messages a second, memory, and their growth with the input; calls a second of'
+	@echo '              tills that collide; what a message costs with 5 and 64 points and with up to'
+	@echo '              100,000 sales, a row of a book of a million, and a request of a server beside'
+	@echo '              an echo'
 
 run:
 	@cd crates/forecourt && rt try < stdin
@@ -28,12 +28,15 @@ build:
 check:
 	rt all check
 
+smoke:
+	scripts/smoke
+
 test:
-	RT_JOBS=$$(scripts/lanes) rt ci
+	scripts/gate
 	scripts/test-program $(PROGRAM)
 	scripts/test-server $(PROGRAM)
 	scripts/test-demos $(PROGRAM)
-	scripts/test-rows $(ROWS) $(DESK_ROWS)
+	scripts/test-tables $(TABLES)
 	scripts/test-faults
 
 audit:
@@ -41,9 +44,7 @@ audit:
 
 bench: build
 	@scripts/bench $(PROGRAM)
-	@scripts/bench-fuellings $(PROGRAM)
+	@scripts/bench-fuellings $(PROGRAM) 20000 40000 100000
 	@scripts/bench-book $(PROGRAM)
-	@cd crates/parts_cost && rt run > /dev/null
-	@scripts/parts-cost $(COSTS)
 	@scripts/bench-server $(PROGRAM)
 	@scripts/instructions $(PROGRAM)

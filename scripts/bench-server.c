@@ -37,14 +37,14 @@ static void fail(const char *why)
     exit(1);
 }
 
-static double now(void)
+static double read_clock(void)
 {
     struct timespec t;
     clock_gettime(CLOCK_MONOTONIC, &t);
     return t.tv_sec + t.tv_nsec * 1e-9;
 }
 
-static int connected(void)
+static int connect_here(void)
 {
     struct sockaddr_in here = {.sin_family = AF_INET, .sin_port = htons(port)};
     int one = 1, s = socket(AF_INET, SOCK_STREAM, 0);
@@ -56,7 +56,7 @@ static int connected(void)
 }
 
 /* Octets of a text in hexadecimal; returns how many. */
-static int octets(const char *text, unsigned char *to)
+static int parse_octets(const char *text, unsigned char *to)
 {
     int n = 0;
     for (unsigned value; sscanf(text, " %2x", &value) == 1; text += strspn(text, " "), text += 2)
@@ -65,7 +65,7 @@ static int octets(const char *text, unsigned char *to)
 }
 
 /* Sends a message, and looks whether the reply is the one that is wanted. */
-static void asks(int s, const unsigned char *sent, int length, const unsigned char *wanted, int due)
+static void ask(int s, const unsigned char *sent, int length, const unsigned char *wanted, int due)
 {
     unsigned char got[MOST];
     if (send(s, sent, length, MSG_NOSIGNAL) != length)
@@ -80,27 +80,27 @@ static void asks(int s, const unsigned char *sent, int length, const unsigned ch
         fail("a reply isn't the one that is wanted");
 }
 
-static void told(int s, int node_place, int node, const char *request, const char *reply)
+static void ask_text(int s, int node_place, int node, const char *request, const char *reply)
 {
     unsigned char sent[MOST], wanted[MOST];
-    int length = octets(request, sent), due = octets(reply, wanted);
+    int length = parse_octets(request, sent), due = parse_octets(reply, wanted);
     sent[node_place] = wanted[1] = node;
-    asks(s, sent, length, wanted, due);
+    ask(s, sent, length, wanted, due);
 }
 
 /* Reads of a point, or the same octets to and fro. */
-static void reads(struct client *c)
+static void make_reads(struct client *c)
 {
     unsigned char sent[MOST], wanted[MOST];
-    int s = connected(), is_echo = strcmp(kind, "echo") == 0;
-    int length = octets("01 01 02 01 00 00 00 02 01 21", sent), due = length;
+    int s = connect_here(), is_echo = strcmp(kind, "echo") == 0;
+    int length = parse_octets("01 01 02 01 00 00 00 02 01 21", sent), due = length;
     sent[3] = c->number;
     if (is_echo) {
         memcpy(wanted, sent, length);
     } else {
-        told(s, 3, c->number, "01 01 02 01 00 41 00 04 01 01 31 00",
+        ask_text(s, 3, c->number, "01 01 02 01 00 41 00 04 01 01 31 00",
              "02 01 01 01 00 E1 00 08 01 01 01 01 00 03 01 00");
-        due = octets("02 01 01 01 00 20 00 1E 01 21 10 01 02 11 01 00 12 01 00 13 01 00"
+        due = parse_octets("02 01 01 01 00 20 00 1E 01 21 10 01 02 11 01 00 12 01 00 13 01 00"
                      " 72 04 00 00 00 00 73 08 00 00 00 00 00 00 00 00", wanted);
         wanted[1] = c->number;
     }
@@ -108,34 +108,34 @@ static void reads(struct client *c)
     for (int n = -WARMING; n < requests; n++) {
         if (n == 0) {
             pthread_barrier_wait(&begin);
-            start = now();
+            start = read_clock();
         }
         sent[5] = (unsigned)n % 32;
         wanted[5] = is_echo ? sent[5] : 0x20 | sent[5];
-        double before = now();
-        asks(s, sent, length, wanted, due);
+        double before = read_clock();
+        ask(s, sent, length, wanted, due);
         if (n >= 0)
-            c->nanoseconds[n] = (now() - before) * 1e9;
+            c->nanoseconds[n] = (read_clock() - before) * 1e9;
     }
-    c->seconds = now() - start;
+    c->seconds = read_clock() - start;
     close(s);
 }
 
 /* The number n in packed decimal digits. */
-static void digits(int n, unsigned char *to)
+static void write_digits(int n, unsigned char *to)
 {
     to[0] = n / 1000 << 4 | n / 100 % 10;
     to[1] = n / 10 % 10 << 4 | n % 10;
 }
 
-static void reading(long n, unsigned char *to)
+static void write_reading(long n, unsigned char *to)
 {
     for (int i = 7; i >= 0; i--, n >>= 8)
         to[i] = n & 255;
 }
 
 /* Sales at a point: release, lift, hang up with 1,000 ml more, lock, clear; one request after the other. */
-static void sales(struct client *c)
+static void make_sales(struct client *c)
 {
     static const char *asked[] = {
         "01 01 02 00 00 40 00 04 01 00 3E 00",
@@ -152,36 +152,36 @@ static void sales(struct client *c)
         "02 00 01 01 00 E0 00 15 04 00 21 00 00 01 01 00 03 01 0B 75 08 00 00 00 00 00 00 00 96",
     };
     unsigned char sent[5][MOST], wanted[5][MOST];
-    int length[5], due[5], till = connected(), pump = connected();
+    int length[5], due[5], till = connect_here(), pump = connect_here();
     for (int i = 0; i < 5; i++) {
-        length[i] = octets(asked[i], sent[i]);
-        due[i] = octets(replied[i], wanted[i]);
+        length[i] = parse_octets(asked[i], sent[i]);
+        due[i] = parse_octets(replied[i], wanted[i]);
         sent[i][3] = wanted[i][1] = c->number;
         sent[i][9] = wanted[i][9] = 0x20 + c->number;
     }
-    told(till, 3, c->number, "01 01 02 01 00 41 00 04 01 01 31 00", "02 01 01 01 00 E1 00 08 01 01 01 01 00 03 01 00");
+    ask_text(till, 3, c->number, "01 01 02 01 00 41 00 04 01 01 31 00", "02 01 01 01 00 E1 00 08 01 01 01 01 00 03 01 00");
     unsigned char open[MOST], opened[MOST];
-    int n_open = octets("01 01 02 00 00 42 00 04 01 00 3C 00", open);
-    int n_opened = octets("02 00 01 01 00 E2 00 08 01 00 01 01 00 03 01 00", opened);
+    int n_open = parse_octets("01 01 02 00 00 42 00 04 01 00 3C 00", open);
+    int n_opened = parse_octets("02 00 01 01 00 E2 00 08 01 00 01 01 00 03 01 00", opened);
     open[3] = opened[1] = c->number;
     open[9] = opened[9] = 0x20 + c->number;
-    asks(till, open, n_open, opened, n_opened);
+    ask(till, open, n_open, opened, n_opened);
     pthread_barrier_wait(&begin);
-    double start = now();
+    double start = read_clock();
     for (int n = 0; n < requests; n++) {
-        reading(n * 1000L, sent[1] + 17);
-        reading((n + 1) * 1000L, sent[2] + 17);
-        digits(n + 1, wanted[2] + 28);
+        write_reading(n * 1000L, sent[1] + 17);
+        write_reading((n + 1) * 1000L, sent[2] + 17);
+        write_digits(n + 1, wanted[2] + 28);
         for (int i = 3; i < 5; i++) {
-            digits(n + 1, sent[i] + 11);
-            digits(n + 1, wanted[i] + 11);
+            write_digits(n + 1, sent[i] + 11);
+            write_digits(n + 1, wanted[i] + 11);
         }
-        double before = now();
+        double before = read_clock();
         for (int i = 0; i < 5; i++)
-            asks(i == 1 || i == 2 ? pump : till, sent[i], length[i], wanted[i], due[i]);
-        c->nanoseconds[n] = (now() - before) * 1e9;
+            ask(i == 1 || i == 2 ? pump : till, sent[i], length[i], wanted[i], due[i]);
+        c->nanoseconds[n] = (read_clock() - before) * 1e9;
     }
-    c->seconds = now() - start;
+    c->seconds = read_clock() - start;
     close(till);
     close(pump);
 }
@@ -189,13 +189,13 @@ static void sales(struct client *c)
 static void *run(void *client)
 {
     if (strcmp(kind, "sales") == 0)
-        sales(client);
+        make_sales(client);
     else
-        reads(client);
+        make_reads(client);
     return NULL;
 }
 
-static int by_size(const void *a, const void *b)
+static int compare_times(const void *a, const void *b)
 {
     int x = *(const int *)a, y = *(const int *)b;
     return (x > y) - (x < y);
@@ -228,7 +228,7 @@ int main(int count, char **words)
         longest = all[i].seconds > longest ? all[i].seconds : longest;
     }
     long sum = (long)clients * requests;
-    qsort(times, sum, sizeof(int), by_size);
+    qsort(times, sum, sizeof(int), compare_times);
     printf("%.0f %.1f %.1f %.1f\n", sum / longest, times[sum / 2] / 1e3, times[sum * 99 / 100] / 1e3,
            times[sum * 999 / 1000] / 1e3);
     return 0;

@@ -33,7 +33,7 @@ static void echo_one(int stream)
                 return;
 }
 
-static void *worker(void *unused)
+static void *serve_sessions(void *unused)
 {
     int one = 1;
     for (int session = 0; session < sessions; session++) {
@@ -66,7 +66,7 @@ int main(int count, char **words)
     printf("listening 127.0.0.1:%d\n", ntohs(here.sin_port));
     fflush(stdout);
     for (int i = 0; i < workers; i++)
-        if (pthread_create(&threads[i], NULL, worker, NULL) != 0)
+        if (pthread_create(&threads[i], NULL, serve_sessions, NULL) != 0)
             fail("echo: can't start a worker");
     for (int i = 0; i < workers; i++)
         pthread_join(threads[i], NULL);

@@ -1,6 +1,6 @@
 /* Loaded before a program under test, so that what the system gives it fails where the test says:
  *
- *   REFUSE_GROWTH=N    the Nth growth of the process is refused, once
+ *   FAIL_ALLOCATION=N  the Nth allocation of the process fails, once
  *   FAIL_READ=K        the Kth read of standard input fails
  *   FAIL_FILE_READ=K   the Kth read of another file fails
  *   FAIL_WRITE=K       the Kth write to standard output fails
@@ -17,6 +17,7 @@
  *   FAIL_ACCEPT=K      the Kth connection isn't accepted
  *   FAIL_THREAD=K      the Kth thread isn't started
  *   FAIL_THREADS=K     no thread is started from the Kth on
+ *   START_TOGETHER=N   the first N threads that are started, 16 at most, run once all of them are
  *   INTERRUPT=1        every second read, of any file or socket, and every second write, to standard
  *                      output or a socket, is interrupted
  *   MET=FILE           is made when a call met its fault
@@ -42,7 +43,7 @@ static long number(const char *name)
     return text ? atol(text) : 0;
 }
 
-static void met(void)
+static void note_met(void)
 {
     const char *path = getenv("MET");
     if (path)
@@ -55,17 +56,17 @@ static int fails(const char *name, long *calls)
     long wanted = number(name);
     if (wanted == 0 || ++*calls != wanted)
         return 0;
-    met();
+    note_met();
     return 1;
 }
 
-static long growths, reads, file_reads, writes, taken, received, sent;
+static long allocations, reads, file_reads, writes, taken, received, sent;
 static int read_before, file_read_before, written_before, received_before, sent_before;
 
-/* Is this the growth that is refused? The system says so, too. */
-static int refused(void)
+/* Is this the allocation that fails? The system says so, too. */
+static int fails_to_allocate(void)
 {
-    if (!fails("REFUSE_GROWTH", &growths))
+    if (!fails("FAIL_ALLOCATION", &allocations))
         return 0;
     errno = ENOMEM;
     return 1;
@@ -73,69 +74,70 @@ static int refused(void)
 
 void *malloc(size_t size)
 {
-    return refused() ? NULL : __libc_malloc(size);
+    return fails_to_allocate() ? NULL : __libc_malloc(size);
 }
 
 void *calloc(size_t count, size_t size)
 {
-    return refused() ? NULL : __libc_calloc(count, size);
+    return fails_to_allocate() ? NULL : __libc_calloc(count, size);
 }
 
 void *realloc(void *old, size_t size)
 {
-    return refused() ? NULL : __libc_realloc(old, size);
+    return fails_to_allocate() ? NULL : __libc_realloc(old, size);
 }
 
 void *aligned_alloc(size_t alignment, size_t size)
 {
-    return refused() ? NULL : __libc_memalign(alignment, size);
+    return fails_to_allocate() ? NULL : __libc_memalign(alignment, size);
 }
 
 int posix_memalign(void **result, size_t alignment, size_t size)
 {
-    void *room = aligned_alloc(alignment, size);
-    if (!room)
+    void *memory = aligned_alloc(alignment, size);
+    if (!memory)
         return ENOMEM;
-    *result = room;
+    *result = memory;
     return 0;
 }
 
-static int interrupted(int *before)
+/* Is this call interrupted, since the one before it wasn't? */
+static int interrupts(int *before)
 {
     if (!number("INTERRUPT"))
         return 0;
     *before = !*before;
     if (*before) {
         errno = EINTR;
-        met();
+        note_met();
     }
     return *before;
 }
 
-ssize_t read(int file, void *room, size_t size)
+ssize_t read(int file, void *to, size_t size)
 {
     if (file == 0) {
-        if (interrupted(&read_before))
+        if (interrupts(&read_before))
             return -1;
         if (fails("FAIL_READ", &reads)) {
             errno = EIO;
             return -1;
         }
     } else {
-        if (interrupted(&file_read_before))
+        if (interrupts(&file_read_before))
             return -1;
         if (fails("FAIL_FILE_READ", &file_reads)) {
             errno = EIO;
             return -1;
         }
     }
-    return syscall(SYS_read, file, room, size);
+    return syscall(SYS_read, file, to, size);
 }
 
 ssize_t write(int file, const void *text, size_t size)
 {
     if (file == 1) {
-        if (interrupted(&written_before))
+        if (interrupts(&written_before))
             return -1;
         if (fails("FAIL_WRITE", &writes)) {
             errno = EIO;
@@ -143,12 +145,12 @@ ssize_t write(int file, const void *text, size_t size)
         }
         if (number("SHORT_WRITE") && size > (size_t)number("SHORT_WRITE")) {
             size = number("SHORT_WRITE");
-            met();
+            note_met();
         }
         if (getenv("TAKE_ALL")) {
             size_t left = number("TAKE_ALL") - taken;
             if (size > left) {
-                met();
+                note_met();
                 size = left;
             }
             if (size == 0)
@@ -159,20 +161,20 @@ ssize_t write(int file, const void *text, size_t size)
     return syscall(SYS_write, file, text, size);
 }
 
-ssize_t recv(int socket, void *room, size_t size, int flags)
+ssize_t recv(int socket, void *to, size_t size, int flags)
 {
-    if (interrupted(&received_before))
+    if (interrupts(&received_before))
         return -1;
     if (fails("FAIL_RECEIVE", &received)) {
         errno = EIO;
         return -1;
     }
-    return syscall(SYS_recvfrom, socket, room, size, flags, NULL, NULL);
+    return syscall(SYS_recvfrom, socket, to, size, flags, NULL, NULL);
 }
 
 ssize_t send(int socket, const void *text, size_t size, int flags)
 {
-    if (interrupted(&sent_before))
+    if (interrupts(&sent_before))
         return -1;
     if (fails("FAIL_SEND", &sent)) {
         errno = EIO;
@@ -180,7 +182,7 @@ ssize_t send(int socket, const void *text, size_t size, int flags)
     }
     if (number("SHORT_SEND") && size > (size_t)number("SHORT_SEND")) {
         size = number("SHORT_SEND");
-        met();
+        note_met();
     }
     return syscall(SYS_sendto, socket, text, size, flags, NULL, 0);
 }
@@ -243,17 +245,41 @@ int accept(int socket, struct sockaddr *address, socklen_t *size)
     return accept4(socket, address, size, 0);
 }
 
+/* A thread that waits until the others are started. */
+struct start {
+    void *(*run)(void *);
+    void *given;
+};
+
+enum { MOST_THREADS = 16 };
+
+static struct start starts[MOST_THREADS];
+static pthread_barrier_t all_started;
+static long started;
+
+static void *run_together(void *start)
+{
+    pthread_barrier_wait(&all_started);
+    return ((struct start *)start)->run(((struct start *)start)->given);
+}
+
 /* Threads are started by the main thread alone, so that they are counted in their order. */
 int pthread_create(pthread_t *thread, const pthread_attr_t *how, void *(*run)(void *), void *given)
 {
     int (*real)(pthread_t *, const pthread_attr_t *, void *(*)(void *), void *) =
         dlsym(RTLD_NEXT, "pthread_create");
-    long first = number("FAIL_THREADS");
+    long first = number("FAIL_THREADS"), together = number("START_TOGETHER");
     if (fails("FAIL_THREAD", &threads))
         return EAGAIN;
     if (first != 0 && ++threads >= first) {
-        met();
+        note_met();
         return EAGAIN;
     }
-    return real(thread, how, run, given);
+    if (started >= together || together > MOST_THREADS)
+        return real(thread, how, run, given);
+    if (started == 0)
+        pthread_barrier_init(&all_started, NULL, together);
+    starts[started] = (struct start){run, given};
+    note_met();
+    return real(thread, how, run_together, &starts[started++]);
 }
