@@ -2,10 +2,11 @@
  *
  *   bench-server reads PORT CLIENTS REQUESTS    tills that read a fuelling point each
  *   bench-server echo PORT CLIENTS REQUESTS     the same octets, to a server that sends them back
- *   bench-server sales PORT PAIRS CYCLES        pairs of a till and a dispenser, whose sales are cleared
+ *   bench-server sales PORT PAIRS CYCLES        pairs of a till and a dispenser that sell and clear
  *
- * Each client has one request outstanding, looks at every reply, and keeps how long it took. Printed are
- * requests a second of them all, and microseconds that half, 99 of 100 and 999 of 1,000 replies took at most.
+ * Each client has one request outstanding, looks at every reply, and keeps how long it took.
+ * Printed are requests a second of them all, and microseconds that half, 99 of 100 and 999 of 1,000
+ * replies took at most.
  */
 #include <arpa/inet.h>
 #include <netinet/in.h>
@@ -134,7 +135,8 @@ static void write_reading(long n, unsigned char *to)
         to[i] = n & 255;
 }
 
-/* Sales at a point: release, lift, hang up with 1,000 ml more, lock, clear; one request after the other. */
+/* Sales at a point: release, lift, hang up with 1,000 ml more, lock, clear; each request behind the
+ * reply to the one before it. */
 static void make_sales(struct client *c)
 {
     static const char *asked[] = {
@@ -159,7 +161,8 @@ static void make_sales(struct client *c)
         sent[i][3] = wanted[i][1] = c->number;
         sent[i][9] = wanted[i][9] = 0x20 + c->number;
     }
-    ask_text(till, 3, c->number, "01 01 02 01 00 41 00 04 01 01 31 00", "02 01 01 01 00 E1 00 08 01 01 01 01 00 03 01 00");
+    ask_text(till, 3, c->number, "01 01 02 01 00 41 00 04 01 01 31 00",
+             "02 01 01 01 00 E1 00 08 01 01 01 01 00 03 01 00");
     unsigned char open[MOST], opened[MOST];
     int n_open = parse_octets("01 01 02 00 00 42 00 04 01 00 3C 00", open);
     int n_opened = parse_octets("02 00 01 01 00 E2 00 08 01 00 01 01 00 03 01 00", opened);
@@ -229,7 +232,7 @@ int main(int count, char **words)
     }
     long sum = (long)clients * requests;
     qsort(times, sum, sizeof(int), compare_times);
-    printf("%.0f %.1f %.1f %.1f\n", sum / longest, times[sum / 2] / 1e3, times[sum * 99 / 100] / 1e3,
-           times[sum * 999 / 1000] / 1e3);
+    printf("%.0f %.1f %.1f %.1f\n", sum / longest, times[sum / 2] / 1e3,
+           times[sum * 99 / 100] / 1e3, times[sum * 999 / 1000] / 1e3);
     return 0;
 }

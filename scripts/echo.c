@@ -1,7 +1,8 @@
 /* An echo over loopback, beside which scripts/bench-server measures the server of sessions:
  *
- *   echo WORKERS SESSIONS    listens on a free port of 127.0.0.1, prints it, and serves so many sessions
- *                            by each of so many workers: what a connection sends is sent back
+ *   echo WORKERS SESSIONS    listens on a free port of 127.0.0.1, prints it, and serves so many
+ *                            sessions by each of so many workers: what a connection sends is sent
+ *                            back
  */
 #include <arpa/inet.h>
 #include <netinet/in.h>
@@ -60,7 +61,8 @@ int main(int count, char **words)
     }
     here.sin_addr.s_addr = htonl(INADDR_LOOPBACK);
     listener = socket(AF_INET, SOCK_STREAM, 0);
-    if (listener < 0 || bind(listener, (struct sockaddr *)&here, sizeof here) != 0 || listen(listener, 128) != 0)
+    if (listener < 0 || bind(listener, (struct sockaddr *)&here, sizeof here) != 0 ||
+        listen(listener, 128) != 0)
         fail("echo: can't listen");
     getsockname(listener, (struct sockaddr *)&here, &length);
     printf("listening 127.0.0.1:%d\n", ntohs(here.sin_port));

@@ -18,8 +18,8 @@
  *   FAIL_THREAD=K      the Kth thread isn't started
  *   FAIL_THREADS=K     no thread is started from the Kth on
  *   START_TOGETHER=N   the first N threads that are started, 16 at most, run once all of them are
- *   INTERRUPT=1        every second read, of any file or socket, and every second write, to standard
- *                      output or a socket, is interrupted
+ *   INTERRUPT=1        every second read, of any file or socket, and every second write, to
+ *                      standard output or a socket, is interrupted
  *   MET=FILE           is made when a call met its fault
  */
 #define _GNU_SOURCE

@@ -35,7 +35,8 @@ def close_input():
 
 
 def run(*command, given=b"", sink=None, **how):
-    """Runs a command on octets or on a file; its standard output goes to the file `sink` where there is one."""
+    """Runs a command on octets or on a file; its standard output goes to the file `sink` where
+    there is one."""
     command = [os.fspath(word) if isinstance(word, os.PathLike) else word for word in command]
     how = {"timeout": PATIENCE, "stderr": subprocess.PIPE, **how}
     with contextlib.ExitStack() as files:
@@ -49,7 +50,8 @@ def run(*command, given=b"", sink=None, **how):
 
 
 def measure(*command, given=os.devnull, sink=os.devnull):
-    """Runs a command from file to file, which has to end well; returns processor seconds and peak kilobytes."""
+    """Runs a command from file to file, which has to end well; returns processor seconds and
+    peak kilobytes."""
     with open(given, "rb") as source, open(sink, "wb") as taken:
         child = subprocess.Popen(list(map(str, command)), stdin=source, stdout=taken)
         _, status, usage = os.wait4(child.pid, 0)
@@ -81,7 +83,8 @@ def compile_c(folder, name, *flags):
 
 
 def shorten(value):
-    """A value as it is printed: octets in hexadecimal where they aren't text, and not all of a long one."""
+    """A value as it is printed: octets in hexadecimal where they aren't text, and not all of a
+    long one."""
     if isinstance(value, bytes):
         value = value.decode() if value.isascii() and b"\0" not in value else value.hex(" ")
     text = value if isinstance(value, str) else repr(value)
@@ -104,7 +107,8 @@ class Checks:
         return got == wanted
 
     def expect_end(self, name, end, status=0, out=b"", err=""):
-        """Whether a run ended with this status, these octets and, but for a line feed, this text."""
+        """Whether a run ended with this status, these octets and, but for a line feed, this
+        text."""
         out = out.read_bytes() if isinstance(out, os.PathLike) else out
         got = (end.status, end.out, end.err.removesuffix("\n"))
         if got == (status, out, err):
@@ -123,7 +127,8 @@ class Checks:
 
 
 def find_program(name, built=None, of_tests=False):
-    """The program of a crate, or that of its tests: in the folder of what was built, or where rt ci leaves it."""
+    """The program of a crate, or that of its tests: in the folder of what was built, or where rt
+    ci leaves it."""
     folder = built or CRATES / name / "out"
     program = folder / (f"{name}_tests" if of_tests else name)
     if not program.exists():
@@ -138,7 +143,8 @@ def list_tests(program):
 
 
 def count_lanes():
-    """How many checks run side by side, each on one processor: as many as there are processors, and as find 4 GB of
-    memory. A check that is split over several processors costs nearly half more of their time."""
+    """How many checks run side by side, each on one processor: as many as there are processors,
+    and as find 4 GB of memory. A check that is split over several processors costs nearly half
+    more of their time."""
     available = re.search(r"^MemAvailable: +(\d+)", pathlib.Path("/proc/meminfo").read_text(), re.M)
     return max(1, min(os.cpu_count(), int(available.group(1)) // 4_000_000))

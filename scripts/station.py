@@ -1,5 +1,5 @@
-"""The messages of a station as octets, and its sites: for the scripts beside this file. docs/PROFILE.md has every
-number that is named here."""
+"""The messages of a station as octets, and its sites: for the scripts beside this file.
+docs/PROFILE.md has every number that is named here."""
 
 import contextlib
 import socket
@@ -9,37 +9,31 @@ from running import CRATES, EXAMPLES, PATIENCE
 
 # Sites.
 SITES = CRATES / "site_file/cases"
-KNOWN_SITE = SITES / "c1.toml"  # points 1 to 5 with diesel at 1,500 and petrol at 1,799; till 1 is a manager
+# Points 1 to 5 with diesel at 1,500 and petrol at 1,799; till 1 is a manager.
+KNOWN_SITE = SITES / "c1.toml"
 GREATEST_SITE = SITES / "points_64.toml"
 FIVE_POINTS, SIXTY_FOUR_POINTS = EXAMPLES / "five_points.toml", EXAMPLES / "sixty_four_points.toml"
 LONGEST_LINE = 65_536  # octets of a line of messages
-READING_LIMIT, MOST_SALES = 999_999_999_999, 9_999
 
 # Who speaks.
 SITE, TILL, DISPENSER = 1, 2, 3
 # What is sent.
-READ, ANSWER, WRITE, REPORT, NOTICE, ACKNOWLEDGE = 0, 1, 2, 3, 4, 7
+READ, WRITE, REPORT, ACKNOWLEDGE = 0, 2, 3, 7
 # Addresses.
-SITE_ADDRESS, OPEN_SHIFT, NAMED_SHIFT = b"\x01", 0x21, 0x22
+SITE_ADDRESS, OPEN_SHIFT = b"\x01", 0x21
 # Commands.
 SIGN_ON, SIGN_OFF, CLOSE_SHIFT = 0x31, 0x32, 0x33
 OPEN, CLOSE, RELEASE, TERMINATE, SUSPEND, RESUME, ASSIGN, UNASSIGN = range(0x3C, 0x44)
-PREPAY, TEST_RELEASE, REPLACE_METER = 0x44, 0x45, 0x46
-ONLINE, OFFLINE, LIFT, FLOW, HANG_UP = range(0x60, 0x65)
-LOCK, UNLOCK, CLEAR = 0x80, 0x81, 0x82
-SET_PRICE = 0x90
-# Items of replies and reports.
-RESULT, DETAIL, OUTCOME = 0x01, 0x02, 0x03
-NOZZLE, READING, PRICE, VOLUME, SEQUENCE, CENTS = range(0x70, 0x76)
-# Outcomes.
-DONE, CALLING, START, FLOWED, HUNG_UP, NO_SALE, SOLD, STOPPED, ENDING, LOCKED, UNLOCKED, CLEARED = range(12)
-# Refusals and faults.
-NOT_SIGNED_ON, ALREADY_CLEARED, BOOK_FULL, NO_MEMORY = 1, 22, 30, 31
-BAD_CODE, BAD_DECIMAL, ORIGINATOR_CHANGED = 40, 55, 57
+TEST_RELEASE = 0x45
+LIFT, FLOW, HANG_UP = 0x62, 0x63, 0x64
+LOCK, CLEAR = 0x80, 0x82
+# Items.
+RESULT, NOZZLE, READING = 0x01, 0x70, 0x71
 
 
 class Message(typing.NamedTuple):
-    """A message as it is read: who gets it and who sent it, as (subnet, node), and its items by identifier."""
+    """A message as it is read: who gets it and who sent it, as (subnet, node), and its items by
+    identifier."""
 
     to: tuple
     sender: tuple
@@ -51,7 +45,9 @@ class Message(typing.NamedTuple):
 
 def encode(to, sender, kind, token, address, items=()):
     """The octets of a message; items are (identifier, content)."""
-    body = bytes([len(address)]) + address + b"".join(bytes([name, len(text)]) + text for name, text in items)
+    body = bytes([len(address)]) + address + b"".join(
+        bytes([name, len(text)]) + text for name, text in items
+    )
     return bytes([*to, *sender, 0, kind << 5 | token]) + len(body).to_bytes(2, "big") + body
 
 
@@ -65,7 +61,8 @@ def decode(octets):
         while rest:
             items[rest[0]], rest = rest[2 : 2 + rest[1]], rest[2 + rest[1] :]
         kind, token = octets[5] >> 5, octets[5] & 31
-        messages.append(Message(tuple(octets[:2]), tuple(octets[2:4]), kind, token, body[1 : 1 + body[0]], items))
+        to, sender, address = tuple(octets[:2]), tuple(octets[2:4]), body[1 : 1 + body[0]]
+        messages.append(Message(to, sender, kind, token, address, items))
         octets = octets[end:]
     return messages
 
@@ -77,7 +74,9 @@ def parse(*texts):
 
 def write_lines(octets):
     """The octets as lines of hexadecimal that aren't too long."""
-    return b"".join(octets[at : at + 10_000].hex().encode() + b"\n" for at in range(0, len(octets), 10_000))
+    return b"".join(
+        octets[at : at + 10_000].hex().encode() + b"\n" for at in range(0, len(octets), 10_000)
+    )
 
 
 # ---- what is asked of the site
@@ -134,32 +133,24 @@ def report(point, token, command, reading, nozzle=1):
 # ---- what the site replies
 
 
-def acknowledge(till, token, address, outcome=DONE, *items, sender=TILL):
-    """The acknowledgement of an accepted request, with what stands behind its outcome."""
-    result = (RESULT, b"\0"), (OUTCOME, bytes([outcome])), *items
-    return encode((sender, till), (SITE, 1), ACKNOWLEDGE, token, address, result)
-
-
-def refuse(till, token, address, number, detail=None, sender=TILL):
-    """The acknowledgement of a request that is refused, or faulty."""
-    result = [(RESULT, bytes([number]))]
-    if detail is not None:
-        result.append((DETAIL, detail.to_bytes(8, "big")))
-    return encode((sender, till), (SITE, 1), ACKNOWLEDGE, token, address, result)
-
-
 def is_accepted(message):
-    """Whether a reply is that to an accepted request: an acknowledgement of 0, or an answer to a read."""
+    """Whether a reply is that to an accepted request: an acknowledgement of 0, or an answer to a
+    read."""
     return message.kind != ACKNOWLEDGE or message.items[RESULT] == b"\0"
 
 
 def write_report(rows, shares, clears=0, cents=0, **products):
-    """The report of a day at a site with diesel and petrol; of a product the volumes that aren't 0."""
+    """The report of a day at a site with diesel and petrol; of a product the volumes that aren't
+    0."""
     lines = [f"rows {rows}", f"clears {clears} cents {cents}"]
     for number, name in enumerate(("diesel", "petrol"), 1):
-        volumes = dict.fromkeys(("metered", "running", "payable", "locked", "cleared", "adjusted"), 0)
+        volumes = dict.fromkeys(
+            ("metered", "running", "payable", "locked", "cleared", "adjusted"), 0
+        )
         volumes.update(products.get(name, {}))
-        lines.append(f"product {number} {name} " + " ".join(f"{what} {ml}" for what, ml in volumes.items()))
+        lines.append(
+            f"product {number} {name} " + " ".join(f"{what} {ml}" for what, ml in volumes.items())
+        )
     return "\n".join([*lines, f"shares {shares} settled", ""])
 
 
@@ -167,7 +158,9 @@ def write_site(points):
     """A site file of so many points with a nozzle of diesel each."""
     text = '[[product]]\nnumber = 1\nname = "diesel"\nprice = 1500\n'
     nozzles = "nozzles = [{product = 1, reading = 0}]"
-    return text + "".join(f"[[point]]\nnumber = {number}\n{nozzles}\n" for number in range(1, points + 1))
+    return text + "".join(
+        f"[[point]]\nnumber = {number}\n{nozzles}\n" for number in range(1, points + 1)
+    )
 
 
 # ---- over sockets
