@@ -6,12 +6,12 @@ use Rattle.site_core.specs.SiteParts.{site_of}
 use Rattle.site_core.proofs.ToldInOrder.{filled}
 use Rattle.site_core.proofs.site_parts.SiteParts.counted_takings.Goals as goal
 
-pub counted-clears-requires : goal.recount-clears-requires
-counted-clears-requires c =
+pub recount-clears-requires : goal.recount-clears-requires
+recount-clears-requires c =
     (figures_in_range (site_of c.args.self.now) c.args.n c.requires).clears c.of_cell-till.result
 
-pub counted-cents-requires : goal.recount-cents-requires
-counted-cents-requires c =
+pub recount-cents-requires : goal.recount-cents-requires
+recount-cents-requires c =
     (figures_in_range (site_of c.args.self.now) c.args.n c.requires).cents c.of_cell-till.result
 
 pub loop-cell-preserved : goal.loop-cell-preserved

@@ -5,8 +5,8 @@ use Rattle.site_core.specs.SiteParts.{site_of}
 use Rattle.site_core.proofs.ToldInOrder.{filled}
 use Rattle.site_core.proofs.site_parts.SiteParts.recount_cleared.Goals as goal
 
-pub counted-requires : goal.recount-requires
-counted-requires c =
+pub recount-requires : goal.recount-requires
+recount-requires c =
     (figures_in_range (site_of c.args.self.now) c.args.n c.requires).cleared
     c.of_cell-product.result
 
