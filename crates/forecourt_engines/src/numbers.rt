@@ -4,8 +4,7 @@ use crate::explain::fault_name;
 use site_base::refusal_name;
 use std::fmt;
 
-/// A number that the site or the program tells: what it is of, its name, if it has one, and what it
-/// says.
+/// A number that the site or the program tells, and what it says.
 #[derive(Clone, Copy, Debug, PartialEq, Eq)]
 pub struct NumberMeaning {
     number: u8,
@@ -35,11 +34,35 @@ impl fmt::Display for NumberMeaning {
     /// `refusal 20 LockedByOther: another till has locked the transaction (detail: the till)`.
     fn fmt<W: fmt::Write>(&self, f: &mut fmt::Formatter<W>) -> fmt::Result {
         let number = self.number;
-        match (refusal_name(number), fault_name(number)) {
-            (Some(name), _) => write!(f, "refusal {number} {name}: {}", self.text),
-            (None, Some(name)) => write!(f, "fault {number} {name}: {}", self.text),
-            (None, None) => write!(f, "fault {number}: {}", self.text),
+        if let Some(name) = refusal_name(number) {
+            return write!(f, "refusal {number} {name}: {}", self.text);
         }
+        let name = fault_name(number)
+            .or(program_fault_name(number))
+            .unwrap_or("");
+        write!(f, "fault {number} {name}: {}", self.text)
+    }
+}
+
+/// The name of a fault that no message tells.
+fn program_fault_name(number: u8) -> Option<&'static str> {
+    match number {
+        44 => Some("Truncated"),
+        59 => Some("TurnLimit"),
+        60 => Some("StrangeReceipt"),
+        61 => Some("ReadFault"),
+        62 => Some("WriteFault"),
+        63 => Some("AcceptFault"),
+        64 => Some("NoWorker"),
+        65 => Some("PollsSpent"),
+        70 => Some("NotToml"),
+        71 => Some("UnknownKey"),
+        72 => Some("MissingKey"),
+        73 => Some("WrongKind"),
+        74 => Some("OutOfRange"),
+        75 => Some("Repeated"),
+        76 => Some("UnknownProduct"),
+        _ => None,
     }
 }
 
