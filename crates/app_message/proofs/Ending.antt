@@ -106,8 +106,7 @@ items_fail (suc n) low s e fits h =
                           parts = text;
                           rises = (first.order, first.valid, bad.1.rises);
                           some = bad.1.some;
-                          faulty =
-                              bad.1.faulty;
+                          faulty = bad.1.faulty;
                         },
                       )
                   | inr es ↦ never (x.0.0 ∷ es.0) e es.2

@@ -150,8 +150,7 @@ fault_stays = refl
 
 -- seven octets are kept, the next five end the message, and nothing is kept then
 kept_in_between : held_after (take 7 sign_on_text) ≡ record {
-  rest =
-      take 7 sign_on_text;
+  rest = take 7 sign_on_text;
   fault = None;
 }
 unfolding walk front_at header_at

@@ -70,7 +70,7 @@ impl Draft {
             → IsErrOf result MessageFault.BadLength }
     {
         parts::check_address(address)?;
-        parts::typed(&to, &from, token);
+        parts::know_types(&to, &from, token);
         let mut body = Vec::with_capacity(alloc, room.saturating_add(address.len() + 1))?;
         body.push(address.len() as u8)?;
         body.extend_from_slice(address)?;
@@ -102,7 +102,7 @@ impl Draft {
         ensures most { OnOk result (length request.now.address ≤ LONGEST_ADDRESS) }
     {
         let (to, token) = (request.from(), request.token());
-        parts::typed(&to, &from, token);
+        parts::know_types(&to, &from, token);
         let mut body = buffer;
         body.clear();
         body.reserve(room.saturating_add(1 + LONGEST_ADDRESS))?;

@@ -19,7 +19,7 @@ pub fn check(address: &[u8], items: &[(u8, &[u8])]) -> Result<(), MessageFault>
     ensures err { IfErr result (λ e. parts_fault address.now (entries items.now) ≡ Some e) }
 {
     check_address(address)?;
-    if !fit(address, items) {
+    if !fits_body(address, items) {
         return Err(MessageFault::BadLength);
     }
     if !rise(items) {
@@ -48,7 +48,7 @@ pub fn check_address(address: &[u8]) -> Result<(), MessageFault>
 }
 
 /// Whether the address and the items take at most 1,024 octets in all.
-fn fit(address: &[u8], items: &[(u8, &[u8])]) -> bool
+fn fits_body(address: &[u8], items: &[(u8, &[u8])]) -> bool
     requires { length address.now ≤ LONGEST_ADDRESS }
     ensures { result ≡ nat_le (length (body_text address.now (entries items.now))) LONGEST_BODY }
 {
@@ -90,7 +90,7 @@ pub fn split(body: &[u8]) -> (&[u8], &[u8])
 }
 
 /// What the types of these parts say of them: two octets each, and a token of five bits.
-pub fn typed(to: &[u8; 2], from: &[u8; 2], token: Token)
+pub fn know_types(to: &[u8; 2], from: &[u8; 2], token: Token)
     ensures { IsHead to.now from.now token }
 {
     let _ = token.get();

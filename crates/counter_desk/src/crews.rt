@@ -37,7 +37,7 @@ type Started<'a> = Option<PromisedHandle<ListEnd, EndOf<'a>>>;
 /// the root, works through its list and hands the share back. There is one end for each list, in
 /// their order: its worker's, or, where that couldn't be started, one that says so; then no share
 /// was given and nothing was placed. An allocation that fails here is answered before any worker
-/// starts.
+/// starts. A thread takes its share itself and hands it back, since it can't return one.
 pub fn crew<
     L: Ledger + Send + Sync,
     C: Naming + Send + Sync,

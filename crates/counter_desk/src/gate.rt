@@ -8,7 +8,7 @@ pub trait Gate {
     /// Before the actor's call takes the lock.
     fn before_lock(&self, actor: Actor);
 
-    /// After the actor's call was answered.
+    /// After the actor's call was answered, also where it made no row.
     fn after_reply(&self, actor: Actor);
 }
 

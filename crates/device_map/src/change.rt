@@ -31,16 +31,16 @@ fn change_by(alloc: Global, event: Event) -> Result<Option<Message>, NoMemory>
     ensures { IfOk result (λ change. change ≡ change_by event) }
 {
     match event {
-        Event::Open(p) => Ok(Some(told(alloc, p, ids::OPEN)?)),
-        Event::Close(p) => Ok(Some(told(alloc, p, ids::CLOSE)?)),
-        Event::Release(p, preset) => Ok(Some(told_within(alloc, p, ids::RELEASE, preset)?)),
+        Event::Open(p) => Ok(Some(notice_of(alloc, p, ids::OPEN)?)),
+        Event::Close(p) => Ok(Some(notice_of(alloc, p, ids::CLOSE)?)),
+        Event::Release(p, preset) => Ok(Some(notice_within(alloc, p, ids::RELEASE, preset)?)),
         Event::Prepay(p, cents) => {
-            Ok(Some(told_within(alloc, p, ids::PREPAY, Preset::Money(cents))?))
+            Ok(Some(notice_within(alloc, p, ids::PREPAY, Preset::Money(cents))?))
         }
-        Event::TestRelease(p) => Ok(Some(told(alloc, p, ids::TEST_RELEASE)?)),
-        Event::Suspend(p) => Ok(Some(told(alloc, p, ids::SUSPEND)?)),
-        Event::Resume(p) => Ok(Some(told(alloc, p, ids::RESUME)?)),
-        Event::Terminate(p) => Ok(Some(told(alloc, p, ids::TERMINATE)?)),
+        Event::TestRelease(p) => Ok(Some(notice_of(alloc, p, ids::TEST_RELEASE)?)),
+        Event::Suspend(p) => Ok(Some(notice_of(alloc, p, ids::SUSPEND)?)),
+        Event::Resume(p) => Ok(Some(notice_of(alloc, p, ids::RESUME)?)),
+        Event::Terminate(p) => Ok(Some(notice_of(alloc, p, ids::TERMINATE)?)),
         Event::SignOn | Event::SignOff | Event::CloseShift => Ok(None),
         Event::Assign(_) | Event::Unassign(_) | Event::ReplaceMeter(_, _, _) => Ok(None),
         Event::Lock(_, _) | Event::Unlock(_, _) | Event::Clear(_, _) => Ok(None),
@@ -97,15 +97,20 @@ fn read_command(alloc: Global, message: &Message) -> Result<Option<Event>, NoMem
 }
 
 /// The notice of a command without further items to the dispenser of this point.
-fn told(alloc: Global, point: FpNo, command: u8) -> Result<Message, NoMemory>
+fn notice_of(alloc: Global, point: FpNo, command: u8) -> Result<Message, NoMemory>
     requires { command < PRESET_VOLUME }
     ensures { IfOk result (λ message. message ≡ notice point (entry command [] ∷ [])) }
 {
-    told_within(alloc, point, command, Preset::Unset)
+    notice_within(alloc, point, command, Preset::Unset)
 }
 
 /// The notice of a command with this preset to the dispenser of this point.
-fn told_within(alloc: Global, point: FpNo, command: u8, preset: Preset) -> Result<Message, NoMemory>
+fn notice_within(
+    alloc: Global,
+    point: FpNo,
+    command: u8,
+    preset: Preset,
+) -> Result<Message, NoMemory>
     requires { command < PRESET_VOLUME }
     ensures { IfOk result (λ message. message
         ≡ notice point (entry command [] ∷ preset_items preset)) }

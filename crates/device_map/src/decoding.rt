@@ -68,14 +68,14 @@ fn outcome(message: &Message) -> Option<Answer> {
         3 => Some(Answer::Flowed(number(message, ids::VOLUME)?)),
         4 => Some(Answer::HungUp),
         5 => Some(Answer::NoSale),
-        6 => sold(message),
+        6 => read_sold(message),
         7 => Some(Answer::Stopped),
         8 => Some(Answer::Ending),
         9 => Some(Answer::Locked),
         10 => Some(Answer::Unlocked),
         11 => Some(Answer::Cleared(cents(message)?)),
         12 => Some(Answer::ShiftClosed(shift(message)?)),
-        13 => drawn(message),
+        13 => read_drawn(message),
         _ => None,
     }
 }
@@ -86,14 +86,14 @@ fn start(message: &Message) -> Option<Answer> {
     Some(Answer::Start { preset, price })
 }
 
-fn sold(message: &Message) -> Option<Answer> {
+fn read_sold(message: &Message) -> Option<Answer> {
     let growth = number(message, ids::VOLUME)?;
     let [high, low] = two_octets(message, ids::SEQUENCE)?.to_be_bytes();
     let seq = Digits::new(high, low).seq().ok()?;
     Some(Answer::Sold { seq, growth })
 }
 
-fn drawn(message: &Message) -> Option<Answer> {
+fn read_drawn(message: &Message) -> Option<Answer> {
     let growth = number(message, ids::VOLUME)?;
     Some(Answer::Drawn { growth })
 }
@@ -265,14 +265,14 @@ fn four_octets(message: &Message, id: u8) -> Option<u32> {
 fn number(message: &Message, id: u8) -> Option<u64> {
     for item in message.items() {
         if item.id() == id {
-            return spelled(item.content());
+            return read_number(item.content());
         }
     }
     None
 }
 
 /// The number that at most eight octets spell.
-fn spelled(octets: &[u8]) -> Option<u64> {
+fn read_number(octets: &[u8]) -> Option<u64> {
     if octets.len() > 8 {
         return None;
     }

@@ -1,5 +1,6 @@
 //! What stands behind a command, or in a read. Which items are there is judged first, then their
-//! widths and the ranges of their numbers.
+//! widths and the ranges of their numbers. Identifiers rise, so a listed item that isn't the next
+//! one isn't there, and what is left over is unknown (53).
 
 ghost use Rattle.std.specs.Prelude.{◌≡◌};
 ghost use Rattle.device_map.specs.Stages.{Gives};
@@ -13,7 +14,7 @@ use app_message::{Item, Items};
 use site_base::{Millilitres, NozzleNo, Preset, SaleId};
 
 /// Nothing.
-pub fn nothing(items: Items<'_>) -> Result<(), MapFault>
+pub fn expect_nothing(items: Items<'_>) -> Result<(), MapFault>
     ensures { Gives result (items_end items.entry) }
 {
     if items.is_empty() {
@@ -78,7 +79,7 @@ pub fn meter(mut items: Items<'_>) -> Result<(NozzleNo, Millilitres), MapFault>
 pub fn sale(digits: SaleDigits, items: Items<'_>) -> Result<SaleId, MapFault>
     ensures { Gives result (sale_in digits items.entry) }
 {
-    nothing(items)?;
+    expect_nothing(items)?;
     digits.sale()
 }
 

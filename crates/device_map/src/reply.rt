@@ -40,7 +40,7 @@ pub fn reply_of(alloc: Global, request: &Message, reply: &Reply) -> Result<Messa
 pub fn reply_in(buffer: Vec<u8>, request: &Message, reply: &Reply) -> Result<Message, NoMemory>
     ensures { IfOk result (λ message. message ≡ reply_message request.now reply.now) }
 {
-    let mut draft = back(buffer, request, kind_of(reply))?;
+    let mut draft = begin_reply(buffer, request, kind_of(reply))?;
     put_reply(&mut draft, reply)?;
     Ok(finish_message(draft))
 }
@@ -58,7 +58,7 @@ pub fn refusal_of(alloc: Global, request: &Message, number: u8) -> Result<Messag
 pub fn refusal_in(buffer: Vec<u8>, request: &Message, number: u8) -> Result<Message, NoMemory>
     ensures { IfOk result (λ message. message ≡ number_message request.now number) }
 {
-    let mut draft = back(buffer, request, Kind::Ack)?;
+    let mut draft = begin_reply(buffer, request, Kind::Ack)?;
     put_octet(&mut draft, ids::RESULT, number)?;
     Ok(finish_message(draft))
 }
@@ -105,7 +105,7 @@ pub fn stream_refusal(alloc: Global, fault: &StreamFault) -> Result<Message, NoM
 /// A message without items yet, from the site to the originator of the request, with its token and
 /// address.
 #[inline(always)]
-fn back(buffer: Vec<u8>, request: &Message, kind: Kind) -> Result<Draft, NoMemory>
+fn begin_reply(buffer: Vec<u8>, request: &Message, kind: Kind) -> Result<Draft, NoMemory>
     ensures value { IfOk result (λ draft. draft ≡ back request.now kind []) }
     ensures least { OnOk result (1 ≤ length request.now.address) }
     ensures most { OnOk result (length request.now.address ≤ 8) }

@@ -170,7 +170,7 @@ fn product_event(
 {
     match command.id() {
         ids::SET_PRICE => {
-            further_items::nothing(items)?;
+            further_items::expect_nothing(items)?;
             let price = further_items::four_octets(command.content())?;
             Ok(Event::SetPrice(product, price))
         }
@@ -207,7 +207,7 @@ fn reported_event(point: FpNo, command: &Item<'_>, items: Items<'_>) -> Result<E
 fn bare(event: Event, content: &[u8], items: Items<'_>) -> Result<Event, MapFault>
     ensures { Gives result (event_by (bare event) content.now items.entry) }
 {
-    further_items::nothing(items)?;
+    further_items::expect_nothing(items)?;
     plain(event, content)
 }
 

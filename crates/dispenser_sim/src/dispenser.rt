@@ -180,7 +180,7 @@ impl Dispenser {
     }
 
     /// The report was answered so: the nozzle that it lifted is the one last lifted, and a flow
-    /// that was accepted is kept.
+    /// that was accepted is kept. A lift that made no row isn't the last one.
     fn keep(&mut self, event: &Event, reply: &Reply)
         ensures { self.new ≡ kept_after event.now reply.now self.old }
     {

@@ -28,7 +28,8 @@ pub const PARTS: u64 = 1 << 63;
 /// serves as many sessions as the plan says, each with so many turns, settles, writes the report of
 /// what was settled, and answers with it. What it writes itself takes its turns from those that are
 /// handed in. However it ends, what it wrote is a front of that. `Write` comes where the writer
-/// failed in the call, or was interrupted until no turn was left.
+/// failed in the call, or was interrupted until no turn was left. It listens before the desk opens,
+/// and says where afterwards, so nobody is told of a port that isn't served.
 pub fn serve_day<W: Write, R: Threads + Wait + Sync>(
     rt: &R,
     alloc: Global,

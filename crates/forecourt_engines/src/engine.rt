@@ -25,7 +25,7 @@ use std::mem;
 /// A replay between two octets of its input. Beside what its text depends on it has buffers that
 /// stay, for a line without its spaces, for its octets, for its messages, and for a reply, so that
 /// a line no longer, and with no more messages, than the line before it is meant to allocate
-/// nothing of its own.
+/// nothing of its own. Line numbers stop at the greatest `u64`.
 #[derive(Drop)]
 pub struct Engine {
     alloc: Global,

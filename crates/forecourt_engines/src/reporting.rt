@@ -1,4 +1,5 @@
-//! The replay that ends with a report: lines of messages in, the report of their rows out.
+//! The replay that ends with a report: lines of messages in, the report of their rows out. The
+//! report's write takes its turns from those that the replay left.
 
 ghost use Rattle.std.specs.Prelude.{◌≡◌, ◌≤◌, ◌⊎◌, Some, None, true, string_bytes, IfOk, IfErr};
 ghost use Rattle.std.specs.Prelude.{OnOk};

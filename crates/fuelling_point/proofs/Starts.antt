@@ -79,8 +79,7 @@ stands f [] is = inl (record {
   lasts = refl;
   price = refl;
   start = refl;
-  volume =
-      omega arith;
+  volume = omega arith;
 })
 stands f (e ∷ es) is = elim (stands (facts_after e f) es is) [
   | inl on ↦ one_earlier e f (facts_at_end (facts_after e f) es) (history (facts_after e f) es) on

@@ -32,10 +32,8 @@ keeps f (e ∷ es) t on =
     let later : list_any ends (history (facts_after e f) es) ≡ false =
     right_false (ends (record { before = f; event = e })) _ on in
     keeps (facts_after e f) es (record {
-      suspend_state =
-          suspended_kept e f t.suspend_state t.ending now;
-      ending =
-          ending_kept e f t.suspend_state t.ending now;
+      suspend_state = suspended_kept e f t.suspend_state t.ending now;
+      ending = ending_kept e f t.suspend_state t.ending now;
     }) later
 
 -- from the terminate on, as long as nothing ends the fuelling
@@ -51,8 +49,7 @@ stays_terminated f (e ∷ es) [] since m parts told on =
     let ended = subst (λ x. reply_at x ≡ Ok Ending) here told in
     keeps (facts_after e f) es (record {
       suspend_state = suspended_when_terminated e f ended;
-      ending =
-          ending_when_terminated e f ended;
+      ending = ending_when_terminated e f ended;
     }) (subst (λ x. list_any ends x ≡ false) rest on)
 stays_terminated f (e ∷ es) (x ∷ xs) since m parts told on =
     let rest : history (facts_after e f) es ≡ xs ++ m ∷ since = cc in

@@ -15,13 +15,11 @@ begins = record {
   nozzle = refl;
   nothing = λ state. refl;
   something = λ state. cc;
-  ending =
-      λ state. refl;
+  ending = λ state. refl;
   price = λ state. refl;
   start = λ state. refl;
   preset = λ state. refl;
-  prepaid =
-      λ state. refl;
+  prepaid = λ state. refl;
   test = λ state. refl;
   unlimited = λ test. refl;
   unpaid = λ test. refl;

@@ -191,7 +191,7 @@ impl Point {
         ensures facts { self.new ≡ after PointEvent.Offline self.old }
     {
         let step = match self.state {
-            PointState::Fuelling | PointState::SuspendedFuelling => self.sold(0),
+            PointState::Fuelling | PointState::SuspendedFuelling => self.finish(0),
             _ => PointStep::Moved,
         };
         self.forget_in(PointState::Inoperative);
@@ -273,8 +273,8 @@ impl Point {
     {
         let step = match self.state {
             PointState::Calling => PointStep::HungUp,
-            PointState::Fuelling | PointState::SuspendedFuelling => self.sold(growth),
-            _ if growth > 0 => self.sold(growth),
+            PointState::Fuelling | PointState::SuspendedFuelling => self.finish(growth),
+            _ if growth > 0 => self.finish(growth),
             _ => PointStep::NoSale,
         };
         self.forget_in(PointState::Idle);
@@ -282,7 +282,7 @@ impl Point {
     }
 
     /// What is told of the fuelling with what has flowed last: its sale, or of a test what it drew.
-    fn sold(&self, growth: u64) -> PointStep
+    fn finish(&self, growth: u64) -> PointStep
         requires under_way { is_under_way self.now.state ≡ true }
         requires fits { self.now.volume + growth ≤ GREATEST_READING }
         ensures { result ≡ told_over (unwrap_or self.now.out 0) (self.now.volume + growth)

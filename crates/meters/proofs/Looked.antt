@@ -23,8 +23,7 @@ told None tells v is = absurd cc
 told (Some x) tells v is = record {
   nozzle = x;
   is = refl;
-  told =
-      (let same : Some (tells x) ≡ Some v = is in cc);
+  told = (let same : Some (tells x) ≡ Some v = is in cc);
 }
 
 -- the nozzle that is there
@@ -135,8 +134,7 @@ is_there p n xs (Some i) is = by_nozzle (nozzle_of p n xs) (stands p n xs i (sym
       product = k;
       began = k;
       last = k;
-      replaced =
-          k;
+      replaced = k;
       earlier = k;
     }
 

@@ -84,8 +84,7 @@ one_noted figure weight adds change n s later total is_row range all =
         let before : figure (shown n s) ≡ figure s.current = ap figure (shown_open n s same) in
         let after : figure (shown n (record {
           closed = s.closed;
-          current =
-              row_after change s.current;
+          current = row_after change s.current;
         }))
         ≡ figure (row_after change s.current) =
         ap figure (shown_open n (record { closed = s.closed; current = row_after change s.current })
@@ -98,8 +97,7 @@ one_noted figure weight adds change n s later total is_row range all =
         let apart : n ≢ open_number s = grind (arith, nat_tests) in
         let stays : figure (shown n (record {
           closed = s.closed;
-          current =
-              row_after change s.current;
+          current = row_after change s.current;
         }))
         ≡ figure (shown n s) =
         ap figure (shown_other n s (row_after change s.current) apart) in

@@ -82,7 +82,8 @@ impl ShiftBook {
 
     /// Closes the open shift and opens the next, with nothing in it; the answer is the number of
     /// the shift that was closed. While shift `GREATEST_SHIFT` is open it is refused with
-    /// `ShiftsSpent`, and nothing changes. The room for it is reserved; it takes no memory.
+    /// `ShiftsSpent`, and nothing changes. The room for it is reserved, also where it is refused;
+    /// it takes no memory.
     pub fn close(&mut self) -> Result<ShiftNo, Refusal>
         requires { 0 < self.old.room }
         ensures accepted { OnOk result (is_last self.old.shifts ≡ false) }

@@ -85,8 +85,7 @@ AppendsFront-whole u v a x = record {
   front = a;
   rest = [];
   parts = sym (append-nil a);
-  written =
-      x;
+  written = x;
 }
 
 -- what was written so far is a front of all that is to be written

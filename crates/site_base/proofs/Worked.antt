@@ -136,14 +136,12 @@ space_in_a_name : is_site (record
 space_in_a_name = refl
 
 name_of_21 : is_site (record fit_site {
-  products =
-      named (codes "diesel") (codes "abcdefghij01234567890");
+  products = named (codes "diesel") (codes "abcdefghij01234567890");
 }) ≡ false
 name_of_21 = refl
 
 point_twice : is_site (record fit_site {
-  points =
-      point 4 (nozzles 8 2) ∷ point 4 (nozzles 8 2) ∷ [];
+  points = point 4 (nozzles 8 2) ∷ point 4 (nozzles 8 2) ∷ [];
 }) ≡ false
 point_twice = refl
 

@@ -64,8 +64,7 @@ impl Model for SiteConfig {
     ghost view = { λ c. record {
       rows = c.rows;
       managers = c.managers.items;
-      products =
-          c.products.items;
+      products = c.products.items;
       points = c.points.items;
     } };
 
@@ -74,8 +73,7 @@ impl Model for SiteConfig {
           rows = c.rows;
           managers = c.managers.items;
           products = c.products.items;
-          points =
-              c.points.items;
+          points = c.points.items;
         }) ≡ true };
 }
 
@@ -95,16 +93,14 @@ impl SiteConfig {
               rows = rows;
               managers = managers.items;
               products = products.items;
-              points =
-                  points.items;
+              points = points.items;
             }) }
         ensures value { IfSome result (λ c. c
             ≡ record {
               rows = rows;
               managers = managers.items;
               products = products.items;
-              points =
-                  points.items;
+              points = points.items;
             }) }
     {
         let fit = 1 <= rows

@@ -112,7 +112,8 @@ impl<W: Write> Write for Counted<W> {
         result
     }
 
-    /// Flushes the device. Nothing is written by it that was not written before.
+    /// Flushes the device. Nothing is written by it that was not written before. One that fails
+    /// counts as a call that failed; nothing here flushes.
     fn flush(&mut self) -> io::Result<()>
         ensures bytes { Keeps (W.contents (device_of self.old)) (W.contents (device_of self.new)) }
         ensures ok { OnOk result (failures_of self.new ≡ failures_of self.old) }

@@ -171,7 +171,7 @@ impl Accounts {
 
     /// The millilitres that tests drew of a product in all shifts, summed over the shifts. They fit
     /// in 64 bits.
-    pub fn counted_drawn(&self, q: ProductNo) -> u64
+    pub fn recount_drawn(&self, q: ProductNo) -> u64
         requires { drawn_of q self.now.drawn < 2 ^ 64 }
         ensures { result ≡ drawn_of q self.now.drawn }
     {

@@ -152,12 +152,12 @@ fn end_holds(points: &Points, claims: &mut Claims, t: TillNo)
     ensures { claims.new ≡ holds_without points.now claims.old t }
 {
     for row in points.rows() {
-        let_go_of(points, claims, t, row.0);
+        end_hold_of(points, claims, t, row.0);
     }
 }
 
 /// Ends the till's hold of the point, if it has one and the point is closed, idle or calling.
-fn let_go_of(points: &Points, claims: &mut Claims, t: TillNo, p: FpNo)
+fn end_hold_of(points: &Points, claims: &mut Claims, t: TillNo, p: FpNo)
     ensures { claims.new ≡ (if ends_at_sign_off points.now claims.old t p then finite.remove
         claims.old p else claims.old) }
 {

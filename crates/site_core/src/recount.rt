@@ -21,19 +21,19 @@ use transaction_buffer::Figure;
 
 impl SiteParts {
     /// Each product as a read shows it, in configured order.
-    pub(crate) fn counted_products(&self, alloc: Global) -> Result<Vec<ProductView>, NoMemory>
+    pub(crate) fn recount_products(&self, alloc: Global) -> Result<Vec<ProductView>, NoMemory>
         requires { Sound (site_of self.now) }
         ensures { IfOk result (λ products. products.items ≡ product_totals (site_of self.now)) }
     {
         let mut products = Vec::new(alloc);
         for (product, price) in self.prices.rows() {
-            products.push(self.counted_view(*product, *price))?;
+            products.push(self.recount_view(*product, *price))?;
         }
         Ok(products)
     }
 
     /// Each till that a site may have, with its clears and their cents.
-    pub(crate) fn counted_tills(&self, alloc: Global) -> Result<Vec<(TillNo, u64, u64)>, NoMemory>
+    pub(crate) fn recount_tills(&self, alloc: Global) -> Result<Vec<(TillNo, u64, u64)>, NoMemory>
         requires { Sound (site_of self.now) }
         ensures { IfOk result (λ tills. tills.items ≡ till_totals (site_of self.now)) }
     {
@@ -48,23 +48,23 @@ impl SiteParts {
     }
 
     /// The product at this price, as a read shows it.
-    fn counted_view(&self, q: ProductNo, price: Mills) -> ProductView
+    fn recount_view(&self, q: ProductNo, price: Mills) -> ProductView
         requires { Sound (site_of self.now) }
         ensures { result ≡ product_view (site_of self.now) q price }
     {
         ProductView {
             price,
             metered: self.meters.recount(q),
-            running: self.counted_running(q),
+            running: self.recount_running(q),
             payable: self.accounts.recount(&Figure::Volume(q, Status::Payable)),
             locked: self.accounts.recount(&Figure::Volume(q, Status::Locked)),
             cleared: self.accounts.recount(&Figure::Volume(q, Status::Cleared)),
-            adjusted: self.accounts.counted_drawn(q),
+            adjusted: self.accounts.recount_drawn(q),
         }
     }
 
     /// The millilitres of product q in fuellings under way.
-    fn counted_running(&self, q: ProductNo) -> u64
+    fn recount_running(&self, q: ProductNo) -> u64
         requires { Sound (site_of self.now) }
         ensures { result ≡ running (site_of self.now) q }
     {
@@ -99,14 +99,14 @@ impl SiteParts {
     {
         let adjusted = self.accounts.draws(n)?;
         Some(ShiftRow {
-            tills: self.counted_takings(n),
+            tills: self.recount_takings(n),
             products: self.recount_cleared(n),
             adjusted,
         })
     }
 
     /// What each till, from 1 on, cleared in shift n: how many sales, and their cents.
-    fn counted_takings(&self, n: ShiftNo) -> [(u64, u64); TILL_CELLS]
+    fn recount_takings(&self, n: ShiftNo) -> [(u64, u64); TILL_CELLS]
         requires { Sound (site_of self.now) }
         ensures { result ≡ map (takings_of n (site_of self.now).sales) tills }
     {

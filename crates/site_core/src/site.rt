@@ -164,8 +164,8 @@ impl Site {
     {
         Ok(Totals {
             rows: count,
-            products: Listing::from(self.parts.counted_products(alloc)?),
-            tills: Listing::from(self.parts.counted_tills(alloc)?),
+            products: Listing::from(self.parts.recount_products(alloc)?),
+            tills: Listing::from(self.parts.recount_tills(alloc)?),
         })
     }
 

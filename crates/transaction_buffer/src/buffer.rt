@@ -20,7 +20,7 @@ ghost use Rattle.transaction_buffer.specs.KeptSums.{AreSums};
 use crate::figure::Figure;
 use crate::found_sale::FoundSale;
 use crate::locked_points::LockedPoints;
-use crate::recount::counted_on;
+use crate::recount::recount_on;
 use crate::request::Request;
 use crate::sale::Sale;
 use crate::shelf::Shelf;
@@ -112,7 +112,7 @@ impl Buffer {
     /// a till, or locked with one. Room for it is reserved, fewer than `UNPAID_LIMIT` transactions
     /// of the point are unpaid, the shift has a next number, no sale of the point is of a later
     /// shift, and the volumes of all sales of the product fit in 64 bits with this one. No other
-    /// transaction changes. It takes no memory.
+    /// transaction changes. The cents are the view's: the buffer computes none. It takes no memory.
     pub fn add(&mut self, p: FpNo, shift: ShiftNo, view: TransactionView) -> Seq
         requires room { 0 < room_at p self.old.rooms }
         requires unpaid { unpaid_at p self.old.sales < UNPAID_LIMIT }
@@ -246,8 +246,8 @@ impl Buffer {
     {
         let cell = t.cell();
         let (one, other) = (self.locked.one[cell], self.locked.other[cell]);
-        let_go_at(&mut self.shelves, one, &mut self.sums, t);
-        let_go_at(&mut self.shelves, other, &mut self.sums, t);
+        unlock_at(&mut self.shelves, one, &mut self.sums, t);
+        unlock_at(&mut self.shelves, other, &mut self.sums, t);
         self.locked.forget(t);
     }
 
@@ -275,7 +275,7 @@ impl Buffer {
         requires { figure_of figure.now self.now.sales < 2 ^ 64 }
         ensures { result ≡ figure_of figure.now self.now.sales }
     {
-        counted_on(&self.shelves, figure)
+        recount_on(&self.shelves, figure)
     }
 
     /// What the transaction table says of the till's request.
@@ -308,7 +308,7 @@ impl Buffer {
 }
 
 /// Makes the sales of these points that this till has locked payable, in the sums too.
-fn let_go_at(shelves: &mut [Shelf], points: PointSet, sums: &mut Sums, t: TillNo)
+fn unlock_at(shelves: &mut [Shelf], points: PointSet, sums: &mut Sums, t: TillNo)
     requires cells { length shelves.old ≡ POINT_CELLS }
     requires sums { AreSums (sales_on shelves.old) sums.old }
     ensures cells { length shelves.new ≡ POINT_CELLS }
@@ -318,7 +318,7 @@ fn let_go_at(shelves: &mut [Shelf], points: PointSet, sums: &mut Sums, t: TillNo
     let mut left = points;
     while let Some(p) = left.first() {
         let shelf = &mut shelves[p.cell()];
-        shelf.let_go_sums(sums, t);
+        shelf.unlock_sums(sums, t);
         shelf.unlock_all_of(t);
         left.remove(p);
     }

@@ -10,7 +10,7 @@ use crate::sale::Sale;
 use crate::shelf::Shelf;
 
 /// The figure over the sales of one point, which fits.
-pub fn counted_among(sales: &[Sale], figure: &Figure) -> u64
+pub fn recount_among(sales: &[Sale], figure: &Figure) -> u64
     requires { sum_among (figure_in figure.now) sales.now < 2 ^ 64 }
     ensures { result ≡ sum_among (figure_in figure.now) sales.now }
 {
@@ -22,7 +22,7 @@ pub fn counted_among(sales: &[Sale], figure: &Figure) -> u64
 }
 
 /// The figure over the sales on these shelves, which fits.
-pub fn counted_on(shelves: &[Shelf], figure: &Figure) -> u64
+pub fn recount_on(shelves: &[Shelf], figure: &Figure) -> u64
     requires { sum_on (figure_in figure.now) shelves.now < 2 ^ 64 }
     ensures { result ≡ sum_on (figure_in figure.now) shelves.now }
 {

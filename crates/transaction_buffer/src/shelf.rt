@@ -17,7 +17,7 @@ ghost use Rattle.transaction_buffer.specs.Sums.{sum_among, volume_locked_by};
 
 use crate::figure::Figure;
 use crate::locked_points::Lockers;
-use crate::recount::counted_among;
+use crate::recount::recount_among;
 use crate::sale::Sale;
 use crate::span::Span;
 use crate::sums::Sums;
@@ -69,6 +69,7 @@ impl Shelf {
     }
 
     /// Makes room for one more sale of whichever shift. Where there is no memory, nothing changes.
+    /// The sale's room comes before the shifts', and stays where the second allocation fails.
     pub fn reserve(&mut self) -> Result<(), NoMemory>
         ensures sales { self.new.sales ≡ self.old.sales }
         ensures lockers { self.new.lockers ≡ self.old.lockers }
@@ -167,18 +168,18 @@ impl Shelf {
         ensures { IsLetGo t self.old self.new }
     {
         let unpaid = self.unpaid;
-        let_go_unpaid(&mut self.sales, unpaid, t);
+        unlock_unpaid(&mut self.sales, unpaid, t);
     }
 
     /// Moves what this till has locked from the locked sums to the payable ones.
-    pub fn let_go_sums(&self, sums: &mut Sums, t: TillNo)
+    pub fn unlock_sums(&self, sums: &mut Sums, t: TillNo)
         requires { CanMove (λ q. sum_among (volume_locked_by q t) self.now.sales) sums.old }
         ensures { AreMoved (λ q. sum_among (volume_locked_by q t) self.now.sales) sums.old
             sums.new }
     {
         let sales: &[Sale] = &self.sales;
-        let_go_sum_at(sales, self.unpaid.one, sums, t);
-        let_go_sum_at(sales, self.unpaid.other, sums, t);
+        unlock_sum_at(sales, self.unpaid.one, sums, t);
+        unlock_sum_at(sales, self.unpaid.other, sums, t);
     }
 
     /// The figure over its sales, which fits.
@@ -186,7 +187,7 @@ impl Shelf {
         requires { sum_among (figure_in figure.now) self.now.sales < 2 ^ 64 }
         ensures { result ≡ sum_among (figure_in figure.now) self.now.sales }
     {
-        counted_among(&self.sales, figure)
+        recount_among(&self.sales, figure)
     }
 }
 
@@ -218,16 +219,16 @@ fn span_of(spans: &[Span], shift: ShiftNo) -> Span
 }
 
 /// Makes the sales at these places payable, if this till has locked them: no other is unpaid.
-fn let_go_unpaid(sales: &mut [Sale], unpaid: UnpaidPlaces, t: TillNo)
+fn unlock_unpaid(sales: &mut [Sale], unpaid: UnpaidPlaces, t: TillNo)
     requires { AreUnpaid sales.old unpaid.one unpaid.other }
     ensures { sales.new ≡ map (unlock_all_of t) sales.old }
 {
-    let_go_at(sales, unpaid.one, t);
-    let_go_at(sales, unpaid.other, t);
+    unlock_at(sales, unpaid.one, t);
+    unlock_at(sales, unpaid.other, t);
 }
 
 /// Makes the sale at this place payable, if this till has locked it.
-fn let_go_at(sales: &mut [Sale], place: Option<usize>, t: TillNo)
+fn unlock_at(sales: &mut [Sale], place: Option<usize>, t: TillNo)
     requires { IfSome place (λ i. i < length sales.old) }
     ensures { IsLetGoAt t place sales.old sales.new }
 {
@@ -248,7 +249,7 @@ fn locker_at(sales: &[Sale], place: Option<usize>) -> Option<TillNo>
 
 /// Moves the volume of the sale at this place from the locked sums to the payable ones, if this
 /// till has locked it.
-fn let_go_sum_at(sales: &[Sale], place: Option<usize>, sums: &mut Sums, t: TillNo)
+fn unlock_sum_at(sales: &[Sale], place: Option<usize>, sums: &mut Sums, t: TillNo)
     requires { CanMove (λ q. figure_at (volume_locked_by q t) place sales.now) sums.old }
     ensures { AreMoved (λ q. figure_at (volume_locked_by q t) place sales.now) sums.old sums.new }
 {

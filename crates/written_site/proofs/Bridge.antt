@@ -19,8 +19,7 @@ run s (r ∷ rs) legal =
           ∙ ap (λ xs. record {
             actor = r.actor;
             event = r.event;
-            reply =
-                reply_to s r.actor r.event;
+            reply = reply_to s r.actor r.event;
           } ∷ xs) rest.rows;
       replies =
           ap (λ x. x ∷ replies_of rs) legal.0

@@ -115,8 +115,7 @@ module _ {M : Type 0} (takes : M → Option ℕ) (ends : ℕ → M → Bool) whe
   more_before t m ms last = record {
     before = m ∷ last.before;
     take = last.take;
-    since =
-        last.since;
+    since = last.since;
     parts = ap (λ x. m ∷ x) last.parts;
     taken = last.taken;
     unended = last.unended;
@@ -140,8 +139,7 @@ module _ {M : Type 0} (takes : M → Option ℕ) (ends : ℕ → M → Bool) whe
             since = ms;
             parts = refl;
             taken = taken;
-            unended =
-                unended;
+            unended = unended;
           })
       by_first unended (inr stood) = inl (stood.0, rw stood.1 unended)
 

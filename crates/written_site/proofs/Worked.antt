@@ -22,8 +22,7 @@ two_points = record {
   rows = 10;
   managers = [];
   products = [];
-  points =
-      record { number = 2; nozzles = [] } ∷ record { number = 3; nozzles = [] } ∷ [];
+  points = record { number = 2; nozzles = [] } ∷ record { number = 3; nozzles = [] } ∷ [];
 }
 
 -- the opening site, and the site after till 1 has signed on
@@ -90,8 +89,7 @@ shows = rw (till_1, get-empty nat_cmp 3) refl
 abbrev pub third : SiteState
 third = record first {
   holds = finite.insert finite.empty 2 1;
-  signed_on =
-      set.insert (set.insert set.empty 1) 2;
+  signed_on = set.insert (set.insert set.empty 1) 2;
 }
 
 pub held : holder_of third 2 ≡ Some 1

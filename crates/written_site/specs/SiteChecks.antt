@@ -203,8 +203,8 @@ abbrev pub is_held : SiteState → Event → Option Refusal
 is_held s (Unassign p) = unless (is_some (holder_of s p)) NotYours
 is_held s event = None
 
--- the point may make one more sale: fewer than two are unpaid, and the open shift has a number for
--- it
+-- the point may make one more sale: fewer than two are unpaid, and the shift that is open now has a
+-- number for it (a later one has all of its numbers)
 abbrev pub may_sell : SiteState → ℕ → Option Refusal
 may_sell s p =
     unless (nat_lt (unpaid_at p s.sales) UNPAID_LIMIT) BufferFull

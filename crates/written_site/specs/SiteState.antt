@@ -91,7 +91,7 @@ rests points p = is_some (row_of p points) && is_resting (facts_in points p).sta
 abbrev pub view_point : SiteState → ℕ → Option PointView
 view_point s p = option_and_then (λ f. Some (point_view f (holder_of s p))) (row_of p s.points)
 
--- the number of the open shift
+-- the number of the open shift: the last one with draws, so it is their count
 abbrev pub open_shift : SiteState → ℕ
 open_shift s = length s.drawn
 

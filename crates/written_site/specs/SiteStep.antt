@@ -135,7 +135,7 @@ nozzles_after s event = s.nozzles
 abbrev pub ends_at_sign_off : List (ℕ × Facts) → finite.FinMap nat_cmp ℕ → ℕ → ℕ → Bool
 ends_at_sign_off points holds t p = rests points p && is_held_by t (finite.get holds p)
 
--- the holds that outlive a till's sign-off
+-- the holds that outlive a till's sign-off; that of a point that the site doesn't have is one
 abbrev pub holds_without : List (ℕ × Facts) → finite.FinMap nat_cmp ℕ → ℕ → finite.FinMap nat_cmp ℕ
 holds_without points holds t =
     finite.retain_keys holds (λ p. not (ends_at_sign_off points holds t p))

@@ -15,7 +15,7 @@ loop-row-preserved c = record {
       let split : row ∷ drop (i + 1) rows ≡ drop i rows =
       ap (λ x. x ∷ drop (i + 1) rows) c.row-item.is
       ∙ sym (drop_more rows i row c.loop-row-test.true) in
-      ap (λ claims. left points t (drop (i + 1) rows) q (finite.get claims q)) c.let_go_of.ensures
+      ap (λ claims. left points t (drop (i + 1) rows) q (finite.get claims q)) c.end_hold_of.ensures
       ∙ left_next points t row (drop (i + 1) rows) c.loop-row.claims q
       ∙ ap (λ some. left points t some q (finite.get c.loop-row.claims q)) split
       ∙ c.loop-row.invariant.left q;

@@ -14,7 +14,7 @@ invariant_of-result c =
       c.spelled_address.ensures.text,
     ) refl in
     (begun c.from-to.result c.args.from c.args.kind c.token-token.result request.address
-    c.put_address.new.out.items c.typed.ensures valid.address_octets valid.address_least
+    c.put_address.new.out.items c.know_types.ensures valid.address_octets valid.address_least
     valid.address_most text).1
 
 pub returns-clause-made : goal.returns-clause-made
@@ -30,5 +30,5 @@ returns-clause-made c =
     ) refl in
     rw (← c.from-to.ensures, ← c.token-token.ensures)
     (begun c.from-to.result c.args.from c.args.kind
-    c.token-token.result request.address c.put_address.new.out.items c.typed.ensures
+    c.token-token.result request.address c.put_address.new.out.items c.know_types.ensures
     valid.address_octets valid.address_least valid.address_most text).0

@@ -11,7 +11,8 @@ invariant_of-result c =
       c.in_ok-body.ensures.items,
     ) refl in
     (begun c.args.to c.args.from c.args.kind c.args.token c.args.address.now
-    c.extend_from_slice.new.self.items c.typed.ensures (λ i. omega (arith, c.type_inv.address i))
+    c.extend_from_slice.new.self.items c.know_types.ensures
+    (λ i. omega (arith, c.type_inv.address i))
     c.in_ok-check_address.ensures.least
     c.in_ok-check_address.ensures.most text).1
 
@@ -24,6 +25,7 @@ returns-clause-made c =
       c.in_ok-body.ensures.items,
     ) refl in
     (begun c.args.to c.args.from c.args.kind c.args.token c.args.address.now
-    c.extend_from_slice.new.self.items c.typed.ensures (λ i. omega (arith, c.type_inv.address i))
+    c.extend_from_slice.new.self.items c.know_types.ensures
+    (λ i. omega (arith, c.type_inv.address i))
     c.in_ok-check_address.ensures.least
     c.in_ok-check_address.ensures.most text).0

@@ -14,13 +14,13 @@ returns-clause-sales c =
     let is_other : other ≡ get_or locked.other k 0 =
     get_or_default locked.other k _ _ (omega arith) in
     rw (← c.self.view_is)
-    (let_go_there c.args.t c.self.inside.shelves c.let_go_at-2.new.shelves
+    (let_go_there c.args.t c.self.inside.shelves c.unlock_at-2.new.shelves
     (sales_let_go c.args.t k one other
-    c.self.inside.shelves c.let_go_at.new.shelves c.let_go_at-2.new.shelves
+    c.self.inside.shelves c.unlock_at.new.shelves c.unlock_at-2.new.shelves
     locked c.forget.new.self c.self.invariant.noted c.cell-cell.ensures.place (omega arith) is_one
     is_other
-    c.let_go_at.ensures.cells c.let_go_at-2.ensures.cells
-    c.let_go_at.ensures.shelves c.let_go_at-2.ensures.shelves
+    c.unlock_at.ensures.cells c.unlock_at-2.ensures.cells
+    c.unlock_at.ensures.shelves c.unlock_at-2.ensures.shelves
     c.forget.ensures))
 
 pub returns-clause-rooms : goal.returns-clause-rooms
@@ -31,12 +31,12 @@ returns-clause-rooms c =
     let other = get_or locked.other k c.index-self-cell-2.result in
     rw (← c.self.view_is)
     (rooms_let_go c.args.t k one other
-    c.self.inside.shelves c.let_go_at.new.shelves c.let_go_at-2.new.shelves
+    c.self.inside.shelves c.unlock_at.new.shelves c.unlock_at-2.new.shelves
     locked c.forget.new.self c.self.invariant.noted c.cell-cell.ensures.place (omega arith)
     (get_or_default locked.one k _ _ (omega arith))
     (get_or_default locked.other k _ _ (omega arith))
-    c.let_go_at.ensures.cells c.let_go_at-2.ensures.cells
-    c.let_go_at.ensures.shelves c.let_go_at-2.ensures.shelves
+    c.unlock_at.ensures.cells c.unlock_at-2.ensures.cells
+    c.unlock_at.ensures.shelves c.unlock_at-2.ensures.shelves
     c.forget.ensures)
 
 pub invariant_of-self : goal.invariant_of-self
@@ -49,12 +49,12 @@ invariant_of-self c =
     let is_other : other ≡ get_or locked.other k 0 =
     get_or_default locked.other k _ _ (omega arith) in
     record {
-      sums = c.let_go_at-2.ensures.sums;
+      sums = c.unlock_at-2.ensures.sums;
       noted = noted_let_go c.args.t k one other
-          c.self.inside.shelves c.let_go_at.new.shelves
-          c.let_go_at-2.new.shelves locked c.forget.new.self c.self.invariant.noted
+          c.self.inside.shelves c.unlock_at.new.shelves
+          c.unlock_at-2.new.shelves locked c.forget.new.self c.self.invariant.noted
           c.cell-cell.ensures.place (omega arith) is_one is_other
-          c.let_go_at.ensures.cells
-          c.let_go_at-2.ensures.cells c.let_go_at.ensures.shelves
-          c.let_go_at-2.ensures.shelves c.forget.ensures;
+          c.unlock_at.ensures.cells
+          c.unlock_at-2.ensures.cells c.unlock_at.ensures.shelves
+          c.unlock_at-2.ensures.shelves c.forget.ensures;
     }

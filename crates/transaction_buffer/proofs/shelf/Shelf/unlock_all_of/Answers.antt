@@ -14,16 +14,16 @@ use Rattle.transaction_buffer.proofs.shelf.Shelf.unlock_all_of.Goals.{After-let_
 -- the sales as they stand then
 all_moved : (c : After-let_go_unpaid)
     → take c.self.inside.sales.len
-    (c.let_go_unpaid.new.sales ++ drop (length c.let_go_unpaid.new.sales) c.self.inside.sales.items)
+    (c.unlock_unpaid.new.sales ++ drop (length c.unlock_unpaid.new.sales) c.self.inside.sales.items)
     ≡ map (unlock_all_of c.args.t) c.self.inside.sales.items
 all_moved c =
-    let new = c.let_go_unpaid.new.sales in
+    let new = c.unlock_unpaid.new.sales in
     let old = c.self.inside.sales.items in
     let count : length new ≡ c.self.inside.sales.len =
-    ap length c.let_go_unpaid.ensures ∙ length-map c.deref_mut.result.now (unlock_all_of c.args.t)
+    ap length c.unlock_unpaid.ensures ∙ length-map c.deref_mut.result.now (unlock_all_of c.args.t)
     ∙ c.deref_mut.ensures.len in
     take_at new (drop (length new) old) c.self.inside.sales.len count
-    ∙ c.let_go_unpaid.ensures ∙ ap (map (unlock_all_of c.args.t)) c.deref_mut.ensures.value
+    ∙ c.unlock_unpaid.ensures ∙ ap (map (unlock_all_of c.args.t)) c.deref_mut.ensures.value
 
 pub returns : goal.returns
 returns c =

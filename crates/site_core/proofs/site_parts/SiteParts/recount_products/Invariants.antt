@@ -1,7 +1,7 @@
 use Rattle.std.proofs.Common.{◌≡◌, take, map}
 use Rattle.written_site.specs.Volumes.{product_view}
 use Rattle.site_core.specs.SiteParts.{site_of}
-use Rattle.site_core.proofs.site_parts.SiteParts.counted_products.Given as goal
+use Rattle.site_core.proofs.site_parts.SiteParts.recount_products.Given as goal
 
 abbrev pub invariant-loop-product : goal.invariant-loop-product
 invariant-loop-product l = l.products.items

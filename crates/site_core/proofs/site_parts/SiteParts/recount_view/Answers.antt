@@ -1,7 +1,7 @@
 use Rattle.site_base.specs.declared.state.Status.TheVariants.{Payable, Locked, Cleared}
 use Rattle.site_core.specs.SiteParts.{site_of}
 use Rattle.site_core.proofs.CountedFigures.{volume_fits}
-use Rattle.site_core.proofs.site_parts.SiteParts.counted_view.Goals as goal
+use Rattle.site_core.proofs.site_parts.SiteParts.recount_view.Goals as goal
 
 pub recount-requires-2 : goal.recount-requires-2
 recount-requires-2 c = volume_fits (site_of c.args.self.now) c.args.q Payable c.requires

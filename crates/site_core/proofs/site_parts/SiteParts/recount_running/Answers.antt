@@ -1,7 +1,7 @@
 use Rattle.std.proofs.Common.{rules}
 use Rattle.site_core.specs.SiteParts.{site_of}
 use Rattle.site_core.proofs.CountedFigures.{sound_row, turn_fits}
-use Rattle.site_core.proofs.site_parts.SiteParts.counted_running.Goals as goal
+use Rattle.site_core.proofs.site_parts.SiteParts.recount_running.Goals as goal
 
 pub running_at-sum-requires : goal.running_at-sum-requires
 running_at-sum-requires c =

@@ -4,8 +4,8 @@ use Rattle.transaction_buffer.specs.Sums.{sum_among, volume_locked_by}
 use Rattle.transaction_buffer.specs.UnpaidPlaces.{figure_at}
 use Rattle.transaction_buffer.proofs.Kept.{can_first, can_second, moved_twice}
 use Rattle.transaction_buffer.proofs.TwoPlaces.{locked_at_places}
-use Rattle.transaction_buffer.proofs.shelf.Shelf.let_go_sums.Goals as goal
-use Rattle.transaction_buffer.proofs.shelf.Shelf.let_go_sums.Goals.{After-deref-sales}
+use Rattle.transaction_buffer.proofs.shelf.Shelf.unlock_sums.Goals as goal
+use Rattle.transaction_buffer.proofs.shelf.Shelf.unlock_sums.Goals.{After-deref-sales}
 
 -- what the till has locked at the one place, at the other, and among all sales
 abbrev at_one : After-deref-sales → ℕ → ℕ
@@ -28,23 +28,23 @@ parts c q = subst
     (locked_at_places q c.args.t c.self.inside.sales.items c.self.inside.unpaid.one
     c.self.inside.unpaid.other c.self.invariant.places)
 
-pub let_go_sum_at-requires : goal.let_go_sum_at-requires
-let_go_sum_at-requires c =
+pub unlock_sum_at-requires : goal.unlock_sum_at-requires
+unlock_sum_at-requires c =
     let d = (goal.at.let_go_sum_at-requires c).After-deref-sales in
     let required = rw (← c.self.view_is) at c.requires in
     can_first (at_one d) (at_other d) (at_both d) (parts d) c.args.sums.now c.args.sums.now required
 
-pub let_go_sum_at-requires-2 : goal.let_go_sum_at-requires-2
-let_go_sum_at-requires-2 c =
+pub unlock_sum_at-requires-2 : goal.unlock_sum_at-requires-2
+unlock_sum_at-requires-2 c =
     let d = (goal.at.let_go_sum_at-requires-2 c).After-deref-sales in
     let required = rw (← c.self.view_is) at c.requires in
     can_second (at_one d) (at_other d) (at_both d) (parts d) c.args.sums.now
-    c.let_go_sum_at.new.sums required c.let_go_sum_at.ensures
+    c.unlock_sum_at.new.sums required c.unlock_sum_at.ensures
 
 pub returns : goal.returns
 returns c =
     let d = (goal.at.returns c).After-deref-sales in
     rw (← c.self.view_is)
     (moved_twice (at_one d) (at_other d) (at_both d) (parts d) c.args.sums.now
-    c.let_go_sum_at.new.sums c.let_go_sum_at-2.new.sums c.let_go_sum_at.ensures
-    c.let_go_sum_at-2.ensures)
+    c.unlock_sum_at.new.sums c.unlock_sum_at-2.new.sums c.unlock_sum_at.ensures
+    c.unlock_sum_at-2.ensures)

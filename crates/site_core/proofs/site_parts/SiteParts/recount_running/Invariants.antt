@@ -2,7 +2,7 @@ use Rattle.std.proofs.Common.{◌≡◌, ◌+◌, drop}
 use Rattle.meters.specs.Metered.{product_alone}
 use Rattle.written_site.specs.Volumes.{running, running_by}
 use Rattle.site_core.specs.SiteParts.{site_of}
-use Rattle.site_core.proofs.site_parts.SiteParts.counted_running.Given as goal
+use Rattle.site_core.proofs.site_parts.SiteParts.recount_running.Given as goal
 
 -- what is counted, with what flows at the points behind, is what flows at all
 abbrev pub invariant-loop-p : goal.invariant-loop-p

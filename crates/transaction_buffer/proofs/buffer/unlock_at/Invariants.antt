@@ -3,7 +3,7 @@ use Rattle.site_base.specs.declared.limits.TheConstants.{POINT_CELLS}
 use Rattle.transaction_buffer.specs.KeptSums.{AreSums}
 use Rattle.transaction_buffer.specs.Shelves.{sales_on}
 use Rattle.transaction_buffer.proofs.LetGo.{AreStages}
-use Rattle.transaction_buffer.proofs.buffer.let_go_at.Given as goal
+use Rattle.transaction_buffer.proofs.buffer.unlock_at.Given as goal
 
 abbrev pub invariant-loop-p : goal.invariant-loop-p
 invariant-loop-p l = record {

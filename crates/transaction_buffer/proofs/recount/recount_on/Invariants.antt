@@ -1,7 +1,7 @@
 use Rattle.std.proofs.Common.{◌≡◌, ◌+◌, drop}
 use Rattle.transaction_buffer.specs.Figures.{figure_in}
 use Rattle.transaction_buffer.specs.Shelves.{sum_on}
-use Rattle.transaction_buffer.proofs.recount.counted_on.Given as goal
+use Rattle.transaction_buffer.proofs.recount.recount_on.Given as goal
 
 -- what is counted, with the figure of the shelves behind, is the figure of all
 abbrev pub invariant-loop-shelf : goal.invariant-loop-shelf

@@ -5,7 +5,7 @@ use Rattle.std.proofs.lemmas.List.{length-append}
 use Rattle.app_message.specs.Telegram.{entries}
 use Rattle.app_message.specs.Spelling.{item_text, body_text}
 use Rattle.app_message.proofs.Rising.{too_long}
-use Rattle.app_message.proofs.parts.fit.Goals as goal
+use Rattle.app_message.proofs.parts.fits_body.Goals as goal
 
 pub returns-then-left-size : goal.returns-then-left-size
 returns-then-left-size c =

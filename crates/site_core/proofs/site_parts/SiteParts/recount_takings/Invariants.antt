@@ -3,7 +3,7 @@ use Rattle.std.specs.List.{range_with_len}
 use Rattle.site_base.specs.declared.limits.TheConstants.{TILL_CELLS}
 use Rattle.site_core.specs.Accounts.{takings_of}
 use Rattle.site_core.specs.SiteParts.{site_of}
-use Rattle.site_core.proofs.site_parts.SiteParts.counted_takings.Given as goal
+use Rattle.site_core.proofs.site_parts.SiteParts.recount_takings.Given as goal
 
 abbrev pub invariant-loop-cell : goal.invariant-loop-cell
 invariant-loop-cell l = record {

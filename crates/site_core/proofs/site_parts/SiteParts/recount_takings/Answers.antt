@@ -4,7 +4,7 @@ use Rattle.written_site.proofs.FigureBounds.{figures_in_range}
 use Rattle.site_core.specs.Accounts.{takings_of}
 use Rattle.site_core.specs.SiteParts.{site_of}
 use Rattle.site_core.proofs.ToldInOrder.{filled}
-use Rattle.site_core.proofs.site_parts.SiteParts.counted_takings.Goals as goal
+use Rattle.site_core.proofs.site_parts.SiteParts.recount_takings.Goals as goal
 
 pub recount-clears-requires : goal.recount-clears-requires
 recount-clears-requires c =

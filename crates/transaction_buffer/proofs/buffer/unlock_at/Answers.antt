@@ -1,10 +1,10 @@
 use Rattle.std.proofs.Common.{◌∙◌, arith, length-set}
 use Rattle.transaction_buffer.proofs.Kept.{can_let_go, kept_let_go}
 use Rattle.transaction_buffer.proofs.LetGo.{stages_next}
-use Rattle.transaction_buffer.proofs.buffer.let_go_at.Goals as goal
+use Rattle.transaction_buffer.proofs.buffer.unlock_at.Goals as goal
 
-pub let_go_sums-requires : goal.let_go_sums-requires
-let_go_sums-requires c =
+pub unlock_sums-requires : goal.unlock_sums-requires
+unlock_sums-requires c =
     can_let_go c.args.t c.loop-p.shelves c.cell.result c.index-shelves-cell.result c.loop-p.sums
     (omega (arith, c.loop-p.invariant.cells)) c.loop-p.invariant.sums
 
@@ -22,6 +22,6 @@ loop-p-preserved c =
           c.unlock_all_of.ensures c.loop-p.invariant.stages;
       sums = kept_let_go c.args.t old i d c.loop-p.sums (omega (arith, c.loop-p.invariant.cells))
           c.loop-p.invariant.sums c.unlock_all_of.new.self c.unlock_all_of.ensures.sales
-          c.let_go_sums.new.sums
-          c.let_go_sums.ensures;
+          c.unlock_sums.new.sums
+          c.unlock_sums.ensures;
     }

@@ -1,5 +1,5 @@
 use Rattle.device_map.proofs.Short.{command_short}
-use Rattle.device_map.proofs.change.told_within.Goals as goal
+use Rattle.device_map.proofs.change.notice_within.Goals as goal
 
 pub finish_message-requires-clause-short : goal.finish_message-requires-clause-short
 finish_message-requires-clause-short c =

@@ -3,7 +3,7 @@ use Rattle.written_site.proofs.FigureBounds.{figures_in_range}
 use Rattle.written_site.specs.ShiftFigures.{clears_by, cents_by}
 use Rattle.site_core.specs.SiteParts.{site_of}
 use Rattle.site_core.proofs.ToldInOrder.{one_more}
-use Rattle.site_core.proofs.site_parts.SiteParts.counted_tills.Goals as goal
+use Rattle.site_core.proofs.site_parts.SiteParts.recount_tills.Goals as goal
 
 pub recount-clears-requires : goal.recount-clears-requires
 recount-clears-requires c =

@@ -1,6 +1,6 @@
 use Rattle.std.proofs.Common.{ℕ, ◌<◌, ◌^◌, sym, subst, ◌∙◌, arith}
 use Rattle.site_core.proofs.CountedDraws.{drawn_each}
-use Rattle.site_core.proofs.accounts.Accounts.counted_drawn.Goals as goal
+use Rattle.site_core.proofs.accounts.Accounts.recount_drawn.Goals as goal
 
 pub drawn_volume-requires : goal.drawn_volume-requires
 drawn_volume-requires c =
