@@ -1,8 +1,9 @@
 #!/usr/bin/env python3
 """A till: examples/till.py PORT TILL POINT
 
-Signs on at a site that serves on this port of 127.0.0.1, opens and releases the fuelling point, looks at it
-until its fuelling is over, and locks, clears and reads the sale. docs/PROFILE.md has every identifier."""
+Signs on at a site that serves on this port of 127.0.0.1, opens and releases the fuelling point, which has to be
+closed, looks at it until its fuelling is over, and locks, clears and reads the sale. docs/PROFILE.md has every
+identifier."""
 import socket
 import sys
 import time
@@ -37,7 +38,7 @@ class Till:
     def command(self, address, command):
         refusal = self.ask(WRITE, address, command)[RESULT]
         if refusal != 0:
-            sys.exit(f"command {command:02X} is refused with {refusal}")
+            sys.exit(f"command {command:02X} is refused: forecourt explain {refusal}")
 
 
 def first_sale(till, pump):
@@ -54,7 +55,7 @@ def main(port, number, point):
     till.command(pump, OPEN)
     till.command(pump, RELEASE)
     print(f"point {point} is released", flush=True)
-    while till.ask(READ, pump)[STATE] != IDLE:
+    while till.ask(READ, pump).get(STATE) not in (IDLE, None):
         time.sleep(0.05)
     sale = first_sale(till, pump)
     till.command(sale, LOCK)
@@ -63,4 +64,9 @@ def main(port, number, point):
     print(f"cleared {view[VOLUME]} ml for {view[CENTS]} cents")
 
 
-main(*map(int, sys.argv[1:4]))
+if len(sys.argv) != 4:
+    sys.exit(__doc__)
+try:
+    main(*map(int, sys.argv[1:]))
+except ConnectionRefusedError:
+    sys.exit(f"nothing serves on port {sys.argv[1]}")

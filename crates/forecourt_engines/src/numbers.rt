@@ -156,7 +156,7 @@ fn fault_of_site_file(number: u8) -> Option<&'static str> {
         71 => Some("the site file has a key that isn't one of its table's"),
         72 => Some("the site file lacks this key"),
         73 => Some("the value of this key isn't of its kind"),
-        74 => Some("the value of this key is out of its range, or its list too short or too long"),
+        74 => Some("this key's value (a name: a to z, 0 to 9, -) or its list's length is out of range"),
         75 => Some("the value of this key stands there twice"),
         76 => Some("a nozzle's product isn't the number of a product of the site file"),
         _ => None,
