@@ -13,7 +13,7 @@ use Rattle.transaction_buffer.specs.UnpaidPlaces.{is_at, one_if_kept, place_with
 use Rattle.transaction_buffer.specs.UnpaidPlaces.{place_without, AreUnpaid}
 use Rattle.std.proofs.Math.Seq.{get_or-append_seam}
 use Rattle.transaction_buffer.specs.TransactionTable.{unlock_all_of}
-use Rattle.transaction_buffer.proofs.Unpaid.{unpaid_pushed, unpaid_let_go, let_go_unpaid}
+use Rattle.transaction_buffer.proofs.Unpaid.{unpaid_pushed, unpaid_let_go, unlock_unpaid}
 
 is_same : (n m : ℕ) → n ≡ m → (n == m) ≡ true
 is_same n m is = grind (arith, nat_tests)
@@ -263,7 +263,7 @@ places_let_go t xs a b are = record {
   each = λ i d within.
       let inside : i < length xs = omega (arith, length-map xs (unlock_all_of t)) in
       ap (λ (x : Sale). is_unpaid x.standing) (get_or-map (unlock_all_of t) xs i d d inside)
-      ∙ let_go_unpaid t (get_or xs i d) ∙ are.each i d inside;
+      ∙ unlock_unpaid t (get_or xs i d) ∙ are.each i d inside;
   within = λ i is. let e = are.within i is in omega (arith, length-map xs (unlock_all_of t));
   apart = are.apart;
   counted = unpaid_let_go t xs ∙ are.counted;

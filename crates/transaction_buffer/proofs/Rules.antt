@@ -315,15 +315,15 @@ one_locker = record {
   by_clear = λ t shift j k s. locker_after (Clear shift) t None j k s
       (λ x accepted. ap locker (left_by_clear t shift x.cents x (seen_by t x.standing) accepted));
   by_sign_off = λ t k s. ap locker_in (read_each (unlock_all_of t) k s (let_go_shift t))
-      ∙ let_go_at t (sale_of k s);
+      ∙ unlock_at t (sale_of k s);
   by_sale = λ p x k s. ap locker_in (read_new p x k s)
       ∙ new_at (same_key k (next_key p x.shift s)) x (sale_of k s);
 }
   where
-    let_go_at : (t : ℕ) (o : Option Sale)
+    unlock_at : (t : ℕ) (o : Option Sale)
         → locker_in (option_map (unlock_all_of t) o) ≡ unless_signed_off t (locker_in o)
-    let_go_at t None = refl
-    let_go_at t (Some x) = locker_let_go t x x.standing refl
+    unlock_at t None = refl
+    unlock_at t (Some x) = locker_let_go t x x.standing refl
 
     new_at : (b : Bool) (x : Sale) (o : Option Sale)
         → locker_in (cond b (Some x) o) ≡ cond b (locker x.standing) (locker_in o)

@@ -58,9 +58,9 @@ same_unpaid t x true is = sym (locked_unpaid t x.standing is)
 same_unpaid t x false is = refl
 
 -- a sign-off leaves a sale unpaid or paid
-pub let_go_unpaid : (t : ℕ) (x : Sale)
+pub unlock_unpaid : (t : ℕ) (x : Sale)
     → is_unpaid (unlock_all_of t x).standing ≡ is_unpaid x.standing
-let_go_unpaid t x = same_unpaid t x (is_locked_by t x.standing) refl
+unlock_unpaid t x = same_unpaid t x (is_locked_by t x.standing) refl
 
 -- what a sign-off lets go stays unpaid
 pub unpaid_let_go : (t : ℕ) (xs : List Sale)

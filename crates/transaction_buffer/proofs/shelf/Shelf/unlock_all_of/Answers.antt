@@ -9,10 +9,10 @@ use Rattle.transaction_buffer.proofs.Spans.{shifts_mapped}
 use Rattle.transaction_buffer.proofs.Unpaid.{unpaid_let_go}
 use Rattle.transaction_buffer.proofs.PlacesUnpaid.{places_let_go}
 use Rattle.transaction_buffer.proofs.shelf.Shelf.unlock_all_of.Goals as goal
-use Rattle.transaction_buffer.proofs.shelf.Shelf.unlock_all_of.Goals.{After-let_go_unpaid}
+use Rattle.transaction_buffer.proofs.shelf.Shelf.unlock_all_of.Goals.{After-unlock_unpaid}
 
 -- the sales as they stand then
-all_moved : (c : After-let_go_unpaid)
+all_moved : (c : After-unlock_unpaid)
     → take c.self.inside.sales.len
     (c.unlock_unpaid.new.sales ++ drop (length c.unlock_unpaid.new.sales) c.self.inside.sales.items)
     ≡ map (unlock_all_of c.args.t) c.self.inside.sales.items
@@ -30,7 +30,7 @@ returns c =
     let old = c.self.inside.sales.items in
     let a = c.self.inside.unpaid.one in
     let b = c.self.inside.unpaid.other in
-    rw (← c.self.view_is, all_moved (goal.at.returns c).After-let_go_unpaid) (record {
+    rw (← c.self.view_is, all_moved (goal.at.returns c).After-unlock_unpaid) (record {
       sales = refl;
       room = refl;
       lockers = lockers_let_go c.args.t a b old;
@@ -46,7 +46,7 @@ invariant_of-self c =
     let unpaid : unpaid_among (map (unlock_all_of c.args.t) old) ≡ unpaid_among old =
     unpaid_let_go c.args.t old in
     let shifts = shifts_mapped (unlock_all_of c.args.t) old (let_go_shift c.args.t) in
-    rw (all_moved (goal.at.invariant_of-self c).After-let_go_unpaid) (record {
+    rw (all_moved (goal.at.invariant_of-self c).After-unlock_unpaid) (record {
       unpaid = omega (arith, c.self.invariant.unpaid);
       places = places_let_go c.args.t old c.self.inside.unpaid.one c.self.inside.unpaid.other
           c.self.invariant.places;

@@ -30,13 +30,13 @@ parts c q = subst
 
 pub unlock_sum_at-requires : goal.unlock_sum_at-requires
 unlock_sum_at-requires c =
-    let d = (goal.at.let_go_sum_at-requires c).After-deref-sales in
+    let d = (goal.at.unlock_sum_at-requires c).After-deref-sales in
     let required = rw (← c.self.view_is) at c.requires in
     can_first (at_one d) (at_other d) (at_both d) (parts d) c.args.sums.now c.args.sums.now required
 
 pub unlock_sum_at-requires-2 : goal.unlock_sum_at-requires-2
 unlock_sum_at-requires-2 c =
-    let d = (goal.at.let_go_sum_at-requires-2 c).After-deref-sales in
+    let d = (goal.at.unlock_sum_at-requires-2 c).After-deref-sales in
     let required = rw (← c.self.view_is) at c.requires in
     can_second (at_one d) (at_other d) (at_both d) (parts d) c.args.sums.now
     c.unlock_sum_at.new.sums required c.unlock_sum_at.ensures
