@@ -55,45 +55,45 @@ way_at kind database command content = record {
   content = content;
 }
 
-abbrev read_command : Kind → Database → ℕ → Content → Way
-read_command kind database id content = way_at kind database (Some id) content
+abbrev by_command : Kind → Database → ℕ → Content → Way
+by_command kind database id content = way_at kind database (Some id) content
 
 -- what a till asks of a transaction
 abbrev asking : ℕ → SaleId → ℕ → Way
-asking p sale id = read_command kinds.Write (Transaction p (sale_digits sale)) id nothing
+asking p sale id = by_command kinds.Write (Transaction p (sale_digits sale)) id nothing
 
 abbrev reading : Database → Way
 reading database = way_at kinds.Read database None nothing
 
 abbrev pub way_to : Event → Way
-way_to events.SignOn = read_command kinds.Write Site ids.SIGN_ON nothing
-way_to events.SignOff = read_command kinds.Write Site ids.SIGN_OFF nothing
-way_to (events.Open p) = read_command kinds.Write (Point p) ids.OPEN nothing
-way_to (events.Close p) = read_command kinds.Write (Point p) ids.CLOSE nothing
-way_to (events.Assign p) = read_command kinds.Write (Point p) ids.ASSIGN nothing
-way_to (events.Unassign p) = read_command kinds.Write (Point p) ids.UNASSIGN nothing
-way_to (events.Release p preset) = read_command kinds.Write (Point p) ids.RELEASE (limit preset)
-way_to (events.Prepay p cents) = read_command kinds.Write (Point p) ids.PREPAY (payment cents)
-way_to (events.TestRelease p) = read_command kinds.Write (Point p) ids.TEST_RELEASE nothing
-way_to (events.Suspend p) = read_command kinds.Write (Point p) ids.SUSPEND nothing
-way_to (events.Resume p) = read_command kinds.Write (Point p) ids.RESUME nothing
-way_to (events.Terminate p) = read_command kinds.Write (Point p) ids.TERMINATE nothing
+way_to events.SignOn = by_command kinds.Write Site ids.SIGN_ON nothing
+way_to events.SignOff = by_command kinds.Write Site ids.SIGN_OFF nothing
+way_to (events.Open p) = by_command kinds.Write (Point p) ids.OPEN nothing
+way_to (events.Close p) = by_command kinds.Write (Point p) ids.CLOSE nothing
+way_to (events.Assign p) = by_command kinds.Write (Point p) ids.ASSIGN nothing
+way_to (events.Unassign p) = by_command kinds.Write (Point p) ids.UNASSIGN nothing
+way_to (events.Release p preset) = by_command kinds.Write (Point p) ids.RELEASE (limit preset)
+way_to (events.Prepay p cents) = by_command kinds.Write (Point p) ids.PREPAY (payment cents)
+way_to (events.TestRelease p) = by_command kinds.Write (Point p) ids.TEST_RELEASE nothing
+way_to (events.Suspend p) = by_command kinds.Write (Point p) ids.SUSPEND nothing
+way_to (events.Resume p) = by_command kinds.Write (Point p) ids.RESUME nothing
+way_to (events.Terminate p) = by_command kinds.Write (Point p) ids.TERMINATE nothing
 way_to (events.ReplaceMeter p n r) =
-    read_command kinds.Write (Point p) ids.REPLACE_METER (meter n r)
+    by_command kinds.Write (Point p) ids.REPLACE_METER (meter n r)
 way_to (events.ReadPoint p) = reading (Point p)
 way_to (events.Lock p sale) = asking p sale ids.LOCK
 way_to (events.Unlock p sale) = asking p sale ids.UNLOCK
 way_to (events.Clear p sale) = asking p sale ids.CLEAR
 way_to (events.ReadTransaction p sale) = reading (Transaction p (sale_digits sale))
-way_to (events.SetPrice q mills) = read_command kinds.Write (Product q) ids.SET_PRICE (price mills)
+way_to (events.SetPrice q mills) = by_command kinds.Write (Product q) ids.SET_PRICE (price mills)
 way_to (events.ReadProduct q) = reading (Product q)
-way_to events.CloseShift = read_command kinds.Write Site ids.CLOSE_SHIFT nothing
+way_to events.CloseShift = by_command kinds.Write Site ids.CLOSE_SHIFT nothing
 way_to events.ReadSite = reading Site
-way_to (events.Online p) = read_command kinds.Report (Point p) ids.ONLINE nothing
-way_to (events.Offline p) = read_command kinds.Report (Point p) ids.OFFLINE nothing
-way_to (events.Lift p n r) = read_command kinds.Report (Point p) ids.LIFT (meter n r)
-way_to (events.Flow p n r) = read_command kinds.Report (Point p) ids.FLOW (meter n r)
-way_to (events.HangUp p n r) = read_command kinds.Report (Point p) ids.HANG_UP (meter n r)
+way_to (events.Online p) = by_command kinds.Report (Point p) ids.ONLINE nothing
+way_to (events.Offline p) = by_command kinds.Report (Point p) ids.OFFLINE nothing
+way_to (events.Lift p n r) = by_command kinds.Report (Point p) ids.LIFT (meter n r)
+way_to (events.Flow p n r) = by_command kinds.Report (Point p) ids.FLOW (meter n r)
+way_to (events.HangUp p n r) = by_command kinds.Report (Point p) ids.HANG_UP (meter n r)
 
 abbrev pub items_of : Option ℕ → Content → List Entry
 items_of None content = content_items content
@@ -216,7 +216,7 @@ ReadLeadsBack d shape = LeadsBack kinds.Read d None shape
 asked_leads : (p id : ℕ) (digits : SaleDigits) (sale : SaleId) → digits ≡ sale_digits sale
     → asking p sale id ≡ way_at kinds.Write (Transaction p digits) (Some id) nothing
 asked_leads p id digits sale same =
-    ap (λ (x : SaleDigits). read_command kinds.Write (Transaction p x) id nothing) (sym same)
+    ap (λ (x : SaleDigits). by_command kinds.Write (Transaction p x) id nothing) (sym same)
 
 commands_lead : (kind : Kind) (d : Database) → RowsLeadBack kind d (commands kind d)
 commands_lead kinds.Write Site = search rules

@@ -5,7 +5,7 @@
 //! one that a dispenser is told.
 //!
 //! The requests stand in one table, `specs/Commands.antt`, each with the shape of what it carries:
-//! `request.rt` has an arm for each request, `further.rt` a function for each shape. Worked
+//! `request.rt` has an arm for each request, `further_items.rt` a function for each shape. Worked
 //! messages, by their octets, are theorems of the definitions that the contracts cite:
 //! `proofs/WorkedRequests.antt`, `WorkedReplies.antt` and `WorkedChanges.antt`.
 #![tactic(auto)]
