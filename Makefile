@@ -11,7 +11,7 @@ help:
 	@echo 'make build    proves and builds the program: $(PROGRAM)'
 	@echo 'make check    proves every crate, lowest first'
 	@echo 'make smoke    builds without proof, and runs every test of programs: not the gate'
-	@echo 'make test     the gate: every proof from nothing, the mutants of the gate, every'
+	@echo 'make test     the gate: every proof that isn't kept, the mutants of the gate, every'
 	@echo '              test, and the built programs on their tables and cases, with'
 	@echo '              allocations and devices that fail'
 	@echo 'make audit    the mutants of the audit, of every crate or of CRATES="a b"'

@@ -1,5 +1,5 @@
-//! The tests of counter_desk: days of several workers, in threads. They stand apart so that
-//! counter_desk itself is proved once.
+//! The tests of counter_desk and dispenser_sim: days of one share, of several workers in threads,
+//! and of simulated dispensers. They stand apart so that those crates are proved once.
 #![tactic(auto)]
 
 #[cfg(test)]

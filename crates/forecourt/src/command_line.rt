@@ -11,7 +11,9 @@ pub fn build_commands<'a>(alloc: Global) -> Result<Command<'a>, Error> {
     let program = Command::new(alloc, "forecourt")
         .version("0.1.0")
         .subcommand_required(true)
-        .about("The forecourt site controller; alone it replays standard input on the site that it knows");
+        .about(
+            "The forecourt site controller; alone it replays standard input on the site that it knows",
+        );
     let program = with_replays(alloc, program)?;
     let program = with_days(alloc, program)?;
     Ok(with(program, explain(alloc))?)

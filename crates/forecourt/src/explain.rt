@@ -18,7 +18,12 @@ pub fn run_explain(rt: &HostRuntime, words: &ArgMatches<'_>) -> ExitCode {
 
 /// Prints what a refusal's or fault's number means. Another word is a mistake.
 fn explain_number(rt: &HostRuntime, word: &str) -> ExitCode {
-    match word.parse::<u8>().ok().and_then(NumberMeaning::of) {
+    // `parse` takes a plus before the digits.
+    let number = match word.strip_prefix('+') {
+        Some(_) => None,
+        None => word.parse::<u8>().ok(),
+    };
+    match number.and_then(NumberMeaning::of) {
         Some(meaning) => match println!(rt; "{meaning}") {
             Ok(()) => ExitCode::SUCCESS,
             Err(_) => exit_unwritten(rt),

@@ -12,7 +12,7 @@ pub struct NumberMeaning {
 }
 
 impl NumberMeaning {
-    /// The meaning of a number: a refusal's, 1 to 25, or a fault's, 30, 31, and 40 to 76; None for
+    /// The meaning of a number: a refusal's, 1 to 25, or a fault's, 30, 31, 40 to 44, 50 to 65 and 70 to 76; None for
     /// a number that nothing tells.
     pub fn of(number: u8) -> Option<NumberMeaning> {
         let text = match number {
@@ -81,7 +81,7 @@ fn refusal_of_who_and_what(number: u8) -> Option<&'static str> {
         10 => Some("the point doesn't accept this in its state (detail: the state)"),
         11 => Some("another till holds the fuelling point (detail: the till)"),
         12 => Some("nobody holds the fuelling point"),
-        13 => Some("the fuelling point is another dispenser's, or this isn't asked by such a node"),
+        13 => Some("a report of another's point, or an event that is not this kind of node's"),
         _ => None,
     }
 }
@@ -89,11 +89,11 @@ fn refusal_of_who_and_what(number: u8) -> Option<&'static str> {
 /// Refusals of how a fuelling, a meter or a transaction goes on.
 fn refusal_of_course(number: u8) -> Option<&'static str> {
     match number {
-        14 => Some("another nozzle is out (detail: the nozzle)"),
+        14 => Some("another nozzle is out (detail: the one that is out)"),
         15 => Some("the fuelling point has as many unpaid transactions as it may"),
         16 => Some("the fuelling point has no transaction number left in the open shift"),
-        17 => Some("the reading isn't the meter's last one (detail: that reading)"),
-        18 => Some("the reading is below the meter's last one (detail: that reading)"),
+        17 => Some("the reading isn't the meter's last one (detail: the last one)"),
+        18 => Some("the reading is below the meter's last one (detail: the last one)"),
         19 => Some("the reading is too far above the meter's last one"),
         20 => Some("another till has locked the transaction (detail: the till)"),
         21 => Some("nobody has locked the transaction"),
@@ -113,21 +113,23 @@ fn fault_of_stream(number: u8) -> Option<&'static str> {
         40 => Some("a message's code octet isn't 00, so the stream ends"),
         41 => Some("a message is of no kind, so the stream ends"),
         42 => Some("a message's body or address is too short or too long, so the stream ends"),
-        43 => Some("a message's items aren't in order or don't fill it, so the stream ends"),
+        43 => Some(
+            "a message's items aren't in order, or one runs over its end, so the stream ends",
+        ),
         44 => Some("the stream ends inside a message"),
         _ => None,
     }
 }
 
-/// Faults of a message that isn't a request.
+/// Faults of a message that the mapping or a session refuses.
 fn fault_of_request(number: u8) -> Option<&'static str> {
     match number {
         50 => Some("the message isn't for the site"),
         51 => Some("a read or a write comes from no till, or a report from no dispenser"),
         52 => Some("the address is of no database that has such a request"),
-        53 => Some("an item isn't one of this request"),
+        53 => Some("an item isn't one of this request, or excludes another one"),
         54 => Some("an item of this request isn't there"),
-        55 => Some("a transaction's number or shift isn't decimal, or out of range"),
+        55 => Some("a transaction's number or shift isn't decimal, or is out of range"),
         56 => Some("an item has another width, or a number that is out of range"),
         57 => Some("the session's messages come from two nodes"),
         58 => Some("the message is no request"),
@@ -139,7 +141,9 @@ fn fault_of_request(number: u8) -> Option<&'static str> {
 fn fault_of_run(number: u8) -> Option<&'static str> {
     match number {
         59 => Some("too many reads and interrupted writes"),
-        60 => Some("the shares don't add up to the book (behind it: the place of the row)"),
+        60 => Some(
+            "the shares don't add up to the book (place: a row's, or the rows' number where one is out)",
+        ),
         61 => Some("the input can't be read"),
         62 => Some("the output takes no more"),
         63 => Some("it can't listen there, or a connection couldn't be made"),
@@ -149,14 +153,16 @@ fn fault_of_run(number: u8) -> Option<&'static str> {
     }
 }
 
-/// Faults of a site file. Its key stands behind them.
+/// Faults of a site file. A key stands behind 71 to 75.
 fn fault_of_site_file(number: u8) -> Option<&'static str> {
     match number {
         70 => Some("the site file isn't TOML"),
         71 => Some("the site file has a key that isn't one of its table's"),
         72 => Some("the site file lacks this key"),
         73 => Some("the value of this key isn't of its kind"),
-        74 => Some("this key's value (a name: a to z, 0 to 9, -) or its list's length is out of range"),
+        74 => Some(
+            "this key's value (a name: a to z, 0 to 9, -) or its list's length is out of range",
+        ),
         75 => Some("the value of this key stands there twice"),
         76 => Some("a nozzle's product isn't the number of a product of the site file"),
         _ => None,

@@ -1,5 +1,6 @@
-//! The tests of till_session: sessions over memory, whole and cut short, and the server over
-//! memory. They stand apart so that till_session itself is proved once.
+//! The tests of till_session (sessions over memory, whole and cut short, and the server over
+//! memory), and of messages and replies as a session meets them. They stand apart so that
+//! till_session itself is proved once.
 #![tactic(auto)]
 
 #[cfg(test)]

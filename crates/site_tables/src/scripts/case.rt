@@ -1,6 +1,7 @@
 //! A case: a script with its name.
 
 use demo_script::{DemoScript, Section, read_script};
+use dispenser_sim::Step;
 use std::alloc::{AllocError, Global};
 
 /// A case of the table: its name, and the text of its script so far.
@@ -62,25 +63,50 @@ impl Case {
             let _ = text.pop();
         }
         match read_script(alloc, &text) {
-            Ok(demo) => count_parts(alloc, name.as_str(), &demo),
+            Ok(demo) => describe(alloc, name.as_str(), &demo),
             Err(fault) => format!(in alloc; "{name}: {fault}"),
         }
     }
 }
 
-/// How many calls, sections, messages and steps there are.
-fn count_parts(alloc: Global, name: &str, demo: &DemoScript) -> Result<String, AllocError> {
+/// How many calls, sections, messages and steps there are, and each dispenser's steps.
+fn describe(alloc: Global, name: &str, demo: &DemoScript) -> Result<String, AllocError> {
     let calls = demo.setup().len();
     let sections = demo.sections().len();
     let mut messages = 0usize;
     let mut steps = 0usize;
+    let mut dispensers = String::new(alloc);
     for section in demo.sections() {
         match section {
             Section::Till(input) => messages = messages.saturating_add(input.len()),
-            Section::Dispenser { script, .. } => {
+            Section::Dispenser {
+                point,
+                polls,
+                script,
+            } => {
                 steps = steps.saturating_add(script.steps().len());
+                write!(&mut dispensers, ", dispenser {} {polls}", point.get())?;
+                add_steps(&mut dispensers, script.steps())?;
             }
         }
     }
-    format!(in alloc; "{name}: calls {calls} sections {sections} messages {messages} steps {steps}")
+    let counts = format!(in alloc;
+        "{name}: calls {calls} sections {sections} messages {messages} steps {steps}"
+    )?;
+    format!(in alloc; "{counts}{dispensers}")
+}
+
+/// Adds the steps, each as a script has it.
+fn add_steps(text: &mut String, steps: &[Step]) -> Result<(), AllocError> {
+    for step in steps {
+        match step {
+            Step::Online => text.push_str(" / online")?,
+            Step::Offline => text.push_str(" / offline")?,
+            Step::Lift(nozzle) => write!(text, " / lift {}", nozzle.get())?,
+            Step::Pump(volume) => write!(text, " / pump {}", volume.get())?,
+            Step::HangUp => text.push_str(" / hang")?,
+            Step::WaitFor(state) => write!(text, " / wait {}", state.number())?,
+        }
+    }
+    Ok(())
 }

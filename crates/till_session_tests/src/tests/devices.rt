@@ -26,7 +26,12 @@ fn each_call_fails(rt: HostRuntime) -> Result<(), Fail> {
             let mut peer = Peer::of(octets(&rt, alloc, TWO_TILLS)?).in_pieces(most);
             peer.write_fails = k;
             let seen = session(&rt, alloc, &config, &[], peer)?;
-            cut_by_a_write(&rt, alloc, &seen, k <= writes)?;
+            let cut = if k <= writes {
+                Some(cut_before(k, most))
+            } else {
+                None
+            };
+            cut_by_a_write(&rt, alloc, &seen, cut)?;
         }
     }
     Ok(())
@@ -64,23 +69,36 @@ fn cut_by_a_read(
     Ok(())
 }
 
-/// The session one of whose writes failed, if it has so many.
+/// The requests asked and the octets told before the kth write, of at most so many octets: whole
+/// replies, or pieces of at most 5 of 16, 16 and 13.
+fn cut_before(k: u64, most: usize) -> (u64, usize) {
+    let k = k as usize;
+    match k {
+        1 => (1, 0),
+        2..=3 if most > 5 => (2, 16 * (k - 1)),
+        2..=4 => (1, 5 * (k - 1)),
+        5..=8 => (2, 16 + 5 * (k - 5)),
+        _ => (2, 32 + 5 * k.saturating_sub(9)),
+    }
+}
+
+/// The session one of whose writes failed, if it has so many, behind so many requests and octets.
 fn cut_by_a_write(
     rt: &impl Abort,
     alloc: Global,
     seen: &Seen,
-    is_met: bool,
+    cut: Option<(u64, usize)>,
 ) -> Result<(), NoMemory> {
-    if !is_met {
+    let Some((asked, size)) = cut else {
         return whole(rt, alloc, seen);
-    }
+    };
     assert!(rt; seen.end.fault == Some(SessionFault::Write(WriteFault::Failed)));
     let told = octets(rt, alloc, TWO_TILLS_TOLD)?;
     assert!(rt;
         told.starts_with(seen.told.as_slice()),
         "no front of the text"
     );
-    assert!(rt; seen.told.len() < told.len() && seen.end.signed_off);
+    assert!(rt; seen.told.len() == size && seen.end.asked == asked && seen.end.signed_off);
     assert!(rt; seen.noted.last == Some(left(rt)), "not left last");
     Ok(())
 }

@@ -1,4 +1,4 @@
-//! Words that no table of events shows yet, and the ends of the ranges of numbers.
+//! Words of answers, views and refusals, and the ends of the ranges of numbers.
 
 use site_base::{
     Answer, Cents, FpNo, Millilitres, Mills, NozzleNo, PointState, PointView, Preset, ProductNo,

@@ -2,6 +2,8 @@
 //! as ever.
 
 use demo_script::{DemoScript, ScriptFault, Section, read_script};
+use dispenser_sim::Step;
+use site_base::{Actor, Event, Millilitres, NozzleNo, PointState, TillNo};
 use std::alloc::Global;
 use std::process::Abort;
 
@@ -28,27 +30,44 @@ fn read(rt: &(impl Abort + Eprint), alloc: Global, text: &[u8]) -> Result<DemoSc
     }
 }
 
+/// The messages of till 2, with tokens 1 and 2.
+fn assert_till(rt: &impl Abort, section: &Section) {
+    let Section::Till(messages) = section else {
+        panic!(rt; "no till");
+    };
+    assert_eq!(rt; messages.len(), 2);
+    for (message, token) in messages.as_slice().iter().zip([1, 2]) {
+        assert!(rt; message.from() == [2, 2] && message.token().get() == token);
+    }
+}
+
+/// The dispenser of point 1, its looks, and its three steps.
+fn assert_dispenser(rt: &impl Abort, section: &Section) {
+    let Section::Dispenser {
+        point,
+        polls,
+        script,
+    } = section
+    else {
+        panic!(rt; "no dispenser");
+    };
+    assert!(rt; point.get() == 1 && *polls == 1_000_000);
+    let steps = script.steps();
+    assert_eq!(rt; steps.len(), 3);
+    assert!(rt; steps[0] == Step::Lift(NozzleNo::new(1).expect(rt, "nozzle 1")));
+    assert!(rt; steps[1] == Step::Pump(Millilitres::new(1_000_000).expect(rt, "a litre")));
+    assert!(rt; steps[2] == Step::WaitFor(PointState::SuspendedFuelling));
+}
+
 #[test]
 fn each_refused(rt: HostRuntime) {
     match read(&rt, rt.alloc(), SCRIPT) {
         Ok(demo) => {
-            assert_eq!(rt; demo.setup().len(), 1);
+            let till = Actor::Till(TillNo::new(1).expect(&rt, "till 1"));
+            assert!(rt; demo.setup().len() == 1 && demo.setup()[0] == (till, Event::SignOn));
             assert_eq!(rt; demo.sections().len(), 2);
-            match &demo.sections()[0] {
-                Section::Till(messages) => assert_eq!(rt; messages.len(), 2),
-                Section::Dispenser { .. } => panic!(rt; "no till"),
-            }
-            match &demo.sections()[1] {
-                Section::Dispenser {
-                    point,
-                    polls,
-                    script,
-                } => {
-                    assert!(rt; point.get() == 1 && *polls == 1_000_000);
-                    assert_eq!(rt; script.steps().len(), 3);
-                }
-                Section::Till(_) => panic!(rt; "no dispenser"),
-            }
+            assert_till(&rt, &demo.sections()[0]);
+            assert_dispenser(&rt, &demo.sections()[1]);
         }
         Err(fault) => panic!(rt; "{fault}"),
     }
