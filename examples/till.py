@@ -1,9 +1,9 @@
 #!/usr/bin/env python3
 """A till: examples/till.py PORT TILL POINT
 
-Signs on at a site that serves on this port of 127.0.0.1, opens and releases the fuelling point, which has to be
-closed, looks at it until its fuelling is over, and locks, clears and reads the sale. docs/PROFILE.md has every
-identifier."""
+Signs on at a site that serves on this port of 127.0.0.1, opens and releases the fuelling point,
+which has to be closed, looks at it until its fuelling is over, and locks, clears and reads the
+sale. docs/PROFILE.md has every identifier."""
 import socket
 import sys
 import time
@@ -42,7 +42,7 @@ class Till:
 
 
 def first_sale(till, pump):
-    """The address of the point's first transaction that is payable, or of the one that isn't there yet."""
+    """The address of the point's first payable transaction, or of the one that isn't there yet."""
     for number in range(1, 10000):
         sale = pump + bytes([OPEN_SHIFT]) + bytes.fromhex(f"{number:04d}")
         if till.ask(READ, sale).get(STATUS, PAYABLE) == PAYABLE:
