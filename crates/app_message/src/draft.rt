@@ -63,7 +63,8 @@ impl Draft {
         ensures least { OnOk result (1 ≤ length address.now) }
         ensures most { OnOk result (length address.now ≤ LONGEST_ADDRESS) }
         ensures fault { IfErr result (λ e. e ≢ MessageFault.NoMemory
-            → (e ≡ MessageFault.BadLength) × ((length address.now ≡ 0) ⊎ (LONGEST_ADDRESS < length address.now))) }
+            → (e ≡ MessageFault.BadLength)
+            × ((length address.now ≡ 0) ⊎ (LONGEST_ADDRESS < length address.now))) }
 
         // Whatever memory there is, such an address is refused.
         ensures faulty { (length address.now ≡ 0) ⊎ (LONGEST_ADDRESS < length address.now)

@@ -44,10 +44,12 @@ pub fn replay<R: Read, W: Write>(
     ensures told { Replayed turns (start
         (record { book = record { config = config.now; rows = [] }; changes = changes }))
         (R.remaining (device_of reader.old)) (R.remaining (device_of reader.new))
-        (W.contents (device_of writer.old)) (W.contents (device_of writer.new)) result.fault result.book }
+        (W.contents (device_of writer.old)) (W.contents (device_of writer.new))
+        result.fault result.book }
     ensures end { result.fault ≡ None → IsAtEnd (R.remaining (device_of reader.new)) }
     ensures no_turns { turns ≡ 0
-        → (result.fault ≡ Some (ReplayFault.Read ReadFault.TurnLimit)) ⊎ (result.fault ≡ Some ReplayFault.NoMemory) }
+        → (result.fault ≡ Some (ReplayFault.Read ReadFault.TurnLimit))
+        ⊎ (result.fault ≡ Some ReplayFault.NoMemory) }
     ensures unopened { result.book ≡ None → result.fault ≡ Some ReplayFault.NoMemory }
     ensures read_failed { result.fault ≡ Some (ReplayFault.Read ReadFault.Failed)
         → Rose (failures_of reader.old) (failures_of reader.new) }
@@ -81,7 +83,8 @@ fn run<R: Read, W: Write>(
 ) -> Result<(), ReplayFault>
     ensures told { Replayed turns engine.old
         (R.remaining (device_of reader.old)) (R.remaining (device_of reader.new))
-        (W.contents (device_of writer.old)) (W.contents (device_of writer.new)) (result_err result) (Some engine.new.answerer.book) }
+        (W.contents (device_of writer.old)) (W.contents (device_of writer.new))
+        (result_err result) (Some engine.new.answerer.book) }
     ensures end { OnOk result (IsAtEnd (R.remaining (device_of reader.new))) }
     ensures no_turns { turns ≡ 0 → IsErrOf result (ReplayFault.Read ReadFault.TurnLimit) }
     ensures read_failed { IsErrOf result (ReplayFault.Read ReadFault.Failed)

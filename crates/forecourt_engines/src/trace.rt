@@ -62,7 +62,8 @@ impl Trace {
         ensures stop { IfOk result (λ told. (a : Answerer) → length line.now ≤ LINE_OCTETS
             → told.stop ≡ (judged self.old.number self.old.stream a (kept_of line.now)).stop) }
         ensures stream { OnOk result ((a : Answerer) → length line.now ≤ LINE_OCTETS
-            → self.new.stream ≡ (judged self.old.number self.old.stream a (kept_of line.now)).stream) }
+            → self.new.stream
+            ≡ (judged self.old.number self.old.stream a (kept_of line.now)).stream) }
         ensures long { IfOk result (λ told. LINE_OCTETS < length line.now
             → told.stop ≡ Some (TooLong self.old.number)) }
     {

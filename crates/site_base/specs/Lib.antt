@@ -17,3 +17,4 @@ pub mod SignChanges
 pub mod States
 pub mod Table
 pub mod Transfer
+pub mod Words

@@ -92,7 +92,8 @@ pub fn read_piece<R: Read>(
     requires { 0 < length buf.old }
     ensures bound { IfOk result (λ n. n ≤ length buf.new) }
     ensures bytes { IfOk result (λ n.
-        Consumes (R.remaining (device_of reader.old)) (R.remaining (device_of reader.new)) (take n buf.new)) }
+        Consumes (R.remaining (device_of reader.old)) (R.remaining (device_of reader.new))
+        (take n buf.new)) }
     ensures end { IfOk result (λ n. n ≡ 0 → IsAtEnd (R.remaining (device_of reader.new))) }
     ensures err { OnErr result
         (Keeps (R.remaining (device_of reader.old)) (R.remaining (device_of reader.new))) }

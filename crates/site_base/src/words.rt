@@ -1,6 +1,11 @@
 //! The words in which actors, events, answers, refusals and rows are written, for people and for
 //! tables of cases: one grammar for all, which docs/PROFILE.md explains.
 
+ghost use Rattle.std.specs.Prelude.{Some, [], ◌∷◌, decimal};
+ghost use Rattle.std.specs.Fmt.{DisplaysOnOk};
+ghost use Rattle.site_base.specs.Words.{actor_word, at_sale, event_words, id_word, metered, named};
+ghost use Rattle.site_base.specs.Words.{spaced};
+
 use crate::actor::Actor;
 use crate::amounts::Millilitres;
 use crate::answer::Answer;
@@ -15,6 +20,8 @@ use std::fmt;
 
 /// `t1` is till 1, `d3` the dispenser of fuelling point 3.
 impl fmt::Display for Actor {
+    ghost output = { λ actor. Some (actor_word actor) };
+
     fn fmt<W: fmt::Write>(&self, f: &mut fmt::Formatter<W>) -> fmt::Result {
         match self {
             Actor::Till(till) => write!(f, "t{}", till.get()),
@@ -23,35 +30,37 @@ impl fmt::Display for Actor {
     }
 }
 
-/// The event's name, the number of the point that it names, and what else it carries: `Open 3`,
-/// `Release 3 Volume(3000)`, `Prepay 1 2000`, `Lift 2 1@1000`, `ReadTransaction 3/2/1`.
+/// The event's name, the number of what it is about, and what else it carries: `Open 3`,
+/// `Release 3 volume 3000`, `Prepay 1 2000`, `Lift 2 1@1000`, `ReadTransaction 3/2/1`.
 impl fmt::Display for Event {
+    ghost output = { λ event. Some (spaced (event_words event)) };
+
     fn fmt<W: fmt::Write>(&self, f: &mut fmt::Formatter<W>) -> fmt::Result {
         match self {
             Event::SignOn => f.write_str("SignOn"),
             Event::SignOff => f.write_str("SignOff"),
-            Event::Open(p) => write!(f, "Open {}", p.get()),
-            Event::Close(p) => write!(f, "Close {}", p.get()),
-            Event::Assign(p) => write!(f, "Assign {}", p.get()),
-            Event::Unassign(p) => write!(f, "Unassign {}", p.get()),
+            Event::Open(p) => write_named(f, "Open", p.get()),
+            Event::Close(p) => write_named(f, "Close", p.get()),
+            Event::Assign(p) => write_named(f, "Assign", p.get()),
+            Event::Unassign(p) => write_named(f, "Unassign", p.get()),
             Event::Release(p, preset) => write_release(f, *p, *preset),
-            Event::Prepay(p, cents) => write!(f, "Prepay {} {}", p.get(), cents),
-            Event::TestRelease(p) => write!(f, "TestRelease {}", p.get()),
-            Event::Suspend(p) => write!(f, "Suspend {}", p.get()),
-            Event::Resume(p) => write!(f, "Resume {}", p.get()),
-            Event::Terminate(p) => write!(f, "Terminate {}", p.get()),
+            Event::Prepay(p, cents) => write_amount(f, "Prepay", p.get(), *cents),
+            Event::TestRelease(p) => write_named(f, "TestRelease", p.get()),
+            Event::Suspend(p) => write_named(f, "Suspend", p.get()),
+            Event::Resume(p) => write_named(f, "Resume", p.get()),
+            Event::Terminate(p) => write_named(f, "Terminate", p.get()),
             Event::ReplaceMeter(p, n, r) => write_meter(f, "ReplaceMeter", *p, *n, *r),
-            Event::ReadPoint(p) => write!(f, "ReadPoint {}", p.get()),
-            Event::Lock(p, s) => write!(f, "Lock {}/{}", p.get(), s),
-            Event::Unlock(p, s) => write!(f, "Unlock {}/{}", p.get(), s),
-            Event::Clear(p, s) => write!(f, "Clear {}/{}", p.get(), s),
-            Event::ReadTransaction(p, s) => write!(f, "ReadTransaction {}/{}", p.get(), s),
-            Event::SetPrice(q, price) => write!(f, "SetPrice {} {}", q.get(), price),
-            Event::ReadProduct(q) => write!(f, "ReadProduct {}", q.get()),
+            Event::ReadPoint(p) => write_named(f, "ReadPoint", p.get()),
+            Event::Lock(p, s) => write_sale(f, "Lock", *p, *s),
+            Event::Unlock(p, s) => write_sale(f, "Unlock", *p, *s),
+            Event::Clear(p, s) => write_sale(f, "Clear", *p, *s),
+            Event::ReadTransaction(p, s) => write_sale(f, "ReadTransaction", *p, *s),
+            Event::SetPrice(q, mills) => write_amount(f, "SetPrice", q.get(), *mills),
+            Event::ReadProduct(q) => write_named(f, "ReadProduct", q.get()),
             Event::CloseShift => f.write_str("CloseShift"),
             Event::ReadSite => f.write_str("ReadSite"),
-            Event::Online(p) => write!(f, "Online {}", p.get()),
-            Event::Offline(p) => write!(f, "Offline {}", p.get()),
+            Event::Online(p) => write_named(f, "Online", p.get()),
+            Event::Offline(p) => write_named(f, "Offline", p.get()),
             Event::Lift(p, n, r) => write_meter(f, "Lift", *p, *n, *r),
             Event::Flow(p, n, r) => write_meter(f, "Flow", *p, *n, *r),
             Event::HangUp(p, n, r) => write_meter(f, "HangUp", *p, *n, *r),
@@ -59,12 +68,37 @@ impl fmt::Display for Event {
     }
 }
 
-/// A release, with its preset where it has one: `Release 3`, `Release 3 Money(2000)`.
-fn write_release<W: fmt::Write>(f: &mut fmt::Formatter<W>, p: FpNo, preset: Preset) -> fmt::Result {
-    write!(f, "Release {}", p.get())?;
+/// An event of this name, and the number of what it is about: `Open 3`.
+fn write_named<W: fmt::Write>(f: &mut fmt::Formatter<W>, name: &str, n: u8) -> fmt::Result
+    ensures { DisplaysOnOk W.Write.write_str_gives f.old result
+        (Some (spaced (named name.now n))) f.new }
+{
+    write!(f, "{name} {n}")
+}
+
+/// An event of this name with an amount: `Prepay 1 2000`.
+fn write_amount<W: fmt::Write>(
+    f: &mut fmt::Formatter<W>,
+    name: &str,
+    n: u8,
+    amount: u32,
+) -> fmt::Result
+    ensures { DisplaysOnOk W.Write.write_str_gives f.old result
+        (Some (spaced (name.now ∷ decimal n ∷ decimal amount ∷ []))) f.new }
+{
+    write!(f, "{name} {n} {amount}")
+}
+
+/// A release, with its preset where it has one: `Release 3`, `Release 3 money 2000`.
+fn write_release<W: fmt::Write>(f: &mut fmt::Formatter<W>, p: FpNo, preset: Preset) -> fmt::Result
+    ensures { DisplaysOnOk W.Write.write_str_gives f.old result
+        (Some (spaced (event_words (Event.Release p preset)))) f.new }
+{
+    let p = p.get();
     match preset {
-        Preset::Unset => Ok(()),
-        _ => write!(f, " {preset}"),
+        Preset::Unset => write!(f, "Release {p}"),
+        Preset::Volume(millilitres) => write!(f, "Release {p} volume {millilitres}"),
+        Preset::Money(cents) => write!(f, "Release {p} money {cents}"),
     }
 }
 
@@ -75,18 +109,39 @@ fn write_meter<W: fmt::Write>(
     p: FpNo,
     n: NozzleNo,
     reading: Millilitres,
-) -> fmt::Result {
-    write!(f, "{} {} {}@{}", name, p.get(), n.get(), reading.get())
+) -> fmt::Result
+    ensures { DisplaysOnOk W.Write.write_str_gives f.old result
+        (Some (spaced (metered name.now p n reading))) f.new }
+{
+    let (p, n, reading) = (p.get(), n.get(), reading.get());
+    write!(f, "{name} {p} {n}@{reading}")
+}
+
+/// An event of this name at a transaction of a point: `Lock 3/1`, `Lock 3/2/1`.
+fn write_sale<W: fmt::Write>(
+    f: &mut fmt::Formatter<W>,
+    name: &str,
+    p: FpNo,
+    sale: SaleId,
+) -> fmt::Result
+    ensures { DisplaysOnOk W.Write.write_str_gives f.old result
+        (Some (spaced (at_sale name.now p sale))) f.new }
+{
+    let p = p.get();
+    write!(f, "{name} {p}/{sale}")
 }
 
 /// A sale's number, behind that of its shift where one is named: `1`, `2/1`. The number of its
 /// fuelling point stands before them: `3/1`, `3/2/1`.
 impl fmt::Display for SaleId {
+    ghost output = { λ sale. Some (id_word sale) };
+
     fn fmt<W: fmt::Write>(&self, f: &mut fmt::Formatter<W>) -> fmt::Result {
-        if let Some(shift) = self.shift {
-            write!(f, "{}/", shift.get())?;
+        let seq = self.seq.get();
+        match self.shift {
+            None => write!(f, "{seq}"),
+            Some(shift) => write!(f, "{}/{seq}", shift.get()),
         }
-        write!(f, "{}", self.seq.get())
     }
 }
 

@@ -86,7 +86,8 @@ impl Talk {
     ) -> Result<(), SessionFault>
         ensures same { self.new ≡ self.old }
         ensures ok { OnOk result
-            (Appends (W.contents (device_of writer.old)) (W.contents (device_of writer.new)) (spelling message)) }
+            (Appends (W.contents (device_of writer.old)) (W.contents (device_of writer.new))
+            (spelling message)) }
         ensures front { AppendsFront (W.contents (device_of writer.old))
             (W.contents (device_of writer.new))
             (spelling message) }
