@@ -19,43 +19,26 @@ use Rattle.app_message.specs.Spelling.{item_text}
 use Rattle.device_map.specs.declared.fault.MapFault.{MapFault}
 use Rattle.device_map.specs.declared.fault.MapFault.TheVariants.{UnknownItem, BadNumber}
 use Rattle.device_map.specs.declared.ids.TheConstants as ids
+use Rattle.device_map.specs.declared.way.Content.{Content}
+use Rattle.device_map.specs.declared.way.Content.TheVariants.{Nothing, Limit, Payment, Meter}
+use Rattle.device_map.specs.declared.way.Content.TheVariants.{Price}
 use Rattle.device_map.specs.Stages.{◌>>=◌}
 use Rattle.device_map.specs.Further.{items_end, taken, present, four_octets_in, nozzle_in}
 use Rattle.device_map.specs.Further.{reading_in, preset_of, preset_in, money_in, meter_in}
 use Rattle.device_map.specs.Items.{octet, four_octets, eight_octets}
 use Rattle.device_map.specs.Laws.{is_preset, is_meter}
 use Rattle.device_map.specs.Replies.{preset_items}
+use Rattle.device_map.specs.Ways.{content_inside, content_items}
 use Rattle.device_map.proofs.Results.{bind_ok, went, ok_is, passed, equal, none_of, one_is}
 use Rattle.device_map.proofs.Results.{one_octet}
 
--- what a command carries, a line for each shape
-pub data Content : Type 0 where
-  nothing : Content
-  limit : (preset : Preset) → Content
-  payment : (cents : ℕ) → Content
-  meter : (nozzle reading : ℕ) → Content
-  price : (mills : ℕ) → Content
-
--- the content of the command
-abbrev pub content_inside : Content → List ℕ
-content_inside (price mills) = to_be_bytes w32 mills
-content_inside content = []
-
--- the items behind it
-abbrev pub content_items : Content → List Entry
-content_items nothing = []
-content_items (limit preset) = preset_items preset
-content_items (payment cents) = four_octets ids.PRESET_MONEY cents
-content_items (meter nozzle reading) = octet ids.NOZZLE nozzle ++ eight_octets ids.READING reading
-content_items (price mills) = []
-
 -- each number is in its range
 abbrev pub is_content : Content → Bool
-is_content nothing = true
-is_content (limit preset) = is_preset preset
-is_content (payment cents) = nat_lt cents (2 ^ 32)
-is_content (meter nozzle reading) = is_meter nozzle reading
-is_content (price mills) = nat_lt mills (2 ^ 32)
+is_content Nothing = true
+is_content (Limit preset) = is_preset preset
+is_content (Payment cents) = nat_lt cents (2 ^ 32)
+is_content (Meter nozzle reading) = is_meter nozzle reading
+is_content (Price mills) = nat_lt mills (2 ^ 32)
 
 -- ---- what was spelled is read
 
@@ -74,12 +57,12 @@ preset_there (Money n) own =
     ap (λ (r : Result ℕ MapFault). r >>= λ x. Ok (Money x)) (four_there n own)
 
 pub money_there : (cents : ℕ) → nat_lt cents (2 ^ 32) ≡ true
-    → money_in (content_items (payment cents)) ≡ Ok cents
+    → money_in (content_items (Payment cents)) ≡ Ok cents
 unfolding money_in four_octets
 money_there cents own = four_there cents own
 
 pub meter_there : (n reading : ℕ) → is_meter n reading ≡ true
-    → meter_in (content_items (meter n reading)) ≡ Ok (n, reading)
+    → meter_in (content_items (Meter n reading)) ≡ Ok (n, reading)
 unfolding meter_in octet eight_octets
 meter_there n reading own =
     let both = and_parts (is_between 1 NOZZLES n) (nat_le reading GREATEST_READING) own in
@@ -111,40 +94,40 @@ pub no_octets : AreOctets []
 no_octets i = omega arith
 
 pub inside_octets : (content : Content) → AreOctets (content_inside content)
-inside_octets (price mills) = octet_below 4 mills
-inside_octets nothing = no_octets
-inside_octets (limit preset) = no_octets
-inside_octets (payment cents) = no_octets
-inside_octets (meter nozzle reading) = no_octets
+inside_octets (Price mills) = octet_below 4 mills
+inside_octets Nothing = no_octets
+inside_octets (Limit preset) = no_octets
+inside_octets (Payment cents) = no_octets
+inside_octets (Meter nozzle reading) = no_octets
 
 pub inside_short : (content : Content) → length (content_inside content) ≤ 4
-inside_short (price mills) = lit≤ tt
-inside_short nothing = lit≤ tt
-inside_short (limit preset) = lit≤ tt
-inside_short (payment cents) = lit≤ tt
-inside_short (meter nozzle reading) = lit≤ tt
+inside_short (Price mills) = lit≤ tt
+inside_short Nothing = lit≤ tt
+inside_short (Limit preset) = lit≤ tt
+inside_short (Payment cents) = lit≤ tt
+inside_short (Meter nozzle reading) = lit≤ tt
 
 -- below the identifiers of its items
 abbrev pub is_below : ℕ → Content → Bool
-is_below id nothing = nat_lt id 256
-is_below id (limit preset) = nat_lt id ids.PRESET_VOLUME
-is_below id (payment cents) = nat_lt id ids.PRESET_MONEY
-is_below id (meter nozzle reading) = nat_lt id ids.NOZZLE
-is_below id (price mills) = nat_lt id 256
+is_below id Nothing = nat_lt id 256
+is_below id (Limit preset) = nat_lt id ids.PRESET_VOLUME
+is_below id (Payment cents) = nat_lt id ids.PRESET_MONEY
+is_below id (Meter nozzle reading) = nat_lt id ids.NOZZLE
+is_below id (Price mills) = nat_lt id 256
 
 pub contents_rise : (id : ℕ) (content : Content) → is_content content ≡ true
     → is_below id content ≡ true → Rises (id + 1) (content_items content)
 unfolding octet four_octets eight_octets
-contents_rise id nothing own below = tt
-contents_rise id (price mills) own below = tt
-contents_rise id (limit Unset) own below = tt
-contents_rise id (limit (Volume n)) own below =
+contents_rise id Nothing own below = tt
+contents_rise id (Price mills) own below = tt
+contents_rise id (Limit Unset) own below = tt
+contents_rise id (Limit (Volume n)) own below =
     (grind (arith, nat_tests), is_four ids.PRESET_VOLUME n (omega arith), tt)
-contents_rise id (limit (Money n)) own below =
+contents_rise id (Limit (Money n)) own below =
     (grind (arith, nat_tests), is_four ids.PRESET_MONEY n (omega arith), tt)
-contents_rise id (payment n) own below =
+contents_rise id (Payment n) own below =
     (grind (arith, nat_tests), is_four ids.PRESET_MONEY n (omega arith), tt)
-contents_rise id (meter n r) own below =
+contents_rise id (Meter n r) own below =
     let both = and_parts (is_between 1 NOZZLES n) (nat_le r GREATEST_READING) own in
     let number : is_between 1 NOZZLES n ≡ true = both.0 in
     let small : n < 256 = grind (arith, nat_tests) in (
@@ -155,13 +138,13 @@ contents_rise id (meter n r) own below =
 
 pub contents_short : (content : Content) → length (flat_map item_text (content_items content)) ≤ 100
 unfolding octet four_octets eight_octets
-contents_short nothing = lit≤ tt
-contents_short (price mills) = lit≤ tt
-contents_short (limit Unset) = lit≤ tt
-contents_short (limit (Volume n)) = lit≤ tt
-contents_short (limit (Money n)) = lit≤ tt
-contents_short (payment n) = lit≤ tt
-contents_short (meter n r) = lit≤ tt
+contents_short Nothing = lit≤ tt
+contents_short (Price mills) = lit≤ tt
+contents_short (Limit Unset) = lit≤ tt
+contents_short (Limit (Volume n)) = lit≤ tt
+contents_short (Limit (Money n)) = lit≤ tt
+contents_short (Payment n) = lit≤ tt
+contents_short (Meter n r) = lit≤ tt
 
 -- ---- what is read was spelled
 
@@ -273,14 +256,14 @@ preset_back low items preset rise is =
 
 money_told : (low : ℕ) (found : Option Entry) (money : Entry) (cents : ℕ)
     → IsNamed ids.PRESET_MONEY found → Rises low (with_item found []) → present found ≡ Ok money
-    → four_octets_in money.content ≡ Ok cents → with_item found [] ≡ content_items (payment cents)
+    → four_octets_in money.content ≡ Ok cents → with_item found [] ≡ content_items (Payment cents)
 money_told low None money cents named rise there is = absurd cc
 money_told low (Some e) money cents named rise there is =
     four_back e ids.PRESET_MONEY cents named rise.1
     (ap (λ (x : Entry). four_octets_in x.content) (ok_is e money there) ∙ is)
 
 pub money_back : (low : ℕ) (items : List Entry) (cents : ℕ) → Rises low items
-    → money_in items ≡ Ok cents → items ≡ content_items (payment cents)
+    → money_in items ≡ Ok cents → items ≡ content_items (Payment cents)
 unfolding money_in
 money_back low items cents rise is =
     let found = (taken ids.PRESET_MONEY items).0 in
@@ -299,7 +282,7 @@ meter_told : (low : ℕ) (first second : Option Entry) (nozzle reading : Entry) 
     → Rises low (with_item first (with_item second []))
     → present first ≡ Ok nozzle → present second ≡ Ok reading
     → nozzle_in nozzle ≡ Ok n → reading_in reading ≡ Ok r
-    → with_item first (with_item second []) ≡ content_items (meter n r)
+    → with_item first (with_item second []) ≡ content_items (Meter n r)
 unfolding octet
 meter_told low None second nozzle reading n r named named' rise there there' is is' = absurd cc
 meter_told low (Some e) None nozzle reading n r named named' rise there there' is is' = absurd cc
@@ -311,7 +294,7 @@ meter_told low (Some e) (Some f) nozzle reading n r named named' rise there ther
     ∙ ap (λ (x : List Entry). octet ids.NOZZLE n ++ x) second
 
 pub meter_back : (low : ℕ) (items : List Entry) (n r : ℕ) → Rises low items
-    → meter_in items ≡ Ok (n, r) → items ≡ content_items (meter n r)
+    → meter_in items ≡ Ok (n, r) → items ≡ content_items (Meter n r)
 unfolding meter_in
 meter_back low items n r rise is =
     let left = (taken ids.NOZZLE items).1 in

@@ -13,6 +13,7 @@ use Rattle.device_map.specs.declared.fault.MapFault.TheVariants.{BadDecimal}
 use Rattle.device_map.specs.Decimal.{is_decimal, two_digits, four_digits, decimal_in, shift_in}
 use Rattle.device_map.specs.Decimal.{sale_named}
 use Rattle.device_map.specs.Laws.{is_shift_if_named, is_sale}
+use Rattle.device_map.specs.Ways.{digits_of, sale_digits, shift_digits}
 use Rattle.device_map.proofs.Results.{bind_ok, ok_is, passed}
 
 -- ---- an octet of two digits
@@ -35,13 +36,6 @@ octet_back o decimal =
     (omega arith, omega arith)
 
 -- ---- four digits
-
--- a number's four digits, in two octets
-abbrev pub digits_of : ℕ → Digits
-digits_of n = record {
-  high = n / 1000 % 10 * 16 + n / 100 % 10;
-  low = n / 10 % 10 * 16 + n % 10;
-}
 
 pub decimal_there : (greatest n : ℕ) → greatest ≤ 9999 → is_between 1 greatest n ≡ true
     → decimal_in greatest (digits_of n) ≡ Ok n
@@ -73,13 +67,6 @@ decimal_back greatest n d is =
     same_digits d (digits_of n) (omega arith) (omega arith)
 
 -- ---- the digits of a sale
-
-abbrev pub shift_digits : Option ℕ → Option Digits
-shift_digits None = None
-shift_digits (Some shift) = Some (digits_of shift)
-
-abbrev pub sale_digits : SaleId → SaleDigits
-sale_digits sale = record { shift = shift_digits sale.shift; seq = digits_of sale.seq }
 
 shift_there : (shift : Option ℕ) → is_shift_if_named shift ≡ true
     → shift_in (shift_digits shift) ≡ Ok shift

@@ -17,20 +17,8 @@ use Rattle.device_map.specs.declared.ids.TheConstants as ids
 use Rattle.device_map.specs.Addresses.{database_of_octet, transaction_of, is_point_octet}
 use Rattle.device_map.specs.Addresses.{is_product_octet, database_at}
 use Rattle.device_map.specs.Addresses.{sale_of_open_shift, sale_of_shift}
-use Rattle.device_map.proofs.DecimalDigits.{digits_of, shift_digits}
+use Rattle.device_map.specs.Ways.{address_of, digit_octets, digits_of, shift_digits}
 use Rattle.device_map.proofs.Results.{ok_is, passed, first_that, equal, one_is, one_octet}
-
--- the form and the digits that name a transaction
-abbrev digit_octets : Option Digits → Digits → List ℕ
-digit_octets None seq = ids.TRANSACTION_FORM ∷ seq.high ∷ seq.low ∷ []
-digit_octets (Some shift) seq =
-    ids.SHIFT_FORM ∷ shift.high ∷ shift.low ∷ seq.high ∷ seq.low ∷ []
-
-abbrev pub address_of : Database → List ℕ
-address_of Site = ids.SITE_ADDRESS ∷ []
-address_of (Point p) = (ids.POINT_ADDRESS + p) ∷ []
-address_of (Transaction p digits) = (ids.POINT_ADDRESS + p) ∷ digit_octets digits.shift digits.seq
-address_of (Product q) = (ids.PRODUCT_ADDRESS + q) ∷ []
 
 -- ---- the address is there
 

@@ -25,25 +25,21 @@ use Rattle.device_map.specs.Commands.{Shape, commands, reading_of}
 use Rattle.device_map.specs.Requests.{some_known, shape_of}
 use Rattle.device_map.specs.Requests.{command_in, read_by, event_at, request_at}
 use Rattle.device_map.specs.Laws.{may_ask, is_in_range, Asks, IsOneRequest}
-use Rattle.device_map.proofs.Contents.{Content, nothing, limit, payment, meter, price}
-use Rattle.device_map.proofs.Contents.{content_inside, is_content, is_below}
+use Rattle.device_map.specs.declared.way.Content.{Content}
+use Rattle.device_map.specs.declared.way.Content.TheVariants.{Nothing, Limit, Payment, Meter}
+use Rattle.device_map.specs.declared.way.Content.TheVariants.{Price}
+use Rattle.device_map.specs.declared.way.Way.{Way}
+use Rattle.device_map.specs.Ways.{address_of, content_inside, content_items, items_of, node_of}
+use Rattle.device_map.specs.Ways.{may_send, request_by, way_at, way_to}
+use Rattle.device_map.proofs.Contents.{is_content, is_below}
 use Rattle.device_map.proofs.Contents.{inside_octets, inside_short, contents_rise, contents_short}
-use Rattle.device_map.proofs.Contents.{content_items, no_octets}
-use Rattle.device_map.proofs.OneAddress.{address_of, IsAsked, database_there, address_is, names}
+use Rattle.device_map.proofs.Contents.{no_octets}
+use Rattle.device_map.proofs.OneAddress.{IsAsked, database_there, address_is, names}
 use Rattle.device_map.proofs.Results.{bind_ok, went, ok_is, passed, equal, one_octet}
-use Rattle.device_map.proofs.Ways.{Way, way_at, way_to, items_of, may_send, is_spelled}
+use Rattle.device_map.proofs.Ways.{is_spelled}
 use Rattle.device_map.proofs.Ways.{asked_there, carried_there, spelled_there, sender_there}
 use Rattle.device_map.proofs.Ways.{event_there, shaped, command_leads, ReadLeadsBack}
 use Rattle.device_map.proofs.Ways.{reads_lead}
-
-abbrev node_of : Actor → List ℕ
-node_of (Till t) = ids.TILL_SUBNET ∷ t ∷ []
-node_of (Dispenser d) = ids.DISPENSER_SUBNET ∷ d ∷ []
-
-abbrev pub request_by : ℕ → Actor → Way → Telegram
-request_by token actor way =
-    telegram site_node (node_of actor) way.kind token (address_of way.database)
-    (items_of way.command way.content)
 
 -- ---- the request is there
 
@@ -97,11 +93,11 @@ node_there (Dispenser d) kinds.Report own = dispenser_node d own
 node_there actor kind own = absurd cc
 
 command_small : (id : ℕ) (content : Content) → is_below id content ≡ true → id < 256
-command_small id nothing below = grind (arith, nat_tests)
-command_small id (limit preset) below = grind (arith, nat_tests)
-command_small id (payment cents) below = grind (arith, nat_tests)
-command_small id (meter n r) below = grind (arith, nat_tests)
-command_small id (price mills) below = grind (arith, nat_tests)
+command_small id Nothing below = grind (arith, nat_tests)
+command_small id (Limit preset) below = grind (arith, nat_tests)
+command_small id (Payment cents) below = grind (arith, nat_tests)
+command_small id (Meter n r) below = grind (arith, nat_tests)
+command_small id (Price mills) below = grind (arith, nat_tests)
 
 items_rise : (command : Option ℕ) (content : Content) → is_content content ≡ true
     → is_spelled command content ≡ true → Rises 0 (items_of command content)
@@ -115,7 +111,7 @@ items_rise (Some id) content own spelled =
       },
       contents_rise id content own spelled,
     )
-items_rise None nothing own spelled = tt
+items_rise None Nothing own spelled = tt
 items_rise None content own spelled = absurd cc
 
 items_short : (command : Option ℕ) (content : Content)
@@ -169,7 +165,7 @@ asks token actor event own fit =
       event_there event fit,
     ) refl
 
-there : (token : ℕ) (actor : Actor) (event : Event) → token < 32
+pub there : (token : ℕ) (actor : Actor) (event : Event) → token < 32
     → may_ask actor (reported_by event) ≡ true → is_in_range event ≡ true
     → Asks token actor event (request_by token actor (way_to event))
 there token actor event short own fit =

@@ -4,6 +4,8 @@ use Rattle.std.proofs.Common.{Option, Some, None, Result}
 use Rattle.std.proofs.Common.{Bool, true, false, Ok, Err, refl, lit≤}
 use Rattle.site_base.specs.declared.answer.Answer.{Answer}
 use Rattle.site_base.specs.declared.answer.Answer.TheVariants as answers
+use Rattle.site_base.specs.declared.event.Event.{Event}
+use Rattle.site_base.specs.declared.event.Event.TheVariants as events
 use Rattle.site_base.specs.declared.refusal.Refusal.{Refusal}
 use Rattle.site_base.specs.declared.state.Preset.{Preset}
 use Rattle.site_base.specs.declared.state.Preset.TheVariants.{Unset, Volume, Money}
@@ -20,6 +22,7 @@ use Rattle.device_map.specs.Items.{octet, two_octets, four_octets, eight_octets}
 use Rattle.device_map.specs.Replies.{AreShort, test_items, preset_items, prepaid_items}
 use Rattle.device_map.specs.Replies.{standing_items, detail_items}
 use Rattle.device_map.specs.Replies.{answer_items, reply_items}
+use Rattle.device_map.specs.Ways.{items_of, way_to}
 
 point_short : (v : PointView) (test : Bool) (preset : Preset) (prepaid : Option ℕ)
     → AreShort (standing_items v ++ test_items test ++ preset_items preset
@@ -83,6 +86,17 @@ command_short command preset below = by preset
     by Unset = record { rise = rw first refl; size = lit≤ tt }
     by (Volume n) = record { rise = rw (first, volume) refl; size = lit≤ tt }
     by (Money n) = record { rise = rw (first, money) refl; size = lit≤ tt }
+
+limit_short : (preset : Preset) → AreShort (entry ids.RELEASE [] ∷ preset_items preset)
+limit_short preset = command_short ids.RELEASE preset (omega arith)
+
+-- the items of each request
+pub request_short : (event : Event)
+    → AreShort (items_of (way_to event).command (way_to event).content)
+unfolding octet four_octets eight_octets
+request_short (events.Release p preset) = limit_short preset
+request_short events.SignOn = record { rise = refl; size = lit≤ tt }
+request_short event = record { rise = refl; size = lit≤ tt }
 
 -- with an address they have no fault
 pub short_fits : (address : List ℕ) (items : List Entry) → 1 ≤ length address → length address ≤ 8

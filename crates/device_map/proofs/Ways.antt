@@ -3,7 +3,7 @@ use Rattle.std.specs.Prelude.{Option, Some, None, length, ◌^◌, ◌&&◌, nat
 use Rattle.std.proofs.Common.{◌≡◌, ℕ, Bool, true, false, List, [], ◌∷◌, Result, Ok, refl, sym}
 use Rattle.std.proofs.Common.{◌==◌, ap, subst, ◌∙◌, rules}
 use Rattle.std.proofs.lemmas.Bool.{and_parts}
-use Rattle.site_base.specs.declared.limits.TheConstants.{TILLS, POINTS, PRODUCTS}
+use Rattle.site_base.specs.declared.limits.TheConstants.{POINTS, PRODUCTS}
 use Rattle.site_base.specs.declared.actor.Actor.{Actor}
 use Rattle.site_base.specs.declared.actor.Actor.TheVariants.{Till, Dispenser}
 use Rattle.site_base.specs.declared.event.Event.{Event}
@@ -14,7 +14,7 @@ use Rattle.site_base.specs.Ranges.{is_between}
 use Rattle.site_base.specs.Events.{point_named, reported_by}
 use Rattle.app_message.specs.declared.kind.Kind.{Kind}
 use Rattle.app_message.specs.declared.kind.Kind.TheVariants as kinds
-use Rattle.app_message.specs.Telegram.{Entry, Rises, AreOctets, entry}
+use Rattle.app_message.specs.Telegram.{Entry, Rises, AreOctets}
 use Rattle.device_map.specs.declared.address.Database.{Database}
 use Rattle.device_map.specs.declared.address.Database.TheVariants.{Site, Point, Transaction}
 use Rattle.device_map.specs.declared.address.Database.TheVariants.{Product}
@@ -29,75 +29,19 @@ use Rattle.device_map.specs.Further.{items_end, preset_in, money_in, meter_in, s
 use Rattle.device_map.specs.Further.{four_octets_in}
 use Rattle.device_map.specs.Requests.{shape_of, plain, event_by, command_in, event_at}
 use Rattle.device_map.specs.Laws.{may_ask, is_point_if_named, is_carried, is_in_range, is_sale}
-use Rattle.device_map.proofs.Contents.{Content, nothing, limit, payment, meter, price}
-use Rattle.device_map.proofs.Contents.{content_inside, content_items, is_content, is_below}
+use Rattle.device_map.specs.declared.way.Content.{Content}
+use Rattle.device_map.specs.declared.way.Content.TheVariants.{Nothing, Limit, Payment, Meter}
+use Rattle.device_map.specs.declared.way.Content.TheVariants.{Price}
+use Rattle.device_map.specs.Ways.{asking, content_inside, content_items}
+use Rattle.device_map.specs.Ways.{items_of, may_send, reading, sale_digits, way_at, way_to}
+use Rattle.device_map.specs.Ways.{by_command}
+use Rattle.device_map.proofs.Contents.{is_content, is_below}
 use Rattle.device_map.proofs.Contents.{four_there, preset_there, money_there, meter_there}
 use Rattle.device_map.proofs.Contents.{inside_back, nothing_back, preset_back, money_back}
 use Rattle.device_map.proofs.Contents.{meter_back}
-use Rattle.device_map.proofs.DecimalDigits.{sale_digits, sale_there, sale_back}
+use Rattle.device_map.proofs.DecimalDigits.{sale_there, sale_back}
 use Rattle.device_map.proofs.OneAddress.{IsAsked, sale_octets}
 use Rattle.device_map.proofs.Results.{bind_ok, ok_is, passed, first_that, equal, none_of}
-
--- ---- a line for each event
-
--- a kind of message to a database, with a command or without, and what this carries
-pub record Way : Type 0 where
-  pub kind : Kind
-  pub database : Database
-  pub command : Option ℕ
-  pub content : Content
-
-abbrev pub way_at : Kind → Database → Option ℕ → Content → Way
-way_at kind database command content = record {
-  kind = kind;
-  database = database;
-  command = command;
-  content = content;
-}
-
-abbrev by_command : Kind → Database → ℕ → Content → Way
-by_command kind database id content = way_at kind database (Some id) content
-
--- what a till asks of a transaction
-abbrev asking : ℕ → SaleId → ℕ → Way
-asking p sale id = by_command kinds.Write (Transaction p (sale_digits sale)) id nothing
-
-abbrev reading : Database → Way
-reading database = way_at kinds.Read database None nothing
-
-abbrev pub way_to : Event → Way
-way_to events.SignOn = by_command kinds.Write Site ids.SIGN_ON nothing
-way_to events.SignOff = by_command kinds.Write Site ids.SIGN_OFF nothing
-way_to (events.Open p) = by_command kinds.Write (Point p) ids.OPEN nothing
-way_to (events.Close p) = by_command kinds.Write (Point p) ids.CLOSE nothing
-way_to (events.Assign p) = by_command kinds.Write (Point p) ids.ASSIGN nothing
-way_to (events.Unassign p) = by_command kinds.Write (Point p) ids.UNASSIGN nothing
-way_to (events.Release p preset) = by_command kinds.Write (Point p) ids.RELEASE (limit preset)
-way_to (events.Prepay p cents) = by_command kinds.Write (Point p) ids.PREPAY (payment cents)
-way_to (events.TestRelease p) = by_command kinds.Write (Point p) ids.TEST_RELEASE nothing
-way_to (events.Suspend p) = by_command kinds.Write (Point p) ids.SUSPEND nothing
-way_to (events.Resume p) = by_command kinds.Write (Point p) ids.RESUME nothing
-way_to (events.Terminate p) = by_command kinds.Write (Point p) ids.TERMINATE nothing
-way_to (events.ReplaceMeter p n r) =
-    by_command kinds.Write (Point p) ids.REPLACE_METER (meter n r)
-way_to (events.ReadPoint p) = reading (Point p)
-way_to (events.Lock p sale) = asking p sale ids.LOCK
-way_to (events.Unlock p sale) = asking p sale ids.UNLOCK
-way_to (events.Clear p sale) = asking p sale ids.CLEAR
-way_to (events.ReadTransaction p sale) = reading (Transaction p (sale_digits sale))
-way_to (events.SetPrice q mills) = by_command kinds.Write (Product q) ids.SET_PRICE (price mills)
-way_to (events.ReadProduct q) = reading (Product q)
-way_to events.CloseShift = by_command kinds.Write Site ids.CLOSE_SHIFT nothing
-way_to events.ReadSite = reading Site
-way_to (events.Online p) = by_command kinds.Report (Point p) ids.ONLINE nothing
-way_to (events.Offline p) = by_command kinds.Report (Point p) ids.OFFLINE nothing
-way_to (events.Lift p n r) = by_command kinds.Report (Point p) ids.LIFT (meter n r)
-way_to (events.Flow p n r) = by_command kinds.Report (Point p) ids.FLOW (meter n r)
-way_to (events.HangUp p n r) = by_command kinds.Report (Point p) ids.HANG_UP (meter n r)
-
-abbrev pub items_of : Option ℕ → Content → List Entry
-items_of None content = content_items content
-items_of (Some id) content = entry id (content_inside content) ∷ content_items content
 
 -- ---- what is so of each event's way: of most events the same, by computing
 
@@ -136,20 +80,13 @@ carried_there event own =
 -- the command's identifier is below those behind it; nothing is carried in a read
 abbrev pub is_spelled : Option ℕ → Content → Bool
 is_spelled (Some id) content = is_below id content
-is_spelled None nothing = true
+is_spelled None Nothing = true
 is_spelled None content = false
 
 pub spelled_there : (event : Event)
     → is_spelled (way_to event).command (way_to event).content ≡ true
 spelled_there events.SignOn = refl
 spelled_there event = refl
-
--- who sends a kind of message, with a number in its range
-abbrev pub may_send : Actor → Kind → Bool
-may_send (Till t) kinds.Read = is_between 1 TILLS t
-may_send (Till t) kinds.Write = is_between 1 TILLS t
-may_send (Dispenser d) kinds.Report = is_between 1 POINTS d
-may_send actor kind = false
 
 pub sender_there : (actor : Actor) (event : Event)
     → may_ask actor (reported_by event) ≡ may_send actor (way_to event).kind
@@ -191,18 +128,18 @@ event_there event own = refl
 -- ---- the tables lead back: each row is the way to its events
 
 abbrev LeadsBack : Kind → Database → Option ℕ → Shape → Type 0
-LeadsBack kind d command (bare event) = way_to event ≡ way_at kind d command nothing
+LeadsBack kind d command (bare event) = way_to event ≡ way_at kind d command Nothing
 LeadsBack kind d command (limited event) =
-    (preset : Preset) → way_to (event preset) ≡ way_at kind d command (limit preset)
+    (preset : Preset) → way_to (event preset) ≡ way_at kind d command (Limit preset)
 LeadsBack kind d command (prepaid event) =
-    (cents : ℕ) → way_to (event cents) ≡ way_at kind d command (payment cents)
+    (cents : ℕ) → way_to (event cents) ≡ way_at kind d command (Payment cents)
 LeadsBack kind d command (metered event) =
-    (n r : ℕ) → way_to (event n r) ≡ way_at kind d command (meter n r)
+    (n r : ℕ) → way_to (event n r) ≡ way_at kind d command (Meter n r)
 LeadsBack kind d command (of_sale digits event) =
     (sale : SaleId) → digits ≡ sale_digits sale
-    → way_to (event sale) ≡ way_at kind d command nothing
+    → way_to (event sale) ≡ way_at kind d command Nothing
 LeadsBack kind d command (priced event) =
-    (mills : ℕ) → way_to (event mills) ≡ way_at kind d command (price mills)
+    (mills : ℕ) → way_to (event mills) ≡ way_at kind d command (Price mills)
 
 abbrev RowsLeadBack : Kind → Database → List Command → Type 0
 RowsLeadBack kind d [] = Unit {0}
@@ -214,9 +151,9 @@ ReadLeadsBack d shape = LeadsBack kinds.Read d None shape
 
 -- a sale's digits, as they came, lead back where they are those of the sale
 asked_leads : (p id : ℕ) (digits : SaleDigits) (sale : SaleId) → digits ≡ sale_digits sale
-    → asking p sale id ≡ way_at kinds.Write (Transaction p digits) (Some id) nothing
+    → asking p sale id ≡ way_at kinds.Write (Transaction p digits) (Some id) Nothing
 asked_leads p id digits sale same =
-    ap (λ (x : SaleDigits). by_command kinds.Write (Transaction p x) id nothing) (sym same)
+    ap (λ (x : SaleDigits). by_command kinds.Write (Transaction p x) id Nothing) (sym same)
 
 commands_lead : (kind : Kind) (d : Database) → RowsLeadBack kind d (commands kind d)
 commands_lead kinds.Write Site = search rules
@@ -276,7 +213,7 @@ shaped kind d command (bare made) low inside items event lead octets rise is =
     let ended = bind_ok (items_end items) _ event is in
     let same = plain_is inside made event ended.2 in
     record {
-      content = nothing;
+      content = Nothing;
       way = ap way_to (sym same.1) ∙ lead;
       inside_is = same.0;
       is = nothing_back items ended.0 ended.1;
@@ -285,7 +222,7 @@ shaped kind d command (limited made) low inside items event lead octets rise is 
     let preset = bind_ok (preset_in items) _ event is in
     let same = plain_is inside (made preset.0) event preset.2 in
     record {
-      content = limit preset.0;
+      content = Limit preset.0;
       way = ap way_to (sym same.1) ∙ lead preset.0;
       inside_is = same.0;
       is = preset_back low items preset.0 rise preset.1;
@@ -294,7 +231,7 @@ shaped kind d command (prepaid made) low inside items event lead octets rise is 
     let cents = bind_ok (money_in items) _ event is in
     let same = plain_is inside (made cents.0) event cents.2 in
     record {
-      content = payment cents.0;
+      content = Payment cents.0;
       way = ap way_to (sym same.1) ∙ lead cents.0;
       inside_is = same.0;
       is = money_back low items cents.0 rise cents.1;
@@ -303,7 +240,7 @@ shaped kind d command (metered made) low inside items event lead octets rise is 
     let read = bind_ok (meter_in items) _ event is in
     let same = plain_is inside (made read.0.0 read.0.1) event read.2 in
     record {
-      content = meter read.0.0 read.0.1;
+      content = Meter read.0.0 read.0.1;
       way = ap way_to (sym same.1) ∙ lead read.0.0 read.0.1;
       inside_is = same.0;
       is = meter_back low items read.0.0 read.0.1 rise read.1;
@@ -313,7 +250,7 @@ shaped kind d command (of_sale digits made) low inside items event lead octets r
     let ended = bind_ok (items_end items) _ sale.0 sale.1 in
     let same = plain_is inside (made sale.0) event sale.2 in
     record {
-      content = nothing;
+      content = Nothing;
       way = ap way_to (sym same.1) ∙ lead sale.0 (sale_back digits sale.0 ended.2);
       inside_is = same.0;
       is = nothing_back items ended.0 ended.1;
@@ -322,7 +259,7 @@ shaped kind d command (priced made) low inside items event lead octets rise is =
     let ended = bind_ok (items_end items) _ event is in
     let mills = bind_ok (four_octets_in inside) _ event ended.2 in
     record {
-      content = price mills.0;
+      content = Price mills.0;
       way = ap way_to (sym (ok_is (made mills.0) event mills.2)) ∙ lead mills.0;
       inside_is = inside_back inside mills.0 octets mills.1;
       is = nothing_back items ended.0 ended.1;

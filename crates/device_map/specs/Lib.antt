@@ -9,4 +9,5 @@ pub mod Requests
 pub mod Items
 pub mod Replies
 pub mod Laws
+pub mod Ways
 pub mod Changes

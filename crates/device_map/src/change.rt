@@ -115,10 +115,10 @@ fn notice_within(
     ensures { IfOk result (λ message. message
         ≡ notice point (entry command [] ∷ preset_items preset)) }
 {
-    let to = node::dispenser(point);
+    let (to, site) = (node::dispenser(point), node::site());
     let token = Token::new(0).unwrap();
     let address = [ids::POINT_ADDRESS + point.get()];
-    let mut draft = begin_message(alloc, to, Kind::Notice, token, &address)?;
+    let mut draft = begin_message(alloc, to, site, Kind::Notice, token, &address)?;
     put_command(&mut draft, command)?;
     put_preset(&mut draft, preset)?;
     Ok(finish_message(draft))

@@ -4,6 +4,7 @@ ghost use Rattle.std.specs.Prelude.{◌≡◌, ◌≤◌, ◌&&◌};
 ghost use Rattle.device_map.specs.Stages.{Gives};
 ghost use Rattle.device_map.specs.Decimal.{packed, is_decimal, two_digits, four_digits};
 ghost use Rattle.device_map.specs.Decimal.{decimal_in, shift_in, sale_named};
+ghost use Rattle.device_map.specs.Ways.{digits_of};
 
 use crate::fault::MapFault;
 use site_base::{GREATEST_SEQ, GREATEST_SHIFT, SaleId, Seq, ShiftNo};
@@ -54,6 +55,18 @@ impl Digits {
         ensures { result ≡ record { high = high; low = low } }
     {
         Digits { high, low }
+    }
+
+    /// Those of a number.
+    pub fn of(number: u16) -> Self
+        ensures { result ≡ digits_of number }
+    {
+        let (thousands, hundreds) = (number / 1000 % 10, number / 100 % 10);
+        let (tens, ones) = (number / 10 % 10, number % 10);
+        Digits {
+            high: (thousands * 16 + hundreds) as u8,
+            low: (tens * 16 + ones) as u8,
+        }
     }
 
     /// The shift that they number.

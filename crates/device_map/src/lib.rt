@@ -1,6 +1,7 @@
 //! Messages and events: which event a message asks for, and which message tells a reply.
 //!
-//! `request_of` answers the pair of actor and event that a request means, or its first fault.
+//! `request_of` answers the pair of actor and event that a request means, or its first fault;
+//! `encode_request` makes the one request that asks for an event.
 //! `reply_of`, `refusal_of` and `stream_refusal` make the message that goes back, `change_of` the
 //! one that a dispenser is told.
 //!
@@ -14,6 +15,7 @@ mod address;
 mod change;
 mod decimal;
 mod decoding;
+mod encoding;
 mod fault;
 mod further_items;
 mod ids;
@@ -22,9 +24,11 @@ mod laws;
 mod node;
 mod reply;
 mod request;
+mod way;
 
 pub use change::{change_of, decode_change};
 pub use decoding::{decode_number, decode_reply};
+pub use encoding::encode_request;
 pub use fault::MapFault;
 pub use laws::{changes_are_told, changes_repeat_requests, one_request};
 pub use reply::{refusal_in, refusal_of, reply_in, reply_of, stream_refusal};

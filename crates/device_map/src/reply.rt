@@ -69,13 +69,8 @@ pub fn reply_like(alloc: Global, message: &Message, reply: &Reply) -> Result<Mes
     ensures { IfOk result (λ m. m ≡ told_message message.now reply.now) }
 {
     let address = message.address();
-    let mut again = begin_message(
-        alloc,
-        message.to(),
-        kind_of(reply),
-        message.token(),
-        address,
-    )?;
+    let (to, site, token) = (message.to(), node::site(), message.token());
+    let mut again = begin_message(alloc, to, site, kind_of(reply), token, address)?;
     put_reply(&mut again, reply)?;
     Ok(finish_message(again))
 }
@@ -86,7 +81,8 @@ pub fn number_like(alloc: Global, message: &Message, number: u8) -> Result<Messa
     ensures { IfOk result (λ m. m ≡ told_number message.now number) }
 {
     let address = message.address();
-    let mut again = begin_message(alloc, message.to(), Kind::Ack, message.token(), address)?;
+    let (to, site, token) = (message.to(), node::site(), message.token());
+    let mut again = begin_message(alloc, to, site, Kind::Ack, token, address)?;
     put_octet(&mut again, ids::RESULT, number)?;
     Ok(finish_message(again))
 }
@@ -97,7 +93,8 @@ pub fn stream_refusal(alloc: Global, fault: &StreamFault) -> Result<Message, NoM
     ensures { IfOk result (λ message. message ≡ fault_message fault.now) }
 {
     let address = [ids::SITE_ADDRESS];
-    let mut draft = begin_message(alloc, fault.originator, Kind::Ack, fault.token, &address)?;
+    let (to, site) = (fault.originator, node::site());
+    let mut draft = begin_message(alloc, to, site, Kind::Ack, fault.token, &address)?;
     put_octet(&mut draft, ids::RESULT, fault.fault.number())?;
     Ok(finish_message(draft))
 }
@@ -113,19 +110,20 @@ fn begin_reply(buffer: Vec<u8>, request: &Message, kind: Kind) -> Result<Draft, 
     Draft::back(request, node::site(), kind, buffer, ROOM)
 }
 
-/// A message from the site, without items yet.
+/// A message without items yet.
 pub fn begin_message(
     alloc: Global,
     to: [u8; 2],
+    from: [u8; 2],
     kind: Kind,
     token: Token,
     address: &[u8],
 ) -> Result<Draft, NoMemory>
     requires least { 1 ≤ length address.now }
     requires most { length address.now ≤ 8 }
-    ensures { IfOk result (λ draft. draft ≡ telegram to site_node kind token address.now []) }
+    ensures { IfOk result (λ draft. draft ≡ telegram to from kind token address.now []) }
 {
-    match Draft::try_new(alloc, to, node::site(), kind, token, address, ROOM) {
+    match Draft::try_new(alloc, to, from, kind, token, address, ROOM) {
         Ok(draft) => Ok(draft),
         Err(fault) => match fault {
             MessageFault::NoMemory => Err(NoMemory),
