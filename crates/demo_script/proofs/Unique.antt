@@ -27,7 +27,7 @@ use Rattle.demo_script.specs.Script.{AreRead, Begins, DemoFacts, DraftFacts, IsF
 use Rattle.demo_script.specs.Script.{IsRefused, IsScript, IsStepText, IsTask, IsWithoutSections}
 use Rattle.demo_script.specs.Script.{IsWork, Says, SaysIf, nothing_read, sections_of, with_line}
 use Rattle.demo_script.proofs.Messages.{message_is}
-use Rattle.demo_script.proofs.Numerals.{behind_is}
+use Rattle.forecourt_engines.proofs.Numerals.{behind_is}
 use Rattle.demo_script.proofs.Parted.{decimal_unspaced, parts_are}
 
 -- ---- steps

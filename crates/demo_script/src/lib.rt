@@ -10,7 +10,6 @@ mod fault;
 mod limits;
 mod line;
 mod message;
-mod number;
 mod script;
 mod section;
 mod words;

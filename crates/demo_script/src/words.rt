@@ -11,8 +11,8 @@ ghost use Rattle.demo_script.specs.Script.{Begins, IsDispenserText, IsStepText};
 
 use crate::limits::{GREATEST_POLLS, GREATEST_PUMPED};
 use crate::line::Line;
-use crate::number::{behind, is_word, number_behind, split_at_space};
 use dispenser_sim::Step;
+use forecourt_engines::number::{behind, is_word, number_behind, split_at_octet};
 use site_base::{FpNo, Millilitres, NOZZLES, NozzleNo, POINTS, PointState};
 
 /// The section that the text begins: `till`, or `dispenser P POLLS`.
@@ -58,7 +58,7 @@ fn nozzle_in(text: &[u8]) -> Option<NozzleNo>
     ensures other { IfNone result ((n : ℕ) → 1 ≤ n → n ≤ NOZZLES
         → text.now ≢ codes "lift " ++ decimal n) }
 {
-    let n = number_behind(b"lift ", text, 1, u32::from(NOZZLES))?;
+    let n = number_behind(b"lift ", text, 1, u64::from(NOZZLES))?;
     NozzleNo::new(n as u8)
 }
 
@@ -69,8 +69,8 @@ fn volume_in(text: &[u8]) -> Option<Millilitres>
     ensures other { IfNone result ((n : ℕ) → n ≤ GREATEST_PUMPED
         → text.now ≢ codes "pump " ++ decimal n) }
 {
-    let n = number_behind(b"pump ", text, 0, GREATEST_PUMPED)?;
-    Millilitres::new(u64::from(n))
+    let n = number_behind(b"pump ", text, 0, u64::from(GREATEST_PUMPED))?;
+    Millilitres::new(n)
 }
 
 /// The state of `wait S`.
@@ -85,7 +85,7 @@ fn state_in(text: &[u8]) -> Option<PointState>
 }
 
 /// The state of this number.
-fn state_of(number: u32) -> PointState
+fn state_of(number: u64) -> PointState
     requires least { 1 ≤ number }
     requires most { number ≤ 9 }
     ensures { state_number result ≡ number }
@@ -112,7 +112,7 @@ fn dispenser_in(text: &[u8]) -> Option<(FpNo, u64)>
     let Some(numbers) = behind(b"dispenser ", text) else {
         return None;
     };
-    let Some((first, last)) = split_at_space(numbers) else {
+    let Some((first, last)) = split_at_octet(b' ', numbers) else {
         return None;
     };
     let Some(p) = point_of(first) else {
@@ -129,7 +129,7 @@ fn point_of(digits: &[u8]) -> Option<FpNo>
     ensures found { IfSome result (λ p. (digits.now ≡ decimal p) × (1 ≤ p) × (p ≤ POINTS)) }
     ensures other { IfNone result ((p : ℕ) → 1 ≤ p → p ≤ POINTS → digits.now ≢ decimal p) }
 {
-    let p = number_behind(b"", digits, 1, u32::from(POINTS))?;
+    let p = number_behind(b"", digits, 1, u64::from(POINTS))?;
     FpNo::new(p as u8)
 }
 
@@ -140,6 +140,6 @@ fn polls_of(digits: &[u8]) -> Option<u64>
     ensures other { IfNone result ((polls : ℕ) → 1 ≤ polls → polls ≤ GREATEST_POLLS
         → digits.now ≢ decimal polls) }
 {
-    let polls = number_behind(b"", digits, 1, GREATEST_POLLS)?;
-    Some(u64::from(polls))
+    let polls = number_behind(b"", digits, 1, u64::from(GREATEST_POLLS))?;
+    Some(polls)
 }

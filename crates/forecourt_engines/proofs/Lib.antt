@@ -6,3 +6,9 @@ pub mod Running
 pub mod Worked
 pub mod NozzleCount
 pub mod Reports
+pub mod Numerals
+pub mod Parted
+pub mod OneName
+pub mod Unsaid
+pub mod Splitting
+pub mod Asked

@@ -9,3 +9,9 @@ pub mod Laws
 pub mod Meanings
 pub mod Report
 pub mod Reporting
+pub mod Numbers
+pub mod LineWords
+pub mod Said
+pub mod EventNames
+pub mod AskedText
+pub mod SpelledLines

@@ -5,7 +5,8 @@
 //! the text of what it read, as `specs/Text.antt` defines it octet by octet; the laws join that
 //! text to lines and to one stream of messages. `replay_to_report` writes the report of the rows
 //! that `replay` would make, which `report` makes of their figures. `Trace` reads such
-//! lines and `explain` words each message; `NumberMeaning` says what a number means.
+//! lines and `explain` words each message; `words` reads such words back, and spells them.
+//! `NumberMeaning` says what a number means.
 #![tactic(auto)]
 
 mod answers;
@@ -14,6 +15,7 @@ pub mod explain;
 mod fault;
 mod laws;
 pub mod line;
+pub mod number;
 mod numbers;
 pub mod replay;
 pub mod report;
@@ -21,6 +23,7 @@ pub mod reporting;
 mod sites;
 mod sizes;
 mod trace;
+pub mod words;
 
 pub use fault::{ReplayFault, TextFault};
 pub use laws::{

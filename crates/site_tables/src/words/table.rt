@@ -137,27 +137,11 @@ fn events_of(
     times: u32,
     last_named: &mut LastNamed,
 ) -> anyhow::Result<Vec<(Actor, Event)>> {
-    let mut lines = Vec::new(alloc);
-    for text in paragraph {
-        let words: Vec<&str> = text.split_whitespace().collect(alloc)?;
-        lines.push(words)?;
-    }
     let mut events = Vec::new(alloc);
     for _ in 0..times {
-        for words in &lines {
-            add_event(&mut events, words, last_named)?;
+        for text in paragraph {
+            events.push(read_event(alloc, text, last_named)?)?;
         }
     }
     Ok(events)
-}
-
-/// Adds the event of the words of a line.
-fn add_event(
-    events: &mut Vec<(Actor, Event)>,
-    words: &[&str],
-    last_named: &mut LastNamed,
-) -> anyhow::Result<()> {
-    let (actor, event) = read_event(words, last_named)?;
-    events.push((actor, event))?;
-    Ok(())
 }

@@ -1,7 +1,7 @@
 use Rattle.std.proofs.Common.{◌≡◌, decimal, arith, sym, ◌∙◌}
 use Rattle.std.proofs.lemmas.Fmt.{decimal_injective}
-use Rattle.demo_script.proofs.Numerals.{behind_is}
-use Rattle.demo_script.proofs.number.number_behind.Goals as goal
+use Rattle.forecourt_engines.proofs.Numerals.{behind_is}
+use Rattle.forecourt_engines.proofs.number.number_behind.Goals as goal
 
 pub returns-in_default-number_of-clause-other : goal.returns-in_default-number_of-clause-other
 returns-in_default-number_of-clause-other c = λ n low high is.

@@ -8,6 +8,6 @@ is_signed_or_padded [] = false
 is_signed_or_padded (b ∷ []) = b == 43
 is_signed_or_padded (b ∷ c ∷ bs) = b == 43 || b == 48
 
--- no octet is a space
-abbrev pub IsWithoutSpace : List ℕ → Type 0
-IsWithoutSpace text = (k : ℕ) → k < length text → slice_index text k ≢ 32
+-- no octet is this one
+abbrev pub IsWithout : ℕ → List ℕ → Type 0
+IsWithout octet text = (k : ℕ) → k < length text → slice_index text k ≢ octet

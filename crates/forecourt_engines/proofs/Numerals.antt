@@ -11,7 +11,7 @@ use Rattle.std.proofs.lemmas.Str.Parse.{IsNumeralModel, numerals_by_value, tells
 use Rattle.std.proofs.lemmas.Str.Parse.{without_leading_plus_none}
 use Rattle.std.specs.Str.Parse.{AllDigits, IsNumeral, ParsesUnsigned, digits_value}
 use Rattle.std.specs.Str.Parse.{without_leading_plus}
-use Rattle.demo_script.specs.Numbers.{is_signed_or_padded}
+use Rattle.forecourt_engines.specs.Numbers.{is_signed_or_padded}
 
 own : IsNumeralModel (AllDigits 10) (digits_value 10)
 own = numerals_by_value (AllDigits 10) tells_digits
@@ -46,7 +46,7 @@ decimal_plain zero h = rw (decimal_digit 0 (lit< tt)) refl
 decimal_plain (suc n) h = large_first (decimal (suc n)) (first_decimal (suc n) (omega arith) h)
 
 -- a text that is signed or padded is no number's
-pub signed_is_none : (bs : List ℕ) (most : ℕ) → most < 2 ^ 32 → is_signed_or_padded bs ≡ true
+pub signed_is_none : (bs : List ℕ) (most : ℕ) → most < 2 ^ 64 → is_signed_or_padded bs ≡ true
     → (n : ℕ) → n ≤ most → bs ≢ decimal n
 signed_is_none bs most few is n low e =
     let plain : is_signed_or_padded (decimal n) ≡ false = decimal_plain n (omega arith) in
@@ -58,7 +58,7 @@ signed_is_none bs most few is n low e =
 abbrev pub IsParsed : List ℕ → ℕ → Type 0
 IsParsed text n =
     (IsNumeral 10 (without_leading_plus text)
-    × (digits_value 10 (without_leading_plus text) < 2 ^ 32))
+    × (digits_value 10 (without_leading_plus text) < 2 ^ 64))
     × (n ≡ digits_value 10 (without_leading_plus text))
 
 -- another text is the number's that is read of it
@@ -69,20 +69,20 @@ parsed_is_written bs text n same is parsed =
     let at : IsParsed bs n = subst (λ t. IsParsed t n) same parsed in
     let numeral : IsNumeral 10 bs = subst (λ t. IsNumeral 10 t) plain at.0.0 in
     let value : n ≡ digits_value 10 bs = at.1 ∙ ap (digits_value 10) plain in
-    let few : digits_value 10 (without_leading_plus bs) < 2 ^ 32 = at.0.1 in
+    let few : digits_value 10 (without_leading_plus bs) < 2 ^ 64 = at.0.1 in
     let less : digits_value 10 bs < 2 ^ 64 = omega (arith, few, ap (digits_value 10) plain) in
     sym (ap decimal value ∙ decimal-digits_value own bs numeral.1 numeral.0 (one_zero bs is) less)
 
 -- no number's text is refused
-pub refused_is_none : {E : Type 0} (bs text : List ℕ) (e : E) (most : ℕ) → most < 2 ^ 32 → text ≡ bs
-    → ParsesUnsigned 32 10 text (Err e) → (n : ℕ) → n ≤ most → bs ≢ decimal n
+pub refused_is_none : {E : Type 0} (bs text : List ℕ) (e : E) (most : ℕ) → most < 2 ^ 64 → text ≡ bs
+    → ParsesUnsigned 64 10 text (Err e) → (n : ℕ) → n ≤ most → bs ≢ decimal n
 refused_is_none bs text e most few same parsed n low is =
-    let r : Err e ≡ Ok n = parse-decimal 32 n text (Err e) (omega arith) (omega arith) (same ∙ is)
+    let r : Err e ≡ Ok n = parse-decimal 64 n text (Err e) (omega arith) (omega arith) (same ∙ is)
     parsed in
     cc
 
 -- and each is read as its number
-pub parsed_is_same : (bs text : List ℕ) (m most : ℕ) → most < 2 ^ 32 → text ≡ bs → IsParsed text m
+pub parsed_is_same : (bs text : List ℕ) (m most : ℕ) → most < 2 ^ 64 → text ≡ bs → IsParsed text m
     → (n : ℕ) → n ≤ most → bs ≡ decimal n → m ≡ n
 parsed_is_same bs text m most few same parsed n low is =
     let small : n < 2 ^ 64 = omega arith in

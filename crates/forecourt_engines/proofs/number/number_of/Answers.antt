@@ -2,9 +2,9 @@ use Rattle.std.proofs.Common.{◌≡◌, arith, sym, subst, decimal}
 use Rattle.std.proofs.lemmas.Fmt.{IsAscii-decimal}
 use Rattle.std.proofs.lemmas.Str.{IsUtf8-from_ascii}
 use Rattle.std.specs.Str.{IsUtf8}
-use Rattle.demo_script.proofs.Numerals.{parsed_is_same, parsed_is_written, refused_is_none}
-use Rattle.demo_script.proofs.Numerals.{signed_is_none}
-use Rattle.demo_script.proofs.number.number_of.Goals as goal
+use Rattle.forecourt_engines.proofs.Numerals.{parsed_is_same, parsed_is_written, refused_is_none}
+use Rattle.forecourt_engines.proofs.Numerals.{signed_is_none}
+use Rattle.forecourt_engines.proofs.number.number_of.Goals as goal
 
 pub returns-in_default-clause-other : goal.returns-in_default-clause-other
 returns-in_default-clause-other c = λ n low is.

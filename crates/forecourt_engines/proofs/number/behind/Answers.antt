@@ -1,6 +1,6 @@
 use Rattle.std.proofs.Common.{◌≡◌, true, false}
-use Rattle.demo_script.proofs.Numerals.{front_is}
-use Rattle.demo_script.proofs.number.behind.Goals as goal
+use Rattle.forecourt_engines.proofs.Numerals.{front_is}
+use Rattle.forecourt_engines.proofs.number.behind.Goals as goal
 
 pub returns-else-is_word-clause-other : goal.returns-else-is_word-clause-other
 returns-else-is_word-clause-other c = λ rest is.

@@ -1,8 +1,8 @@
-//! Words and numbers in a line.
+//! Numbers in a text, and where a text parts.
 
 ghost use Rattle.std.specs.Prelude.{◌≡◌, ◌≢◌, ◌≤◌, ◌++◌, ◌∷◌, ℕ, List, decimal, IfSome, IfNone};
 ghost use Rattle.std.specs.Prelude.{IsTrue, ◌↔◌};
-ghost use Rattle.demo_script.specs.Numbers.{is_signed_or_padded, IsWithoutSpace};
+ghost use Rattle.forecourt_engines.specs.Numbers.{is_signed_or_padded, IsWithout};
 
 use memchr::memchr;
 use std::str;
@@ -31,7 +31,7 @@ pub fn behind<'a>(word: &[u8], text: &'a [u8]) -> Option<&'a [u8]>
 }
 
 /// The number that these octets write, from 0 to this one, without needless zeros in front.
-pub fn number_of(digits: &[u8], most: u32) -> Option<u32>
+pub fn number_of(digits: &[u8], most: u64) -> Option<u64>
     ensures written { IfSome result (λ n. (digits.now ≡ decimal n) × (n ≤ most)) }
     ensures other { IfNone result ((n : ℕ) → n ≤ most → digits.now ≢ decimal n) }
 {
@@ -41,7 +41,7 @@ pub fn number_of(digits: &[u8], most: u32) -> Option<u32>
     if is_signed_or_padded(digits) {
         return None;
     }
-    match text.parse::<u32>() {
+    match text.parse::<u64>() {
         Ok(n) => { if n <= most { Some(n) } else { None } }
         Err(_) => None,
     }
@@ -59,7 +59,7 @@ fn is_signed_or_padded(digits: &[u8]) -> bool
 }
 
 /// The number behind this word, from the least to the greatest.
-pub fn number_behind(word: &[u8], text: &[u8], least: u32, most: u32) -> Option<u32>
+pub fn number_behind(word: &[u8], text: &[u8], least: u64, most: u64) -> Option<u64>
     ensures written { IfSome result (λ n.
         (text.now ≡ word.now ++ decimal n) × (least ≤ n) × (n ≤ most)) }
     ensures other { IfNone result ((n : ℕ) → least ≤ n → n ≤ most
@@ -74,13 +74,14 @@ pub fn number_behind(word: &[u8], text: &[u8], least: u32, most: u32) -> Option<
     if least <= n { Some(n) } else { None }
 }
 
-/// What stands before the first space, and what stands behind it; None where there is no space.
-pub fn split_at_space(text: &[u8]) -> Option<(&[u8], &[u8])>
-    ensures found { IfSome result (λ parts.
-        (text.now ≡ parts.0.now ++ (32 ∷ parts.1.now)) × IsWithoutSpace parts.0.now) }
-    ensures other { IfNone result (IsWithoutSpace text.now) }
+/// What stands before this octet, where it comes first, and what stands behind it; None where it
+/// isn't there.
+pub fn split_at_octet(octet: u8, text: &[u8]) -> Option<(&[u8], &[u8])>
+    ensures found { IfSome result (λ parts. (text.now ≡ parts.0.now ++ (octet ∷ parts.1.now))
+        × IsWithout octet parts.0.now) }
+    ensures other { IfNone result (IsWithout octet text.now) }
 {
-    let space = memchr(b' ', text)?;
-    let (front, rest) = text.split_at(space);
+    let place = memchr(octet, text)?;
+    let (front, rest) = text.split_at(place);
     Some((front, &rest[1..]))
 }

@@ -1,0 +1,12 @@
+use Rattle.std.proofs.Common.{◌≡◌, arith, subst, ℕ, length}
+use Rattle.forecourt_engines.proofs.Splitting.{AreSpaces, all_skipped, skipped}
+use Rattle.forecourt_engines.proofs.words.splitting.skip_spaces.Goals as goal
+
+pub returns-then-not-is_space-clause-words : goal.returns-then-not-is_space-clause-words
+returns-then-not-is_space-clause-words c =
+    rw c.split_at.ensures.back
+    (skipped c.loop-at.at c.args.text.now (omega arith) c.loop-at.invariant)
+
+pub returns-clause-words : goal.returns-clause-words
+returns-clause-words c =
+    all_skipped c.args.text.now (λ k low. c.loop-at.invariant k (omega arith))

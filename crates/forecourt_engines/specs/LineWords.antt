@@ -1,0 +1,28 @@
+-- The words of a line.
+use Rattle.std.specs.Prelude.{◌≡◌, ℕ, List, [], ◌∷◌, Bool, false, ◌==◌, ◌||◌, if◌then◌else◌}
+
+-- a space, a tab, or a carriage return
+abbrev pub is_space : ℕ → Bool
+is_space octet = octet == 32 || octet == 9 || octet == 13
+
+-- words, with an octet more in front of the first
+abbrev pub lengthened : ℕ → List (List ℕ) → List (List ℕ)
+lengthened octet [] = (octet ∷ []) ∷ []
+lengthened octet (w ∷ ws) = (octet ∷ w) ∷ ws
+
+-- the words of a text that goes on with this octet, where the rest has these words
+abbrev pub begun_by : ℕ → List ℕ → List (List ℕ) → List (List ℕ)
+begun_by octet [] words = (octet ∷ []) ∷ []
+begun_by octet (next ∷ rest) words =
+    if is_space next then (octet ∷ []) ∷ words else lengthened octet words
+
+-- the words of a text: what stands between spaces
+abbrev pub words_in : List ℕ → List (List ℕ)
+words_in [] = []
+words_in (octet ∷ rest) =
+    if is_space octet then words_in rest else begun_by octet rest (words_in rest)
+
+-- no octet, or one that is no space, stands in front
+abbrev pub BeginsNoSpace : List ℕ → Type 0
+BeginsNoSpace [] = Unit {0}
+BeginsNoSpace (octet ∷ rest) = is_space octet ≡ false

@@ -1,0 +1,104 @@
+//! A line in words, spelled as the request that it asks for.
+
+ghost use Rattle.std.specs.Prelude.{◌≡◌, ◌⊎◌, ◌++◌, ◌∷◌, [], IfErr, IfOk, OnOk};
+ghost use Rattle.forecourt_engines.specs.declared.words.wrong_word.LineFault.{LineFault};
+ghost use Rattle.forecourt_engines.specs.declared.words.wrong_word.WrongWord.{WrongWord};
+ghost use Rattle.forecourt_engines.specs.SpelledLines.{SaysAnothers, SaysNothing, Spells};
+ghost use Rattle.forecourt_engines.specs.SpelledLines.{SpellsRequest};
+ghost use Rattle.forecourt_engines.specs.SpelledLines.{is_comment, token_behind};
+
+use crate::answers::put_line;
+use crate::words::asked::read_asked;
+use crate::words::wrong_word::{LineFault, Wanted, WrongWord};
+use app_message::Token;
+use device_map::encode_request;
+use site_base::NoMemory;
+use std::alloc::Global;
+
+/// Appends what a line in words, which comes without its line feed, is spelled as: an empty line or
+/// a comment as it is, any other as the line of hexadecimal of the request that it asks for, with
+/// the token that it names, or else with this one. The answer is the token of the next line that
+/// names none: they rise from 1 to 31, and then begin again. After `NoMemory` the text is of no
+/// use; a line that asks for nothing appends nothing.
+pub fn spell_line(
+    alloc: Global,
+    line: &[u8],
+    next: Token,
+    out: &mut Vec<u8>,
+) -> Result<Token, LineFault>
+    ensures spelled { IfOk result (λ then. Spells line.now next then out.old.items out.new.items) }
+    ensures other { IfErr result (λ fault. (wrong : WrongWord) → fault ≡ LineFault.Wrong wrong
+        → SaysNothing line.now ⊎ SaysAnothers line.now) }
+    ensures silent { IfErr result (λ fault. (wrong : WrongWord) → fault ≡ LineFault.Wrong wrong
+        → out.new.items ≡ out.old.items) }
+{
+    if is_comment(line) {
+        return match put_text(line, out) {
+            Ok(()) => Ok(next),
+            Err(NoMemory) => Err(LineFault::NoMemory),
+        };
+    }
+    spell_request(alloc, line, next, out)
+}
+
+/// The same of a line that is no comment.
+fn spell_request(
+    alloc: Global,
+    line: &[u8],
+    next: Token,
+    out: &mut Vec<u8>,
+) -> Result<Token, LineFault>
+    ensures spelled { IfOk result (λ then.
+        SpellsRequest line.now next then out.old.items out.new.items) }
+    ensures other { IfErr result (λ fault. (wrong : WrongWord) → fault ≡ LineFault.Wrong wrong
+        → SaysNothing line.now ⊎ SaysAnothers line.now) }
+    ensures silent { IfErr result (λ fault. (wrong : WrongWord) → fault ≡ LineFault.Wrong wrong
+        → out.new.items ≡ out.old.items) }
+{
+    let asked = match read_asked(alloc, line) {
+        Ok(asked) => asked,
+        Err(fault) => return Err(fault),
+    };
+    let (token, then) = match asked.token {
+        Some(token) => (token, next),
+        None => (next, token_behind(next)),
+    };
+    match encode_request(alloc, token, asked.actor, asked.event) {
+        Ok(Some(request)) => match put_line(out, &request) {
+            Ok(()) => Ok(then),
+            Err(NoMemory) => Err(LineFault::NoMemory),
+        },
+        Ok(None) => Err(LineFault::Wrong(WrongWord::new(2, Wanted::OwnEvent))),
+        Err(NoMemory) => Err(LineFault::NoMemory),
+    }
+}
+
+/// The token that follows: they rise to 31, and then begin with 1 again.
+fn token_behind(token: Token) -> Token
+    ensures { result ≡ token_behind token }
+{
+    let number = token.get();
+    if number < 31 {
+        return Token::new(number + 1).unwrap();
+    }
+    Token::new(1).unwrap()
+}
+
+/// Has the line nothing but spaces, or a `#` behind them?
+fn is_comment(line: &[u8]) -> bool
+    ensures { result ≡ is_comment line.now }
+{
+    match line {
+        [] => true,
+        [first, ..] => *first == b'#',
+    }
+}
+
+/// Appends a line as it is.
+fn put_text(line: &[u8], out: &mut Vec<u8>) -> Result<(), NoMemory>
+    ensures { OnOk result (out.new.items ≡ out.old.items ++ (line.now ++ 10 ∷ [])) }
+{
+    out.extend_from_slice(line)?;
+    out.push(b'\n')?;
+    Ok(())
+}

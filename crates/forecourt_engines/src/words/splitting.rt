@@ -1,0 +1,57 @@
+//! The words of a line.
+
+ghost use Rattle.std.specs.Prelude.{◌≡◌, ◌≢◌, ◌<◌, ◌≤◌, [], ◌∷◌, length, map, IfOk};
+ghost use Rattle.forecourt_engines.specs.LineWords.{BeginsNoSpace, is_space, words_in};
+
+use site_base::NoMemory;
+use std::alloc::Global;
+
+/// The words of a text: what stands between its spaces.
+pub fn split_words(alloc: Global, text: &[u8]) -> Result<Vec<&[u8]>, NoMemory>
+    ensures { IfOk result (λ words. map (λ w. w.now) words.items ≡ words_in text.now) }
+{
+    let mut words = Vec::new(alloc);
+    let mut rest = skip_spaces(text);
+    while !rest.is_empty() {
+        let (word, behind) = split_word(rest);
+        words.push(word)?;
+        rest = skip_spaces(behind);
+    }
+    Ok(words)
+}
+
+/// The text without the spaces in front of it.
+fn skip_spaces(text: &[u8]) -> &[u8]
+    ensures words { words_in result.now ≡ words_in text.now }
+    ensures begins { BeginsNoSpace result.now }
+    ensures shorter { length result.now ≤ length text.now }
+{
+    for at in 0..text.len() {
+        if !is_space(text[at]) {
+            return text.split_at(at).1;
+        }
+    }
+    &[]
+}
+
+/// The first word of a text that begins with one, and what stands behind it.
+fn split_word(text: &[u8]) -> (&[u8], &[u8])
+    requires some { text.now ≢ [] }
+    requires begins { BeginsNoSpace text.now }
+    ensures words { words_in text.now ≡ result.0.now ∷ words_in result.1.now }
+    ensures shorter { length result.1.now < length text.now }
+{
+    for at in 0..text.len() {
+        if is_space(text[at]) {
+            return text.split_at(at);
+        }
+    }
+    (text, &[])
+}
+
+/// A space, a tab or a carriage return.
+fn is_space(octet: u8) -> bool
+    ensures { result ≡ is_space octet }
+{
+    octet == b' ' || octet == b'\t' || octet == b'\r'
+}

@@ -1,0 +1,83 @@
+//! Which word of a line is wrong, and what could stand there.
+
+use std::fmt;
+
+/// What a word of a line could be.
+#[derive(Clone, Copy, Debug, PartialEq, Eq)]
+pub enum Wanted {
+    /// `t1` to `t32`, or `d1` to `d64`.
+    Actor,
+    /// An event that the actor may ask for or report.
+    OwnEvent,
+    /// The name of an event.
+    EventName,
+    /// A fuelling point's number.
+    Point,
+    /// A product's number.
+    Product,
+    /// A nozzle and its meter's reading: `1@1000`.
+    Meter,
+    /// A transaction of a point: `3/1`, or in shift 2 `3/2/1`.
+    Transaction,
+    /// `volume`, `money`, or nothing.
+    Limit,
+    /// Millilitres, cents or mills.
+    Amount,
+    /// `token`.
+    Token,
+    /// A token's number.
+    TokenNumber,
+    /// Nothing more.
+    Nothing,
+}
+
+/// The first word of a line, counted from 1, that can't stand there, and what could.
+#[derive(Clone, Copy, Debug, PartialEq, Eq)]
+pub struct WrongWord {
+    /// The word's place; behind the last one where a word is missing.
+    pub place: usize,
+    /// What could stand there.
+    pub wanted: Wanted,
+}
+
+/// Why a line in words asks for nothing.
+#[derive(Clone, Copy, Debug, PartialEq, Eq)]
+pub enum LineFault {
+    /// A word can't stand there.
+    Wrong(WrongWord),
+    /// An allocation failed.
+    NoMemory,
+}
+
+impl WrongWord {
+    /// The word at this place is wrong, and this could stand there.
+    pub fn new(place: usize, wanted: Wanted) -> WrongWord {
+        WrongWord { place, wanted }
+    }
+}
+
+impl fmt::Display for Wanted {
+    fn fmt<W: fmt::Write>(&self, f: &mut fmt::Formatter<W>) -> fmt::Result {
+        f.write_str(match self {
+            Wanted::Actor => "t1 to t32, or d1 to d64",
+            Wanted::OwnEvent => "what a till asks for, or what a dispenser reports",
+            Wanted::EventName => "the name of an event, as SignOn",
+            Wanted::Point => "a fuelling point, 1 to 64",
+            Wanted::Product => "a product, 1 to 8",
+            Wanted::Meter => "a nozzle and its meter's reading, as 1@1000",
+            Wanted::Transaction => "a transaction, as 3/1, or with its shift 3/2/1",
+            Wanted::Limit => "volume, money, or nothing",
+            Wanted::Amount => "a number, 0 to 4294967295",
+            Wanted::Token => "token",
+            Wanted::TokenNumber => "a token's number, 0 to 31",
+            Wanted::Nothing => "nothing more",
+        })
+    }
+}
+
+impl fmt::Display for WrongWord {
+    /// `word 2: the name of an event, as SignOn`.
+    fn fmt<W: fmt::Write>(&self, f: &mut fmt::Formatter<W>) -> fmt::Result {
+        write!(f, "word {}: {}", self.place, self.wanted)
+    }
+}
