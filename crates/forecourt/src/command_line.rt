@@ -16,7 +16,7 @@ pub fn build_commands<'a>(alloc: Global) -> Result<Command<'a>, Error> {
         );
     let program = with_replays(alloc, program)?;
     let program = with_days(alloc, program)?;
-    Ok(with(program, explain(alloc))?)
+    Ok(with_words(alloc, program)?)
 }
 
 /// The commands that read a site file, and what is recorded.
@@ -30,6 +30,12 @@ fn with_replays<'a>(alloc: Global, program: Command<'a>) -> Result<Command<'a>, 
 fn with_days<'a>(alloc: Global, program: Command<'a>) -> Result<Command<'a>, AllocError> {
     let program = with(program, serve(alloc))?;
     with(program, demo(alloc))
+}
+
+/// The commands that read or write words.
+fn with_words<'a>(alloc: Global, program: Command<'a>) -> Result<Command<'a>, AllocError> {
+    let program = with(program, explain(alloc))?;
+    with(program, spell(alloc))
 }
 
 /// The program with one command more.
@@ -98,6 +104,12 @@ fn explain<'a>(alloc: Global) -> Result<Command<'a>, AllocError> {
         .about("Prints the messages of standard input in words, or what a number means")
         .after_help("Examples: forecourt explain < examples/day.hex; forecourt explain 20\n")
         .arg(Arg::new(alloc, "NUMBER").help("A refusal's or fault's number, as 20"))
+}
+
+fn spell<'a>(alloc: Global) -> Result<Command<'a>, AllocError> {
+    Ok(Command::new(alloc, "spell")
+        .about("Prints the requests that standard input asks for in words, in hexadecimal")
+        .after_help("Example: forecourt spell < examples/paying_day.words\n"))
 }
 
 /// The script that a demo runs.

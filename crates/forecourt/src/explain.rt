@@ -1,11 +1,12 @@
 //! `forecourt explain`, of a trace, and `forecourt explain NUMBER`, of a number.
 
 use crate::exit::{COMMAND_LINE, exit_no_memory, exit_replay, exit_unwritten, exit_with};
+use crate::lines::read_line;
 use clap::ArgMatches;
 use forecourt_engines::explain::{explain, fault_name};
-use forecourt_engines::{Explained, LINE_OCTETS, NumberMeaning, ReplayFault, TextFault, Trace};
+use forecourt_engines::{Explained, NumberMeaning, ReplayFault, TextFault, Trace};
 use site_base::{NoMemory, ReadFault};
-use std::io::{BufRead, BufReader, ErrorKind, Read};
+use std::io::BufReader;
 use std::process::ExitCode;
 
 /// Prints what a number means; without one, each message of standard input in words.
@@ -44,31 +45,20 @@ fn explain_trace(rt: &HostRuntime) -> ExitCode {
         Ok(reader) => reader,
         Err(_) => return exit_no_memory(rt),
     };
+    let mut line = Vec::new(alloc);
     for _ in 0..u64::MAX {
-        let mut line = Vec::new(alloc);
-        // No more is read of a line than it takes to see that it is too long.
-        let mut limited = (&mut reader).take(LINE_OCTETS as u64 + 1);
-        match limited.read_until(b'\n', &mut line) {
-            Ok(0) => return exit_replay(rt, trace.end().map(ReplayFault::Text)),
-            Ok(_) => {
-                if let Err(status) = print_line(rt, trace.line(without_line_feed(&line))) {
+        match read_line(rt, &mut reader, &mut line) {
+            Ok(true) => {
+                if let Err(status) = print_line(rt, trace.line(&line)) {
                     return status;
                 }
             }
-            Err(error) if error.kind() == ErrorKind::OutOfMemory => return exit_no_memory(rt),
-            Err(_) => return exit_replay(rt, Some(ReplayFault::Read(ReadFault::Failed))),
+            Ok(false) => return exit_replay(rt, trace.end().map(ReplayFault::Text)),
+            Err(status) => return status,
         }
     }
     // No trace has so many lines.
     exit_replay(rt, Some(ReplayFault::Read(ReadFault::TurnLimit)))
-}
-
-/// The line without the line feed that ends it.
-fn without_line_feed(line: &[u8]) -> &[u8] {
-    match line {
-        [front @ .., b'\n'] => front,
-        _ => line,
-    }
 }
 
 /// Prints what a line brought, or how the program ends with it.

@@ -10,9 +10,11 @@ mod demo;
 mod exit;
 mod explain;
 mod files;
+mod lines;
 mod replay;
 mod report;
 mod serve;
+mod spell;
 
 use crate::check::run_check;
 use crate::command_line::{build_commands, exit_without_matches};
@@ -22,6 +24,7 @@ use crate::explain::run_explain;
 use crate::replay::{run_replay, run_replay_here};
 use crate::report::run_report;
 use crate::serve::run_serve;
+use crate::spell::run_spell;
 use clap::ArgMatches;
 use std::env;
 use std::io::ErrorKind;
@@ -78,6 +81,7 @@ fn dispatch<T: Threads + Wait + Sync>(
         Some(("serve", words)) => run_serve(rt, threads, words),
         Some(("demo", words)) => run_demo(rt, threads, words),
         Some(("explain", words)) => run_explain(rt, words),
+        Some(("spell", _)) => run_spell(rt),
         _ => run_replay_here(rt),
     }
 }

@@ -1,7 +1,8 @@
 -- Words between spaces.
 use Rattle.std.proofs.Common.{◌≡◌, ◌≢◌, ℕ, zero, suc, ◌<◌, ◌≤◌, List, [], ◌∷◌, ◌++◌, length, take}
 use Rattle.std.proofs.Common.{drop, refl, sym, ap, ◌∙◌, arith, true, false, Bool, cond, get_or}
-use Rattle.forecourt_engines.specs.LineWords.{BeginsNoSpace, begun_by, is_space, lengthened}
+use Rattle.forecourt_engines.specs.LineWords.{BeginsNoSpace, begun_by, is_comment}
+use Rattle.forecourt_engines.specs.LineWords.{is_space, lengthened}
 use Rattle.forecourt_engines.specs.LineWords.{words_in}
 
 -- the first octets are spaces
@@ -69,3 +70,19 @@ all_word (x ∷ y ∷ text) some none =
     let rest = all_word (y ∷ text) (λ e. cc) (λ k low. none (suc k) (omega arith)) in
     let begun : words_in (y ∷ text) ≡ begun_by y text (words_in text) = rw next refl in
     rw (first, next) (ap (lengthened x) (sym begun ∙ rest))
+
+-- spaces in front make no comment, and take none away
+pub comment_skipped : (n : ℕ) (text : List ℕ) → n ≤ length text → AreSpaces n text
+    → is_comment (drop n text) ≡ is_comment text
+comment_skipped zero text few spaces = refl
+comment_skipped (suc n) [] few spaces = absurd (omega (arith, few))
+comment_skipped (suc n) (x ∷ text) few spaces =
+    let first : is_space x ≡ true = spaces 0 (omega arith) in
+    comment_skipped n text (omega arith) (λ k low. spaces (suc k) (omega arith))
+    ∙ (rw first refl)
+
+pub all_comment : (text : List ℕ) → AreSpaces (length text) text → true ≡ is_comment text
+all_comment [] spaces = refl
+all_comment (x ∷ text) spaces =
+    let first : is_space x ≡ true = spaces 0 (omega arith) in
+    rw first (all_comment text (λ k low. spaces (suc k) (omega arith)))

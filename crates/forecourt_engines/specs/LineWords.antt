@@ -1,5 +1,5 @@
 -- The words of a line.
-use Rattle.std.specs.Prelude.{◌≡◌, ℕ, List, [], ◌∷◌, Bool, false, ◌==◌, ◌||◌, if◌then◌else◌}
+use Rattle.std.specs.Prelude.{◌≡◌, ℕ, List, [], ◌∷◌, Bool, true, false, ◌==◌, ◌||◌, if◌then◌else◌}
 
 -- a space, a tab, or a carriage return
 abbrev pub is_space : ℕ → Bool
@@ -26,3 +26,8 @@ words_in (octet ∷ rest) =
 abbrev pub BeginsNoSpace : List ℕ → Type 0
 BeginsNoSpace [] = Unit {0}
 BeginsNoSpace (octet ∷ rest) = is_space octet ≡ false
+
+-- a comment: nothing but spaces, or a `#` behind them
+abbrev pub is_comment : List ℕ → Bool
+is_comment [] = true
+is_comment (octet ∷ rest) = if is_space octet then is_comment rest else octet == 35

@@ -1,5 +1,5 @@
 -- What a line in words is spelled as.
-use Rattle.std.specs.Prelude.{◌≡◌, ℕ, ◌+◌, ◌==◌, List, [], ◌∷◌, ◌++◌, Bool, true, false, Option}
+use Rattle.std.specs.Prelude.{◌≡◌, ℕ, ◌+◌, List, [], ◌∷◌, ◌++◌, Bool, true, false, Option}
 use Rattle.std.specs.Prelude.{Some, None, nat_lt, unwrap_or, if◌then◌else◌}
 use Rattle.site_base.specs.declared.actor.Actor.{Actor}
 use Rattle.site_base.specs.declared.event.Event.{Event}
@@ -7,11 +7,7 @@ use Rattle.app_message.specs.Telegram.{Telegram}
 use Rattle.device_map.specs.Laws.{Asks, is_own}
 use Rattle.forecourt_engines.specs.Answers.{line_of}
 use Rattle.forecourt_engines.specs.AskedText.{IsAskedText}
-
--- an empty line, or one that begins with `#`
-abbrev pub is_comment : List ℕ → Bool
-is_comment [] = true
-is_comment (octet ∷ rest) = octet == 35
+use Rattle.forecourt_engines.specs.LineWords.{is_comment}
 
 -- the token behind this one: they rise to 31, and then begin with 1 again
 abbrev pub token_behind : ℕ → ℕ

@@ -9,6 +9,7 @@ mod spell;
 mod splitting;
 mod wrong_word;
 
+pub use app_message::Token;
 pub use asked::{Asked, read_asked, read_request};
 pub use spell::spell_line;
 pub use splitting::split_words;

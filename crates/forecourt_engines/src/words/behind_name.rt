@@ -1,9 +1,10 @@
 //! What stands behind the name of an event: so many words, and no more.
 
-ghost use Rattle.std.specs.Prelude.{◌≡◌, ◌≢◌, ℕ, List, [], ◌∷◌, map, IfOk, OnErr, OnOk};
+ghost use Rattle.std.specs.Prelude.{◌≡◌, ◌≢◌, ◌≤◌, ◌+◌, ℕ, List, [], ◌∷◌, map, IfOk, OnErr, OnOk};
 ghost use Rattle.site_base.specs.declared.sale.SaleId.{SaleId};
 ghost use Rattle.site_base.specs.declared.state.Preset.{Preset};
 ghost use Rattle.forecourt_engines.specs.Said.{AreMeter, ArePoint, ArePointAmount, AreProduct};
+ghost use Rattle.forecourt_engines.specs.declared.words.behind_name.TheConstants.{FIRST};
 ghost use Rattle.forecourt_engines.specs.Said.{AreProductAmount, AreRelease, AreSale, IsLimit};
 
 use crate::number::is_word;
@@ -70,7 +71,7 @@ pub fn read_meter(words: &[&[u8]]) -> Result<(FpNo, NozzleNo, Millilitres), Wron
     ensures other { OnErr result ((p n reading : ℕ)
         → ¬ AreMeter (map (λ w. w.now) words.now) p n reading) }
 {
-    let (first, last) = two(words, Wanted::Point, Wanted::Meter)?;
+    let (first, last) = two(words, FIRST, Wanted::Point, Wanted::Meter)?;
     let Some(p) = point_of(first) else {
         return Err(WrongWord::new(FIRST, Wanted::Point));
     };
@@ -87,7 +88,7 @@ pub fn read_point_amount(words: &[&[u8]]) -> Result<(FpNo, u32), WrongWord>
     ensures other { OnErr result ((p amount : ℕ)
         → ¬ ArePointAmount (map (λ w. w.now) words.now) p amount) }
 {
-    let (first, last) = two(words, Wanted::Point, Wanted::Amount)?;
+    let (first, last) = two(words, FIRST, Wanted::Point, Wanted::Amount)?;
     let Some(p) = point_of(first) else {
         return Err(WrongWord::new(FIRST, Wanted::Point));
     };
@@ -104,7 +105,7 @@ pub fn read_product_amount(words: &[&[u8]]) -> Result<(ProductNo, u32), WrongWor
     ensures other { OnErr result ((q amount : ℕ)
         → ¬ AreProductAmount (map (λ w. w.now) words.now) q amount) }
 {
-    let (first, last) = two(words, Wanted::Product, Wanted::Amount)?;
+    let (first, last) = two(words, FIRST, Wanted::Product, Wanted::Amount)?;
     let Some(q) = product_of(first) else {
         return Err(WrongWord::new(FIRST, Wanted::Product));
     };
@@ -140,7 +141,7 @@ fn read_limit(words: &[&[u8]]) -> Result<Preset, WrongWord>
     if words.is_empty() {
         return Ok(Preset::Unset);
     }
-    let (kind, last) = two(words, Wanted::Limit, Wanted::Amount)?;
+    let (kind, last) = two(words, FIRST + 1, Wanted::Limit, Wanted::Amount)?;
     let Some(amount) = amount_of(last) else {
         return Err(WrongWord::new(FIRST + 2, Wanted::Amount));
     };
@@ -167,25 +168,27 @@ fn one<'a>(words: &[&'a [u8]], wanted: Wanted) -> Result<&'a [u8], WrongWord>
     Err(WrongWord::new(FIRST + 1, Wanted::Nothing))
 }
 
-/// Just two words.
+/// Just two words, the first at this place in its line.
 fn two<'a>(
     words: &[&'a [u8]],
+    place: usize,
     wanted: Wanted,
     behind: Wanted,
 ) -> Result<(&'a [u8], &'a [u8]), WrongWord>
+    requires { place ≤ FIRST + 1 }
     ensures found { IfOk result (λ both.
         map (λ w. w.now) words.now ≡ both.0.now ∷ both.1.now ∷ []) }
     ensures other { OnErr result ((first last : List ℕ)
         → map (λ w. w.now) words.now ≢ first ∷ last ∷ []) }
 {
     let Some((first, rest)) = words.split_first() else {
-        return Err(WrongWord::new(FIRST, wanted));
+        return Err(WrongWord::new(place, wanted));
     };
     let Some((last, others)) = rest.split_first() else {
-        return Err(WrongWord::new(FIRST + 1, behind));
+        return Err(WrongWord::new(place + 1, behind));
     };
     if others.is_empty() {
         return Ok((*first, *last));
     }
-    Err(WrongWord::new(FIRST + 2, Wanted::Nothing))
+    Err(WrongWord::new(place + 2, Wanted::Nothing))
 }

@@ -5,10 +5,11 @@ ghost use Rattle.forecourt_engines.specs.declared.words.wrong_word.LineFault.{Li
 ghost use Rattle.forecourt_engines.specs.declared.words.wrong_word.WrongWord.{WrongWord};
 ghost use Rattle.forecourt_engines.specs.SpelledLines.{SaysAnothers, SaysNothing, Spells};
 ghost use Rattle.forecourt_engines.specs.SpelledLines.{SpellsRequest};
-ghost use Rattle.forecourt_engines.specs.SpelledLines.{is_comment, token_behind};
+ghost use Rattle.forecourt_engines.specs.SpelledLines.{token_behind};
 
 use crate::answers::put_line;
 use crate::words::asked::read_asked;
+use crate::words::splitting::is_comment;
 use crate::words::wrong_word::{LineFault, Wanted, WrongWord};
 use app_message::Token;
 use device_map::encode_request;
@@ -82,16 +83,6 @@ fn token_behind(token: Token) -> Token
         return Token::new(number + 1).unwrap();
     }
     Token::new(1).unwrap()
-}
-
-/// Has the line nothing but spaces, or a `#` behind them?
-fn is_comment(line: &[u8]) -> bool
-    ensures { result ≡ is_comment line.now }
-{
-    match line {
-        [] => true,
-        [first, ..] => *first == b'#',
-    }
 }
 
 /// Appends a line as it is.

@@ -1,7 +1,8 @@
 //! The words of a line.
 
 ghost use Rattle.std.specs.Prelude.{◌≡◌, ◌≢◌, ◌<◌, ◌≤◌, [], ◌∷◌, length, map, IfOk};
-ghost use Rattle.forecourt_engines.specs.LineWords.{BeginsNoSpace, is_space, words_in};
+ghost use Rattle.forecourt_engines.specs.LineWords.{BeginsNoSpace, is_comment, is_space};
+ghost use Rattle.forecourt_engines.specs.LineWords.{words_in};
 
 use site_base::NoMemory;
 use std::alloc::Global;
@@ -20,9 +21,20 @@ pub fn split_words(alloc: Global, text: &[u8]) -> Result<Vec<&[u8]>, NoMemory>
     Ok(words)
 }
 
+/// Has the line nothing but spaces, or a `#` behind them?
+pub fn is_comment(line: &[u8]) -> bool
+    ensures { result ≡ is_comment line.now }
+{
+    match skip_spaces(line) {
+        [] => true,
+        [first, ..] => *first == b'#',
+    }
+}
+
 /// The text without the spaces in front of it.
 fn skip_spaces(text: &[u8]) -> &[u8]
     ensures words { words_in result.now ≡ words_in text.now }
+    ensures comment { is_comment result.now ≡ is_comment text.now }
     ensures begins { BeginsNoSpace result.now }
     ensures shorter { length result.now ≤ length text.now }
 {
