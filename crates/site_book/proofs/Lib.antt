@@ -1,4 +1,6 @@
 pub mod Signed
+pub mod BookSales
+pub mod BookDraws
 pub mod Books
 pub mod RowByRow
 pub mod ProductCounts

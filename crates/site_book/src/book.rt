@@ -115,6 +115,13 @@ impl SiteBook {
         self.rows.len() as u64
     }
 
+    /// The configuration of the site.
+    pub fn config(&self) -> &SiteConfig
+        ensures { result.now ≡ self.now.config }
+    {
+        &self.config
+    }
+
     /// The row at a place, counted from 0.
     pub fn row(&self, place: u64) -> Option<Row>
         ensures { result ≡ slice_get self.now.rows place }

@@ -5,8 +5,16 @@
 mod audit;
 mod book;
 mod changes;
+mod draw;
+mod draws;
 mod figures;
+mod named_sale;
+mod sales;
 mod tills;
 
 pub use audit::audit_rows;
 pub use book::SiteBook;
+pub use draw::Draw;
+pub use draws::Draws;
+pub use named_sale::NamedSale;
+pub use sales::Sales;

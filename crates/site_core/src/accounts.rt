@@ -9,7 +9,8 @@ ghost use Rattle.transaction_buffer.specs.Figures.{figure_of};
 ghost use Rattle.transaction_buffer.specs.FoundSales.{IsPlaced, key_of};
 ghost use Rattle.transaction_buffer.specs.Rooms.{one_taken, room_at};
 ghost use Rattle.transaction_buffer.specs.Sales.{HasNoneLater, has_sale, is_new, key, new_sale};
-ghost use Rattle.transaction_buffer.specs.Sales.{next_number, no_sales, shown, unpaid_at, with_new};
+ghost use Rattle.transaction_buffer.specs.Sales.{next_number, no_sales, sale_of, shown, unpaid_at};
+ghost use Rattle.transaction_buffer.specs.Sales.{with_new};
 ghost use Rattle.transaction_buffer.specs.Sums.{volume_by, volume_of};
 ghost use Rattle.transaction_buffer.specs.TransactionTable.{after_request, after_sign_off};
 ghost use Rattle.transaction_buffer.specs.TransactionTable.{answer_of, refusal_of};
@@ -26,7 +27,7 @@ use site_base::{
 };
 use std::alloc::Global;
 use std::marker::Model;
-use transaction_buffer::{Buffer, Figure, FoundSale, Request};
+use transaction_buffer::{Buffer, Figure, FoundSale, Request, Sale};
 
 /// The sales of a site and the figures of its shifts. The figures are those of the sales that were
 /// cleared and of what tests drew: the type keeps it. Contracts see the sales and the draws alone.
@@ -131,6 +132,14 @@ impl Accounts {
         ensures { shown (key_of sale.now) self.now.sales ≡ Some result }
     {
         self.sales.view(sale)
+    }
+
+    /// The transaction itself: as it was sold, and how it stands.
+    pub fn sale(&self, found: &FoundSale) -> Sale
+        requires { IsPlaced found.now self.now.sales }
+        ensures { sale_of (key_of found.now) self.now.sales ≡ Some result }
+    {
+        self.sales.sale(found)
     }
 
     /// Why the transaction table would refuse what the till asks of the transaction, if it would.

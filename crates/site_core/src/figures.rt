@@ -2,19 +2,20 @@
 
 ghost use Rattle.std.specs.Prelude.{◌≡◌, is_some, IfSome};
 ghost use Rattle.transaction_buffer.specs.FoundSales.{IsPlaced, key_of};
-ghost use Rattle.transaction_buffer.specs.Sales.{has_sale};
+ghost use Rattle.transaction_buffer.specs.Sales.{has_sale, key, sale_of};
 ghost use Rattle.written_site.specs.SiteState.{key_named, open_shift, view_point, price_of};
 ghost use Rattle.written_site.specs.SiteState.{view_sale};
 ghost use Rattle.written_site.specs.Sound.{Sound};
 ghost use Rattle.written_site.specs.Volumes.{product_view};
 ghost use Rattle.site_core.specs.SiteParts.{site_of};
+ghost use Rattle.site_core.specs.Views.{product_lifted};
 
 use crate::site_parts::SiteParts;
 use site_base::{
-    FpNo, Mills, NozzleNo, PointView, ProductNo, ProductView, SaleId, ShiftNo, Status,
+    FpNo, Mills, NozzleNo, PointView, ProductNo, ProductView, SaleId, Seq, ShiftNo, Status,
     TransactionView,
 };
-use transaction_buffer::FoundSale;
+use transaction_buffer::{FoundSale, Sale};
 
 impl SiteParts {
     /// The product at this price, as a read shows it. What is in fuellings under way is what the
@@ -58,6 +59,29 @@ impl SiteParts {
     {
         match self.find_sale(p, id) {
             Some(sale) => Some(self.accounts.view(&sale)),
+            None => None,
+        }
+    }
+
+    /// The sale of this point in this shift with this number.
+    pub(crate) fn sale(&self, p: FpNo, shift: ShiftNo, number: Seq) -> Option<Sale>
+        ensures { result ≡ sale_of (key shift p number) (site_of self.now).sales }
+    {
+        match self.accounts.find(p, shift, number) {
+            Some(found) => Some(self.accounts.sale(&found)),
+            None => None,
+        }
+    }
+
+    /// The product of the nozzle that is out at the point.
+    pub(crate) fn product_out(&self, p: FpNo) -> Option<ProductNo>
+        ensures { result ≡ product_lifted (site_of self.now) p }
+    {
+        match &self.points.find(p) {
+            Some(point) => match self.points.view(point).out {
+                Some(nozzle) => self.meters.product(p, nozzle),
+                None => None,
+            },
             None => None,
         }
     }

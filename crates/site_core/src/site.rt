@@ -2,22 +2,25 @@
 
 ghost use Rattle.std.specs.Prelude.{◌≡◌, ℕ, ◌≤◌, true, Ok, OnOk, OnErr, IfOk};
 ghost use Rattle.transaction_buffer.specs.Rooms.{room_at};
-ghost use Rattle.written_site.specs.SiteState.{opening, is_signed_on, view_point, view_sale};
+ghost use Rattle.transaction_buffer.specs.Sales.{key, sale_of};
+ghost use Rattle.written_site.specs.SiteState.{opening, is_signed_on, open_shift, view_point};
+ghost use Rattle.written_site.specs.SiteState.{view_sale};
 ghost use Rattle.written_site.specs.ShiftFigures.{product_totals, till_totals};
 ghost use Rattle.site_core.specs.Accounts.{shift_row};
 ghost use Rattle.written_site.specs.SiteStep.{Steps};
 ghost use Rattle.written_site.specs.Sound.{Sound};
-ghost use Rattle.site_core.specs.Views.{HasRoom, room_left};
+ghost use Rattle.site_core.specs.Views.{HasRoom, product_lifted, room_left};
 
 use crate::ranges::are_fit;
 use crate::site_parts::SiteParts;
 use shift_ledger::ShiftRow;
 use site_base::{
-    Actor, Answer, Event, FpNo, Listing, NoMemory, PointView, Reply, SaleId, ShiftNo, SiteConfig,
-    TillNo, Totals, TransactionView,
+    Actor, Answer, Event, FpNo, Listing, NoMemory, PointView, ProductNo, Reply, SaleId, Seq,
+    ShiftNo, SiteConfig, TillNo, Totals, TransactionView,
 };
 use std::alloc::Global;
 use std::marker::Model;
+use transaction_buffer::Sale;
 
 /// The one-thread site.
 #[derive(Drop)]
@@ -120,6 +123,28 @@ impl Site {
         ensures { result ≡ view_sale self.now.site p id }
     {
         self.parts.view_sale(p, &id)
+    }
+
+    /// The sale of this point in this shift with this number: as it was sold, and how it stands.
+    /// None where it isn't there.
+    pub fn sale(&self, p: FpNo, shift: ShiftNo, number: Seq) -> Option<Sale>
+        ensures { result ≡ sale_of (key shift p number) self.now.site.sales }
+    {
+        self.parts.sale(p, shift, number)
+    }
+
+    /// The product of the nozzle that is out at the point. None where no nozzle is.
+    pub fn product_out(&self, p: FpNo) -> Option<ProductNo>
+        ensures { result ≡ product_lifted self.now.site p }
+    {
+        self.parts.product_out(p)
+    }
+
+    /// The number of the open shift.
+    pub fn open_shift(&self) -> ShiftNo
+        ensures { result ≡ open_shift self.now.site }
+    {
+        self.parts.open_shift()
     }
 
     /// The figures of shift n, the open one's too: of each till its clears and their cents, of each

@@ -153,6 +153,15 @@ impl Buffer {
         }
     }
 
+    /// The transaction itself: as it was sold, and how it stands.
+    pub fn sale(&self, found: &FoundSale) -> Sale
+        requires { IsPlaced found.now self.now.sales }
+        ensures { sale_of (key_of found.now) self.now.sales ≡ Some result }
+    {
+        let shelf = &self.shelves[found.point.cell()];
+        shelf.at(found.place)
+    }
+
     /// The transaction as a read shows it.
     pub fn view(&self, found: &FoundSale) -> TransactionView
         requires placed { IsPlaced found.now self.now.sales }
@@ -295,15 +304,6 @@ impl Buffer {
         };
         self.judge(&found, request, t)?;
         Ok(self.grant(&found, request, t))
-    }
-
-    /// The found sale.
-    fn sale(&self, found: &FoundSale) -> Sale
-        requires { IsPlaced found.now self.now.sales }
-        ensures { sale_of (key_of found.now) self.now.sales ≡ Some result }
-    {
-        let shelf = &self.shelves[found.point.cell()];
-        shelf.at(found.place)
     }
 }
 

@@ -25,4 +25,5 @@ pub use laws::{
     summed_after, volumes_add_up, volumes_move,
 };
 pub use request::Request;
+pub use sale::Sale;
 pub use standing::Standing;

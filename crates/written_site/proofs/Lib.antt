@@ -71,6 +71,7 @@ pub mod WorkedLaws
 pub mod PointLaws
 pub mod RunRows
 pub mod DrawLaws
+pub mod DrawnRows
 pub mod ClearedLaws
 pub mod MeteredRows
 pub mod UnpaidRows

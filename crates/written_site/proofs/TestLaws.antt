@@ -10,18 +10,14 @@ use Rattle.std.proofs.lemmas.List.{append_assoc}
 use Rattle.std.specs.List.{list_any}
 use Rattle.site_base.specs.declared.actor.Actor.{Actor}
 use Rattle.site_base.specs.declared.event.Event.{Event}
-use Rattle.site_base.specs.declared.event.Event.TheVariants.{Offline, HangUp}
 use Rattle.site_base.specs.declared.row.Row.{Row}
 use Rattle.site_base.specs.declared.state.PointState.TheVariants as states
 use Rattle.site_base.specs.Configured.{Configured}
 use Rattle.site_base.specs.Events.{point_named}
 use Rattle.fuelling_point.specs.declared.event.PointEvent.{PointEvent}
-use Rattle.fuelling_point.specs.declared.event.PointEvent.TheVariants as points
-use Rattle.fuelling_point.specs.declared.step.PointStep.{PointStep}
-use Rattle.fuelling_point.specs.declared.step.PointStep.TheVariants.{Drawn}
 use Rattle.fuelling_point.specs.KeptPoints.{Facts, is_under_way}
 use Rattle.fuelling_point.specs.PointChecks.{refusal_of}
-use Rattle.fuelling_point.specs.Step.{step_of, after}
+use Rattle.fuelling_point.specs.Step.{after}
 use Rattle.transaction_buffer.specs.Sales.{Key}
 use Rattle.written_site.specs.DrawLaws.{tells_drawn}
 use Rattle.written_site.specs.FuellingWords.{calling_said, calling_of_row, calls_after, is_started}
@@ -29,19 +25,18 @@ use Rattle.written_site.specs.FuellingWords.{starts, end_said, ends_at, HasFuell
 use Rattle.written_site.specs.Histories.{Moment, moments_after, moments_of}
 use Rattle.written_site.specs.RowWords.{OfBooks, latest}
 use Rattle.written_site.specs.SaleWords.{release_said, sold_as}
-use Rattle.written_site.specs.SiteChecks.{Passed, own_event, flowed}
+use Rattle.written_site.specs.SiteChecks.{Passed, own_event}
 use Rattle.written_site.specs.SiteRun.{site_of_rows, IsLegal}
 use Rattle.written_site.specs.SiteState.{SiteState, opening, facts_in, facts_of}
-use Rattle.written_site.specs.SiteStep.{site_answer, step_at, step_told, points_after, reply_to}
+use Rattle.written_site.specs.SiteStep.{site_answer, points_after, reply_to}
 use Rattle.written_site.specs.SiteStep.{site_after}
 use Rattle.written_site.specs.TestLaws.{IsReleasedAs, IsDrawnAsRead, AreTestsApart}
 use Rattle.written_site.specs.Volumes.{nozzle_out}
-use Rattle.written_site.proofs.DrawLaws.{never_drawn}
+use Rattle.written_site.proofs.DrawnRows.{draws_here}
 use Rattle.written_site.proofs.FuellingMoves.{calling_away}
 use Rattle.written_site.proofs.FuellingRows.{KnowsFuel, fuel_at}
 use Rattle.written_site.proofs.MomentRows.{head_is, placed}
 use Rattle.written_site.proofs.PointAfter.{FactsAfter, stays, moves, facts_after}
-use Rattle.written_site.proofs.RowFacts.{own_after}
 use Rattle.written_site.proofs.RowWords.{told_row, of_row, kept, said_again, latest_push}
 use Rattle.written_site.proofs.RunRows.{KnowsRuns, runs_more, runs_first, not_started, started_away}
 use Rattle.written_site.proofs.RunRows.{release_away, refused_none}
@@ -49,53 +44,6 @@ use Rattle.written_site.proofs.SlotRows.{moment_at}
 use Rattle.written_site.proofs.SoldRows.{sells_here}
 use Rattle.written_site.proofs.SoundMachine.{sold_from, drawn_from}
 use Rattle.written_site.proofs.SoundSold.{under_way_released}
-use Rattle.written_site.proofs.SoundTables.{told_once}
-
--- ---- a draw
-
--- the event is this to the point, which draws this
-record DrawsHere (s : SiteState) (e : Event) (p : ℕ) : Type 0 where
-  event : PointEvent
-  own : own_event s e ≡ Some (p, event)
-  taken : refusal_of event (facts_of s p) ≡ None
-  nozzle : ℕ
-  volume : ℕ
-  draws : step_of event (facts_of s p) ≡ Drawn nozzle volume
-
-draws_by_step : (s : SiteState) (a : Actor) (e : Event) (p q growth : ℕ) (event : PointEvent)
-    → Passed s a e → own_event s e ≡ Some (q, event)
-    → ◌≡◌ {A = Option ℕ} (Some q) (Some p)
-    → (step : PointStep) → step_of event (facts_of s q) ≡ step
-    → tells_drawn (Ok (step_told s q growth step)) ≡ true → DrawsHere s e p
-draws_by_step s a e p q growth event passes own named (Drawn nozzle volume) is told =
-    subst (DrawsHere s e) (told_once q p named) (record {
-      event = event;
-      own = own;
-      taken = (own_after s a e q event passes own).1;
-      nozzle = nozzle;
-      volume = volume;
-      draws = is;
-    })
-draws_by_step s a e p q growth event passes own named step is told = absurd cc
-
-draws_accepted : (s : SiteState) (a : Actor) (e : Event) (p : ℕ) → Passed s a e
-    → point_named e ≡ Some p → tells_drawn (Ok (site_answer s e)) ≡ true → DrawsHere s e p
-draws_accepted s a (Offline q) p passes named told =
-    draws_by_step s a (Offline q) p q 0 points.Offline passes refl named
-    (step_at s (Offline q)) refl
-    told
-draws_accepted s a (HangUp q n reading) p passes named told =
-    draws_by_step s a (HangUp q n reading) p q (flowed s q n reading)
-    (points.HangUp n (flowed s q n reading)) passes refl named (step_at s (HangUp q n reading)) refl
-    told
-draws_accepted s a e p passes named told = absurd (false≢true (sym (never_drawn s e refl) ∙ told))
-
-draws_here : (s : SiteState) (r : Row) (p : ℕ) → r.reply ≡ reply_to s r.actor r.event
-    → point_named r.event ≡ Some p → tells_drawn r.reply ≡ true → DrawsHere s r.event p
-draws_here s r p replies named =
-    of_row (λ row new. tells_drawn row.reply ≡ true → DrawsHere s r.event p) s r replies
-    (λ refusal told. absurd (false≢true told))
-    (λ passes. draws_accepted s r.actor r.event p passes named)
 
 -- ---- a point that calls by its rows
 

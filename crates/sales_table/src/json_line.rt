@@ -1,0 +1,89 @@
+//! The lines of sales and draws as JSON.
+
+ghost use Rattle.std.specs.Prelude.{◌≡◌, ◌++◌, IfOk, codes, string_bytes};
+ghost use Rattle.serde_json.specs.View.{view};
+ghost use Rattle.serde_json.specs.Written.{compact_text};
+ghost use Rattle.sales_table.specs.Objects.{draw_data, number_if, sale_data};
+
+use crate::names::name_of;
+use crate::status_words::{cleared_in, status_word, till_of};
+use serde_json::{Value, json};
+use site_base::{NoMemory, ProductEntry};
+use site_book::{Draw, NamedSale};
+use std::alloc::{AllocError, Global};
+
+/// A sale as a JSON object.
+pub fn sale_object(
+    alloc: Global,
+    products: &[ProductEntry],
+    sold: &NamedSale,
+) -> Result<String, NoMemory>
+    ensures { IfOk result (λ text.
+        string_bytes text ≡ compact_text (sale_data products.now sold.now)) }
+{
+    Ok(sale_value(alloc, products, sold)?.to_string(alloc)?)
+}
+
+/// A draw as a JSON object.
+pub fn draw_object(
+    alloc: Global,
+    products: &[ProductEntry],
+    draw: &Draw,
+) -> Result<String, NoMemory>
+    ensures { IfOk result (λ text.
+        string_bytes text ≡ compact_text (draw_data products.now draw.now)) }
+{
+    Ok(draw_value(alloc, products, draw)?.to_string(alloc)?)
+}
+
+fn sale_value(
+    alloc: Global,
+    products: &[ProductEntry],
+    sold: &NamedSale,
+) -> Result<Value, AllocError>
+    ensures { IfOk result (λ value. view value ≡ sale_data products.now sold.now) }
+{
+    let sale = &sold.sale;
+    let standing = sale.standing;
+    let name = name_of(products, sale.product);
+    let prepaid = number_if(sale.prepaid);
+    let till = number_if(till_of(&standing));
+    let cleared = number_if(cleared_in(&standing));
+    json!(in alloc; {
+        "shift": sold.shift.get(),
+        "point": sold.point.get(),
+        "number": sold.number.get(),
+        "product": sale.product.get(),
+        "name": name,
+        "millilitres": sale.volume.get(),
+        "mills": sale.price.get(),
+        "cents": sale.cents.get(),
+        "prepaid": prepaid,
+        "status": status_word(&standing),
+        "till": till,
+        "cleared in shift": cleared
+    })
+}
+
+fn draw_value(alloc: Global, products: &[ProductEntry], draw: &Draw) -> Result<Value, AllocError>
+    ensures { IfOk result (λ value. view value ≡ draw_data products.now draw.now) }
+{
+    let name = name_of(products, draw.product);
+    json!(in alloc; {
+        "shift": draw.shift.get(),
+        "point": draw.point.get(),
+        "product": draw.product.get(),
+        "name": name,
+        "millilitres": draw.volume.get()
+    })
+}
+
+/// A number; without one null.
+fn number_if(number: Option<u32>) -> Value
+    ensures { view result ≡ number_if number }
+{
+    match number {
+        Some(n) => Value::from(n),
+        None => Value::Null,
+    }
+}

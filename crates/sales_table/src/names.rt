@@ -1,0 +1,18 @@
+//! The names of products.
+
+ghost use Rattle.std.specs.Prelude.{◌≡◌};
+ghost use Rattle.sales_table.specs.Tables.{name_of};
+
+use site_base::{ProductEntry, ProductNo};
+
+/// The name of the product with this number; of a product that isn't configured, none.
+pub fn name_of(products: &[ProductEntry], q: ProductNo) -> &str
+    ensures { result.now ≡ name_of q products.now }
+{
+    for product in products {
+        if product.number == q {
+            return product.name.as_str();
+        }
+    }
+    ""
+}

@@ -1,0 +1,79 @@
+//! The lines of sales.
+
+ghost use Rattle.std.specs.Prelude.{◌≡◌, IfOk};
+ghost use Rattle.csv.specs.Writing.{default_writer, row_text};
+ghost use Rattle.sales_table.specs.Tables.{decimal_if, sale_line, sale_titles};
+
+use crate::csv_line::csv_line;
+use crate::names::name_of;
+use crate::status_words::{cleared_in, status_word, till_of};
+use itoa::Buffer;
+use site_base::{NoMemory, ProductEntry};
+use site_book::NamedSale;
+use std::alloc::Global;
+
+/// The titles of a table of sales, as a line.
+pub fn sale_titles(alloc: Global) -> Result<Vec<u8>, NoMemory>
+    ensures { IfOk result (λ line. line.items ≡ row_text default_writer sale_titles) }
+{
+    csv_line(
+        alloc,
+        &[
+            b"shift",
+            b"point",
+            b"number",
+            b"product",
+            b"name",
+            b"millilitres",
+            b"mills",
+            b"cents",
+            b"prepaid",
+            b"status",
+            b"till",
+            b"cleared in shift",
+        ],
+    )
+}
+
+/// The line of a sale, in the order of the titles. A number that isn't there is an empty field.
+pub fn sale_line(
+    alloc: Global,
+    products: &[ProductEntry],
+    sold: &NamedSale,
+) -> Result<Vec<u8>, NoMemory>
+    ensures { IfOk result (λ line. line.items ≡ sale_line products.now sold.now) }
+{
+    let sale = &sold.sale;
+    let standing = sale.standing;
+    let (mut one, mut two, mut three) = (Buffer::new(), Buffer::new(), Buffer::new());
+    let (mut four, mut six, mut seven) = (Buffer::new(), Buffer::new(), Buffer::new());
+    let (mut eight, mut nine) = (Buffer::new(), Buffer::new());
+    let (mut eleven, mut twelve) = (Buffer::new(), Buffer::new());
+    csv_line(
+        alloc,
+        &[
+            one.format(sold.shift.get()).as_bytes(),
+            two.format(sold.point.get()).as_bytes(),
+            three.format(sold.number.get()).as_bytes(),
+            four.format(sale.product.get()).as_bytes(),
+            name_of(products, sale.product).as_bytes(),
+            six.format(sale.volume.get()).as_bytes(),
+            seven.format(sale.price.get()).as_bytes(),
+            eight.format(sale.cents.get()).as_bytes(),
+            format_if(&mut nine, sale.prepaid).as_bytes(),
+            status_word(&standing).as_bytes(),
+            format_if(&mut eleven, till_of(&standing)).as_bytes(),
+            format_if(&mut twelve, cleared_in(&standing)).as_bytes(),
+        ],
+    )
+}
+
+/// A number in decimal; without one nothing.
+fn format_if(buffer: &mut Buffer, number: Option<u32>) -> &str
+    ensures { result.now ≡ decimal_if number }
+{
+    match number {
+        Some(n) => buffer.format(n),
+        None => "",
+    }
+}

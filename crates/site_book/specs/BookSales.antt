@@ -1,0 +1,37 @@
+-- The sales of a book, in the order in which they were sold.
+use Rattle.std.specs.Prelude.{◌≡◌, ℕ, ◌≤◌, List, length, take, drop, filter_map, Option}
+use Rattle.std.specs.Prelude.{option_and_then, option_map}
+use Rattle.site_base.specs.declared.row.Row.{Row}
+use Rattle.transaction_buffer.specs.Sales.{Key, Sale, sale_of}
+use Rattle.written_site.specs.Histories.{Moment, moments_of}
+use Rattle.written_site.specs.RowWords.{open_after}
+use Rattle.written_site.specs.SaleWords.{sold_as}
+use Rattle.written_site.specs.SiteState.{SiteState}
+use Rattle.site_book.specs.declared.named_sale.NamedSale.{NamedSale}
+use Rattle.site_book.specs.Book.{Book, site_of_book}
+
+-- a sale with its name
+abbrev pub with_name : Key → Sale → NamedSale
+with_name k x = record { shift = k.shift; point = k.point; number = k.number; sale = x }
+
+-- the sale of this name as it stands at the site, with its name
+abbrev pub sale_named : SiteState → Key → Option NamedSale
+sale_named s k = option_map (with_name k) (sale_of k s.sales)
+
+-- the sale that a moment made, as it stands at the site
+abbrev pub sale_made : SiteState → Moment → Option NamedSale
+sale_made s m = option_and_then (sale_named s) (sold_as m)
+
+-- the sales that the rows from this place on made, as they stand at the book's site
+abbrev pub sales_from : ℕ → Book → List NamedSale
+sales_from place b =
+    filter_map (sale_made (site_of_book b)) (drop place (moments_of b.config b.rows))
+
+-- the sales of a book: in the order in which its rows made them, as they stand at its site
+abbrev pub book_sales : Book → List NamedSale
+book_sales b = filter_map (sale_made (site_of_book b)) (moments_of b.config b.rows)
+
+-- the rows before this place are read, after which shift h is open
+pub record IsReadTo (place h : ℕ) (rows : List Row) : Type 0 where
+  pub within : place ≤ length rows
+  pub shift : h ≡ open_after (take place rows)
