@@ -53,6 +53,24 @@ same_sales a b is =
     ap (λ (h : Option ℕ). record { shift = h; seq = a.seq }) parts.0
     ∙ ap (λ (n : ℕ). record { shift = b.shift; seq = n }) parts.1
 
+two_numbers : {A : Type 0} (f : ℕ → ℕ → A) (p q x y : ℕ) → (p == q && x == y) ≡ true
+    → f p x ≡ f q y
+two_numbers f p q x y is =
+    let parts = both (p == q) (x == y) is in
+    two f p q x y (eqb-true p q parts.0) (eqb-true x y parts.1)
+
+three_numbers : {A : Type 0} (f : ℕ → ℕ → ℕ → A) (p q n m x y : ℕ)
+    → (p == q && (n == m && x == y)) ≡ true → f p n x ≡ f q m y
+three_numbers f p q n m x y is =
+    let parts = both (p == q) (n == m && x == y) is in
+    ap (λ (k : ℕ). f k n x) (eqb-true p q parts.0) ∙ two_numbers (f q) n m x y parts.1
+
+number_and_sale : {A : Type 0} (f : ℕ → SaleId → A) (p q : ℕ) (x y : SaleId)
+    → (p == q && sales.ghosts.eq x y) ≡ true → f p x ≡ f q y
+number_and_sale f p q x y is =
+    let parts = both (p == q) (sales.ghosts.eq x y) is in
+    two f p q x y (eqb-true p q parts.0) (same_sales x y parts.1)
+
 pub same_events : (a b : Event) → events.ghosts.eq a b ≡ true → a ≡ b
 same_events SignOn SignOn is = refl
 same_events SignOff SignOff is = refl
@@ -65,50 +83,23 @@ same_events (Unassign p) (Unassign q) is = one Unassign p q is
 same_events (Release p x) (Release q y) is =
     let parts = both (p == q) (presets.ghosts.eq x y) is in
     two Release p q x y (eqb-true p q parts.0) (same_presets x y parts.1)
-same_events (Prepay p x) (Prepay q y) is =
-    let parts = both (p == q) (x == y) is in
-    two Prepay p q x y (eqb-true p q parts.0) (eqb-true x y parts.1)
+same_events (Prepay p x) (Prepay q y) is = two_numbers Prepay p q x y is
 same_events (TestRelease p) (TestRelease q) is = one TestRelease p q is
 same_events (Suspend p) (Suspend q) is = one Suspend p q is
 same_events (Resume p) (Resume q) is = one Resume p q is
 same_events (Terminate p) (Terminate q) is = one Terminate p q is
-same_events (ReplaceMeter p n x) (ReplaceMeter q m y) is =
-    let parts = both (p == q) (n == m && x == y) is in
-    let rest = both (n == m) (x == y) parts.1 in
-    let point = eqb-true p q parts.0 in let nozzle = eqb-true n m rest.0 in let reading =
-    eqb-true x y rest.1 in cc
+same_events (ReplaceMeter p n x) (ReplaceMeter q m y) is = three_numbers ReplaceMeter p q n m x y is
 same_events (ReadPoint p) (ReadPoint q) is = one ReadPoint p q is
-same_events (Lock p x) (Lock q y) is =
-    let parts = both (p == q) (sales.ghosts.eq x y) is in
-    two Lock p q x y (eqb-true p q parts.0) (same_sales x y parts.1)
-same_events (Unlock p x) (Unlock q y) is =
-    let parts = both (p == q) (sales.ghosts.eq x y) is in
-    two Unlock p q x y (eqb-true p q parts.0) (same_sales x y parts.1)
-same_events (Clear p x) (Clear q y) is =
-    let parts = both (p == q) (sales.ghosts.eq x y) is in
-    two Clear p q x y (eqb-true p q parts.0) (same_sales x y parts.1)
+same_events (Lock p x) (Lock q y) is = number_and_sale Lock p q x y is
+same_events (Unlock p x) (Unlock q y) is = number_and_sale Unlock p q x y is
+same_events (Clear p x) (Clear q y) is = number_and_sale Clear p q x y is
 same_events (ReadTransaction p x) (ReadTransaction q y) is =
-    let parts = both (p == q) (sales.ghosts.eq x y) is in
-    two ReadTransaction p q x y (eqb-true p q parts.0) (same_sales x y parts.1)
-same_events (SetPrice p x) (SetPrice q y) is =
-    let parts = both (p == q) (x == y) is in
-    two SetPrice p q x y (eqb-true p q parts.0) (eqb-true x y parts.1)
+    number_and_sale ReadTransaction p q x y is
+same_events (SetPrice p x) (SetPrice q y) is = two_numbers SetPrice p q x y is
 same_events (ReadProduct p) (ReadProduct q) is = one ReadProduct p q is
 same_events (Online p) (Online q) is = one Online p q is
 same_events (Offline p) (Offline q) is = one Offline p q is
-same_events (Lift p n x) (Lift q m y) is =
-    let parts = both (p == q) (n == m && x == y) is in
-    let rest = both (n == m) (x == y) parts.1 in
-    let point = eqb-true p q parts.0 in let nozzle = eqb-true n m rest.0 in let reading =
-    eqb-true x y rest.1 in cc
-same_events (Flow p n x) (Flow q m y) is =
-    let parts = both (p == q) (n == m && x == y) is in
-    let rest = both (n == m) (x == y) parts.1 in
-    let point = eqb-true p q parts.0 in let nozzle = eqb-true n m rest.0 in let reading =
-    eqb-true x y rest.1 in cc
-same_events (HangUp p n x) (HangUp q m y) is =
-    let parts = both (p == q) (n == m && x == y) is in
-    let rest = both (n == m) (x == y) parts.1 in
-    let point = eqb-true p q parts.0 in let nozzle = eqb-true n m rest.0 in let reading =
-    eqb-true x y rest.1 in cc
+same_events (Lift p n x) (Lift q m y) is = three_numbers Lift p q n m x y is
+same_events (Flow p n x) (Flow q m y) is = three_numbers Flow p q n m x y is
+same_events (HangUp p n x) (HangUp q m y) is = three_numbers HangUp p q n m x y is
 same_events a b is = clash is

@@ -18,7 +18,7 @@ use std::alloc::Global;
 use std::sync::ledger::Ledger;
 
 /// So many places, none of which is marked.
-pub(crate) fn no_marks(alloc: Global, places: usize) -> Result<Vec<bool>, NoMemory>
+pub(crate) fn make_marks(alloc: Global, places: usize) -> Result<Vec<bool>, NoMemory>
     ensures { IfOk result (λ marks. marks.items ≡ replicate places false) }
 {
     Ok(vec![in alloc; false; places]?)
@@ -96,7 +96,7 @@ fn mark<L: Ledger, C: Naming>(
 }
 
 /// The cents and the millilitres that all these receipts tell.
-pub(crate) fn amounts(lists: &[Receipts]) -> (u64, u64)
+pub(crate) fn sum_amounts(lists: &[Receipts]) -> (u64, u64)
     requires { calls_in (lists_of lists.now) ≤ GREATEST_ROWS + TILLS }
     ensures cents { result.0 ≡ total cents_receipted (lists_of lists.now) }
     ensures millilitres { result.1 ≡ total growth_receipted (lists_of lists.now) }

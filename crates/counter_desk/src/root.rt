@@ -98,7 +98,7 @@ impl<L: Ledger, C: Naming> Root<L, C> {
     }
 
     /// The receipts of the shares that came back, in the order of their return.
-    pub(crate) fn returned(&self) -> &[Receipts]
+    pub(crate) fn lists(&self) -> &[Receipts]
         ensures { map (λ l. l.receipts) result.now ≡ self.now.lists }
     {
         &self.returned

@@ -10,7 +10,7 @@ ghost use Rattle.counter_desk.specs.Settlement.{settle_fault_number, Settles};
 use crate::desk::Desk;
 use crate::laws::kept_histories_are_sound;
 use crate::locked::Locked;
-use crate::marks::{amounts, mark_all, no_marks};
+use crate::marks::{make_marks, mark_all, sum_amounts};
 use crate::naming::Naming;
 use crate::root::Root;
 use site_base::Totals;
@@ -116,12 +116,12 @@ impl<L: Ledger, C: Naming> Locked<L, C> {
         ensures root { root.new ≡ root.old }
     {
         self.audit(root);
-        figures(alloc, self, root)
+        add_up(alloc, self, root)
     }
 }
 
-/// The figures of the day, where no receipt is strange.
-fn figures<L: Ledger, C: Naming>(
+/// Adds up the figures of the day, where no receipt is strange.
+fn add_up<L: Ledger, C: Naming>(
     alloc: Global,
     site: &Locked<L, C>,
     root: &Root<L, C>,
@@ -133,12 +133,12 @@ fn figures<L: Ledger, C: Naming>(
     ensures legal { IsLegal (opening C.config) site.now }
 {
     let rows = site.len();
-    let returned = root.returned();
-    let mut marks = match no_marks(alloc, rows as usize) {
+    let lists = root.lists();
+    let mut marks = match make_marks(alloc, rows as usize) {
         Ok(marks) => marks,
         Err(_) => return Err(SettleFault::NoMemory),
     };
-    match mark_all(site, &mut marks, returned) {
+    match mark_all(site, &mut marks, lists) {
         Ok(()) => {}
         Err(place) => return Err(SettleFault::StrangeReceipt(place)),
     }
@@ -147,12 +147,12 @@ fn figures<L: Ledger, C: Naming>(
         Err(_) => return Err(SettleFault::NoMemory),
     };
     kept_histories_are_sound();
-    let (cents, millilitres) = amounts(returned);
+    let (cents, millilitres) = sum_amounts(lists);
     Ok(Settled {
         rows,
         cents,
         millilitres,
-        shares: returned.len() as u64,
+        shares: lists.len() as u64,
         book,
     })
 }

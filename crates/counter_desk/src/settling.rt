@@ -32,12 +32,16 @@ pub fn settle_all<L: Ledger, C: Naming, R: Wait>(
     if root.out() == 0 {
         return desk.settle(alloc, root);
     }
-    let fault = fault_out(rt, alloc, &desk);
+    let fault = find_fault(rt, alloc, &desk);
     Err(Unsettled { fault, desk, root })
 }
 
 /// What is told where a share is out.
-fn fault_out<L: Ledger, C: Naming, R: Wait>(rt: &R, alloc: Global, desk: &Desk<L, C>) -> SettleFault
+fn find_fault<L: Ledger, C: Naming, R: Wait>(
+    rt: &R,
+    alloc: Global,
+    desk: &Desk<L, C>,
+) -> SettleFault
     ensures { IsFaultOut C.config result }
 {
     match desk.snapshot(rt, alloc) {

@@ -24,7 +24,7 @@ impl HoldingGate {
     }
 
     /// Was the actor let through before another was answered, since the turns were used up?
-    pub fn gave_up(&self) -> bool {
+    pub fn has_given_up(&self) -> bool {
         self.gave_up.load(Ordering::SeqCst) != 0
     }
 }

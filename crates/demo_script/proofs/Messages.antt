@@ -1,13 +1,16 @@
 -- A text that is one message.
 use Rattle.std.proofs.Common.{◌≡◌, ◌≢◌, ℕ, Bool, List, [], ◌∷◌, length, Option, None, Some, Result}
 use Rattle.std.proofs.Common.{Ok, Err, true, false, refl, sym, ap, subst, ◌∙◌, arith}
-use Rattle.std.specs.Prelude.{MatchResult, is_some}
+use Rattle.std.specs.Prelude.{is_some, IfOk, IfNone}
 use Rattle.hex.specs.Hex.{decode_of}
 use Rattle.hex.specs.declared.error.FromHexError.{FromHexError}
 use Rattle.app_message.specs.Stream.{Held, Stream, fed_by, held, held_after, stream, stream_of}
 use Rattle.app_message.specs.Stream.{walk}
 use Rattle.app_message.specs.Telegram.{Telegram}
+use Rattle.forecourt_engines.specs.declared.line.LineText.TheVariants as texts
+use Rattle.forecourt_engines.specs.LineTexts.{Says as LineSays}
 use Rattle.forecourt_engines.specs.Text.{without_spaces}
+use Rattle.forecourt_engines.proofs.Hexadecimal.{skipped_is_empty}
 use Rattle.app_message.specs.declared.fault.StreamFault.{StreamFault}
 use Rattle.device_map.specs.declared.fault.MapFault.{MapFault}
 use Rattle.device_map.specs.Requests.{request_at}
@@ -88,32 +91,6 @@ whole_fed octets h messages fault kept m fed is =
       ap (λ x. x.rest) fed.held_is ∙ ap (λ s. s.rest) all,
     )
 
--- a text that isn't hexadecimal is no message
-pub undecoded : (text : List ℕ) (is : Bool) (octets : List ℕ)
-    → MatchResult (decode_of (without_spaces text)) (λ bytes. (is ≡ true) × (octets ≡ bytes))
-    (λ _. is ≡ false)
-    → is ≡ false → (m : Telegram) → ¬ IsMessageText text m
-undecoded text is octets found false_is m said =
-    let P : Result (List ℕ) FromHexError → Type 0 =
-    λ r. MatchResult r (λ bytes. (is ≡ true) × (octets ≡ bytes)) (λ _. is ≡ false) in
-    let at : (is ≡ true) × (octets ≡ said.octets) = subst P said.decoded found in
-    let other : is ≡ true = at.0 in
-    cc
-
--- of a text that is, it is the message that the octets spell
-pub decoded : (text : List ℕ) (is : Bool) (octets : List ℕ)
-    → MatchResult (decode_of (without_spaces text)) (λ bytes. (is ≡ true) × (octets ≡ bytes))
-    (λ _. is ≡ false)
-    → is ≡ true → decode_of (without_spaces text) ≡ Ok octets
-decoded text is octets found true_is =
-    let P : Result (List ℕ) FromHexError → Type 0 =
-    λ r. MatchResult r (λ bytes. (is ≡ true) × (octets ≡ bytes)) (λ _. is ≡ false) in
-    elim (decode_of (without_spaces text)) as (λ r. P r → r ≡ Ok octets) [
-      | Ok bytes ↦ (λ (h : P (Ok bytes)). let e : octets ≡ bytes = h.1 in cc)
-      | Err e ↦ (λ (h : P (Err e)). let other : is ≡ false = h in cc)
-    ]
-    found
-
 pub is_none : (fault : Option StreamFault) → is_some fault ≡ false → fault ≡ None
 is_none None is = refl
 is_none (Some f) is = cc
@@ -122,17 +99,38 @@ pub isnt_none : (fault : Option StreamFault) → is_some fault ≡ true → faul
 isnt_none None is none = cc
 isnt_none (Some f) is none = cc
 
--- so a text is no message where its octets spell none
-pub unspelled : (text kept octets spelled : List ℕ) (is : Bool) → kept ≡ without_spaces text
-    → MatchResult (decode_of kept) (λ bytes. (is ≡ true) × (octets ≡ bytes)) (λ _. is ≡ false)
-    → is ≡ true → spelled ≡ octets
+-- a text that is skipped is no message: at most it spells no octets
+pub skipped_none : (text octets : List ℕ) → LineSays texts.Skipped text octets → (m : Telegram)
+    → ¬ IsMessageText text m
+unfolding walk
+skipped_none text octets skips m said =
+    let empty : said.octets ≡ [] =
+    skipped_is_empty (without_spaces text) said.octets skips said.decoded in
+    let spelled : stream [] [] None ≡ stream (m ∷ []) [] None =
+    sym (ap stream_of empty) ∙ said.whole in
+    let one : ◌≡◌ {A = List Telegram} [] (m ∷ []) = ap (λ s. s.messages) spelled in
+    cc
+
+-- nor is one that isn't hexadecimal
+pub other_none : (text octets : List ℕ) → LineSays texts.NotHexadecimal text octets
+    → (m : Telegram) → ¬ IsMessageText text m
+other_none text octets says m said = cc (says.1, said.decoded)
+
+-- what isn't there then isn't there either
+pub if_none : {X E : Type 0} (P Q : Type 0) (r : Result (Option X) E) → (P → Q)
+    → IfOk r (λ found. IfNone found P) → IfOk r (λ found. IfNone found Q)
+if_none P Q (Ok None) then h = then h
+if_none P Q (Ok (Some x)) then h = tt
+if_none P Q (Err e) then h = tt
+
+-- nor is one whose octets spell none
+pub unspelled : (text octets spelled : List ℕ) → LineSays texts.Octets text octets
+    → spelled ≡ octets
     → ((m : Telegram) → ¬ (stream_of spelled ≡ stream (m ∷ []) [] None))
     → (m : Telegram) → ¬ IsMessageText text m
-unspelled text kept octets spelled is same found true_is spells none m said =
-    let P : List ℕ → Type 0 =
-    λ t. MatchResult (decode_of t) (λ bytes. (is ≡ true) × (octets ≡ bytes)) (λ _. is ≡ false) in
+unspelled text octets spelled says spells none m said =
     let e : ◌≡◌ {A = Result (List ℕ) FromHexError} (Ok octets) (Ok said.octets) =
-    sym (decoded text is octets (subst P same found) true_is) ∙ said.decoded in
+    sym says.1 ∙ said.decoded in
     let o : octets ≡ said.octets = cc in
     none m (ap stream_of (spells ∙ o) ∙ said.whole)
 

@@ -6,7 +6,7 @@ ghost use Rattle.app_message.specs.Telegram.{Telegram};
 ghost use Rattle.demo_script.specs.Script.{IsMessageText};
 
 use app_message::{Decoder, Message, Messages};
-use forecourt_engines::line::{decode, put_without_spaces};
+use forecourt_engines::line::{LineText, read_octets};
 use site_base::NoMemory;
 use std::alloc::Global;
 
@@ -17,15 +17,10 @@ pub fn message_of(alloc: Global, text: &[u8]) -> Result<Option<Message>, NoMemor
     ensures other { IfOk result (λ found.
         IfNone found ((m : Telegram) → ¬ IsMessageText text.now m)) }
 {
-    let mut kept = Vec::new(alloc);
-    put_without_spaces(text, &mut kept)?;
-    let mut octets = Vec::new(alloc);
-    if !decode(&kept, &mut octets)? {
-        return Ok(None);
-    }
-    match whole_message(alloc, &octets)? {
-        Some(message) => Ok(Some(message)),
-        None => Ok(None),
+    let (mut kept, mut octets) = (Vec::new(alloc), Vec::new(alloc));
+    match read_octets(text, &mut kept, &mut octets)? {
+        LineText::Octets => whole_message(alloc, &octets),
+        LineText::Skipped | LineText::NotHexadecimal => Ok(None),
     }
 }
 

@@ -62,13 +62,13 @@ fn most_of(preset: &Preset, price: u32) -> Option<u64>
         Preset::Volume(most) => Some(u64::from(*most)),
         Preset::Money(cents) => {
             let price = Mills::new(price)?;
-            Some(bought(*cents, price))
+            Some(volume_for(*cents, price))
         }
     }
 }
 
 /// How much so many cents buy at this price.
-fn bought(cents: u32, price: Mills) -> u64
+fn volume_for(cents: u32, price: Mills) -> u64
     ensures greatest { IsGreatestVolume cents price result }
     ensures range { (1 ≤ price) × (price ≤ GREATEST_PRICE) }
 {

@@ -5,13 +5,14 @@ use Rattle.std.proofs.Common.{subst, sym, ap, ◌∙◌, Bool, Result, Ok, Err, 
 use Rattle.std.specs.Prelude.{◌/◌, ◌%◌, MatchResult, slice_index}
 use Rattle.std.specs.List.{AllByRecursion}
 use Rattle.std.proofs.lemmas.Bool.{cases_eq, ne_eqb}
+use Rattle.std.proofs.lemmas.List.{nil_from_length}
 use Rattle.std.proofs.lemmas.List.Elements.{recursion_from_All}
 use Rattle.hex.specs.declared.error.FromHexError.{FromHexError}
 use Rattle.hex.specs.Hex.{is_hex_digit, decode_of, encode_with}
 use Rattle.hex.proofs.HexLemmas.{decode_of-ok}
-use Rattle.app_message.specs.Stream.{Held, fed_by}
-use Rattle.forecourt_engines.specs.Answers.{Answerer}
-use Rattle.forecourt_engines.specs.Text.{is_skipped, without_spaces, answered, judged}
+use Rattle.forecourt_engines.specs.declared.line.LineText.TheVariants as texts
+use Rattle.forecourt_engines.specs.LineTexts.{Says}
+use Rattle.forecourt_engines.specs.Text.{is_skipped}
 
 not_space : (x : ℕ) → is_hex_digit x ≡ true → eqb x 32 ≡ false
 not_space x digit = elim (cases_eq x 32) [
@@ -36,32 +37,38 @@ digits_told : (xs : List ℕ) → AllByRecursion (λ x. is_hex_digit x ≡ true)
 digits_told [] all some = absurd (omega arith)
 digits_told (x ∷ xs) all some = not_hash x all.0
 
--- so its octets go to the stream
-pub hexadecimal_told : (number : ℕ) (stream : Held) (answerer : Answerer) (text octets : List ℕ)
-    → 0 < length text → decode_of text ≡ Ok octets
-    → judged number stream answerer (without_spaces text) ≡ answered answerer (fed_by stream octets)
-hexadecimal_told number stream answerer text octets some is =
+-- what is skipped is hexadecimal only where it is empty
+pub skipped_is_empty : (kept octets : List ℕ) → is_skipped kept ≡ true → decode_of kept ≡ Ok octets
+    → octets ≡ []
+skipped_is_empty [] octets skips is =
+    nil_from_length octets (omega (arith, (decode_of-ok [] octets is).2))
+skipped_is_empty (x ∷ xs) octets skips is =
+    let digits = recursion_from_All (λ d. is_hex_digit d ≡ true) (x ∷ xs)
+    (decode_of-ok (x ∷ xs) octets is).1 in
+    absurd (cc (digits_told (x ∷ xs) digits (omega arith), skips))
+
+-- so it says its octets
+pub as_it_stands : (text octets : List ℕ) → 0 < length text → decode_of text ≡ Ok octets
+    → Says texts.Octets text octets
+as_it_stands text octets some is =
     let digits = recursion_from_All (λ x. is_hex_digit x ≡ true) text
     (decode_of-ok text octets is).1 in
-    rw (digits_kept text digits, digits_told text digits some, is) refl
+    rw (digits_kept text digits, is) (digits_told text digits some, refl)
 
-read_so : (number : ℕ) (stream : Held) (answerer : Answerer) (text octets : List ℕ) (is : Bool)
-    (r : Result (List ℕ) FromHexError) → 0 < length text → decode_of text ≡ r
+read_so : (text octets : List ℕ) (is : Bool) (r : Result (List ℕ) FromHexError) → 0 < length text
+    → decode_of text ≡ r
     → MatchResult r (λ bytes. (is ≡ true) × (octets ≡ bytes)) (λ _. is ≡ false) → is ≡ true
-    → judged number stream answerer (without_spaces text) ≡ answered answerer (fed_by stream octets)
-read_so number stream answerer text octets is (Ok bytes) some e m true_is =
-    hexadecimal_told number stream answerer text octets some
-    (e ∙ ap (λ (l : List ℕ). Ok l) (sym m.1))
-read_so number stream answerer text octets is (Err f) some e m true_is = absurd (cc (m, true_is))
+    → Says texts.Octets text octets
+read_so text octets is (Ok bytes) some e m true_is =
+    as_it_stands text octets some (e ∙ ap (λ (l : List ℕ). Ok l) (sym m.1))
+read_so text octets is (Err f) some e m true_is = absurd (cc (m, true_is))
 
 -- the same of what a reader of hexadecimal answers
-pub hexadecimal_read : (number : ℕ) (stream : Held) (answerer : Answerer) (text octets : List ℕ)
-    (is : Bool) → 0 < length text
+pub reads_as_it_stands : (text octets : List ℕ) (is : Bool) → 0 < length text
     → MatchResult (decode_of text) (λ bytes. (is ≡ true) × (octets ≡ bytes)) (λ _. is ≡ false)
-    → is ≡ true
-    → judged number stream answerer (without_spaces text) ≡ answered answerer (fed_by stream octets)
-hexadecimal_read number stream answerer text octets is some m true_is =
-    read_so number stream answerer text octets is (decode_of text) some refl m true_is
+    → is ≡ true → Says texts.Octets text octets
+reads_as_it_stands text octets is some m true_is =
+    read_so text octets is (decode_of text) some refl m true_is
 
 -- what is spelled in two parts is spelled whole
 pub spelled_in_parts : (digits xs ys : List ℕ)

@@ -10,8 +10,8 @@ use Rattle.forecourt_engines.specs.declared.fault.TextFault.{TextFault}
 use Rattle.forecourt_engines.specs.declared.fault.TextFault.TheVariants.{TooLong}
 use Rattle.forecourt_engines.specs.declared.line.TheConstants.{LINE_OCTETS}
 use Rattle.forecourt_engines.specs.Answers.{Answerer}
-use Rattle.forecourt_engines.specs.Text.{State, kept_of, judged, line_told, next_line, next, said}
-use Rattle.forecourt_engines.specs.Text.{stepped, says, after, text_from, ended, last_text}
+use Rattle.forecourt_engines.specs.Text.{State, kept_of, effect, line_effect, next_line, next, said}
+use Rattle.forecourt_engines.specs.Text.{octet_step, says, after, text_from, ended, last_text}
 use Rattle.forecourt_engines.proofs.Running.{after-append, text_from-append}
 use Rattle.forecourt_engines.specs.Laws.{between, IsLine, LineSays, LastLineSays, LongLineSays}
 use Rattle.forecourt_engines.specs.Laws.{NothingFollows}
@@ -60,11 +60,11 @@ line_goes_on line (b ∷ more) number stream answerer plain short =
 -- a line feed ends the line
 line_ends : (line : List ℕ) (number : ℕ) (stream : Held) (answerer : Answerer)
     → (after (within line number stream answerer) (10 ∷ [])
-    ≡ next_line (between number stream answerer) (judged number stream answerer (kept_of line)))
+    ≡ next_line (between number stream answerer) (effect number stream answerer (kept_of line)))
     × (text_from (within line number stream answerer) (10 ∷ [])
-    ≡ (judged number stream answerer (kept_of line)).text)
+    ≡ (effect number stream answerer (kept_of line)).text)
 line_ends line number stream answerer =
-    (refl, append-nil (judged number stream answerer (kept_of line)).text)
+    (refl, append-nil (effect number stream answerer (kept_of line)).text)
 
 pub line_says : LineSays
 line_says number stream answerer line plain short =
@@ -91,7 +91,7 @@ last_line_says number stream answerer line plain short =
 pub nothing_follows : NothingFollows
 nothing_follows st f [] stop = (refl, refl)
 nothing_follows st f (b ∷ bs) stop =
-    let stays : next st b ≡ st = ap (λ (s : Option TextFault). stepped s st b) stop in
+    let stays : next st b ≡ st = ap (λ (s : Option TextFault). octet_step s st b) stop in
     let rest = nothing_follows st f bs stop in (
       ap (λ (s : State). after s bs) stays ∙ rest.0,
       ap (λ (t : List ℕ). t ++ text_from (next st b) bs)
@@ -194,9 +194,9 @@ held_long st more none plain fits long =
 pub whole_line : (st : State) (line : List ℕ) → st.stop ≡ None → st.line ≡ [] → IsLine line
     → length line ≤ LINE_OCTETS
     → (after st (line ++ 10 ∷ []) ≡ next_line st
-    (judged st.number st.stream st.answerer (kept_of line)))
+    (effect st.number st.stream st.answerer (kept_of line)))
     × (text_from st (line ++ 10 ∷ [])
-    ≡ (judged st.number st.stream st.answerer (kept_of line)).text)
+    ≡ (effect st.number st.stream st.answerer (kept_of line)).text)
 whole_line st line none empty plain short =
     let says = line_says st.number st.stream st.answerer line plain short in
     let is : st ≡ between st.number st.stream st.answerer = sym (is_within st none)
@@ -207,8 +207,8 @@ whole_line st line none empty plain short =
 
 -- a line feed ends the line that is held
 pub line_feed : (st : State) → st.stop ≡ None
-    → (after st (10 ∷ []) ≡ next_line st (line_told st))
-    × (text_from st (10 ∷ []) ≡ (line_told st).text)
+    → (after st (10 ∷ []) ≡ next_line st (line_effect st))
+    × (text_from st (10 ∷ []) ≡ (line_effect st).text)
 line_feed st none =
     let is = is_within st none in
     let ends = line_ends st.line st.number st.stream st.answerer in (
@@ -243,8 +243,8 @@ stays_ended st more e =
 -- a line feed behind a line that is held
 pub feed_behind : (st : State) (line : List ℕ) → text_from st line ≡ []
     → (after st line).stop ≡ None
-    → (after st (line ++ 10 ∷ []) ≡ next_line (after st line) (line_told (after st line)))
-    × (text_from st (line ++ 10 ∷ []) ≡ (line_told (after st line)).text)
+    → (after st (line ++ 10 ∷ []) ≡ next_line (after st line) (line_effect (after st line)))
+    × (text_from st (line ++ 10 ∷ []) ≡ (line_effect (after st line)).text)
 feed_behind st line silent none =
     let more = then_more st line (10 ∷ []) silent in
     let feed = line_feed (after st line) none in

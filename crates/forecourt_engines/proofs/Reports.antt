@@ -1,6 +1,6 @@
 -- A replay's book keeps its configuration, and its report is that of what was read.
 use Rattle.std.proofs.Common.{◌≡◌, ℕ, Bool, true, false, List, [], ◌∷◌, ◌++◌, Option, Some, None}
-use Rattle.std.proofs.Common.{Result, Ok, Err, refl, ap, sym, subst, ◌∙◌, ◌==◌, nat_le, length}
+use Rattle.std.proofs.Common.{Result, Ok, Err, refl, ap, subst, ◌∙◌, ◌==◌, nat_le, length}
 use Rattle.std.proofs.Common.{arith, if◌then◌else◌}
 use Rattle.std.specs.Io.KnownBytes.{Appends}
 use Rattle.site_base.specs.Devices.{AppendsFront}
@@ -20,14 +20,14 @@ use Rattle.forecourt_engines.specs.declared.fault.TextFault.{TextFault}
 use Rattle.forecourt_engines.specs.declared.fault.TextFault.TheVariants as faults
 use Rattle.forecourt_engines.specs.declared.fault.ReplayFault.{ReplayFault}
 use Rattle.forecourt_engines.specs.declared.fault.ReplayFault.TheVariants as ends_so
-use Rattle.forecourt_engines.specs.Replay.{is_early, as_fault, Replayed}
+use Rattle.forecourt_engines.specs.Replay.{is_early, is_unwritten, as_fault, Replayed}
 use Rattle.forecourt_engines.specs.Report.{book_report}
 use Rattle.forecourt_engines.specs.Reporting.{Reported, WritesReport, input_report}
-use Rattle.forecourt_engines.specs.Reporting.{is_before_report, opening_state}
+use Rattle.forecourt_engines.specs.Reporting.{opening_state}
 use Rattle.forecourt_engines.proofs.Running.{AppendsFront-none}
 use Rattle.forecourt_engines.specs.declared.line.TheConstants.{LINE_OCTETS}
-use Rattle.forecourt_engines.specs.Text.{State, after, book_of, decoded, ended, ends, is_skipped}
-use Rattle.forecourt_engines.specs.Text.{judged, kept_of, line_told, next, next_line, stepped}
+use Rattle.forecourt_engines.specs.Text.{State, after, book_of, octets_effect, ended, ends}
+use Rattle.forecourt_engines.specs.Text.{is_skipped, effect, kept_of, line_effect, next, next_line, octet_step}
 
 book_keeps : (b : Book) (meaning : Result (Actor × Event) MapFault)
     → (book_meaning b meaning).config ≡ b.config
@@ -45,22 +45,22 @@ answerer_keeps a (m ∷ ms) =
     answerer_keeps (after_message a m) ms ∙ book_keeps a.book (request_at m)
 
 line_keeps : (number : ℕ) (stream : Held) (a : Answerer) (kept : List ℕ)
-    → (judged number stream a kept).answerer.book.config ≡ a.book.config
+    → (effect number stream a kept).answerer.book.config ≡ a.book.config
 line_keeps number stream a kept = by_skip (is_skipped kept)
   where
     by_text : (text : Result (List ℕ) FromHexError)
-        → (decoded number stream a text).answerer.book.config ≡ a.book.config
+        → (octets_effect number stream a text).answerer.book.config ≡ a.book.config
     by_text (Ok octets) = answerer_keeps a (fed_by stream octets).messages
     by_text (Err fault) = refl
 
     by_skip : (skips : Bool)
         → (if skips then record { stream = stream; answerer = a; stop = None; text = [] }
-        else decoded number stream a (decode_of kept)).answerer.book.config
+        else octets_effect number stream a (decode_of kept)).answerer.book.config
         ≡ a.book.config
     by_skip true = refl
     by_skip false = by_text (decode_of kept)
 
-told_keeps : (st : State) → (next_line st (line_told st)).answerer.book.config
+told_keeps : (st : State) → (next_line st (line_effect st)).answerer.book.config
     ≡ st.answerer.book.config
 told_keeps st = line_keeps st.number st.stream st.answerer (kept_of st.line)
 
@@ -75,7 +75,7 @@ octet_keeps st b = by_stop st.stop
     by_length false = refl
 
     by_octet : (ends_line : Bool)
-        → (if ends_line then next_line st (line_told st)
+        → (if ends_line then next_line st (line_effect st)
         else if nat_le LINE_OCTETS (length st.line)
         then record st { stop = Some (faults.TooLong st.number) }
         else record st { line = st.line ++ b ∷ [] }).answerer.book.config
@@ -83,7 +83,7 @@ octet_keeps st b = by_stop st.stop
     by_octet true = told_keeps st
     by_octet false = by_length (nat_le LINE_OCTETS (length st.line))
 
-    by_stop : (stop : Option TextFault) → (stepped stop st b).answerer.book.config
+    by_stop : (stop : Option TextFault) → (octet_step stop st b).answerer.book.config
         ≡ st.answerer.book.config
     by_stop (Some fault) = refl
     by_stop None = by_octet (b == 10)
@@ -112,7 +112,7 @@ late : (fault : Option TextFault) → is_early (as_fault fault) ≡ false
 late None = refl
 late (Some fault) = refl
 
-early : (fault : ReplayFault) → is_before_report fault ≡ true → is_early (Some fault) ≡ true
+early : (fault : ReplayFault) → is_unwritten fault ≡ true → is_early (Some fault) ≡ true
 early ends_so.NoMemory before = refl
 early (ends_so.Read fault) before = refl
 early (ends_so.Write fault) before = refl
@@ -133,7 +133,7 @@ reports_unopened turns c a x fault soon = record {
 
 -- no more could be read, or there was no memory
 pub reports_early : (turns : ℕ) (c : Configured) (st : State) (a b x : Option (List ℕ))
-    (fault : ReplayFault) (book : Option Book) → is_before_report fault ≡ true
+    (fault : ReplayFault) (book : Option Book) → is_unwritten fault ≡ true
     → Replayed turns st a b None None (Some fault) book → Reported turns c a b x x (Some fault)
 reports_early turns c st a b x fault book before r =
     let soon : is_early (Some fault) ≡ true = early fault before in

@@ -15,8 +15,9 @@ use Rattle.forecourt_engines.specs.declared.fault.TextFault.TheVariants as fault
 use Rattle.forecourt_engines.specs.declared.line.TheConstants.{LINE_OCTETS}
 use Rattle.forecourt_engines.specs.Answers.{Answerer, lines_for, after_message, answers_to}
 use Rattle.forecourt_engines.specs.Answers.{after_messages}
-use Rattle.forecourt_engines.specs.Text.{State, Told, start, kept_of, is_skipped, judged, decoded}
-use Rattle.forecourt_engines.specs.Text.{answered, stop_of, fault_text, line_told, next_number}
+use Rattle.forecourt_engines.specs.Text.{State, Effect, start, kept_of, is_skipped, effect}
+use Rattle.forecourt_engines.specs.Text.{octets_effect, stream_effect, stop_of, fault_text}
+use Rattle.forecourt_engines.specs.Text.{line_effect, next_number}
 use Rattle.forecourt_engines.specs.Text.{next_line, next, said, after, text_from, ended, last_text}
 use Rattle.forecourt_engines.specs.Text.{left_over, fault_at_end, last_fault, text_of, fault_of}
 use Rattle.forecourt_engines.specs.Text.{book_of}
@@ -54,8 +55,8 @@ in_line b a number line = record {
 }
 
 -- it speaks octets, and the text goes on
-record Goes (b : Answerer) (a : List ℕ) (number : ℕ) (line : List ℕ) (t : Told) (octets : List ℕ) :
-    Type 0 where
+record Goes (b : Answerer) (a : List ℕ) (number : ℕ) (line : List ℕ) (t : Effect)
+    (octets : List ℕ) : Type 0 where
   speaks : octets_in number line ≡ Ok octets
   quiet : (stream_of (a ++ octets)).fault ≡ None
   stream : t.stream ≡ held_after (a ++ octets)
@@ -65,8 +66,8 @@ record Goes (b : Answerer) (a : List ℕ) (number : ℕ) (line : List ℕ) (t : 
       ≡ answers_to b (stream_of (a ++ octets)).messages
 
 -- it speaks octets, and ends the stream with a fault
-record Breaks (b : Answerer) (a : List ℕ) (number : ℕ) (line : List ℕ) (t : Told) (octets : List ℕ)
-    (f : StreamFault) : Type 0 where
+record Breaks (b : Answerer) (a : List ℕ) (number : ℕ) (line : List ℕ) (t : Effect)
+    (octets : List ℕ) (f : StreamFault) : Type 0 where
   speaks : octets_in number line ≡ Ok octets
   fault : (stream_of (a ++ octets)).fault ≡ Some f
   answerer : t.answerer ≡ after_messages b (stream_of (a ++ octets)).messages
@@ -75,14 +76,14 @@ record Breaks (b : Answerer) (a : List ℕ) (number : ℕ) (line : List ℕ) (t 
       ≡ answers_to b (stream_of (a ++ octets)).messages ++ fault_text (Some f)
 
 -- it is bad
-record IsBad (b : Answerer) (a : List ℕ) (number : ℕ) (line : List ℕ) (t : Told) (e : TextFault) :
+record IsBad (b : Answerer) (a : List ℕ) (number : ℕ) (line : List ℕ) (t : Effect) (e : TextFault) :
     Type 0 where
   speaks : octets_in number line ≡ Err e
   answerer : t.answerer ≡ after_messages b (stream_of a).messages
   stop : t.stop ≡ Some e
   text : t.text ≡ []
 
-data Outcome (b : Answerer) (a : List ℕ) (number : ℕ) (line : List ℕ) (t : Told) : Type 0 where
+data Outcome (b : Answerer) (a : List ℕ) (number : ℕ) (line : List ℕ) (t : Effect) : Type 0 where
   goes : (octets : List ℕ) → Goes b a number line t octets → Outcome b a number line t
   breaks : (octets : List ℕ) (f : StreamFault) → Breaks b a number line t octets f
       → Outcome b a number line t
@@ -92,7 +93,7 @@ data Outcome (b : Answerer) (a : List ℕ) (number : ℕ) (line : List ℕ) (t :
 fed : (b : Answerer) (a : List ℕ) (number : ℕ) (line octets : List ℕ) (s : Stream)
     (f : Option StreamFault) → s.fault ≡ f → octets_in number line ≡ Ok octets
     → stream_of (a ++ octets) ≡ walked (stream_of a).messages s
-    → Outcome b a number line (answered (after_messages b (stream_of a).messages) s)
+    → Outcome b a number line (stream_effect (after_messages b (stream_of a).messages) s)
 fed b a number line octets s f is speaks cut =
     let before = after_messages b (stream_of a).messages in
     let said_before = answers_to b (stream_of a).messages in
@@ -112,7 +113,7 @@ fed b a number line octets s f is speaks cut =
         ≡ answers_to b (stream_of (a ++ octets)).messages
         → after_messages (after_messages b (stream_of a).messages) s.messages
         ≡ after_messages b (stream_of (a ++ octets)).messages
-        → Outcome b a number line (answered (after_messages b (stream_of a).messages) s)
+        → Outcome b a number line (stream_effect (after_messages b (stream_of a).messages) s)
     by_fault None none told answerer = goes octets (record {
       speaks = speaks;
       quiet = ap (λ (t : Stream). t.fault) cut ∙ none;
@@ -145,13 +146,13 @@ fed b a number line octets s f is speaks cut =
 -- a line that isn't too long
 outcome : (b : Answerer) (a : List ℕ) (number : ℕ) (line : List ℕ) → (stream_of a).fault ≡ None
     → length line ≤ LINE_OCTETS
-    → Outcome b a number line (judged number (held_after a)
+    → Outcome b a number line (effect number (held_after a)
     (after_messages b (stream_of a).messages) (kept_of line))
 outcome b a number line quiet short = by_skip (is_skipped (kept_of line)) refl
   where
     by_decode : is_skipped (kept_of line) ≡ false → (r : Result (List ℕ) FromHexError)
         → decode_of (kept_of line) ≡ r
-        → Outcome b a number line (decoded number (held_after a)
+        → Outcome b a number line (octets_effect number (held_after a)
         (after_messages b (stream_of a).messages) r)
     by_decode full (Ok octets) is =
         let speaks : octets_in number line ≡ Ok octets =
@@ -166,7 +167,7 @@ outcome b a number line quiet short = by_skip (is_skipped (kept_of line)) refl
     })
 
     by_skip : (skip : Bool) → is_skipped (kept_of line) ≡ skip
-        → Outcome b a number line (judged number (held_after a)
+        → Outcome b a number line (effect number (held_after a)
         (after_messages b (stream_of a).messages) (kept_of line))
     by_skip true is =
         let nothing : a ++ [] ≡ a = append-nil a in
@@ -243,40 +244,28 @@ bad_rest b a st input e quiet stop answerer =
 
 -- ---- a line feed
 
+-- before the first octet of a line
+abbrev in_empty : ℕ → Held → Answerer → Option TextFault → State
+in_empty number stream answerer stop =
+    record { line = []; number = number; stream = stream; answerer = answerer; stop = stop }
+
 -- after a line feed the next line begins
 goes_rest : (b : Answerer) (a : List ℕ) (number : ℕ) (line bs : List ℕ) (octets : List ℕ)
     (rest : Spoken)
-    → Goes b a number line (line_told (in_line b a number line)) octets
+    → Goes b a number line (line_effect (in_line b a number line)) octets
     → IsRest b (a ++ octets) (in_line b (a ++ octets) (next_number number) []) bs rest
     → IsRest b a (in_line b a number line) (10 ∷ bs)
     (record { octets = octets ++ rest.octets; bad = rest.bad })
 goes_rest b a number line bs octets rest g on =
     let st = in_line b a number line in
-    let t = line_told st in
+    let t = line_effect st in
     let then = in_line b (a ++ octets) (next_number number) [] in
     let same : next_line st t ≡ then =
-    ap (λ (s : Held). record {
-      line = [];
-      number = next_number number;
-      stream = s;
-      answerer = t.answerer;
-      stop = t.stop;
-    }) g.stream
-    ∙ ap (λ (c : Answerer). record {
-      line = [];
-      number = next_number number;
-      stream = held_after (a ++ octets);
-      answerer = c;
-      stop = t.stop;
-    }) g.answerer
-    ∙ ap (λ (f : Option TextFault).
-    record {
-      line = [];
-      number = next_number number;
-      stream = held_after (a ++ octets);
-      answerer = after_messages b (stream_of (a ++ octets)).messages;
-      stop = f;
-    }) g.stop in
+    ap (λ (s : Held). in_empty (next_number number) s t.answerer t.stop) g.stream
+    ∙ ap (λ (c : Answerer). in_empty (next_number number) (held_after (a ++ octets)) c t.stop)
+    g.answerer
+    ∙ ap (λ (f : Option TextFault). in_empty (next_number number) (held_after (a ++ octets))
+    (after_messages b (stream_of (a ++ octets)).messages) f) g.stop in
     let joined : stream_of ((a ++ octets) ++ rest.octets)
     ≡ stream_of (a ++ (octets ++ rest.octets)) =
     ap stream_of (append_assoc a octets rest.octets) in
@@ -311,12 +300,12 @@ broken a octets more f is =
 
 breaks_rest : (b : Answerer) (a : List ℕ) (number : ℕ) (line bs : List ℕ) (octets : List ℕ)
     (f : StreamFault) (rest : Spoken)
-    → Breaks b a number line (line_told (in_line b a number line)) octets f
+    → Breaks b a number line (line_effect (in_line b a number line)) octets f
     → IsRest b a (in_line b a number line) (10 ∷ bs)
     (record { octets = octets ++ rest.octets; bad = rest.bad })
 breaks_rest b a number line bs octets f rest g =
     let st = in_line b a number line in
-    let t = line_told st in
+    let t = line_effect st in
     let done = over (next_line st t) bs (faults.Stream f.fault) g.stop in
     let whole = broken a octets rest.octets f g.fault in
     record {
@@ -335,11 +324,11 @@ breaks_rest b a number line bs octets f rest g =
 
 is_bad_rest : (b : Answerer) (a : List ℕ) (number : ℕ) (line bs : List ℕ) (e : TextFault)
     → (stream_of a).fault ≡ None
-    → IsBad b a number line (line_told (in_line b a number line)) e
+    → IsBad b a number line (line_effect (in_line b a number line)) e
     → IsRest b a (in_line b a number line) (10 ∷ bs) (record { octets = []; bad = Some e })
 is_bad_rest b a number line bs e quiet g =
     let st = in_line b a number line in
-    let t = line_told st in
+    let t = line_effect st in
     let on = bad_rest b a (next_line st t) bs e quiet g.stop g.answerer in
     record {
       text =
@@ -360,57 +349,31 @@ line_rest : (b : Answerer) (a : List ℕ) (number : ℕ) (line bs : List ℕ) �
     → IsRest b a (in_line b a number line) (10 ∷ bs) (spoken number (line ∷ lines_from [] bs))
 line_rest b a number line bs quiet short on = by_outcome (outcome b a number line quiet short)
   where
-    rest : Spoken
-    rest = spoken (next_number number) (lines_from [] bs)
-
-    by_outcome : Outcome b a number line (line_told (in_line b a number line))
+    as_spoken : (r : Result (List ℕ) TextFault) → octets_in number line ≡ r
+        → IsRest b a (in_line b a number line) (10 ∷ bs)
+        (spoken_then r (spoken (next_number number) (lines_from [] bs)))
         → IsRest b a (in_line b a number line) (10 ∷ bs) (spoken number (line ∷ lines_from [] bs))
-    by_outcome (goes octets g) =
-        subst (λ (r : Result (List ℕ) TextFault). IsRest b a (in_line b a number line) (10 ∷ bs)
-        (spoken_then r (spoken (next_number number) (lines_from [] bs)))) (sym g.speaks)
+    as_spoken r speaks said =
+        subst (λ (x : Result (List ℕ) TextFault). IsRest b a (in_line b a number line) (10 ∷ bs)
+        (spoken_then x (spoken (next_number number) (lines_from [] bs)))) (sym speaks) said
+
+    by_outcome : Outcome b a number line (line_effect (in_line b a number line))
+        → IsRest b a (in_line b a number line) (10 ∷ bs) (spoken number (line ∷ lines_from [] bs))
+    by_outcome (goes octets g) = as_spoken (Ok octets) g.speaks
         (goes_rest b a number line bs octets (spoken (next_number number) (lines_from [] bs)) g
         (on (a ++ octets) g.quiet))
-    by_outcome (breaks octets f g) =
-        subst (λ (r : Result (List ℕ) TextFault). IsRest b a (in_line b a number line) (10 ∷ bs)
-        (spoken_then r (spoken (next_number number) (lines_from [] bs)))) (sym g.speaks)
+    by_outcome (breaks octets f g) = as_spoken (Ok octets) g.speaks
         (breaks_rest b a number line bs octets f (spoken (next_number number) (lines_from [] bs)) g)
-    by_outcome (is_bad e g) =
-        subst (λ (r : Result (List ℕ) TextFault). IsRest b a (in_line b a number line) (10 ∷ bs)
-        (spoken_then r (spoken (next_number number) (lines_from [] bs)))) (sym g.speaks)
-        (is_bad_rest b a number line bs e quiet g)
+    by_outcome (is_bad e g) = as_spoken (Err e) g.speaks (is_bad_rest b a number line bs e quiet g)
 
 -- ---- the end of the input
 
 -- an empty line says nothing
 empty_says : (number : ℕ) (stream : Held) (answerer : Answerer) (stop : Option TextFault)
-    → (last_text (record {
-      line = [];
-      number = number;
-      stream = stream;
-      answerer = answerer;
-      stop = stop;
-    }) ≡ [])
-    × ((ended (record {
-      line = [];
-      number = number;
-      stream = stream;
-      answerer = answerer;
-      stop = stop;
-    })).answerer ≡ answerer)
-    × ((ended (record {
-      line = [];
-      number = number;
-      stream = stream;
-      answerer = answerer;
-      stop = stop;
-    })).stop ≡ stop)
-    × ((ended (record {
-      line = [];
-      number = number;
-      stream = stream;
-      answerer = answerer;
-      stop = stop;
-    })).stream ≡ stream)
+    → (last_text (in_empty number stream answerer stop) ≡ [])
+    × ((ended (in_empty number stream answerer stop)).answerer ≡ answerer)
+    × ((ended (in_empty number stream answerer stop)).stop ≡ stop)
+    × ((ended (in_empty number stream answerer stop)).stream ≡ stream)
 empty_says number stream answerer None = (refl, refl, refl, refl)
 empty_says number stream answerer (Some e) = (refl, refl, refl, refl)
 
@@ -419,7 +382,7 @@ last_rest : (b : Answerer) (a : List ℕ) (number : ℕ) (line : List ℕ) (line
     → IsRest b a (in_line b a number line) (10 ∷ []) lines
     → IsRest b a (in_line b a number line) [] lines
 last_rest b a number line lines on =
-    let t = line_told (in_line b a number line) in
+    let t = line_effect (in_line b a number line) in
     let then = next_line (in_line b a number line) t in
     let empty = empty_says (next_number number) t.stream t.answerer t.stop in
     record {
@@ -550,13 +513,8 @@ no_octets = refl
 pub one_stream_of_lines : IsOneStreamOfLines
 one_stream_of_lines b input =
     let begins : start b ≡ in_line b [] 1 [] =
-    ap (λ (s : Stream). record {
-      line = [];
-      number = 1;
-      stream = held_after [];
-      answerer = after_messages b s.messages;
-      stop = None;
-    }) (sym no_octets) in
+    ap (λ (s : Stream). in_empty 1 (held_after []) (after_messages b s.messages) None)
+    (sym no_octets) in
     let rest = rest_of b [] 1 [] input (ap (λ (s : Stream). s.fault) no_octets) (omega arith) in
     let nothing_said : answers_to b (stream_of []).messages ≡ [] =
     ap (λ (s : Stream). answers_to b s.messages) no_octets in

@@ -7,7 +7,7 @@ use Rattle.forecourt_engines.specs.declared.fault.TextFault.{TextFault}
 use Rattle.forecourt_engines.specs.declared.fault.TextFault.TheVariants.{TooLong}
 use Rattle.forecourt_engines.specs.declared.line.TheConstants.{LINE_OCTETS}
 use Rattle.forecourt_engines.specs.Answers.{Answerer}
-use Rattle.forecourt_engines.specs.Text.{State, kept_of, judged, next_line, after, text_from, ended}
+use Rattle.forecourt_engines.specs.Text.{State, kept_of, effect, next_line, after, text_from, ended}
 use Rattle.forecourt_engines.specs.Text.{last_text}
 
 -- between two lines: no line is begun, and the text goes on
@@ -24,19 +24,19 @@ abbrev pub LineSays : Type 0
 LineSays = (number : ℕ) (stream : Held) (answerer : Answerer) (line : List ℕ) → IsLine line
     → length line ≤ LINE_OCTETS
     → (after (between number stream answerer) (line ++ 10 ∷ [])
-    ≡ next_line (between number stream answerer) (judged number stream answerer (kept_of line)))
+    ≡ next_line (between number stream answerer) (effect number stream answerer (kept_of line)))
     × (text_from (between number stream answerer) (line ++ 10 ∷ [])
-    ≡ (judged number stream answerer (kept_of line)).text)
+    ≡ (effect number stream answerer (kept_of line)).text)
 
 -- so does a last line that has no line feed
 abbrev pub LastLineSays : Type 0
 LastLineSays = (number : ℕ) (stream : Held) (answerer : Answerer) (line : List ℕ) → IsLine line
     → length line ≤ LINE_OCTETS
     → (ended (after (between number stream answerer) line)
-    ≡ next_line (between number stream answerer) (judged number stream answerer (kept_of line)))
+    ≡ next_line (between number stream answerer) (effect number stream answerer (kept_of line)))
     × (text_from (between number stream answerer) line
     ++ last_text (after (between number stream answerer) line)
-    ≡ (judged number stream answerer (kept_of line)).text)
+    ≡ (effect number stream answerer (kept_of line)).text)
 
 -- a line that is too long ends the text, says nothing and makes no row
 abbrev pub LongLineSays : Type 0

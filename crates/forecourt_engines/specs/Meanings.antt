@@ -17,6 +17,12 @@ use Rattle.forecourt_engines.specs.Text.{is_skipped}
 abbrev pub stands_alone : ℕ → Bool
 stands_alone n = is_between 30 31 n || is_between 40 43 n || is_between 50 58 n
 
+-- the numbers of refusals, and of faults of the book, of streams, requests, runs and site files
+abbrev pub has_meaning : ℕ → Bool
+has_meaning n =
+    is_between 1 25 n || is_between 30 31 n || is_between 40 44 n || is_between 50 65 n
+    || is_between 70 76 n
+
 -- a request asks for its event; what the site tells is spelled just so; of any other message the
 -- mapping's fault is told
 abbrev pub Means : Telegram → Meaning → Type 0

@@ -1,6 +1,6 @@
 -- What a replay has done when it ends.
 use Rattle.std.specs.Prelude.{◌≡◌, ℕ, ◌≤◌, ◌*◌, length, Bool, true, false, ◌⊎◌, List, Option, Some}
-use Rattle.std.specs.Prelude.{None, is_some}
+use Rattle.std.specs.Prelude.{None, is_some, Result, Ok, Err}
 use Rattle.std.specs.Io.KnownBytes.{Appends, Consumes, IsAtEnd}
 use Rattle.site_base.specs.Devices.{AppendsFront}
 use Rattle.forecourt_engines.specs.declared.fault.TextFault.{TextFault}
@@ -19,6 +19,17 @@ is_early (Some other) = true
 abbrev pub as_fault : Option TextFault → Option ReplayFault
 as_fault None = None
 as_fault (Some f) = Some (faults.Text f)
+
+-- why it ended: with its text, or early
+abbrev pub ended_with : Result (Option TextFault) ReplayFault → Option ReplayFault
+ended_with (Ok fault) = as_fault fault
+ended_with (Err fault) = Some fault
+
+-- not because of a write: for want of memory, or by a reader that gives no more
+abbrev pub is_unwritten : ReplayFault → Bool
+is_unwritten faults.NoMemory = true
+is_unwritten (faults.Read fault) = true
+is_unwritten other = false
 
 -- the text stops after what was read, or there is no more to read
 abbrev pub StopsThere : State → List ℕ → Option (List ℕ) → Type 0

@@ -1,13 +1,10 @@
 -- What a replay that ends with a report has done when it ends.
-use Rattle.std.specs.Prelude.{◌≡◌, ℕ, ◌≤◌, ◌*◌, length, Bool, true, false, List, [], Option, Result}
-use Rattle.std.specs.Prelude.{Ok, Err, Some}
+use Rattle.std.specs.Prelude.{◌≡◌, ℕ, ◌≤◌, ◌*◌, length, false, List, [], Option}
 use Rattle.std.specs.Io.KnownBytes.{Appends, Consumes}
 use Rattle.site_base.specs.Configured.{Configured}
 use Rattle.site_base.specs.Devices.{AppendsFront}
 use Rattle.site_book.specs.Book.{Book}
-use Rattle.forecourt_engines.specs.declared.fault.TextFault.{TextFault}
 use Rattle.forecourt_engines.specs.declared.fault.ReplayFault.{ReplayFault}
-use Rattle.forecourt_engines.specs.declared.fault.ReplayFault.TheVariants.{NoMemory, Read}
 use Rattle.site_base.specs.declared.limits.TheConstants.{PIECE_OCTETS}
 use Rattle.forecourt_engines.specs.Replay.{is_early, as_fault, StopsThere}
 use Rattle.forecourt_engines.specs.Report.{book_report}
@@ -20,17 +17,6 @@ opening_state c = start (record { book = record { config = c; rows = [] }; chang
 -- the report of the figures of the rows that an input makes
 abbrev pub input_report : Configured → List ℕ → List ℕ
 input_report c input = book_report (book_of (opening_state c) input)
-
--- why a replay without text ended: with the end of its text, or early
-abbrev pub ended_with : Result (Option TextFault) ReplayFault → Option ReplayFault
-ended_with (Ok fault) = as_fault fault
-ended_with (Err fault) = Some fault
-
--- no memory, or a reader that gives no more
-abbrev pub is_before_report : ReplayFault → Bool
-is_before_report NoMemory = true
-is_before_report (Read fault) = true
-is_before_report other = false
 
 -- A report of a book was written, or a front of it, after a text that ended so. Without an early
 -- end the whole report was, and the end is the text's.

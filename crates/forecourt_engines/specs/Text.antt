@@ -42,7 +42,7 @@ is_skipped [] = true
 is_skipped (b ∷ bs) = b == 35
 
 -- what a line leads to, and the text that it adds
-pub record Told : Type 0 where
+pub record Effect : Type 0 where
   pub stream : Held
   pub answerer : Answerer
   pub stop : Option TextFault
@@ -58,8 +58,8 @@ fault_text None = []
 fault_text (Some f) = line_of (fault_message f)
 
 -- what a piece of the stream leads to: its messages are answered in order, and then its fault
-abbrev pub answered : Answerer → Stream → Told
-answered b s = record {
+abbrev pub stream_effect : Answerer → Stream → Effect
+stream_effect b s = record {
   stream = held s;
   answerer = after_messages b s.messages;
   stop = stop_of s.fault;
@@ -67,19 +67,19 @@ answered b s = record {
 }
 
 -- a line that isn't hexadecimal ends the text; else its octets go to the stream
-abbrev pub decoded : ℕ → Held → Answerer → Result (List ℕ) FromHexError → Told
-decoded number stream b (Ok octets) = answered b (fed_by stream octets)
-decoded number stream b (Err e) =
+abbrev pub octets_effect : ℕ → Held → Answerer → Result (List ℕ) FromHexError → Effect
+octets_effect number stream b (Ok octets) = stream_effect b (fed_by stream octets)
+octets_effect number stream b (Err e) =
     record { stream = stream; answerer = b; stop = Some (faults.NotHexadecimal number); text = [] }
 
-abbrev pub judged : ℕ → Held → Answerer → List ℕ → Told
-judged number stream b kept = if is_skipped kept then
-    record { stream = stream; answerer = b; stop = None; text = [] } else decoded number stream b
-    (decode_of kept)
+abbrev pub effect : ℕ → Held → Answerer → List ℕ → Effect
+effect number stream b kept =
+    if is_skipped kept then record { stream = stream; answerer = b; stop = None; text = [] }
+    else octets_effect number stream b (decode_of kept)
 
 -- what the line so far says where it ends here
-abbrev pub line_told : State → Told
-line_told st = judged st.number st.stream st.answerer (kept_of st.line)
+abbrev pub line_effect : State → Effect
+line_effect st = effect st.number st.stream st.answerer (kept_of st.line)
 
 -- ---- what an octet says
 
@@ -88,7 +88,7 @@ abbrev pub next_number : ℕ → ℕ
 next_number n = min (n + 1) (2 ^ 64 - 1)
 
 -- a line has ended
-abbrev pub next_line : State → Told → State
+abbrev pub next_line : State → Effect → State
 next_line st t = record {
   line = [];
   number = next_number st.number;
@@ -98,28 +98,28 @@ next_line st t = record {
 }
 
 -- what the text of a line says, in this state
-abbrev pub told_by : State → List ℕ → Told
-told_by st text = judged st.number st.stream st.answerer (without_spaces text)
+abbrev pub effect_in : State → List ℕ → Effect
+effect_in st text = effect st.number st.stream st.answerer (without_spaces text)
 
 -- what a line leads to, while it stands
-abbrev pub talked : State → Told → State
-talked st t = record st { stream = t.stream; answerer = t.answerer }
+abbrev pub with_effect : State → Effect → State
+with_effect st t = record st { stream = t.stream; answerer = t.answerer }
 
 -- a line feed ends the line; another octet goes on with it, if it may be longer
-abbrev pub stepped : Option TextFault → State → ℕ → State
-stepped (Some f) st b = st
-stepped None st b =
-    if b == 10 then next_line st (line_told st)
+abbrev pub octet_step : Option TextFault → State → ℕ → State
+octet_step (Some f) st b = st
+octet_step None st b =
+    if b == 10 then next_line st (line_effect st)
     else if nat_le LINE_OCTETS (length st.line) then
     record st { stop = Some (faults.TooLong st.number) }
     else record st { line = st.line ++ b ∷ [] }
 
 abbrev pub next : State → ℕ → State
-next st b = stepped st.stop st b
+next st b = octet_step st.stop st b
 
 abbrev pub says : Option TextFault → State → ℕ → List ℕ
 says (Some f) st b = []
-says None st b = if b == 10 then (line_told st).text else []
+says None st b = if b == 10 then (line_effect st).text else []
 
 -- the text that an octet adds
 abbrev pub said : State → ℕ → List ℕ
@@ -140,14 +140,14 @@ text_from st (b ∷ bs) = said st b ++ text_from (next st b) bs
 -- the end of the input ends a line that has no line feed
 abbrev pub ends : Option TextFault → State → State
 ends (Some f) st = st
-ends None st = next_line st (line_told st)
+ends None st = next_line st (line_effect st)
 
 abbrev pub ended : State → State
 ended st = ends st.stop st
 
 abbrev pub last_says : Option TextFault → State → List ℕ
 last_says (Some f) st = []
-last_says None st = (line_told st).text
+last_says None st = (line_effect st).text
 
 abbrev pub last_text : State → List ℕ
 last_text st = last_says st.stop st

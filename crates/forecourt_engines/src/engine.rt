@@ -3,8 +3,8 @@
 ghost use Rattle.std.specs.Prelude.{◌≡◌, [], ◌∷◌, ◌++◌, None, IfOk, OnOk};
 ghost use Rattle.forecourt_engines.specs.Text.{start, after, text_from, ended, last_text};
 ghost use Rattle.forecourt_engines.specs.Text.{last_fault};
-ghost use Rattle.forecourt_engines.specs.Text.{kept_of, judged, answered, told_by, line_told};
-ghost use Rattle.forecourt_engines.specs.Text.{next_line, talked};
+ghost use Rattle.forecourt_engines.specs.Text.{kept_of, effect, stream_effect, effect_in};
+ghost use Rattle.forecourt_engines.specs.Text.{line_effect, next_line, with_effect};
 ghost use Rattle.forecourt_engines.specs.Answers.{line_of};
 ghost use Rattle.device_map.specs.Replies.{fault_message};
 ghost use Rattle.app_message.specs.Stream.{fed_by};
@@ -12,7 +12,7 @@ ghost use Rattle.forecourt_engines.specs.Laws.{IsLine};
 
 use crate::answers::{Answerer, put_line};
 use crate::fault::TextFault;
-use crate::line::{LINE_OCTETS, decode, put_without_spaces, skips, text_of};
+use crate::line::{LINE_OCTETS, LineText, read_octets, text_of};
 use app_message::{Decoder, Messages, StreamFault};
 use device_map::stream_refusal;
 use memchr::memchr;
@@ -160,8 +160,8 @@ impl Engine {
 
     /// Tells the line that is held.
     fn tell_held(&mut self, out: &mut Vec<u8>) -> Result<(), NoMemory>
-        ensures state { OnOk result (self.new ≡ next_line self.old (line_told self.old)) }
-        ensures text { OnOk result (out.new.items ≡ out.old.items ++ (line_told self.old).text) }
+        ensures state { OnOk result (self.new ≡ next_line self.old (line_effect self.old)) }
+        ensures text { OnOk result (out.new.items ≡ out.old.items ++ (line_effect self.old).text) }
     {
         let mut held = mem::replace(&mut self.line, Vec::new(self.alloc));
         self.tell(&held, out)?;
@@ -173,10 +173,10 @@ impl Engine {
     /// What a line says: the next one begins, and its text is appended.
     fn tell(&mut self, line: &[u8], out: &mut Vec<u8>) -> Result<(), NoMemory>
         ensures state { OnOk result (self.new
-            ≡ next_line self.old (judged self.old.number self.old.stream self.old.answerer
+            ≡ next_line self.old (effect self.old.number self.old.stream self.old.answerer
             (kept_of line.now))) }
         ensures text { OnOk result (out.new.items ≡ out.old.items
-            ++ (judged self.old.number self.old.stream self.old.answerer (kept_of line.now)).text) }
+            ++ (effect self.old.number self.old.stream self.old.answerer (kept_of line.now)).text) }
     {
         let text = text_of(line);
         let mut octets = mem::replace(&mut self.octets, Vec::new(self.alloc));
@@ -196,49 +196,29 @@ impl Engine {
         octets: &mut Vec<u8>,
         out: &mut Vec<u8>,
     ) -> Result<Option<TextFault>, NoMemory>
-        ensures stop { IfOk result (λ stop. stop ≡ (told_by self.old text.now).stop) }
-        ensures state { OnOk result (self.new ≡ talked self.old (told_by self.old text.now)) }
+        ensures stop { IfOk result (λ stop. stop ≡ (effect_in self.old text.now).stop) }
+        ensures state { OnOk result
+            (self.new ≡ with_effect self.old (effect_in self.old text.now)) }
         ensures text { OnOk result (out.new.items ≡ out.old.items
-            ++ (told_by self.old text.now).text) }
+            ++ (effect_in self.old text.now).text) }
     {
-        // Most lines are hexadecimal as they stand.
-        if !text.is_empty() && decode(text, octets)? {
-            return self.answer(octets, out);
+        match read_octets(text, &mut self.kept, octets)? {
+            LineText::Skipped => Ok(None),
+            LineText::Octets => self.answer(octets, out),
+            LineText::NotHexadecimal => Ok(Some(TextFault::NotHexadecimal(self.number))),
         }
-        self.judge_kept(text, octets, out)
-    }
-
-    /// The same, where there may be spaces, or no hexadecimal.
-    fn judge_kept(
-        &mut self,
-        text: &[u8],
-        octets: &mut Vec<u8>,
-        out: &mut Vec<u8>,
-    ) -> Result<Option<TextFault>, NoMemory>
-        ensures stop { IfOk result (λ stop. stop ≡ (told_by self.old text.now).stop) }
-        ensures state { OnOk result (self.new ≡ talked self.old (told_by self.old text.now)) }
-        ensures text { OnOk result (out.new.items ≡ out.old.items
-            ++ (told_by self.old text.now).text) }
-    {
-        put_without_spaces(text, &mut self.kept)?;
-        if skips(&self.kept) {
-            return Ok(None);
-        }
-        if !decode(&self.kept, octets)? {
-            return Ok(Some(TextFault::NotHexadecimal(self.number)));
-        }
-        self.answer(octets, out)
     }
 
     /// The messages that these octets end, each answered over the book by a line, and the refusal
     /// of a stream's fault. The answer is why the text ends with them, if it does.
     fn answer(&mut self, octets: &[u8], out: &mut Vec<u8>) -> Result<Option<TextFault>, NoMemory>
         ensures stop { IfOk result (λ stop. stop
-            ≡ (answered self.old.answerer (fed_by self.old.stream octets.now)).stop) }
+            ≡ (stream_effect self.old.answerer (fed_by self.old.stream octets.now)).stop) }
         ensures state { OnOk result (self.new
-            ≡ talked self.old (answered self.old.answerer (fed_by self.old.stream octets.now))) }
+            ≡ with_effect self.old
+            (stream_effect self.old.answerer (fed_by self.old.stream octets.now))) }
         ensures text { OnOk result (out.new.items ≡ out.old.items
-            ++ (answered self.old.answerer (fed_by self.old.stream octets.now)).text) }
+            ++ (stream_effect self.old.answerer (fed_by self.old.stream octets.now)).text) }
     {
         let fault = self.decoder.feed_into(octets, &mut self.messages)?;
         let messages = self.messages.as_slice();

@@ -20,6 +20,7 @@ mod numbers;
 pub mod replay;
 pub mod report;
 pub mod reporting;
+mod sink;
 mod sites;
 mod sizes;
 mod trace;

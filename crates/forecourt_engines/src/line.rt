@@ -3,6 +3,7 @@
 ghost use Rattle.std.specs.Prelude.{◌≡◌, true, false, IfOk, OnOk, MatchResult};
 ghost use Rattle.std.specs.Io.BufRead.{strip_last};
 ghost use Rattle.hex.specs.Hex.{decode_of};
+ghost use Rattle.forecourt_engines.specs.LineTexts.{Says};
 ghost use Rattle.forecourt_engines.specs.Text.{is_skipped, without_spaces};
 
 use site_base::NoMemory;
@@ -20,8 +21,42 @@ pub fn text_of(line: &[u8]) -> &[u8]
     }
 }
 
+/// What the text of a line says.
+#[derive(Clone, Copy, Debug, PartialEq, Eq)]
+pub enum LineText {
+    /// Nothing: without its spaces it is empty, or a comment.
+    Skipped,
+    /// Octets, in hexadecimal.
+    Octets,
+    /// It is no comment, and not hexadecimal.
+    NotHexadecimal,
+}
+
+/// Reads the text of a line, in which spaces don't count. The octets that it says take the place of
+/// what their buffer holds; the other buffer is room for the text without its spaces.
+pub fn read_octets(
+    text: &[u8],
+    kept: &mut Vec<u8>,
+    octets: &mut Vec<u8>,
+) -> Result<LineText, NoMemory>
+    ensures { IfOk result (λ said. Says said text.now octets.new.items) }
+{
+    // Most lines are hexadecimal as they stand.
+    if !text.is_empty() && decode(text, octets)? {
+        return Ok(LineText::Octets);
+    }
+    put_without_spaces(text, kept)?;
+    if skips(kept) {
+        return Ok(LineText::Skipped);
+    }
+    if decode(kept, octets)? {
+        return Ok(LineText::Octets);
+    }
+    Ok(LineText::NotHexadecimal)
+}
+
 /// Puts the text without its spaces in place of what the buffer holds.
-pub fn put_without_spaces(text: &[u8], kept: &mut Vec<u8>) -> Result<(), NoMemory>
+fn put_without_spaces(text: &[u8], kept: &mut Vec<u8>) -> Result<(), NoMemory>
     ensures { OnOk result (kept.new.items ≡ without_spaces text.now) }
 {
     kept.clear();
@@ -44,7 +79,7 @@ pub fn skips(kept: &[u8]) -> bool
 }
 
 /// Whether the text is hexadecimal; if so, its octets take the place of what the buffer holds.
-pub fn decode(text: &[u8], octets: &mut Vec<u8>) -> Result<bool, NoMemory>
+fn decode(text: &[u8], octets: &mut Vec<u8>) -> Result<bool, NoMemory>
     ensures { IfOk result (λ is. MatchResult (decode_of text.now)
         (λ bytes. (is ≡ true) × (octets.new.items ≡ bytes)) (λ _. is ≡ false)) }
 {

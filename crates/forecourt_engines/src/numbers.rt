@@ -1,5 +1,9 @@
 //! What the number of a refusal or of a fault means, in words.
 
+ghost use Rattle.std.specs.Prelude.{◌≡◌, ◌||◌, is_some};
+ghost use Rattle.site_base.specs.Ranges.{is_between};
+ghost use Rattle.forecourt_engines.specs.Meanings.{has_meaning};
+
 use crate::explain::fault_name;
 use site_base::refusal_name;
 use std::fmt;
@@ -12,9 +16,11 @@ pub struct NumberMeaning {
 }
 
 impl NumberMeaning {
-    /// The meaning of a number: a refusal's, 1 to 25, or a fault's, 30, 31, 40 to 44, 50 to 65 and 70 to 76; None for
-    /// a number that nothing tells.
-    pub fn of(number: u8) -> Option<NumberMeaning> {
+    /// The meaning of a number: a refusal's, 1 to 25, or a fault's, 30, 31, 40 to 44, 50 to 65 and
+    /// 70 to 76; None for a number that nothing tells.
+    pub fn of(number: u8) -> Option<NumberMeaning>
+        ensures { is_some result ≡ has_meaning number }
+    {
         let text = match number {
             1..=13 => refusal_of_who_and_what(number),
             14..=25 => refusal_of_course(number),
@@ -67,7 +73,9 @@ fn program_fault_name(number: u8) -> Option<&'static str> {
 }
 
 /// Refusals of who asks, and of what is named.
-fn refusal_of_who_and_what(number: u8) -> Option<&'static str> {
+fn refusal_of_who_and_what(number: u8) -> Option<&'static str>
+    ensures { is_some result ≡ (is_between 1 13 number) }
+{
     match number {
         1 => Some("the till isn't signed on"),
         2 => Some("the till is signed on already"),
@@ -87,7 +95,9 @@ fn refusal_of_who_and_what(number: u8) -> Option<&'static str> {
 }
 
 /// Refusals of how a fuelling, a meter or a transaction goes on.
-fn refusal_of_course(number: u8) -> Option<&'static str> {
+fn refusal_of_course(number: u8) -> Option<&'static str>
+    ensures { is_some result ≡ (is_between 14 25 number) }
+{
     match number {
         14 => Some("another nozzle is out (detail: the one that is out)"),
         15 => Some("the fuelling point has as many unpaid transactions as it may"),
@@ -106,7 +116,9 @@ fn refusal_of_course(number: u8) -> Option<&'static str> {
 }
 
 /// Faults of the book, of memory, and of the octets of a stream.
-fn fault_of_stream(number: u8) -> Option<&'static str> {
+fn fault_of_stream(number: u8) -> Option<&'static str>
+    ensures { is_some result ≡ (is_between 30 31 number || is_between 40 44 number) }
+{
     match number {
         30 => Some("the book has as many rows as the site file allows"),
         31 => Some("there is no memory"),
@@ -122,7 +134,9 @@ fn fault_of_stream(number: u8) -> Option<&'static str> {
 }
 
 /// Faults of a message that the mapping or a session refuses.
-fn fault_of_request(number: u8) -> Option<&'static str> {
+fn fault_of_request(number: u8) -> Option<&'static str>
+    ensures { is_some result ≡ (is_between 50 58 number) }
+{
     match number {
         50 => Some("the message isn't for the site"),
         51 => Some("a read or a write comes from no till, or a report from no dispenser"),
@@ -138,11 +152,13 @@ fn fault_of_request(number: u8) -> Option<&'static str> {
 }
 
 /// Faults of a run of the program.
-fn fault_of_run(number: u8) -> Option<&'static str> {
+fn fault_of_run(number: u8) -> Option<&'static str>
+    ensures { is_some result ≡ (is_between 59 65 number) }
+{
     match number {
         59 => Some("too many reads and interrupted writes"),
         60 => Some(
-            "the shares don't add up to the book (place: a row's, or the rows' number where one is out)",
+            "the shares don't add up to the book (place: a row's; the rows' number if one is out)",
         ),
         61 => Some("the input can't be read"),
         62 => Some("the output takes no more"),
@@ -154,7 +170,9 @@ fn fault_of_run(number: u8) -> Option<&'static str> {
 }
 
 /// Faults of a site file. A key stands behind 71 to 75.
-fn fault_of_site_file(number: u8) -> Option<&'static str> {
+fn fault_of_site_file(number: u8) -> Option<&'static str>
+    ensures { is_some result ≡ (is_between 70 76 number) }
+{
     match number {
         70 => Some("the site file isn't TOML"),
         71 => Some("the site file has a key that isn't one of its table's"),

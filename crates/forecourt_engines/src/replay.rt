@@ -1,18 +1,17 @@
 //! The replay: lines of messages in, lines of answers out.
 
-ghost use Rattle.std.specs.Prelude.{◌≡◌, ◌⊎◌, [], Some, None, OnOk};
-ghost use Rattle.std.specs.Result.{IsErrOf, result_err};
+ghost use Rattle.std.specs.Prelude.{◌≡◌, ◌≤◌, ◌⊎◌, [], Some, None, true, IfErr, IfOk, OnOk};
+ghost use Rattle.std.specs.Result.{IsErrOf};
 ghost use Rattle.std.specs.Io.KnownBytes.{IsAtEnd};
 ghost use Rattle.site_base.specs.Counted.{device_of, failures_of};
 ghost use Rattle.site_base.specs.Devices.{Rose};
 ghost use Rattle.forecourt_engines.specs.Text.{start};
-ghost use Rattle.forecourt_engines.specs.Replay.{Replayed};
+ghost use Rattle.forecourt_engines.specs.Replay.{Replayed, ended_with, is_unwritten};
 
 use crate::engine::Engine;
-use crate::fault::ReplayFault;
-use site_base::{
-    Counted, PIECE_OCTETS, ReadFault, SiteConfig, WriteFault, read_piece, write_whole,
-};
+use crate::fault::{ReplayFault, TextFault};
+use crate::sink::TextSink;
+use site_base::{Counted, PIECE_OCTETS, ReadFault, SiteConfig, WriteFault, read_piece};
 use site_book::SiteBook;
 use std::alloc::Global;
 use std::io::{Read, Write};
@@ -38,7 +37,7 @@ pub fn replay<R: Read, W: Write>(
     config: &SiteConfig,
     reader: &mut Counted<R>,
     writer: &mut Counted<W>,
-    turns: u64,
+    mut turns: u64,
     changes: bool,
 ) -> ReplayEnd
     ensures told { Replayed turns (start
@@ -59,9 +58,9 @@ pub fn replay<R: Read, W: Write>(
     match SiteBook::try_open(alloc, config) {
         Ok(book) => {
             let mut engine = Engine::new(alloc, book, changes);
-            let fault = run(alloc, &mut engine, reader, writer, turns).err();
+            let ended = run(alloc, &mut engine, reader, writer, &mut turns);
             ReplayEnd {
-                fault,
+                fault: fault_of(ended),
                 book: Some(engine.into_book()),
             }
         }
@@ -72,42 +71,56 @@ pub fn replay<R: Read, W: Write>(
     }
 }
 
-/// Runs the engine over the devices, piece after piece.
+/// Runs the engine over the reader, piece after piece, and puts its text into the sink. The answer
+/// is why the text ends, if it does so before the input.
 #[tactic(auto, using(crate::proofs::Running::running))]
-fn run<R: Read, W: Write>(
+pub(crate) fn run<R: Read, S: TextSink>(
     alloc: Global,
     engine: &mut Engine,
     reader: &mut Counted<R>,
-    writer: &mut Counted<W>,
-    mut turns: u64,
-) -> Result<(), ReplayFault>
-    ensures told { Replayed turns engine.old
+    sink: &mut S,
+    turns: &mut u64,
+) -> Result<Option<TextFault>, ReplayFault>
+    ensures told { Replayed turns.old engine.old
         (R.remaining (device_of reader.old)) (R.remaining (device_of reader.new))
-        (W.contents (device_of writer.old)) (W.contents (device_of writer.new))
-        (result_err result) (Some engine.new.answerer.book) }
-    ensures end { OnOk result (IsAtEnd (R.remaining (device_of reader.new))) }
-    ensures no_turns { turns ≡ 0 → IsErrOf result (ReplayFault.Read ReadFault.TurnLimit) }
+        (S.holds sink.old) (S.holds sink.new)
+        (ended_with result) (Some engine.new.answerer.book) }
+    ensures end { IfOk result (λ fault. fault ≡ None
+        → IsAtEnd (R.remaining (device_of reader.new))) }
+    ensures unwritten { S.never_fails ≡ true
+        → IfErr result (λ fault. is_unwritten fault ≡ true) }
+    ensures turns { turns.new ≤ turns.old }
+    ensures counted { OnOk result (failures_of reader.new ≡ failures_of reader.old) }
+    ensures no_turns { turns.old ≡ 0 → IsErrOf result (ReplayFault.Read ReadFault.TurnLimit) }
     ensures read_failed { IsErrOf result (ReplayFault.Read ReadFault.Failed)
         → Rose (failures_of reader.old) (failures_of reader.new) }
     ensures write_failed { IsErrOf result (ReplayFault.Write WriteFault.Failed)
-        → Rose (failures_of writer.old) (failures_of writer.new) }
+        → Rose (S.failures sink.old) (S.failures sink.new) }
 {
     let mut piece = [0u8; PIECE_OCTETS];
     loop {
-        let n = read_piece(reader, &mut piece, &mut turns)?;
+        let n = read_piece(reader, &mut piece, turns)?;
         let mut text = Vec::new(alloc);
         if n == 0 {
             let fault = engine.finish(&mut text)?;
-            write_whole(writer, &text, &mut turns)?;
-            return match fault {
-                None => Ok(()),
-                Some(fault) => Err(ReplayFault::Text(fault)),
-            };
+            sink.put(&text, turns)?;
+            return Ok(fault);
         }
         engine.feed(&piece[..n], &mut text)?;
-        write_whole(writer, &text, &mut turns)?;
+        sink.put(&text, turns)?;
         if let Some(fault) = engine.stop() {
-            return Err(ReplayFault::Text(fault));
+            return Ok(Some(fault));
         }
+    }
+}
+
+/// Why a replay that ended so ended before its input.
+fn fault_of(ended: Result<Option<TextFault>, ReplayFault>) -> Option<ReplayFault>
+    ensures { result ≡ ended_with ended }
+{
+    match ended {
+        Ok(None) => None,
+        Ok(Some(fault)) => Some(ReplayFault::Text(fault)),
+        Err(fault) => Some(fault),
     }
 }

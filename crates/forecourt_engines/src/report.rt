@@ -33,13 +33,13 @@ fn put_head(text: &mut String, rows: u64, tills: &[(TillNo, u64, u64)]) -> Resul
     ensures { OnOk result (string_bytes text.new
         ≡ string_bytes text.old ++ head_lines rows tills.now) }
 {
-    let (clears, cents) = cleared_by_all(tills);
+    let (clears, cents) = sum_cleared(tills);
     write!(text, "rows {rows}\nclears {clears} cents {cents}\n")?;
     Ok(())
 }
 
 /// The clears of all tills, and their cents. The sums of what is handed in may be above 64 bits.
-fn cleared_by_all(tills: &[(TillNo, u64, u64)]) -> (u128, u128)
+fn sum_cleared(tills: &[(TillNo, u64, u64)]) -> (u128, u128)
     ensures clears { result.0 ≡ sum_by (λ t. t.1) tills.now }
     ensures cents { result.1 ≡ sum_by (λ t. t.2) tills.now }
 {

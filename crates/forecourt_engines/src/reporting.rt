@@ -1,24 +1,22 @@
 //! The replay that ends with a report: lines of messages in, the report of their rows out. The
 //! report's write takes its turns from those that the replay left.
 
-ghost use Rattle.std.specs.Prelude.{◌≡◌, ◌≤◌, ◌⊎◌, Some, None, true, string_bytes, IfOk, IfErr};
-ghost use Rattle.std.specs.Prelude.{OnOk};
+ghost use Rattle.std.specs.Prelude.{◌≡◌, ◌⊎◌, Some, None, string_bytes, IfOk, OnOk};
 ghost use Rattle.std.specs.Result.{IsErrOf, result_err};
 ghost use Rattle.std.specs.Io.KnownBytes.{IsAtEnd, Keeps};
 ghost use Rattle.site_base.specs.Counted.{device_of, failures_of};
 ghost use Rattle.site_base.specs.Devices.{Rose};
-ghost use Rattle.forecourt_engines.specs.Replay.{Replayed, as_fault};
+ghost use Rattle.forecourt_engines.specs.Replay.{as_fault};
 ghost use Rattle.site_base.specs.declared.transfer.ReadFault.{ReadFault};
 ghost use Rattle.forecourt_engines.specs.Report.{book_report};
-ghost use Rattle.forecourt_engines.specs.Reporting.{Reported, WritesReport, ended_with};
-ghost use Rattle.forecourt_engines.specs.Reporting.{is_before_report};
+ghost use Rattle.forecourt_engines.specs.Reporting.{Reported, WritesReport};
 
 use crate::engine::Engine;
 use crate::fault::{ReplayFault, TextFault};
+use crate::replay::run;
 use crate::report::report;
-use site_base::{
-    Counted, NoMemory, PIECE_OCTETS, ReadFault, SiteConfig, WriteFault, read_piece, write_whole,
-};
+use crate::sink::NoText;
+use site_base::{Counted, NoMemory, ReadFault, SiteConfig, WriteFault, write_whole};
 use site_book::SiteBook;
 use std::alloc::Global;
 use std::io::{Read, Write};
@@ -53,7 +51,7 @@ pub fn replay_to_report<R: Read, W: Write>(
 {
     let book = SiteBook::try_open(alloc, config)?;
     let mut engine = Engine::new(alloc, book, false);
-    let ended = run(alloc, &mut engine, reader, &mut turns);
+    let ended = run(alloc, &mut engine, reader, &mut NoText, &mut turns);
     let book = engine.into_book();
     match ended {
         Ok(fault) => put_report(alloc, config, &book, fault, writer, &mut turns),
@@ -96,39 +94,4 @@ fn report_of_book(alloc: Global, config: &SiteConfig, book: &SiteBook) -> Result
 {
     let totals = book.audit(alloc)?;
     report(alloc, config, &totals, 0)
-}
-
-/// Runs the engine over the reader, piece after piece, and lets its text go. The answer is why the
-/// text ends, if it does so before the input.
-#[tactic(auto, using(crate::proofs::Running::running))]
-fn run<R: Read>(
-    alloc: Global,
-    engine: &mut Engine,
-    reader: &mut Counted<R>,
-    turns: &mut u64,
-) -> Result<Option<TextFault>, ReplayFault>
-    ensures told { Replayed turns.old engine.old
-        (R.remaining (device_of reader.old)) (R.remaining (device_of reader.new))
-        None None (ended_with result) (Some engine.new.answerer.book) }
-    ensures end { IfOk result (λ fault. fault ≡ None
-        → IsAtEnd (R.remaining (device_of reader.new))) }
-    ensures unwritten { IfErr result (λ fault. is_before_report fault ≡ true) }
-    ensures turns { turns.new ≤ turns.old }
-    ensures counted { OnOk result (failures_of reader.new ≡ failures_of reader.old) }
-    ensures no_turns { turns.old ≡ 0 → IsErrOf result (ReplayFault.Read ReadFault.TurnLimit) }
-    ensures read_failed { IsErrOf result (ReplayFault.Read ReadFault.Failed)
-        → Rose (failures_of reader.old) (failures_of reader.new) }
-{
-    let mut piece = [0u8; PIECE_OCTETS];
-    loop {
-        let n = read_piece(reader, &mut piece, turns)?;
-        let mut text = Vec::new(alloc);
-        if n == 0 {
-            return Ok(engine.finish(&mut text)?);
-        }
-        engine.feed(&piece[..n], &mut text)?;
-        if let Some(fault) = engine.stop() {
-            return Ok(Some(fault));
-        }
-    }
 }

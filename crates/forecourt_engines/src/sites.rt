@@ -30,13 +30,13 @@ pub fn known_site_of(alloc: Global, rows: u32) -> Result<SiteConfig, NoMemory>
     let mut managers = Vec::new(alloc);
     managers.push(TillNo::new(1).unwrap())?;
     let mut products = Vec::new(alloc);
-    products.push(product(alloc, 1, "diesel", 1500)?)?;
-    products.push(product(alloc, 2, "petrol", 1799)?)?;
-    let points = points(alloc)?;
+    products.push(make_product(alloc, 1, "diesel", 1500)?)?;
+    products.push(make_product(alloc, 2, "petrol", 1799)?)?;
+    let points = make_points(alloc)?;
     Ok(SiteConfig::try_new(rows, managers, products, points).unwrap())
 }
 
-fn product(alloc: Global, number: u8, name: &str, price: u32) -> Result<ProductEntry, NoMemory>
+fn make_product(alloc: Global, number: u8, name: &str, price: u32) -> Result<ProductEntry, NoMemory>
     requires number { (1 ≤ number) × (number ≤ PRODUCTS) }
     requires name { is_name name.now ≡ true }
     requires price { (1 ≤ price) × (price ≤ GREATEST_PRICE) }
@@ -50,32 +50,32 @@ fn product(alloc: Global, number: u8, name: &str, price: u32) -> Result<ProductE
     })
 }
 
-fn points(alloc: Global) -> Result<Vec<PointEntry>, NoMemory>
+fn make_points(alloc: Global) -> Result<Vec<PointEntry>, NoMemory>
     ensures { IfOk result (λ v. v.items ≡ known_points) }
 {
     let mut points = Vec::new(alloc);
-    points.push(point(alloc, 1)?)?;
-    points.push(point(alloc, 2)?)?;
-    points.push(point(alloc, 3)?)?;
-    points.push(point(alloc, 4)?)?;
-    points.push(point(alloc, 5)?)?;
+    points.push(make_point(alloc, 1)?)?;
+    points.push(make_point(alloc, 2)?)?;
+    points.push(make_point(alloc, 3)?)?;
+    points.push(make_point(alloc, 4)?)?;
+    points.push(make_point(alloc, 5)?)?;
     Ok(points)
 }
 
-fn point(alloc: Global, number: u8) -> Result<PointEntry, NoMemory>
+fn make_point(alloc: Global, number: u8) -> Result<PointEntry, NoMemory>
     requires { (1 ≤ number) × (number ≤ POINTS) }
     ensures { IfOk result (λ e. e ≡ known_point number) }
 {
     let mut nozzles = Vec::new(alloc);
-    nozzles.push(nozzle(1, 0))?;
-    nozzles.push(nozzle(2, 1000))?;
+    nozzles.push(make_nozzle(1, 0))?;
+    nozzles.push(make_nozzle(2, 1000))?;
     Ok(PointEntry {
         number: FpNo::new(number).unwrap(),
         nozzles: Listing::from(nozzles),
     })
 }
 
-fn nozzle(product: u8, reading: u64) -> NozzleEntry
+fn make_nozzle(product: u8, reading: u64) -> NozzleEntry
     requires product { (1 ≤ product) × (product ≤ PRODUCTS) }
     requires reading { reading ≤ GREATEST_READING }
     ensures { result ≡ record { product = product; reading = reading } }

@@ -1,15 +1,15 @@
 //! A trace: lines of messages, to be explained.
 
 ghost use Rattle.std.specs.Prelude.{◌≡◌, ◌≤◌, ◌<◌, [], length, Some, None, IfOk, OnOk};
-ghost use Rattle.app_message.specs.Stream.{held_after};
+ghost use Rattle.app_message.specs.Stream.{fed_by, held, held_after};
 ghost use Rattle.forecourt_engines.specs.Answers.{Answerer};
 ghost use Rattle.forecourt_engines.specs.Meanings.{messages_in};
-ghost use Rattle.forecourt_engines.specs.Text.{judged, kept_of, left_over, next_number};
+ghost use Rattle.forecourt_engines.specs.Text.{effect, kept_of, left_over, next_number, stop_of};
 ghost use Rattle.forecourt_engines.specs.declared.line.TheConstants.{LINE_OCTETS};
 ghost use Rattle.forecourt_engines.specs.declared.fault.TextFault.TheVariants.{TooLong};
 
 use crate::fault::TextFault;
-use crate::line::{LINE_OCTETS, decode, put_without_spaces, skips, text_of};
+use crate::line::{LINE_OCTETS, LineText, read_octets, text_of};
 use app_message::{Decoder, Fed, Messages};
 use site_base::NoMemory;
 use std::alloc::Global;
@@ -60,30 +60,37 @@ impl Trace {
         ensures messages { IfOk result (λ told. length line.now ≤ LINE_OCTETS
             → told.messages ≡ messages_in self.old.stream (kept_of line.now)) }
         ensures stop { IfOk result (λ told. (a : Answerer) → length line.now ≤ LINE_OCTETS
-            → told.stop ≡ (judged self.old.number self.old.stream a (kept_of line.now)).stop) }
+            → told.stop ≡ (effect self.old.number self.old.stream a (kept_of line.now)).stop) }
         ensures stream { OnOk result ((a : Answerer) → length line.now ≤ LINE_OCTETS
             → self.new.stream
-            ≡ (judged self.old.number self.old.stream a (kept_of line.now)).stream) }
+            ≡ (effect self.old.number self.old.stream a (kept_of line.now)).stream) }
         ensures long { IfOk result (λ told. LINE_OCTETS < length line.now
             → told.stop ≡ Some (TooLong self.old.number)) }
     {
         let number = self.number;
         self.number = number.saturating_add(1);
         if line.len() > LINE_OCTETS {
-            return Ok(self.stopped(TextFault::TooLong(number)));
+            return Ok(self.end_with(Some(TextFault::TooLong(number))));
         }
         let (mut kept, mut octets) = (Vec::new(self.alloc), Vec::new(self.alloc));
-        put_without_spaces(text_of(line), &mut kept)?;
-        if skips(&kept) {
-            return Ok(Explained {
-                messages: Messages::new(self.alloc),
-                stop: None,
-            });
+        match read_octets(text_of(line), &mut kept, &mut octets)? {
+            LineText::Skipped => Ok(self.end_with(None)),
+            LineText::Octets => self.take(&octets),
+            LineText::NotHexadecimal => Ok(self.end_with(Some(TextFault::NotHexadecimal(number)))),
         }
-        if !decode(&kept, &mut octets)? {
-            return Ok(self.stopped(TextFault::NotHexadecimal(number)));
-        }
-        let Fed { messages, fault } = self.decoder.feed(&octets)?;
+    }
+
+    /// Takes octets, and gives the messages that they end.
+    fn take(&mut self, octets: &[u8]) -> Result<Explained, NoMemory>
+        ensures number { self.new.number ≡ self.old.number }
+        ensures messages { IfOk result (λ told. told.messages
+            ≡ (fed_by self.old.stream octets.now).messages) }
+        ensures stop { IfOk result (λ told. told.stop
+            ≡ stop_of (fed_by self.old.stream octets.now).fault) }
+        ensures stream { OnOk result (self.new.stream
+            ≡ held (fed_by self.old.stream octets.now)) }
+    {
+        let Fed { messages, fault } = self.decoder.feed(octets)?;
         match fault {
             None => Ok(Explained {
                 messages,
@@ -106,13 +113,14 @@ impl Trace {
         None
     }
 
-    fn stopped(&self, fault: TextFault) -> Explained
+    /// A line without a message.
+    fn end_with(&self, stop: Option<TextFault>) -> Explained
         ensures messages { result.messages ≡ [] }
-        ensures stop { result.stop ≡ Some fault }
+        ensures stop { result.stop ≡ stop }
     {
         Explained {
             messages: Messages::new(self.alloc),
-            stop: Some(fault),
+            stop,
         }
     }
 }

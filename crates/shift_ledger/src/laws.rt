@@ -7,25 +7,25 @@ ghost use Rattle.shift_ledger.specs.Laws.{IsDrawn, IsOpenedEmpty};
 /// A clear raises in the open shift its till's count by one and that till's cents by its own, and
 /// its product's millilitres by its own. Every other till's figures stay, and every other
 /// product's, and so does what tests drew.
-pub fn counted_by_a_clear()
+pub fn a_clear_counts()
     ensures { IsCounted }
 {}
 
 /// A draw raises in the open shift the millilitres drawn of its product by its own. Every other
 /// product's stay, and so does all that was cleared.
-pub fn adjusted_by_a_draw()
+pub fn a_draw_adjusts()
     ensures { IsDrawn }
 {}
 
 /// A close adds the open shift's row, unchanged, behind the closed ones. A closed shift's row
 /// stays, whatever is cleared, drawn and closed later.
-pub fn closed_for_good()
+pub fn closed_shifts_stay()
     ensures { DoStay }
 {}
 
 /// Shift 1, and each shift that a close opens, is empty: no till has a clear or cents there, and no
 /// product millilitres, cleared or drawn.
-pub fn opened_empty()
+pub fn shifts_open_empty()
     ensures { IsOpenedEmpty }
 {}
 

@@ -8,7 +8,7 @@ mod row;
 
 pub use book::ShiftBook;
 pub use laws::{
-    adjusted_by_a_draw, closed_for_good, counted_by_a_clear, figures_are_sums, has_every_figure,
-    opened_empty,
+    a_clear_counts, a_draw_adjusts, closed_shifts_stay, figures_are_sums, has_every_figure,
+    shifts_open_empty,
 };
 pub use row::ShiftRow;

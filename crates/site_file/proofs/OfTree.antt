@@ -6,8 +6,8 @@ use Rattle.std.specs.Prelude.{◌⊎◌}
 use Rattle.std.proofs.lemmas.Bool.{false≢true}
 use Rattle.std.proofs.lemmas.Result.{IfErr-at_err}
 use Rattle.std.specs.Str.{is_utf8}
-use Rattle.toml.specs.Data.{Data, string, integer, float, boolean, datetime, array, table, Items}
-use Rattle.toml.specs.Data.{no_items, item, Members, get_member}
+use Rattle.toml.specs.Data.{Data, string, integer, array, table, Items, no_items, item, Members}
+use Rattle.toml.specs.Data.{get_member}
 use Rattle.toml.specs.Parse.{parse_document}
 use Rattle.site_base.specs.declared.config.NozzleEntry.{NozzleEntry}
 use Rattle.site_base.specs.declared.limits.TheConstants.{GREATEST_PRICE, GREATEST_READING}
@@ -65,40 +65,20 @@ value_at-tree key file = by (get_member (key_text key) file)
     by (Some value) = tt
 
 whole-tree : (key : Key) (value : Data) → OfTree (whole key value)
-whole-tree key (string s) = refl
 whole-tree key (integer z) = tt
-whole-tree key (float x) = refl
-whole-tree key (boolean b) = refl
-whole-tree key (datetime dt) = refl
-whole-tree key (array ds) = refl
-whole-tree key (table ms) = refl
+whole-tree key value = refl
 
 text-tree : (key : Key) (value : Data) → OfTree (text key value)
 text-tree key (string s) = tt
-text-tree key (integer z) = refl
-text-tree key (float x) = refl
-text-tree key (boolean b) = refl
-text-tree key (datetime dt) = refl
-text-tree key (array ds) = refl
-text-tree key (table ms) = refl
+text-tree key value = refl
 
 list-tree : (key : Key) (value : Data) → OfTree (list key value)
-list-tree key (string s) = refl
-list-tree key (integer z) = refl
-list-tree key (float x) = refl
-list-tree key (boolean b) = refl
-list-tree key (datetime dt) = refl
 list-tree key (array ds) = tt
-list-tree key (table ms) = refl
+list-tree key value = refl
 
 table-tree : (key : Key) (value : Data) → OfTree (table_of key value)
-table-tree key (string s) = refl
-table-tree key (integer z) = refl
-table-tree key (float x) = refl
-table-tree key (boolean b) = refl
-table-tree key (datetime dt) = refl
-table-tree key (array ds) = refl
 table-tree key (table ms) = tt
+table-tree key value = refl
 
 in_range-tree : (key : Key) (low high : ℕ) (z : ℤ) → OfTree (in_range key low high z)
 in_range-tree key low high (pos n) = only_if-tree _ _ n refl

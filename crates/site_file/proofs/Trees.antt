@@ -20,9 +20,9 @@ abbrev Entry : Type 0
 Entry = String Global × Value
 
 -- a list's members are counted by its length
-pub count_items : (values : List Value) → count (items_view values) ≡ length values
-count_items [] = refl
-count_items (v ∷ vs) = grind (arith, count_items vs)
+pub item_count : (values : List Value) → count (items_view values) ≡ length values
+item_count [] = refl
+item_count (v ∷ vs) = grind (arith, item_count vs)
 
 -- ---- the least unknown key is the first one, since a table's keys ascend
 
@@ -72,15 +72,15 @@ least_with-below : (key : List ℕ) (others : Option (List ℕ)) → IsBelowLeas
 least_with-below key None below = refl
 least_with-below key (Some other) below = ap Some (lesser_below key other below)
 
-pub least_unknown : (known : List Key) (es : List Entry)
+pub is_first : (known : List Key) (es : List Entry)
     → IsStrictlySortedBy string_cmp (keys_of es)
     → least (unknown_keys known (members_view es))
     ≡ option_map string_bytes (find (λ key. not (is_known known (string_bytes key))) (keys_of es))
 unfolding IsStrictlySortedBy
-least_unknown known [] sorted = refl
-least_unknown known (e ∷ es) sorted =
+is_first known [] sorted = refl
+is_first known (e ∷ es) sorted =
     elim (cases_Bool (is_known known (string_bytes e.0))) [
-      | inl is ↦ rw is (least_unknown known es sorted.1)
+      | inl is ↦ rw is (is_first known es sorted.1)
       | inr not_is ↦
           let rest = IsBelowLeast-unknown known (string_bytes e.0) es sorted.0 in
           rw not_is (least_with-below (string_bytes e.0) _ rest)

@@ -14,7 +14,7 @@ use std::alloc::Global;
 use toml::Table;
 
 /// The table has none but these keys, or its least other one is the fault.
-#[tactic(auto, using(crate::proofs::Trees::least_unknown), unfolding(crate::specs::SiteFile::with_keys))]
+#[tactic(auto, using(crate::proofs::Trees::is_first), unfolding(crate::specs::SiteFile::with_keys))]
 pub fn with_keys(alloc: Global, table: &Table, known: &[Key]) -> Result<(), ConfigFault>
     ensures { Gives (λ _. table_view table.now) result
         (spec.with_keys known.now (table_view table.now)) }

@@ -109,7 +109,7 @@ pub fn number_at(table: &Table, key: Key, low: u64, high: u64) -> Result<u64, Co
 }
 
 /// The list of 1 to `most` members at a key, which must be there.
-#[tactic(auto, using(crate::proofs::Trees::count_items), unfolding(crate::specs::SiteFile::list_at))]
+#[tactic(auto, using(crate::proofs::Trees::item_count), unfolding(crate::specs::SiteFile::list_at))]
 pub fn list_at(table: &Table, key: Key, most: usize) -> Result<&Array, ConfigFault>
     ensures { Gives (λ a. array_view a.now) result (spec.list_at key most (table_view table.now)) }
 {

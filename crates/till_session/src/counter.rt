@@ -22,7 +22,7 @@ pub trait Counter {
         ensures owes { (t : ℕ) → owes self.new t ≡ owed_by actor event result (owes self.old) t };
 
     /// The reply to this actor was written.
-    fn written(&mut self, actor: Actor)
+    fn note_written(&mut self, actor: Actor)
         ensures rows { rows self.new ≡ rows self.old }
         ensures owes { (t : ℕ) → owes self.new t ≡ owes self.old t };
 

@@ -55,7 +55,7 @@ impl<'a, L: Ledger, C: Naming, G: Gate, R: Wait> Counter for DeskCounter<'a, L, 
         submit(self.rt, self.desk, self.share, &actor, &event)
     }
 
-    fn written(&mut self, actor: Actor) {
+    fn note_written(&mut self, actor: Actor) {
         self.gate.after_reply(actor);
     }
 

@@ -84,7 +84,7 @@ fn leave_till<C: Counter>(talk: &Talk, counter: &mut C) -> bool
     ensures nobody { ((t : ℕ) → C.owes counter.old t ≡ is_the_one talk.now.on t)
         → (t : ℕ) → C.owes counter.new t ≡ false }
 {
-    match talk.on() {
+    match talk.till() {
         Some(till) => {
             counter.leave(till);
             true

@@ -64,7 +64,7 @@ impl Talk {
     }
 
     /// The till that was signed on and not signed off.
-    pub(crate) fn on(&self) -> Option<TillNo>
+    pub(crate) fn till(&self) -> Option<TillNo>
         ensures { result ≡ self.now.on }
     {
         self.on
@@ -247,7 +247,7 @@ impl Talk {
         let outcome = &self.ask(counter, &actor, &event);
         let reply = reply_to(self.take_buffer(), message, outcome)?;
         self.tell(writer, reply, turns)?;
-        counter.written(actor);
+        counter.note_written(actor);
         Ok(())
     }
 

@@ -23,24 +23,21 @@ use Rattle.site_base.specs.declared.state.PointState.TheVariants.{Inoperative, C
 use Rattle.site_base.specs.declared.state.PointState.TheVariants.{Calling, Authorised, Started}
 use Rattle.site_base.specs.declared.state.PointState.TheVariants.{SuspendedStarted, Fuelling}
 use Rattle.site_base.specs.declared.state.PointState.TheVariants.{SuspendedFuelling}
-use Rattle.site_base.specs.declared.view.TransactionView.{TransactionView}
 use Rattle.site_base.specs.Checks.{unless}
 use Rattle.fuelling_point.specs.declared.event.PointEvent.TheVariants as points
 use Rattle.fuelling_point.specs.declared.step.PointStep.{PointStep}
 use Rattle.fuelling_point.specs.declared.step.PointStep.TheVariants.{NoSale, Sold, Drawn, Stopped}
-use Rattle.fuelling_point.specs.KeptPoints.{Facts}
 use Rattle.fuelling_point.specs.Step as machine
-use Rattle.fuelling_point.specs.Table.{line_of, line, Growth, zero, above_zero, Flow as flow}
 use Rattle.fuelling_point.specs.Table.{growth_in}
 use Rattle.site_base.specs.Table.{row_of}
 use Rattle.till_claims.specs.Holds.{is_held_by}
-use Rattle.transaction_buffer.specs.Sales.{Sale, sale_of}
+use Rattle.transaction_buffer.specs.Sales.{sale_of}
 use Rattle.written_site.specs.SiteState.{SiteState, opening, facts_of, holder_of, is_resting}
 use Rattle.written_site.specs.SiteState.{key_named, rests, view_sale, price_at_start}
 use Rattle.written_site.specs.SiteState.{reading_at_start}
 use Rattle.written_site.specs.SiteChecks.{first_refusal, free_for, flowed}
 use Rattle.written_site.specs.SiteStep.{accepted_site, site_after, site_answer, step_told}
-use Rattle.written_site.specs.SiteStep.{sale_told, clear_told, product_told, ends_at_sign_off}
+use Rattle.written_site.specs.SiteStep.{ends_at_sign_off}
 use Rattle.written_site.specs.SiteStep.{holds_without, holds_unless_over}
 use Rattle.written_site.specs.SiteRun.{row_to, rows_of, events_of, site_at_end, site_of_rows}
 use Rattle.written_site.specs.Histories.{Moment, moments_after, moments_of}
@@ -50,6 +47,7 @@ use Rattle.written_site.specs.Holders.{IsHeldByOne, AreUnendedTakes, AreBooksHel
 use Rattle.site_base.proofs.Cells.{apart, alike}
 use Rattle.written_site.proofs.Passed.{passed}
 use Rattle.written_site.proofs.Bridge.{legal_histories_are_runs}
+use Rattle.written_site.proofs.ToldAnswers.{clears_sale, flows, lifts, shows_product, shows_sale}
 use Rattle.written_site.proofs.Slots.{next, MayTake, standing, Fair, end_between, last_take}
 
 -- what an event does to the hold of a point: the till that takes it, and whose hold it ends
@@ -145,43 +143,6 @@ stepped s holds p q growth NoSale = unassigned holds p q
 stepped s holds p q growth (Sold nozzle volume price prepaid) = unassigned holds p q
 stepped s holds p q growth (Drawn nozzle volume) = unassigned holds p q
 stepped s holds p q growth step = idle (finite.get holds p)
-
--- a lift ends nothing
-lifts : (s : SiteState) (q n last price : ℕ) (f : Facts) (state : PointState)
-    → tells_end (Ok (step_told s q 0
-    (machine.step_by (line_of (points.Lift n last price) state) (points.Lift n last price) f)))
-    ≡ false
-lifts s q n last price f Idle = refl
-lifts s q n last price f Authorised = refl
-lifts s q n last price f state = refl
-
--- nor does a flow
-flows : (s : SiteState) (q n growth : ℕ) (f : Facts) (size : Growth) (state : PointState)
-    → tells_end (Ok (step_told s q growth
-    (machine.step_by (line (flow size) state) (points.Flow n growth) f))) ≡ false
-flows s q n growth f zero Started = refl
-flows s q n growth f zero SuspendedStarted = refl
-flows s q n growth f zero Fuelling = refl
-flows s q n growth f zero SuspendedFuelling = refl
-flows s q n growth f above_zero Started = refl
-flows s q n growth f above_zero SuspendedStarted = refl
-flows s q n growth f above_zero Fuelling = refl
-flows s q n growth f above_zero SuspendedFuelling = refl
-flows s q n growth f size state = refl
-
--- nor does a clear, or a read
-shows_sale : (view : Option TransactionView) → tells_end (Ok (sale_told view)) ≡ false
-shows_sale None = refl
-shows_sale (Some view) = refl
-
-clears_sale : (sale : Option Sale) → tells_end (Ok (clear_told sale)) ≡ false
-clears_sale None = refl
-clears_sale (Some x) = refl
-
-shows_product : (s : SiteState) (q : ℕ) (price : Option ℕ)
-    → tells_end (Ok (product_told s q price)) ≡ false
-shows_product s q None = refl
-shows_product s q (Some price) = refl
 
 -- the states in which a sign-off ends a hold are those in which a point rests
 rests_so : (state : PointState) → is_at_rest state ≡ is_resting state

@@ -78,6 +78,7 @@ pub mod UnpaidRows
 pub mod TestLaws
 pub mod Growths
 pub mod ListSums
+pub mod RunsKeep
 pub mod ProductNumbers
 pub mod ProductSums
 pub mod ToldCents

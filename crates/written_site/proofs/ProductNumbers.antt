@@ -1,20 +1,17 @@
 -- Each product keeps its number and its place in the prices, whatever happens.
-use Rattle.std.proofs.Common.{◌≡◌, ℕ, Bool, true, false, List, [], ◌∷◌, map, Option, Some, None}
+use Rattle.std.proofs.Common.{◌≡◌, ℕ, Bool, true, false, List, [], ◌∷◌, map}
 use Rattle.std.proofs.Common.{refl, ap, ◌∙◌, ◌==◌, if◌then◌else◌}
-use Rattle.site_base.specs.declared.actor.Actor.{Actor}
 use Rattle.site_base.specs.declared.config.ProductEntry.{ProductEntry}
 use Rattle.site_base.specs.declared.event.Event.{Event}
 use Rattle.site_base.specs.declared.event.Event.TheVariants.{SetPrice}
-use Rattle.site_base.specs.declared.refusal.Refusal.{Refusal}
 use Rattle.site_base.specs.declared.row.Row.{Row}
-use Rattle.site_base.specs.Checks.{value_or}
 use Rattle.site_base.specs.Configured.{Configured}
 use Rattle.site_base.specs.Prices.{prices_of}
 use Rattle.site_base.specs.Table.{with_row}
-use Rattle.written_site.specs.SiteChecks.{first_refusal}
 use Rattle.written_site.specs.SiteRun.{site_of_rows}
 use Rattle.written_site.specs.SiteState.{SiteState, opening}
-use Rattle.written_site.specs.SiteStep.{accepted_site, prices_after, site_after}
+use Rattle.written_site.specs.SiteStep.{prices_after}
+use Rattle.written_site.proofs.RunsKeep.{rows_keep}
 
 -- the products' numbers, in their order
 abbrev numbers_of : List (ℕ × ℕ) → List ℕ
@@ -36,21 +33,6 @@ event_keeps : (s : SiteState) (e : Event) → numbers_of (prices_after s e) ≡ 
 event_keeps s (SetPrice q price) = numbers-with_row q price s.prices
 event_keeps s e = refl
 
-step_keeps : (s : SiteState) (a : Actor) (e : Event)
-    → numbers_of (site_after s a e).prices ≡ numbers_of s.prices
-step_keeps s a e = by_refusal (first_refusal s a e)
-  where
-    by_refusal : (o : Option Refusal)
-        → numbers_of (value_or o (accepted_site s a e) s).prices ≡ numbers_of s.prices
-    by_refusal None = event_keeps s e
-    by_refusal (Some refusal) = refl
-
-rows_keep : (s : SiteState) (rows : List Row)
-    → numbers_of (site_of_rows s rows).prices ≡ numbers_of s.prices
-rows_keep s [] = refl
-rows_keep s (r ∷ rows) =
-    rows_keep (site_after s r.actor r.event) rows ∙ step_keeps s r.actor r.event
-
 configured : (ps : List ProductEntry) → numbers_of (prices_of ps) ≡ configured_numbers ps
 configured [] = refl
 configured (p ∷ ps) = ap (λ ns. p.number ∷ ns) (configured ps)
@@ -58,4 +40,6 @@ configured (p ∷ ps) = ap (λ ns. p.number ∷ ns) (configured ps)
 -- each product has its row of prices, in configured order
 pub product_numbers : (c : Configured) (rows : List Row)
     → numbers_of (site_of_rows (opening c) rows).prices ≡ configured_numbers c.products
-product_numbers c rows = rows_keep (opening c) rows ∙ configured c.products
+product_numbers c rows =
+    rows_keep (λ s. numbers_of s.prices) (λ s a e. event_keeps s e) (opening c) rows
+    ∙ configured c.products

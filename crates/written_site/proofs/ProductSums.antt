@@ -1,6 +1,6 @@
 -- The products' metered volumes add up to what all meters have counted.
 use Rattle.std.proofs.Common.{◌≡◌, ℕ, ◌+◌, ◌*◌, ◌==◌, ◌&&◌, ◌||◌, not, Bool, true, false, List, []}
-use Rattle.std.proofs.Common.{◌∷◌, ◌++◌, length, map, Option, Some, None, refl, sym, ap, subst, ◌∙◌}
+use Rattle.std.proofs.Common.{◌∷◌, ◌++◌, length, map, refl, sym, ap, subst, ◌∙◌}
 use Rattle.std.proofs.Common.{if◌then◌else◌, arith}
 use Rattle.std.proofs.lemmas.Bool.{and_parts, or_parts}
 use Rattle.std.specs.List.{AllByRecursion, list_all, list_any}
@@ -9,11 +9,7 @@ use Rattle.site_base.specs.declared.config.NozzleEntry.{NozzleEntry}
 use Rattle.site_base.specs.declared.limits.TheConstants.{NOZZLES, POINTS, PRODUCTS}
 use Rattle.site_base.specs.declared.event.Event.{Event}
 use Rattle.site_base.specs.declared.event.Event.TheVariants.{Flow, HangUp, ReplaceMeter}
-use Rattle.site_base.specs.declared.row.Row.{Row}
-use Rattle.site_base.specs.declared.actor.Actor.{Actor}
-use Rattle.site_base.specs.declared.refusal.Refusal.{Refusal}
 use Rattle.site_base.specs.declared.view.ProductView.{ProductView}
-use Rattle.site_base.specs.Checks.{value_or}
 use Rattle.site_base.specs.Names.{is_name}
 use Rattle.site_base.specs.Ranges.{is_between}
 use Rattle.site_base.specs.declared.config.PointEntry.{PointEntry}
@@ -24,14 +20,14 @@ use Rattle.meters.specs.Metered.{every_product, metered, metered_by, product_alo
 use Rattle.meters.specs.Nozzles.{Nozzle, is_nozzle, nozzles_of_points, numbered, read_at}
 use Rattle.meters.specs.Nozzles.{replaced_at, with_nozzle}
 use Rattle.written_site.specs.RowWords.{total}
-use Rattle.written_site.specs.SiteChecks.{first_refusal}
 use Rattle.written_site.specs.SiteRun.{site_of_rows}
 use Rattle.written_site.specs.SiteState.{SiteState, opening}
-use Rattle.written_site.specs.SiteStep.{accepted_site, nozzles_after, site_after}
+use Rattle.written_site.specs.SiteStep.{nozzles_after}
 use Rattle.written_site.specs.Volumes.{product_view}
 use Rattle.written_site.proofs.SoundTables.{same, turned}
 use Rattle.written_site.specs.VolumeLaws.{DoProductsAddUp}
 use Rattle.written_site.proofs.ListSums.{total_map, total_zero, total_both}
+use Rattle.written_site.proofs.RunsKeep.{rows_keep}
 use Rattle.written_site.proofs.ProductNumbers.{configured_numbers, product_numbers}
 
 -- ---- one product among many
@@ -112,21 +108,6 @@ event_keeps s (HangUp p n reading) = kept_by p n (read_at reading) s.nozzles (λ
 event_keeps s (ReplaceMeter p n reading) = kept_by p n (replaced_at reading) s.nozzles (λ x. refl)
 event_keeps s e = refl
 
-step_keeps : (s : SiteState) (a : Actor) (e : Event)
-    → products_of (site_after s a e).nozzles ≡ products_of s.nozzles
-step_keeps s a e = by_refusal (first_refusal s a e)
-  where
-    by_refusal : (o : Option Refusal)
-        → products_of (value_or o (accepted_site s a e) s).nozzles ≡ products_of s.nozzles
-    by_refusal None = event_keeps s e
-    by_refusal (Some refusal) = refl
-
-rows_keep : (s : SiteState) (rows : List Row)
-    → products_of (site_of_rows s rows).nozzles ≡ products_of s.nozzles
-rows_keep s [] = refl
-rows_keep s (r ∷ rows) =
-    rows_keep (site_after s r.actor r.event) rows ∙ step_keeps s r.actor r.event
-
 -- ---- as configured
 
 numbers_apart : (ps : List ProductEntry) → none_alike same_product ps ≡ true
@@ -204,4 +185,6 @@ metered_of_products c rows products points =
     ∙ sym (total_map (λ (n : ℕ). product_total n s.nozzles) (λ (e : ℕ × ℕ). e.0) s.prices)
     ∙ ap (total (λ (n : ℕ). product_total n s.nozzles)) (product_numbers c rows)
     ∙ by_product (configured_numbers c.products) s.nozzles (numbers_apart c.products fit.1)
-    (subst (AreThere (configured_numbers c.products)) (sym (rows_keep (opening c) rows)) there)
+    (subst (AreThere (configured_numbers c.products))
+    (sym (rows_keep (λ s. products_of s.nozzles) (λ s a e. event_keeps s e) (opening c) rows))
+    there)

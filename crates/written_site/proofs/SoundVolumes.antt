@@ -64,7 +64,24 @@ use Rattle.written_site.proofs.AskedSums.{asked_keeps}
 pub weighs_none : (weight volume : ℕ) → volume ≡ volume + weight * 0
 weighs_none weight volume = omega (arith, mul-zero weight)
 
--- a reading above the last one, of the nozzle that is out
+-- what a meter's reading adds, of the nozzle that is out
+pub metered_out : (w : ℕ → ℕ) (s : SiteState) (p n reading : ℕ) (f : Facts) (x : Nozzle)
+    → nozzle_of p n s.nozzles ≡ Some x → nozzle_out f ≡ n
+    → metered_by w (with_last p n reading s.nozzles)
+    ≡ metered_by w s.nozzles + w x.product * (reading - x.last)
+    → metered_by w (with_last p n reading s.nozzles)
+    ≡ metered_by w s.nozzles + w (product_out s.nozzles p f) * flowed s p n reading
+metered_out w s p n reading f x is out adds =
+    let last : reading_of p n s.nozzles ≡ x.last = reading_is p n s.nozzles x is in
+    let product : product_out s.nozzles p f ≡ x.product =
+    ap (λ (m : ℕ). unwrap_or (product_of p m s.nozzles) 0) out
+    ∙ ap (λ (o : Option Nozzle). unwrap_or (option_map (λ y. y.product) o) 0) is in
+    adds
+    ∙ ap (λ (q : ℕ). metered_by w s.nozzles + w q * (reading - x.last)) (sym product)
+    ∙ ap (λ (v : ℕ). metered_by w s.nozzles + w (product_out s.nozzles p f) * (reading - v))
+    (sym last)
+
+-- a reading above the last one
 metered_more : (w : ℕ → ℕ) (s : SiteState) (p n reading : ℕ) (f : Facts) → AreNozzles s.nozzles
     → has_nozzle p n s.nozzles ≡ true → nozzle_out f ≡ n → reading_of p n s.nozzles ≤ reading
     → metered_by w (with_last p n reading s.nozzles)
@@ -72,13 +89,8 @@ metered_more : (w : ℕ → ℕ) (s : SiteState) (p n reading : ℕ) (f : Facts)
 metered_more w s p n reading f are has out above =
     let x = there (nozzle_of p n s.nozzles) has in
     let last : reading_of p n s.nozzles ≡ x.nozzle.last = reading_is p n s.nozzles x.nozzle x.is in
-    let product : product_out s.nozzles p f ≡ x.nozzle.product =
-    ap (λ (m : ℕ). unwrap_or (product_of p m s.nozzles) 0) out
-    ∙ ap (λ (o : Option Nozzle). unwrap_or (option_map (λ y. y.product) o) 0) x.is in
-    read_raises w p n reading x.nozzle s.nozzles are.each x.is (omega arith)
-    ∙ ap (λ (q : ℕ). metered_by w s.nozzles + w q * (reading - x.nozzle.last)) (sym product)
-    ∙ ap (λ (v : ℕ). metered_by w s.nozzles + w (product_out s.nozzles p f) * (reading - v))
-    (sym last)
+    metered_out w s p n reading f x.nozzle x.is out
+    (read_raises w p n reading x.nozzle s.nozzles are.each x.is (omega arith))
 
 pub metered_moves : (w : ℕ → ℕ) (s : SiteState) (e : Event) → Sound s → IsTaken s e
     → metered_by w (nozzles_after s e)

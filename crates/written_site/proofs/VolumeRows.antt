@@ -1,7 +1,7 @@
 -- How an accepted event moves the volumes, whatever the configuration: what is metered, and what
 -- the points keep of fuellings under way.
 use Rattle.std.proofs.Common.{◌≡◌, ℕ, ◌+◌, ◌-◌, ◌*◌, ◌≤◌, ◌==◌, ◌||◌, Bool, true, false, List, []}
-use Rattle.std.proofs.Common.{◌∷◌, Option, option_map, Some, None, unwrap_or, refl, sym, ap, subst}
+use Rattle.std.proofs.Common.{◌∷◌, Option, Some, None, refl, sym, ap, subst}
 use Rattle.std.proofs.Common.{◌∙◌, arith}
 use Rattle.std.proofs.lemmas.Bool.{false≢true}
 use Rattle.std.proofs.lemmas.Bool.Decides.{nat_tests}
@@ -23,7 +23,7 @@ use Rattle.fuelling_point.specs.Whole.{IsWhole}
 use Rattle.fuelling_point.proofs.Whole.{conserved}
 use Rattle.meters.specs.declared.report.Report.TheVariants.{Growing}
 use Rattle.meters.specs.Metered.{metered_by}
-use Rattle.meters.specs.Nozzles.{Nozzle, nozzle_of, has_nozzle, product_of, reading_of, with_last}
+use Rattle.meters.specs.Nozzles.{Nozzle, nozzle_of, has_nozzle, reading_of, with_last}
 use Rattle.meters.specs.Nozzles.{read_at}
 use Rattle.meters.proofs.Looked.{there, reading_is}
 use Rattle.meters.proofs.Weighed.{raised, meter_keeps, accepted_above}
@@ -38,7 +38,8 @@ use Rattle.written_site.proofs.SoundReports.{hung_up_is_out}
 use Rattle.written_site.proofs.SoundRunning.{flowed_by, flowed_with}
 use Rattle.written_site.proofs.SoundSold.{own_there}
 use Rattle.written_site.proofs.SoundTables.{same, turned, itself, row_there}
-use Rattle.written_site.proofs.SoundVolumes.{weighs_none, weighed, same_weight, joined}
+use Rattle.written_site.proofs.SoundVolumes.{metered_out, weighs_none, weighed, same_weight}
+use Rattle.written_site.proofs.SoundVolumes.{joined}
 
 -- ---- metered
 
@@ -54,15 +55,10 @@ raises : (w : ℕ → ℕ) (s : SiteState) (p n reading : ℕ) (f : Facts) → A
 raises w s p n reading f risen has out above =
     let x = there (nozzle_of p n s.nozzles) has in
     let last : reading_of p n s.nozzles ≡ x.nozzle.last = reading_is p n s.nozzles x.nozzle x.is in
-    let product : product_out s.nozzles p f ≡ x.nozzle.product =
-    ap (λ (m : ℕ). unwrap_or (product_of p m s.nozzles) 0) out
-    ∙ ap (λ (o : Option Nozzle). unwrap_or (option_map (λ y. y.product) o) 0) x.is in
     let up = risen p n x.nozzle x.is in
-    raised w p n (reading - x.nozzle.last) (read_at reading) x.nozzle s.nozzles x.is refl
-    (omega (arith, up, last, above))
-    ∙ ap (λ (q : ℕ). metered_by w s.nozzles + w q * (reading - x.nozzle.last)) (sym product)
-    ∙ ap (λ (v : ℕ). metered_by w s.nozzles + w (product_out s.nozzles p f) * (reading - v))
-    (sym last)
+    metered_out w s p n reading f x.nozzle x.is out
+    (raised w p n (reading - x.nozzle.last) (read_at reading) x.nozzle s.nozzles x.is refl
+    (omega (arith, up, last, above)))
 
 pub meters_move : (w : ℕ → ℕ) (s : SiteState) (a : Actor) (e : Event) → AreRisen s.nozzles
     → ((p : ℕ) → IsWhole (facts_of s p)) → Passed s a e

@@ -15,7 +15,7 @@ fn held_call(rt: HostRuntime) -> Result<(), Fail> {
     for held in 1..3 {
         let gate = HoldingGate::new(by_till(&rt, held));
         let day = run_crews(&rt, alloc, &config, &gate, &crews)?;
-        assert!(rt; !gate.gave_up(), "the other worker didn't run");
+        assert!(rt; !gate.has_given_up(), "the other worker didn't run");
         assert_eq!(rt; day.ends.len(), 2);
         for end in &day.ends {
             assert!(rt; end.placed == 1 && end.accepted == 1 && end.fault.is_none());

@@ -2,6 +2,7 @@
 
 use super::calls::{by_till, hang_up, lift, point, sale, till};
 use super::day::{Day, run_day, say_failed};
+use super::snapshot::see_opening;
 use counter_desk::{Desk, Naming, Share};
 use forecourt_engines::known_site_of;
 use site_base::{
@@ -23,11 +24,14 @@ fn each_refused(rt: HostRuntime) -> Result<(), Fail> {
             known_site_of(rt.alloc(), 1_000_000)?
         }
     };
-    let settled = match run_day(&rt, rt.alloc(), &config, &mut PaidDay) {
+    let mut day = PaidDay {
+        sees_opening: false,
+    };
+    let settled = match run_day(&rt, rt.alloc(), &config, &mut day) {
         Ok(settled) => settled,
         Err(NoMemory) => {
             say_failed(&rt);
-            run_day(&rt, rt.alloc(), &config, &mut PaidDay)?
+            run_day(&rt, rt.alloc(), &config, &mut day)?
         }
     };
     assert_eq!(rt; settled.rows, 12);
@@ -37,9 +41,11 @@ fn each_refused(rt: HostRuntime) -> Result<(), Fail> {
     Ok(())
 }
 
-/// A day in which a sale is paid.
+/// A day in which a sale is paid. Where it is asked for, the opening site is seen first.
 #[derive(Drop)]
-struct PaidDay;
+pub struct PaidDay {
+    pub sees_opening: bool,
+}
 
 impl Day for PaidDay {
     fn work<L: Ledger, C: Naming, R: Wait + Abort + Eprint>(
@@ -50,6 +56,9 @@ impl Day for PaidDay {
         share: Share<L, C>,
     ) -> Share<L, C> {
         let mut share = share;
+        if self.sees_opening {
+            assert!(rt; see_opening(rt, alloc, desk).is_ok(), "no figures");
+        }
         pay(rt, alloc, desk, &mut share);
         see(rt, alloc, desk, 10);
         leave(rt, desk, &mut share, 1);
@@ -97,7 +106,7 @@ fn owes_both<L: Ledger, C: Naming, R: Abort>(rt: &R, share: &Share<L, C>, calls:
 }
 
 /// Tills 1 and 2 sign on. Till 1 sells 10,000 ml of diesel at point 1, and the sale is paid once.
-pub fn pay<L: Ledger, C: Naming, R: Wait + Abort + Eprint>(
+fn pay<L: Ledger, C: Naming, R: Wait + Abort + Eprint>(
     rt: &R,
     alloc: Global,
     desk: &Desk<L, C>,
@@ -164,7 +173,7 @@ fn expect<L: Ledger, C: Naming, R: Wait + Abort + Eprint>(
 
 /// The snapshot has the figures of so many calls of that day, and the point is in the state that
 /// these led to.
-pub fn see<L: Ledger, C: Naming, R: Wait + Abort + Eprint>(
+fn see<L: Ledger, C: Naming, R: Wait + Abort + Eprint>(
     rt: &R,
     alloc: Global,
     desk: &Desk<L, C>,

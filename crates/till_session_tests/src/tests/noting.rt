@@ -78,13 +78,13 @@ impl<K: Counter> Counter for Noting<K> {
         self.counter.ask(actor, event)
     }
 
-    fn written(&mut self, actor: Actor) {
+    fn note_written(&mut self, actor: Actor) {
         self.noted.last = Some(Call::Written);
         if let Some(told) = self.noted.told_after.get_mut(self.noted.written) {
             *told = self.told.get();
         }
         self.noted.written = self.noted.written.saturating_add(1);
-        self.counter.written(actor);
+        self.counter.note_written(actor);
     }
 
     fn leave(&mut self, till: TillNo) {

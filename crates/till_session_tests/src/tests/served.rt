@@ -46,7 +46,7 @@ fn held_call(rt: HostRuntime) -> Result<(), Fail> {
         let gate = HoldingGate::new(by_till(&rt, held));
         let listener = Connections::new(sign_ons(&rt, alloc, 2)?, 0);
         let day = one_day(&rt, alloc, &config, listener, &gate, 2)?;
-        assert!(rt; !gate.gave_up(), "the other worker didn't run");
+        assert!(rt; !gate.has_given_up(), "the other worker didn't run");
         assert!(rt; day.ends.len() == 2 && day.settled.rows == 4 && day.settled.shares == 2);
         for end in &day.ends {
             assert!(rt; end.fault.is_none() && end.asked == 1 && end.signed_off);

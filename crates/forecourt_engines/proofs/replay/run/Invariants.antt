@@ -7,9 +7,9 @@ abbrev pub invariant-loop-n : goal.invariant-loop-n
 invariant-loop-n g l = record {
   running : Running l.fn.turns l.turns l.fn.engine l.engine
       (g.R.Read.remaining (device_of l.fn.reader)) (g.R.Read.remaining (device_of l.reader))
-      (g.W.Write.contents (device_of l.fn.writer)) (g.W.Write.contents (device_of l.writer));
+      (g.S.TextSink.holds l.fn.sink) (g.S.TextSink.holds l.sink);
   reads : failures_of l.reader ≡ failures_of l.fn.reader;
-  writes : failures_of l.writer ≡ failures_of l.fn.writer;
+  writes : g.S.TextSink.failures l.sink ≡ g.S.TextSink.failures l.fn.sink;
   unturned : l.turns ≤ l.fn.turns;
 }
 

@@ -1,4 +1,4 @@
-use Rattle.std.proofs.Common.{◌≡◌, Some, Result, Ok, Err, OnOk, false, ap, ◌∙◌}
+use Rattle.std.proofs.Common.{◌≡◌, Some, Result, Ok, Err, OnOk, false, refl, ap, ◌∙◌}
 use Rattle.std.proofs.lemmas.Result.{err_from_is_err_and}
 use Rattle.site_book.specs.Book.{Book}
 use Rattle.forecourt_engines.specs.declared.fault.ReplayFault.{ReplayFault}
@@ -43,4 +43,4 @@ returns-in-Ok-clause-unread g c = λ fault is. absurd (c.put_report.ensures.read
 -- no more could be read, or there was no memory
 pub returns-clause-told : goal.returns-clause-told
 returns-clause-told g c =
-    reports_early _ _ _ _ _ _ _ _ c.in-Err.ensures.unwritten c.in-Err.ensures.told
+    reports_early _ _ _ _ _ _ _ _ (c.in-Err.ensures.unwritten refl) c.in-Err.ensures.told

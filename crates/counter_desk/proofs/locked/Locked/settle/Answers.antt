@@ -6,10 +6,10 @@ use Rattle.counter_desk.proofs.locked.Locked.settle.Goals as goal
 
 pub returns-clause-none : goal.returns-clause-none
 returns-clause-none g c =
-    subst (λ (rows : List Row). OnOk c.figures.result (IsNoneStrange rows c.args.root.now.lists))
+    subst (λ (rows : List Row). OnOk c.add_up.result (IsNoneStrange rows c.args.root.now.lists))
     c.audit.ensures.rows
     (
-    subst (λ (r : RootFacts). OnOk c.figures.result (IsNoneStrange c.audit.new.self r.lists))
+    subst (λ (r : RootFacts). OnOk c.add_up.result (IsNoneStrange c.audit.new.self r.lists))
     c.audit.ensures.root
-    c.figures.ensures.none
+    c.add_up.ensures.none
     )

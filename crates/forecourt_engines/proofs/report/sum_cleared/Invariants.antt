@@ -1,5 +1,5 @@
 use Rattle.std.proofs.Common.{◌≡◌, ◌≤◌, ◌-◌, ◌*◌, ◌^◌, sum_by, take}
-use Rattle.forecourt_engines.proofs.report.cleared_by_all.Given as goal
+use Rattle.forecourt_engines.proofs.report.sum_cleared.Given as goal
 
 abbrev pub invariant-loop-by_till : goal.invariant-loop-by_till
 invariant-loop-by_till l = record {

@@ -3,7 +3,7 @@ use Rattle.site_base.specs.declared.limits.TheConstants.{GREATEST_CENTS, GROWTH_
 use Rattle.written_site.specs.RowWords.{total}
 use Rattle.counter_desk.specs.Receipts.{cents_receipted, growth_receipted}
 use Rattle.counter_desk.specs.Roots.{calls_in, lists_of}
-use Rattle.counter_desk.proofs.marks.amounts.Given as goal
+use Rattle.counter_desk.proofs.marks.sum_amounts.Given as goal
 
 abbrev pub invariant-loop-receipts : goal.invariant-loop-receipts
 invariant-loop-receipts l = record {

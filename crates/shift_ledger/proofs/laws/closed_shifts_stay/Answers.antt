@@ -1,5 +1,5 @@
 use Rattle.shift_ledger.proofs.Standing.{do_stay as law}
-use Rattle.shift_ledger.proofs.laws.closed_for_good.Goals as goal
+use Rattle.shift_ledger.proofs.laws.closed_shifts_stay.Goals as goal
 
 pub returns : goal.returns
 returns c = law

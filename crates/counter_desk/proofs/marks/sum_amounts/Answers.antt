@@ -1,7 +1,7 @@
 use Rattle.std.proofs.Common.{◌+◌, length, arith}
 use Rattle.counter_desk.specs.Receipts.{cents_receipted, growth_receipted}
 use Rattle.counter_desk.proofs.Amounts.{total_few, total_more}
-use Rattle.counter_desk.proofs.marks.amounts.Goals as goal
+use Rattle.counter_desk.proofs.marks.sum_amounts.Goals as goal
 
 pub overflow_add-cents : goal.overflow_add-cents
 overflow_add-cents c =

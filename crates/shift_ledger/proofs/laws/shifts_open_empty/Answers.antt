@@ -1,5 +1,5 @@
 use Rattle.shift_ledger.proofs.Standing.{is_opened_empty as law}
-use Rattle.shift_ledger.proofs.laws.opened_empty.Goals as goal
+use Rattle.shift_ledger.proofs.laws.shifts_open_empty.Goals as goal
 
 pub returns : goal.returns
 returns c = law

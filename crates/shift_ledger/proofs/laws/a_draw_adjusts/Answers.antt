@@ -1,5 +1,5 @@
 use Rattle.shift_ledger.proofs.Counting.{is_drawn as law}
-use Rattle.shift_ledger.proofs.laws.adjusted_by_a_draw.Goals as goal
+use Rattle.shift_ledger.proofs.laws.a_draw_adjusts.Goals as goal
 
 pub returns : goal.returns
 returns c = law
