@@ -107,9 +107,11 @@ fn explain<'a>(alloc: Global) -> Result<Command<'a>, AllocError> {
 }
 
 fn spell<'a>(alloc: Global) -> Result<Command<'a>, AllocError> {
-    Ok(Command::new(alloc, "spell")
-        .about("Prints the requests that standard input asks for in words, in hexadecimal")
-        .after_help("Example: forecourt spell < examples/paying_day.words\n"))
+    Ok(
+        Command::new(alloc, "spell")
+            .about("Prints the requests that standard input asks for in words, in hexadecimal")
+            .after_help("Example: forecourt spell < examples/paying_day.words\n"),
+    )
 }
 
 /// The script that a demo runs.

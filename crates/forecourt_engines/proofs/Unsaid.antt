@@ -163,8 +163,7 @@ said_by first second behind actor event said =
     said.words_are ∙ ap (λ (ws : List (List ℕ)). actor_word actor ∷ ws) (name_first event) in
     let one : first ≡ actor_word actor = cc in
     let two : second ≡ name_word (name_said event) = cc in
-    let rest : behind ≡ behind_first (event_words event) = cc in
-    (
+    let rest : behind ≡ behind_first (event_words event) = cc in (
       (one, said.who),
       two,
       record { named = refl; words_are = rest; range = said.what },
