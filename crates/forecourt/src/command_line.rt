@@ -23,7 +23,8 @@ pub fn build_commands<'a>(alloc: Global) -> Result<Command<'a>, Error> {
 fn with_replays<'a>(alloc: Global, program: Command<'a>) -> Result<Command<'a>, AllocError> {
     let program = with(program, check(alloc))?;
     let program = with(program, replay(alloc))?;
-    with(program, report(alloc))
+    let program = with(program, report(alloc))?;
+    with(program, sales(alloc))
 }
 
 /// The commands that open a desk for a day.
@@ -70,6 +71,17 @@ fn report<'a>(alloc: Global) -> Result<Command<'a>, AllocError> {
         .about("Replays standard input on the site of a file, and prints the report of its rows")
         .after_help("Example: forecourt report examples/five_points.toml < examples/day.hex\n")
         .arg(file(alloc))
+}
+
+fn sales<'a>(alloc: Global) -> Result<Command<'a>, AllocError> {
+    Command::new(alloc, "sales")
+        .about("Replays standard input on the site of a file, and prints its sales as CSV")
+        .after_help(
+            "Example: forecourt sales examples/five_points.toml < examples/paying_day.hex\n",
+        )
+        .arg(file(alloc))?
+        .arg(flag(alloc, "draws", "Prints what tests drew, and not the sales"))?
+        .arg(flag(alloc, "json", "Prints an object of JSON a line"))
 }
 
 fn serve<'a>(alloc: Global) -> Result<Command<'a>, AllocError> {

@@ -13,6 +13,7 @@ mod files;
 mod lines;
 mod replay;
 mod report;
+mod sales;
 mod serve;
 mod spell;
 
@@ -23,6 +24,7 @@ use crate::exit::{COMMAND_LINE, exit_no_memory, exit_with};
 use crate::explain::run_explain;
 use crate::replay::{run_replay, run_replay_here};
 use crate::report::run_report;
+use crate::sales::run_sales;
 use crate::serve::run_serve;
 use crate::spell::run_spell;
 use clap::ArgMatches;
@@ -78,6 +80,7 @@ fn dispatch<T: Threads + Wait + Sync>(
         Some(("check", words)) => run_check(rt, words),
         Some(("replay", words)) => run_replay(rt, words),
         Some(("report", words)) => run_report(rt, words),
+        Some(("sales", words)) => run_sales(rt, words),
         Some(("serve", words)) => run_serve(rt, threads, words),
         Some(("demo", words)) => run_demo(rt, threads, words),
         Some(("explain", words)) => run_explain(rt, words),
