@@ -70,7 +70,12 @@ fn report<'a>(alloc: Global) -> Result<Command<'a>, AllocError> {
     Command::new(alloc, "report")
         .about("Replays standard input on the site of a file, and prints the report of its rows")
         .after_help("Example: forecourt report examples/five_points.toml < examples/day.hex\n")
-        .arg(file(alloc))
+        .arg(file(alloc))?
+        .arg(flag(
+            alloc,
+            "human",
+            "Prints litres and money in columns, for people",
+        ))
 }
 
 fn sales<'a>(alloc: Global) -> Result<Command<'a>, AllocError> {

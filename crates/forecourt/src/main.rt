@@ -10,6 +10,7 @@ mod demo;
 mod exit;
 mod explain;
 mod files;
+mod human;
 mod lines;
 mod replay;
 mod report;

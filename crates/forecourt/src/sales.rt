@@ -3,12 +3,11 @@
 use crate::TURNS;
 use crate::exit::exit_replay;
 use crate::files::read_site;
+use crate::report::{ends_its_text, replay_silently};
 use clap::ArgMatches;
 use forecourt_engines::ReplayFault;
-use forecourt_engines::replay::replay;
 use sales_table::{Form, TableFault, write_draws, write_sales};
 use site_base::{Counted, SiteConfig};
-use std::io;
 use std::process::ExitCode;
 
 /// Which table is printed, and in which form.
@@ -37,9 +36,7 @@ pub fn run_sales(rt: &HostRuntime, words: &ArgMatches<'_>) -> ExitCode {
 /// Prints the table of what standard input sells on this site, up to a fault of its text, which is
 /// told then.
 fn print_table(rt: &HostRuntime, config: &SiteConfig, table: Table) -> ExitCode {
-    let mut reader = Counted::new(rt.stdin());
-    let mut sink = Counted::new(io::sink());
-    let end = replay(rt.alloc(), config, &mut reader, &mut sink, TURNS, false);
+    let end = replay_silently(rt, config);
     let Some(book) = &end.book else {
         return exit_replay(rt, end.fault);
     };
@@ -57,9 +54,4 @@ fn print_table(rt: &HostRuntime, config: &SiteConfig, table: Table) -> ExitCode 
         Err(TableFault::NoMemory) => exit_replay(rt, Some(ReplayFault::NoMemory)),
         Err(TableFault::Write(fault)) => exit_replay(rt, Some(ReplayFault::Write(fault))),
     }
-}
-
-/// Is this the end of the input, or a fault of its text? After another one there is no table.
-fn ends_its_text(fault: &Option<ReplayFault>) -> bool {
-    matches!(fault, None | Some(ReplayFault::Text(_)))
 }
