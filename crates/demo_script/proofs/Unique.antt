@@ -28,7 +28,7 @@ use Rattle.demo_script.specs.Script.{IsRefused, IsScript, IsStepText, IsTask, Is
 use Rattle.demo_script.specs.Script.{IsWork, Says, SaysIf, nothing_read, sections_of, with_line}
 use Rattle.demo_script.proofs.Messages.{message_is}
 use Rattle.forecourt_engines.proofs.Numerals.{behind_is}
-use Rattle.demo_script.proofs.Parted.{decimal_unspaced, parts_are}
+use Rattle.forecourt_engines.proofs.Parted.{digits_above, parts_are}
 
 -- ---- steps
 
@@ -124,8 +124,8 @@ begins_one text (lines.Dispenser p m) (lines.Dispenser q n) one two =
     (decimal q ++ (32 ∷ decimal n)) one.text_is two.text_is in
     let small_p : p < 2 ^ 64 = omega (arith, one.most_point) in
     let small_q : q < 2 ^ 64 = omega (arith, two.most_point) in
-    let parts = parts_are (decimal p) (decimal m) (decimal q) (decimal n)
-    (decimal_unspaced p small_p) (decimal_unspaced q small_q) both in
+    let parts = parts_are 32 (decimal p) (decimal m) (decimal q) (decimal n)
+    (digits_above 32 p (omega arith) small_p) (digits_above 32 q (omega arith) small_q) both in
     let points : p ≡ q = decimal_injective p q small_p small_q parts.0 in
     let polls : m ≡ n = decimal_injective m n (omega (arith, one.most_polls))
     (omega (arith, two.most_polls)) parts.1 in
