@@ -1,9 +1,9 @@
 //! Actors and events, read from the words in which they are written: those of the program, and `+5`
 //! for a reading or a number that is 5 more than the one that was named before.
 
-use anyhow::{Context, bail};
+use anyhow::bail;
 use forecourt_engines::words::{read_request, split_words};
-use site_base::{Actor, Event, FpNo, SaleId, Seq, ShiftNo, TillNo};
+use site_base::{Actor, Event, FpNo, Millilitres, SaleId, Seq, ShiftNo, TillNo};
 use std::alloc::Global;
 
 /// The reading and the number of a sale that events named last. A number behind a `+` is counted
@@ -20,25 +20,64 @@ impl LastNamed {
         LastNamed { reading: 0, seq: 0 }
     }
 
-    /// The number that stands for `+MORE` behind this text: that of a reading behind an `@`, that
-    /// of a sale otherwise.
-    fn number_behind(&self, front: &str, more: &str) -> Option<u64> {
-        let more: u64 = more.parse().ok()?;
-        let named = match front.strip_suffix('@') {
-            Some(_) => self.reading,
-            None => u64::from(self.seq),
+    /// The event that a line says now; None where a number is out of its range. What it names is
+    /// noted.
+    pub fn next(&mut self, said: &Said) -> Option<(Actor, Event)> {
+        let event = if said.counts {
+            self.counted(&said.event)?
+        } else {
+            said.event
         };
-        named.checked_add(more)
-    }
-
-    /// Notes what an event names.
-    fn note(&mut self, event: &Event) {
         if let Some(reading) = event.reading() {
             self.reading = reading.get();
         }
         if let Some(sale) = event.sale() {
             self.seq = sale.seq.get();
         }
+        Some((said.actor, event))
+    }
+
+    /// The event whose reading or number is counted from the one named last.
+    fn counted(&self, event: &Event) -> Option<Event> {
+        if let Some(more) = event.reading() {
+            let reading = Millilitres::new(self.reading.checked_add(more.get())?)?;
+            return with_reading(event, reading);
+        }
+        let sale = event.sale()?;
+        let shift = sale.shift;
+        let seq = Seq::new(self.seq.checked_add(sale.seq.get())?.checked_sub(1)?)?;
+        with_sale(event, SaleId { shift, seq })
+    }
+}
+
+/// What a line says: where it counts, its reading, or its number less 1, is added to the one that
+/// was named last.
+#[derive(Clone, Copy)]
+pub struct Said {
+    actor: Actor,
+    event: Event,
+    counts: bool,
+}
+
+/// An event of a meter with another reading.
+fn with_reading(event: &Event, reading: Millilitres) -> Option<Event> {
+    match event {
+        Event::ReplaceMeter(p, n, _) => Some(Event::ReplaceMeter(*p, *n, reading)),
+        Event::Lift(p, n, _) => Some(Event::Lift(*p, *n, reading)),
+        Event::Flow(p, n, _) => Some(Event::Flow(*p, *n, reading)),
+        Event::HangUp(p, n, _) => Some(Event::HangUp(*p, *n, reading)),
+        _ => None,
+    }
+}
+
+/// An event of a sale, of another one.
+fn with_sale(event: &Event, sale: SaleId) -> Option<Event> {
+    match event {
+        Event::Lock(p, _) => Some(Event::Lock(*p, sale)),
+        Event::Unlock(p, _) => Some(Event::Unlock(*p, sale)),
+        Event::Clear(p, _) => Some(Event::Clear(*p, sale)),
+        Event::ReadTransaction(p, _) => Some(Event::ReadTransaction(*p, sale)),
+        _ => None,
     }
 }
 
@@ -57,23 +96,30 @@ pub fn shift_of(word: &str) -> Option<ShiftNo> {
     ShiftNo::new(word.parse().ok()?)
 }
 
-/// The actor and the event that a line names.
-pub fn read_event(
-    alloc: Global,
-    text: &str,
-    last_named: &mut LastNamed,
-) -> anyhow::Result<(Actor, Event)> {
-    let said = match text.split_once('+') {
-        None => read_words(alloc, text)?,
-        Some((front, more)) => {
-            let number = last_named.number_behind(front, more);
-            let number = number.context("no number behind a plus")?;
-            read_words(alloc, &format!(in alloc; "{front}{number}")?)?
-        }
+/// What a line says.
+pub fn read_said(alloc: Global, text: &str) -> anyhow::Result<Said> {
+    let Some((front, more)) = text.split_once('+') else {
+        let (actor, event) = read_words(alloc, text)?;
+        let counts = false;
+        return Ok(Said {
+            actor,
+            event,
+            counts,
+        });
     };
-    let (_, event) = &said;
-    last_named.note(event);
-    Ok(said)
+    let more: u64 = more.parse()?;
+    // A sale's number is 1 at least.
+    let more = match front.strip_suffix('@') {
+        Some(_) => more,
+        None => more.saturating_add(1),
+    };
+    let (actor, event) = read_words(alloc, &format!(in alloc; "{front}{more}")?)?;
+    let counts = true;
+    Ok(Said {
+        actor,
+        event,
+        counts,
+    })
 }
 
 /// The actor and the event that words say.

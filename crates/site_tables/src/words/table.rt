@@ -1,7 +1,7 @@
 //! A table, read line by line.
 
 use crate::words::draft::Draft;
-use crate::words::event::{LastNamed, read_event};
+use crate::words::event::{LastNamed, read_said};
 use crate::words::line::Line;
 use anyhow::Context;
 use site_base::{Actor, Event, GREATEST_ROWS, SiteConfig};
@@ -137,10 +137,15 @@ fn events_of(
     times: u32,
     last_named: &mut LastNamed,
 ) -> anyhow::Result<Vec<(Actor, Event)>> {
+    let mut lines = Vec::new(alloc);
+    for text in paragraph {
+        lines.push(read_said(alloc, text)?)?;
+    }
     let mut events = Vec::new(alloc);
     for _ in 0..times {
-        for text in paragraph {
-            events.push(read_event(alloc, text, last_named)?)?;
+        for said in &lines {
+            let event = last_named.next(said).context("a number out of its range")?;
+            events.push(event)?;
         }
     }
     Ok(events)
