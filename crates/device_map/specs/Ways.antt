@@ -1,5 +1,5 @@
--- The way to each event, and the message that goes it: the kind of message, the database, the command
--- and what it carries.
+-- The way to each event, and the message that goes it: the kind of message, the database, the
+-- command and what it carries.
 use Rattle.std.specs.Prelude.{ℕ, ◌+◌, ◌*◌, ◌/◌, ◌%◌, List, [], ◌∷◌, ◌++◌, Option, Some, None}
 use Rattle.std.specs.Prelude.{Bool, false}
 use Rattle.site_base.specs.declared.limits.TheConstants.{TILLS, POINTS}

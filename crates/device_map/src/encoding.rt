@@ -56,7 +56,8 @@ fn may_send(actor: &Actor, kind: Kind) -> bool
 /// The request without its items.
 fn begin_request(alloc: Global, token: Token, actor: &Actor, way: &Way) -> Result<Draft, NoMemory>
     ensures value { IfOk result (λ draft. draft
-        ≡ telegram site_node (node_of actor.now) way.now.kind token (address_of way.now.database) []) }
+        ≡ telegram site_node (node_of actor.now) way.now.kind token
+        (address_of way.now.database) []) }
     ensures least { 1 ≤ length (address_of way.now.database) }
     ensures most { length (address_of way.now.database) ≤ 8 }
 {

@@ -27,7 +27,8 @@ use Rattle.forecourt_engines.specs.Reporting.{opening_state}
 use Rattle.forecourt_engines.proofs.Running.{AppendsFront-none}
 use Rattle.forecourt_engines.specs.declared.line.TheConstants.{LINE_OCTETS}
 use Rattle.forecourt_engines.specs.Text.{State, after, book_of, octets_effect, ended, ends}
-use Rattle.forecourt_engines.specs.Text.{is_skipped, effect, kept_of, line_effect, next, next_line, octet_step}
+use Rattle.forecourt_engines.specs.Text.{is_skipped, effect, kept_of, line_effect, next, next_line}
+use Rattle.forecourt_engines.specs.Text.{octet_step}
 
 book_keeps : (b : Book) (meaning : Result (Actor × Event) MapFault)
     → (book_meaning b meaning).config ≡ b.config

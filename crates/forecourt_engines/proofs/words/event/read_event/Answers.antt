@@ -10,5 +10,6 @@ returns-in_err-p-in-Release-clause-other c =
     let none : (event : Event)
     → ¬ IsSaid c.args.name (map (λ w. w.now) c.args.words.now) event =
     rw c.in-Release.is
-    (unsaid names.Release (map (λ w. w.now) c.args.words.now) c.in_err-p-in-Release.ensures.other) in
+    (unsaid names.Release (map (λ w. w.now) c.args.words.now)
+    c.in_err-p-in-Release.ensures.other) in
     search rules
