@@ -188,6 +188,12 @@ is_body to from kind token s head octets least most address items =
     address items in
     record { text = taken.parts; valid = taken.valid }
 
+-- an address is written behind its length, where nothing stood
+pub address_written : (address made pushed items : List ℕ) → made ≡ []
+    → pushed ≡ made ++ length address ∷ [] → items ≡ pushed ++ address
+    → items ≡ length address ∷ address
+address_written address made pushed items none size all = rw (all, size, none) refl
+
 -- a message in the making, without items
 pub begun : (to from : List ℕ) (kind : Kind) (token : ℕ) (address s : List ℕ)
     → IsHead to from token → AreOctets address → 1 ≤ length address → length address ≤ 8

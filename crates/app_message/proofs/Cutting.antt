@@ -1,7 +1,9 @@
 -- However a stream is cut, its messages are the same.
 use Rattle.std.proofs.Common.{◌≡◌, ℕ, zero, suc, ◌<◌, ◌≤◌, cond, ltb, refl, sym, ap, subst, ◌∙◌}
 use Rattle.std.proofs.Common.{List, [], ◌∷◌, ◌++◌, length, get_or, take, drop, Option, Some, None}
-use Rattle.std.proofs.Common.{Result, Ok, Err, append_assoc, arith, inl, inr}
+use Rattle.std.proofs.Common.{Result, Ok, Err, append_assoc, arith, inl, inr, false}
+use Rattle.std.specs.Borrow.{Bor}
+use Rattle.std.specs.Prelude.{is_some}
 use Rattle.std.proofs.lemmas.Bool.{lt-ltb, le-ltb, cases_lt}
 use Rattle.std.proofs.lemmas.List.{append-nil, length-append, length-drop, get_or_append_left}
 use Rattle.std.proofs.lemmas.List.{take-append-le, drop-append-le}
@@ -11,7 +13,8 @@ use Rattle.app_message.specs.Telegram.{Telegram, AreOctets}
 use Rattle.app_message.specs.Grammar.{Halt, short, fault, ◌>>=◌, Header, header_at, body_at}
 use Rattle.app_message.specs.Grammar.{front_at}
 use Rattle.app_message.specs.Stream.{Stream, stream, fault_of, walked, stream_on, walk, stream_of}
-use Rattle.app_message.specs.Stream.{IsHeld, held, held_after, fed_by}
+use Rattle.app_message.specs.Stream.{Held, IsHeld, held, held_after, fed_by}
+use Rattle.app_message.specs.Fronts.{IsFront}
 use Rattle.app_message.proofs.Stages.{AreOctets-drop, bind_ok, guard_ok, ok_is}
 use Rattle.app_message.proofs.Taking.{header_takes}
 use Rattle.app_message.proofs.Ending.{short_bound}
@@ -228,14 +231,47 @@ held_in (suc n) s fits p =
 pub is_held : (s : List ℕ) → AreOctets s → IsHeld (held_after s)
 is_held s fits = held_in (length s) s fits (omega arith)
 
+-- ---- what stands at the front
+
+pub front_message : (s : List ℕ) (h : Held) (x : Telegram × Bor (List ℕ))
+    → front_at s ≡ Ok (x.0, x.1.now) → IsFront s h h (Some x)
+front_message s h x e = (
+  stream_step s ∙ ap (stream_on s stream_of) e,
+  (front_taken s (x.0, x.1.now) e).shorter,
+  refl,
+)
+
+pub front_short : (s : List ℕ) (old new : Held) → front_at s ≡ Err short
+    → new ≡ record { rest = s; fault = None } → IsFront s old new None
+front_short s old new e kept =
+    let is : stream_of s ≡ stream [] s None = stream_step s ∙ ap (stream_on s stream_of) e in
+    (ap (λ (t : Stream). t.messages) is, kept ∙ ap held (sym is))
+
+pub front_fault : (s : List ℕ) (old new : Held) (f : GrammarFault) → front_at s ≡ Err (fault f)
+    → new ≡ record { rest = []; fault = Some (fault_of f s) } → IsFront s old new None
+front_fault s old new f e kept =
+    let is : stream_of s ≡ stream [] [] (Some (fault_of f s)) =
+    stream_step s ∙ ap (stream_on s stream_of) e in
+    (ap (λ (t : Stream). t.messages) is, kept ∙ ap held (sym is))
+
+-- octets without a whole message have few
+pub few_left : (s : List ℕ) → AreOctets s → front_at s ≡ Err short → length s ≤ 1031
+few_left s fits e = short_bound s fits e
+
+-- a decoder that keeps nothing
+pub is_at_start : (rest : List ℕ) (f : Option StreamFault) → length rest ≡ 0
+    → is_some f ≡ false → record { rest = rest; fault = f } ≡ held_after []
+unfolding walk
+is_at_start [] None empty none = refl
+is_at_start [] (Some f) empty none = cc
+is_at_start (b ∷ rest) f empty none = absurd (omega arith)
+
 -- ---- the loop over messages
 
 pub walk_on : (ms : List Telegram) (s : List ℕ) (m : Telegram) (t : List ℕ) (total : Stream)
-    → front_at s ≡ Ok (m, t) → walked ms (stream_of s) ≡ total
+    → stream_of s ≡ walked (m ∷ []) (stream_of t) → walked ms (stream_of s) ≡ total
     → walked (ms ++ m ∷ []) (stream_of t) ≡ total
-walk_on ms s m t total h so_far =
-    let first : stream_of s ≡ walked (m ∷ []) (stream_of t) =
-    stream_step s ∙ ap (stream_on s stream_of) h in
+walk_on ms s m t total first so_far =
     let regroup : walked (ms ++ m ∷ []) (stream_of t) ≡ walked ms (walked (m ∷ []) (stream_of t)) =
     ap (λ (all : List Telegram). record {
       messages = all;
@@ -244,23 +280,12 @@ walk_on ms s m t total h so_far =
     }) (append_assoc ms (m ∷ []) (stream_of t).messages) in
     regroup ∙ ap (walked ms) (sym first) ∙ so_far
 
-pub walk_short : (ms : List Telegram) (s : List ℕ) (total : Stream) → front_at s ≡ Err short
-    → walked ms (stream_of s) ≡ total → stream ms s None ≡ total
-walk_short ms s total h so_far =
-    let first : stream_of s ≡ stream [] s None = stream_step s ∙ ap (stream_on s stream_of) h in
-    let regroup : stream ms s None ≡ walked ms (stream [] s None) =
-    ap (λ (all : List Telegram). stream all s None) (sym (append-nil ms)) in
-    regroup ∙ ap (walked ms) (sym first) ∙ so_far
-
-pub walk_fault : (ms : List Telegram) (s : List ℕ) (f : GrammarFault) (total : Stream)
-    → front_at s ≡ Err (fault f) → walked ms (stream_of s) ≡ total
-    → stream ms [] (Some (fault_of f s)) ≡ total
-walk_fault ms s f total h so_far =
-    let first : stream_of s ≡ stream [] [] (Some (fault_of f s)) =
-    stream_step s ∙ ap (stream_on s stream_of) h in
-    let regroup : stream ms [] (Some (fault_of f s)) ≡ walked ms
-    (stream [] [] (Some (fault_of f s))) =
-    ap (λ (all : List Telegram). stream all [] (Some (fault_of f s))) (sym (append-nil ms)) in
+-- no message follows
+pub walk_ends : (ms : List Telegram) (s rest : List ℕ) (f : Option StreamFault) (total : Stream)
+    → stream_of s ≡ stream [] rest f → walked ms (stream_of s) ≡ total → stream ms rest f ≡ total
+walk_ends ms s rest f total first so_far =
+    let regroup : stream ms rest f ≡ walked ms (stream [] rest f) =
+    ap (λ (all : List Telegram). stream all rest f) (sym (append-nil ms)) in
     regroup ∙ ap (walked ms) (sym first) ∙ so_far
 
 pub kept_is : (s : List ℕ) (ms : List Telegram) (rest : List ℕ) (g : Option StreamFault)

@@ -6,5 +6,6 @@ pub mod Numbers
 pub mod Grammar
 pub mod Reading
 pub mod Stream
+pub mod Fronts
 pub mod Faults
 pub mod Laws

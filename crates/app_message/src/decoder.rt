@@ -2,16 +2,18 @@
 
 ghost use Rattle.std.specs.Prelude.{◌≡◌, ◌≢◌, ◌≤◌, ◌<◌, ◌+◌, [], length, IfOk, OnOk, OnErr, IfSome};
 ghost use Rattle.std.specs.Prelude.{IsSome};
-ghost use Rattle.std.specs.Prelude.{IsOk, IsOkAnd, Err, Some, None};
+ghost use Rattle.std.specs.Prelude.{IsOk, IsOkAnd, Err, Some, None, true};
 ghost use Rattle.app_message.specs.declared.sizes.TheConstants.{HEADER, LONGEST_BODY};
 ghost use Rattle.app_message.specs.Numbers.{as_message_fault};
 ghost use Rattle.app_message.specs.Stream.{IsHeld, fault_of, stream, stream_of, fed_by, held};
 ghost use Rattle.app_message.specs.Stream.{held_after};
+ghost use Rattle.app_message.specs.Fronts.{IsFront};
 
 use crate::fault::{GrammarFault, MessageFault, StreamFault};
 use crate::message::Message;
 use crate::messages::Messages;
 use crate::reading::{self, Stop};
+use crate::spelled_message::SpelledMessage;
 use crate::token::Token;
 use site_base::NoMemory;
 use std::alloc::Global;
@@ -113,6 +115,58 @@ impl Decoder {
         self.take(&octets, messages)
     }
 
+    /// Whether the next octet begins a message: nothing is held, and the stream has no fault.
+    #[inline(always)]
+    pub fn is_between(&self) -> bool
+        ensures { result ≡ true → self.now ≡ held_after [] }
+    {
+        self.rest.is_empty() && self.fault.is_none()
+    }
+
+    /// The fault of the stream, if it has one by now.
+    pub fn fault(&self) -> Option<StreamFault>
+        ensures { result ≡ self.now.fault }
+    {
+        self.fault
+    }
+
+    /// The message at the front of the octets that come next, where it lies, and the octets behind
+    /// it, which come next then. None where no message ends in them: they are held, or the stream
+    /// has ended with its `fault`. After `NoMemory` nothing is taken: the decoder is as before.
+    #[inline(always)]
+    pub fn take_front<'a>(
+        &mut self,
+        octets: &'a [u8],
+    ) -> Result<Option<(SpelledMessage<'a>, &'a [u8])>, NoMemory>
+        requires { self.old ≡ held_after [] }
+        ensures front { IfOk result (λ front. IsFront octets.now self.old self.new front) }
+        ensures err { OnErr result (self.new ≡ self.old) }
+    {
+        self.read_front(octets)
+    }
+
+    /// The same, of octets that come in place of those that are held.
+    #[inline(always)]
+    fn read_front<'a>(
+        &mut self,
+        octets: &'a [u8],
+    ) -> Result<Option<(SpelledMessage<'a>, &'a [u8])>, NoMemory>
+        ensures front { IfOk result (λ front. IsFront octets.now self.old self.new front) }
+        ensures err { OnErr result (self.new ≡ self.old) }
+    {
+        match reading::front(octets) {
+            Ok(front) => Ok(Some(front)),
+            Err(Stop::Short) => {
+                self.hold(octets)?;
+                Ok(None)
+            }
+            Err(Stop::Fault(fault)) => {
+                self.end(fault_in(fault, octets));
+                Ok(None)
+            }
+        }
+    }
+
     /// Takes these octets in place of those that are held, where they lie, and puts the messages
     /// that end in them into an empty list. The answer is the fault of the stream, if it has one.
     fn take(
@@ -128,22 +182,17 @@ impl Decoder {
     {
         let mut rest = octets;
         loop {
-            match reading::front(rest) {
-                Ok((message, after)) => {
-                    messages.push(self.alloc, message)?;
-                    rest = after;
-                }
-                Err(Stop::Short) => return self.hold(rest),
-                Err(Stop::Fault(fault)) => return Ok(self.end(fault_in(fault, rest))),
-            }
+            let Some((message, after)) = self.read_front(rest)? else {
+                return Ok(self.fault);
+            };
+            messages.push(self.alloc, message)?;
+            rest = after;
         }
     }
 
-    /// Holds these octets of a message to come, in place of those that are held. The answer is that
-    /// the stream has no fault.
-    fn hold(&mut self, rest: &[u8]) -> Result<Option<StreamFault>, NoMemory>
+    /// Holds these octets of a message to come, in place of those that are held.
+    fn hold(&mut self, rest: &[u8]) -> Result<(), NoMemory>
         requires { length rest.now < HEADER + LONGEST_BODY }
-        ensures fault { IfOk result (λ fault. fault ≡ None) }
         ensures held { OnOk result (self.new ≡ record { rest = rest.now; fault = None }) }
         ensures err { OnErr result (self.new ≡ self.old) }
     {
@@ -153,17 +202,15 @@ impl Decoder {
             self.rest = Vec::from_slice(self.alloc, rest)?;
         }
         self.fault = None;
-        Ok(None)
+        Ok(())
     }
 
-    /// The stream has ended with this fault, which is the answer: nothing is held.
-    fn end(&mut self, fault: StreamFault) -> Option<StreamFault>
-        ensures fault { result ≡ Some fault }
-        ensures held { self.new ≡ record { rest = []; fault = Some fault } }
+    /// The stream has ended with this fault: nothing is held.
+    fn end(&mut self, fault: StreamFault)
+        ensures { self.new ≡ record { rest = []; fault = Some fault } }
     {
         self.rest = Vec::new(self.alloc);
         self.fault = Some(fault);
-        self.fault
     }
 
     /// Whether the stream may end here: the stream's fault, if it has one; else `Truncated`, if it

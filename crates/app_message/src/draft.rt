@@ -16,6 +16,7 @@ use crate::kind::Kind;
 use crate::message::Message;
 use crate::parts;
 use crate::sizes::{LONGEST_ADDRESS, LONGEST_BODY, LONGEST_CONTENT};
+use crate::spelled_message::SpelledMessage;
 use crate::token::Token;
 use site_base::NoMemory;
 use std::alloc::{AllocError, Global};
@@ -91,7 +92,7 @@ impl Draft {
     /// room; the buffer is lost then.
     #[inline(always)]
     pub fn back(
-        request: &Message,
+        request: &SpelledMessage<'_>,
         from: [u8; 2],
         kind: Kind,
         buffer: Vec<u8>,

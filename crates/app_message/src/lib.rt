@@ -34,5 +34,6 @@ pub use laws::{any_cutting, no_prefix, octets_are_spelled, one_stream, read_agai
 pub use message::Message;
 pub use messages::Messages;
 pub use sizes::{HEADER, LONGEST_ADDRESS, LONGEST_BODY, LONGEST_CONTENT, SHORTEST_BODY};
+pub use spelled_message::SpelledMessage;
 pub use token::Token;
 pub use writing::{encode, encode_into};

@@ -15,6 +15,7 @@ use crate::items::Items;
 use crate::kind::Kind;
 use crate::parts;
 use crate::reading::Head;
+use crate::spelled_message::SpelledMessage;
 use crate::token::Token;
 use site_base::NoMemory;
 use std::alloc::Global;
@@ -162,7 +163,7 @@ impl Message {
         ensures least { 1 ≤ length result.now }
         ensures most { length result.now ≤ LONGEST_ADDRESS }
     {
-        parts::split(&self.body).0
+        self.as_spelled().address()
     }
 
     /// The items, in strictly rising order of their identifiers.
@@ -170,15 +171,21 @@ impl Message {
         ensures value { result ≡ self.now.items }
         ensures valid { IsMessage self.now }
     {
-        Items::new(parts::split(&self.body).1)
+        self.as_spelled().items()
     }
 
-    /// The address as it is spelled: its length, and its octets.
-    pub(crate) fn spelled_address(&self) -> &[u8]
-        ensures text { result.now ≡ length self.now.address ∷ self.now.address }
-        ensures valid { IsMessage self.now }
+    /// The message, where it lies.
+    pub fn as_spelled(&self) -> SpelledMessage<'_>
+        ensures { result ≡ self.now }
     {
-        &self.body[..usize::from(self.body[0]) + 1]
+        let head = Head {
+            to: self.to,
+            from: self.from,
+            kind: self.kind,
+            token: self.token,
+            len: self.body.len(),
+        };
+        SpelledMessage::new(head, &self.body)
     }
 
     /// Whether the two messages are the same.

@@ -15,7 +15,7 @@ ghost use Rattle.device_map.specs.Nodes.{site_node};
 use crate::decimal::packed_digits;
 use crate::item_writing::{put_eight, put_four, put_octet, put_two};
 use crate::{ids, node};
-use app_message::{Draft, Kind, Message, MessageFault, StreamFault, Token};
+use app_message::{Draft, Kind, Message, MessageFault, SpelledMessage, StreamFault, Token};
 use site_base::{
     Answer, Cents, Mills, NoMemory, NozzleNo, PointView, Preset, ProductView, Refusal, Reply, Seq,
     ShiftNo, SiteView, TillNo, TransactionView,
@@ -31,13 +31,17 @@ const ROOM: usize = 96;
 pub fn reply_of(alloc: Global, request: &Message, reply: &Reply) -> Result<Message, NoMemory>
     ensures { IfOk result (λ message. message ≡ reply_message request.now reply.now) }
 {
-    reply_in(Vec::new(alloc), request, reply)
+    reply_in(Vec::new(alloc), &request.as_spelled(), reply)
 }
 
 /// The same message, written into a buffer, whose content goes. The buffer is lost after
 /// `NoMemory`.
 #[inline(always)]
-pub fn reply_in(buffer: Vec<u8>, request: &Message, reply: &Reply) -> Result<Message, NoMemory>
+pub fn reply_in(
+    buffer: Vec<u8>,
+    request: &SpelledMessage<'_>,
+    reply: &Reply,
+) -> Result<Message, NoMemory>
     ensures { IfOk result (λ message. message ≡ reply_message request.now reply.now) }
 {
     let mut draft = begin_reply(buffer, request, kind_of(reply))?;
@@ -50,12 +54,16 @@ pub fn reply_in(buffer: Vec<u8>, request: &Message, reply: &Reply) -> Result<Mes
 pub fn refusal_of(alloc: Global, request: &Message, number: u8) -> Result<Message, NoMemory>
     ensures { IfOk result (λ message. message ≡ number_message request.now number) }
 {
-    refusal_in(Vec::new(alloc), request, number)
+    refusal_in(Vec::new(alloc), &request.as_spelled(), number)
 }
 
 /// The same message, written into a buffer, whose content goes. The buffer is lost after
 /// `NoMemory`.
-pub fn refusal_in(buffer: Vec<u8>, request: &Message, number: u8) -> Result<Message, NoMemory>
+pub fn refusal_in(
+    buffer: Vec<u8>,
+    request: &SpelledMessage<'_>,
+    number: u8,
+) -> Result<Message, NoMemory>
     ensures { IfOk result (λ message. message ≡ number_message request.now number) }
 {
     let mut draft = begin_reply(buffer, request, Kind::Ack)?;
@@ -102,7 +110,11 @@ pub fn stream_refusal(alloc: Global, fault: &StreamFault) -> Result<Message, NoM
 /// A message without items yet, from the site to the originator of the request, with its token and
 /// address.
 #[inline(always)]
-fn begin_reply(buffer: Vec<u8>, request: &Message, kind: Kind) -> Result<Draft, NoMemory>
+fn begin_reply(
+    buffer: Vec<u8>,
+    request: &SpelledMessage<'_>,
+    kind: Kind,
+) -> Result<Draft, NoMemory>
     ensures value { IfOk result (λ draft. draft ≡ back request.now kind []) }
     ensures least { OnOk result (1 ≤ length request.now.address) }
     ensures most { OnOk result (length request.now.address ≤ 8) }

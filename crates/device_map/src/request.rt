@@ -9,15 +9,23 @@ use crate::address::Database;
 use crate::decimal::SaleDigits;
 use crate::fault::MapFault;
 use crate::{further_items, ids, node};
-use app_message::{Item, Items, Kind, Message};
+use app_message::{Item, Items, Kind, Message, SpelledMessage};
 use site_base::{Actor, Event, FpNo, ProductNo};
 
 /// The actor and the event that the message means, or its first fault, in the order of `MapFault`'s
 /// variants: it is a request, for this site, from one who may ask it, of a database that has
 /// requests of this kind, with just the items that belong to it.
-#[tactic(auto, unfolding(crate::specs::Requests::request_at))]
 #[inline(always)]
 pub fn request_of(message: &Message) -> Result<(Actor, Event), MapFault>
+    ensures { Gives result (request_at message.now) }
+{
+    request_in(&message.as_spelled())
+}
+
+/// The same, of a message where it lies.
+#[tactic(auto, unfolding(crate::specs::Requests::request_at))]
+#[inline(always)]
+pub fn request_in(message: &SpelledMessage<'_>) -> Result<(Actor, Event), MapFault>
     ensures { Gives result (request_at message.now) }
 {
     node::check_request(message.kind())?;

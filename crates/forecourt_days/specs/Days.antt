@@ -1,7 +1,10 @@
 -- What a server's day tells, and how the program ends with it.
-use Rattle.std.specs.Prelude.{◌⊎◌, ℕ, List, ◌++◌, codes, decimal, Option}
+use Rattle.std.specs.Prelude.{◌≡◌, ◌⊎◌, ℕ, List, ◌++◌, codes, decimal, IfOk, OnOk, Option, Result}
+use Rattle.std.specs.Io.KnownBytes.{Appends}
+use Rattle.std.specs.Result.{IsErrOf}
 use Rattle.site_base.specs.Configured.{Configured}
-use Rattle.site_base.specs.Devices.{AppendsFront}
+use Rattle.site_base.specs.declared.transfer.WriteFault.TheVariants as writes
+use Rattle.site_base.specs.Devices.{AppendsFront, one_more}
 use Rattle.counter_desk.specs.declared.receipt.Receipt.{Receipt}
 use Rattle.counter_desk.specs.declared.settlement.Settled.{Settled}
 use Rattle.counter_desk.specs.declared.settlement.SettleFault.{SettleFault}
@@ -9,7 +12,7 @@ use Rattle.counter_desk.specs.declared.settlement.SettleFault.TheVariants as set
 use Rattle.counter_desk.specs.Settlement.{Settles}
 use Rattle.forecourt_engines.specs.Report.{report_text}
 use Rattle.forecourt_days.specs.declared.fault.DayFault.{DayFault}
-use Rattle.forecourt_days.specs.declared.fault.DayFault.TheVariants.{NoMemory, Unsettled}
+use Rattle.forecourt_days.specs.declared.fault.DayFault.TheVariants.{NoMemory, Unsettled, Write}
 
 -- where the server listens
 abbrev pub listening_line : ℕ → List ℕ
@@ -31,6 +34,17 @@ TellsDayFront config port holds holds' =
     AppendsFront holds holds' (listening_line port)
     ⊎ ((settled : Settled) × IsSettledDay config settled
     × AppendsFront holds holds' (day_text config port settled))
+
+-- what a day of a server has settled and written when it ends, and what that does to its writer's
+-- count of failures and to its turns
+pub record ServesDay (config : Configured) (port : ℕ) (result : Result Settled DayFault)
+    (holds holds' : Option (List ℕ)) (failures failures' turns' : ℕ) : Type 0 where
+  pub settled : IfOk result (λ settled. IsSettledDay config settled)
+  pub told : IfOk result (λ settled. Appends holds holds' (day_text config port settled))
+  pub front : TellsDayFront config port holds holds'
+  pub counted : OnOk result (failures' ≡ failures)
+  pub failed : IsErrOf result (Write writes.Failed) → failures' ≡ one_more failures
+  pub limit : IsErrOf result (Write writes.TurnLimit) → turns' ≡ 0
 
 -- why a day isn't settled, as the server tells it
 abbrev pub unsettled_by : SettleFault → DayFault

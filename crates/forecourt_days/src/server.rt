@@ -1,18 +1,15 @@
 //! A day of a server.
 
-ghost use Rattle.std.specs.Prelude.{◌≡◌, ◌^◌, IfOk, OnOk};
-ghost use Rattle.std.specs.Io.KnownBytes.{Appends};
-ghost use Rattle.std.specs.Result.{IsErrOf};
+ghost use Rattle.std.specs.Prelude.{◌≡◌, ◌^◌};
 ghost use Rattle.site_base.specs.Counted.{device_of, failures_of};
-ghost use Rattle.site_base.specs.Devices.{one_more};
-ghost use Rattle.forecourt_days.specs.Days.{IsSettledDay, TellsDayFront, day_text};
+ghost use Rattle.forecourt_days.specs.Days.{ServesDay};
 
 use crate::fault::DayFault;
 use crate::listener::Loopback;
 use crate::plan::ServerPlan;
 use crate::writing::{put_listening, put_report};
 use counter_desk::{Desk, Naming, OpenGate, Settled, settle_all};
-use site_base::{Counted, SiteConfig, WriteFault};
+use site_base::{Counted, SiteConfig};
 use std::alloc::Global;
 use std::io::Write;
 use std::marker::Brand;
@@ -39,18 +36,9 @@ pub fn serve_day<W: Write, R: Threads + Wait + Sync>(
     turns: &mut u64,
     writer: &mut Counted<W>,
 ) -> Result<Settled, DayFault>
-    ensures settled { IfOk result (λ settled. IsSettledDay config.now settled) }
-    ensures told { IfOk result (λ settled. Appends
+    ensures { ServesDay config.now listener.port result
         (W.contents (device_of writer.old)) (W.contents (device_of writer.new))
-        (day_text config.now listener.port settled)) }
-    ensures front { TellsDayFront config.now listener.port
-        (W.contents (device_of writer.old)) (W.contents (device_of writer.new)) }
-
-    // What the day's writes do to the writer's count, and to the turns.
-    ensures counted { OnOk result (failures_of writer.new ≡ failures_of writer.old) }
-    ensures failed { IsErrOf result (DayFault.Write WriteFault.Failed)
-        → failures_of writer.new ≡ one_more (failures_of writer.old) }
-    ensures limit { IsErrOf result (DayFault.Write WriteFault.TurnLimit) → turns.new ≡ 0 }
+        (failures_of writer.old) (failures_of writer.new) turns.new }
 {
     let blank = Blank::new(PARTS);
     day_of::<Brand, Brand, W, R>(rt, alloc, blank, config, listener, plan, turns, writer)
@@ -69,18 +57,9 @@ fn day_of<L: Ledger + Send + Sync, C: Naming + Send + Sync, W: Write, R: Threads
 ) -> Result<Settled, DayFault>
     requires ledger { (blank.name ≡ L.name) × (blank.parts ≡ L.parts) × (blank.parts ≡ 2 ^ 63) }
     requires config { config.now ≡ C.config }
-    ensures settled { IfOk result (λ settled. IsSettledDay config.now settled) }
-    ensures told { IfOk result (λ settled. Appends
+    ensures { ServesDay config.now listener.port result
         (W.contents (device_of writer.old)) (W.contents (device_of writer.new))
-        (day_text config.now listener.port settled)) }
-    ensures front { TellsDayFront config.now listener.port
-        (W.contents (device_of writer.old)) (W.contents (device_of writer.new)) }
-
-    // What the day's writes do to the writer's count, and to the turns.
-    ensures counted { OnOk result (failures_of writer.new ≡ failures_of writer.old) }
-    ensures failed { IsErrOf result (DayFault.Write WriteFault.Failed)
-        → failures_of writer.new ≡ one_more (failures_of writer.old) }
-    ensures limit { IsErrOf result (DayFault.Write WriteFault.TurnLimit) → turns.new ≡ 0 }
+        (failures_of writer.old) (failures_of writer.new) turns.new }
 {
     let (desk, root) = Desk::<L, C>::try_open(alloc, blank, config)?;
     put_listening(alloc, listener.port(), writer, turns)?;

@@ -1,5 +1,7 @@
 pub mod Bytes
 pub mod Hexadecimal
+pub mod DigitTables
+pub mod AnsweredStreams
 pub mod Lines
 pub mod WholeTexts
 pub mod Running

@@ -1,6 +1,7 @@
 pub mod Sites
 pub mod Answers
 pub mod Text
+pub mod Streams
 pub mod LineTexts
 pub mod Replay
 pub mod Ends

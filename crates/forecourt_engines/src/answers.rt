@@ -6,21 +6,26 @@ ghost use Rattle.hex.specs.Hex.{encode_lower};
 ghost use Rattle.forecourt_engines.specs.Answers.{line_of, change_line, lines_for, after_message};
 ghost use Rattle.forecourt_engines.specs.Answers.{answers_to, after_messages};
 ghost use Rattle.device_map.specs.Changes.{change_of};
+ghost use Rattle.device_map.specs.Replies.{number_message, reply_message};
 ghost use Rattle.app_message.specs.declared.sizes.TheConstants.{HEADER, LONGEST_BODY};
 
-use app_message::Message;
-use device_map::{change_of, refusal_in, reply_in, request_of};
-use site_base::{NoMemory, NoRow, Row};
+use crate::plain_digits::write_digits;
+use app_message::{Message, SpelledMessage};
+use device_map::{change_of, refusal_in, reply_in, request_in};
+use site_base::{NoMemory, NoRow, Reply, Row};
 use site_book::SiteBook;
 use std::alloc::Global;
 use std::marker::Model;
 use std::mem;
 
-/// What answers messages: a book, and whether the changes of its rows are told too.
+/// What answers messages: a book, and whether the changes of its rows are told too. Beside that it
+/// has the room of the last answer, which serves the next one.
 #[derive(Drop)]
 pub struct Answerer {
+    alloc: Global,
     book: SiteBook,
     changes: bool,
+    room: Vec<u8>,
 }
 
 impl Model for Answerer {
@@ -32,11 +37,16 @@ impl Model for Answerer {
 }
 
 impl Answerer {
-    /// An answerer over this book, which tells changes or not.
-    pub fn new(book: SiteBook, changes: bool) -> Answerer
+    /// An answerer over this book, which tells changes or not. It takes no memory.
+    pub fn new(alloc: Global, book: SiteBook, changes: bool) -> Answerer
         ensures { result ≡ record { book = book; changes = changes } }
     {
-        Answerer { book, changes }
+        Answerer {
+            alloc,
+            book,
+            changes,
+            room: Vec::new(alloc),
+        }
     }
 
     /// The book.
@@ -46,73 +56,101 @@ impl Answerer {
         self.book
     }
 
-    /// Appends the lines for messages, in order: for each its answer, and, where changes are told,
-    /// the change of its row. Each answer is made in the buffer.
-    #[inline(always)]
-    pub fn answer_all(
-        &mut self,
-        alloc: Global,
-        messages: &[Message],
-        buffer: &mut Vec<u8>,
-        out: &mut Vec<u8>,
-    ) -> Result<(), NoMemory>
+    /// Appends the lines for messages, in order.
+    pub fn answer_all(&mut self, messages: &[Message], out: &mut Vec<u8>) -> Result<(), NoMemory>
         ensures text { OnOk result (out.new.items ≡ out.old.items
             ++ answers_to self.old messages.now) }
         ensures state { OnOk result (self.new ≡ after_messages self.old messages.now) }
     {
         for message in messages {
-            let room = mem::replace(buffer, Vec::new(alloc));
-            *buffer = self.answer(alloc, message, room, out)?;
+            self.answer(&message.as_spelled(), out)?;
         }
         Ok(())
     }
 
-    /// Appends the lines for a message. The answer is made in the buffer, which comes back.
+    /// Appends the lines for a message: its answer, and, where changes are told, the change of its
+    /// row.
     #[inline(always)]
-    fn answer(
+    pub fn answer(
         &mut self,
-        alloc: Global,
-        message: &Message,
-        buffer: Vec<u8>,
+        message: &SpelledMessage<'_>,
         out: &mut Vec<u8>,
-    ) -> Result<Vec<u8>, NoMemory>
+    ) -> Result<(), NoMemory>
         ensures text { OnOk result (out.new.items ≡ out.old.items
             ++ lines_for self.old message.now) }
         ensures state { OnOk result (self.new ≡ after_message self.old message.now) }
     {
-        let (actor, event) = match request_of(message) {
-            Err(fault) => return tell(refusal_in(buffer, message, fault.number())?, out),
+        let (actor, event) = &match request_in(message) {
+            Err(fault) => return self.refuse(message, fault.number(), out),
             Ok(request) => request,
         };
-        let placed = match self.book.apply(actor, event) {
+        let placed = match self.book.apply(*actor, *event) {
             Ok(placed) => placed,
-            Err(NoRow::BookFull) => return tell(
-                refusal_in(buffer, message, NoRow::BookFull.number())?,
-                out,
-            ),
+            Err(NoRow::BookFull) => return self.refuse(message, NoRow::BookFull.number(), out),
             Err(NoRow::NoMemory) => return Err(NoMemory),
         };
-        let reply = placed.reply;
-        let room = tell(reply_in(buffer, message, &reply)?, out)?;
+        let reply = &placed.reply;
+        self.tell_reply(message, reply, out)?;
         if self.changes {
             let row = Row {
-                actor,
-                event,
-                reply,
+                actor: *actor,
+                event: *event,
+                reply: *reply,
             };
-            put_change(alloc, &row, out)?;
-            return Ok(room);
+            return put_change(self.alloc, &row, out);
         }
-        Ok(room)
+        Ok(())
     }
-}
 
-/// Appends a message as a line, and gives its room back.
-fn tell(message: Message, out: &mut Vec<u8>) -> Result<Vec<u8>, NoMemory>
-    ensures { OnOk result (out.new.items ≡ out.old.items ++ line_of message) }
-{
-    put_line(out, &message)?;
-    Ok(message.into_buffer())
+    /// Appends the message that tells a reply as a line.
+    #[inline(always)]
+    fn tell_reply(
+        &mut self,
+        message: &SpelledMessage<'_>,
+        reply: &Reply,
+        out: &mut Vec<u8>,
+    ) -> Result<(), NoMemory>
+        ensures same { self.new ≡ self.old }
+        ensures text { OnOk result (out.new.items ≡ out.old.items
+            ++ line_of (reply_message message.now reply.now)) }
+    {
+        let answer = reply_in(self.take_room(), message, reply)?;
+        self.tell(answer, out)
+    }
+
+    /// Appends the message that tells a number in place of a reply as a line.
+    fn refuse(
+        &mut self,
+        message: &SpelledMessage<'_>,
+        number: u8,
+        out: &mut Vec<u8>,
+    ) -> Result<(), NoMemory>
+        ensures same { self.new ≡ self.old }
+        ensures text { OnOk result (out.new.items ≡ out.old.items
+            ++ line_of (number_message message.now number)) }
+    {
+        let refusal = refusal_in(self.take_room(), message, number)?;
+        self.tell(refusal, out)
+    }
+
+    /// Appends an answer as a line, and keeps its room.
+    #[inline(always)]
+    fn tell(&mut self, answer: Message, out: &mut Vec<u8>) -> Result<(), NoMemory>
+        ensures same { self.new ≡ self.old }
+        ensures text { OnOk result (out.new.items ≡ out.old.items ++ line_of answer) }
+    {
+        put_line(out, &answer)?;
+        self.room = answer.into_buffer();
+        Ok(())
+    }
+
+    /// The room for an answer.
+    #[inline(always)]
+    fn take_room(&mut self) -> Vec<u8>
+        ensures { self.new ≡ self.old }
+    {
+        mem::replace(&mut self.room, Vec::new(self.alloc))
+    }
 }
 
 /// Appends the change that a row stands for as a line, if it stands for one.
@@ -153,17 +191,6 @@ fn spell(head: &[u8], body: &[u8], place: &mut [u8])
 {
     let (first, rest) = place.split_at_mut(2 * head.len());
     let (second, _) = rest.split_at_mut(2 * body.len());
-    put_digits(head, first);
-    put_digits(body, second);
-}
-
-/// Writes octets as hexadecimal, where there is just the place for them.
-fn put_digits(octets: &[u8], place: &mut [u8])
-    requires { length place.old ≡ 2 * length octets.now }
-    ensures { place.new ≡ encode_lower octets.now }
-{
-    match hex::encode_to_slice(octets, place) {
-        Ok(()) => {}
-        Err(_) => unreachable!(),
-    }
+    write_digits(head, first);
+    write_digits(body, second);
 }

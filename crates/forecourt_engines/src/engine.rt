@@ -3,18 +3,13 @@
 ghost use Rattle.std.specs.Prelude.{◌≡◌, [], ◌∷◌, ◌++◌, None, IfOk, OnOk};
 ghost use Rattle.forecourt_engines.specs.Text.{start, after, text_from, ended, last_text};
 ghost use Rattle.forecourt_engines.specs.Text.{last_fault};
-ghost use Rattle.forecourt_engines.specs.Text.{kept_of, effect, stream_effect, effect_in};
+ghost use Rattle.forecourt_engines.specs.Text.{kept_of, effect, effect_in};
 ghost use Rattle.forecourt_engines.specs.Text.{line_effect, next_line, with_effect};
-ghost use Rattle.forecourt_engines.specs.Answers.{line_of};
-ghost use Rattle.device_map.specs.Replies.{fault_message};
-ghost use Rattle.app_message.specs.Stream.{fed_by};
 ghost use Rattle.forecourt_engines.specs.Laws.{IsLine};
 
-use crate::answers::{Answerer, put_line};
 use crate::fault::TextFault;
 use crate::line::{LINE_OCTETS, LineText, read_octets, text_of};
-use app_message::{Decoder, Messages, StreamFault};
-use device_map::stream_refusal;
+use crate::stream::AnsweredStream;
 use memchr::memchr;
 use site_base::NoMemory;
 use site_book::SiteBook;
@@ -23,21 +18,17 @@ use std::marker::Model;
 use std::mem;
 
 /// A replay between two octets of its input. Beside what its text depends on it has buffers that
-/// stay, for a line without its spaces, for its octets, for its messages, and for a reply, so that
-/// a line no longer, and with no more messages, than the line before it is meant to allocate
-/// nothing of its own. Line numbers stop at the greatest `u64`.
+/// stay, for a line without its spaces and for its octets, so that a line no longer than the line
+/// before it is meant to allocate nothing of its own. Line numbers stop at the greatest `u64`.
 #[derive(Drop)]
 pub struct Engine {
     alloc: Global,
     line: Vec<u8>,
     number: u64,
-    decoder: Decoder,
-    answerer: Answerer,
+    stream: AnsweredStream,
     stop: Option<TextFault>,
     kept: Vec<u8>,
     octets: Vec<u8>,
-    reply: Vec<u8>,
-    messages: Messages,
 }
 
 impl Model for Engine {
@@ -50,8 +41,8 @@ impl Model for Engine {
     ghost view = { λ e. record {
       line = e.line.items;
       number = e.number;
-      stream = e.decoder;
-      answerer = e.answerer;
+      stream = e.stream.stream;
+      answerer = e.stream.answerer;
       stop = e.stop;
     } };
 
@@ -68,13 +59,10 @@ impl Engine {
             alloc,
             line: Vec::new(alloc),
             number: 1,
-            decoder: Decoder::new(alloc),
-            answerer: Answerer::new(book, changes),
+            stream: AnsweredStream::new(alloc, book, changes),
             stop: None,
             kept: Vec::new(alloc),
             octets: Vec::new(alloc),
-            reply: Vec::new(alloc),
-            messages: Messages::new(alloc),
         }
     }
 
@@ -89,7 +77,7 @@ impl Engine {
     pub fn into_book(self) -> SiteBook
         ensures { result ≡ self.answerer.book }
     {
-        self.answerer.into_book()
+        self.stream.into_book()
     }
 
     /// Takes a piece of the input, and appends its text. After `NoMemory` the engine is of no use.
@@ -116,7 +104,7 @@ impl Engine {
         if self.stop.is_none() {
             self.tell_held(out)?;
         }
-        if self.stop.is_none() && self.decoder.held() > 0 {
+        if self.stop.is_none() && self.stream.is_inside() {
             return Ok(Some(TextFault::Truncated));
         }
         Ok(self.stop)
@@ -178,68 +166,25 @@ impl Engine {
         ensures text { OnOk result (out.new.items ≡ out.old.items
             ++ (effect self.old.number self.old.stream self.old.answerer (kept_of line.now)).text) }
     {
-        let text = text_of(line);
-        let mut octets = mem::replace(&mut self.octets, Vec::new(self.alloc));
-        self.stop = self.judge(text, &mut octets, out)?;
-        self.octets = octets;
+        self.stop = self.judge(text_of(line), out)?;
         self.line.clear();
         self.number = self.number.saturating_add(1);
         Ok(())
     }
 
-    /// What the text of a line says: its octets go to the decoder, each message that they end is
-    /// answered over the book, and the text is appended. The answer is why the text ends with this
-    /// line, if it does.
-    fn judge(
-        &mut self,
-        text: &[u8],
-        octets: &mut Vec<u8>,
-        out: &mut Vec<u8>,
-    ) -> Result<Option<TextFault>, NoMemory>
+    /// What the text of a line says: its octets go to the stream, and what that says is appended.
+    /// The answer is why the text ends with this line, if it does.
+    fn judge(&mut self, text: &[u8], out: &mut Vec<u8>) -> Result<Option<TextFault>, NoMemory>
         ensures stop { IfOk result (λ stop. stop ≡ (effect_in self.old text.now).stop) }
         ensures state { OnOk result
             (self.new ≡ with_effect self.old (effect_in self.old text.now)) }
         ensures text { OnOk result (out.new.items ≡ out.old.items
             ++ (effect_in self.old text.now).text) }
     {
-        match read_octets(text, &mut self.kept, octets)? {
+        match read_octets(text, &mut self.kept, &mut self.octets)? {
             LineText::Skipped => Ok(None),
-            LineText::Octets => self.answer(octets, out),
+            LineText::Octets => self.stream.answer(&self.octets, out),
             LineText::NotHexadecimal => Ok(Some(TextFault::NotHexadecimal(self.number))),
         }
-    }
-
-    /// The messages that these octets end, each answered over the book by a line, and the refusal
-    /// of a stream's fault. The answer is why the text ends with them, if it does.
-    fn answer(&mut self, octets: &[u8], out: &mut Vec<u8>) -> Result<Option<TextFault>, NoMemory>
-        ensures stop { IfOk result (λ stop. stop
-            ≡ (stream_effect self.old.answerer (fed_by self.old.stream octets.now)).stop) }
-        ensures state { OnOk result (self.new
-            ≡ with_effect self.old
-            (stream_effect self.old.answerer (fed_by self.old.stream octets.now))) }
-        ensures text { OnOk result (out.new.items ≡ out.old.items
-            ++ (stream_effect self.old.answerer (fed_by self.old.stream octets.now)).text) }
-    {
-        let fault = self.decoder.feed_into(octets, &mut self.messages)?;
-        let messages = self.messages.as_slice();
-        self.answerer
-            .answer_all(self.alloc, messages, &mut self.reply, out)?;
-        match fault {
-            None => Ok(None),
-            Some(fault) => {
-                self.refuse(&fault, out)?;
-                Ok(Some(TextFault::Stream(fault.fault)))
-            }
-        }
-    }
-
-    /// Appends the refusal of a stream's fault as a line.
-    fn refuse(&mut self, fault: &StreamFault, out: &mut Vec<u8>) -> Result<(), NoMemory>
-        ensures state { OnOk result (self.new ≡ self.old) }
-        ensures text { OnOk result (out.new.items ≡ out.old.items
-            ++ line_of (fault_message fault.now)) }
-    {
-        let refusal = stream_refusal(self.alloc, fault)?;
-        put_line(out, &refusal)
     }
 }

@@ -17,12 +17,14 @@ mod laws;
 pub mod line;
 pub mod number;
 mod numbers;
+mod plain_digits;
 pub mod replay;
 pub mod report;
 pub mod reporting;
 mod sink;
 mod sites;
 mod sizes;
+mod stream;
 mod trace;
 pub mod words;
 

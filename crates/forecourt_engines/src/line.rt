@@ -6,6 +6,7 @@ ghost use Rattle.hex.specs.Hex.{decode_of};
 ghost use Rattle.forecourt_engines.specs.LineTexts.{Says};
 ghost use Rattle.forecourt_engines.specs.Text.{is_skipped, without_spaces};
 
+use crate::plain_digits::read_digits;
 use site_base::NoMemory;
 
 /// The most octets that a line may have before its line feed.
@@ -41,8 +42,7 @@ pub fn read_octets(
 ) -> Result<LineText, NoMemory>
     ensures { IfOk result (λ said. Says said text.now octets.new.items) }
 {
-    // Most lines are hexadecimal as they stand.
-    if !text.is_empty() && decode(text, octets)? {
+    if is_plain(text, octets)? {
         return Ok(LineText::Octets);
     }
     put_without_spaces(text, kept)?;
@@ -53,6 +53,18 @@ pub fn read_octets(
         return Ok(LineText::Octets);
     }
     Ok(LineText::NotHexadecimal)
+}
+
+/// Whether the text is plain digits, as most lines are; if so, its octets take the place of what the
+/// buffer holds.
+fn is_plain(text: &[u8], octets: &mut Vec<u8>) -> Result<bool, NoMemory>
+    ensures { IfOk result (λ is. is ≡ true → Says LineText.Octets text.now octets.new.items) }
+{
+    if text.is_empty() || text.len() % 2 != 0 {
+        return Ok(false);
+    }
+    octets.resize(text.len() / 2, 0)?;
+    Ok(read_digits(text, octets.as_mut_slice()))
 }
 
 /// Puts the text without its spaces in place of what the buffer holds.

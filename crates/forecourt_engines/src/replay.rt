@@ -98,9 +98,10 @@ pub(crate) fn run<R: Read, S: TextSink>(
         → Rose (S.failures sink.old) (S.failures sink.new) }
 {
     let mut piece = [0u8; PIECE_OCTETS];
+    let mut text = Vec::new(alloc);
     loop {
         let n = read_piece(reader, &mut piece, turns)?;
-        let mut text = Vec::new(alloc);
+        text.clear();
         if n == 0 {
             let fault = engine.finish(&mut text)?;
             sink.put(&text, turns)?;

@@ -220,7 +220,7 @@ impl Talk {
             → Rose (failures_of writer.old) (failures_of writer.new) }
         ensures turns { turns.new ≤ turns.old }
     {
-        let refusal = refusal_in(self.take_buffer(), message, number)?;
+        let refusal = refusal_in(self.take_buffer(), &message.as_spelled(), number)?;
         self.tell(writer, refusal, turns)
     }
 
@@ -307,7 +307,7 @@ fn reply_to(
     ensures { IfOk result (λ reply. spelling reply ≡ outcome_text message.now outcome.now) }
 {
     match outcome {
-        Ok(reply) => reply_in(room, message, reply),
-        Err(no_row) => refusal_in(room, message, no_row.number()),
+        Ok(reply) => reply_in(room, &message.as_spelled(), reply),
+        Err(no_row) => refusal_in(room, &message.as_spelled(), no_row.number()),
     }
 }

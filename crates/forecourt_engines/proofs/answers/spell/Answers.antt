@@ -19,8 +19,8 @@ returns c =
     ∙ ap (drop other) (drop-replicate one all 10) ∙ drop-replicate other (all - one) 10
     ∙ ap (λ n. replicate n 10) (let left : all - one - other ≡ 1 = omega arith in left) in
     rw (
-      c.put_digits.ensures,
-      c.put_digits-2.ensures,
+      c.write_digits.ensures,
+      c.write_digits-2.ensures,
       last,
       spelled_in_parts lower_digits c.args.head.now c.args.body.now,
     ) (sym (append_assoc head body (10 ∷ [])))

@@ -3,8 +3,8 @@ use Rattle.site_base.specs.Counted.{device_of, failures_of}
 use Rattle.forecourt_engines.proofs.Running.{Running}
 use Rattle.forecourt_engines.proofs.replay.run.Given as goal
 
-abbrev pub invariant-loop-n : goal.invariant-loop-n
-invariant-loop-n g l = record {
+abbrev pub invariant-loop-text : goal.invariant-loop-text
+invariant-loop-text g l = record {
   running : Running l.fn.turns l.turns l.fn.engine l.engine
       (g.R.Read.remaining (device_of l.fn.reader)) (g.R.Read.remaining (device_of l.reader))
       (g.S.TextSink.holds l.fn.sink) (g.S.TextSink.holds l.sink);
@@ -13,5 +13,5 @@ invariant-loop-n g l = record {
   unturned : l.turns ≤ l.fn.turns;
 }
 
-abbrev pub decreases-loop-n : goal.decreases-loop-n
-decreases-loop-n g l = l.turns
+abbrev pub decreases-loop-text : goal.decreases-loop-text
+decreases-loop-text g l = l.turns
