@@ -67,6 +67,15 @@ ends st octets rest said out now old h front between on none is =
           ∙ ap (λ (s : Stream). said ++ answers_to st.answerer s.messages) (sym alone);
     }
 
+-- no octet is left: all messages were answered, and nothing is held
+pub ends_whole : (st : StreamState) (octets rest said out : List ℕ) (now : Answerer) (h : Held)
+    → st.stream ≡ held_after [] → LeadsOn octets rest said out st.answerer now
+    → rest ≡ [] → h ≡ held_after [] → HasLed st octets said out now h
+unfolding walk
+ends_whole st octets rest said out now h between on none kept =
+    ends st octets rest said out now h h None between on refl
+    (rw none (refl, kept))
+
 -- the refusal of the stream's fault follows the answers
 pub with_fault : (st then : StreamState) (octets out told all : List ℕ)
     → told ≡ out ++ answers_to st.answerer (fed_by st.stream octets).messages

@@ -103,7 +103,10 @@ impl AnsweredStream {
             ++ answers_to self.old.answerer (fed_by self.old.stream octets.now).messages) }
     {
         let mut rest = octets;
-        while let Some((message, after)) = self.decoder.take_front(rest)? {
+        while !rest.is_empty() {
+            let Some((message, after)) = self.decoder.take_front(rest)? else {
+                return Ok(());
+            };
             self.answerer.answer(&message, out)?;
             rest = after;
         }
