@@ -193,7 +193,11 @@ fn put_address(out: &mut Vec<u8>, spelled: &[u8]) -> Result<(), AllocError>
     ensures { OnOk result (out.new.items ≡ out.old.items ++ spelled.now) }
 {
     match spelled {
-        [size, octet] => out.extend_from_slice(&[*size, *octet]),
+        [size, octet] => {
+            out.push(*size)?;
+            out.push(*octet)?;
+            Ok(())
+        }
         _ => out.extend_from_slice(spelled),
     }
 }

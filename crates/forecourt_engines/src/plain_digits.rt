@@ -2,15 +2,33 @@
 //! they mean, and reads every other line.
 
 ghost use Rattle.std.specs.Prelude.{◌≡◌, ◌≤◌, ◌*◌, ◌/◌, ◌%◌, length, slice_index, true, Ok};
-ghost use Rattle.std.specs.Prelude.{unwrap_or};
+ghost use Rattle.std.specs.Prelude.{unwrap_or, option_map};
 ghost use Rattle.hex.specs.Hex.{decode_of, encode_lower, hex_digit_value, lower_digits};
 ghost use Rattle.forecourt_engines.specs.declared.plain_digits.TheConstants.{NO_DIGIT};
 
-/// What stands at an octet that is no digit.
-const NO_DIGIT: u16 = 256;
+/// What stands in both tables at an octet that is no digit.
+const NO_DIGIT: u32 = 256;
 
-/// The value of each octet that is a digit, in either case.
-static VALUES: [u16; 256] = [
+/// What each octet counts as an octet's first digit, in either case.
+static HIGH: [u32; 256] = [
+    256, 256, 256, 256, 256, 256, 256, 256, 256, 256, 256, 256, 256, 256, 256, 256, 256, 256, 256,
+    256, 256, 256, 256, 256, 256, 256, 256, 256, 256, 256, 256, 256, 256, 256, 256, 256, 256, 256,
+    256, 256, 256, 256, 256, 256, 256, 256, 256, 256, 0, 16, 32, 48, 64, 80, 96, 112, 128, 144,
+    256, 256, 256, 256, 256, 256, 256, 160, 176, 192, 208, 224, 240, 256, 256, 256, 256, 256, 256,
+    256, 256, 256, 256, 256, 256, 256, 256, 256, 256, 256, 256, 256, 256, 256, 256, 256, 256, 256,
+    256, 160, 176, 192, 208, 224, 240, 256, 256, 256, 256, 256, 256, 256, 256, 256, 256, 256, 256,
+    256, 256, 256, 256, 256, 256, 256, 256, 256, 256, 256, 256, 256, 256, 256, 256, 256, 256, 256,
+    256, 256, 256, 256, 256, 256, 256, 256, 256, 256, 256, 256, 256, 256, 256, 256, 256, 256, 256,
+    256, 256, 256, 256, 256, 256, 256, 256, 256, 256, 256, 256, 256, 256, 256, 256, 256, 256, 256,
+    256, 256, 256, 256, 256, 256, 256, 256, 256, 256, 256, 256, 256, 256, 256, 256, 256, 256, 256,
+    256, 256, 256, 256, 256, 256, 256, 256, 256, 256, 256, 256, 256, 256, 256, 256, 256, 256, 256,
+    256, 256, 256, 256, 256, 256, 256, 256, 256, 256, 256, 256, 256, 256, 256, 256, 256, 256, 256,
+    256, 256, 256, 256, 256, 256, 256, 256, 256, 256, 256, 256, 256, 256, 256, 256, 256, 256, 256,
+    256, 256, 256, 256, 256, 256, 256, 256,
+];
+
+/// What it counts as the second.
+static LOW: [u32; 256] = [
     256, 256, 256, 256, 256, 256, 256, 256, 256, 256, 256, 256, 256, 256, 256, 256, 256, 256, 256,
     256, 256, 256, 256, 256, 256, 256, 256, 256, 256, 256, 256, 256, 256, 256, 256, 256, 256, 256,
     256, 256, 256, 256, 256, 256, 256, 256, 256, 256, 0, 1, 2, 3, 4, 5, 6, 7, 8, 9, 256, 256, 256,
@@ -45,7 +63,7 @@ pub fn read_digits(text: &[u8], place: &mut [u8]) -> bool
     ensures { result ≡ true → decode_of text.now ≡ Ok place.new }
 {
     for i in 0..place.len() {
-        let octet = value_of(text[2 * i]) * 16 + value_of(text[2 * i + 1]);
+        let octet = high_of(text[2 * i]) + low_of(text[2 * i + 1]);
         if octet > 255 {
             return false;
         }
@@ -66,13 +84,22 @@ pub fn write_digits(octets: &[u8], place: &mut [u8])
     }
 }
 
-/// The value of a digit; 256 of an octet that is none.
+/// What an octet counts as the first digit; 256 of one that is no digit.
 #[inline(always)]
-fn value_of(octet: u8) -> u16
+fn high_of(octet: u8) -> u32
+    ensures value { result ≡ unwrap_or (option_map (λ v. v * 16) (hex_digit_value octet)) NO_DIGIT }
+    ensures most { result ≤ NO_DIGIT }
+{
+    HIGH[usize::from(octet)]
+}
+
+/// What it counts as the second; 256 of one that is no digit.
+#[inline(always)]
+fn low_of(octet: u8) -> u32
     ensures value { result ≡ unwrap_or (hex_digit_value octet) NO_DIGIT }
     ensures most { result ≤ NO_DIGIT }
 {
-    VALUES[usize::from(octet)]
+    LOW[usize::from(octet)]
 }
 
 /// The two digits of an octet.

@@ -9,9 +9,9 @@ pub loop-i-preserved : goal.loop-i-preserved
 loop-i-preserved c =
     let text : List ℕ = c.args.text.now in
     let at : ℕ = 2 * c.loop-i.i in
-    let high = c.value_of.ensures.value in
-    let low = c.value_of-in-loop-i.ensures.value in
-    let fits : c.value_of.result * 16 + c.value_of-in-loop-i.result ≤ 255 = omega arith in
+    let high = c.high_of.ensures.value in
+    let low = c.low_of.ensures.value in
+    let fits : c.high_of.result + c.low_of.result ≤ 255 = omega arith in
     let reads = pair_reads (slice_index text at) (slice_index text (at + 1)) at
     (rw (← high, ← low) fits) in
     decode_step text c.loop-i.place c.loop-i.i _ (omega arith) (omega arith)
