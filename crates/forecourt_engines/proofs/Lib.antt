@@ -1,6 +1,8 @@
 pub mod Bytes
 pub mod Hexadecimal
-pub mod DigitTables
+pub mod LaneLemmas
+pub mod EightOctets
+pub mod SixteenDigits
 pub mod AnsweredStreams
 pub mod Lines
 pub mod WholeTexts

@@ -3,6 +3,7 @@ pub mod Answers
 pub mod Text
 pub mod Streams
 pub mod LineTexts
+pub mod SideBySide
 pub mod Replay
 pub mod Ends
 pub mod SiteSizes

@@ -9,7 +9,7 @@ ghost use Rattle.device_map.specs.Changes.{change_of};
 ghost use Rattle.device_map.specs.Replies.{number_message, reply_message};
 ghost use Rattle.app_message.specs.declared.sizes.TheConstants.{HEADER, LONGEST_BODY};
 
-use crate::plain_digits::write_digits;
+use crate::plain_digits::{LANES, write_digits};
 use app_message::{Message, SpelledMessage};
 use device_map::{change_of, refusal_in, reply_in, request_in};
 use site_base::{NoMemory, NoRow, Reply, Row};
@@ -173,7 +173,7 @@ pub fn put_line(out: &mut Vec<u8>, message: &Message) -> Result<(), NoMemory>
 
 /// Appends the octets of two parts as a line of hexadecimal. It takes one growth at most.
 fn put_spelling(out: &mut Vec<u8>, head: &[u8], body: &[u8]) -> Result<(), NoMemory>
-    requires head { length head.now ≤ HEADER }
+    requires head { length head.now ≡ HEADER }
     requires body { length body.now ≤ LONGEST_BODY }
     ensures { OnOk result (out.new.items
         ≡ out.old.items ++ (encode_lower (head.now ++ body.now) ++ 10 ∷ [])) }
@@ -186,11 +186,27 @@ fn put_spelling(out: &mut Vec<u8>, head: &[u8], body: &[u8]) -> Result<(), NoMem
 
 /// Writes the octets of two parts as hexadecimal over line feeds, of which the last one stays.
 fn spell(head: &[u8], body: &[u8], place: &mut [u8])
-    requires { place.old ≡ replicate (2 * (length head.now + length body.now) + 1) 10 }
+    requires head { length head.now ≡ HEADER }
+    requires place { place.old ≡ replicate (2 * (length head.now + length body.now) + 1) 10 }
     ensures { place.new ≡ encode_lower (head.now ++ body.now) ++ 10 ∷ [] }
 {
     let (first, rest) = place.split_at_mut(2 * head.len());
     let (second, _) = rest.split_at_mut(2 * body.len());
     write_digits(head, first);
-    write_digits(body, second);
+    put_digits(body, second);
+}
+
+/// Writes octets as hexadecimal, where there is just the place for them.
+fn put_digits(octets: &[u8], place: &mut [u8])
+    requires { length place.old ≡ 2 * length octets.now }
+    ensures { place.new ≡ encode_lower octets.now }
+{
+    if octets.len() >= LANES {
+        write_digits(octets, place);
+        return;
+    }
+    match hex::encode_to_slice(octets, place) {
+        Ok(()) => {}
+        Err(_) => unreachable!(),
+    }
 }

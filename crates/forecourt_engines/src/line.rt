@@ -6,7 +6,7 @@ ghost use Rattle.hex.specs.Hex.{decode_of};
 ghost use Rattle.forecourt_engines.specs.LineTexts.{Says};
 ghost use Rattle.forecourt_engines.specs.Text.{is_skipped, without_spaces};
 
-use crate::plain_digits::read_digits;
+use crate::plain_digits::{LANES, read_digits};
 use site_base::NoMemory;
 
 /// The most octets that a line may have before its line feed.
@@ -55,12 +55,12 @@ pub fn read_octets(
     Ok(LineText::NotHexadecimal)
 }
 
-/// Whether the text is plain digits, as most lines are; if so, its octets take the place of what the
-/// buffer holds.
+/// Whether the text is plain digits, and long enough to be read as such, as most lines are; if so,
+/// its octets take the place of what the buffer holds.
 fn is_plain(text: &[u8], octets: &mut Vec<u8>) -> Result<bool, NoMemory>
     ensures { IfOk result (λ is. is ≡ true → Says LineText.Octets text.now octets.new.items) }
 {
-    if text.is_empty() || text.len() % 2 != 0 {
+    if text.len() < 2 * LANES || text.len() % 2 != 0 {
         return Ok(false);
     }
     octets.resize(text.len() / 2, 0)?;

@@ -6,8 +6,8 @@ use Rattle.std.specs.Prelude.{replicate, vec_len}
 use Rattle.forecourt_engines.proofs.answers.put_spelling.Goals as goal
 
 -- the place is what was added
-pub spell-requires : goal.spell-requires
-spell-requires c =
+pub spell-requires-clause-place : goal.spell-requires-clause-place
+spell-requires-clause-place c =
     let old : List ℕ = c.args.out.now.items in
     let more : ℕ = 2 * (length c.args.head.now + length c.args.body.now) + 1 in
     let feeds : List ℕ = replicate more 10 in

@@ -15,12 +15,12 @@ returns c =
     let all : ℕ = 2 * (length c.args.head.now + length c.args.body.now) + 1 in
     let last : c.split_at_mut-second.result.1.now ≡ 10 ∷ [] =
     c.split_at_mut-second.ensures.back ∙ ap (drop other) c.split_at_mut-first.ensures.back
-    ∙ ap (λ (xs : List ℕ). drop other (drop one xs)) c.requires
+    ∙ ap (λ (xs : List ℕ). drop other (drop one xs)) c.requires.place
     ∙ ap (drop other) (drop-replicate one all 10) ∙ drop-replicate other (all - one) 10
     ∙ ap (λ n. replicate n 10) (let left : all - one - other ≡ 1 = omega arith in left) in
     rw (
       c.write_digits.ensures,
-      c.write_digits-2.ensures,
+      c.put_digits.ensures,
       last,
       spelled_in_parts lower_digits c.args.head.now c.args.body.now,
     ) (sym (append_assoc head body (10 ∷ [])))

@@ -1,5 +1,4 @@
 use Rattle.std.proofs.Common.{◌≡◌, ◌∙◌, ◌++◌, List, ℕ, Ok, ap, arith, drop, length, sym, take}
-use Rattle.std.proofs.lemmas.Bool.{eqb-false}
 use Rattle.std.proofs.Math.Seq.{take-append_seam}
 use Rattle.forecourt_engines.proofs.Hexadecimal.{as_it_stands}
 use Rattle.forecourt_engines.proofs.line.is_plain.Goals as goal
@@ -8,9 +7,8 @@ use Rattle.forecourt_engines.proofs.line.is_plain.Goals as goal
 pub returns : goal.returns
 returns c = λ all.
     let place : List ℕ = c.read_digits.new.place in
-    let some = eqb-false _ _ (sym c.if-is_empty.ensures) in
     let size : c.resize.new.self.len ≡ length place = omega arith in
-    as_it_stands c.args.text.now _ (omega (arith, some))
+    as_it_stands c.args.text.now _ (omega arith)
     (c.read_digits.ensures all ∙ ap Ok (sym (ap (λ (n : ℕ). take n
     (place ++ drop (length place) c.resize.new.self.items)) size
     ∙ take-append_seam place (drop (length place) c.resize.new.self.items))))
