@@ -12,3 +12,5 @@ pub mod OneName
 pub mod Unsaid
 pub mod Splitting
 pub mod Asked
+pub mod OneMeaning
+pub mod Places

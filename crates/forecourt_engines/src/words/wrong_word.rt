@@ -74,10 +74,3 @@ impl fmt::Display for Wanted {
         })
     }
 }
-
-impl fmt::Display for WrongWord {
-    /// `word 2: the name of an event, as SignOn`.
-    fn fmt<W: fmt::Write>(&self, f: &mut fmt::Formatter<W>) -> fmt::Result {
-        write!(f, "word {}: {}", self.place, self.wanted)
-    }
-}
