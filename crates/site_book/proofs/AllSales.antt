@@ -1,7 +1,7 @@
 -- The sales that a book tells are all sales of its site, each once.
 use Rattle.std.proofs.Common.{◌≡◌, ℕ, ◌+◌, ◌-◌, ◌<◌, ◌≤◌, ◌==◌, ◌&&◌, ◌⊎◌, Bool, true, false, List}
 use Rattle.std.proofs.Common.{[], ◌∷◌, ◌++◌, Option, Some, None, refl, sym, subst, ap, ◌∙◌, arith}
-use Rattle.std.proofs.Common.{if◌then◌else◌, inl, inr, suc, nat_lt}
+use Rattle.std.proofs.Common.{if◌then◌else◌, inl, inr, zero, suc, nat_lt}
 use Rattle.std.specs.Prelude.{filter, filter_map, option_and_then, option_map}
 use Rattle.std.specs.List.{cons_option}
 use Rattle.std.proofs.lemmas.Bool.{and_parts, eq-eqb, eqb-true, eqb-false}
@@ -150,24 +150,28 @@ one_told : (s : SiteState) (k : Key) (a : ℕ) (ms : List Moment)
     → filter (is_under k) (filter_map (sale_made s) ms) ≡ cons_option (sale_named s k) []
 one_told s k a [] numbers low high = absurd (omega (arith, low, high))
 one_told s k a (m ∷ ms) numbers low high =
-    by (sold_as m) refl (sells_in k.point k.shift m) refl (k.number == a + 1) refl
+    by (λ below. one_told s k (a + (if sells_in k.point k.shift m then 1 else 0)) ms numbers.1
+    below (omega (arith, high)))
+    (sold_as m) refl (sells_in k.point k.shift m) refl (k.number == a + 1) refl
   where
-    later : (sells : Bool) → sells_in k.point k.shift m ≡ sells
+    Rest : Type 0
+    Rest = a + (if sells_in k.point k.shift m then 1 else 0) < k.number
+        → filter (is_under k) (filter_map (sale_made s) ms) ≡ cons_option (sale_named s k) []
+    later : Rest → (sells : Bool) → sells_in k.point k.shift m ≡ sells
         → a + (if sells then 1 else 0) < k.number
         → ((j : Key) → sold_as m ≡ Some j → same_key k j ≡ false)
         → filter (is_under k) (filter_map (sale_made s) (m ∷ ms))
         ≡ cons_option (sale_named s k) []
-    later sells is below other =
+    later rest sells is below other =
         let one : ◌≡◌ {A = ℕ} (if sells_in k.point k.shift m then 1 else 0)
         (if sells then 1 else 0) = ap (λ (b : Bool). if b then 1 else 0) is in
         passed_over s k (sold_as m) (filter_map (sale_made s) ms) other
-        ∙ one_told s k (a + (if sells_in k.point k.shift m then 1 else 0)) ms numbers.1
-        (omega (arith, one, below)) (omega (arith, high))
-    by : (o : Option Key) → sold_as m ≡ o → (sells : Bool)
+        ∙ rest (omega (arith, one, below))
+    by : Rest → (o : Option Key) → sold_as m ≡ o → (sells : Bool)
         → sells_in k.point k.shift m ≡ sells → (first : Bool) → (k.number == a + 1) ≡ first
         → filter (is_under k) (filter_map (sale_made s) (m ∷ ms))
         ≡ cons_option (sale_named s k) []
-    by (Some j) sold true sells true first =
+    by rest (Some j) sold true sells true first =
         let here : is_key_of k.point k.shift (Some j) ≡ true =
         ap (is_key_of k.point k.shift) (sym sold) ∙ sells in
         let number : k.number ≡ a + 1 = eqb-true k.number (a + 1) first in
@@ -181,17 +185,17 @@ one_told s k a (m ∷ ms) numbers low high =
         ∙ ap (cons_option (sale_named s k))
         (none_told s k (a + (if sells_in k.point k.shift m then 1 else 0)) ms numbers.1
         (inl (omega (arith, one, number))))
-    by o sold true sells false first =
-        later true sells
+    by rest o sold true sells false first =
+        later rest true sells
         (let not_it = eqb-false k.number (a + 1) first in omega (arith, low, not_it))
         (λ j is. apart k j (same_key k j) refl (λ here same.
         eqb-false k.number (a + 1) first (sym same ∙ numbers.0 j is here)))
-    by o sold false sells b first =
-        later false sells (omega (arith, low))
+    by rest o sold false sells b first =
+        later rest false sells (omega (arith, low))
         (λ j is. apart k j (same_key k j) refl (λ here same.
         let clash : false ≡ true =
         sym sells ∙ ap (is_key_of k.point k.shift) is ∙ here in cc))
-    by None sold true sells true first =
+    by rest None sold true sells true first =
         let clash : false ≡ true = ap (is_key_of k.point k.shift) (sym sold) ∙ sells in cc
 
 -- ---- all of them
@@ -199,11 +203,11 @@ one_told s k a (m ∷ ms) numbers low high =
 -- no sale has the number 0
 none_before : (h : ℕ) (xs : List Sale) → sale_in h 0 xs ≡ None
 none_before h [] = refl
-none_before h (x ∷ xs) = by (x.shift == h) refl
+none_before h (x ∷ xs) = by (x.shift == h) refl (none_before h xs)
   where
-    by : (b : Bool) → (x.shift == h) ≡ b → sale_in h 0 (x ∷ xs) ≡ None
-    by true is = rw is (none_before h xs)
-    by false is = rw is (none_before h xs)
+    by : (b : Bool) → (x.shift == h) ≡ b → sale_in h 0 xs ≡ None → sale_in h 0 (x ∷ xs) ≡ None
+    by true is rest = rw is rest
+    by false is rest = rw is rest
 
 pub all_sales : (c : Configured) (rows : List Row) → IsLegal (opening c) rows
     → AreAllSales (filter_map (sale_made (site_of_rows (opening c) rows)) (moments_of c rows))
@@ -226,7 +230,7 @@ all_sales c rows legal k = by k.number refl
         ∙ sym (ap (λ (o : Option Sale). cons_option (option_map (with_name k) o) []) none)
     by : (n : ℕ) → k.number ≡ n
         → filter (is_under k) (filter_map (sale_made s) ms) ≡ cons_option (sale_named s k) []
-    by 0 is =
+    by zero is =
         absent (ap (λ (n : ℕ). sale_in k.shift n (sales_at k.point s.sales)) is
         ∙ none_before k.shift (sales_at k.point s.sales)) (inl (omega (arith, is)))
     by (suc n) is = within (nat_lt (made_at k.point k.shift s.sales) k.number) refl

@@ -58,6 +58,7 @@ impl SiteBook {
         ensures told { result ≡ book_sales self.now }
         ensures all { AreAllSales result (site_of_book self.now) }
     {
+        self.has_all_sales();
         Sales {
             book: self,
             place: 0,
@@ -100,6 +101,13 @@ impl SiteBook {
             // The shifts that the rows close are in range.
             None => unreachable!(),
         }
+    }
+
+    /// The rows sold all that the site has, each once.
+    fn has_all_sales(&self)
+        ensures { AreAllSales (book_sales self.now) (site_of_book self.now) }
+    {
+        self.site.is_sound();
     }
 
     /// No more shifts were opened than there are numbers for.
