@@ -1,6 +1,7 @@
 -- A line in words asks for one thing.
-use Rattle.std.proofs.Common.{◌≡◌, ℕ, ◌≤◌, ◌^◌, ◌&&◌, Bool, true, false, List, [], ◌∷◌, ◌++◌, Option, Some, None}
-use Rattle.std.proofs.Common.{refl, sym, subst, ap, ◌∙◌, arith, decimal, codes, nat_le, nat_lt, ◌<◌, unwrap_or}
+use Rattle.std.proofs.Common.{◌≡◌, ℕ, ◌<◌, ◌≤◌, ◌^◌, ◌&&◌, Bool, true, false, List, [], ◌∷◌, ◌++◌}
+use Rattle.std.proofs.Common.{Option, Some, None, unwrap_or, get_or, refl, sym, subst, ap, ◌∙◌, arith}
+use Rattle.std.proofs.Common.{decimal, codes, nat_le, nat_lt}
 use Rattle.std.proofs.lemmas.Bool.{and_parts}
 use Rattle.std.proofs.lemmas.Bool.Decides.{nat_tests}
 use Rattle.std.proofs.lemmas.Fmt.{decimal_injective}
@@ -49,10 +50,10 @@ same_amount n m r s e =
 
 -- ---- events of one name, by what stands behind it
 
-alone : (f : ℕ → Event) (p q : ℕ) → ◌≡◌ {A = List (List ℕ)} (decimal p ∷ []) (decimal q ∷ [])
+of_point : (f : ℕ → Event) (p q : ℕ) → ◌≡◌ {A = List (List ℕ)} (decimal p ∷ []) (decimal q ∷ [])
     → (is_between 1 POINTS p && true) ≡ true → (is_between 1 POINTS q && true) ≡ true
     → f p ≡ f q
-alone f p q w r s =
+of_point f p q w r s =
     let e : decimal p ≡ decimal q = cc in
     ap f (same_number POINTS p q (omega arith) (and_parts (is_between 1 POINTS p) true r).0
     (and_parts (is_between 1 POINTS q) true s).0 e)
@@ -182,17 +183,17 @@ same_said events.SignOn events.SignOn n w r s = refl
 same_said events.SignOff events.SignOff n w r s = refl
 same_said events.CloseShift events.CloseShift n w r s = refl
 same_said events.ReadSite events.ReadSite n w r s = refl
-same_said (events.Open p) (events.Open q) n w r s = alone events.Open p q w r s
-same_said (events.Close p) (events.Close q) n w r s = alone events.Close p q w r s
-same_said (events.Assign p) (events.Assign q) n w r s = alone events.Assign p q w r s
-same_said (events.Unassign p) (events.Unassign q) n w r s = alone events.Unassign p q w r s
-same_said (events.TestRelease p) (events.TestRelease q) n w r s = alone events.TestRelease p q w r s
-same_said (events.Suspend p) (events.Suspend q) n w r s = alone events.Suspend p q w r s
-same_said (events.Resume p) (events.Resume q) n w r s = alone events.Resume p q w r s
-same_said (events.Terminate p) (events.Terminate q) n w r s = alone events.Terminate p q w r s
-same_said (events.ReadPoint p) (events.ReadPoint q) n w r s = alone events.ReadPoint p q w r s
-same_said (events.Online p) (events.Online q) n w r s = alone events.Online p q w r s
-same_said (events.Offline p) (events.Offline q) n w r s = alone events.Offline p q w r s
+same_said (events.Open p) (events.Open q) n w r s = of_point events.Open p q w r s
+same_said (events.Close p) (events.Close q) n w r s = of_point events.Close p q w r s
+same_said (events.Assign p) (events.Assign q) n w r s = of_point events.Assign p q w r s
+same_said (events.Unassign p) (events.Unassign q) n w r s = of_point events.Unassign p q w r s
+same_said (events.TestRelease p) (events.TestRelease q) n w r s = of_point events.TestRelease p q w r s
+same_said (events.Suspend p) (events.Suspend q) n w r s = of_point events.Suspend p q w r s
+same_said (events.Resume p) (events.Resume q) n w r s = of_point events.Resume p q w r s
+same_said (events.Terminate p) (events.Terminate q) n w r s = of_point events.Terminate p q w r s
+same_said (events.ReadPoint p) (events.ReadPoint q) n w r s = of_point events.ReadPoint p q w r s
+same_said (events.Online p) (events.Online q) n w r s = of_point events.Online p q w r s
+same_said (events.Offline p) (events.Offline q) n w r s = of_point events.Offline p q w r s
 same_said (events.Release p x) (events.Release q y) n w r s = released p x q y w r s
 same_said (events.Prepay p x) (events.Prepay q y) n w r s =
     amounts events.Prepay POINTS p x q y (omega arith) w r s
@@ -223,7 +224,10 @@ same_actor (Till t) (Till u) e r s =
 same_actor (Dispenser p) (Dispenser q) e r s =
     let digits : decimal p ≡ decimal q = cc in
     ap Dispenser (same_number POINTS p q (omega arith) r s digits)
-same_actor a b e r s = cc
+same_actor (Till t) (Dispenser q) e r s =
+    let first : 116 ≡ 100 = ap (λ (w : List ℕ). get_or w 0 0) e in absurd (omega (arith, first))
+same_actor (Dispenser p) (Till u) e r s =
+    let first : 100 ≡ 116 = ap (λ (w : List ℕ). get_or w 0 0) e in absurd (omega (arith, first))
 
 same_request : (words : List (List ℕ)) (a b : Actor) (x y : Event) → IsRequestText words a x
     → IsRequestText words b y → (a ≡ b) × (x ≡ y)

@@ -1,6 +1,8 @@
 -- Words by their places in a line.
 use Rattle.std.proofs.Common.{◌≡◌, ℕ, zero, suc, ◌+◌, ◌<◌, ◌≤◌, ◌==◌, List, [], ◌∷◌, ◌++◌, length}
-use Rattle.std.proofs.Common.{refl, sym, ap, ◌∙◌, arith, append-nil, false, slice_get}
+use Rattle.std.proofs.Common.{refl, sym, ap, ◌∙◌, arith, append-nil, false, slice_get, Option}
+use Rattle.std.proofs.Common.{Some, None}
+use Rattle.std.specs.Prelude.{IfNone}
 use Rattle.std.proofs.lemmas.Bool.{ne_eqb}
 use Rattle.forecourt_engines.specs.LineWords.{before_comma, behind_comma, line_words, words_in}
 use Rattle.forecourt_engines.specs.Numbers.{IsWithout}
@@ -14,7 +16,7 @@ in_front (x ∷ xs) ys (suc n) low = in_front xs ys n (omega arith)
 
 pub in_back : {A : Type 0} (xs ys : List A) (n k : ℕ) → n ≡ length xs + k
     → slice_get (xs ++ ys) n ≡ slice_get ys k
-in_back [] ys n k is = ap (slice_get ys) is
+in_back [] ys n k is = let same : n ≡ k = omega (arith, is) in ap (slice_get ys) same
 in_back (x ∷ xs) ys zero k is = absurd (omega (arith, is))
 in_back (x ∷ xs) ys (suc n) k is = in_back xs ys n k (omega arith)
 
@@ -52,3 +54,7 @@ words_unparted line none =
     ap (λ (t : List ℕ). words_in t ++ words_in (behind_comma line)) parts.0
     ∙ ap (λ (t : List ℕ). words_in line ++ words_in t) parts.1
     ∙ append-nil (words_in line)
+
+pub none_weaker : {A : Type 0} (o : Option A) (P Q : Type 0) → (P → Q) → IfNone o P → IfNone o Q
+none_weaker None P Q weaker is = weaker is
+none_weaker (Some x) P Q weaker is = tt

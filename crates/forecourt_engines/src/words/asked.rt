@@ -66,20 +66,8 @@ pub fn read_asked(alloc: Global, text: &[u8]) -> Result<Asked, LineFault>
                 token,
             })
         }
-        Err(fault) => Err(behind_words(front, fault)),
-    }
-}
-
-/// A fault of what stands behind the words of this text: its word is counted from their first.
-fn behind_words(front: &[u8], fault: LineFault) -> LineFault
-    ensures { fault ≡ LineFault.NoMemory → result ≡ LineFault.NoMemory }
-{
-    match fault {
-        LineFault::Wrong(wrong) => {
-            let place = wrong.place.saturating_add(count_words(front));
-            LineFault::Wrong(WrongWord::new(place, wrong.wanted))
-        }
-        LineFault::NoMemory => LineFault::NoMemory,
+        Err(LineFault::Wrong(wrong)) => Err(LineFault::Wrong(wrong.behind(count_words(front)))),
+        Err(LineFault::NoMemory) => Err(LineFault::NoMemory),
     }
 }
 

@@ -54,6 +54,14 @@ impl WrongWord {
     pub fn new(place: usize, wanted: Wanted) -> WrongWord {
         WrongWord { place, wanted }
     }
+
+    /// The same word, where so many others stand before those among which it was counted.
+    pub fn behind(self, others: usize) -> WrongWord {
+        WrongWord {
+            place: self.place.saturating_add(others),
+            wanted: self.wanted,
+        }
+    }
 }
 
 impl fmt::Display for Wanted {
