@@ -22,7 +22,7 @@ use Rattle.app_message.specs.Telegram.{Telegram}
 use Rattle.device_map.proofs.OneRequest.{alone}
 use Rattle.device_map.specs.Laws.{Asks, is_in_range, is_meter, is_preset, is_sale}
 use Rattle.forecourt_engines.specs.Answers.{line_of}
-use Rattle.forecourt_engines.specs.AskedText.{IsAskedText, IsTokenText, IsWithToken}
+use Rattle.forecourt_engines.specs.AskedText.{IsTokenText}
 use Rattle.forecourt_engines.specs.EventNames.{IsRequestText, behind_first, name_said, name_word}
 use Rattle.forecourt_engines.specs.LineWords.{is_comment, words_in}
 use Rattle.forecourt_engines.specs.Said.{is_actor}
@@ -239,8 +239,7 @@ same_request words a b x y one two =
     let named : name_word (name_said x) ∷ behind_first (event_words x)
     ≡ name_word (name_said y) ∷ behind_first (event_words y) =
     sym (name_first x) ∙ said ∙ name_first y in
-    let name : name_word (name_said x) ≡ name_word (name_said y) = cc in
-    (
+    let name : name_word (name_said x) ≡ name_word (name_said y) = cc in (
       same_actor a b first one.who two.who,
       same_said x y (one_name (name_said x) (name_said y) name) (ap behind_first said) one.what
           two.what,

@@ -10,8 +10,7 @@ use Rattle.site_base.specs.declared.limits.TheConstants.{GREATEST_READING, GREAT
 use Rattle.site_base.specs.declared.limits.TheConstants.{GREATEST_SHIFT, NOZZLES, POINTS}
 use Rattle.site_base.specs.declared.sale.SaleId.{SaleId}
 use Rattle.site_base.specs.Ranges.{is_between}
-use Rattle.site_base.specs.Words.{id_word, meter_word, sale_word, shift_word}
-use Rattle.device_map.specs.Laws.{is_meter, is_sale, is_shift_if_named}
+use Rattle.site_base.specs.Words.{id_word}
 use Rattle.forecourt_engines.specs.Numbers.{IsWithout}
 use Rattle.forecourt_engines.specs.Said.{IsIdWord, IsMeterWord, IsNumberWord}
 use Rattle.forecourt_engines.specs.Said.{IsSaleWord}
@@ -78,7 +77,6 @@ meter_parts word a b n reading is apart said =
     (sym is ∙ said.0 ∙ joined 64 (decimal n) (decimal reading)) in
     ((parts.0, least, most), (parts.1, omega arith, far))
 
-
 -- ---- a point's number and a transaction's
 
 pub sale_parts : (word a b : List ℕ) (p : ℕ) (sale : SaleId) → word ≡ a ++ (47 ∷ b)
@@ -91,7 +89,6 @@ sale_parts word a b p sale is apart said =
     (digits_above 47 p (omega arith) (omega arith))
     (sym is ∙ said.0 ∙ joined 47 (decimal p) (id_word sale)) in
     ((parts.0, least, most), (parts.1, said.1.1))
-
 
 -- ---- a shift's number and a transaction's
 

@@ -21,8 +21,8 @@ impl Model for Line {
     ghost Value = { LineFacts };
 
     ghost view = { λ l. record {
-        title = l.title.items;
-        figures = map (λ f. f.items) l.figures.items;
+      title = l.title.items;
+      figures = map (λ f. f.items) l.figures.items;
     } };
 }
 

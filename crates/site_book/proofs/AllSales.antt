@@ -1,5 +1,5 @@
 -- The sales that a book tells are all sales of its site, each once.
-use Rattle.std.proofs.Common.{◌≡◌, ℕ, ◌+◌, ◌-◌, ◌<◌, ◌≤◌, ◌==◌, ◌&&◌, ◌⊎◌, Bool, true, false, List}
+use Rattle.std.proofs.Common.{◌≡◌, ℕ, ◌+◌, ◌<◌, ◌≤◌, ◌==◌, ◌&&◌, ◌⊎◌, Bool, true, false, List}
 use Rattle.std.proofs.Common.{[], ◌∷◌, ◌++◌, Option, Some, None, refl, sym, subst, ap, ◌∙◌, arith}
 use Rattle.std.proofs.Common.{if◌then◌else◌, inl, inr, zero, suc, nat_lt}
 use Rattle.std.specs.Prelude.{filter, filter_map, option_and_then, option_map}
@@ -133,6 +133,7 @@ none_told s k a (m ∷ ms) numbers out =
   where
     one : ℕ
     one = if sells_in k.point k.shift m then 1 else 0
+
     other : (j : Key) → sold_as m ≡ Some j → same_key k j ≡ false
     other j sold = apart k j (same_key k j) refl (λ here same.
         let sells : sells_in k.point k.shift m ≡ true =
@@ -157,6 +158,7 @@ one_told s k a (m ∷ ms) numbers low high =
     Rest : Type 0
     Rest = a + (if sells_in k.point k.shift m then 1 else 0) < k.number
         → filter (is_under k) (filter_map (sale_made s) ms) ≡ cons_option (sale_named s k) []
+
     later : Rest → (sells : Bool) → sells_in k.point k.shift m ≡ sells
         → a + (if sells then 1 else 0) < k.number
         → ((j : Key) → sold_as m ≡ Some j → same_key k j ≡ false)
@@ -167,6 +169,7 @@ one_told s k a (m ∷ ms) numbers low high =
         (if sells then 1 else 0) = ap (λ (b : Bool). if b then 1 else 0) is in
         passed_over s k (sold_as m) (filter_map (sale_made s) ms) other
         ∙ rest (omega (arith, one, below))
+
     by : Rest → (o : Option Key) → sold_as m ≡ o → (sells : Bool)
         → sells_in k.point k.shift m ≡ sells → (first : Bool) → (k.number == a + 1) ≡ first
         → filter (is_under k) (filter_map (sale_made s) (m ∷ ms))
@@ -216,18 +219,23 @@ all_sales c rows legal k = by k.number refl
   where
     s : SiteState
     s = site_of_rows (opening c) rows
+
     ms : List Moment
     ms = moments_of c rows
+
     made : made_at k.point k.shift s.sales ≡ count (sells_in k.point k.shift) ms
     made = made_so_far c rows legal k.point k.shift
+
     numbers : Numbered k.point k.shift 0 ms
     numbers = numbered_from k.point k.shift ms [] ms refl (numbered c rows legal).next
+
     absent : sale_of k s.sales ≡ None
         → IsOutside 0 (count (sells_in k.point k.shift) ms) k.number
         → filter (is_under k) (filter_map (sale_made s) ms) ≡ cons_option (sale_named s k) []
     absent none out =
         none_told s k 0 ms numbers out
         ∙ sym (ap (λ (o : Option Sale). cons_option (option_map (with_name k) o) []) none)
+
     by : (n : ℕ) → k.number ≡ n
         → filter (is_under k) (filter_map (sale_made s) ms) ≡ cons_option (sale_named s k) []
     by zero is =

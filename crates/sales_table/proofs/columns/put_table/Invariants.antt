@@ -1,5 +1,5 @@
 use Rattle.std.proofs.Common.{◌≡◌, ◌++◌, drop, flat_map}
-use Rattle.sales_table.specs.Columns.{line_text, table_text}
+use Rattle.sales_table.specs.Columns.{line_text}
 use Rattle.sales_table.proofs.columns.put_table.Given as goal
 
 abbrev pub invariant-loop-line : goal.invariant-loop-line

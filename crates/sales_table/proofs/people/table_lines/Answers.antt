@@ -1,6 +1,6 @@
 use Rattle.std.proofs.Common.{◌≡◌, ◌∷◌, [], ◌++◌, drop, ap, ◌∙◌, arith, List}
 use Rattle.sales_table.specs.Columns.{Line}
-use Rattle.sales_table.specs.People.{product_lines, title_line, total_line}
+use Rattle.sales_table.specs.People.{product_lines, title_line}
 use Rattle.sales_table.proofs.ProductLines.{all_lines, lines_over}
 use Rattle.sales_table.proofs.people.table_lines.Goals as goal
 

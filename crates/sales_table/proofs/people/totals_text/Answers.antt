@@ -1,4 +1,4 @@
-use Rattle.std.proofs.Common.{◌≡◌, ◌++◌, ℕ, List, [], ap, ◌∙◌}
+use Rattle.std.proofs.Common.{◌++◌, ℕ, List, [], ap, ◌∙◌}
 use Rattle.site_base.specs.declared.view.ProductView.{ProductView}
 use Rattle.sales_table.specs.Columns.{Line, table_text}
 use Rattle.sales_table.specs.People.{clears_text, rows_text, table_lines}

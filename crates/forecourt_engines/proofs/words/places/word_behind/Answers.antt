@@ -1,4 +1,4 @@
-use Rattle.std.proofs.Common.{◌≡◌, ◌+◌, ◌-◌, ◌<◌, ◌≤◌, ◌++◌, length, length-append, sym, ◌∙◌, ap, arith}
+use Rattle.std.proofs.Common.{◌≡◌, ◌+◌, ◌-◌, ◌<◌, length, length-append, ◌∙◌, ap, arith}
 use Rattle.std.proofs.Common.{List, ℕ}
 use Rattle.forecourt_engines.specs.LineWords.{line_words, words_in}
 use Rattle.forecourt_engines.proofs.Places.{in_back, in_front, none_weaker, words_parted}
