@@ -1,6 +1,7 @@
 -- A line in words asks for one thing.
 use Rattle.std.proofs.Common.{◌≡◌, ℕ, ◌<◌, ◌≤◌, ◌^◌, ◌&&◌, Bool, true, false, List, [], ◌∷◌, ◌++◌}
-use Rattle.std.proofs.Common.{Option, Some, None, unwrap_or, get_or, refl, sym, subst, ap, ◌∙◌, arith}
+use Rattle.std.proofs.Common.{Option, Some, None, unwrap_or, get_or, refl, sym, subst, ap, ◌∙◌}
+use Rattle.std.proofs.Common.{arith}
 use Rattle.std.proofs.Common.{decimal, codes, nat_le, nat_lt}
 use Rattle.std.proofs.lemmas.Bool.{and_parts}
 use Rattle.std.proofs.lemmas.Bool.Decides.{nat_tests}
@@ -187,7 +188,8 @@ same_said (events.Open p) (events.Open q) n w r s = of_point events.Open p q w r
 same_said (events.Close p) (events.Close q) n w r s = of_point events.Close p q w r s
 same_said (events.Assign p) (events.Assign q) n w r s = of_point events.Assign p q w r s
 same_said (events.Unassign p) (events.Unassign q) n w r s = of_point events.Unassign p q w r s
-same_said (events.TestRelease p) (events.TestRelease q) n w r s = of_point events.TestRelease p q w r s
+same_said (events.TestRelease p) (events.TestRelease q) n w r s =
+    of_point events.TestRelease p q w r s
 same_said (events.Suspend p) (events.Suspend q) n w r s = of_point events.Suspend p q w r s
 same_said (events.Resume p) (events.Resume q) n w r s = of_point events.Resume p q w r s
 same_said (events.Terminate p) (events.Terminate q) n w r s = of_point events.Terminate p q w r s
@@ -211,7 +213,8 @@ same_said (events.HangUp p k x) (events.HangUp q m y) n w r s =
 same_said (events.Lock p x) (events.Lock q y) n w r s = at_sale events.Lock p x q y w r s
 same_said (events.Unlock p x) (events.Unlock q y) n w r s = at_sale events.Unlock p x q y w r s
 same_said (events.Clear p x) (events.Clear q y) n w r s = at_sale events.Clear p x q y w r s
-same_said (events.ReadTransaction p x) (events.ReadTransaction q y) n w r s = at_sale events.ReadTransaction p x q y w r s
+same_said (events.ReadTransaction p x) (events.ReadTransaction q y) n w r s =
+    at_sale events.ReadTransaction p x q y w r s
 same_said a b n w r s = cc
 
 -- ---- requests

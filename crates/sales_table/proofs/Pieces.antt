@@ -44,7 +44,8 @@ pub front_before : {A : Type 0} (f : A → List ℕ) (xs : List A) (done text wh
     (old now : Option (List ℕ))
     → done ++ (text ++ flat_map f xs) ≡ whole → Appends old now done → AppendsFront old now whole
 front_before f xs done text whole old now rest first =
-    subst (AppendsFront old now) rest (AppendsFront-so_far old now done (text ++ flat_map f xs) first)
+    subst (AppendsFront old now) rest
+    (AppendsFront-so_far old now done (text ++ flat_map f xs) first)
 
 -- where the piece with one line more isn't written whole, too
 pub front_within : {A : Type 0} (f : A → List ℕ) (xs left : List A) (x : A)

@@ -35,7 +35,8 @@ longest_figure (l ∷ ls) = max (longest l.figures) (longest_figure ls)
 
 -- a line in columns of these widths
 abbrev pub line_text : ℕ → ℕ → Line → List ℕ
-line_text first width l = (at_left first l.title ++ flat_map (at_right width) l.figures) ++ codes "\n"
+line_text first width l =
+    (at_left first l.title ++ flat_map (at_right width) l.figures) ++ codes "\n"
 
 -- the lines in columns: the first as wide as the longest title, the others as the longest figure
 abbrev pub table_text : List Line → List ℕ

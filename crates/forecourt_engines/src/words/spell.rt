@@ -81,8 +81,8 @@ fn spell_request(
     }
 }
 
-/// The first wrong word of a line in which this one is wrong: the name of an event that isn't of its
-/// actor's kind stands before whatever is behind it.
+/// The first wrong word of a line in which this one is wrong: the name of an event that isn't of
+/// its actor's kind stands before whatever is behind it.
 fn first_wrong(line: &[u8], wrong: WrongWord) -> WrongWord {
     if wrong.place > NAME_PLACE && names_anothers(line) {
         return WrongWord::new(NAME_PLACE, Wanted::OwnEvent);
