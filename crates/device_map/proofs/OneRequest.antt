@@ -275,7 +275,7 @@ all_told token actor event m d told to from number address =
     (items_of told.command told.content) to from refl number address told.items_are
     ∙ ap (request_by token actor) (sym told.way)
 
-alone : (token : ℕ) (actor : Actor) (event : Event) (m : Telegram) → Asks token actor event m
+pub alone : (token : ℕ) (actor : Actor) (event : Event) (m : Telegram) → Asks token actor event m
     → m ≡ request_by token actor (way_to event)
 unfolding request_at
 alone token actor event m is =

@@ -12,7 +12,8 @@ pub fn build_commands<'a>(alloc: Global) -> Result<Command<'a>, Error> {
         .version("0.1.0")
         .subcommand_required(true)
         .about(
-            "The forecourt site controller; alone it replays standard input on the site that it knows",
+            "The forecourt site controller; alone it replays standard input on the site \
+             that it knows",
         );
     let program = with_replays(alloc, program)?;
     let program = with_days(alloc, program)?;

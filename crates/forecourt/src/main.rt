@@ -10,7 +10,6 @@ mod demo;
 mod exit;
 mod explain;
 mod files;
-mod human;
 mod lines;
 mod replay;
 mod report;

@@ -3,11 +3,11 @@
 use crate::TURNS;
 use crate::exit::{exit_no_memory, exit_replay};
 use crate::files::read_site;
-use crate::human::write_for_people;
 use clap::ArgMatches;
 use forecourt_engines::replay::{ReplayEnd, replay};
 use forecourt_engines::reporting::replay_to_report;
 use forecourt_engines::{ReplayFault, SiteBook};
+use sales_table::totals_text;
 use site_base::{Counted, NoMemory, SiteConfig, write_whole};
 use std::io;
 use std::process::ExitCode;
@@ -53,9 +53,9 @@ fn print_for_people(
     book: &SiteBook,
 ) -> Result<Option<ReplayFault>, NoMemory> {
     let totals = book.audit(rt.alloc())?;
-    let text = write_for_people(rt.alloc(), config, &totals)?;
+    let text = totals_text(rt.alloc(), config.products(), &totals)?;
     let (mut writer, mut turns) = (Counted::new(rt.stdout()), TURNS);
-    match write_whole(&mut writer, text.as_str().as_bytes(), &mut turns) {
+    match write_whole(&mut writer, &text, &mut turns) {
         Ok(()) => Ok(None),
         Err(fault) => Ok(Some(ReplayFault::Write(fault))),
     }

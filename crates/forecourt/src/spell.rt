@@ -4,7 +4,7 @@
 use crate::TURNS;
 use crate::exit::{FAULT, exit_no_memory, exit_replay, exit_unwritten, exit_with};
 use crate::lines::read_line;
-use forecourt_engines::words::{LineFault, Token, spell_line};
+use forecourt_engines::words::{LineFault, Token, WordFault, spell_line};
 use forecourt_engines::{LINE_OCTETS, ReplayFault, TextFault};
 use site_base::{Counted, ReadFault, write_whole};
 use std::io::BufReader;
@@ -61,7 +61,8 @@ fn spell_next(
         Err(LineFault::NoMemory) => Err(exit_no_memory(rt)),
         Err(LineFault::Wrong(wrong)) => {
             print_text(rt, text)?;
-            Err(exit_with(eprintln!(rt; "line {number}: {wrong}"), FAULT))
+            let fault = WordFault { line, wrong };
+            Err(exit_with(eprintln!(rt; "line {number}: {fault}"), FAULT))
         }
     }
 }

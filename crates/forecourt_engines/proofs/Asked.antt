@@ -2,7 +2,7 @@
 use Rattle.std.proofs.Common.{◌≡◌, ℕ, List, ◌∷◌, ◌++◌, Option, Some, None, sym, subst, ◌∙◌}
 use Rattle.site_base.specs.declared.actor.Actor.{Actor}
 use Rattle.site_base.specs.declared.event.Event.{Event}
-use Rattle.forecourt_engines.specs.AskedText.{IsAskedText, IsTokenText, IsWithToken}
+use Rattle.forecourt_engines.specs.AskedText.{IsAskedText, IsTokenText}
 use Rattle.forecourt_engines.specs.EventNames.{IsRequestText}
 use Rattle.forecourt_engines.specs.LineWords.{words_in}
 use Rattle.forecourt_engines.specs.Numbers.{IsWithout}

@@ -16,3 +16,5 @@ pub mod OneName
 pub mod Unsaid
 pub mod Splitting
 pub mod Asked
+pub mod OneMeaning
+pub mod Places

@@ -10,8 +10,7 @@ use Rattle.site_base.specs.declared.limits.TheConstants.{GREATEST_READING, GREAT
 use Rattle.site_base.specs.declared.limits.TheConstants.{GREATEST_SHIFT, NOZZLES, POINTS}
 use Rattle.site_base.specs.declared.sale.SaleId.{SaleId}
 use Rattle.site_base.specs.Ranges.{is_between}
-use Rattle.site_base.specs.Words.{id_word, meter_word, sale_word, shift_word}
-use Rattle.device_map.specs.Laws.{is_meter, is_sale, is_shift_if_named}
+use Rattle.site_base.specs.Words.{id_word}
 use Rattle.forecourt_engines.specs.Numbers.{IsWithout}
 use Rattle.forecourt_engines.specs.Said.{IsIdWord, IsMeterWord, IsNumberWord}
 use Rattle.forecourt_engines.specs.Said.{IsSaleWord}
@@ -78,12 +77,6 @@ meter_parts word a b n reading is apart said =
     (sym is ∙ said.0 ∙ joined 64 (decimal n) (decimal reading)) in
     ((parts.0, least, most), (parts.1, omega arith, far))
 
-pub meter_unparted : (word : List ℕ) → IsWithout 64 word → (n reading : ℕ)
-    → ¬ IsMeterWord word n reading
-meter_unparted word apart n reading said =
-    unparted 64 (decimal n) (decimal reading) word
-    (said.0 ∙ joined 64 (decimal n) (decimal reading)) apart
-
 -- ---- a point's number and a transaction's
 
 pub sale_parts : (word a b : List ℕ) (p : ℕ) (sale : SaleId) → word ≡ a ++ (47 ∷ b)
@@ -96,12 +89,6 @@ sale_parts word a b p sale is apart said =
     (digits_above 47 p (omega arith) (omega arith))
     (sym is ∙ said.0 ∙ joined 47 (decimal p) (id_word sale)) in
     ((parts.0, least, most), (parts.1, said.1.1))
-
-pub sale_unparted : (word : List ℕ) → IsWithout 47 word → (p : ℕ) (sale : SaleId)
-    → ¬ IsSaleWord word p sale
-sale_unparted word apart p sale said =
-    unparted 47 (decimal p) (id_word sale) word (said.0 ∙ joined 47 (decimal p) (id_word sale))
-    apart
 
 -- ---- a shift's number and a transaction's
 
@@ -152,8 +139,3 @@ no_seq word a b sale is apart none said =
     by : (shift : Option ℕ) → AreIdParts a b shift sale.seq → ⊥
     by None parts = parts
     by (Some h) parts = none sale.seq parts.1
-
-pub id_unparted : (word : List ℕ) (h seq : ℕ) → IsWithout 47 word
-    → ¬ IsIdWord word (a_sale (Some h) seq)
-id_unparted word h seq apart said =
-    unparted 47 (decimal h) (decimal seq) word (said.0 ∙ joined 47 (decimal h) (decimal seq)) apart

@@ -1,6 +1,6 @@
 -- Words between spaces.
-use Rattle.std.proofs.Common.{◌≡◌, ◌≢◌, ℕ, zero, suc, ◌<◌, ◌≤◌, List, [], ◌∷◌, ◌++◌, length, take}
-use Rattle.std.proofs.Common.{drop, refl, sym, ap, ◌∙◌, arith, true, false, Bool, cond, get_or}
+use Rattle.std.proofs.Common.{◌≡◌, ◌≢◌, ℕ, zero, suc, ◌<◌, ◌≤◌, List, [], ◌∷◌, length, take}
+use Rattle.std.proofs.Common.{drop, refl, sym, ap, ◌∙◌, arith, true, false, get_or}
 use Rattle.forecourt_engines.specs.LineWords.{BeginsNoSpace, begun_by, is_comment}
 use Rattle.forecourt_engines.specs.LineWords.{is_space, lengthened}
 use Rattle.forecourt_engines.specs.LineWords.{words_in}

@@ -34,10 +34,10 @@ Unread names.Prepay words = (p cents : ℕ) → ¬ ArePointAmount words p cents
 Unread names.SetPrice words = (q mills : ℕ) → ¬ AreProductAmount words q mills
 Unread names.ReadProduct words = (q : ℕ) → ¬ AreProduct words q
 
-within : (most n : ℕ) → is_between 1 most n ≡ true → (1 ≤ n) × (n ≤ most)
+pub within : (most n : ℕ) → is_between 1 most n ≡ true → (1 ≤ n) × (n ≤ most)
 within most n range = (grind (arith, nat_tests), grind (arith, nat_tests))
 
-four : (n : ℕ) → nat_lt n (2 ^ 32) ≡ true → n ≤ GREATEST_AMOUNT
+pub four : (n : ℕ) → nat_lt n (2 ^ 32) ≡ true → n ≤ GREATEST_AMOUNT
 four n range = grind (arith, nat_tests)
 
 limit : (preset : Preset) → is_preset preset ≡ true → IsLimit (limit_words preset) preset
@@ -147,7 +147,7 @@ unsaid name words none event said =
 
 -- ---- a request's words
 
-name_first : (event : Event)
+pub name_first : (event : Event)
     → event_words event ≡ name_word (name_said event) ∷ behind_first (event_words event)
 name_first events.SignOn = refl
 name_first event = refl
@@ -168,15 +168,6 @@ said_by first second behind actor event said =
       two,
       record { named = refl; words_are = rest; range = said.what },
     )
-
--- a request has two words or more
-pub two_words : (first : List ℕ) (actor : Actor) (event : Event)
-    → ¬ IsRequestText (first ∷ []) actor event
-two_words first actor event said =
-    let whole : first ∷ []
-    ≡ actor_word actor ∷ name_word (name_said event) ∷ behind_first (event_words event) =
-    said.words_are ∙ ap (λ (ws : List (List ℕ)). actor_word actor ∷ ws) (name_first event) in
-    cc
 
 -- so where the second word is no name, or what stands behind it doesn't say its event, it is none
 pub no_name : (first second : List ℕ) (behind : List (List ℕ))

@@ -1,5 +1,5 @@
 -- The names of events, and what stands behind them.
-use Rattle.std.specs.Prelude.{◌≡◌, ℕ, true, List, [], ◌∷◌, codes}
+use Rattle.std.specs.Prelude.{◌≡◌, ℕ, Bool, true, false, List, [], ◌∷◌, codes}
 use Rattle.site_base.specs.declared.event.Event.{Event}
 use Rattle.site_base.specs.declared.event.Event.TheVariants as events
 use Rattle.site_base.specs.declared.actor.Actor.{Actor}
@@ -72,6 +72,15 @@ name_said (events.Offline p) = names.OfPoint point.Offline
 name_said (events.Lift p n reading) = names.OfMeter meter.Lift
 name_said (events.Flow p n reading) = names.OfMeter meter.Flow
 name_said (events.HangUp p n reading) = names.OfMeter meter.HangUp
+
+-- the name of what a dispenser reports, and no till asks for
+abbrev pub is_report : EventName → Bool
+is_report (names.OfPoint point.Online) = true
+is_report (names.OfPoint point.Offline) = true
+is_report (names.OfMeter meter.Lift) = true
+is_report (names.OfMeter meter.Flow) = true
+is_report (names.OfMeter meter.HangUp) = true
+is_report name = false
 
 -- what stands behind the first word
 abbrev pub behind_first : List (List ℕ) → List (List ℕ)

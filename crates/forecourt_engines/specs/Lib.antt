@@ -18,3 +18,4 @@ pub mod Said
 pub mod EventNames
 pub mod AskedText
 pub mod SpelledLines
+pub mod WordLaws

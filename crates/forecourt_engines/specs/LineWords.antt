@@ -1,5 +1,6 @@
 -- The words of a line.
-use Rattle.std.specs.Prelude.{◌≡◌, ℕ, List, [], ◌∷◌, Bool, true, false, ◌==◌, ◌||◌, if◌then◌else◌}
+use Rattle.std.specs.Prelude.{◌≡◌, ℕ, List, [], ◌∷◌, ◌++◌, Bool, true, false, ◌==◌, ◌||◌}
+use Rattle.std.specs.Prelude.{if◌then◌else◌}
 
 -- a space, a tab, or a carriage return
 abbrev pub is_space : ℕ → Bool
@@ -21,6 +22,19 @@ abbrev pub words_in : List ℕ → List (List ℕ)
 words_in [] = []
 words_in (octet ∷ rest) =
     if is_space octet then words_in rest else begun_by octet rest (words_in rest)
+
+-- what stands before the first comma, and what stands behind it
+abbrev pub before_comma : List ℕ → List ℕ
+before_comma [] = []
+before_comma (octet ∷ rest) = if octet == 44 then [] else octet ∷ before_comma rest
+
+abbrev pub behind_comma : List ℕ → List ℕ
+behind_comma [] = []
+behind_comma (octet ∷ rest) = if octet == 44 then rest else behind_comma rest
+
+-- the words of a line: before the first comma, and then behind it
+abbrev pub line_words : List ℕ → List (List ℕ)
+line_words line = words_in (before_comma line) ++ words_in (behind_comma line)
 
 -- no octet, or one that is no space, stands in front
 abbrev pub BeginsNoSpace : List ℕ → Type 0

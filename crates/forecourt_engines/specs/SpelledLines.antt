@@ -1,6 +1,6 @@
 -- What a line in words is spelled as.
-use Rattle.std.specs.Prelude.{◌≡◌, ℕ, ◌+◌, List, [], ◌∷◌, ◌++◌, Bool, true, false, Option}
-use Rattle.std.specs.Prelude.{Some, None, nat_lt, unwrap_or, if◌then◌else◌}
+use Rattle.std.specs.Prelude.{◌≡◌, ℕ, ◌+◌, List, [], ◌∷◌, ◌++◌, ◌⊎◌, Bool, true, false}
+use Rattle.std.specs.Prelude.{Option, Some, None, nat_lt, unwrap_or, if◌then◌else◌}
 use Rattle.site_base.specs.declared.actor.Actor.{Actor}
 use Rattle.site_base.specs.declared.event.Event.{Event}
 use Rattle.app_message.specs.Telegram.{Telegram}
@@ -31,6 +31,11 @@ pub record SaysAnothers (line : List ℕ) : Type 0 where
   pub token : Option ℕ
   pub said : IsAskedText line actor event token
   pub other : is_own actor event ≡ false
+
+-- a line that is refused: no comment, and what it says is no event, or one of another kind's actor
+pub record AsksNothing (line : List ℕ) : Type 0 where
+  pub plain : is_comment line ≡ false
+  pub says : SaysNothing line ⊎ SaysAnothers line
 
 -- behind the text stands the line of the one request that the line asks for, with the token that it
 -- names, or else the next one

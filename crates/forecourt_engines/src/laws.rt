@@ -1,9 +1,10 @@
-//! The laws that join the text of a replay to its lines. They have no code: each is proved of the
-//! definitions that the contract of `replay` cites.
+//! The laws that join the text of a replay to its lines, and those of lines in words. They have no
+//! code: each is proved of the definitions that the contracts of `replay` and `spell_line` cite.
 
 ghost use Rattle.forecourt_engines.specs.WholeText.{IsOneStreamOfLines};
 ghost use Rattle.forecourt_engines.specs.Laws.{LineSays, LastLineSays, LongLineSays};
 ghost use Rattle.forecourt_engines.specs.Laws.{NothingFollows};
+ghost use Rattle.forecourt_engines.specs.WordLaws.{AsksForOneThing, IsSpelledInOneWay};
 
 /// A line of at most `LINE_OCTETS` octets and a line feed say what the line says as a whole:
 /// nothing where it is skipped, a bad line where it isn't hexadecimal, else the answers to the
@@ -34,4 +35,15 @@ pub fn nothing_follows()
 /// rows are those of its messages.
 pub fn one_stream_of_lines()
     ensures { IsOneStreamOfLines }
+{}
+
+/// A line in words asks for one thing: no two actors, events or tokens are said by the same line.
+pub fn a_line_asks_for_one_thing()
+    ensures { AsksForOneThing }
+{}
+
+/// So a line is spelled in one way: with the same token before it, any two texts that spell it are
+/// the same, and so is the token behind it.
+pub fn a_line_is_spelled_in_one_way()
+    ensures { IsSpelledInOneWay }
 {}

@@ -30,7 +30,8 @@ pub mod words;
 
 pub use fault::{ReplayFault, TextFault};
 pub use laws::{
-    a_last_line_says, a_line_says, a_long_line_says, nothing_follows, one_stream_of_lines,
+    a_last_line_says, a_line_asks_for_one_thing, a_line_is_spelled_in_one_way, a_line_says,
+    a_long_line_says, nothing_follows, one_stream_of_lines,
 };
 pub use line::LINE_OCTETS;
 pub use numbers::NumberMeaning;

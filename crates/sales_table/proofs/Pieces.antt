@@ -2,7 +2,9 @@
 use Rattle.std.proofs.Common.{◌≡◌, ℕ, List, [], ◌∷◌, ◌++◌, Option, Some, None, flat_map, ap, refl}
 use Rattle.std.proofs.Common.{append-nil, append_assoc, subst, sym, ◌∙◌}
 use Rattle.std.specs.Io.KnownBytes.{Appends}
-use Rattle.site_base.proofs.Known.{Appends-then}
+use Rattle.site_base.specs.Devices.{AppendsFront}
+use Rattle.site_base.proofs.Known.{Appends-front, Appends-then, AppendsFront-longer}
+use Rattle.site_base.proofs.Known.{AppendsFront-so_far}
 use Rattle.site_book.specs.Readings.{IsNext}
 
 pub cons_same : {A : Type 0} (x y : A) (xs ys : List A) → x ≡ y → xs ≡ ys
@@ -36,3 +38,36 @@ whole_written f xs left None done text whole old mid new is none rest first last
     (ap (λ l. done ++ l) (sym (append-nil text))
     ∙ ap (λ l. done ++ (text ++ flat_map f l)) (sym is.0) ∙ rest)
     (Appends-then old mid new done text first last)
+
+-- where no line more can be made, what is written is a front of the whole
+pub front_before : {A : Type 0} (f : A → List ℕ) (xs : List A) (done text whole : List ℕ)
+    (old now : Option (List ℕ))
+    → done ++ (text ++ flat_map f xs) ≡ whole → Appends old now done → AppendsFront old now whole
+front_before f xs done text whole old now rest first =
+    subst (AppendsFront old now) rest
+    (AppendsFront-so_far old now done (text ++ flat_map f xs) first)
+
+-- where the piece with one line more isn't written whole, too
+pub front_within : {A : Type 0} (f : A → List ℕ) (xs left : List A) (x : A)
+    (done text new whole : List ℕ) (old mid now : Option (List ℕ))
+    → IsNext xs (Some x) left → done ++ (text ++ flat_map f xs) ≡ whole → new ≡ text ++ f x
+    → Appends old mid done → AppendsFront mid now new → AppendsFront old now whole
+front_within f xs left x done text new whole old mid now is rest more first last =
+    subst (AppendsFront old now)
+    (piece_written f xs left x done text new [] whole is rest more refl)
+    (AppendsFront-longer old now (done ++ new) (flat_map f left)
+    (Appends-front old mid now done new first last))
+
+-- and where the last piece isn't
+pub front_at_end : {A : Type 0} (f : A → List ℕ) (xs left : List A) (next : Option A)
+    (done text whole : List ℕ) (old mid now : Option (List ℕ))
+    → IsNext xs next left → ((x : A) → next ≡ Some x → ⊥)
+    → done ++ (text ++ flat_map f xs) ≡ whole → Appends old mid done → AppendsFront mid now text
+    → AppendsFront old now whole
+front_at_end f xs left (Some x) done text whole old mid now is none rest first last =
+    absurd (none x refl)
+front_at_end f xs left None done text whole old mid now is none rest first last =
+    subst (AppendsFront old now)
+    (ap (λ l. done ++ l) (sym (append-nil text))
+    ∙ ap (λ l. done ++ (text ++ flat_map f l)) (sym is.0) ∙ rest)
+    (Appends-front old mid now done text first last)

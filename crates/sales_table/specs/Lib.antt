@@ -1,3 +1,5 @@
 pub mod Tables
 pub mod Objects
 pub mod Texts
+pub mod Columns
+pub mod People

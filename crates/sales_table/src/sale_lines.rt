@@ -45,25 +45,25 @@ pub fn sale_line(
 {
     let sale = &sold.sale;
     let standing = sale.standing;
-    let (mut one, mut two, mut three) = (Buffer::new(), Buffer::new(), Buffer::new());
-    let (mut four, mut six, mut seven) = (Buffer::new(), Buffer::new(), Buffer::new());
-    let (mut eight, mut nine) = (Buffer::new(), Buffer::new());
-    let (mut eleven, mut twelve) = (Buffer::new(), Buffer::new());
+    let (mut shift, mut point, mut number) = (Buffer::new(), Buffer::new(), Buffer::new());
+    let (mut product, mut volume, mut price) = (Buffer::new(), Buffer::new(), Buffer::new());
+    let (mut cents, mut prepaid) = (Buffer::new(), Buffer::new());
+    let (mut till, mut cleared) = (Buffer::new(), Buffer::new());
     csv_line(
         alloc,
         &[
-            one.format(sold.shift.get()).as_bytes(),
-            two.format(sold.point.get()).as_bytes(),
-            three.format(sold.number.get()).as_bytes(),
-            four.format(sale.product.get()).as_bytes(),
+            shift.format(sold.shift.get()).as_bytes(),
+            point.format(sold.point.get()).as_bytes(),
+            number.format(sold.number.get()).as_bytes(),
+            product.format(sale.product.get()).as_bytes(),
             name_of(products, sale.product).as_bytes(),
-            six.format(sale.volume.get()).as_bytes(),
-            seven.format(sale.price.get()).as_bytes(),
-            eight.format(sale.cents.get()).as_bytes(),
-            format_if(&mut nine, sale.prepaid).as_bytes(),
+            volume.format(sale.volume.get()).as_bytes(),
+            price.format(sale.price.get()).as_bytes(),
+            cents.format(sale.cents.get()).as_bytes(),
+            format_if(&mut prepaid, sale.prepaid).as_bytes(),
             status_word(&standing).as_bytes(),
-            format_if(&mut eleven, till_of(&standing)).as_bytes(),
-            format_if(&mut twelve, cleared_in(&standing)).as_bytes(),
+            format_if(&mut till, till_of(&standing)).as_bytes(),
+            format_if(&mut cleared, cleared_in(&standing)).as_bytes(),
         ],
     )
 }

@@ -3,6 +3,7 @@
 ghost use Rattle.std.specs.Prelude.{◌≡◌, [], ◌++◌, IfOk, OnOk, codes, string_bytes};
 ghost use Rattle.std.specs.Io.KnownBytes.{Appends};
 ghost use Rattle.site_base.specs.Counted.{device_of};
+ghost use Rattle.site_base.specs.Devices.{AppendsFront};
 ghost use Rattle.sales_table.specs.Tables.{draw_titles, sale_titles};
 ghost use Rattle.sales_table.specs.Texts.{draw_text, draws_text, head_text, sale_text, sales_text};
 
@@ -19,7 +20,7 @@ use std::io::Write;
 /// Writes the table of a book's sales: a line for each sale of the site in the order in which they
 /// were sold, each as it stands at the end of the rows. It is written in pieces, so memory doesn't
 /// grow with the sales. A call of the writer that is interrupted takes one of the turns. Fails with
-/// `NoMemory`, or as `write_whole` does; a front of the table may be written then.
+/// `NoMemory`, or as `write_whole` does; a front of the table is written then, which may be empty.
 pub fn write_sales<W: Write>(
     alloc: Global,
     book: &SiteBook,
@@ -27,8 +28,10 @@ pub fn write_sales<W: Write>(
     writer: &mut Counted<W>,
     turns: &mut u64,
 ) -> Result<(), TableFault>
-    ensures { OnOk result (Appends (W.contents (device_of writer.old))
+    ensures written { OnOk result (Appends (W.contents (device_of writer.old))
         (W.contents (device_of writer.new)) (sales_text form book.now)) }
+    ensures front { AppendsFront (W.contents (device_of writer.old))
+        (W.contents (device_of writer.new)) (sales_text form book.now) }
 {
     let products = book.config().products();
     let mut sales = book.sales();
@@ -52,8 +55,10 @@ pub fn write_draws<W: Write>(
     writer: &mut Counted<W>,
     turns: &mut u64,
 ) -> Result<(), TableFault>
-    ensures { OnOk result (Appends (W.contents (device_of writer.old))
+    ensures written { OnOk result (Appends (W.contents (device_of writer.old))
         (W.contents (device_of writer.new)) (draws_text form book.now)) }
+    ensures front { AppendsFront (W.contents (device_of writer.old))
+        (W.contents (device_of writer.new)) (draws_text form book.now) }
 {
     let products = book.config().products();
     let mut draws = book.draws(alloc)?;
@@ -76,6 +81,8 @@ fn put_piece<W: Write>(
 ) -> Result<(), WriteFault>
     ensures written { OnOk result (Appends (W.contents (device_of writer.old))
         (W.contents (device_of writer.new)) text.old.items) }
+    ensures front { AppendsFront (W.contents (device_of writer.old))
+        (W.contents (device_of writer.new)) text.old.items }
     ensures empty { OnOk result (text.new.items ≡ []) }
 {
     write_whole(writer, text, turns)?;

@@ -6,3 +6,4 @@ pub mod RowByRow
 pub mod ProductCounts
 pub mod TillSums
 pub mod FigureSums
+pub mod AllSales

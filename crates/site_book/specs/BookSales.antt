@@ -1,8 +1,9 @@
 -- The sales of a book, in the order in which they were sold.
-use Rattle.std.specs.Prelude.{◌≡◌, ℕ, ◌≤◌, List, length, take, drop, filter_map, Option}
-use Rattle.std.specs.Prelude.{option_and_then, option_map}
+use Rattle.std.specs.Prelude.{◌≡◌, ℕ, ◌≤◌, Bool, List, [], length, take, drop, filter, filter_map}
+use Rattle.std.specs.Prelude.{Option, option_and_then, option_map}
+use Rattle.std.specs.List.{cons_option}
 use Rattle.site_base.specs.declared.row.Row.{Row}
-use Rattle.transaction_buffer.specs.Sales.{Key, Sale, sale_of}
+use Rattle.transaction_buffer.specs.Sales.{Key, Sale, key, sale_of, same_key}
 use Rattle.written_site.specs.Histories.{Moment, moments_of}
 use Rattle.written_site.specs.RowWords.{open_after}
 use Rattle.written_site.specs.SaleWords.{sold_as}
@@ -30,6 +31,15 @@ sales_from place b =
 -- the sales of a book: in the order in which its rows made them, as they stand at its site
 abbrev pub book_sales : Book → List NamedSale
 book_sales b = filter_map (sale_made (site_of_book b)) (moments_of b.config b.rows)
+
+-- the sale is told under this name
+abbrev pub is_under : Key → NamedSale → Bool
+is_under k x = same_key k (key x.shift x.point x.number)
+
+-- these are all sales of the site, each told once: under each name just the sale that the site has
+-- of it, and none where it has none
+abbrev pub AreAllSales : List NamedSale → SiteState → Type 0
+AreAllSales told s = (k : Key) → filter (is_under k) told ≡ cons_option (sale_named s k) []
 
 -- the rows before this place are read, after which shift h is open
 pub record IsReadTo (place h : ℕ) (rows : List Row) : Type 0 where

@@ -10,7 +10,8 @@ ghost use Rattle.transaction_buffer.specs.Sales.{key, sale_of};
 ghost use Rattle.written_site.specs.RowWords.{closes_shift, open_after};
 ghost use Rattle.written_site.specs.SaleWords.{key_sold, number_sold};
 ghost use Rattle.site_book.specs.Book.{site_of_book};
-ghost use Rattle.site_book.specs.BookSales.{book_sales, sale_named, sales_from, IsReadTo};
+ghost use Rattle.site_book.specs.BookSales.{book_sales, sale_named, sales_from, AreAllSales};
+ghost use Rattle.site_book.specs.BookSales.{IsReadTo};
 ghost use Rattle.site_book.specs.Readings.{IsNext};
 
 use crate::book::SiteBook;
@@ -51,11 +52,13 @@ impl SiteBook {
         self.site.sale(p, shift, number)
     }
 
-    /// All sales of the book in the order in which they were sold, each as it stands at the end of
-    /// the rows.
+    /// All sales of the site, each once, in the order in which its rows sold them, and as it stands
+    /// at the end of the rows.
     pub fn sales(&self) -> Sales<'_>
-        ensures { result ≡ book_sales self.now }
+        ensures told { result ≡ book_sales self.now }
+        ensures all { AreAllSales result (site_of_book self.now) }
     {
+        self.has_all_sales();
         Sales {
             book: self,
             place: 0,
@@ -98,6 +101,13 @@ impl SiteBook {
             // The shifts that the rows close are in range.
             None => unreachable!(),
         }
+    }
+
+    /// The rows sold all that the site has, each once.
+    fn has_all_sales(&self)
+        ensures { AreAllSales (book_sales self.now) (site_of_book self.now) }
+    {
+        self.site.is_sound();
     }
 
     /// No more shifts were opened than there are numbers for.

@@ -1,6 +1,6 @@
 //! What a line in words asks for: `t1 Release 3 volume 3000, token 2`.
 
-ghost use Rattle.std.specs.Prelude.{◌≡◌, ℕ, Option, map, IfErr, IfNone, IfOk, IfSome, OnErr};
+ghost use Rattle.std.specs.Prelude.{◌≡◌, ℕ, Option, map, IfErr, IfOk, OnErr};
 ghost use Rattle.site_base.specs.declared.actor.Actor.{Actor};
 ghost use Rattle.site_base.specs.declared.event.Event.{Event};
 ghost use Rattle.forecourt_engines.specs.EventNames.{IsRequestText};
@@ -9,11 +9,12 @@ ghost use Rattle.forecourt_engines.specs.declared.words.wrong_word.LineFault.{Li
 ghost use Rattle.forecourt_engines.specs.declared.words.wrong_word.WrongWord.{WrongWord};
 ghost use Rattle.forecourt_engines.specs.AskedText.{IsAskedText, IsTokenText};
 
-use crate::number::{is_word, number_behind, split_at_octet};
+use crate::number::{is_word, split_at_octet};
 use crate::words::event::read_event;
 use crate::words::event_name::name_of;
-use crate::words::parts::actor_of;
-use crate::words::splitting::split_words;
+use crate::words::parts::{actor_of, token_of};
+use crate::words::places::{expect_end, split_first};
+use crate::words::splitting::{count_words, split_words};
 use crate::words::wrong_word::{LineFault, Wanted, WrongWord};
 use app_message::Token;
 use site_base::{Actor, Event, NoMemory};
@@ -65,7 +66,8 @@ pub fn read_asked(alloc: Global, text: &[u8]) -> Result<Asked, LineFault>
                 token,
             })
         }
-        Err(fault) => Err(fault),
+        Err(LineFault::Wrong(wrong)) => Err(LineFault::Wrong(wrong.behind(count_words(front)))),
+        Err(LineFault::NoMemory) => Err(LineFault::NoMemory),
     }
 }
 
@@ -95,32 +97,28 @@ fn read_token(alloc: Global, text: &[u8]) -> Result<Token, LineFault>
         Ok(words) => words,
         Err(NoMemory) => return Err(LineFault::NoMemory),
     };
-    match token_of(words.as_slice()) {
-        Some(token) => Ok(token),
-        None => Err(LineFault::Wrong(WrongWord::new(words.len(), Wanted::Token))),
+    match read_token_words(words.as_slice()) {
+        Ok(token) => Ok(token),
+        Err(wrong) => Err(LineFault::Wrong(wrong)),
     }
 }
 
 /// The token that these words say.
-fn token_of(words: &[&[u8]]) -> Option<Token>
-    ensures found { IfSome result (λ token. IsTokenText (map (λ w. w.now) words.now) token) }
-    ensures other { IfNone result ((token : ℕ)
+fn read_token_words(words: &[&[u8]]) -> Result<Token, WrongWord>
+    ensures found { IfOk result (λ token. IsTokenText (map (λ w. w.now) words.now) token) }
+    ensures other { OnErr result ((token : ℕ)
         → ¬ IsTokenText (map (λ w. w.now) words.now) token) }
 {
-    let Some((first, rest)) = words.split_first() else {
-        return None;
-    };
+    let (first, rest) = split_first(words, 1, Wanted::Token)?;
     if !is_word(first, b"token") {
-        return None;
+        return Err(WrongWord::new(1, Wanted::Token));
     }
-    let Some((last, others)) = rest.split_first() else {
-        return None;
+    let (second, others) = split_first(rest, 2, Wanted::TokenNumber)?;
+    let Some(token) = token_of(second) else {
+        return Err(WrongWord::new(2, Wanted::TokenNumber));
     };
-    if !others.is_empty() {
-        return None;
-    }
-    let number = number_behind(b"", last, 0, 31)?;
-    Token::new(number as u8)
+    expect_end(others, 3)?;
+    Ok(token)
 }
 
 /// The actor and the event that words say: `t1 Release 3 volume 3000`.
@@ -130,15 +128,11 @@ pub fn read_request(words: &[&[u8]]) -> Result<(Actor, Event), WrongWord>
     ensures other { OnErr result ((actor : Actor) → (event : Event)
         → ¬ IsRequestText (map (λ w. w.now) words.now) actor event) }
 {
-    let Some((first, rest)) = words.split_first() else {
-        return Err(WrongWord::new(1, Wanted::Actor));
-    };
+    let (first, rest) = split_first(words, 1, Wanted::Actor)?;
     let Some(actor) = actor_of(first) else {
         return Err(WrongWord::new(1, Wanted::Actor));
     };
-    let Some((second, behind)) = rest.split_first() else {
-        return Err(WrongWord::new(2, Wanted::EventName));
-    };
+    let (second, behind) = split_first(rest, 2, Wanted::EventName)?;
     let Some(name) = name_of(second) else {
         return Err(WrongWord::new(2, Wanted::EventName));
     };

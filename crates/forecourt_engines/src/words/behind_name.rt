@@ -1,29 +1,32 @@
-//! What stands behind the name of an event: so many words, and no more.
+//! What stands behind the name of an event: so many words, and no more. Each word is judged before
+//! the next is looked for, so the first wrong one is told.
 
-ghost use Rattle.std.specs.Prelude.{◌≡◌, ◌≢◌, ◌≤◌, ◌+◌, ℕ, List, [], ◌∷◌, map, IfOk, OnErr, OnOk};
+ghost use Rattle.std.specs.Prelude.{◌≡◌, ◌≢◌, ◌≤◌, ◌∷◌, ℕ, [], decimal, map, IfOk, OnErr};
+ghost use Rattle.std.specs.Prelude.{OnOk};
 ghost use Rattle.site_base.specs.declared.sale.SaleId.{SaleId};
 ghost use Rattle.site_base.specs.declared.state.Preset.{Preset};
 ghost use Rattle.forecourt_engines.specs.Said.{AreMeter, ArePoint, ArePointAmount, AreProduct};
-ghost use Rattle.forecourt_engines.specs.declared.words.behind_name.TheConstants.{FIRST};
+ghost use Rattle.forecourt_engines.specs.declared.words.behind_name.TheConstants.{LAST};
+ghost use Rattle.forecourt_engines.specs.declared.words.parts.TheConstants.{GREATEST_AMOUNT};
 ghost use Rattle.forecourt_engines.specs.Said.{AreProductAmount, AreRelease, AreSale, IsLimit};
 
 use crate::number::is_word;
 use crate::words::parts::{amount_of, meter_of, point_of, product_of, sale_of};
+use crate::words::places::{expect_end, split_first};
 use crate::words::wrong_word::{Wanted, WrongWord};
 use site_base::{FpNo, Millilitres, NozzleNo, Preset, ProductNo, SaleId};
 
 /// The place in its line of the first word behind the name.
 const FIRST: usize = 3;
+/// The place of the last word that a line without a token can have.
+const LAST: usize = 5;
 
 /// No word.
 pub fn read_nothing(words: &[&[u8]]) -> Result<(), WrongWord>
     ensures found { OnOk result (map (λ w. w.now) words.now ≡ []) }
     ensures other { OnErr result (map (λ w. w.now) words.now ≢ []) }
 {
-    if words.is_empty() {
-        return Ok(());
-    }
-    Err(WrongWord::new(FIRST, Wanted::Nothing))
+    expect_end(words, FIRST)
 }
 
 /// A fuelling point.
@@ -31,11 +34,12 @@ pub fn read_point(words: &[&[u8]]) -> Result<FpNo, WrongWord>
     ensures found { IfOk result (λ p. ArePoint (map (λ w. w.now) words.now) p) }
     ensures other { OnErr result ((p : ℕ) → ¬ ArePoint (map (λ w. w.now) words.now) p) }
 {
-    let word = one(words, Wanted::Point)?;
-    match point_of(word) {
-        Some(p) => Ok(p),
-        None => Err(WrongWord::new(FIRST, Wanted::Point)),
-    }
+    let (first, rest) = split_first(words, FIRST, Wanted::Point)?;
+    let Some(p) = point_of(first) else {
+        return Err(WrongWord::new(FIRST, Wanted::Point));
+    };
+    expect_end(rest, FIRST + 1)?;
+    Ok(p)
 }
 
 /// A product.
@@ -43,11 +47,12 @@ pub fn read_product(words: &[&[u8]]) -> Result<ProductNo, WrongWord>
     ensures found { IfOk result (λ q. AreProduct (map (λ w. w.now) words.now) q) }
     ensures other { OnErr result ((q : ℕ) → ¬ AreProduct (map (λ w. w.now) words.now) q) }
 {
-    let word = one(words, Wanted::Product)?;
-    match product_of(word) {
-        Some(q) => Ok(q),
-        None => Err(WrongWord::new(FIRST, Wanted::Product)),
-    }
+    let (first, rest) = split_first(words, FIRST, Wanted::Product)?;
+    let Some(q) = product_of(first) else {
+        return Err(WrongWord::new(FIRST, Wanted::Product));
+    };
+    expect_end(rest, FIRST + 1)?;
+    Ok(q)
 }
 
 /// A transaction of a fuelling point.
@@ -57,11 +62,12 @@ pub fn read_sale(words: &[&[u8]]) -> Result<(FpNo, SaleId), WrongWord>
     ensures other { OnErr result ((p : ℕ) → (sale : SaleId)
         → ¬ AreSale (map (λ w. w.now) words.now) p sale) }
 {
-    let word = one(words, Wanted::Transaction)?;
-    match sale_of(word) {
-        Some(named) => Ok(named),
-        None => Err(WrongWord::new(FIRST, Wanted::Transaction)),
-    }
+    let (first, rest) = split_first(words, FIRST, Wanted::Transaction)?;
+    let Some(named) = sale_of(first) else {
+        return Err(WrongWord::new(FIRST, Wanted::Transaction));
+    };
+    expect_end(rest, FIRST + 1)?;
+    Ok(named)
 }
 
 /// A fuelling point, and a nozzle with its meter's reading.
@@ -71,13 +77,15 @@ pub fn read_meter(words: &[&[u8]]) -> Result<(FpNo, NozzleNo, Millilitres), Wron
     ensures other { OnErr result ((p n reading : ℕ)
         → ¬ AreMeter (map (λ w. w.now) words.now) p n reading) }
 {
-    let (first, last) = two(words, FIRST, Wanted::Point, Wanted::Meter)?;
+    let (first, rest) = split_first(words, FIRST, Wanted::Point)?;
     let Some(p) = point_of(first) else {
         return Err(WrongWord::new(FIRST, Wanted::Point));
     };
-    let Some((n, reading)) = meter_of(last) else {
+    let (second, others) = split_first(rest, FIRST + 1, Wanted::Meter)?;
+    let Some((n, reading)) = meter_of(second) else {
         return Err(WrongWord::new(FIRST + 1, Wanted::Meter));
     };
+    expect_end(others, FIRST + 2)?;
     Ok((p, n, reading))
 }
 
@@ -88,13 +96,11 @@ pub fn read_point_amount(words: &[&[u8]]) -> Result<(FpNo, u32), WrongWord>
     ensures other { OnErr result ((p amount : ℕ)
         → ¬ ArePointAmount (map (λ w. w.now) words.now) p amount) }
 {
-    let (first, last) = two(words, FIRST, Wanted::Point, Wanted::Amount)?;
+    let (first, rest) = split_first(words, FIRST, Wanted::Point)?;
     let Some(p) = point_of(first) else {
         return Err(WrongWord::new(FIRST, Wanted::Point));
     };
-    let Some(amount) = amount_of(last) else {
-        return Err(WrongWord::new(FIRST + 1, Wanted::Amount));
-    };
+    let amount = read_amount(rest, FIRST + 1)?;
     Ok((p, amount))
 }
 
@@ -105,13 +111,11 @@ pub fn read_product_amount(words: &[&[u8]]) -> Result<(ProductNo, u32), WrongWor
     ensures other { OnErr result ((q amount : ℕ)
         → ¬ AreProductAmount (map (λ w. w.now) words.now) q amount) }
 {
-    let (first, last) = two(words, FIRST, Wanted::Product, Wanted::Amount)?;
+    let (first, rest) = split_first(words, FIRST, Wanted::Product)?;
     let Some(q) = product_of(first) else {
         return Err(WrongWord::new(FIRST, Wanted::Product));
     };
-    let Some(amount) = amount_of(last) else {
-        return Err(WrongWord::new(FIRST + 1, Wanted::Amount));
-    };
+    let amount = read_amount(rest, FIRST + 1)?;
     Ok((q, amount))
 }
 
@@ -122,9 +126,7 @@ pub fn read_release(words: &[&[u8]]) -> Result<(FpNo, Preset), WrongWord>
     ensures other { OnErr result ((p : ℕ) → (preset : Preset)
         → ¬ AreRelease (map (λ w. w.now) words.now) p preset) }
 {
-    let Some((first, rest)) = words.split_first() else {
-        return Err(WrongWord::new(FIRST, Wanted::Point));
-    };
+    let (first, rest) = split_first(words, FIRST, Wanted::Point)?;
     let Some(p) = point_of(first) else {
         return Err(WrongWord::new(FIRST, Wanted::Point));
     };
@@ -138,57 +140,32 @@ fn read_limit(words: &[&[u8]]) -> Result<Preset, WrongWord>
     ensures other { OnErr result ((preset : Preset)
         → ¬ IsLimit (map (λ w. w.now) words.now) preset) }
 {
-    if words.is_empty() {
+    let Some((kind, rest)) = words.split_first() else {
         return Ok(Preset::Unset);
-    }
-    let (kind, last) = two(words, FIRST + 1, Wanted::Limit, Wanted::Amount)?;
-    let Some(amount) = amount_of(last) else {
-        return Err(WrongWord::new(FIRST + 2, Wanted::Amount));
     };
     if is_word(kind, b"volume") {
-        return Ok(Preset::Volume(amount));
+        let millilitres = read_amount(rest, FIRST + 2)?;
+        return Ok(Preset::Volume(millilitres));
     }
     if is_word(kind, b"money") {
-        return Ok(Preset::Money(amount));
+        let cents = read_amount(rest, FIRST + 2)?;
+        return Ok(Preset::Money(cents));
     }
     Err(WrongWord::new(FIRST + 1, Wanted::Limit))
 }
 
-/// Just one word.
-fn one<'a>(words: &[&'a [u8]], wanted: Wanted) -> Result<&'a [u8], WrongWord>
-    ensures found { IfOk result (λ word. map (λ w. w.now) words.now ≡ word.now ∷ []) }
-    ensures other { OnErr result ((word : List ℕ) → map (λ w. w.now) words.now ≢ word ∷ []) }
+/// An amount and nothing behind it, at this place in its line.
+fn read_amount(words: &[&[u8]], place: usize) -> Result<u32, WrongWord>
+    requires { place ≤ LAST }
+    ensures found { IfOk result (λ n.
+        (map (λ w. w.now) words.now ≡ decimal n ∷ []) × (n ≤ GREATEST_AMOUNT)) }
+    ensures other { OnErr result ((n : ℕ) → n ≤ GREATEST_AMOUNT
+        → map (λ w. w.now) words.now ≢ decimal n ∷ []) }
 {
-    let Some((first, rest)) = words.split_first() else {
-        return Err(WrongWord::new(FIRST, wanted));
+    let (first, rest) = split_first(words, place, Wanted::Amount)?;
+    let Some(amount) = amount_of(first) else {
+        return Err(WrongWord::new(place, Wanted::Amount));
     };
-    if rest.is_empty() {
-        return Ok(*first);
-    }
-    Err(WrongWord::new(FIRST + 1, Wanted::Nothing))
-}
-
-/// Just two words, the first at this place in its line.
-fn two<'a>(
-    words: &[&'a [u8]],
-    place: usize,
-    wanted: Wanted,
-    behind: Wanted,
-) -> Result<(&'a [u8], &'a [u8]), WrongWord>
-    requires { place ≤ FIRST + 1 }
-    ensures found { IfOk result (λ both.
-        map (λ w. w.now) words.now ≡ both.0.now ∷ both.1.now ∷ []) }
-    ensures other { OnErr result ((first last : List ℕ)
-        → map (λ w. w.now) words.now ≢ first ∷ last ∷ []) }
-{
-    let Some((first, rest)) = words.split_first() else {
-        return Err(WrongWord::new(place, wanted));
-    };
-    let Some((last, others)) = rest.split_first() else {
-        return Err(WrongWord::new(place + 1, behind));
-    };
-    if others.is_empty() {
-        return Ok((*first, *last));
-    }
-    Err(WrongWord::new(place + 2, Wanted::Nothing))
+    expect_end(rest, place + 1)?;
+    Ok(amount)
 }

@@ -24,41 +24,41 @@ pub fn read_event(name: EventName, words: &[&[u8]]) -> Result<Event, WrongWord>
     match name {
         EventName::Alone(name) => {
             read_nothing(words)?;
-            Ok(lone_event(name))
+            Ok(make_lone_event(name))
         }
         EventName::OfPoint(name) => {
             let p = read_point(words)?;
-            Ok(point_event(name, p))
+            Ok(make_point_event(name, p))
         }
         EventName::OfMeter(name) => {
             let (p, n, reading) = read_meter(words)?;
-            Ok(meter_event(name, p, n, reading))
+            Ok(make_meter_event(name, p, n, reading))
         }
         EventName::OfSale(name) => {
             let (p, sale) = read_sale(words)?;
-            Ok(sale_event(name, p, sale))
+            Ok(make_sale_event(name, p, sale))
         }
         EventName::Release => {
             let (p, preset) = read_release(words)?;
-            Ok(release(p, preset))
+            Ok(make_release(p, preset))
         }
         EventName::Prepay => {
             let (p, cents) = read_point_amount(words)?;
-            Ok(prepay(p, cents))
+            Ok(make_prepay(p, cents))
         }
         EventName::SetPrice => {
             let (q, mills) = read_product_amount(words)?;
-            Ok(set_price(q, mills))
+            Ok(make_price_change(q, mills))
         }
         EventName::ReadProduct => {
             let q = read_product(words)?;
-            Ok(product_read(q))
+            Ok(make_product_read(q))
         }
     }
 }
 
 /// An event of which nothing is said.
-fn lone_event(name: LoneName) -> Event
+fn make_lone_event(name: LoneName) -> Event
     ensures { IsSaid (EventName.Alone name) [] result }
 {
     match name {
@@ -70,7 +70,7 @@ fn lone_event(name: LoneName) -> Event
 }
 
 /// An event that names a point alone.
-fn point_event(name: PointName, p: FpNo) -> Event
+fn make_point_event(name: PointName, p: FpNo) -> Event
     ensures { IsSaid (EventName.OfPoint name) (decimal p ∷ []) result }
 {
     let _ = p.get();
@@ -90,7 +90,7 @@ fn point_event(name: PointName, p: FpNo) -> Event
 }
 
 /// An event of a nozzle's meter.
-fn meter_event(name: MeterName, p: FpNo, n: NozzleNo, reading: Millilitres) -> Event
+fn make_meter_event(name: MeterName, p: FpNo, n: NozzleNo, reading: Millilitres) -> Event
     ensures { IsSaid (EventName.OfMeter name) (decimal p ∷ meter_word n reading ∷ []) result }
 {
     let _ = (p.get(), n.get(), reading.get());
@@ -103,7 +103,7 @@ fn meter_event(name: MeterName, p: FpNo, n: NozzleNo, reading: Millilitres) -> E
 }
 
 /// An event of a transaction.
-fn sale_event(name: SaleName, p: FpNo, sale: SaleId) -> Event
+fn make_sale_event(name: SaleName, p: FpNo, sale: SaleId) -> Event
     requires { is_sale sale ≡ true }
     ensures { IsSaid (EventName.OfSale name) (sale_word p sale ∷ []) result }
 {
@@ -117,7 +117,7 @@ fn sale_event(name: SaleName, p: FpNo, sale: SaleId) -> Event
 }
 
 /// A release, and what it is limited by.
-fn release(p: FpNo, preset: Preset) -> Event
+fn make_release(p: FpNo, preset: Preset) -> Event
     requires { is_preset preset ≡ true }
     ensures { IsSaid EventName.Release (decimal p ∷ limit_words preset) result }
 {
@@ -126,7 +126,7 @@ fn release(p: FpNo, preset: Preset) -> Event
 }
 
 /// A prepayment of these cents.
-fn prepay(p: FpNo, cents: u32) -> Event
+fn make_prepay(p: FpNo, cents: u32) -> Event
     ensures { IsSaid EventName.Prepay (decimal p ∷ decimal cents ∷ []) result }
 {
     let _ = p.get();
@@ -134,7 +134,7 @@ fn prepay(p: FpNo, cents: u32) -> Event
 }
 
 /// A product's new price.
-fn set_price(q: ProductNo, mills: u32) -> Event
+fn make_price_change(q: ProductNo, mills: u32) -> Event
     ensures { IsSaid EventName.SetPrice (decimal q ∷ decimal mills ∷ []) result }
 {
     let _ = q.get();
@@ -142,7 +142,7 @@ fn set_price(q: ProductNo, mills: u32) -> Event
 }
 
 /// A read of a product.
-fn product_read(q: ProductNo) -> Event
+fn make_product_read(q: ProductNo) -> Event
     ensures { IsSaid EventName.ReadProduct (decimal q ∷ []) result }
 {
     let _ = q.get();

@@ -6,7 +6,7 @@ ghost use Rattle.forecourt_engines.specs.declared.words.event_name.LoneName.{Lon
 ghost use Rattle.forecourt_engines.specs.declared.words.event_name.MeterName.{MeterName};
 ghost use Rattle.forecourt_engines.specs.declared.words.event_name.PointName.{PointName};
 ghost use Rattle.forecourt_engines.specs.declared.words.event_name.SaleName.{SaleName};
-ghost use Rattle.forecourt_engines.specs.EventNames.{name_word};
+ghost use Rattle.forecourt_engines.specs.EventNames.{is_report, name_word};
 
 use crate::number::is_word;
 
@@ -72,6 +72,19 @@ pub enum SaleName {
     Unlock,
     Clear,
     ReadTransaction,
+}
+
+impl EventName {
+    /// Is it the name of what a dispenser reports, and no till asks for?
+    pub fn is_report(&self) -> bool
+        ensures { result ≡ is_report self.now }
+    {
+        match self {
+            EventName::OfPoint(name) => matches!(name, PointName::Online | PointName::Offline),
+            EventName::OfMeter(name) => !matches!(name, MeterName::ReplaceMeter),
+            _ => false,
+        }
+    }
 }
 
 /// The name that the word is, if it is one.

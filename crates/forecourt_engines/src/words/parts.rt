@@ -4,6 +4,7 @@ ghost use Rattle.std.specs.Prelude.{◌≡◌, ℕ, true, IfNone, IfSome};
 ghost use Rattle.site_base.specs.declared.limits.TheConstants.{GREATEST_READING, GREATEST_SEQ};
 ghost use Rattle.site_base.specs.declared.limits.TheConstants.{GREATEST_SHIFT};
 ghost use Rattle.forecourt_engines.specs.declared.words.parts.TheConstants.{GREATEST_AMOUNT};
+ghost use Rattle.forecourt_engines.specs.declared.words.parts.TheConstants.{GREATEST_TOKEN};
 ghost use Rattle.site_base.specs.declared.limits.TheConstants.{NOZZLES, POINTS, PRODUCTS, TILLS};
 ghost use Rattle.site_base.specs.declared.actor.Actor.{Actor};
 ghost use Rattle.site_base.specs.declared.sale.SaleId.{SaleId};
@@ -11,6 +12,7 @@ ghost use Rattle.forecourt_engines.specs.Said.{IsActorWord, IsIdWord, IsMeterWor
 ghost use Rattle.forecourt_engines.specs.Said.{IsNumberWord, IsSaleWord};
 
 use crate::number::{behind, number_behind, split_at_octet};
+use app_message::Token;
 use site_base::{
     Actor, FpNo, GREATEST_READING, GREATEST_SEQ, GREATEST_SHIFT, Millilitres, NOZZLES, NozzleNo,
     POINTS, PRODUCTS, ProductNo, SaleId, Seq, ShiftNo, TILLS, TillNo,
@@ -18,6 +20,8 @@ use site_base::{
 
 /// The greatest number of four octets.
 pub const GREATEST_AMOUNT: u64 = u32::MAX as u64;
+/// The greatest token.
+const GREATEST_TOKEN: u64 = 31;
 
 /// The actor of a word: `t1` is till 1, `d3` the dispenser of fuelling point 3.
 pub fn actor_of(word: &[u8]) -> Option<Actor>
@@ -109,6 +113,15 @@ pub fn amount_of(word: &[u8]) -> Option<u32>
 {
     let n = number_behind(b"", word, 0, GREATEST_AMOUNT)?;
     Some(n as u32)
+}
+
+/// The token of this number.
+pub fn token_of(word: &[u8]) -> Option<Token>
+    ensures found { IfSome result (λ n. IsNumberWord 0 GREATEST_TOKEN word.now n) }
+    ensures other { IfNone result ((n : ℕ) → ¬ IsNumberWord 0 GREATEST_TOKEN word.now n) }
+{
+    let n = number_behind(b"", word, 0, GREATEST_TOKEN)?;
+    Token::new(n as u8)
 }
 
 /// A nozzle and its meter's reading: `2@1000`.

@@ -3,18 +3,24 @@
 ghost use Rattle.std.specs.Prelude.{◌≡◌, ◌⊎◌, ◌++◌, ◌∷◌, [], IfErr, IfOk, OnOk};
 ghost use Rattle.forecourt_engines.specs.declared.words.wrong_word.LineFault.{LineFault};
 ghost use Rattle.forecourt_engines.specs.declared.words.wrong_word.WrongWord.{WrongWord};
-ghost use Rattle.forecourt_engines.specs.SpelledLines.{SaysAnothers, SaysNothing, Spells};
-ghost use Rattle.forecourt_engines.specs.SpelledLines.{SpellsRequest};
+ghost use Rattle.forecourt_engines.specs.SpelledLines.{AsksNothing, SaysAnothers, SaysNothing};
+ghost use Rattle.forecourt_engines.specs.SpelledLines.{Spells, SpellsRequest};
 ghost use Rattle.forecourt_engines.specs.SpelledLines.{token_behind};
 
 use crate::answers::put_line;
 use crate::words::asked::read_asked;
+use crate::words::event_name::name_of;
+use crate::words::parts::actor_of;
+use crate::words::places::word_behind;
 use crate::words::splitting::is_comment;
 use crate::words::wrong_word::{LineFault, Wanted, WrongWord};
 use app_message::Token;
 use device_map::encode_request;
-use site_base::NoMemory;
+use site_base::{Actor, NoMemory};
 use std::alloc::Global;
+
+/// The place of an event's name in its line.
+const NAME_PLACE: usize = 2;
 
 /// Appends what a line in words, which comes without its line feed, is spelled as: an empty line or
 /// a comment as it is, any other as the line of hexadecimal of the request that it asks for, with
@@ -29,7 +35,7 @@ pub fn spell_line(
 ) -> Result<Token, LineFault>
     ensures spelled { IfOk result (λ then. Spells line.now next then out.old.items out.new.items) }
     ensures other { IfErr result (λ fault. (wrong : WrongWord) → fault ≡ LineFault.Wrong wrong
-        → SaysNothing line.now ⊎ SaysAnothers line.now) }
+        → AsksNothing line.now) }
     ensures silent { IfErr result (λ fault. (wrong : WrongWord) → fault ≡ LineFault.Wrong wrong
         → out.new.items ≡ out.old.items) }
 {
@@ -58,7 +64,8 @@ fn spell_request(
 {
     let asked = match read_asked(alloc, line) {
         Ok(asked) => asked,
-        Err(fault) => return Err(fault),
+        Err(LineFault::Wrong(wrong)) => return Err(LineFault::Wrong(first_wrong(line, wrong))),
+        Err(LineFault::NoMemory) => return Err(LineFault::NoMemory),
     };
     let (token, then) = match asked.token {
         Some(token) => (token, next),
@@ -69,8 +76,32 @@ fn spell_request(
             Ok(()) => Ok(then),
             Err(NoMemory) => Err(LineFault::NoMemory),
         },
-        Ok(None) => Err(LineFault::Wrong(WrongWord::new(2, Wanted::OwnEvent))),
+        Ok(None) => Err(LineFault::Wrong(WrongWord::new(NAME_PLACE, Wanted::OwnEvent))),
         Err(NoMemory) => Err(LineFault::NoMemory),
+    }
+}
+
+/// The first wrong word of a line in which this one is wrong: the name of an event that isn't of
+/// its actor's kind stands before whatever is behind it.
+fn first_wrong(line: &[u8], wrong: WrongWord) -> WrongWord {
+    if wrong.place > NAME_PLACE && names_anothers(line) {
+        return WrongWord::new(NAME_PLACE, Wanted::OwnEvent);
+    }
+    wrong
+}
+
+/// Does the line name an event that isn't of its actor's kind?
+fn names_anothers(line: &[u8]) -> bool {
+    let Some(first) = word_behind(line, 0) else {
+        return false;
+    };
+    let Some(second) = word_behind(line, 1) else {
+        return false;
+    };
+    match (actor_of(first), name_of(second)) {
+        (Some(Actor::Till(_)), Some(name)) => name.is_report(),
+        (Some(Actor::Dispenser(_)), Some(name)) => !name.is_report(),
+        _ => false,
     }
 }
 

@@ -1,6 +1,7 @@
 //! The words of a line.
 
-ghost use Rattle.std.specs.Prelude.{◌≡◌, ◌≢◌, ◌<◌, ◌≤◌, [], ◌∷◌, length, map, IfOk};
+ghost use Rattle.std.specs.Prelude.{◌≡◌, ◌≢◌, ◌<◌, ◌≤◌, [], ◌∷◌, length, map, slice_get, IfNone};
+ghost use Rattle.std.specs.Prelude.{IfOk, IfSome, Some};
 ghost use Rattle.forecourt_engines.specs.LineWords.{BeginsNoSpace, is_comment, is_space};
 ghost use Rattle.forecourt_engines.specs.LineWords.{words_in};
 
@@ -19,6 +20,38 @@ pub fn split_words(alloc: Global, text: &[u8]) -> Result<Vec<&[u8]>, NoMemory>
         rest = skip_spaces(behind);
     }
     Ok(words)
+}
+
+/// How many words a text has.
+pub fn count_words(text: &[u8]) -> usize
+    ensures { result ≡ length (words_in text.now) }
+{
+    let mut count = 0;
+    let mut rest = skip_spaces(text);
+    while !rest.is_empty() {
+        let (_, behind) = split_word(rest);
+        count += 1;
+        rest = skip_spaces(behind);
+    }
+    count
+}
+
+/// The word of a text behind so many others, if it has one.
+pub fn find_word(text: &[u8], others: usize) -> Option<&[u8]>
+    ensures found { IfSome result (λ word. slice_get (words_in text.now) others ≡ Some word.now) }
+    ensures other { IfNone result (length (words_in text.now) ≤ others) }
+{
+    let mut rest = skip_spaces(text);
+    let mut left = others;
+    while !rest.is_empty() {
+        let (word, behind) = split_word(rest);
+        if left == 0 {
+            return Some(word);
+        }
+        left -= 1;
+        rest = skip_spaces(behind);
+    }
+    None
 }
 
 /// Has the line nothing but spaces, or a `#` behind them?

@@ -54,6 +54,14 @@ impl WrongWord {
     pub fn new(place: usize, wanted: Wanted) -> WrongWord {
         WrongWord { place, wanted }
     }
+
+    /// The same word, where so many others stand before those among which it was counted.
+    pub fn behind(self, others: usize) -> WrongWord {
+        WrongWord {
+            place: self.place.saturating_add(others),
+            wanted: self.wanted,
+        }
+    }
 }
 
 impl fmt::Display for Wanted {
@@ -72,12 +80,5 @@ impl fmt::Display for Wanted {
             Wanted::TokenNumber => "a token's number, 0 to 31",
             Wanted::Nothing => "nothing more",
         })
-    }
-}
-
-impl fmt::Display for WrongWord {
-    /// `word 2: the name of an event, as SignOn`.
-    fn fmt<W: fmt::Write>(&self, f: &mut fmt::Formatter<W>) -> fmt::Result {
-        write!(f, "word {}: {}", self.place, self.wanted)
     }
 }

@@ -2,7 +2,7 @@
 //! for a reading or a number that is 5 more than the one that was named before.
 
 use anyhow::bail;
-use forecourt_engines::words::{read_request, split_words};
+use forecourt_engines::words::{WordFault, read_request, split_words};
 use site_base::{Actor, Event, FpNo, Millilitres, SaleId, Seq, ShiftNo, TillNo};
 use std::alloc::Global;
 
@@ -127,7 +127,10 @@ fn read_words(alloc: Global, text: &str) -> anyhow::Result<(Actor, Event)> {
     let words = split_words(alloc, text.as_bytes())?;
     match read_request(words.as_slice()) {
         Ok(said) => Ok(said),
-        Err(wrong) => bail!("no such line: {text}: {wrong}"),
+        Err(wrong) => {
+            let line = text.as_bytes();
+            bail!("no such line: {text}: {}", WordFault { line, wrong })
+        }
     }
 }
 

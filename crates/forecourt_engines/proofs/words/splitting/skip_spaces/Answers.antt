@@ -1,4 +1,4 @@
-use Rattle.std.proofs.Common.{◌≡◌, arith, subst, ℕ, length}
+use Rattle.std.proofs.Common.{arith}
 use Rattle.forecourt_engines.proofs.Splitting.{all_comment, all_skipped, comment_skipped, skipped}
 use Rattle.forecourt_engines.proofs.words.splitting.skip_spaces.Goals as goal
 

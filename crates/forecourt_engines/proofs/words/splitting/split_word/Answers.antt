@@ -1,6 +1,4 @@
-use Rattle.std.proofs.Common.{◌≡◌, arith, true, sym, ◌∙◌}
-use Rattle.std.proofs.Common.{get_or}
-use Rattle.forecourt_engines.specs.LineWords.{is_space}
+use Rattle.std.proofs.Common.{arith, sym, ◌∙◌}
 use Rattle.forecourt_engines.proofs.Splitting.{all_word, split_there}
 use Rattle.forecourt_engines.proofs.words.splitting.split_word.Goals as goal
 

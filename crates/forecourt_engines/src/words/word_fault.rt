@@ -1,0 +1,59 @@
+//! A wrong word as it is told: quoted, with its place and what could stand there.
+
+use crate::words::places::word_behind;
+use crate::words::wrong_word::WrongWord;
+use std::fmt;
+
+/// So many octets of a word are quoted.
+const QUOTED_OCTETS: usize = 40;
+
+/// A wrong word of a line.
+#[derive(Clone, Copy, Debug)]
+pub struct WordFault<'a> {
+    /// The line.
+    pub line: &'a [u8],
+    /// Its first wrong word.
+    pub wrong: WrongWord,
+}
+
+impl<'a> fmt::Display for WordFault<'a> {
+    /// `word 4 "2000": volume, money, or nothing`; where it isn't there `word 3 is missing: token`.
+    fn fmt<W: fmt::Write>(&self, f: &mut fmt::Formatter<W>) -> fmt::Result {
+        let place = self.wrong.place;
+        let wanted = self.wrong.wanted;
+        match word_behind(self.line, place.saturating_sub(1)) {
+            Some(word) => write!(f, "word {place} {}: {wanted}", Quoted { word }),
+            None => write!(f, "word {place} is missing: {wanted}"),
+        }
+    }
+}
+
+/// A word between quotation marks, of which a text shows its first octets.
+#[derive(Clone, Copy, Debug)]
+struct Quoted<'a> {
+    word: &'a [u8],
+}
+
+impl<'a> fmt::Display for Quoted<'a> {
+    fn fmt<W: fmt::Write>(&self, f: &mut fmt::Formatter<W>) -> fmt::Result {
+        f.write_char('"')?;
+        for octet in &self.word[..self.word.len().min(QUOTED_OCTETS)] {
+            write_octet(f, *octet)?;
+        }
+        f.write_char('"')?;
+        if self.word.len() > QUOTED_OCTETS {
+            f.write_str("..")?;
+        }
+        Ok(())
+    }
+}
+
+/// Writes a printable octet of ASCII as it is, and any other, a quotation mark and a backslash by
+/// its number: `\x1b`.
+fn write_octet<W: fmt::Write>(f: &mut fmt::Formatter<W>, octet: u8) -> fmt::Result {
+    match octet {
+        b'"' | b'\\' => write!(f, "\\x{octet:02x}"),
+        b' '..=b'~' => f.write_char(octet as char),
+        _ => write!(f, "\\x{octet:02x}"),
+    }
+}
