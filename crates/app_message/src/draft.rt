@@ -2,7 +2,7 @@
 
 ghost use Rattle.std.specs.Prelude.{◌≡◌, ◌≢◌, ◌≤◌, ◌<◌, ◌⊎◌, [], ◌++◌, Some, None, length, IfOk};
 ghost use Rattle.std.specs.Prelude.{IfErr, OnOk};
-ghost use Rattle.std.specs.Prelude.{OnErr};
+ghost use Rattle.std.specs.Prelude.{OnErr, vec_capacity, ◌+◌};
 ghost use Rattle.std.specs.Result.{IsErrOf};
 ghost use Rattle.app_message.specs.declared.sizes.TheConstants.{LONGEST_ADDRESS, LONGEST_CONTENT};
 ghost use Rattle.app_message.specs.Telegram.{telegram, entry};
@@ -187,15 +187,17 @@ fn rise(items: Items<'_>) -> bool
     true
 }
 
-/// Appends an address as it is spelled. Most have one octet, which is put without a call.
+/// Appends an address as it is spelled. Most have one octet, which is put without a call; there is
+/// room for it.
 #[inline(always)]
 fn put_address(out: &mut Vec<u8>, spelled: &[u8]) -> Result<(), AllocError>
+    requires { length out.old.items + 2 ≤ vec_capacity out.old }
     ensures { OnOk result (out.new.items ≡ out.old.items ++ spelled.now) }
 {
     match spelled {
         [size, octet] => {
-            out.push(*size)?;
-            out.push(*octet)?;
+            out.push_reserved(*size);
+            out.push_reserved(*octet);
             Ok(())
         }
         _ => out.extend_from_slice(spelled),
@@ -210,6 +212,7 @@ fn put_item(out: &mut Vec<u8>, id: u8, content: &[u8]) -> Result<(), AllocError>
     ensures err { OnErr result (out.new.items ≡ out.old.items) }
 {
     out.reserve(content.len() + 2)?;
-    out.extend_from_slice(&[id, content.len() as u8])?;
+    out.push_reserved(id);
+    out.push_reserved(content.len() as u8);
     out.extend_from_slice(content)
 }
