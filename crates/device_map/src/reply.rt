@@ -110,11 +110,7 @@ pub fn stream_refusal(alloc: Global, fault: &StreamFault) -> Result<Message, NoM
 /// A message without items yet, from the site to the originator of the request, with its token and
 /// address.
 #[inline(always)]
-fn begin_reply(
-    buffer: Vec<u8>,
-    request: &SpelledMessage<'_>,
-    kind: Kind,
-) -> Result<Draft, NoMemory>
+fn begin_reply(buffer: Vec<u8>, request: &SpelledMessage<'_>, kind: Kind) -> Result<Draft, NoMemory>
     ensures value { IfOk result (λ draft. draft ≡ back request.now kind []) }
     ensures least { OnOk result (1 ≤ length request.now.address) }
     ensures most { OnOk result (length request.now.address ≤ 8) }
