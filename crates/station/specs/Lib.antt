@@ -1,0 +1,10 @@
+pub mod Papers
+pub mod PeerViews
+pub mod Outboxes
+pub mod Standing
+pub mod Notices
+pub mod Sessions
+pub mod Peers
+pub mod Moves
+pub mod Hearing
+pub mod Reads
