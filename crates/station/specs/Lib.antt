@@ -8,3 +8,6 @@ pub mod Peers
 pub mod Moves
 pub mod Hearing
 pub mod Reads
+pub mod Runs
+pub mod Stories
+pub mod Laws

@@ -137,12 +137,11 @@ abbrev pub opening_text : Option (List ℕ) → List ℕ → Book → List ℕ
 opening_text None from b = standing_text b from
 opening_text (Some peer) from b = []
 
--- a request that is answered so, to a session that served this originator before
-abbrev pub answered_so : Bool → Telegram → Actor → Event → Outcome → Turn → Turn
-answered_so memory m actor event outcome t =
-    let after = asked actor event outcome (served m.from t) in
-    told memory
-        (outcome_text m outcome ++ opening_text t.session.talk.peer m.from after.book) after
+-- a request of one whom the session serves is answered so; before the message it served this peer
+abbrev pub answered_so : Bool → Telegram → Actor → Event → Outcome → Option (List ℕ) → Turn → Turn
+answered_so memory m actor event outcome before t =
+    let after = asked actor event outcome t in
+    told memory (outcome_text m outcome ++ opening_text before m.from after.book) after
 
 -- a message that means this
 abbrev pub answered_by : Granted → Telegram → Meaning → Turn → Turn
@@ -153,7 +152,8 @@ answered_by g m (meanings.Fault f) t =
     told g.text (number_text m (map_number f) ++ opening_text t.session.talk.peer m.from t.book)
     (served m.from t)
 answered_by g m (meanings.Request actor event) t =
-    answered_so g.text m actor event (outcome_at g.row t.book actor event) t
+    answered_so g.text m actor event (outcome_at g.row t.book actor event) t.session.talk.peer
+    (served m.from t)
 
 -- a message is answered, if the session lasts
 abbrev pub answered : Granted → Telegram → Turn → Turn

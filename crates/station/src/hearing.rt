@@ -1,13 +1,14 @@
 //! What a peer's octets do to its session, to the book, and to those who listen.
 
 ghost use Rattle.std.specs.Prelude.{◌≡◌, ◌++◌, Bool, None, Some, OnOk, OnErr};
-ghost use Rattle.std.specs.Result.{result_err};
 ghost use Rattle.app_message.specs.Spelling.{spelling};
 ghost use Rattle.device_map.specs.Replies.{fault_message};
-ghost use Rattle.station.specs.Hearing.{Answers, AnswersAll, AnswersSo, Hears, standing_if};
-ghost use Rattle.station.specs.Hearing.{turn_of};
+ghost use Rattle.till_session.specs.Course.{IsSpokenBy};
+ghost use Rattle.till_session.specs.Text.{number_text};
+ghost use Rattle.station.specs.Hearing.{Answers, AnswersAll, AnswersRequest, Hears, turn_of};
 ghost use Rattle.station.specs.PeerViews.{session_of, sessions_of};
-ghost use Rattle.station.specs.Sessions.{ended, finished, refused_by};
+ghost use Rattle.station.specs.Sessions.{ended, finished, opening_text, refused_by, told};
+ghost use Rattle.station.specs.Sessions.{told_last};
 
 use crate::asking::ask;
 use crate::paper::Paper;
@@ -73,43 +74,92 @@ fn answer(
     ensures { Answers message.now (turn_of book.old peer.old) (turn_of book.new peer.new)
         (sessions_of others.old) (sessions_of others.new) }
 {
-    match answer_or_end(peer, book, others, paper, message) {
-        Ok(()) => {}
-        Err(end) => end_session(peer, book, end),
+    let before = peer.talk.peer();
+    match peer.talk.take_meaning(message) {
+        Meaning::Another => refuse_another(peer, book, paper, message),
+        Meaning::Fault(fault) => {
+            refuse_message(peer, book, paper, message, fault.number(), before);
+        }
+        Meaning::Request(actor, event) => {
+            answer_request(peer, book, others, paper, message, actor, event, before);
+        }
     }
 }
 
-/// Answers a message, or tells how the session is to end.
-fn answer_or_end(
+/// Another originator is told that it is another, and the session ends.
+fn refuse_another(peer: &mut Peer, book: &mut SiteBook, paper: &mut Paper, message: &Message)
+    ensures { (memory : Bool) × (turn_of book.new peer.new ≡ told_last memory
+        (number_text message.now ORIGINATOR_CHANGED)
+        (PeerEnd.Fault (SessionFault.Talk TalkFault.OriginatorChanged))
+        (turn_of book.old peer.old)) }
+{
+    let end = match put_number(peer, paper, message, ORIGINATOR_CHANGED) {
+        Ok(()) => PeerEnd::Fault(SessionFault::Talk(TalkFault::OriginatorChanged)),
+        Err(_) => PeerEnd::Fault(SessionFault::NoMemory),
+    };
+    end_session(peer, book, end);
+}
+
+/// Puts a number that a message is told in place of a reply.
+fn put_number(
+    peer: &mut Peer,
+    paper: &mut Paper,
+    message: &Message,
+    number: u8,
+) -> Result<(), NoMemory>
+    ensures ok { OnOk result (session_of peer.new ≡ record (session_of peer.old) {
+        owed = peer.old.outbox.owed ++ number_text message.now number }) }
+    ensures err { OnErr result (session_of peer.new ≡ session_of peer.old) }
+{
+    paper.write_number(message, number)?;
+    peer.outbox.put(&paper.text)
+}
+
+/// A message that means no event is told its fault. Without memory the session ends.
+fn refuse_message(
+    peer: &mut Peer,
+    book: &mut SiteBook,
+    paper: &mut Paper,
+    message: &Message,
+    number: u8,
+    before: Option<[u8; 2]>,
+)
+    ensures { (memory : Bool) × (turn_of book.new peer.new ≡ told memory
+        (number_text message.now number ++ opening_text before message.now.from book.old)
+        (turn_of book.old peer.old)) }
+{
+    let told = match paper.write_number(message, number) {
+        Ok(()) => tell(peer, book, paper, message, before),
+        Err(e) => Err(e),
+    };
+    if told.is_err() {
+        end_session(peer, book, PeerEnd::Fault(SessionFault::NoMemory));
+    }
+}
+
+/// Asks a request, and tells what it is answered. Without memory for that the session ends.
+fn answer_request(
     peer: &mut Peer,
     book: &mut SiteBook,
     others: &mut [Option<Peer>],
     paper: &mut Paper,
     message: &Message,
-) -> Result<(), PeerEnd>
-    requires { peer.old.end ≡ None }
-    ensures { AnswersSo (result_err result) message.now (turn_of book.old peer.old)
+    actor: Actor,
+    event: Event,
+    before: Option<[u8; 2]>,
+)
+    requires { IsSpokenBy actor peer.old.talk.peer }
+    ensures { AnswersRequest message.now actor event before (turn_of book.old peer.old)
         (turn_of book.new peer.new) (sessions_of others.old) (sessions_of others.new) }
 {
-    let first = peer.talk.peer().is_none();
-    match peer.talk.take_meaning(message) {
-        Meaning::Another => {
-            paper.write_number(message, ORIGINATOR_CHANGED)?;
-            peer.outbox.put(&paper.text)?;
-            Err(PeerEnd::Fault(SessionFault::Talk(TalkFault::OriginatorChanged)))
-        }
-        Meaning::Fault(fault) => {
-            paper.write_number(message, fault.number())?;
-            tell(peer, book, paper, first, message)?;
-            Ok(())
-        }
-        Meaning::Request(actor, event) => {
-            let outcome = ask(book, others, paper, actor, event);
-            peer.talk.note(&actor, &event, &outcome);
-            paper.write_outcome(message, &outcome)?;
-            tell(peer, book, paper, first, message)?;
-            Ok(())
-        }
+    let outcome = &ask(book, others, paper, actor, event);
+    peer.talk.note(&actor, &event, outcome);
+    let told = match paper.write_outcome(message, outcome) {
+        Ok(()) => tell(peer, book, paper, message, before),
+        Err(e) => Err(e),
+    };
+    if told.is_err() {
+        end_session(peer, book, PeerEnd::Fault(SessionFault::NoMemory));
     }
 }
 
@@ -118,15 +168,15 @@ fn tell(
     peer: &mut Peer,
     book: &SiteBook,
     paper: &mut Paper,
-    first: bool,
     message: &Message,
+    before: Option<[u8; 2]>,
 ) -> Result<(), NoMemory>
     ensures ok { OnOk result (session_of peer.new ≡ record (session_of peer.old) {
-        owed = (session_of peer.old).owed ++ paper.old.text.items
-            ++ standing_if first book.now message.now.from }) }
+        owed = peer.old.outbox.owed
+            ++ (paper.old.text.items ++ opening_text before message.now.from book.now) }) }
     ensures err { OnErr result (session_of peer.new ≡ session_of peer.old) }
 {
-    if first {
+    if before.is_none() {
         paper.add_standing(book, message.from())?;
     }
     peer.outbox.put(&paper.text)
@@ -150,7 +200,7 @@ fn refuse(peer: &mut Peer, book: &mut SiteBook, paper: &mut Paper, fault: &Strea
 /// Tells a fault of the octets.
 fn tell_fault(peer: &mut Peer, paper: &mut Paper, fault: &StreamFault) -> Result<(), NoMemory>
     ensures ok { OnOk result (session_of peer.new ≡ record (session_of peer.old) {
-        owed = (session_of peer.old).owed ++ spelling (fault_message fault.now) }) }
+        owed = peer.old.outbox.owed ++ spelling (fault_message fault.now) }) }
     ensures err { OnErr result (session_of peer.new ≡ session_of peer.old) }
 {
     paper.write_fault(fault)?;

@@ -3,6 +3,7 @@
 
 mod asking;
 mod hearing;
+mod laws;
 mod outbox;
 mod paper;
 mod peer;
@@ -10,6 +11,17 @@ mod peer_end;
 mod sizes;
 mod station;
 
+pub use laws::each_peer_is_told_its_story;
 pub use peer_end::PeerEnd;
 pub use sizes::{NOTICE_LIMIT, PEERS, READ_LIMIT};
 pub use station::Station;
+
+#[cfg(test)]
+mod tests {
+    use std::test::Fail;
+
+    #[test]
+    fn nothing(_rt: HostRuntime) -> Result<(), Fail> {
+        Ok(())
+    }
+}
