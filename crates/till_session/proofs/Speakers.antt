@@ -156,7 +156,9 @@ request_meant peer m actor event is = by_test (is_another peer m.from) (request_
     by_test false (Ok request) is =
         let a : request.0 ≡ actor = cc in
         let e : request.1 ≡ event = cc in
-        (refl, rw (a, e) at (refl {x = Ok {E = MapFault} (request.0, request.1)}))
+        let same : request ≡ (actor, event) =
+        ap (λ (x : Actor). (x, request.1)) a ∙ ap (λ (x : Event). (actor, x)) e in
+        (refl, ap (λ (r : Actor × Event). Ok r) same)
     by_test false (Err g) is = absurd cc
 
 -- ---- the till that a session signed on is the one that it serves
