@@ -33,7 +33,8 @@ use Rattle.station.specs.Stories.{IsTold, asked_in, is_whole, rows_in, said_in, 
 use Rattle.station.proofs.Lives.{InCourse, IsDone, IsHearing, IsOverIn, finishes, hears, rows_come}
 use Rattle.station.proofs.Peers.{peer_at-map, peer_at-other, peer_at-same}
 use Rattle.station.proofs.Stories.{IsLiving, notices_are_due}
-use Rattle.station.proofs.Turns.{Grows, all-grows, ended-grows, grows_none, grows_then, since}
+use Rattle.station.proofs.Turns.{Grows, all-grows, ended-grows, grows_none, grows_then, left-grows}
+use Rattle.station.proofs.Turns.{since}
 
 -- ---- keys
 
@@ -55,8 +56,8 @@ refused-grows memory (Some f) t = by_test (is_none t.session.end) memory
         then told_last memory (spelling (fault_message f)) (ends.Fault (faults.Talk
         (talk.Stream f.fault))) t
         else t).book
-    by_test true true = ended-grows _ t
-    by_test true false = ended-grows _ t
+    by_test true true = left-grows t.session.talk.on t.book
+    by_test true false = left-grows t.session.talk.on t.book
     by_test false memory = grows_none t.book
 
 pub taken-grows : (g : Grants) (fed : Stream) (t : Turn) → Grows t.book (taken g fed t).book
@@ -197,7 +198,8 @@ other_ends c before had sent k j (Some y) s other seen = by_test (is_none y.end)
         (if b then with_turn j (finished (record { book = s.book; session = y })) s else s)
     by_test true =
         let start : Turn = record { book = s.book; session = y } in
-        other_turn c before had sent k j (finished start) s other (ended-grows _ start) seen
+        other_turn c before had sent k j (finished start) s other
+        (left-grows y.talk.on s.book) seen
     by_test false = seen
 
 other_frees : (c : Configured) (before : List Row) (had sent : List ℕ) (k j : ℕ)

@@ -15,7 +15,7 @@ use Rattle.site_base.specs.declared.row.Row.{Row}
 use Rattle.site_base.specs.Checks.{value_or}
 use Rattle.app_message.specs.declared.fault.StreamFault.{StreamFault}
 use Rattle.app_message.specs.Spelling.{spelling}
-use Rattle.app_message.specs.Stream.{fed_by}
+use Rattle.app_message.specs.Stream.{fed_by, held}
 use Rattle.app_message.specs.Telegram.{Telegram}
 use Rattle.device_map.specs.declared.fault.MapFault.{MapFault}
 use Rattle.device_map.specs.declared.ids.TheConstants as ids
@@ -35,7 +35,7 @@ use Rattle.station.specs.declared.peer_end.PeerEnd.{PeerEnd}
 use Rattle.station.specs.declared.peer_end.PeerEnd.TheVariants as ends
 use Rattle.station.specs.Sessions.{Granted, Grants, Session, Turn, answered, answered_all}
 use Rattle.station.specs.Sessions.{answered_by, ended, granted, heard, no_memory, refused_by, taken}
-use Rattle.station.specs.Sessions.{told, told_last, without_till}
+use Rattle.station.specs.Sessions.{owing, told, told_last, without_till}
 
 -- ---- a till that is signed on may sign off, and isn't signed on then
 
@@ -85,7 +85,7 @@ told_left false text t lasts = ended_left no_memory t
 
 last_left : (memory : Bool) (text : List ℕ) (end : PeerEnd) (t : Turn)
     → HasLeft (told_last memory text end t)
-last_left true text end t = ended_left end _
+last_left true text end t = ended_left end (owing text t)
 last_left false text end t = ended_left no_memory t
 
 by_left : (g : Granted) (m : Telegram) (meaning : Meaning) (t : Turn) → t.session.end ≡ None
@@ -128,6 +128,8 @@ heard_left g piece t lasts = by_piece g.piece
     by_piece : (b : Bool)
         → HasLeft (if b then taken g (fed_by t.session.held piece) t else ended no_memory t)
     by_piece true =
-        refused_left g.refusal (fed_by t.session.held piece).fault _
-        (all_left g.messages (fed_by t.session.held piece).messages _ (lasting_left _ lasts))
+        let fed = fed_by t.session.held piece in
+        let start : Turn = record t { session = record t.session { held = held fed } } in
+        refused_left g.refusal fed.fault (answered_all g.messages fed.messages start)
+        (all_left g.messages fed.messages start (lasting_left start lasts))
     by_piece false = ended_left no_memory t

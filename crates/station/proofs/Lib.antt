@@ -5,4 +5,5 @@ pub mod Stories
 pub mod Quiet
 pub mod Lives
 pub mod Courses
+pub mod SlotSessions
 pub mod Leaving

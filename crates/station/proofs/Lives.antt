@@ -367,6 +367,46 @@ fed_is : (h : Held) (sent piece : List ℕ) → h ≡ held_after sent
 fed_is h sent piece holds =
     any_cut sent piece ∙ ap (λ k. walked (stream_of sent).messages (fed_by k piece)) (sym holds)
 
+over_unrefused : (memory : Bool) (fault : Option StreamFault) (t : Turn) (end : PeerEnd)
+    → t.session.end ≡ Some end → refused_by memory fault t ≡ t
+over_unrefused memory None t end over = refl
+over_unrefused memory (Some f) t end over =
+    ap (λ e. if is_none e
+    then told_last memory (spelling (fault_message f)) (ends.Fault (faults.Talk
+    (talk.Stream f.fault))) t
+    else t) over
+
+fault_told : (c : Configured) (before : List Row) (had : List ℕ) (done : List Telegram)
+    (memory : Bool) (text : List ℕ) (end : PeerEnd) (t : Turn)
+    → IsLiving c before had done t.book t.session
+    → (e : PeerEnd) × IsDone c before had done text e (told_last memory text end t).book
+    (told_last memory text end t).session
+fault_told c before had done true text end t l = (
+  end,
+  closes c before had done text end t.book _ t.session _ l (left-grows t.session.talk.on t.book)
+      refl refl,
+)
+fault_told c before had done false text end t l = (
+  no_memory,
+  (let stopped = stops c before had done [] text t.book (ended no_memory t).book t.session
+  (ended no_memory t).session l (left-grows t.session.talk.on t.book) refl refl in
+  rw (append-nil done) at stopped),
+)
+
+fault_refused : (c : Configured) (before : List Row) (had sent : List ℕ) (memory : Bool)
+    (f : StreamFault) (t : Turn) → (stream_of sent).fault ≡ Some f
+    → IsLiving c before had (stream_of sent).messages t.book t.session
+    → IsOverIn c before had sent (refused_by memory (Some f) t).book
+    (refused_by memory (Some f) t).session
+fault_refused c before had sent memory f t is l =
+    let text = spelling (fault_message f) in
+    let end : PeerEnd = ends.Fault (faults.Talk (talk.Stream f.fault)) in
+    let there : refused_by memory (Some f) t ≡ told_last memory text end t =
+    ap (λ e. if is_none e then told_last memory text end t else t) l.lasts in
+    let over = fault_told c before had (stream_of sent).messages memory text end t l in
+    subst (λ (u : Turn). IsOverIn c before had sent u.book u.session) (sym there)
+    (over.0, rw is over.1)
+
 -- a fault of the octets is refused
 refused : (c : Configured) (before : List Row) (had sent : List ℕ) (memory : Bool)
     (fault : Option StreamFault) (t : Turn) → (stream_of sent).fault ≡ fault
@@ -380,30 +420,15 @@ refused c before had sent memory None t is holds (inl l) =
 refused c before had sent memory None t is holds (inr d) =
     inr (d.0, rw is d.1)
 refused c before had sent memory (Some f) t is holds (inl l) =
-    inr (rw (is, l.lasts) (by_memory memory))
-  where
-    by_memory : (memory : Bool)
-        → (end : PeerEnd) × IsDone c before had (stream_of sent).messages
-        (spelling (fault_message f)) end
-        (told_last memory (spelling (fault_message f)) (ends.Fault (faults.Talk
-        (talk.Stream f.fault))) t).book
-        (told_last memory (spelling (fault_message f)) (ends.Fault (faults.Talk
-        (talk.Stream f.fault))) t).session
-    by_memory true = (
-      ends.Fault (faults.Talk (talk.Stream f.fault)),
-      closes c before had (stream_of sent).messages (spelling (fault_message f))
-          (ends.Fault (faults.Talk (talk.Stream f.fault))) t.book _ t.session _ l
-          (left-grows t.session.talk.on t.book) refl refl,
-    )
-    by_memory false = (
-      no_memory,
-      (let stopped = stops c before had (stream_of sent).messages [] (spelling (fault_message f))
-      t.book (ended no_memory t).book t.session (ended no_memory t).session l
-      (left-grows t.session.talk.on t.book) refl refl in
-      rw (append-nil (stream_of sent).messages) at stopped),
-    )
+    inr (fault_refused c before had sent memory f t is l)
 refused c before had sent memory (Some f) t is holds (inr d) =
-    inr (d.0, rw (is, d.1.over) d.1)
+    inr (
+      d.0,
+      subst (λ (u : Turn). IsDone c before had (stream_of sent).messages
+          (refusal_text (stream_of sent).fault) d.0 u.book u.session)
+          (sym (over_unrefused memory (Some f) t d.0 d.1.over))
+          (rw is d.1),
+    )
 
 piece_taken : (c : Configured) (before : List Row) (had sent piece : List ℕ) (g : Grants) (t : Turn)
     → IsHearing c before had sent t.book t.session
@@ -506,7 +531,9 @@ row_passes : (c : Configured) (before : List Row) (had sent : List ℕ) (b : Boo
     (r : Row) → IsHearing c before had sent b x
     → InCourse c before had sent (record b { rows = b.rows ++ r ∷ [] }) (noticed r x)
 row_passes c before had sent b x r h =
-    rw h.living.lasts (by_notice (row_notice x.talk.peer r) refl)
+    subst (InCourse c before had sent (record b { rows = b.rows ++ r ∷ [] }))
+    (sym (ap (λ e. noticed_by (row_notice (listener e x.talk.peer) r) x) h.living.lasts))
+    (by_notice (row_notice x.talk.peer r) refl)
   where
     by_notice : (n : Option (List ℕ)) → row_notice x.talk.peer r ≡ n
         → InCourse c before had sent (record b { rows = b.rows ++ r ∷ [] }) (noticed_by n x)

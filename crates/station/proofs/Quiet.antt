@@ -32,28 +32,23 @@ use Rattle.station.specs.Sessions.{outcome_at}
 -- ---- a change goes to a dispenser
 
 -- the subnet that a change goes to, if there is one
-to_subnet : Option Telegram → ℕ
+abbrev to_subnet : Option Telegram → ℕ
 to_subnet None = ids.DISPENSER_SUBNET
 to_subnet (Some m) = slice_index m.to 0
 
 goes_by : (event : Event) → to_subnet (change_by event) ≡ ids.DISPENSER_SUBNET
-goes_by event = to_each event
-  where
-    to_each : (event : Event) → to_subnet (change_by event) ≡ ids.DISPENSER_SUBNET
-    unfolding to_subnet
-    to_each (events.Open p) = refl
-    to_each (events.Close p) = refl
-    to_each (events.Release p preset) = refl
-    to_each (events.Prepay p cents) = refl
-    to_each (events.TestRelease p) = refl
-    to_each (events.Suspend p) = refl
-    to_each (events.Resume p) = refl
-    to_each (events.Terminate p) = refl
-    to_each event = refl
+goes_by (events.Open p) = refl
+goes_by (events.Close p) = refl
+goes_by (events.Release p preset) = refl
+goes_by (events.Prepay p cents) = refl
+goes_by (events.TestRelease p) = refl
+goes_by (events.Suspend p) = refl
+goes_by (events.Resume p) = refl
+goes_by (events.Terminate p) = refl
+goes_by event = refl
 
 pub goes : (event : Event) (m : Telegram) → change_by event ≡ Some m
     → slice_index m.to 0 ≡ ids.DISPENSER_SUBNET
-unfolding to_subnet
 goes event m is = sym (ap to_subnet is) ∙ goes_by event
 
 other_subnet : (node to : List ℕ) → slice_index node 0 ≡ ids.TILL_SUBNET

@@ -37,10 +37,10 @@ drop-front (r ∷ a) b = drop-front a b
 pub since : (a b : Book) → (g : Grows a b) → rows_since a b ≡ g.more
 since a b g = ap (drop (length a.rows)) g.rows ∙ drop-front a.rows g.more
 
-pub grows_none : (b : Book) → Grows b b
+abbrev pub grows_none : (b : Book) → Grows b b
 grows_none b = record { more = []; rows = sym (append-nil b.rows); same = refl }
 
-pub grows_then : (a b c : Book) → Grows a b → Grows b c → Grows a c
+abbrev pub grows_then : (a b c : Book) → Grows a b → Grows b c → Grows a c
 grows_then a b c one two = record {
   more = one.more ++ two.more;
   rows =
@@ -71,7 +71,7 @@ told_none b x =
 
 -- ---- a session's end
 
-pub with_row-grows : (b : Book) (actor : Actor) (event : Event) → Grows b (with_row_of b actor event)
+abbrev pub with_row-grows : (b : Book) (actor : Actor) (event : Event) → Grows b (with_row_of b actor event)
 with_row-grows b actor event =
     record { more = next_row b actor event ∷ []; rows = refl; same = refl }
 
@@ -112,7 +112,7 @@ last-grows : (memory : Bool) (text : List ℕ) (end : PeerEnd) (t : Turn)
 last-grows true text end t = left-grows t.session.talk.on t.book
 last-grows false text end t = left-grows t.session.talk.on t.book
 
-pub outcome-grows : (actor : Actor) (event : Event) (outcome : Outcome) (b : Book)
+abbrev pub outcome-grows : (actor : Actor) (event : Event) (outcome : Outcome) (b : Book)
     → Grows b (with_outcome actor event outcome b)
 outcome-grows actor event outcome b =
     record { more = row_made actor event outcome; rows = refl; same = refl }

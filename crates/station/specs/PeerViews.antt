@@ -1,15 +1,19 @@
 -- What the peers that the code keeps are as sessions.
 use Rattle.std.specs.Prelude.{◌≡◌, ◌≤◌, ℕ, Bool, true, false, List, map, Option, Some, None, option_map}
 use Rattle.std.specs.Prelude.{if◌then◌else◌}
+use Rattle.std.specs.Borrow.{Bor}
 use Rattle.std.proofs.Common.{get_or}
 use Rattle.app_message.specs.Telegram.{Telegram}
 use Rattle.till_session.specs.Text.{is_same_node}
 use Rattle.station.specs.declared.peer.Peer.{Peer}
 use Rattle.station.specs.Sessions.{Session}
-use Rattle.station.specs.Peers.{listener, noticed_by}
+use Rattle.station.specs.Peers.{listener, noticed_by, with_peer}
 
 abbrev pub session_of : Peer → Session
 session_of p = record { held = p.decoder; talk = p.talk; owed = p.outbox.owed; end = p.end }
+
+abbrev pub session_at : Bor Peer → Session
+session_at p = session_of p.now
 
 abbrev pub sessions_of : List (Option Peer) → List (Option Session)
 sessions_of slots = map (option_map session_of) slots
@@ -35,3 +39,8 @@ session_noticed node octets x =
 
 abbrev pub slot_noticed : List ℕ → List ℕ → Option Session → Option Session
 slot_noticed node octets slot = option_map (session_noticed node octets) slot
+
+-- the peers without the one that was taken out at a key
+abbrev pub without_key : ℕ → Option Peer → List (Option Session) → List (Option Session)
+without_key k None peers = peers
+without_key k (Some p) peers = with_peer k None peers

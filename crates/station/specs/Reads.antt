@@ -3,7 +3,7 @@ use Rattle.std.specs.Prelude.{◌≡◌, ◌<◌, ℕ, Bool, false, List, [], Op
 use Rattle.station.specs.declared.peer_end.PeerEnd.{PeerEnd}
 use Rattle.station.specs.declared.sizes.TheConstants.{PEERS}
 use Rattle.station.specs.Moves.{StationState, with_arrival}
-use Rattle.station.specs.Peers.{peer_at, with_peer}
+use Rattle.station.specs.Peers.{peer_at}
 use Rattle.station.specs.Sessions.{Session, is_read}
 
 abbrev pub owed_to : Option Session → List ℕ
@@ -43,9 +43,3 @@ abbrev pub Arrives : Option ℕ → StationState → StationState → Type 0
 Arrives (Some key) old new =
     (key < PEERS) × (peer_at old.peers key ≡ None) × (new ≡ with_arrival key old)
 Arrives None old new = (new ≡ old) × ((k : ℕ) → k < PEERS → IsSome (peer_at old.peers k))
-
--- the peers without the one that was taken out at a key
-abbrev pub without_key : {A : Type 0} → ℕ → Option A → List (Option Session)
-    → List (Option Session)
-without_key k None peers = peers
-without_key k (Some x) peers = with_peer k None peers

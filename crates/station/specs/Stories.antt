@@ -103,14 +103,14 @@ is_whole end = true
 -- is said in the story is the session text of what was heard, with the answers that its requests
 -- were given; where memory was wanting, a front of it. The notices in the story are those that are
 -- due.
-pub record IsTold (c : Configured) (before rows : List Row) (heard told : List ℕ)
+pub record IsTold (c : Configured) (before after : List Row) (heard octets : List ℕ)
     (end : Option PeerEnd) : Type 0 where
   pub story : List Happening
   pub refusal : List ℕ
   pub late : List Row
-  pub rows : rows ≡ before ++ rows_in story ++ late
+  pub rows : after ≡ before ++ rows_in story ++ late
   pub lasts : end ≡ None → late ≡ []
-  pub told : told ≡ told_in c before None story ++ refusal
+  pub told : octets ≡ told_in c before None story ++ refusal
   pub unsaid : List ℕ
   pub text : session_text (stream_of heard) (map outcome_given (asked_in story))
       ≡ said_in None story ++ refusal ++ unsaid

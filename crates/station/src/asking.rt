@@ -1,7 +1,9 @@
 //! A request at the station's book, and who is told of its row.
 
 ghost use Rattle.std.specs.Prelude.{◌≡◌, ◌≤◌, ℕ, Bool, length, OnOk, Some, map, option_map};
+ghost use Rattle.device_map.specs.Changes.{change_by};
 ghost use Rattle.till_session.specs.Counters.{row_made};
+ghost use Rattle.station.specs.Papers.{IsChangeTo};
 ghost use Rattle.station.specs.PeerViews.{AllHaveRoom, HasRoomFor, sessions_of};
 ghost use Rattle.station.specs.Peers.{with_notices};
 ghost use Rattle.station.specs.PeerViews.{session_of, slot_noticed};
@@ -49,17 +51,33 @@ fn ask_at(
     match paper.write_change(p, event) {
         Err(_) => Err(NoRow::NoMemory),
         Ok(None) => ask_book(book, actor, event),
-        Ok(Some(node)) => {
-            if reserve_all(others, node, paper.notice.len()).is_err() {
-                return Err(NoRow::NoMemory);
-            }
-            let outcome = ask_book(book, actor, event);
-            if let Ok(Ok(_)) = &outcome {
-                notice_all(others, node, &paper.notice);
-            }
-            outcome
-        }
+        Ok(Some(node)) => ask_telling(book, others, node, &paper.notice, actor, event),
     }
+}
+
+/// Asks the book for a request whose row, if it is accepted, has this notice, to this node.
+fn ask_telling(
+    book: &mut SiteBook,
+    others: &mut [Option<Peer>],
+    node: [u8; 2],
+    notice: &[u8],
+    actor: Actor,
+    event: Event,
+) -> Result<Reply, NoRow>
+    requires { IsChangeTo (change_by event) (Some node) notice.now }
+    ensures outcome { (memory : Bool) × (result ≡ outcome_at memory book.old actor event) }
+    ensures book { book.new ≡ with_outcome actor event result book.old }
+    ensures others { sessions_of others.new
+        ≡ with_notices (row_made actor event result) (sessions_of others.old) }
+{
+    if reserve_all(others, node, notice.len()).is_err() {
+        return Err(NoRow::NoMemory);
+    }
+    let outcome = ask_book(book, actor, event);
+    if let Ok(Ok(_)) = &outcome {
+        notice_all(others, node, notice);
+    }
+    outcome
 }
 
 /// Asks the book alone.

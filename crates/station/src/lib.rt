@@ -9,6 +9,7 @@ mod paper;
 mod peer;
 mod peer_end;
 mod sizes;
+mod slots;
 mod station;
 
 pub use laws::each_peer_is_told_its_story;

@@ -16,7 +16,7 @@ pub struct Outbox {
 }
 
 impl Model for Outbox {
-    ghost use Rattle.std.specs.Prelude.{◌-◌, vec_len, vec_capacity};
+    ghost use Rattle.std.specs.Prelude.{◌-◌, ◌≤◌, drop, length, vec_len, vec_capacity};
     ghost use Rattle.station.specs.Outboxes.{Owed};
 
     ghost Value = { Owed };

@@ -1,20 +1,18 @@
 //! The station: a book and its peers.
 
-ghost use Rattle.std.specs.Prelude.{◌≡◌, ◌<◌, ℕ, [], length, true, Some, None, IfOk, OnErr, IsSome};
-ghost use Rattle.std.specs.Prelude.{IfSome, IfNone, option_map};
+ghost use Rattle.std.specs.Prelude.{◌≡◌, ◌<◌, ◌≤◌, ℕ, [], length, IfOk, OnErr, IsSome};
 ghost use Rattle.station.specs.Moves.{with_arrival, with_end, with_octets, with_taken};
 ghost use Rattle.station.specs.Moves.{without_peer};
 ghost use Rattle.station.specs.Peers.{peer_at};
 ghost use Rattle.station.specs.Reads.{Arrives, end_at, is_read_at, node_at, owed_at};
-ghost use Rattle.station.specs.Reads.{without_key};
 ghost use Rattle.station.specs.Sessions.{Grants};
-ghost use Rattle.station.specs.PeerViews.{session_of, sessions_of};
 
 use crate::hearing::{finish, hear};
 use crate::paper::Paper;
 use crate::peer::Peer;
 use crate::peer_end::PeerEnd;
 use crate::sizes::PEERS;
+use crate::slots::{find_peer, free_key, put_peer, take_peer};
 use app_message::Messages;
 use site_base::NoMemory;
 use site_book::SiteBook;
@@ -36,12 +34,16 @@ pub struct Station {
 }
 
 impl Model for Station {
+    ghost use Rattle.std.specs.Prelude.{◌≤◌, length};
+    ghost use Rattle.station.specs.declared.sizes.TheConstants.{PEERS};
     ghost use Rattle.station.specs.Moves.{StationState};
     ghost use Rattle.station.specs.PeerViews.{sessions_of};
 
     ghost Value = { StationState };
 
     ghost view = { λ s. record { book = s.book; peers = sessions_of s.slots.items } };
+
+    ghost invariant = { λ s. length s.slots.items ≤ PEERS };
 }
 
 impl Station {
@@ -73,7 +75,7 @@ impl Station {
     {
         match free_key(&self.slots) {
             Some(key) => {
-                self.slots[key] = Some(Peer::new(self.alloc));
+                put_peer(&mut self.slots, key, Peer::new(self.alloc));
                 Ok(Some(key))
             }
             None => self.add_slot(),
@@ -99,9 +101,9 @@ impl Station {
     pub fn is_read(&self, key: usize) -> bool
         ensures { result ≡ is_read_at self.now key }
     {
-        match self.slots.get(key) {
-            Some(Some(peer)) => peer.is_read(),
-            _ => false,
+        match find_peer(&self.slots, key) {
+            Some(peer) => peer.is_read(),
+            None => false,
         }
     }
 
@@ -123,7 +125,7 @@ impl Station {
                 &mut self.messages,
                 octets,
             );
-            self.slots[key] = Some(peer);
+            put_peer(&mut self.slots, key, peer);
         }
     }
 
@@ -131,9 +133,9 @@ impl Station {
     pub fn owed(&self, key: usize) -> &[u8]
         ensures { result.now ≡ owed_at self.now key }
     {
-        match self.slots.get(key) {
-            Some(Some(peer)) => peer.outbox.as_slice(),
-            _ => &[],
+        match find_peer(&self.slots, key) {
+            Some(peer) => peer.outbox.as_slice(),
+            None => &[],
         }
     }
 
@@ -143,7 +145,7 @@ impl Station {
     {
         if let Some(mut peer) = take_peer(&mut self.slots, key) {
             peer.outbox.take(n);
-            self.slots[key] = Some(peer);
+            put_peer(&mut self.slots, key, peer);
         }
     }
 
@@ -156,7 +158,7 @@ impl Station {
             if peer.lasts() {
                 finish(&mut peer, &mut self.book);
             }
-            self.slots[key] = Some(peer);
+            put_peer(&mut self.slots, key, peer);
         }
     }
 
@@ -172,9 +174,9 @@ impl Station {
     pub fn end(&self, key: usize) -> Option<PeerEnd>
         ensures { result ≡ end_at self.now key }
     {
-        match self.slots.get(key) {
-            Some(Some(peer)) => peer.end,
-            _ => None,
+        match find_peer(&self.slots, key) {
+            Some(peer) => peer.end,
+            None => None,
         }
     }
 
@@ -182,37 +184,9 @@ impl Station {
     pub fn node(&self, key: usize) -> Option<[u8; 2]>
         ensures { result ≡ node_at self.now key }
     {
-        match self.slots.get(key) {
-            Some(Some(peer)) => peer.talk.peer(),
-            _ => None,
+        match find_peer(&self.slots, key) {
+            Some(peer) => peer.talk.peer(),
+            None => None,
         }
-    }
-}
-
-/// The least key that is free, if there is one.
-fn free_key(slots: &[Option<Peer>]) -> Option<usize>
-    ensures free { IfSome result (λ key. (key < length slots.now)
-        × (peer_at (sessions_of slots.now) key ≡ None)) }
-    ensures none { IfNone result
-        ((k : ℕ) → k < length slots.now → IsSome (peer_at (sessions_of slots.now) k)) }
-{
-    for key in 0..slots.len() {
-        if slots[key].is_none() {
-            return Some(key);
-        }
-    }
-    None
-}
-
-/// Takes the peer of a key out of its slot, if there is one.
-fn take_peer(slots: &mut [Option<Peer>], key: usize) -> Option<Peer>
-    ensures peer { option_map session_of result ≡ peer_at (sessions_of slots.old) key }
-    ensures slots { sessions_of slots.new ≡ without_key key result (sessions_of slots.old) }
-    ensures key { IsSome result → key < length slots.old }
-{
-    if key < slots.len() {
-        slots[key].take()
-    } else {
-        None
     }
 }
