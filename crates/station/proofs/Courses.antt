@@ -38,7 +38,7 @@ use Rattle.station.proofs.Turns.{since}
 
 -- ---- keys
 
-other_key : (j k : ℕ) → (j == k) ≡ false → k ≢ j
+pub other_key : (j k : ℕ) → (j == k) ≡ false → k ≢ j
 other_key j k is same =
     absurd (let true_is : (j == k) ≡ true = ap (λ n. j == n) same ∙ eq-eqb j j refl in
     let no : true ≡ false = sym true_is ∙ is in cc)
@@ -318,11 +318,12 @@ moves c before had sent k (Leaves j) s stays seen = by_key (j == k) refl stays
   where
     by_key : (b : Bool) → (j == k) ≡ b → (if b then false else true) ≡ true
         → IsSeen c before (had ++ []) (sent ++ []) k
-        (freed j (peer_at s.peers j) (with_end j s))
+        (freed j (peer_at (with_end j s).peers j) (with_end j s))
     by_key true is stays = absurd cc
     by_key false is stays =
         nothing_more c before had sent k _
-        (other_frees c before had sent k j (peer_at s.peers j) (with_end j s) (other_key j k is)
+        (other_frees c before had sent k j (peer_at (with_end j s).peers j) (with_end j s)
+        (other_key j k is)
         (other_ends c before had sent k j (peer_at s.peers j) s (other_key j k is) seen))
 
 -- ---- what it is told

@@ -7,3 +7,4 @@ pub mod Lives
 pub mod Courses
 pub mod SlotSessions
 pub mod Leaving
+pub mod History

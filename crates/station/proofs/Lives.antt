@@ -497,7 +497,7 @@ finishes c before had sent t h =
 
 -- ---- rows of others
 
-nobody_noticed : (r : Row) → row_notice None r ≡ None
+pub nobody_noticed : (r : Row) → row_notice None r ≡ None
 nobody_noticed r = by_change (change_of r)
   where
     by_change : (change : Option Telegram) → notice_at change None ≡ None

@@ -51,7 +51,7 @@ pub goes : (event : Event) (m : Telegram) → change_by event ≡ Some m
     → slice_index m.to 0 ≡ ids.DISPENSER_SUBNET
 goes event m is = sym (ap to_subnet is) ∙ goes_by event
 
-other_subnet : (node to : List ℕ) → slice_index node 0 ≡ ids.TILL_SUBNET
+pub other_subnet : (node to : List ℕ) → slice_index node 0 ≡ ids.TILL_SUBNET
     → slice_index to 0 ≡ ids.DISPENSER_SUBNET → is_same_node node to ≡ false
 other_subnet node to till dispenser = rw (till, dispenser) refl
 
@@ -63,7 +63,7 @@ pub not_told : (change : Option Telegram) (node : List ℕ)
 not_told None node till to = refl
 not_told (Some m) node till to = rw (other_subnet node m.to till (to m refl)) refl
 
-where_goes : (event : Event) (reply : Result Answer Refusal) (m : Telegram)
+pub where_goes : (event : Event) (reply : Result Answer Refusal) (m : Telegram)
     → change_where event reply ≡ Some m → slice_index m.to 0 ≡ ids.DISPENSER_SUBNET
 where_goes event (Ok answer) m is = goes event m is
 where_goes event (Err refusal) m is = absurd cc

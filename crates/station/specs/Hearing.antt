@@ -1,5 +1,5 @@
 -- What is done while a session is heard: how far its turn has come, and whom its rows were told.
-use Rattle.std.specs.Prelude.{◌≡◌, ℕ, List, length, Option}
+use Rattle.std.specs.Prelude.{◌≡◌, ℕ, List, length, Option, is_none, if◌then◌else◌}
 use Rattle.site_base.specs.declared.actor.Actor.{Actor}
 use Rattle.site_base.specs.declared.event.Event.{Event}
 use Rattle.app_message.specs.Telegram.{Telegram}
@@ -9,10 +9,14 @@ use Rattle.station.specs.Moves.{rows_since}
 use Rattle.station.specs.Peers.{with_notices}
 use Rattle.station.specs.PeerViews.{session_of}
 use Rattle.station.specs.Sessions.{Granted, Grants, Session, Turn, answered, answered_all}
-use Rattle.station.specs.Sessions.{answered_so, heard, outcome_at}
+use Rattle.station.specs.Sessions.{answered_so, finished, heard, outcome_at}
 
 abbrev pub turn_of : Book → Peer → Turn
 turn_of book peer = record { book = book; session = session_of peer }
+
+-- a session ends at the end of its octets, if it lasts
+abbrev pub finished_if : Turn → Turn
+finished_if t = if is_none t.session.end then finished t else t
 
 -- a request was answered, and the others are told of its row
 pub record AnswersRequest (m : Telegram) (actor : Actor) (event : Event)

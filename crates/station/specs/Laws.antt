@@ -1,8 +1,14 @@
 -- The laws of the station, over every list of moves.
-use Rattle.std.specs.Prelude.{◌≡◌, ℕ, List, Option, Some, None}
-use Rattle.station.specs.Moves.{StationState, with_arrival}
+use Rattle.std.specs.Prelude.{◌≡◌, ℕ, false, List, ◌++◌, Option, Some, None}
+use Rattle.site_base.specs.declared.row.Row.{Row}
+use Rattle.site_base.specs.Configured.{Configured}
+use Rattle.written_site.specs.SiteRun.{IsLegal}
+use Rattle.written_site.specs.SiteState.{is_signed_on, opening}
+use Rattle.site_book.specs.Book.{site_of_book}
+use Rattle.station.specs.declared.peer_end.PeerEnd.{PeerEnd}
+use Rattle.station.specs.Moves.{StationState, with_arrival, without_peer}
 use Rattle.station.specs.Peers.{peer_at}
-use Rattle.station.specs.Runs.{Move, Stays, after, heard_of, told}
+use Rattle.station.specs.Runs.{Move, Stays, after, after_move, heard_of, opened, told}
 use Rattle.station.specs.Sessions.{Session}
 use Rattle.station.specs.Stories.{IsTold}
 
@@ -15,3 +21,30 @@ EachPeerIsToldItsStory = (s : StationState) (k : ℕ) (ms : List Move)
     (x : Session) × (peer_at (after ms start).peers k ≡ Some x)
     × IsTold s.book.config s.book.rows (after ms start).book.rows (heard_of k ms start)
     (told k ms start) x.end
+
+-- The book's rows are one history: moves only add rows, and each reply is the written step's at the
+-- site that the rows before it led to.
+pub record IsOneHistory (c : Configured) (ms : List Move) (more : List Move) : Type 0 where
+  pub legal : IsLegal (opening c) (after ms (opened c)).book.rows
+  pub later : List Row
+  pub grows : (after more (after ms (opened c))).book.rows
+      ≡ (after ms (opened c)).book.rows ++ later
+
+abbrev pub RowsAreOneHistory : Type 0
+RowsAreOneHistory = (c : Configured) (ms more : List Move) → IsOneHistory c ms more
+
+-- Right behind the move with which a session ends, the till that it signed on and didn't sign off
+-- isn't signed on.
+abbrev pub EndsLeaveTheirTill : Type 0
+EndsLeaveTheirTill = (c : Configured) (ms : List Move) (m : Move) (k : ℕ) (x y : Session)
+    (end : PeerEnd) (t : ℕ)
+    → peer_at (after ms (opened c)).peers k ≡ Some x → x.end ≡ None
+    → peer_at (after_move m (after ms (opened c))).peers k ≡ Some y → y.end ≡ Some end
+    → y.talk.on ≡ Some t
+    → is_signed_on (site_of_book (after_move m (after ms (opened c))).book) t ≡ false
+
+-- .. nor is it where a peer is gone whose session lasted.
+abbrev pub PeersLeaveTheirTill : Type 0
+PeersLeaveTheirTill = (s : StationState) (k : ℕ) (x : Session) (t : ℕ)
+    → peer_at s.peers k ≡ Some x → x.end ≡ None → x.talk.on ≡ Some t
+    → is_signed_on (site_of_book (without_peer k s).book) t ≡ false

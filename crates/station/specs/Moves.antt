@@ -52,7 +52,7 @@ freed k (Some x) s = record s { peers = with_peer k None s.peers }
 
 -- a key's peer is gone: its session ends, if it lasts, and the key is free
 abbrev pub without_peer : ℕ → StationState → StationState
-without_peer k s = freed k (peer_at s.peers k) (with_end k s)
+without_peer k s = let after = with_end k s in freed k (peer_at after.peers k) after
 
 abbrev pub taken_by : ℕ → ℕ → Option Session → StationState → StationState
 taken_by k n None s = s

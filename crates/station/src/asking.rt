@@ -30,7 +30,7 @@ pub(crate) fn ask(
 {
     match event.point() {
         None => ask_book(book, actor, event),
-        Some(p) => ask_at(book, others, paper, actor, event, p),
+        Some(p) => ask_at(book, others, paper, &actor, &event, p),
     }
 }
 
@@ -39,19 +39,18 @@ fn ask_at(
     book: &mut SiteBook,
     others: &mut [Option<Peer>],
     paper: &mut Paper,
-    actor: Actor,
-    event: Event,
+    actor: &Actor,
+    event: &Event,
     p: FpNo,
 ) -> Result<Reply, NoRow>
-    ensures outcome { (memory : Bool) × (result ≡ outcome_at memory book.old actor event) }
-    ensures book { book.new ≡ with_outcome actor event result book.old }
+    ensures outcome { (memory : Bool) × (result ≡ outcome_at memory book.old actor.now event.now) }
+    ensures book { book.new ≡ with_outcome actor.now event.now result book.old }
     ensures others { sessions_of others.new
-        ≡ with_notices (row_made actor event result) (sessions_of others.old) }
+        ≡ with_notices (row_made actor.now event.now result) (sessions_of others.old) }
 {
-    match paper.write_change(p, event) {
-        Err(_) => Err(NoRow::NoMemory),
-        Ok(None) => ask_book(book, actor, event),
-        Ok(Some(node)) => ask_telling(book, others, node, &paper.notice, actor, event),
+    match paper.write_change(p, *event)? {
+        None => ask_book(book, *actor, *event),
+        Some(node) => ask_telling(book, others, &node, &paper.notice, *actor, *event),
     }
 }
 
@@ -59,25 +58,46 @@ fn ask_at(
 fn ask_telling(
     book: &mut SiteBook,
     others: &mut [Option<Peer>],
-    node: [u8; 2],
+    node: &[u8; 2],
     notice: &[u8],
     actor: Actor,
     event: Event,
 ) -> Result<Reply, NoRow>
-    requires { IsChangeTo (change_by event) (Some node) notice.now }
+    requires { IsChangeTo (change_by event) (Some node.now) notice.now }
     ensures outcome { (memory : Bool) × (result ≡ outcome_at memory book.old actor event) }
     ensures book { book.new ≡ with_outcome actor event result book.old }
     ensures others { sessions_of others.new
         ≡ with_notices (row_made actor event result) (sessions_of others.old) }
 {
-    if reserve_all(others, node, notice.len()).is_err() {
+    if reserve_all(others, *node, notice.len()).is_err() {
         return Err(NoRow::NoMemory);
     }
     let outcome = ask_book(book, actor, event);
-    if let Ok(Ok(_)) = &outcome {
-        notice_all(others, node, notice);
-    }
+    notice_accepted(others, *node, notice, &actor, &event, &outcome);
     outcome
+}
+
+/// Tells a notice to each peer that listens at this node, where the request was accepted.
+fn notice_accepted(
+    others: &mut [Option<Peer>],
+    node: [u8; 2],
+    notice: &[u8],
+    actor: &Actor,
+    event: &Event,
+    outcome: &Result<Reply, NoRow>,
+)
+    requires change { IsChangeTo (change_by event.now) (Some node) notice.now }
+    requires room { AllHaveRoom node (length notice.now) others.old }
+    ensures { sessions_of others.new
+        ≡ with_notices (row_made actor.now event.now outcome.now) (sessions_of others.old) }
+{
+    match outcome {
+        Ok(reply) => match reply {
+            Ok(_) => notice_all(others, node, notice),
+            Err(_) => {}
+        },
+        Err(_) => {}
+    }
 }
 
 /// Asks the book alone.

@@ -5,7 +5,8 @@ ghost use Rattle.app_message.specs.Spelling.{spelling};
 ghost use Rattle.device_map.specs.Replies.{fault_message};
 ghost use Rattle.till_session.specs.Course.{IsSpokenBy};
 ghost use Rattle.till_session.specs.Text.{number_text};
-ghost use Rattle.station.specs.Hearing.{Answers, AnswersAll, AnswersRequest, Hears, turn_of};
+ghost use Rattle.station.specs.Hearing.{Answers, AnswersAll, AnswersRequest, Hears, finished_if};
+ghost use Rattle.station.specs.Hearing.{turn_of};
 ghost use Rattle.station.specs.PeerViews.{session_of, sessions_of};
 ghost use Rattle.station.specs.Sessions.{ended, finished, opening_text, refused_by, told};
 ghost use Rattle.station.specs.Sessions.{told_last};
@@ -207,8 +208,17 @@ fn tell_fault(peer: &mut Peer, paper: &mut Paper, fault: &StreamFault) -> Result
     peer.outbox.put(&paper.text)
 }
 
-/// The octets of a session that lasts have ended: it ends, inside a message or not.
+/// The octets of a session have ended: it ends, inside a message or not, if it lasts.
 pub(crate) fn finish(peer: &mut Peer, book: &mut SiteBook)
+    ensures { turn_of book.new peer.new ≡ finished_if (turn_of book.old peer.old) }
+{
+    if peer.lasts() {
+        finish_lasting(peer, book);
+    }
+}
+
+/// The octets of a session that lasts have ended: it ends.
+fn finish_lasting(peer: &mut Peer, book: &mut SiteBook)
     ensures { turn_of book.new peer.new ≡ finished (turn_of book.old peer.old) }
 {
     let end = if peer.decoder.held() > 0 {

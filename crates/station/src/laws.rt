@@ -1,10 +1,29 @@
 //! The laws of the station. Each is a function whose contract is the law.
 
-ghost use Rattle.station.specs.Laws.{EachPeerIsToldItsStory};
+ghost use Rattle.station.specs.Laws.{EachPeerIsToldItsStory, EndsLeaveTheirTill};
+ghost use Rattle.station.specs.Laws.{PeersLeaveTheirTill, RowsAreOneHistory};
 
 /// A peer is told its story: the session text of what was heard of it, with the answers that its
 /// requests were given, and between the notices of its point, each in its place.
 pub fn each_peer_is_told_its_story()
     ensures { EachPeerIsToldItsStory }
+{
+}
+
+/// The rows of all peers are one history.
+pub fn rows_are_one_history()
+    ensures { RowsAreOneHistory }
+{
+}
+
+/// The end of a session leaves its till.
+pub fn ends_leave_their_till()
+    ensures { EndsLeaveTheirTill }
+{
+}
+
+/// A peer that is gone leaves its till.
+pub fn peers_leave_their_till()
+    ensures { PeersLeaveTheirTill }
 {
 }

@@ -12,7 +12,10 @@ mod sizes;
 mod slots;
 mod station;
 
-pub use laws::each_peer_is_told_its_story;
+pub use laws::{
+    each_peer_is_told_its_story, ends_leave_their_till, peers_leave_their_till,
+    rows_are_one_history,
+};
 pub use peer_end::PeerEnd;
 pub use sizes::{NOTICE_LIMIT, PEERS, READ_LIMIT};
 pub use station::Station;

@@ -155,9 +155,7 @@ impl Station {
         ensures { self.new ≡ with_end key self.old }
     {
         if let Some(mut peer) = take_peer(&mut self.slots, key) {
-            if peer.lasts() {
-                finish(&mut peer, &mut self.book);
-            }
+            finish(&mut peer, &mut self.book);
             put_peer(&mut self.slots, key, peer);
         }
     }

@@ -6,14 +6,14 @@ use Rattle.station.proofs.slots.take_peer.Goals as goal
 
 pub returns-then-key-slots-clause-peer : goal.returns-then-key-slots-clause-peer
 returns-then-key-slots-clause-peer c =
-    ap (option_map session_of) (c.take.ensures.value ∙ c.index-slots-key.is)
+    ap (option_map session_of) c.take.ensures.value
     ∙ sym (session_found c.args.key c.args.slots.now c.index-slots-key.result c.if-key-slots.true)
 
 pub returns-then-key-slots-clause-slots : goal.returns-then-key-slots-clause-slots
 returns-then-key-slots-clause-slots c =
     rw c.take.ensures.after
     (taken_out c.args.key c.args.slots.now c.take.result c.index-slots-key.result
-    c.if-key-slots.true (c.take.ensures.value ∙ c.index-slots-key.is))
+    c.if-key-slots.true c.take.ensures.value)
 
 pub returns-else-key-slots-clause-peer : goal.returns-else-key-slots-clause-peer
 returns-else-key-slots-clause-peer c =
