@@ -45,7 +45,7 @@ other_key j k is same =
 
 -- ---- rows that a turn adds
 
-refused-grows : (memory : Bool) (fault : Option StreamFault) (t : Turn)
+pub refused-grows : (memory : Bool) (fault : Option StreamFault) (t : Turn)
     → Grows t.book (refused_by memory fault t).book
 refused-grows memory None t = grows_none t.book
 refused-grows memory (Some f) t = by_test (is_none t.session.end) memory

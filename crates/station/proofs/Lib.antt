@@ -6,5 +6,6 @@ pub mod Quiet
 pub mod Lives
 pub mod Courses
 pub mod SlotSessions
+pub mod Answering
 pub mod Leaving
 pub mod History

@@ -209,3 +209,9 @@ left_there k s b peers out r is there taken =
         ap (state b) taken ∙ ap (λ y. freed k y (state b peers)) there
     by_peer (Some p) there taken =
         ap (state b) taken ∙ ap (λ y. freed k y (state b peers)) there
+
+pub heard_seen : (k : ℕ) (piece : List ℕ) (v w s s' : StationState) → v ≡ w → s ≡ s'
+    → ((memory : Grants) × (w ≡ with_octets memory k piece s))
+    → (memory : Grants) × (v ≡ with_octets memory k piece s')
+heard_seen k piece v w s s' after before found =
+    (found.0, after ∙ found.1 ∙ ap (with_octets found.0 k piece) before)

@@ -4,7 +4,7 @@ ghost use Rattle.std.specs.Prelude.{◌≡◌, ◌++◌, Bool, None, Some, OnOk,
 ghost use Rattle.app_message.specs.Spelling.{spelling};
 ghost use Rattle.device_map.specs.Replies.{fault_message};
 ghost use Rattle.till_session.specs.Course.{IsSpokenBy};
-ghost use Rattle.till_session.specs.Text.{number_text};
+ghost use Rattle.till_session.specs.Text.{number_text, outcome_text};
 ghost use Rattle.station.specs.Hearing.{Answers, AnswersAll, AnswersRequest, Hears, finished_if};
 ghost use Rattle.station.specs.Hearing.{turn_of};
 ghost use Rattle.station.specs.PeerViews.{session_of, sessions_of};
@@ -16,7 +16,7 @@ use crate::paper::Paper;
 use crate::peer::Peer;
 use crate::peer_end::PeerEnd;
 use app_message::{Message, Messages, StreamFault};
-use site_base::{Actor, Event, NoMemory};
+use site_base::{Actor, Event, NoMemory, NoRow, Reply};
 use site_book::SiteBook;
 use till_session::{Meaning, ORIGINATOR_CHANGED, SessionFault, TalkFault};
 
@@ -155,13 +155,28 @@ fn answer_request(
 {
     let outcome = &ask(book, others, paper, actor, event);
     peer.talk.note(&actor, &event, outcome);
-    let told = match paper.write_outcome(message, outcome) {
-        Ok(()) => tell(peer, book, paper, message, before),
-        Err(e) => Err(e),
-    };
-    if told.is_err() {
-        end_session(peer, book, PeerEnd::Fault(SessionFault::NoMemory));
+    match put_outcome(peer, book, paper, message, outcome, before) {
+        Ok(()) => {}
+        Err(_) => end_session(peer, book, PeerEnd::Fault(SessionFault::NoMemory)),
     }
+}
+
+/// Puts what a request was answered, and behind the first message's the standing notices.
+fn put_outcome(
+    peer: &mut Peer,
+    book: &SiteBook,
+    paper: &mut Paper,
+    message: &Message,
+    outcome: &Result<Reply, NoRow>,
+    before: Option<[u8; 2]>,
+) -> Result<(), NoMemory>
+    ensures ok { OnOk result (session_of peer.new ≡ record (session_of peer.old) {
+        owed = peer.old.outbox.owed ++ (outcome_text message.now outcome.now
+            ++ opening_text before message.now.from book.now) }) }
+    ensures err { OnErr result (session_of peer.new ≡ session_of peer.old) }
+{
+    paper.write_outcome(message, outcome)?;
+    tell(peer, book, paper, message, before)
 }
 
 /// Tells what was written to a message, and behind the first one's the standing notices.
