@@ -29,7 +29,8 @@ use Rattle.station.specs.Runs.{told}
 use Rattle.station.specs.Reads.{is_read_at, owed_at}
 use Rattle.station.specs.Sessions.{Grants, Session, Turn, answered_all, ended, finished, heard}
 use Rattle.station.specs.Sessions.{is_read, no_memory, opening_session, refused_by, taken, told_last}
-use Rattle.station.specs.Stories.{IsTold, asked_in, is_whole, rows_in, said_in, told_in}
+use Rattle.station.specs.Stories.{IsTold, asked_in, is_whole, messages_in, rows_in}
+use Rattle.station.specs.Stories.{said_in, told_in}
 use Rattle.station.proofs.Lives.{InCourse, IsDone, IsHearing, IsOverIn, finishes, hears, rows_come}
 use Rattle.station.proofs.Peers.{peer_at-map, peer_at-other, peer_at-same}
 use Rattle.station.proofs.Stories.{IsLiving, notices_are_due}
@@ -235,6 +236,8 @@ own_takes c before had sent k n s seen = record {
         told = all_owed had seen.session.owed n ∙ h.living.told;
         peer = h.living.peer;
         said = h.living.said;
+        messages = h.living.messages;
+        asked = h.living.asked;
         quiet = h.living.quiet;
         lasts = h.living.lasts;
       };
@@ -249,9 +252,14 @@ own_takes c before had sent k n s seen = record {
         late = d.1.late;
         rows = d.1.rows;
         told = all_owed had seen.session.owed n ∙ d.1.told;
+        unanswered = d.1.unanswered;
+        messages = d.1.messages;
+        asked = d.1.asked;
         quiet = d.1.quiet;
         unsaid = d.1.unsaid;
         text = d.1.text;
+        unasked = d.1.unasked;
+        requests = d.1.requests;
         whole = d.1.whole;
         over = d.1.over;
       },
@@ -335,6 +343,11 @@ is_told c before had sent b x (inl h) =
     let ms = (stream_of sent).messages in
     record {
       story = l.story;
+      unanswered = [];
+      messages = sym (append-nil (messages_in l.story) ∙ l.messages);
+      asked = l.asked;
+      unasked = [];
+      requests = (let all = l.said.requests [] in rw (append-nil ms) at all);
       refusal = [];
       late = [];
       rows = l.rows ∙ sym (append-nil (before ++ rows_in l.story));
@@ -347,11 +360,16 @@ is_told c before had sent b x (inl h) =
           ∙ (let whole = l.said.text [] [] [] in
           rw (append-nil ms, append-nil (map outcome_given (asked_in l.story))) at whole)
           ∙ sym (append-nil (said_in None l.story ++ []));
-      whole = λ is. refl;
+      whole = λ is. (refl, refl);
       notices = notices_are_due c before l.story l.quiet;
     }
 is_told c before had sent b x (inr d) = record {
   story = d.1.story;
+  unanswered = d.1.unanswered;
+  messages = d.1.messages;
+  asked = d.1.asked;
+  unasked = d.1.unasked;
+  requests = d.1.requests;
   refusal = d.1.refusal;
   late = d.1.late;
   rows = d.1.rows;
@@ -402,6 +420,8 @@ arrives k s = record {
       told = refl;
       peer = refl;
       said = on_none None;
+      messages = refl;
+      asked = tt;
       quiet = tt;
       lasts = refl;
     };

@@ -24,10 +24,10 @@ use Rattle.till_session.specs.declared.fault.TalkFault.TheVariants as talk
 use Rattle.till_session.specs.declared.fault.TheConstants.{ORIGINATOR_CHANGED}
 use Rattle.till_session.specs.declared.talk.Meaning.{Meaning}
 use Rattle.till_session.specs.declared.talk.Meaning.TheVariants as meanings
-use Rattle.till_session.specs.Counters.{Asked, Outcome, outcome_given, row_made, rows_made}
+use Rattle.till_session.specs.Counters.{Asked, outcome_given, request_asked, row_made, rows_made}
 use Rattle.till_session.specs.Course.{TalkState}
 use Rattle.till_session.specs.Text.{is_another, left_over, meaning_at, messages_text, number_text}
-use Rattle.till_session.specs.Text.{outcome_text, peer_after, refusal_text}
+use Rattle.till_session.specs.Text.{outcome_text, peer_after, refusal_text, requests_in}
 use Rattle.till_session.proofs.Speakers.{another_meant, fault_meant, request_meant, spoken_by}
 use Rattle.till_session.proofs.Talks.{another_over, answered_on, over_then, refused_on}
 use Rattle.station.specs.declared.peer_end.PeerEnd.{PeerEnd}
@@ -39,8 +39,8 @@ use Rattle.station.specs.Sessions.{Granted, Grants, Session, Turn, answered, ans
 use Rattle.station.specs.Sessions.{answered_by, answered_so, end_by, ended, finished, granted, heard, no_memory}
 use Rattle.station.specs.Sessions.{opening_text, outcome_at, owing, refused_by, served, taken}
 use Rattle.station.specs.Sessions.{told, told_last, with_outcome}
-use Rattle.station.specs.Stories.{Happening, asked_in, book_of, is_whole, rows_in}
-use Rattle.station.specs.Stories.{said_in, told_in}
+use Rattle.station.specs.Stories.{AreAsked, Happening, asked_in, book_of, is_whole}
+use Rattle.station.specs.Stories.{messages_in, rows_in, said_in, told_in}
 use Rattle.station.proofs.Quiet.{own_quiet}
 use Rattle.station.proofs.Stories.{AreOwnQuiet, IsLiving}
 use Rattle.station.proofs.Stories.{passes, speaks}
@@ -54,11 +54,16 @@ pub record IsDone (c : Configured) (before : List Row) (had : List ℕ) (all : L
   pub late : List Row
   pub rows : b.rows ≡ (before ++ rows_in story) ++ late
   pub told : had ++ x.owed ≡ told_in c before None story ++ refusal
+  pub unanswered : List Telegram
+  pub messages : all ≡ messages_in story ++ unanswered
+  pub asked : AreAsked story
   pub quiet : AreOwnQuiet None story
   pub unsaid : List ℕ
   pub text : messages_text last None all (map outcome_given (asked_in story))
       ≡ (said_in None story ++ refusal) ++ unsaid
-  pub whole : is_whole (Some end) ≡ true → unsaid ≡ []
+  pub unasked : List (Actor × Event)
+  pub requests : requests_in None all ≡ map request_asked (asked_in story) ++ unasked
+  pub whole : is_whole (Some end) ≡ true → (unsaid ≡ []) × (unasked ≡ [])
   pub over : x.end ≡ Some end
 
 -- a session that lasts in these messages, or has ended
@@ -82,7 +87,12 @@ stops c before had done later last b b' x x' l g owed over = record {
   rows = g.rows ∙ ap (λ rs. rs ++ g.more) l.rows;
   told =
       ap (λ o. had ++ o) owed ∙ l.told ∙ sym (append-nil (told_in c before None l.story));
+  unanswered = later;
+  messages = ap (λ ms. ms ++ later) (sym l.messages);
+  asked = l.asked;
   quiet = l.quiet;
+  unasked = requests_in x.talk.peer later;
+  requests = l.said.requests later;
   unsaid = messages_text last x.talk.peer later [];
   text =
       ap (messages_text last None (done ++ later))
@@ -107,13 +117,18 @@ closes c before had done last end b b' x x' l g owed over = record {
   told =
       ap (λ o. had ++ o) owed ∙ sym (append_assoc had x.owed last)
       ∙ ap (λ t. t ++ last) l.told;
+  unanswered = [];
+  messages = sym (append-nil (messages_in l.story) ∙ l.messages);
+  asked = l.asked;
   quiet = l.quiet;
+  unasked = [];
+  requests = (let all = l.said.requests [] in rw (append-nil done) at all);
   unsaid = [];
   text =
       (let whole = l.said.text last [] [] in
       rw (append-nil done, append-nil (map outcome_given (asked_in l.story))) at whole)
       ∙ sym (append-nil (said_in None l.story ++ last));
-  whole = λ is. refl;
+  whole = λ is. (refl, refl);
   over = over;
 }
 
@@ -135,14 +150,22 @@ another_closes c before had done later m last end b b' x x' l other g owed over 
       told =
           ap (λ o. had ++ o) owed ∙ sym (append_assoc had x.owed n)
           ∙ ap (λ t. t ++ n) l.told;
+      unanswered = m ∷ later;
+      messages = ap (λ ms. ms ++ m ∷ later) (sym l.messages);
+      asked = l.asked;
       quiet = l.quiet;
+      unasked = [];
+      requests =
+          (let all = is_over.requests later in
+          rw (append_assoc done (m ∷ []) later, append-nil (asked_in l.story)) at all)
+          ∙ sym (append-nil (map request_asked (asked_in l.story)));
       unsaid = [];
       text =
           (let whole = is_over.text last later [] in
           rw (append_assoc done (m ∷ []) later, append-nil (asked_in l.story),
           append-nil (map outcome_given (asked_in l.story))) at whole)
           ∙ sym (append-nil (said_in None l.story ++ n));
-      whole = λ is. refl;
+      whole = λ is. (refl, refl);
       over = over;
     }
 
@@ -185,7 +208,7 @@ fault_answered : (c : Configured) (before : List Row) (had : List ℕ) (done lat
 fault_answered c before had done later m last f true t l same is =
     inl (speaks c before had done t.book t.book t.session _ m [] (number_text m (map_number f)) l
     (refused_on t.session.talk.peer m f same is) refl (sym (append-nil t.book.rows)) refl l.lasts
-    refl refl)
+    refl refl (f, is))
 fault_answered c before had done later m last f false t l same is =
     inr (
       no_memory,
@@ -214,7 +237,7 @@ request_answered c before had done later m last actor event row true t l same is
     inl (speaks c before had done t.book (with_outcome actor event outcome t.book) t.session _ m
     (a ∷ []) (outcome_text m outcome) l (answered_on p m a same is) refl
     (ap (λ rs. t.book.rows ++ rs) (sym made)) refl l.lasts refl
-    (ap (notices_of (peer_after p m.from)) made ∙ own))
+    (ap (notices_of (peer_after p m.from)) made ∙ own) is)
 request_answered c before had done later m last actor event row false t l same is =
     let outcome = outcome_at row t.book actor event in
     inr (
@@ -357,6 +380,8 @@ same_living c before had done b x x' l talk owed end = record {
   told = ap (λ o. had ++ o) owed ∙ l.told;
   peer = ap (λ (s : TalkState). s.peer) talk ∙ l.peer;
   said = rw talk l.said;
+  messages = l.messages;
+  asked = l.asked;
   quiet = l.quiet;
   lasts = end ∙ l.lasts;
 }
@@ -520,9 +545,14 @@ later_rows c before had all last end b b' x d g = record {
       g.rows ∙ ap (λ rs. rs ++ g.more) d.rows
       ∙ append_assoc (before ++ rows_in d.story) d.late g.more;
   told = d.told;
+  unanswered = d.unanswered;
+  messages = d.messages;
+  asked = d.asked;
   quiet = d.quiet;
   unsaid = d.unsaid;
   text = d.text;
+  unasked = d.unasked;
+  requests = d.requests;
   whole = d.whole;
   over = d.over;
 }

@@ -12,7 +12,8 @@ use Rattle.till_session.proofs.Talks.{on_then}
 use Rattle.device_map.specs.Changes.{change_of}
 use Rattle.station.specs.Notices.{notice_at, notices_of, octets_of, row_notice}
 use Rattle.station.specs.Sessions.{Session, opening_text}
-use Rattle.station.specs.Stories.{Happening, Passes, Speaks, asked_in, book_of}
+use Rattle.station.specs.Stories.{AreAsked, Happening, IsAskedBy, Passes, Speaks, asked_in}
+use Rattle.station.specs.Stories.{book_of, messages_in}
 use Rattle.station.specs.Stories.{notices_due, notices_in, peer_in, reply_to_one, rows_in, said_in}
 use Rattle.station.specs.Stories.{told_in}
 
@@ -62,6 +63,19 @@ asked-more (Speaks m asked ∷ story) h =
     ap (λ a. asked ++ a) (asked-more story h)
     ∙ sym (append_assoc asked (asked_in story) (asked_in (h ∷ [])))
 asked-more (Passes r ∷ story) h = asked-more story h
+
+pub messages-more : (story : List Happening) (h : Happening)
+    → messages_in (story ++ h ∷ []) ≡ messages_in story ++ messages_in (h ∷ [])
+messages-more [] h = refl
+messages-more (Speaks m asked ∷ story) h = ap (λ ms. m ∷ ms) (messages-more story h)
+messages-more (Passes r ∷ story) h = messages-more story h
+
+pub are_asked-more : (story : List Happening) (h : Happening) → AreAsked story
+    → AreAsked (h ∷ []) → AreAsked (story ++ h ∷ [])
+are_asked-more [] h each one = one
+are_asked-more (Speaks m asked ∷ story) h each one =
+    (each.0, are_asked-more story h each.1 one)
+are_asked-more (Passes r ∷ story) h each one = are_asked-more story h each one
 
 pub said-more : (peer : Option (List ℕ)) (story : List Happening) (h : Happening)
     → said_in peer (story ++ h ∷ []) ≡ said_in peer story ++ said_in (peer_in peer story) (h ∷ [])
@@ -141,6 +155,8 @@ pub record IsLiving (c : Configured) (before : List Row) (had : List ℕ) (answe
   pub told : had ++ x.owed ≡ told_in c before None story
   pub peer : x.talk.peer ≡ peer_in None story
   pub said : GoesOn None x.talk.peer answered (asked_in story) (said_in None story)
+  pub messages : messages_in story ≡ answered
+  pub asked : AreAsked story
   pub quiet : AreOwnQuiet None story
   pub lasts : x.end ≡ None
 
@@ -184,6 +200,8 @@ passes c before had ms b b' x x' r l same more talk lasts owed =
           let said : said_in None (l.story ++ h ∷ []) ≡ said_in None l.story =
           said-more None l.story h ∙ append-nil (said_in None l.story) in
           rw (asked, said, talk) l.said;
+      messages = messages-more l.story h ∙ append-nil (messages_in l.story) ∙ l.messages;
+      asked = are_asked-more l.story h l.asked tt;
       quiet = quiet-more None l.story h l.quiet tt;
       lasts = lasts;
     }
@@ -204,9 +222,9 @@ pub speaks : (c : Configured) (before : List Row) (had : List ℕ) (ms : List Te
     → b'.config ≡ b.config → b'.rows ≡ b.rows ++ rows_made asked
     → x'.talk.peer ≡ peer_after x.talk.peer m.from → x'.end ≡ None
     → x'.owed ≡ x.owed ++ (text ++ opening_text x.talk.peer m.from b')
-    → notices_of (peer_after x.talk.peer m.from) (rows_made asked) ≡ []
+    → notices_of (peer_after x.talk.peer m.from) (rows_made asked) ≡ [] → IsAskedBy m asked
     → IsLiving c before had (ms ++ m ∷ []) b' x'
-speaks c before had ms b b' x x' m asked text l on same more peer lasts owed quiet =
+speaks c before had ms b b' x x' m asked text l on same more peer lasts owed quiet asks =
     let h = Speaks m asked in
     let p = x.talk.peer in
     let behind = (before ++ rows_in l.story) ++ rows_made asked in
@@ -244,6 +262,8 @@ speaks c before had ms b b' x x' m asked text l on same more peer lasts owed qui
           rw (all, said, peer)
           (on_then None p (peer_after p m.from) ms (m ∷ []) (asked_in l.story) asked
           (said_in None l.story) text l.said on);
+      messages = messages-more l.story h ∙ ap (λ ns. ns ++ m ∷ []) l.messages;
+      asked = are_asked-more l.story h l.asked (asks, tt);
       quiet =
           quiet-more None l.story h l.quiet
           (ap (λ q. notices_of (peer_after q m.from) (rows_made asked)) (sym l.peer) ∙ quiet, tt);

@@ -4,15 +4,20 @@
 -- its messages, and each row that wasn't made by one of them. Three readings of a story are the
 -- session text, the rows, and what the peer is told.
 use Rattle.std.specs.Prelude.{◌≡◌, ℕ, Bool, true, false, List, [], ◌∷◌, ◌++◌, map, Option, Some}
-use Rattle.std.specs.Prelude.{None}
+use Rattle.std.specs.Prelude.{None, Ok, Err}
+use Rattle.site_base.specs.declared.actor.Actor.{Actor}
+use Rattle.site_base.specs.declared.event.Event.{Event}
 use Rattle.site_base.specs.declared.row.Row.{Row}
 use Rattle.site_base.specs.Configured.{Configured}
 use Rattle.app_message.specs.Stream.{stream_of}
 use Rattle.app_message.specs.Telegram.{Telegram}
+use Rattle.device_map.specs.declared.fault.MapFault.{MapFault}
+use Rattle.device_map.specs.Requests.{request_at}
 use Rattle.site_book.specs.Book.{Book}
-use Rattle.till_session.specs.Counters.{Asked, outcome_given, rows_made}
+use Rattle.till_session.specs.Counters.{Asked, outcome_given, request_asked, rows_made}
 use Rattle.till_session.specs.declared.fault.SessionFault.TheVariants as faults
-use Rattle.till_session.specs.Text.{messages_text, peer_after, session_text}
+use Rattle.till_session.specs.Text.{messages_text, peer_after, session_requests}
+use Rattle.till_session.specs.Text.{session_text}
 use Rattle.station.specs.declared.peer_end.PeerEnd.{PeerEnd}
 use Rattle.station.specs.declared.peer_end.PeerEnd.TheVariants as ends
 use Rattle.station.specs.Notices.{notices_of, octets_of, row_notice, standing_text}
@@ -48,6 +53,18 @@ abbrev pub asked_in : List Happening → List Asked
 asked_in [] = []
 asked_in (Speaks m asked ∷ story) = asked ++ asked_in story
 asked_in (Passes r ∷ story) = asked_in story
+
+-- what was asked with a message is the request that it is, if it is one
+abbrev pub IsAskedBy : Telegram → List Asked → Type 0
+IsAskedBy m [] = (f : MapFault) × (request_at m ≡ Err f)
+IsAskedBy m (a ∷ []) = request_at m ≡ Ok (a.actor, a.event)
+IsAskedBy m (a ∷ b ∷ asked) = ⊥
+
+-- .. with each message of a story
+abbrev pub AreAsked : List Happening → Type 0
+AreAsked [] = Unit {0}
+AreAsked (Speaks m asked ∷ story) = IsAskedBy m asked × AreAsked story
+AreAsked (Passes r ∷ story) = AreAsked story
 
 -- the rows of a story
 abbrev pub rows_in : List Happening → List Row
@@ -98,21 +115,28 @@ is_whole (Some (ends.Fault faults.NoMemory)) = false
 is_whole end = true
 
 -- What the peer of a session is told that began behind these rows, where so much was heard of it.
--- There is a story: the rows since are its rows, and those behind the session's end. The peer is
--- told the text of its story, and last the refusal of a fault of its octets, if they have one. What
--- is said in the story is the session text of what was heard, with the answers that its requests
--- were given; where memory was wanting, a front of it. The notices in the story are those that are
--- due.
+-- There is a story: its messages are those that were heard, in order, each with the request that it
+-- is; the rows since are its rows, and those behind the session's end. The peer is told the text of
+-- its story, and last why its session ended, if it is told that. What is said in the story is the
+-- session text of what was heard, with the answers that its requests were given, and all its
+-- requests were asked; where memory was wanting, a front of both. The notices in the story are
+-- those that are due.
 pub record IsTold (c : Configured) (before after : List Row) (heard octets : List ℕ)
     (end : Option PeerEnd) : Type 0 where
   pub story : List Happening
-  pub refusal : List ℕ
+  pub unanswered : List Telegram
+  pub messages : (stream_of heard).messages ≡ messages_in story ++ unanswered
+  pub asked : AreAsked story
   pub late : List Row
   pub rows : after ≡ before ++ rows_in story ++ late
   pub lasts : end ≡ None → late ≡ []
+  pub refusal : List ℕ
   pub told : octets ≡ told_in c before None story ++ refusal
   pub unsaid : List ℕ
   pub text : session_text (stream_of heard) (map outcome_given (asked_in story))
       ≡ said_in None story ++ refusal ++ unsaid
-  pub whole : is_whole end ≡ true → unsaid ≡ []
+  pub unasked : List (Actor × Event)
+  pub requests : session_requests (stream_of heard)
+      ≡ map request_asked (asked_in story) ++ unasked
+  pub whole : is_whole end ≡ true → (unsaid ≡ []) × (unasked ≡ [])
   pub notices : notices_in c before None story ≡ notices_due c before story
