@@ -1,7 +1,7 @@
 //! The peers in their slots: a key is the place of a slot.
 
-ghost use Rattle.std.specs.Prelude.{◌≡◌, ◌<◌, ◌≤◌, ◌++◌, [], ◌∷◌, ℕ, length, None, Some, IsSome, IfNone};
-ghost use Rattle.std.specs.Prelude.{IfSome, option_map};
+ghost use Rattle.std.specs.Prelude.{◌≡◌, ◌<◌, ◌≤◌, ℕ, length, None, Some, IsSome, IfNone, IfSome};
+ghost use Rattle.std.specs.Prelude.{option_map};
 ghost use Rattle.station.specs.Peers.{peer_at, with_peer};
 ghost use Rattle.station.specs.PeerViews.{session_at, session_of, sessions_of, without_key};
 
@@ -57,4 +57,30 @@ pub(crate) fn free_key(slots: &[Option<Peer>]) -> Option<usize>
         }
     }
     None
+}
+
+/// The least key, from this one on, whose peer was told a notice since its news were last taken.
+/// The news of that peer are taken.
+pub(crate) fn take_news(slots: &mut [Option<Peer>], from: usize) -> Option<usize>
+    ensures same { sessions_of slots.new ≡ sessions_of slots.old }
+    ensures key { IfSome result (λ key. (from ≤ key) × (key < length slots.old)) }
+{
+    for key in from..slots.len() {
+        if take_news_at(&mut slots[key]) {
+            return Some(key);
+        }
+    }
+    None
+}
+
+/// Was the peer told a notice since its news were last taken?
+fn take_news_at(slot: &mut Option<Peer>) -> bool
+    ensures { option_map session_of slot.new ≡ option_map session_of slot.old }
+{
+    if let Some(peer) = slot {
+        let had_news = peer.has_news;
+        peer.has_news = false;
+        return had_news;
+    }
+    false
 }

@@ -1,6 +1,7 @@
 //! The station: a book and its peers.
 
-ghost use Rattle.std.specs.Prelude.{◌≡◌, ◌<◌, ◌≤◌, ℕ, [], length, IfOk, OnErr, IsSome};
+ghost use Rattle.std.specs.Prelude.{◌≡◌, ◌<◌, ◌≤◌, ℕ, [], length, IfOk, IfSome, OnErr};
+ghost use Rattle.std.specs.Prelude.{IsSome};
 ghost use Rattle.station.specs.Moves.{with_arrival, with_end, with_octets, with_taken};
 ghost use Rattle.station.specs.Moves.{without_peer};
 ghost use Rattle.station.specs.Peers.{peer_at};
@@ -12,7 +13,7 @@ use crate::paper::Paper;
 use crate::peer::Peer;
 use crate::peer_end::PeerEnd;
 use crate::sizes::PEERS;
-use crate::slots::{find_peer, free_key, put_peer, take_peer};
+use crate::slots::{find_peer, free_key, put_peer, take_news, take_peer};
 use app_message::Messages;
 use site_base::NoMemory;
 use site_book::SiteBook;
@@ -137,6 +138,16 @@ impl Station {
             Some(peer) => peer.outbox.as_slice(),
             None => &[],
         }
+    }
+
+    /// The least key, from this one on, whose peer was told a notice since its news were last taken;
+    /// None where there is none. Whoever has the connections asks so behind each move, since octets
+    /// are owed then to peers that haven't sent any.
+    pub fn take_news(&mut self, from: usize) -> Option<usize>
+        ensures same { self.new ≡ self.old }
+        ensures key { IfSome result (λ key. (from ≤ key) × (key < PEERS)) }
+    {
+        take_news(&mut self.slots, from)
     }
 
     /// A peer has taken so many of the octets that it is owed.
