@@ -385,16 +385,14 @@ pub runs : (c : Configured) (before : List Row) (k : ℕ) (ms : List Move) (had 
     (s : StationState) → Stays k ms → IsSeen c before had sent k s
     → (x : Session) × (peer_at (after ms s).peers k ≡ Some x)
     × IsTold c before (after ms s).book.rows (sent ++ heard_of k ms s) (had ++ told k ms s) x.end
-runs c before k [] had sent s stays seen =
-    (
-      seen.session,
-      seen.there,
-      rw (seen.there, append-nil sent) (is_told c before had sent s.book seen.session seen.course),
-    )
+runs c before k [] had sent s stays seen = (
+  seen.session,
+  seen.there,
+  rw (seen.there, append-nil sent) (is_told c before had sent s.book seen.session seen.course),
+)
 runs c before k (m ∷ ms) had sent s stays seen =
     let next = runs c before k ms (had ++ taken_with k m s) (sent ++ heard_with k m s)
-    (after_move m s) stays.1 (moves c before had sent k m s stays.0 seen) in
-    (
+    (after_move m s) stays.1 (moves c before had sent k m s stays.0 seen) in (
       next.0,
       next.1,
       subst (λ o. IsTold c before (after (m ∷ ms) s).book.rows

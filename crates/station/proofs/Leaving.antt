@@ -270,6 +270,7 @@ till_unnoticed r x t on own = by_peer (listener x.end x.talk.peer)
     by_end None None own = absurd own
     by_end None (Some node) own = own.0
     by_end (Some end) p own = tt
+
     by_peer : (p : Option (List ℕ)) → IsTillOrNone p → noticed_by (row_notice p r) x ≡ x
     by_peer None is = ap (λ n. noticed_by n x) (nobody_noticed r)
     by_peer (Some node) is = ap (λ n. noticed_by n x) (till_notice r node is)
@@ -359,8 +360,8 @@ taken_own k n None s there all = all
 taken_own k n (Some x) s there all =
     slot_own k (Some (record x { owed = drop n x.owed })) s.peers
     (λ z is.
-        let same : record x { owed = drop n x.owed } ≡ z = cc in
-        subst IsOwnSession same (all k x there))
+    let same : record x { owed = drop n x.owed } ≡ z = cc in
+    subst IsOwnSession same (all k x there))
     all
 
 arrived_own : (k : ℕ) (y : Option Session) (s : StationState) → AreOwn s → AreOwn (arrived k y s)

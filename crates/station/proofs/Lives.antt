@@ -162,8 +162,11 @@ another_closes c before had done later m last end b b' x x' l other g owed over 
       unsaid = [];
       text =
           (let whole = is_over.text last later [] in
-          rw (append_assoc done (m ∷ []) later, append-nil (asked_in l.story),
-          append-nil (map outcome_given (asked_in l.story))) at whole)
+          rw (
+            append_assoc done (m ∷ []) later,
+            append-nil (asked_in l.story),
+            append-nil (map outcome_given (asked_in l.story)),
+          ) at whole)
           ∙ sym (append-nil (said_in None l.story ++ n));
       whole = λ is. (refl, refl);
       over = over;
@@ -414,8 +417,8 @@ fault_told c before had done true text end t l = (
 fault_told c before had done false text end t l = (
   no_memory,
   (let stopped = stops c before had done [] text t.book (ended no_memory t).book t.session
-  (ended no_memory t).session l (left-grows t.session.talk.on t.book) refl refl in
-  rw (append-nil done) at stopped),
+      (ended no_memory t).session l (left-grows t.session.talk.on t.book) refl refl in
+      rw (append-nil done) at stopped),
 )
 
 fault_refused : (c : Configured) (before : List Row) (had sent : List ℕ) (memory : Bool)
@@ -597,8 +600,11 @@ row_comes c before had sent b x r (inl h) = row_passes c before had sent b x r h
 row_comes c before had sent b x r (inr d) =
     subst (InCourse c before had sent (record b { rows = b.rows ++ r ∷ [] }))
     (sym (over_unnoticed r x d.0 d.1.over))
-    (inr (d.0, later_rows c before had _ _ d.0 b (record b { rows = b.rows ++ r ∷ [] }) x d.1
-    (record { more = r ∷ []; rows = refl; same = refl })))
+    (inr (
+      d.0,
+      later_rows c before had _ _ d.0 b (record b { rows = b.rows ++ r ∷ [] }) x d.1
+          (record { more = r ∷ []; rows = refl; same = refl }),
+    ))
 
 same_book : (b b' : Book) → b'.config ≡ b.config → b'.rows ≡ b.rows → b' ≡ b
 same_book b b' same rows =

@@ -180,18 +180,18 @@ pub heard_there : (k : ℕ) (piece : List ℕ) (b b' : Book)
 heard_there k piece b b' peers out told back p q there taken read hears put = (
   hears.memory,
   (let t = heard hears.memory piece (turn_of b p) in
-  let more = rows_since b t.book in
-  let rows : rows_since b b' ≡ more = ap (λ (u : Turn). rows_since b u.book) hears.turn in
-  let last : back ≡ with_peer k (Some (session_of q)) (with_notices more peers) =
-  put
-  ∙ ap (with_peer k (Some (session_of q)))
-  (hears.told ∙ ap (λ rs. with_notices rs out) rows ∙ ap (with_notices more) taken)
-  ∙ put_back k (Some (session_of q)) more peers in
-  ap (state b') last
-  ∙ ap (λ (u : Turn). state u.book (with_peer k (Some u.session) (with_notices more peers)))
-  hears.turn
-  ∙ sym (ap (λ r. if r then with_turn k t (state b peers) else state b peers) read)
-  ∙ ap (λ y. heard_from hears.memory k piece y (state b peers)) there),
+      let more = rows_since b t.book in
+      let rows : rows_since b b' ≡ more = ap (λ (u : Turn). rows_since b u.book) hears.turn in
+      let last : back ≡ with_peer k (Some (session_of q)) (with_notices more peers) =
+      put
+      ∙ ap (with_peer k (Some (session_of q)))
+      (hears.told ∙ ap (λ rs. with_notices rs out) rows ∙ ap (with_notices more) taken)
+      ∙ put_back k (Some (session_of q)) more peers in
+      ap (state b') last
+      ∙ ap (λ (u : Turn). state u.book (with_peer k (Some u.session) (with_notices more peers)))
+      hears.turn
+      ∙ sym (ap (λ r. if r then with_turn k t (state b peers) else state b peers) read)
+      ∙ ap (λ y. heard_from hears.memory k piece y (state b peers)) there),
 )
 
 pub left_there : (k : ℕ) (s : StationState) (b : Book) (peers out : List (Option Session))

@@ -112,11 +112,7 @@ fn ask_book(book: &mut SiteBook, actor: Actor, event: Event) -> Result<Reply, No
 }
 
 /// Reserves room for so many octets at each peer that listens at this node.
-fn reserve_all(
-    slots: &mut [Option<Peer>],
-    node: [u8; 2],
-    additional: usize,
-) -> Result<(), NoMemory>
+fn reserve_all(slots: &mut [Option<Peer>], node: [u8; 2], additional: usize) -> Result<(), NoMemory>
     ensures same { sessions_of slots.new ≡ sessions_of slots.old }
     ensures room { OnOk result (AllHaveRoom node additional slots.new) }
 {
@@ -127,11 +123,7 @@ fn reserve_all(
 }
 
 /// Reserves room at a peer, if it listens at this node.
-fn reserve_at(
-    slot: &mut Option<Peer>,
-    node: [u8; 2],
-    additional: usize,
-) -> Result<(), NoMemory>
+fn reserve_at(slot: &mut Option<Peer>, node: [u8; 2], additional: usize) -> Result<(), NoMemory>
     ensures same { option_map session_of slot.new ≡ option_map session_of slot.old }
     ensures room { OnOk result (HasRoomFor node additional slot.new) }
 {

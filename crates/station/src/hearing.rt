@@ -109,7 +109,8 @@ fn put_number(
     number: u8,
 ) -> Result<(), NoMemory>
     ensures ok { OnOk result (session_of peer.new ≡ record (session_of peer.old) {
-        owed = peer.old.outbox.owed ++ number_text message.now number }) }
+      owed = peer.old.outbox.owed ++ number_text message.now number;
+    }) }
     ensures err { OnErr result (session_of peer.new ≡ session_of peer.old) }
 {
     paper.write_number(message, number)?;
@@ -171,8 +172,9 @@ fn put_outcome(
     before: Option<[u8; 2]>,
 ) -> Result<(), NoMemory>
     ensures ok { OnOk result (session_of peer.new ≡ record (session_of peer.old) {
-        owed = peer.old.outbox.owed ++ (outcome_text message.now outcome.now
-            ++ opening_text before message.now.from book.now) }) }
+      owed = peer.old.outbox.owed ++ (outcome_text message.now outcome.now
+          ++ opening_text before message.now.from book.now);
+    }) }
     ensures err { OnErr result (session_of peer.new ≡ session_of peer.old) }
 {
     paper.write_outcome(message, outcome)?;
@@ -188,8 +190,9 @@ fn tell(
     before: Option<[u8; 2]>,
 ) -> Result<(), NoMemory>
     ensures ok { OnOk result (session_of peer.new ≡ record (session_of peer.old) {
-        owed = peer.old.outbox.owed
-            ++ (paper.old.text.items ++ opening_text before message.now.from book.now) }) }
+      owed = peer.old.outbox.owed
+          ++ (paper.old.text.items ++ opening_text before message.now.from book.now);
+    }) }
     ensures err { OnErr result (session_of peer.new ≡ session_of peer.old) }
 {
     if before.is_none() {
@@ -216,7 +219,8 @@ fn refuse(peer: &mut Peer, book: &mut SiteBook, paper: &mut Paper, fault: &Strea
 /// Tells a fault of the octets.
 fn tell_fault(peer: &mut Peer, paper: &mut Paper, fault: &StreamFault) -> Result<(), NoMemory>
     ensures ok { OnOk result (session_of peer.new ≡ record (session_of peer.old) {
-        owed = peer.old.outbox.owed ++ spelling (fault_message fault.now) }) }
+      owed = peer.old.outbox.owed ++ spelling (fault_message fault.now);
+    }) }
     ensures err { OnErr result (session_of peer.new ≡ session_of peer.old) }
 {
     paper.write_fault(fault)?;

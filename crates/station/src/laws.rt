@@ -7,23 +7,19 @@ ghost use Rattle.station.specs.Laws.{PeersLeaveTheirTill, RowsAreOneHistory};
 /// requests were given, and between the notices of its point, each in its place.
 pub fn each_peer_is_told_its_story()
     ensures { EachPeerIsToldItsStory }
-{
-}
+{}
 
 /// The rows of all peers are one history.
 pub fn rows_are_one_history()
     ensures { RowsAreOneHistory }
-{
-}
+{}
 
 /// The end of a session leaves its till.
 pub fn ends_leave_their_till()
     ensures { EndsLeaveTheirTill }
-{
-}
+{}
 
 /// A peer that is gone leaves its till.
 pub fn peers_leave_their_till()
     ensures { PeersLeaveTheirTill }
-{
-}
+{}

@@ -22,8 +22,8 @@ impl Model for Outbox {
     ghost Value = { Owed };
 
     ghost view = { λ o. record {
-        owed = drop o.start o.octets.items;
-        room = vec_capacity o.octets - vec_len o.octets;
+      owed = drop o.start o.octets.items;
+      room = vec_capacity o.octets - vec_len o.octets;
     } };
 
     ghost invariant = { λ o. o.start ≤ length o.octets.items };

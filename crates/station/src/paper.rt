@@ -11,9 +11,7 @@ ghost use Rattle.station.specs.Standing.{release_of, standing_events, stop_of};
 
 use app_message::{Message, StreamFault, encode_into};
 use device_map::{change_of, refusal_in, stream_refusal};
-use site_base::{
-    Actor, Answer, Event, FpNo, NoMemory, NoRow, PointState, PointView, Reply, Row,
-};
+use site_base::{Actor, Answer, Event, FpNo, NoMemory, NoRow, PointState, PointView, Reply, Row};
 use site_book::SiteBook;
 use std::alloc::Global;
 use std::mem;
@@ -83,11 +81,7 @@ impl Paper {
 
     /// Writes the standing notices of the peer at a node behind the text: what stands at the point
     /// whose dispenser it is.
-    pub(crate) fn add_standing(
-        &mut self,
-        book: &SiteBook,
-        node: [u8; 2],
-    ) -> Result<(), NoMemory>
+    pub(crate) fn add_standing(&mut self, book: &SiteBook, node: [u8; 2]) -> Result<(), NoMemory>
         ensures { OnOk result (self.new.text.items
             ≡ self.old.text.items ++ standing_text book.now node) }
     {

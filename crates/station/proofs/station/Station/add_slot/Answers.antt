@@ -9,8 +9,7 @@ pub returns-clause-ok : goal.returns-clause-ok
 returns-clause-ok c =
     let slots = c.self.inside.slots.items in
     let size : c.len-key.result ≡ length slots = omega arith in
-    rw (c.in_ok-push.ensures.items, ← c.self.view_is)
-    (
+    rw (c.in_ok-push.ensures.items, ← c.self.view_is) (
       omega arith,
       nobody_there c.len-key.result slots (omega arith),
       ap (state c.self.inside.book)

@@ -17,8 +17,10 @@ returns-in-Some c =
     let put = rw (c.deref_mut-in-Some.ensures.value ∙ kept) at c.put_peer.ensures in
     let two : length c.put_peer.new.slots ≡ slots.len =
     omega (arith, c.deref_mut-in-Some.ensures.len, c.put_peer.auto.slots) in
-    rw (with_items_is (with_items slots c.take_peer.new.slots) c.put_peer.new.slots two,
-    ← c.self.view_is)
+    rw (
+      with_items_is (with_items slots c.take_peer.new.slots) c.put_peer.new.slots two,
+      ← c.self.view_is,
+    )
     (finished_there c.args.key c.self.inside.book c.finish.new.book (sessions_of slots.items)
     (sessions_of c.take_peer.new.slots) (sessions_of c.put_peer.new.slots) c.in-Some.peer
     c.finish.new.peer there out c.finish.ensures put)

@@ -17,8 +17,10 @@ returns-in-Some c =
     let put = rw (c.deref_mut-in-Some.ensures.value ∙ kept) at c.put_peer.ensures in
     let two : length c.put_peer.new.slots ≡ slots.len =
     omega (arith, c.deref_mut-in-Some.ensures.len, c.put_peer.auto.slots) in
-    rw (with_items_is (with_items slots c.take_peer.new.slots) c.put_peer.new.slots two,
-    ← c.self.view_is)
+    rw (
+      with_items_is (with_items slots c.take_peer.new.slots) c.put_peer.new.slots two,
+      ← c.self.view_is,
+    )
     (took c.args.key c.args.n c.self.inside.book (sessions_of slots.items)
     (sessions_of c.take_peer.new.slots) (sessions_of c.put_peer.new.slots) c.in-Some.peer _
     there out (ap (λ o. record (session_of c.in-Some.peer) { owed = o }) c.take.ensures) put)
