@@ -42,7 +42,8 @@ use Rattle.station.specs.Sessions.{no_memory, opening_text, outcome_at, owing, r
 use Rattle.station.specs.Sessions.{taken, told, told_last, with_outcome, without_till}
 use Rattle.station.proofs.Courses.{refused-grows}
 use Rattle.station.proofs.Notices.{with_notices-none, with_notices-unchanged}
-use Rattle.station.proofs.Turns.{Grows, all-grows, answered-grows, grows_none, left-grows, left-told}
+use Rattle.station.proofs.Turns.{Grows, all-grows, answered-grows, left-grows}
+use Rattle.station.proofs.Turns.{left-told}
 use Rattle.station.proofs.Turns.{outcome-grows, since, told_none, told_then}
 use Rattle.station.proofs.Turns as turns
 
@@ -306,7 +307,8 @@ refused_told memory (Some f) t others = by_test (is_none t.session.end)
     by_test false = told_none t.book others
 
 pub hears_piece : (piece : List ℕ) (b : Book) (p : Peer) (decoder : Held) (ms : List Telegram)
-    (fault : Option StreamFault) (memory : Bool) (t t' : Turn) (others others' : List (Option Session))
+    (fault : Option StreamFault) (memory : Bool) (t t' : Turn)
+    (others others' : List (Option Session))
     → decoder ≡ held (fed_by p.decoder piece) → ms ≡ (fed_by p.decoder piece).messages
     → fault ≡ (fed_by p.decoder piece).fault
     → AnswersAll ms (record { book = b; session = record (session_of p) { held = decoder } }) t

@@ -28,7 +28,8 @@ use Rattle.station.specs.Runs.{after_move, arrived, heard_of, heard_with, stays_
 use Rattle.station.specs.Runs.{told}
 use Rattle.station.specs.Reads.{is_read_at, owed_at}
 use Rattle.station.specs.Sessions.{Grants, Session, Turn, answered_all, ended, finished, heard}
-use Rattle.station.specs.Sessions.{is_read, no_memory, opening_session, refused_by, taken, told_last}
+use Rattle.station.specs.Sessions.{is_read, no_memory, opening_session, refused_by, taken}
+use Rattle.station.specs.Sessions.{told_last}
 use Rattle.station.specs.Stories.{IsTold, asked_in, is_whole, messages_in, rows_in}
 use Rattle.station.specs.Stories.{said_in, told_in}
 use Rattle.station.proofs.Lives.{InCourse, IsDone, IsHearing, IsOverIn, finishes, hears, rows_come}

@@ -161,15 +161,15 @@ finish_on k (Some x) s = by_test (is_none x.end)
 same_book : (b b' : Book) → b' ≡ b → GoesOn b b'
 same_book b b' is = subst (GoesOn b) (sym is) (stays b)
 
-arrived_book : (k : ℕ) (y : Option Session) (s : StationState) → (arrived k y s).book ≡ s.book
+pub arrived_book : (k : ℕ) (y : Option Session) (s : StationState) → (arrived k y s).book ≡ s.book
 arrived_book k None s = refl
 arrived_book k (Some x) s = refl
 
-taken_book : (k n : ℕ) (y : Option Session) (s : StationState) → (taken_by k n y s).book ≡ s.book
+pub taken_book : (k n : ℕ) (y : Option Session) (s : StationState) → (taken_by k n y s).book ≡ s.book
 taken_book k n None s = refl
 taken_book k n (Some x) s = refl
 
-freed_book : (k : ℕ) (y : Option Session) (s : StationState) → (freed k y s).book ≡ s.book
+pub freed_book : (k : ℕ) (y : Option Session) (s : StationState) → (freed k y s).book ≡ s.book
 freed_book k None s = refl
 freed_book k (Some x) s = refl
 

@@ -57,7 +57,7 @@ use Rattle.station.proofs.Quiet.{other_subnet, where_goes}
 
 -- ---- a till that is signed on may sign off, and isn't signed on then
 
-may_sign_off : (s : SiteState) (t : ℕ) → is_signed_on s t ≡ true
+pub may_sign_off : (s : SiteState) (t : ℕ) → is_signed_on s t ≡ true
     → first_refusal s (Till t) SignOff ≡ None
 may_sign_off s t on = rw on refl
 

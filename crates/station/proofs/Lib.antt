@@ -9,3 +9,5 @@ pub mod SlotSessions
 pub mod Answering
 pub mod Leaving
 pub mod History
+pub mod Adding
+pub mod Standings

@@ -36,7 +36,8 @@ use Rattle.station.specs.declared.sizes.TheConstants.{NOTICE_LIMIT}
 use Rattle.station.specs.Notices.{notice_at, notices_of, octets_of, row_notice}
 use Rattle.station.specs.Peers.{listener, noticed, noticed_all, noticed_by}
 use Rattle.station.specs.Sessions.{Granted, Grants, Session, Turn, answered, answered_all}
-use Rattle.station.specs.Sessions.{answered_by, answered_so, end_by, ended, finished, granted, heard, no_memory}
+use Rattle.station.specs.Sessions.{answered_by, answered_so, end_by, ended, finished, granted, heard}
+use Rattle.station.specs.Sessions.{no_memory}
 use Rattle.station.specs.Sessions.{opening_text, outcome_at, owing, refused_by, served, taken}
 use Rattle.station.specs.Sessions.{told, told_last, with_outcome}
 use Rattle.station.specs.Stories.{AreAsked, Happening, asked_in, book_of, is_whole}
@@ -281,7 +282,7 @@ over_stays : (g : Granted) (m : Telegram) (t : Turn) (end : PeerEnd) → t.sessi
 over_stays g m t end over =
     ap (λ e. if is_none e then answered_by g m (meaning_at t.session.talk.peer m) t else t) over
 
-all_stay : (gs : List Granted) (ms : List Telegram) (t : Turn) (end : PeerEnd)
+pub all_stay : (gs : List Granted) (ms : List Telegram) (t : Turn) (end : PeerEnd)
     → t.session.end ≡ Some end → answered_all gs ms t ≡ t
 all_stay gs [] t end over = refl
 all_stay [] (m ∷ ms) t end over =

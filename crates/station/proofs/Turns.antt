@@ -1,6 +1,7 @@
 -- Rows that a turn of a session adds.
 use Rattle.std.proofs.Common.{◌≡◌, ℕ, ◌+◌, Bool, true, false, List, [], ◌∷◌, ◌++◌, length, drop}
-use Rattle.std.proofs.Common.{Option, Some, None, refl, ap, sym, ◌∙◌, append_assoc, append-nil, arith}
+use Rattle.std.proofs.Common.{Option, Some, None, refl, ap, sym, ◌∙◌, append_assoc, append-nil}
+use Rattle.std.proofs.Common.{arith}
 use Rattle.std.specs.Prelude.{if◌then◌else◌, is_none}
 use Rattle.site_base.specs.declared.actor.Actor.{Actor}
 use Rattle.site_base.specs.declared.actor.Actor.TheVariants.{Till}
@@ -71,7 +72,8 @@ told_none b x =
 
 -- ---- a session's end
 
-abbrev pub with_row-grows : (b : Book) (actor : Actor) (event : Event) → Grows b (with_row_of b actor event)
+abbrev pub with_row-grows : (b : Book) (actor : Actor) (event : Event)
+    → Grows b (with_row_of b actor event)
 with_row-grows b actor event =
     record { more = next_row b actor event ∷ []; rows = refl; same = refl }
 

@@ -24,7 +24,8 @@ pub record AnswersRequest (m : Telegram) (actor : Actor) (event : Event)
     Type 0 where
   pub memory : Granted
   pub turn : new
-      ≡ answered_so memory.text m actor event (outcome_at memory.row old.book actor event) before old
+      ≡ answered_so memory.text m actor event (outcome_at memory.row old.book actor event) before
+      old
   pub told : others' ≡ with_notices (rows_since old.book new.book) others
 
 -- a message is answered, and the others are told of the row

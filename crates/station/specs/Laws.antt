@@ -1,15 +1,22 @@
 -- The laws of the station, over every list of moves.
-use Rattle.std.specs.Prelude.{◌≡◌, ℕ, false, List, ◌++◌, Option, Some, None}
+use Rattle.std.specs.Prelude.{◌≡◌, ℕ, true, false, List, ◌++◌, Option, Some, None}
+use Rattle.std.specs.List.{AllByRecursion}
+use Rattle.site_base.specs.declared.event.Event.{Event}
 use Rattle.site_base.specs.declared.row.Row.{Row}
+use Rattle.site_base.specs.declared.view.PointView.{PointView}
 use Rattle.site_base.specs.Configured.{Configured}
+use Rattle.site_base.specs.Events.{has_change, point_named}
+use Rattle.app_message.specs.Stream.{fed_by}
 use Rattle.written_site.specs.SiteRun.{IsLegal}
 use Rattle.written_site.specs.SiteState.{is_signed_on, opening}
 use Rattle.site_book.specs.Book.{site_of_book}
 use Rattle.station.specs.declared.peer_end.PeerEnd.{PeerEnd}
-use Rattle.station.specs.Moves.{StationState, with_arrival, without_peer}
+use Rattle.station.specs.Adding.{AddsRequests, AddsSignOff, is_silent}
+use Rattle.station.specs.Moves.{StationState, with_arrival, with_octets, without_peer}
 use Rattle.station.specs.Peers.{peer_at}
 use Rattle.station.specs.Runs.{Move, Stays, after, after_move, heard_of, opened, told}
-use Rattle.station.specs.Sessions.{Session}
+use Rattle.station.specs.Sessions.{Grants, Session, is_read}
+use Rattle.station.specs.Standing.{standing_events}
 use Rattle.station.specs.Stories.{IsTold}
 
 -- A peer that arrives, at whatever station, is told its story, whatever moves come until it leaves:
@@ -48,3 +55,28 @@ abbrev pub PeersLeaveTheirTill : Type 0
 PeersLeaveTheirTill = (s : StationState) (k : ℕ) (x : Session) (t : ℕ)
     → peer_at s.peers k ≡ Some x → x.end ≡ None → x.talk.on ≡ Some t
     → is_signed_on (site_of_book (without_peer k s).book) t ≡ false
+
+-- Requests are asked in the order in which they are heard: with the octets of a peer that is read
+-- from, the book gets the rows of the first of the requests among the messages that they bring, in
+-- their order, and behind them at most the sign-off of the session's till; with any other move at
+-- most a sign-off.
+pub record AreAskedInOrder (s : StationState) : Type 0 where
+  pub heard : (memory : Grants) (k : ℕ) (octets : List ℕ) (x : Session)
+      → peer_at s.peers k ≡ Some x → is_read x ≡ true
+      → AddsRequests x.talk.peer (fed_by x.held octets).messages s.book
+      (with_octets memory k octets s).book
+  pub silent : (m : Move) → is_silent m ≡ true → AddsSignOff s.book (after_move m s).book
+
+abbrev pub RequestsAreAskedInOrder : Type 0
+RequestsAreAskedInOrder = (s : StationState) → AreAskedInOrder s
+
+-- a change of point p, that its dispenser is told of
+abbrev pub IsChangeOf : ℕ → Event → Type 0
+IsChangeOf p e = (has_change e ≡ true) × (point_named e ≡ Some p)
+
+abbrev pub AreChangesOf : ℕ → List Event → Type 0
+AreChangesOf p events = AllByRecursion (IsChangeOf p) events
+
+-- Each standing notice is a change of the point that stands.
+abbrev pub StandingNoticesAreChanges : Type 0
+StandingNoticesAreChanges = (p : ℕ) (v : PointView) → AreChangesOf p (standing_events p v)

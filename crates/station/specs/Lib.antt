@@ -10,4 +10,5 @@ pub mod Hearing
 pub mod Reads
 pub mod Runs
 pub mod Stories
+pub mod Adding
 pub mod Laws

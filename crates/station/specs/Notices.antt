@@ -1,5 +1,5 @@
--- Notices: what the peer at a node is told of changes. A change is told to the node that its message
--- goes to, which is the dispenser of its point.
+-- Notices: what the peer at a node is told of changes. A change is told to the node that its
+-- message goes to, which is the dispenser of its point.
 use Rattle.std.specs.Prelude.{ℕ, List, [], ◌∷◌, ◌++◌, slice_index, Option, Some, None}
 use Rattle.std.specs.Prelude.{if◌then◌else◌}
 use Rattle.site_base.specs.declared.event.Event.{Event}
