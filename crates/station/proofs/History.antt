@@ -193,9 +193,9 @@ moves_on (m ∷ ms) s =
       legal = λ legal. rest.legal (one.legal legal);
     }
 
-pub always_legal : (c : Configured) (ms : List Move)
-    → IsLegal (opening c) (after ms (opened c)).book.rows
-always_legal c ms =
-    let on = moves_on ms (opened c) in
-    subst (λ (cf : Configured). IsLegal (opening cf) (after ms (opened c)).book.rows) on.grows.same
-    (on.legal tt)
+pub always_legal : (b : Book) (ms : List Move) → IsHistory b
+    → IsLegal (opening b.config) (after ms (opened b)).book.rows
+always_legal b ms legal =
+    let on = moves_on ms (opened b) in
+    subst (λ (c : Configured). IsLegal (opening c) (after ms (opened b)).book.rows) on.grows.same
+    (on.legal legal)

@@ -14,7 +14,6 @@ use Rattle.site_base.specs.declared.event.Event.TheVariants.{SignOff}
 use Rattle.site_base.specs.declared.refusal.Refusal.{Refusal}
 use Rattle.site_base.specs.declared.row.Row.{Row}
 use Rattle.site_base.specs.Checks.{value_or}
-use Rattle.site_base.specs.Configured.{Configured}
 use Rattle.app_message.specs.declared.fault.StreamFault.{StreamFault}
 use Rattle.app_message.specs.Spelling.{spelling}
 use Rattle.app_message.specs.Stream.{fed_by, held}
@@ -383,8 +382,8 @@ all_moves_own : (ms : List Move) (s : StationState) → AreOwn s → AreOwn (aft
 all_moves_own [] s all = all
 all_moves_own (m ∷ ms) s all = all_moves_own ms (after_move m s) (move_own m s all)
 
-pub always_own : (c : Configured) (ms : List Move) → AreOwn (after ms (opened c))
-always_own c ms = all_moves_own ms (opened c) (λ k x is. absurd (nobody k x is))
+pub always_own : (b : Book) (ms : List Move) → AreOwn (after ms (opened b))
+always_own b ms = all_moves_own ms (opened b) (λ k x is. absurd (nobody k x is))
   where
     nobody : (k : ℕ) (x : Session) → peer_at [] k ≡ Some x → ⊥
     nobody k x is = cc

@@ -4,12 +4,11 @@ use Rattle.std.specs.List.{AllByRecursion}
 use Rattle.site_base.specs.declared.event.Event.{Event}
 use Rattle.site_base.specs.declared.row.Row.{Row}
 use Rattle.site_base.specs.declared.view.PointView.{PointView}
-use Rattle.site_base.specs.Configured.{Configured}
 use Rattle.site_base.specs.Events.{has_change, point_named}
 use Rattle.app_message.specs.Stream.{fed_by}
 use Rattle.written_site.specs.SiteRun.{IsLegal}
 use Rattle.written_site.specs.SiteState.{is_signed_on, opening}
-use Rattle.site_book.specs.Book.{site_of_book}
+use Rattle.site_book.specs.Book.{Book, site_of_book}
 use Rattle.station.specs.declared.peer_end.PeerEnd.{PeerEnd}
 use Rattle.station.specs.Adding.{AddsRequests, AddsSignOff, is_silent}
 use Rattle.station.specs.Moves.{StationState, with_arrival, with_octets, without_peer}
@@ -29,26 +28,28 @@ EachPeerIsToldItsStory = (s : StationState) (k : ℕ) (ms : List Move)
     × IsTold s.book.config s.book.rows (after ms start).book.rows (heard_of k ms start)
     (told k ms start) x.end
 
--- The book's rows are one history: moves only add rows, and each reply is the written step's at the
--- site that the rows before it led to.
-pub record IsOneHistory (c : Configured) (ms : List Move) (more : List Move) : Type 0 where
-  pub legal : IsLegal (opening c) (after ms (opened c)).book.rows
+-- The book's rows are one history, whatever moves come at a station of a book whose rows are one:
+-- moves only add rows, and each reply is the written step's at the site that the rows before it led
+-- to.
+pub record IsOneHistory (b : Book) (ms more : List Move) : Type 0 where
+  pub legal : IsLegal (opening b.config) (after ms (opened b)).book.rows
   pub later : List Row
-  pub grows : (after more (after ms (opened c))).book.rows
-      ≡ (after ms (opened c)).book.rows ++ later
+  pub grows : (after more (after ms (opened b))).book.rows
+      ≡ (after ms (opened b)).book.rows ++ later
 
 abbrev pub RowsAreOneHistory : Type 0
-RowsAreOneHistory = (c : Configured) (ms more : List Move) → IsOneHistory c ms more
+RowsAreOneHistory = (b : Book) (ms more : List Move) → IsLegal (opening b.config) b.rows
+    → IsOneHistory b ms more
 
 -- Right behind the move with which a session ends, the till that it signed on and didn't sign off
 -- isn't signed on.
 abbrev pub EndsLeaveTheirTill : Type 0
-EndsLeaveTheirTill = (c : Configured) (ms : List Move) (m : Move) (k : ℕ) (x y : Session)
+EndsLeaveTheirTill = (b : Book) (ms : List Move) (m : Move) (k : ℕ) (x y : Session)
     (end : PeerEnd) (t : ℕ)
-    → peer_at (after ms (opened c)).peers k ≡ Some x → x.end ≡ None
-    → peer_at (after_move m (after ms (opened c))).peers k ≡ Some y → y.end ≡ Some end
+    → peer_at (after ms (opened b)).peers k ≡ Some x → x.end ≡ None
+    → peer_at (after_move m (after ms (opened b))).peers k ≡ Some y → y.end ≡ Some end
     → y.talk.on ≡ Some t
-    → is_signed_on (site_of_book (after_move m (after ms (opened c))).book) t ≡ false
+    → is_signed_on (site_of_book (after_move m (after ms (opened b))).book) t ≡ false
 
 -- .. nor is it where a peer is gone whose session lasted.
 abbrev pub PeersLeaveTheirTill : Type 0

@@ -1,7 +1,7 @@
 -- Lists of moves, from an opening station on: who sent what, and what was told.
 use Rattle.std.specs.Prelude.{◌≡◌, ℕ, ◌==◌, Bool, true, false, is_none, List, [], ◌∷◌, ◌++◌, take}
 use Rattle.std.specs.Prelude.{drop, Option, Some, None, if◌then◌else◌}
-use Rattle.site_base.specs.Configured.{Configured}
+use Rattle.site_book.specs.Book.{Book}
 use Rattle.station.specs.Moves.{StationState, with_arrival, with_end, with_octets, with_taken}
 use Rattle.station.specs.Moves.{without_peer}
 use Rattle.station.specs.Peers.{peer_at}
@@ -34,9 +34,9 @@ abbrev pub after : List Move → StationState → StationState
 after [] s = s
 after (m ∷ ms) s = after ms (after_move m s)
 
--- a station at an empty book, without peers
-abbrev pub opened : Configured → StationState
-opened c = record { book = record { config = c; rows = [] }; peers = [] }
+-- a station at this book, without peers
+abbrev pub opened : Book → StationState
+opened b = record { book = b; peers = [] }
 
 -- ---- one peer, until it leaves
 

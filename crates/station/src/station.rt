@@ -6,6 +6,7 @@ ghost use Rattle.station.specs.Moves.{with_arrival, with_end, with_octets, with_
 ghost use Rattle.station.specs.Moves.{without_peer};
 ghost use Rattle.station.specs.Peers.{peer_at};
 ghost use Rattle.station.specs.Reads.{Arrives, end_at, is_read_at, node_at, owed_at};
+ghost use Rattle.station.specs.Runs.{opened};
 ghost use Rattle.station.specs.Sessions.{Grants};
 
 use crate::hearing::{finish, hear};
@@ -50,7 +51,7 @@ impl Model for Station {
 impl Station {
     /// A station at this book, without peers. It takes no memory.
     pub fn new(alloc: Global, book: SiteBook) -> Station
-        ensures { result ≡ record { book = book; peers = [] } }
+        ensures { result ≡ opened book }
     {
         Station {
             alloc,
