@@ -45,6 +45,12 @@ fn notice_at<R: Abort>(
     encode(alloc, &change.expect(rt, "a change"))
 }
 
+/// Is the row at this place a sign-off?
+fn is_sign_off<R: Abort>(rt: &R, station: &Station, place: u64) -> bool {
+    let row = station.book().row(place).expect(rt, "a row");
+    row.event == Event::SignOff
+}
+
 /// Is the peer owed just these octets? They are taken then.
 fn is_owed(station: &mut Station, key: usize, octets: &[u8]) -> bool {
     let same = station.owed(key) == octets;
@@ -85,20 +91,27 @@ fn dispenser_hears_of_its_release(rt: HostRuntime) -> Result<(), Fail> {
     assert!(rt; station.take_news(0).is_none());
 
     // The till releases the point: the dispenser is told so.
-    let release = request(&rt, alloc, till, Event::Release(point, Preset::Money(2_000)))?;
+    let release = request(
+        &rt,
+        alloc,
+        till,
+        Event::Release(point, Preset::Money(2_000)),
+    )?;
     station.hear(t, &encode(alloc, &release)?);
     let told = reply_at(&rt, alloc, &station, 3, &release)?;
     assert!(rt; is_owed(&mut station, t, &told), "the reply to the release");
     let told = notice_at(&rt, alloc, &station, 3)?;
     assert!(rt; station.take_news(0) == Some(d));
     assert!(rt; station.take_news(0).is_none());
-    assert!(rt; is_owed(&mut station, d, &told), "the notice of the release");
+    assert!(rt;
+        is_owed(&mut station, d, &told),
+        "the notice of the release"
+    );
 
     // The till is gone: it is signed off.
     station.leave(t);
     assert!(rt; station.book().len() == 5);
-    let last = station.book().row(4).expect(&rt, "a row");
-    assert!(rt; last.event == Event::SignOff);
+    assert!(rt; is_sign_off(&rt, &station, 4), "the sign-off");
     assert!(rt; station.end(d).is_none());
     station.finish(d);
     assert!(rt; station.end(d) == Some(PeerEnd::Well));
