@@ -1,6 +1,6 @@
 -- Sixteen digits that are read as eight octets side by side.
 use Rattle.std.proofs.Common.{◌≡◌, ℕ, zero, suc, ◌+◌, ◌-◌, ◌*◌, ◌%◌, ◌<◌, ◌≤◌, ◌==◌, ◌&&◌, ◌||◌, nat_lt, Bool}
-use Rattle.std.proofs.Common.{true, false, List, [], ◌∷◌, ◌++◌, length, map, take, drop, get_or, Ok, Err}
+use Rattle.std.proofs.Common.{true, false, List, [], ◌∷◌, ◌++◌, length, map, drop, get_or, Ok, Err}
 use Rattle.std.proofs.Common.{Option, Some, None, unwrap_or, refl, sym, ap, ◌∙◌, arith, inl, inr}
 use Rattle.std.proofs.Common.{Fits, w8, Result}
 use Rattle.std.proofs.Math.Nat.{mod-eq_of_lt}
@@ -10,12 +10,11 @@ use Rattle.std.proofs.lemmas.Simd.{get_or-chunk, length-chunk, none_from_empty_m
 use Rattle.std.proofs.lemmas.Simd.{get_or-put_chunk_at, get_or-put_chunk_below}
 use lib.Lanes.{chunk}
 use Rattle.std.specs.Simd.Lanes.{mask_l, put_chunk}
-use Rattle.hex.specs.Hex.{decode_of, decode_pairs, digit_or_error, hex_digit_value, pair_value}
-use Rattle.hex.specs.Hex.{◌>>=◌}
+use Rattle.hex.specs.Hex.{decode_of, decode_pairs, hex_digit_value, pair_value}
 use Rattle.hex.specs.declared.error.FromHexError.{FromHexError}
 use Rattle.hex.proofs.Pairs.{cons_byte, decode_pairs-ok_pair, drop-pair, prepend}
 use Rattle.forecourt_engines.specs.SideBySide.{IsRead, digit_value, is_other}
-use Rattle.forecourt_engines.proofs.LaneLemmas.{all_below, at_below}
+use Rattle.forecourt_engines.proofs.LaneLemmas.{at_below}
 
 -- ---- one digit
 

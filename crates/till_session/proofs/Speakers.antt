@@ -1,7 +1,7 @@
 -- Who speaks in a session, and which till it signed on.
 use Rattle.std.proofs.Common.{◌≡◌, ℕ, Bool, true, false, cond, not, List, Option, Some, None, Ok}
-use Rattle.std.proofs.Common.{Err, refl, sym, ap, ◌∙◌}
-use Rattle.std.specs.Prelude.{◌&&◌, ◌==◌, slice_index, IfSome}
+use Rattle.std.proofs.Common.{Err, Result, refl, sym, ap, ◌∙◌}
+use Rattle.std.specs.Prelude.{◌&&◌, ◌==◌, if◌then◌else◌, slice_index, IfSome}
 use Rattle.std.proofs.lemmas.Bool.{eq-eqb}
 use Rattle.site_base.specs.declared.actor.Actor.{Actor}
 use Rattle.site_base.specs.declared.actor.Actor.TheVariants.{Till, Dispenser}
@@ -12,6 +12,7 @@ use Rattle.site_base.specs.Ranges.{is_between}
 use Rattle.app_message.specs.declared.kind.Kind.{Kind}
 use Rattle.app_message.specs.declared.kind.Kind.TheVariants as kinds
 use Rattle.app_message.specs.Telegram.{Telegram}
+use Rattle.device_map.specs.declared.fault.MapFault.{MapFault}
 use Rattle.device_map.specs.declared.fault.MapFault.TheVariants.{BadOriginator}
 use Rattle.device_map.specs.declared.ids.TheConstants as ids
 use Rattle.device_map.specs.Nodes.{actor_at, dispenser_at, for_us, is_request, till_at}
@@ -20,19 +21,30 @@ use Rattle.device_map.specs.Addresses.{database_at}
 use Rattle.device_map.proofs.Results.{bind_ok, passed, equal, ok_is}
 use Rattle.till_session.specs.Counters.{Outcome, is_the_one, owed_by, signed_by}
 use Rattle.till_session.specs.Course.{IsOwn, IsSpokenBy}
-use Rattle.till_session.specs.Text.{is_another, is_same_node, peer_after}
+use Rattle.till_session.specs.Text.{as_meaning, is_another, is_same_node, meaning_at, peer_after}
+use Rattle.till_session.specs.declared.talk.Meaning.{Meaning}
+use Rattle.till_session.specs.declared.talk.Meaning.TheVariants as meanings
 
 -- ---- a till speaks from the node of its number
 
-by_till : (from : List ℕ) (t : ℕ) → till_at from ≡ Ok (Till t) → slice_index from 1 ≡ t
+by_till : (from : List ℕ) (t : ℕ) → till_at from ≡ Ok (Till t) → IsOwn (Some t) (Some from)
 unfolding till_at
 by_till from t is =
     let test =
     passed (slice_index from 0 == ids.TILL_SUBNET && is_between 1 TILLS (slice_index from 1))
     BadOriginator (Ok (Till (slice_index from 1))) (Till t) is in
-    let same = ok_is (Till (slice_index from 1)) (Till t) test.1 in cc
+    let same = ok_is (Till (slice_index from 1)) (Till t) test.1 in
+    let subnet = equal (slice_index from 0) ids.TILL_SUBNET
+    (first (slice_index from 0 == ids.TILL_SUBNET) (is_between 1 TILLS (slice_index from 1))
+    test.0) in
+    (subnet, cc)
+  where
+    first : (a b : Bool) → (a && b) ≡ true → a ≡ true
+    first true b is = refl
+    first false b is = absurd cc
 
-no_dispenser : (from : List ℕ) (t : ℕ) → dispenser_at from ≡ Ok (Till t) → slice_index from 1 ≡ t
+no_dispenser : (from : List ℕ) (t : ℕ) → dispenser_at from ≡ Ok (Till t)
+    → IsOwn (Some t) (Some from)
 unfolding dispenser_at
 no_dispenser from t is =
     let test =
@@ -41,7 +53,7 @@ no_dispenser from t is =
     let same = ok_is (Dispenser (slice_index from 1)) (Till t) test.1 in absurd cc
 
 by_kind : (kind : Kind) (from : List ℕ) (t : ℕ) → actor_at kind from ≡ Ok (Till t)
-    → slice_index from 1 ≡ t
+    → IsOwn (Some t) (Some from)
 by_kind kinds.Read from t is = by_till from t is
 by_kind kinds.Write from t is = by_till from t is
 by_kind kinds.Report from t is = no_dispenser from t is
@@ -65,12 +77,20 @@ both true b is = is
 both false b is = absurd cc
 
 not_another : (peer from : List ℕ) → is_another (Some peer) from ≡ false
-    → slice_index peer 1 ≡ slice_index from 1
+    → (slice_index peer 0 ≡ slice_index from 0) × (slice_index peer 1 ≡ slice_index from 1)
 not_another peer from is =
-    equal (slice_index peer 1) (slice_index from 1)
-    (both (slice_index peer 0 == slice_index from 0) (slice_index peer 1 == slice_index from 1)
-    (kept (is_same_node peer from) is))
+    let same = kept (is_same_node peer from) is in (
+      equal (slice_index peer 0) (slice_index from 0)
+          (one (slice_index peer 0 == slice_index from 0)
+          (slice_index peer 1 == slice_index from 1) same),
+      equal (slice_index peer 1) (slice_index from 1)
+          (both (slice_index peer 0 == slice_index from 0)
+          (slice_index peer 1 == slice_index from 1) same),
+    )
   where
+    one : (a b : Bool) → (a && b) ≡ true → a ≡ true
+    one true b is = refl
+    one false b is = absurd cc
     kept : (b : Bool) → not b ≡ false → b ≡ true
     kept true is = refl
     kept false is = absurd cc
@@ -81,9 +101,65 @@ pub spoken_by : (peer : Option (List ℕ)) (m : Telegram) (actor : Actor) (event
     → IsSpokenBy actor (peer_after peer m.from)
 spoken_by None m (Till t) event same is = by_kind m.kind m.from t (asked_by m (Till t) event is)
 spoken_by (Some peer) m (Till t) event same is =
-    not_another peer m.from same ∙ by_kind m.kind m.from t (asked_by m (Till t) event is)
+    let there = by_kind m.kind m.from t (asked_by m (Till t) event is) in
+    let one = not_another peer m.from same in
+    (one.0 ∙ there.0, one.1 ∙ there.1)
 spoken_by None m (Dispenser p) event same is = tt
 spoken_by (Some peer) m (Dispenser p) event same is = tt
+
+-- ---- what a message means
+
+pub meant : (peer : Option (List ℕ)) (m : Telegram) (meaning : Meaning)
+    → is_another peer m.from ≡ false → as_meaning (request_at m) ≡ meaning
+    → meaning_at peer m ≡ meaning
+meant peer m meaning same is = rw same is
+
+-- another originator speaks, and nobody else begins to
+pub another_meant : (peer : Option (List ℕ)) (m : Telegram) → meaning_at peer m ≡ meanings.Another
+    → is_another peer m.from ≡ true
+another_meant peer m is = by_test (is_another peer m.from) (request_at m) is
+  where
+    by_test : (b : Bool) (r : Result (Actor × Event) MapFault)
+        → (if b then meanings.Another else as_meaning r) ≡ meanings.Another → b ≡ true
+    by_test true r is = refl
+    by_test false (Ok request) is = absurd cc
+    by_test false (Err f) is = absurd cc
+
+pub same_peer : (peer : Option (List ℕ)) (from : List ℕ) → is_another peer from ≡ true
+    → peer_after peer from ≡ peer
+same_peer None from is = absurd cc
+same_peer (Some node) from is = refl
+
+-- a message of the one that the session serves, which means no event
+pub fault_meant : (peer : Option (List ℕ)) (m : Telegram) (f : MapFault)
+    → meaning_at peer m ≡ meanings.Fault f
+    → (is_another peer m.from ≡ false) × (request_at m ≡ Err f)
+fault_meant peer m f is = by_test (is_another peer m.from) (request_at m) is
+  where
+    by_test : (b : Bool) (r : Result (Actor × Event) MapFault)
+        → (if b then meanings.Another else as_meaning r) ≡ meanings.Fault f
+        → (b ≡ false) × (r ≡ Err f)
+    by_test true r is = absurd cc
+    by_test false (Ok request) is = absurd cc
+    by_test false (Err g) is = (refl, cc)
+
+-- .. which is a request
+pub request_meant : (peer : Option (List ℕ)) (m : Telegram) (actor : Actor) (event : Event)
+    → meaning_at peer m ≡ meanings.Request actor event
+    → (is_another peer m.from ≡ false) × (request_at m ≡ Ok (actor, event))
+request_meant peer m actor event is = by_test (is_another peer m.from) (request_at m) is
+  where
+    by_test : (b : Bool) (r : Result (Actor × Event) MapFault)
+        → (if b then meanings.Another else as_meaning r) ≡ meanings.Request actor event
+        → (b ≡ false) × (r ≡ Ok (actor, event))
+    by_test true r is = absurd cc
+    by_test false (Ok request) is =
+        let a : request.0 ≡ actor = cc in
+        let e : request.1 ≡ event = cc in
+        let same : request ≡ (actor, event) =
+        ap (λ (x : Actor). (x, request.1)) a ∙ ap (λ (x : Event). (actor, x)) e in
+        (refl, ap (λ (r : Actor × Event). Ok r) same)
+    by_test false (Err g) is = absurd cc
 
 -- ---- the till that a session signed on is the one that it serves
 
@@ -129,7 +205,7 @@ two_tills : (t : ℕ) (on : Option ℕ) (peer : Option (List ℕ)) (u : ℕ) →
 two_tills t None peer u own spoken other = refl
 two_tills t (Some s) None u own spoken other = absurd own
 two_tills t (Some s) (Some node) u own spoken other =
-    let same : s ≡ t = sym own ∙ spoken in rw same other
+    let same : s ≡ t = sym own.1 ∙ spoken.1 in rw same other
 
 debt_set : (b owed : Bool) (old : Bool) → (b ≡ false → old ≡ false) → cond b owed old ≡ (b && owed)
 debt_set true owed old other = refl

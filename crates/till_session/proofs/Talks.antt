@@ -45,7 +45,7 @@ answers_joined a b more =
     ap (λ os. os ++ more) (map-append outcome_given a b)
     ∙ append_assoc (map outcome_given a) (map outcome_given b) more
 
-on_then : (p q r : Option (List ℕ)) (ms ns : List Telegram) (a b : List Asked) (s t : List ℕ)
+pub on_then : (p q r : Option (List ℕ)) (ms ns : List Telegram) (a b : List Asked) (s t : List ℕ)
     → GoesOn p q ms a s → GoesOn q r ns b t → GoesOn p r (ms ++ ns) (a ++ b) (s ++ t)
 on_then p q r ms ns a b s t one two = record {
   text = λ last later more.
@@ -61,7 +61,7 @@ on_then p q r ms ns a b s t one two = record {
   changes = λ later. rw (append_assoc ms ns later) (one.changes (ns ++ later) ∙ two.changes later);
 }
 
-over_then : (p q : Option (List ℕ)) (ms ns : List Telegram) (a b : List Asked) (s t : List ℕ)
+pub over_then : (p q : Option (List ℕ)) (ms ns : List Telegram) (a b : List Asked) (s t : List ℕ)
     → GoesOn p q ms a s → IsOver q ns b t → IsOver p (ms ++ ns) (a ++ b) (s ++ t)
 over_then p q ms ns a b s t one two = record {
   text = λ last later more.

@@ -10,11 +10,14 @@ use Rattle.site_base.specs.Devices.{one_more, AppendsFront}
 use Rattle.app_message.specs.declared.fault.StreamFault.{StreamFault}
 use Rattle.app_message.specs.Spelling.{spelling}
 use Rattle.app_message.specs.Telegram.{Telegram}
+use Rattle.device_map.specs.declared.ids.TheConstants.{TILL_SUBNET}
 use Rattle.device_map.specs.Replies.{fault_message}
 use Rattle.till_session.specs.declared.fault.SessionFault.{SessionFault}
 use Rattle.till_session.specs.declared.fault.SessionFault.TheVariants as faults
 use Rattle.till_session.specs.declared.fault.TalkFault.TheVariants as talk
 use Rattle.till_session.specs.declared.fault.TalkFault.TheVariants.{OriginatorChanged}
+use Rattle.till_session.specs.declared.talk.Meaning.{Meaning}
+use Rattle.till_session.specs.declared.talk.Meaning.TheVariants as meanings
 use Rattle.till_session.specs.Counters.{Asked, Outcome, is_the_one, outcome_given, owed_by}
 use Rattle.till_session.specs.Counters.{request_asked, row_made, rows_made, signed_by}
 use Rattle.till_session.specs.Counters.{signed_on_after}
@@ -30,16 +33,21 @@ pub record TalkState : Type 0 where
 abbrev pub silent : TalkState
 silent = record { peer = None; on = None; asked = 0 }
 
--- the till that it signed on is the one that it serves
+-- the till that it signed on is the one that it serves: it speaks from that till's node
 abbrev pub IsOwn : Option ℕ → Option (List ℕ) → Type 0
 IsOwn None peer = Unit {0}
 IsOwn (Some t) None = ⊥
-IsOwn (Some t) (Some node) = slice_index node 1 ≡ t
+IsOwn (Some t) (Some node) = (slice_index node 0 ≡ TILL_SUBNET) × (slice_index node 1 ≡ t)
 
 -- a till that speaks is the one that the session serves
 abbrev pub IsSpokenBy : Actor → Option (List ℕ) → Type 0
 IsSpokenBy (Till t) peer = IsOwn (Some t) peer
 IsSpokenBy (Dispenser p) peer = Unit {0}
+
+-- whoever asks so is the one that the session serves
+abbrev pub IsRequestOf : Option (List ℕ) → Meaning → Type 0
+IsRequestOf peer (meanings.Request actor event) = IsSpokenBy actor peer
+IsRequestOf peer meaning = Unit {0}
 
 -- it ends a session in the middle of a reply: a failed allocation, a writer that takes no more
 abbrev pub ends_early : SessionFault → Bool

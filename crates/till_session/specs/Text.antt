@@ -16,6 +16,8 @@ use Rattle.device_map.specs.Requests.{request_at}
 use Rattle.till_session.specs.declared.fault.TheConstants.{ORIGINATOR_CHANGED}
 use Rattle.till_session.specs.declared.fault.TalkFault.{TalkFault}
 use Rattle.till_session.specs.declared.fault.TalkFault.TheVariants as faults
+use Rattle.till_session.specs.declared.talk.Meaning.{Meaning}
+use Rattle.till_session.specs.declared.talk.Meaning.TheVariants as meanings
 use Rattle.till_session.specs.Counters.{Outcome}
 
 -- ---- whom a session serves
@@ -34,6 +36,18 @@ is_another (Some peer) from = not (is_same_node peer from)
 abbrev pub peer_after : Option (List ℕ) → List ℕ → Option (List ℕ)
 peer_after None from = Some from
 peer_after (Some peer) from = Some peer
+
+-- ---- what a message means
+
+-- a request, or the fault of a message that means no event
+abbrev pub as_meaning : Result (Actor × Event) MapFault → Meaning
+as_meaning (Ok request) = meanings.Request request.0 request.1
+as_meaning (Err f) = meanings.Fault f
+
+-- what a message means to a session that serves this originator
+abbrev pub meaning_at : Option (List ℕ) → Telegram → Meaning
+meaning_at peer m =
+    if is_another peer m.from then meanings.Another else as_meaning (request_at m)
 
 -- ---- what is said to a message
 

@@ -18,6 +18,7 @@ pub mod testing;
 pub use accept::{Accept, NoConnection};
 pub use counter::Counter;
 pub use desk_counter::DeskCounter;
-pub use fault::{SessionFault, TalkFault};
+pub use fault::{ORIGINATOR_CHANGED, SessionFault, TalkFault};
 pub use server::{SESSIONS, serve};
 pub use session::{Session, SessionEnd};
+pub use talk::{Meaning, Talk, reply_to};

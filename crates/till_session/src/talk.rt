@@ -9,13 +9,14 @@ ghost use Rattle.app_message.specs.Spelling.{spelling};
 ghost use Rattle.device_map.specs.Replies.{fault_message};
 ghost use Rattle.till_session.specs.Counters.{owed_by, row_made, signed_by};
 ghost use Rattle.till_session.specs.Course.{silent, ends_early, ends_talk, AsksOnce, EndsStream};
-ghost use Rattle.till_session.specs.Course.{IsOwn, IsSpokenBy, Talked};
-ghost use Rattle.till_session.specs.Text.{is_another, peer_after, outcome_text, number_text};
+ghost use Rattle.till_session.specs.Course.{IsOwn, IsRequestOf, IsSpokenBy, Talked};
+ghost use Rattle.till_session.specs.Text.{is_another, meaning_at, peer_after, outcome_text};
+ghost use Rattle.till_session.specs.Text.{number_text};
 
 use crate::counter::Counter;
 use crate::fault::{ORIGINATOR_CHANGED, SessionFault, TalkFault};
 use app_message::{Message, StreamFault, encode_into};
-use device_map::{refusal_in, reply_in, request_of, stream_refusal};
+use device_map::{MapFault, refusal_in, reply_in, request_of, stream_refusal};
 use site_base::{
     Actor, Counted, Event, NoMemory, NoRow, Reply, SignChange, TillNo, WriteFault, sign_change,
     write_whole,
@@ -25,11 +26,26 @@ use std::io::Write;
 use std::marker::Model;
 use std::mem;
 
+/// What a message means to a session.
+#[derive(Clone, Copy, Debug, PartialEq, Eq)]
+pub enum Meaning {
+    /// It comes from another originator than the first message, which ends the session.
+    Another,
+    /// It means no event.
+    Fault(MapFault),
+    /// The actor asks for the event.
+    Request(Actor, Event),
+}
+
 /// What a session keeps between two messages: whom it serves, the till that it signed on and didn't
 /// sign off, and how many requests it asked. Beside that it has buffers that stay: for a reply's
 /// body, and for the octets that are written.
+///
+/// It knows no connection and no counter. Whoever has messages takes each one's meaning, finds what
+/// is answered to it, notes that, and tells it: `Session::run` does so over a reader, a writer and
+/// a counter, and the station over octets.
 #[derive(Drop)]
-pub(crate) struct Talk {
+pub struct Talk {
     alloc: Global,
     peer: Option<[u8; 2]>,
     on: Option<TillNo>,
@@ -50,7 +66,7 @@ impl Model for Talk {
 
 impl Talk {
     /// Before the first message. It takes no memory.
-    pub(crate) fn new(alloc: Global) -> Talk
+    pub fn new(alloc: Global) -> Talk
         ensures { result ≡ silent }
     {
         Talk {
@@ -63,15 +79,23 @@ impl Talk {
         }
     }
 
-    /// The till that was signed on and not signed off.
-    pub(crate) fn till(&self) -> Option<TillNo>
-        ensures { result ≡ self.now.on }
+    /// The originator of the first message, whom the session serves.
+    pub fn peer(&self) -> Option<[u8; 2]>
+        ensures { result ≡ self.now.peer }
+    {
+        self.peer
+    }
+
+    /// The till that was signed on and not signed off: the one that the session serves.
+    pub fn till(&self) -> Option<TillNo>
+        ensures till { result ≡ self.now.on }
+        ensures own { IsOwn self.now.on self.now.peer }
     {
         self.on
     }
 
     /// The number of requests asked.
-    pub(crate) fn request_count(&self) -> u64
+    pub fn request_count(&self) -> u64
         ensures { result ≡ self.now.asked }
     {
         self.asked
@@ -169,14 +193,33 @@ impl Talk {
             → Rose (failures_of writer.old) (failures_of writer.new) }
         ensures turns { turns.new ≤ turns.old }
     {
+        match self.take_meaning(message) {
+            Meaning::Another => {
+                self.refuse(writer, message, ORIGINATOR_CHANGED, turns)?;
+                Err(SessionFault::Talk(TalkFault::OriginatorChanged))
+            }
+            Meaning::Fault(fault) => self.refuse(writer, message, fault.number(), turns),
+            Meaning::Request(actor, event) => {
+                self.serve(counter, writer, message, actor, event, turns)
+            }
+        }
+    }
+
+    /// Takes what a message means. The first one's originator is whom the session serves; whoever
+    /// asks for an event is that one.
+    pub fn take_meaning(&mut self, message: &Message) -> Meaning
+        ensures meaning { result ≡ meaning_at self.old.peer message.now }
+        ensures peer { self.new
+            ≡ record self.old { peer = peer_after self.old.peer message.now.from } }
+        ensures spoken { IsRequestOf self.new.peer result }
+    {
         if self.is_another(message.from()) {
-            self.refuse(writer, message, ORIGINATOR_CHANGED, turns)?;
-            return Err(SessionFault::Talk(TalkFault::OriginatorChanged));
+            return Meaning::Another;
         }
         self.bind_peer(message.from());
         match request_of(message) {
-            Ok((actor, event)) => self.serve(counter, writer, message, actor, event, turns),
-            Err(fault) => self.refuse(writer, message, fault.number(), turns),
+            Ok((actor, event)) => Meaning::Request(actor, event),
+            Err(fault) => Meaning::Fault(fault),
         }
     }
 
@@ -274,7 +317,7 @@ impl Talk {
     }
 
     /// A request was asked and answered so.
-    fn note(&mut self, actor: &Actor, event: &Event, outcome: &Result<Reply, NoRow>)
+    pub fn note(&mut self, actor: &Actor, event: &Event, outcome: &Result<Reply, NoRow>)
         requires { IsSpokenBy actor.now self.old.peer }
         ensures peer { self.new.peer ≡ self.old.peer }
         ensures own { IsOwn self.old.on self.old.peer }
@@ -298,8 +341,9 @@ impl Talk {
     }
 }
 
-/// The message that tells what a request was answered: its reply, or why there is no row.
-fn reply_to(
+/// The message that tells what a request was answered: its reply, or why there is no row. It is
+/// written into this buffer, whose content goes. The buffer is lost after `NoMemory`.
+pub fn reply_to(
     room: Vec<u8>,
     message: &Message,
     outcome: &Result<Reply, NoRow>,

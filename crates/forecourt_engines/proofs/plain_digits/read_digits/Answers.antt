@@ -1,4 +1,4 @@
-use Rattle.std.proofs.Common.{◌≡◌, ◌+◌, ◌-◌, ◌*◌, ◌<◌, length, arith}
+use Rattle.std.proofs.Common.{◌≡◌, ◌*◌, length, arith}
 use Rattle.forecourt_engines.proofs.EightOctets.{all_read}
 use Rattle.forecourt_engines.proofs.plain_digits.read_digits.Goals as goal
 

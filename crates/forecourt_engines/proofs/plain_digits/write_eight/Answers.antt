@@ -1,4 +1,4 @@
-use Rattle.std.proofs.Common.{◌*◌, ℕ, List, refl}
+use Rattle.std.proofs.Common.{ℕ, List, refl}
 use Rattle.std.proofs.lemmas.Simd.{length-chunk}
 use lib.Lanes.{chunk}
 use Rattle.forecourt_engines.proofs.SixteenDigits.{eight_more, eight_written}

@@ -1,0 +1,13 @@
+pub mod Peers
+pub mod Notices
+pub mod Turns
+pub mod Stories
+pub mod Quiet
+pub mod Lives
+pub mod Courses
+pub mod SlotSessions
+pub mod Answering
+pub mod Leaving
+pub mod History
+pub mod Adding
+pub mod Standings

@@ -1,0 +1,622 @@
+-- A session in its course, message after message and piece after piece, and how it ends.
+use Rattle.std.proofs.Common.{◌≡◌, ◌⊎◌, inl, inr, ℕ, Bool, true, false, List, [], ◌∷◌, ◌++◌, map}
+use Rattle.std.proofs.Common.{Option, Some, None, Ok, Err, refl, ap, sym, subst, ◌∙◌, append_assoc}
+use Rattle.std.proofs.Common.{append-nil}
+use Rattle.std.specs.Prelude.{if◌then◌else◌, is_none, length, nat_lt}
+use Rattle.site_base.specs.declared.actor.Actor.{Actor}
+use Rattle.site_base.specs.declared.event.Event.{Event}
+use Rattle.site_base.specs.declared.row.Row.{Row}
+use Rattle.site_base.specs.Configured.{Configured}
+use Rattle.app_message.specs.declared.fault.StreamFault.{StreamFault}
+use Rattle.app_message.specs.Spelling.{spelling}
+use Rattle.app_message.specs.Stream.{Held, Stream, fed_by, held, held_after, stream_of, walked}
+use Rattle.app_message.specs.Telegram.{Telegram}
+use Rattle.app_message.proofs.Cutting.{any_cut}
+use Rattle.device_map.specs.declared.fault.MapFault.{MapFault}
+use Rattle.device_map.specs.Changes.{change_of}
+use Rattle.device_map.specs.Faults.{map_number}
+use Rattle.device_map.specs.Replies.{fault_message}
+use Rattle.device_map.specs.Requests.{request_at}
+use Rattle.site_book.specs.Book.{Book}
+use Rattle.till_session.specs.declared.fault.SessionFault.TheVariants as faults
+use Rattle.till_session.specs.declared.fault.TalkFault.{TalkFault}
+use Rattle.till_session.specs.declared.fault.TalkFault.TheVariants as talk
+use Rattle.till_session.specs.declared.fault.TheConstants.{ORIGINATOR_CHANGED}
+use Rattle.till_session.specs.declared.talk.Meaning.{Meaning}
+use Rattle.till_session.specs.declared.talk.Meaning.TheVariants as meanings
+use Rattle.till_session.specs.Counters.{Asked, outcome_given, request_asked, row_made, rows_made}
+use Rattle.till_session.specs.Course.{TalkState}
+use Rattle.till_session.specs.Text.{is_another, left_over, meaning_at, messages_text, number_text}
+use Rattle.till_session.specs.Text.{outcome_text, peer_after, refusal_text, requests_in}
+use Rattle.till_session.proofs.Speakers.{another_meant, fault_meant, request_meant, spoken_by}
+use Rattle.till_session.proofs.Talks.{another_over, answered_on, over_then, refused_on}
+use Rattle.station.specs.declared.peer_end.PeerEnd.{PeerEnd}
+use Rattle.station.specs.declared.peer_end.PeerEnd.TheVariants as ends
+use Rattle.station.specs.declared.sizes.TheConstants.{NOTICE_LIMIT}
+use Rattle.station.specs.Notices.{notice_at, notices_of, octets_of, row_notice}
+use Rattle.station.specs.Peers.{listener, noticed, noticed_all, noticed_by}
+use Rattle.station.specs.Sessions.{Granted, Grants, Session, Turn, answered, answered_all}
+use Rattle.station.specs.Sessions.{answered_by, answered_so, end_by, ended, finished, granted, heard}
+use Rattle.station.specs.Sessions.{no_memory}
+use Rattle.station.specs.Sessions.{opening_text, outcome_at, owing, refused_by, served, taken}
+use Rattle.station.specs.Sessions.{told, told_last, with_outcome}
+use Rattle.station.specs.Stories.{AreAsked, Happening, asked_in, book_of, is_whole}
+use Rattle.station.specs.Stories.{messages_in, rows_in, said_in, told_in}
+use Rattle.station.proofs.Quiet.{own_quiet}
+use Rattle.station.proofs.Stories.{AreOwnQuiet, IsLiving}
+use Rattle.station.proofs.Stories.{passes, speaks}
+use Rattle.station.proofs.Turns.{Grows, grows_none, grows_then, left-grows, outcome-grows}
+
+-- a session that ended so: its text is that of these messages and of what stands last
+pub record IsDone (c : Configured) (before : List Row) (had : List ℕ) (all : List Telegram)
+    (last : List ℕ) (end : PeerEnd) (b : Book) (x : Session) : Type 0 where
+  pub story : List Happening
+  pub refusal : List ℕ
+  pub late : List Row
+  pub rows : b.rows ≡ (before ++ rows_in story) ++ late
+  pub told : had ++ x.owed ≡ told_in c before None story ++ refusal
+  pub unanswered : List Telegram
+  pub messages : all ≡ messages_in story ++ unanswered
+  pub asked : AreAsked story
+  pub quiet : AreOwnQuiet None story
+  pub unsaid : List ℕ
+  pub text : messages_text last None all (map outcome_given (asked_in story))
+      ≡ (said_in None story ++ refusal) ++ unsaid
+  pub unasked : List (Actor × Event)
+  pub requests : requests_in None all ≡ map request_asked (asked_in story) ++ unasked
+  pub whole : is_whole (Some end) ≡ true → (unsaid ≡ []) × (unasked ≡ [])
+  pub over : x.end ≡ Some end
+
+-- a session that lasts in these messages, or has ended
+abbrev pub Came : Configured → List Row → List ℕ → List Telegram → List Telegram → List ℕ → Book
+    → Session → Type 0
+Came c before had done all last b x =
+    IsLiving c before had done b x
+    ⊎ ((end : PeerEnd) × IsDone c before had all last end b x)
+
+-- ---- its ends
+
+-- there was no memory for what comes next
+pub stops : (c : Configured) (before : List Row) (had : List ℕ) (done later : List Telegram)
+    (last : List ℕ) (b b' : Book) (x x' : Session)
+    → IsLiving c before had done b x → Grows b b' → x'.owed ≡ x.owed → x'.end ≡ Some no_memory
+    → IsDone c before had (done ++ later) last no_memory b' x'
+stops c before had done later last b b' x x' l g owed over = record {
+  story = l.story;
+  refusal = [];
+  late = g.more;
+  rows = g.rows ∙ ap (λ rs. rs ++ g.more) l.rows;
+  told =
+      ap (λ o. had ++ o) owed ∙ l.told ∙ sym (append-nil (told_in c before None l.story));
+  unanswered = later;
+  messages = ap (λ ms. ms ++ later) (sym l.messages);
+  asked = l.asked;
+  quiet = l.quiet;
+  unasked = requests_in x.talk.peer later;
+  requests = l.said.requests later;
+  unsaid = messages_text last x.talk.peer later [];
+  text =
+      ap (messages_text last None (done ++ later))
+      (sym (append-nil (map outcome_given (asked_in l.story))))
+      ∙ l.said.text last later []
+      ∙ ap (λ s. s ++ messages_text last x.talk.peer later [])
+      (sym (append-nil (said_in None l.story)));
+  whole = λ is. absurd cc;
+  over = over;
+}
+
+-- all its messages were answered, and what stands last was told
+pub closes : (c : Configured) (before : List Row) (had : List ℕ) (done : List Telegram)
+    (last : List ℕ) (end : PeerEnd) (b b' : Book) (x x' : Session)
+    → IsLiving c before had done b x → Grows b b' → x'.owed ≡ x.owed ++ last → x'.end ≡ Some end
+    → IsDone c before had done last end b' x'
+closes c before had done last end b b' x x' l g owed over = record {
+  story = l.story;
+  refusal = last;
+  late = g.more;
+  rows = g.rows ∙ ap (λ rs. rs ++ g.more) l.rows;
+  told =
+      ap (λ o. had ++ o) owed ∙ sym (append_assoc had x.owed last)
+      ∙ ap (λ t. t ++ last) l.told;
+  unanswered = [];
+  messages = sym (append-nil (messages_in l.story) ∙ l.messages);
+  asked = l.asked;
+  quiet = l.quiet;
+  unasked = [];
+  requests = (let all = l.said.requests [] in rw (append-nil done) at all);
+  unsaid = [];
+  text =
+      (let whole = l.said.text last [] [] in
+      rw (append-nil done, append-nil (map outcome_given (asked_in l.story))) at whole)
+      ∙ sym (append-nil (said_in None l.story ++ last));
+  whole = λ is. (refl, refl);
+  over = over;
+}
+
+-- another originator spoke, and was told so
+another_closes : (c : Configured) (before : List Row) (had : List ℕ) (done later : List Telegram)
+    (m : Telegram) (last : List ℕ) (end : PeerEnd) (b b' : Book) (x x' : Session)
+    → IsLiving c before had done b x → is_another x.talk.peer m.from ≡ true → Grows b b'
+    → x'.owed ≡ x.owed ++ number_text m ORIGINATOR_CHANGED → x'.end ≡ Some end
+    → IsDone c before had (done ++ m ∷ later) last end b' x'
+another_closes c before had done later m last end b b' x x' l other g owed over =
+    let n = number_text m ORIGINATOR_CHANGED in
+    let is_over = over_then None x.talk.peer done (m ∷ []) (asked_in l.story) [] (said_in None
+    l.story) n l.said (another_over x.talk.peer m other) in
+    record {
+      story = l.story;
+      refusal = n;
+      late = g.more;
+      rows = g.rows ∙ ap (λ rs. rs ++ g.more) l.rows;
+      told =
+          ap (λ o. had ++ o) owed ∙ sym (append_assoc had x.owed n)
+          ∙ ap (λ t. t ++ n) l.told;
+      unanswered = m ∷ later;
+      messages = ap (λ ms. ms ++ m ∷ later) (sym l.messages);
+      asked = l.asked;
+      quiet = l.quiet;
+      unasked = [];
+      requests =
+          (let all = is_over.requests later in
+          rw (append_assoc done (m ∷ []) later, append-nil (asked_in l.story)) at all)
+          ∙ sym (append-nil (map request_asked (asked_in l.story)));
+      unsaid = [];
+      text =
+          (let whole = is_over.text last later [] in
+          rw (
+            append_assoc done (m ∷ []) later,
+            append-nil (asked_in l.story),
+            append-nil (map outcome_given (asked_in l.story)),
+          ) at whole)
+          ∙ sym (append-nil (said_in None l.story ++ n));
+      whole = λ is. (refl, refl);
+      over = over;
+    }
+
+-- ---- a message
+
+abbrev another_end : PeerEnd
+another_end = ends.Fault (faults.Talk talk.OriginatorChanged)
+
+lasting_answer : (g : Granted) (m : Telegram) (t : Turn) → t.session.end ≡ None
+    → answered g m t ≡ answered_by g m (meaning_at t.session.talk.peer m) t
+lasting_answer g m t lasts =
+    ap (λ e. if is_none e then answered_by g m (meaning_at t.session.talk.peer m) t else t) lasts
+
+another_answered : (c : Configured) (before : List Row) (had : List ℕ) (done later : List Telegram)
+    (m : Telegram) (last : List ℕ) (memory : Bool) (t : Turn)
+    → IsLiving c before had done t.book t.session → is_another t.session.talk.peer m.from ≡ true
+    → (end : PeerEnd) × IsDone c before had (done ++ m ∷ later) last end
+    (told_last memory (number_text m ORIGINATOR_CHANGED) another_end t).book
+    (told_last memory (number_text m ORIGINATOR_CHANGED) another_end t).session
+another_answered c before had done later m last true t l other = (
+  another_end,
+  another_closes c before had done later m last another_end t.book _ t.session _ l other
+      (left-grows t.session.talk.on t.book) refl refl,
+)
+another_answered c before had done later m last false t l other = (
+  no_memory,
+  stops c before had done (m ∷ later) last t.book _ t.session _ l
+      (left-grows t.session.talk.on t.book) refl refl,
+)
+
+fault_answered : (c : Configured) (before : List Row) (had : List ℕ) (done later : List Telegram)
+    (m : Telegram) (last : List ℕ) (f : MapFault) (memory : Bool) (t : Turn)
+    → IsLiving c before had done t.book t.session
+    → is_another t.session.talk.peer m.from ≡ false → request_at m ≡ Err f
+    → Came c before had (done ++ m ∷ []) (done ++ m ∷ later) last
+    (told memory (number_text m (map_number f) ++ opening_text t.session.talk.peer m.from t.book)
+    (served m.from t)).book
+    (told memory (number_text m (map_number f) ++ opening_text t.session.talk.peer m.from t.book)
+    (served m.from t)).session
+fault_answered c before had done later m last f true t l same is =
+    inl (speaks c before had done t.book t.book t.session _ m [] (number_text m (map_number f)) l
+    (refused_on t.session.talk.peer m f same is) refl (sym (append-nil t.book.rows)) refl l.lasts
+    refl refl (f, is))
+fault_answered c before had done later m last f false t l same is =
+    inr (
+      no_memory,
+      stops c before had done (m ∷ later) last t.book _ t.session _ l
+          (left-grows t.session.talk.on t.book) refl refl,
+    )
+
+request_answered : (c : Configured) (before : List Row) (had : List ℕ)
+    (done later : List Telegram) (m : Telegram) (last : List ℕ) (actor : Actor) (event : Event)
+    (row memory : Bool) (t : Turn)
+    → IsLiving c before had done t.book t.session
+    → is_another t.session.talk.peer m.from ≡ false → request_at m ≡ Ok (actor, event)
+    → Came c before had (done ++ m ∷ []) (done ++ m ∷ later) last
+    (answered_so memory m actor event (outcome_at row t.book actor event) t.session.talk.peer
+    (served m.from t)).book
+    (answered_so memory m actor event (outcome_at row t.book actor event) t.session.talk.peer
+    (served m.from t)).session
+request_answered c before had done later m last actor event row true t l same is =
+    let outcome = outcome_at row t.book actor event in
+    let p = t.session.talk.peer in
+    let a : Asked = record { actor = actor; event = event; outcome = outcome } in
+    let own = own_quiet row t.book actor event (peer_after p m.from)
+    (spoken_by p m actor event same is) in
+    let made : rows_made (a ∷ []) ≡ row_made actor event outcome =
+    append-nil (row_made actor event outcome) in
+    inl (speaks c before had done t.book (with_outcome actor event outcome t.book) t.session _ m
+    (a ∷ []) (outcome_text m outcome) l (answered_on p m a same is) refl
+    (ap (λ rs. t.book.rows ++ rs) (sym made)) refl l.lasts refl
+    (ap (notices_of (peer_after p m.from)) made ∙ own) is)
+request_answered c before had done later m last actor event row false t l same is =
+    let outcome = outcome_at row t.book actor event in
+    inr (
+      no_memory,
+      stops c before had done (m ∷ later) last t.book _ t.session _ l
+          (grows_then t.book (with_outcome actor event outcome t.book) _
+          (outcome-grows actor event outcome t.book) (left-grows _ _))
+          refl refl,
+    )
+
+one_answered : (c : Configured) (before : List Row) (had : List ℕ) (done later : List Telegram)
+    (m : Telegram) (last : List ℕ) (g : Granted) (t : Turn)
+    → IsLiving c before had done t.book t.session
+    → Came c before had (done ++ m ∷ []) (done ++ m ∷ later) last (answered g m t).book
+    (answered g m t).session
+one_answered c before had done later m last g t l =
+    subst (λ (u : Turn). Came c before had (done ++ m ∷ []) (done ++ m ∷ later) last u.book
+    u.session)
+    (sym (lasting_answer g m t l.lasts)) (by_meaning (meaning_at t.session.talk.peer m) refl)
+  where
+    by_meaning : (meaning : Meaning) → meaning_at t.session.talk.peer m ≡ meaning
+        → Came c before had (done ++ m ∷ []) (done ++ m ∷ later) last
+        (answered_by g m meaning t).book (answered_by g m meaning t).session
+    by_meaning meanings.Another is =
+        inr (another_answered c before had done later m last g.text t l
+        (another_meant t.session.talk.peer m is))
+    by_meaning (meanings.Fault f) is =
+        let meant = fault_meant t.session.talk.peer m f is in
+        fault_answered c before had done later m last f g.text t l meant.0 meant.1
+    by_meaning (meanings.Request actor event) is =
+        let meant = request_meant t.session.talk.peer m actor event is in
+        request_answered c before had done later m last actor event g.row g.text t l meant.0 meant.1
+
+-- ---- messages
+
+over_stays : (g : Granted) (m : Telegram) (t : Turn) (end : PeerEnd) → t.session.end ≡ Some end
+    → answered g m t ≡ t
+over_stays g m t end over =
+    ap (λ e. if is_none e then answered_by g m (meaning_at t.session.talk.peer m) t else t) over
+
+pub all_stay : (gs : List Granted) (ms : List Telegram) (t : Turn) (end : PeerEnd)
+    → t.session.end ≡ Some end → answered_all gs ms t ≡ t
+all_stay gs [] t end over = refl
+all_stay [] (m ∷ ms) t end over =
+    ap (answered_all [] ms) (over_stays granted m t end over) ∙ all_stay [] ms t end over
+all_stay (g ∷ gs) (m ∷ ms) t end over =
+    ap (answered_all gs ms) (over_stays g m t end over) ∙ all_stay gs ms t end over
+
+-- a message was answered, and then come the others
+next_answered : (c : Configured) (before : List Row) (had : List ℕ) (done : List Telegram)
+    (last : List ℕ) (gs : List Granted) (m : Telegram) (ms : List Telegram) (t : Turn)
+    → Came c before had (done ++ m ∷ []) (done ++ m ∷ ms) last t.book t.session
+    → (IsLiving c before had (done ++ m ∷ []) t.book t.session
+    → Came c before had ((done ++ m ∷ []) ++ ms) ((done ++ m ∷ []) ++ ms) last
+    (answered_all gs ms t).book (answered_all gs ms t).session)
+    → Came c before had (done ++ m ∷ ms) (done ++ m ∷ ms) last (answered_all gs ms t).book
+    (answered_all gs ms t).session
+next_answered c before had done last gs m ms t (inl l) on =
+    subst (λ all. Came c before had all all last (answered_all gs ms t).book
+    (answered_all gs ms t).session)
+    (append_assoc done (m ∷ []) ms) (on l)
+next_answered c before had done last gs m ms t (inr d) on =
+    subst (λ (u : Turn). Came c before had (done ++ m ∷ ms) (done ++ m ∷ ms) last u.book u.session)
+    (sym (all_stay gs ms t d.0 d.1.over)) (inr d)
+
+pub all_answered : (c : Configured) (before : List Row) (had : List ℕ) (done : List Telegram)
+    (last : List ℕ) (gs : List Granted) (ms : List Telegram) (t : Turn)
+    → IsLiving c before had done t.book t.session
+    → Came c before had (done ++ ms) (done ++ ms) last (answered_all gs ms t).book
+    (answered_all gs ms t).session
+all_answered c before had done last gs [] t l =
+    subst (λ all. Came c before had all all last t.book t.session) (sym (append-nil done)) (inl l)
+all_answered c before had done last [] (m ∷ ms) t l =
+    next_answered c before had done last [] m ms (answered granted m t)
+    (one_answered c before had done ms m last granted t l)
+    (λ l'. all_answered c before had (done ++ m ∷ []) last [] ms (answered granted m t) l')
+all_answered c before had done last (g ∷ gs) (m ∷ ms) t l =
+    next_answered c before had done last gs m ms (answered g m t)
+    (one_answered c before had done ms m last g t l)
+    (λ l'. all_answered c before had (done ++ m ∷ []) last gs ms (answered g m t) l')
+
+-- ---- a piece
+
+held_ended : (memory : Bool) (text : List ℕ) (t : Turn)
+    → (told memory text t).session.held ≡ t.session.held
+held_ended true text t = refl
+held_ended false text t = refl
+
+held_last : (memory : Bool) (text : List ℕ) (end : PeerEnd) (t : Turn)
+    → (told_last memory text end t).session.held ≡ t.session.held
+held_last true text end t = refl
+held_last false text end t = refl
+
+held_by : (g : Granted) (m : Telegram) (meaning : Meaning) (t : Turn)
+    → (answered_by g m meaning t).session.held ≡ t.session.held
+held_by g m meanings.Another t = held_last g.text _ _ t
+held_by g m (meanings.Fault f) t = held_ended g.text _ (served m.from t)
+held_by g m (meanings.Request actor event) t = held_ended g.text _ _
+
+held_one : (g : Granted) (m : Telegram) (t : Turn)
+    → (answered g m t).session.held ≡ t.session.held
+held_one g m t = by_test (is_none t.session.end)
+  where
+    by_test : (b : Bool)
+        → (if b then answered_by g m (meaning_at t.session.talk.peer m) t else t).session.held
+        ≡ t.session.held
+    by_test true = held_by g m (meaning_at t.session.talk.peer m) t
+    by_test false = refl
+
+held_all : (gs : List Granted) (ms : List Telegram) (t : Turn)
+    → (answered_all gs ms t).session.held ≡ t.session.held
+held_all gs [] t = refl
+held_all [] (m ∷ ms) t = held_all [] ms (answered granted m t) ∙ held_one granted m t
+held_all (g ∷ gs) (m ∷ ms) t = held_all gs ms (answered g m t) ∙ held_one g m t
+
+-- a session that lasts, of which so much was heard
+pub record IsHearing (c : Configured) (before : List Row) (had sent : List ℕ) (b : Book)
+    (x : Session) : Type 0 where
+  pub living : IsLiving c before had (stream_of sent).messages b x
+  pub holds : x.held ≡ held_after sent
+  pub sound : (stream_of sent).fault ≡ None
+
+abbrev pub IsOverIn : Configured → List Row → List ℕ → List ℕ → Book → Session → Type 0
+IsOverIn c before had sent b x =
+    (end : PeerEnd) × IsDone c before had (stream_of sent).messages
+    (refusal_text (stream_of sent).fault) end b x
+
+-- .. or that has ended
+abbrev pub InCourse : Configured → List Row → List ℕ → List ℕ → Book → Session → Type 0
+InCourse c before had sent b x = IsHearing c before had sent b x ⊎ IsOverIn c before had sent b x
+
+-- what else a session is doesn't matter to its story
+same_living : (c : Configured) (before : List Row) (had : List ℕ) (done : List Telegram) (b : Book)
+    (x x' : Session) → IsLiving c before had done b x → x'.talk ≡ x.talk → x'.owed ≡ x.owed
+    → x'.end ≡ x.end → IsLiving c before had done b x'
+same_living c before had done b x x' l talk owed end = record {
+  story = l.story;
+  config = l.config;
+  rows = l.rows;
+  told = ap (λ o. had ++ o) owed ∙ l.told;
+  peer = ap (λ (s : TalkState). s.peer) talk ∙ l.peer;
+  said = rw talk l.said;
+  messages = l.messages;
+  asked = l.asked;
+  quiet = l.quiet;
+  lasts = end ∙ l.lasts;
+}
+
+-- the stream of what was heard and a piece
+fed_is : (h : Held) (sent piece : List ℕ) → h ≡ held_after sent
+    → stream_of (sent ++ piece) ≡ walked (stream_of sent).messages (fed_by h piece)
+fed_is h sent piece holds =
+    any_cut sent piece ∙ ap (λ k. walked (stream_of sent).messages (fed_by k piece)) (sym holds)
+
+over_unrefused : (memory : Bool) (fault : Option StreamFault) (t : Turn) (end : PeerEnd)
+    → t.session.end ≡ Some end → refused_by memory fault t ≡ t
+over_unrefused memory None t end over = refl
+over_unrefused memory (Some f) t end over =
+    ap (λ e. if is_none e
+    then told_last memory (spelling (fault_message f)) (ends.Fault (faults.Talk
+    (talk.Stream f.fault))) t
+    else t) over
+
+fault_told : (c : Configured) (before : List Row) (had : List ℕ) (done : List Telegram)
+    (memory : Bool) (text : List ℕ) (end : PeerEnd) (t : Turn)
+    → IsLiving c before had done t.book t.session
+    → (e : PeerEnd) × IsDone c before had done text e (told_last memory text end t).book
+    (told_last memory text end t).session
+fault_told c before had done true text end t l = (
+  end,
+  closes c before had done text end t.book _ t.session _ l (left-grows t.session.talk.on t.book)
+      refl refl,
+)
+fault_told c before had done false text end t l = (
+  no_memory,
+  (let stopped = stops c before had done [] text t.book (ended no_memory t).book t.session
+      (ended no_memory t).session l (left-grows t.session.talk.on t.book) refl refl in
+      rw (append-nil done) at stopped),
+)
+
+fault_refused : (c : Configured) (before : List Row) (had sent : List ℕ) (memory : Bool)
+    (f : StreamFault) (t : Turn) → (stream_of sent).fault ≡ Some f
+    → IsLiving c before had (stream_of sent).messages t.book t.session
+    → IsOverIn c before had sent (refused_by memory (Some f) t).book
+    (refused_by memory (Some f) t).session
+fault_refused c before had sent memory f t is l =
+    let text = spelling (fault_message f) in
+    let end : PeerEnd = ends.Fault (faults.Talk (talk.Stream f.fault)) in
+    let there : refused_by memory (Some f) t ≡ told_last memory text end t =
+    ap (λ e. if is_none e then told_last memory text end t else t) l.lasts in
+    let over = fault_told c before had (stream_of sent).messages memory text end t l in
+    subst (λ (u : Turn). IsOverIn c before had sent u.book u.session) (sym there)
+    (over.0, rw is over.1)
+
+-- a fault of the octets is refused
+refused : (c : Configured) (before : List Row) (had sent : List ℕ) (memory : Bool)
+    (fault : Option StreamFault) (t : Turn) → (stream_of sent).fault ≡ fault
+    → t.session.held ≡ held_after sent
+    → Came c before had (stream_of sent).messages (stream_of sent).messages (refusal_text fault)
+    t.book t.session
+    → InCourse c before had sent (refused_by memory fault t).book
+    (refused_by memory fault t).session
+refused c before had sent memory None t is holds (inl l) =
+    inl (record { living = l; holds = holds; sound = is })
+refused c before had sent memory None t is holds (inr d) =
+    inr (d.0, rw is d.1)
+refused c before had sent memory (Some f) t is holds (inl l) =
+    inr (fault_refused c before had sent memory f t is l)
+refused c before had sent memory (Some f) t is holds (inr d) =
+    inr (
+      d.0,
+      subst (λ (u : Turn). IsDone c before had (stream_of sent).messages
+          (refusal_text (stream_of sent).fault) d.0 u.book u.session)
+          (sym (over_unrefused memory (Some f) t d.0 d.1.over))
+          (rw is d.1),
+    )
+
+piece_taken : (c : Configured) (before : List Row) (had sent piece : List ℕ) (g : Grants) (t : Turn)
+    → IsHearing c before had sent t.book t.session
+    → InCourse c before had (sent ++ piece) (taken g (fed_by t.session.held piece) t).book
+    (taken g (fed_by t.session.held piece) t).session
+piece_taken c before had sent piece g t h =
+    let fed = fed_by t.session.held piece in
+    let is = fed_is t.session.held sent piece h.holds in
+    let start : Turn = record t { session = record t.session { held = held fed } } in
+    let living = same_living c before had (stream_of sent).messages t.book t.session start.session
+    h.living refl refl refl in
+    let came = all_answered c before had (stream_of sent).messages (refusal_text fed.fault)
+    g.messages fed.messages start living in
+    let after = answered_all g.messages fed.messages start in
+    refused c before had (sent ++ piece) g.refusal fed.fault after
+    (ap (λ (s : Stream). s.fault) is)
+    (held_all g.messages fed.messages start ∙ sym (ap held is))
+    (subst (λ all. Came c before had all all (refusal_text fed.fault) after.book after.session)
+    (sym (ap (λ (s : Stream). s.messages) is)) came)
+
+piece_lost : (c : Configured) (before : List Row) (had sent piece : List ℕ) (t : Turn)
+    → IsHearing c before had sent t.book t.session
+    → IsOverIn c before had (sent ++ piece) (ended no_memory t).book (ended no_memory t).session
+piece_lost c before had sent piece t h =
+    let fed = fed_by t.session.held piece in (
+      no_memory,
+      subst (λ (s : Stream). IsDone c before had s.messages (refusal_text s.fault) no_memory
+          (ended no_memory t).book (ended no_memory t).session)
+          (sym (fed_is t.session.held sent piece h.holds))
+          (stops c before had (stream_of sent).messages fed.messages (refusal_text fed.fault) t.book
+          (ended no_memory t).book t.session (ended no_memory t).session h.living
+          (left-grows t.session.talk.on t.book) refl refl),
+    )
+
+pub hears : (c : Configured) (before : List Row) (had sent piece : List ℕ) (g : Grants) (t : Turn)
+    → IsHearing c before had sent t.book t.session
+    → InCourse c before had (sent ++ piece) (heard g piece t).book (heard g piece t).session
+hears c before had sent piece g t h = by_piece g.piece
+  where
+    by_piece : (b : Bool)
+        → InCourse c before had (sent ++ piece)
+        (if b then taken g (fed_by t.session.held piece) t else ended no_memory t).book
+        (if b then taken g (fed_by t.session.held piece) t else ended no_memory t).session
+    by_piece true = piece_taken c before had sent piece g t h
+    by_piece false = inr (piece_lost c before had sent piece t h)
+
+-- ---- the end of its octets
+
+-- a session that lasts closes, and nothing more is told
+closed : (c : Configured) (before : List Row) (had sent : List ℕ) (end : PeerEnd) (b b' : Book)
+    (x x' : Session) → IsHearing c before had sent b x → Grows b b' → x'.owed ≡ x.owed
+    → x'.end ≡ Some end → IsOverIn c before had sent b' x'
+closed c before had sent end b b' x x' h g owed over = (
+  end,
+  rw h.sound
+      (closes c before had (stream_of sent).messages [] end b b' x x' h.living g
+      (owed ∙ sym (append-nil x.owed)) over),
+)
+
+pub finishes : (c : Configured) (before : List Row) (had sent : List ℕ) (t : Turn)
+    → IsHearing c before had sent t.book t.session
+    → IsOverIn c before had sent (finished t).book (finished t).session
+finishes c before had sent t h =
+    closed c before had sent (end_by (left_over t.session.held.rest)) t.book (finished t).book
+    t.session (finished t).session h (left-grows t.session.talk.on t.book) refl refl
+
+-- ---- rows of others
+
+pub nobody_noticed : (r : Row) → row_notice None r ≡ None
+nobody_noticed r = by_change (change_of r)
+  where
+    by_change : (change : Option Telegram) → notice_at change None ≡ None
+    by_change None = refl
+    by_change (Some m) = refl
+
+over_unnoticed : (r : Row) (x : Session) (end : PeerEnd) → x.end ≡ Some end → noticed r x ≡ x
+over_unnoticed r x end over =
+    ap (λ e. noticed_by (row_notice (listener e x.talk.peer) r) x) over
+    ∙ ap (λ n. noticed_by n x) (nobody_noticed r)
+
+later_rows : (c : Configured) (before : List Row) (had : List ℕ) (all : List Telegram)
+    (last : List ℕ) (end : PeerEnd) (b b' : Book) (x : Session)
+    → IsDone c before had all last end b x → Grows b b' → IsDone c before had all last end b' x
+later_rows c before had all last end b b' x d g = record {
+  story = d.story;
+  refusal = d.refusal;
+  late = d.late ++ g.more;
+  rows =
+      g.rows ∙ ap (λ rs. rs ++ g.more) d.rows
+      ∙ append_assoc (before ++ rows_in d.story) d.late g.more;
+  told = d.told;
+  unanswered = d.unanswered;
+  messages = d.messages;
+  asked = d.asked;
+  quiet = d.quiet;
+  unsaid = d.unsaid;
+  text = d.text;
+  unasked = d.unasked;
+  requests = d.requests;
+  whole = d.whole;
+  over = d.over;
+}
+
+row_passes : (c : Configured) (before : List Row) (had sent : List ℕ) (b : Book) (x : Session)
+    (r : Row) → IsHearing c before had sent b x
+    → InCourse c before had sent (record b { rows = b.rows ++ r ∷ [] }) (noticed r x)
+row_passes c before had sent b x r h =
+    subst (InCourse c before had sent (record b { rows = b.rows ++ r ∷ [] }))
+    (sym (ap (λ e. noticed_by (row_notice (listener e x.talk.peer) r) x) h.living.lasts))
+    (by_notice (row_notice x.talk.peer r) refl)
+  where
+    by_notice : (n : Option (List ℕ)) → row_notice x.talk.peer r ≡ n
+        → InCourse c before had sent (record b { rows = b.rows ++ r ∷ [] }) (noticed_by n x)
+    by_notice None is = inl (record {
+      living = passes c before had (stream_of sent).messages b _ x x r h.living refl refl refl
+          h.living.lasts (sym (append-nil x.owed) ∙ ap (λ n. x.owed ++ octets_of n) (sym is));
+      holds = h.holds;
+      sound = h.sound;
+    })
+    by_notice (Some octets) is = by_test (nat_lt NOTICE_LIMIT (length x.owed))
+      where
+        by_test : (behind : Bool)
+            → InCourse c before had sent (record b { rows = b.rows ++ r ∷ [] })
+            (if behind then record x { end = Some ends.Behind }
+            else record x { owed = x.owed ++ octets })
+        by_test true =
+            inr (closed c before had sent ends.Behind b (record b { rows = b.rows ++ r ∷ [] }) x
+            (record x { end = Some ends.Behind }) h
+            (record { more = r ∷ []; rows = refl; same = refl }) refl refl)
+        by_test false = inl (record {
+          living = passes c before had (stream_of sent).messages b _ x _ r h.living refl refl refl
+              h.living.lasts (ap (λ n. x.owed ++ octets_of n) (sym is));
+          holds = h.holds;
+          sound = h.sound;
+        })
+
+row_comes : (c : Configured) (before : List Row) (had sent : List ℕ) (b : Book) (x : Session)
+    (r : Row) → InCourse c before had sent b x
+    → InCourse c before had sent (record b { rows = b.rows ++ r ∷ [] }) (noticed r x)
+row_comes c before had sent b x r (inl h) = row_passes c before had sent b x r h
+row_comes c before had sent b x r (inr d) =
+    subst (InCourse c before had sent (record b { rows = b.rows ++ r ∷ [] }))
+    (sym (over_unnoticed r x d.0 d.1.over))
+    (inr (
+      d.0,
+      later_rows c before had _ _ d.0 b (record b { rows = b.rows ++ r ∷ [] }) x d.1
+          (record { more = r ∷ []; rows = refl; same = refl }),
+    ))
+
+same_book : (b b' : Book) → b'.config ≡ b.config → b'.rows ≡ b.rows → b' ≡ b
+same_book b b' same rows =
+    ap (λ cf. book_of cf b'.rows) same ∙ ap (λ rs. book_of b.config rs) rows
+
+pub rows_come : (c : Configured) (before : List Row) (had sent : List ℕ) (more : List Row)
+    (b b' : Book) (x : Session) → b'.config ≡ b.config → b'.rows ≡ b.rows ++ more
+    → InCourse c before had sent b x → InCourse c before had sent b' (noticed_all more x)
+rows_come c before had sent [] b b' x same rows course =
+    subst (λ bk. InCourse c before had sent bk x)
+    (sym (same_book b b' same (rows ∙ append-nil b.rows))) course
+rows_come c before had sent (r ∷ more) b b' x same rows course =
+    rows_come c before had sent more (record b { rows = b.rows ++ r ∷ [] }) b' (noticed r x) same
+    (rows ∙ sym (append_assoc b.rows (r ∷ []) more)) (row_comes c before had sent b x r course)

@@ -1,0 +1,88 @@
+-- Who is told what.
+use Rattle.std.proofs.Common.{◌≡◌, ℕ, Bool, true, false, List, [], ◌∷◌, ◌++◌, map, Option, Some}
+use Rattle.std.proofs.Common.{None, Result, Ok, Err, refl, ap, sym, ◌∙◌}
+use Rattle.std.specs.Prelude.{option_map, if◌then◌else◌}
+use Rattle.site_base.specs.declared.actor.Actor.{Actor}
+use Rattle.site_base.specs.declared.answer.Answer.{Answer}
+use Rattle.site_base.specs.declared.event.Event.{Event}
+use Rattle.site_base.specs.declared.event.Event.TheVariants.{SignOff}
+use Rattle.site_base.specs.declared.refusal.Refusal.{Refusal}
+use Rattle.site_base.specs.declared.row.Row.{Row}
+use Rattle.app_message.specs.Spelling.{spelling}
+use Rattle.app_message.specs.Telegram.{Telegram}
+use Rattle.device_map.specs.Changes.{change_of, change_where}
+use Rattle.till_session.specs.Text.{is_same_node}
+use Rattle.station.specs.Notices.{notice_at, octets_of, row_notice}
+use Rattle.station.specs.Peers.{listener, noticed, noticed_all, noticed_by, with_notices}
+use Rattle.station.specs.PeerViews.{is_at, session_noticed, slot_noticed}
+use Rattle.station.specs.Sessions.{Session}
+
+-- ---- rows one after another
+
+pub noticed_all-append : (a b : List Row) (x : Session)
+    → noticed_all (a ++ b) x ≡ noticed_all b (noticed_all a x)
+noticed_all-append [] b x = refl
+noticed_all-append (r ∷ a) b x = noticed_all-append a b (noticed r x)
+
+pub with_notices-append : (a b : List Row) (peers : List (Option Session))
+    → with_notices (a ++ b) peers ≡ with_notices b (with_notices a peers)
+with_notices-append a b [] = refl
+with_notices-append a b (None ∷ peers) = ap (λ ps. None ∷ ps) (with_notices-append a b peers)
+with_notices-append a b (Some x ∷ peers) =
+    let rest = with_notices-append a b peers in
+    ap (λ y. Some y ∷ with_notices (a ++ b) peers) (noticed_all-append a b x)
+    ∙ ap (λ ps. Some (noticed_all b (noticed_all a x)) ∷ ps) rest
+
+pub with_notices-none : (peers : List (Option Session)) → with_notices [] peers ≡ peers
+with_notices-none [] = refl
+with_notices-none (None ∷ peers) = ap (λ ps. None ∷ ps) (with_notices-none peers)
+with_notices-none (Some x ∷ peers) = ap (λ ps. Some x ∷ ps) (with_notices-none peers)
+
+-- ---- a row without a change
+
+pub unnoticed : (r : Row) (x : Session) → change_of r ≡ None → noticed r x ≡ x
+unnoticed r x none = ap (λ c. noticed_by (notice_at c (listener x.end x.talk.peer)) x) none
+
+pub with_notices-unchanged : (r : Row) (peers : List (Option Session)) → change_of r ≡ None
+    → with_notices (r ∷ []) peers ≡ peers
+with_notices-unchanged r [] none = refl
+with_notices-unchanged r (None ∷ peers) none =
+    ap (λ ps. None ∷ ps) (with_notices-unchanged r peers none)
+with_notices-unchanged r (Some x ∷ peers) none =
+    ap (λ y. Some y ∷ with_notices (r ∷ []) peers) (unnoticed r x none)
+    ∙ ap (λ ps. Some x ∷ ps) (with_notices-unchanged r peers none)
+
+pub no_sign_off_change : (reply : Result Answer Refusal) → change_where SignOff reply ≡ None
+no_sign_off_change (Ok answer) = refl
+no_sign_off_change (Err refusal) = refl
+
+pub no_refused_change : (event : Event) (refusal : Refusal)
+    → change_where event (Err refusal) ≡ None
+no_refused_change event refusal = refl
+
+-- ---- a row with a change
+
+one_noticed : (m : Telegram) (end_peer : Option (List ℕ)) (x : Session)
+    → (if is_at end_peer m.to then noticed_by (Some (spelling m)) x else x)
+    ≡ noticed_by (notice_at (Some m) end_peer) x
+one_noticed m None x = refl
+one_noticed m (Some node) x = by_test (is_same_node node m.to)
+  where
+    by_test : (b : Bool) → (if b then noticed_by (Some (spelling m)) x else x)
+        ≡ noticed_by (if b then Some (spelling m) else None) x
+    by_test true = refl
+    by_test false = refl
+
+pub session_told : (r : Row) (m : Telegram) (x : Session) → change_of r ≡ Some m
+    → session_noticed m.to (spelling m) x ≡ noticed r x
+session_told r m x is =
+    one_noticed m (listener x.end x.talk.peer) x
+    ∙ ap (λ c. noticed_by (notice_at c (listener x.end x.talk.peer)) x) (sym is)
+
+pub all_told : (r : Row) (m : Telegram) (peers : List (Option Session)) → change_of r ≡ Some m
+    → map (slot_noticed m.to (spelling m)) peers ≡ with_notices (r ∷ []) peers
+all_told r m [] is = refl
+all_told r m (None ∷ peers) is = ap (λ ps. None ∷ ps) (all_told r m peers is)
+all_told r m (Some x ∷ peers) is =
+    ap (λ y. Some y ∷ map (slot_noticed m.to (spelling m)) peers) (session_told r m x is)
+    ∙ ap (λ ps. Some (noticed r x) ∷ ps) (all_told r m peers is)

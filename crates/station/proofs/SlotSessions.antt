@@ -1,0 +1,217 @@
+-- The slots as sessions.
+use Rattle.std.proofs.Common.{◌≡◌, ℕ, zero, suc, ◌+◌, ◌<◌, ◌≤◌, Bool, true, false, List, [], ◌∷◌}
+use Rattle.std.proofs.Common.{◌++◌, length, get_or, drop}
+use Rattle.std.proofs.Common.{Option, Some, None, refl, ap, sym, subst, ◌∙◌, arith}
+use Rattle.std.specs.Prelude.{if◌then◌else◌, is_none, option_map}
+use Rattle.std.proofs.Math.ListN.{set}
+use Rattle.station.specs.declared.peer.Peer.{Peer}
+use Rattle.station.specs.Peers.{peer_at, with_notices, with_peer}
+use Rattle.station.specs.PeerViews.{session_of, sessions_of, without_key}
+use Rattle.station.specs.Sessions.{Grants, Session, Turn, finished, heard, is_read}
+use Rattle.site_base.specs.declared.row.Row.{Row}
+use Rattle.site_book.specs.Book.{Book}
+use Rattle.station.specs.Hearing.{Hears, finished_if, turn_of}
+use Rattle.station.specs.Moves.{StationState, finished_at, freed, heard_from, rows_since, taken_by}
+use Rattle.station.specs.Moves.{with_end, with_octets, with_taken, with_turn, without_peer}
+use Rattle.station.specs.Peers.{noticed_all}
+use Rattle.station.proofs.Turns.{left-told}
+use Rattle.station.proofs.Peers.{map-with_peer, with_peer-next, with_peer-twice}
+
+-- the slot at a place, with any default
+pub session_found : (k : ℕ) (slots : List (Option Peer)) (d : Option Peer) → k < length slots
+    → peer_at (sessions_of slots) k ≡ option_map session_of (get_or slots k d)
+session_found k [] d within = absurd (omega arith)
+session_found zero (p ∷ slots) d within = refl
+session_found (suc k) (p ∷ slots) d within = session_found k slots d (omega arith)
+
+-- no slot is there
+pub nobody_there : (k : ℕ) (slots : List (Option Peer)) → length slots ≤ k
+    → peer_at (sessions_of slots) k ≡ None
+nobody_there k [] beyond = refl
+nobody_there zero (p ∷ slots) beyond = absurd (omega arith)
+nobody_there (suc k) (p ∷ slots) beyond = nobody_there k slots (omega arith)
+
+pub sessions_set : (k : ℕ) (slots : List (Option Peer)) (y : Option Peer) → k < length slots
+    → sessions_of (set slots k y) ≡ with_peer k (option_map session_of y) (sessions_of slots)
+sessions_set k [] y within = absurd (omega arith)
+sessions_set zero (p ∷ slots) y within = refl
+sessions_set (suc k) (p ∷ slots) y within =
+    ap (λ ps. option_map session_of p ∷ ps) (sessions_set k slots y (omega arith))
+
+-- a slot that is empty stays so
+still_empty : (k : ℕ) (slots : List (Option Peer)) (d : Option Peer) → k < length slots
+    → get_or slots k d ≡ None → sessions_of (set slots k None) ≡ sessions_of slots
+still_empty k [] d within empty = absurd (omega arith)
+still_empty zero (p ∷ slots) d within empty =
+    ap (λ (q : Option Peer). option_map session_of q ∷ sessions_of slots) (sym empty)
+still_empty (suc k) (p ∷ slots) d within empty =
+    ap (λ ps. option_map session_of p ∷ ps) (still_empty k slots d (omega arith) empty)
+
+-- what was in a slot is taken out
+pub taken_out : (k : ℕ) (slots : List (Option Peer)) (r d : Option Peer) → k < length slots
+    → r ≡ get_or slots k d → sessions_of (set slots k None) ≡ without_key k r (sessions_of slots)
+taken_out k slots None d within is = still_empty k slots d within (sym is)
+taken_out k slots (Some p) d within is = sessions_set k slots None within
+
+pub sessions_size : (slots : List (Option Peer)) → length (sessions_of slots) ≡ length slots
+sessions_size [] = refl
+sessions_size (p ∷ slots) = omega (arith, sessions_size slots)
+
+pub sessions_next : (slots : List (Option Peer)) (p : Peer)
+    → sessions_of (slots ++ Some p ∷ [])
+    ≡ with_peer (length slots) (Some (session_of p)) (sessions_of slots)
+sessions_next [] p = refl
+sessions_next (q ∷ slots) p = ap (λ ps. option_map session_of q ∷ ps) (sessions_next slots p)
+
+-- a peer that was taken out, and put back when the others were told
+pub put_back : (k : ℕ) (x : Option Session) (rows : List Row) (peers : List (Option Session))
+    → with_peer k x (with_notices rows (with_peer k None peers))
+    ≡ with_peer k x (with_notices rows peers)
+put_back k x rows peers =
+    ap (with_peer k x) (map-with_peer (option_map (noticed_all rows)) k None peers refl)
+    ∙ with_peer-twice k x None (with_notices rows peers)
+
+-- ---- one slot of many
+
+-- a slot whose session stays
+pub sessions_kept : (i : ℕ) (slots : List (Option Peer)) (y d : Option Peer) → i < length slots
+    → option_map session_of y ≡ option_map session_of (get_or slots i d)
+    → sessions_of (set slots i y) ≡ sessions_of slots
+sessions_kept i [] y d within same = absurd (omega arith)
+sessions_kept zero (p ∷ slots) y d within same = ap (λ q. q ∷ sessions_of slots) same
+sessions_kept (suc i) (p ∷ slots) y d within same =
+    ap (λ ps. option_map session_of p ∷ ps) (sessions_kept i slots y d (omega arith) same)
+
+-- what is so of each slot before this one, and of this one
+pub so_far : (P : Option Peer → Type 0) (i : ℕ) (slots : List (Option Peer)) (y : Option Peer)
+    → i < length slots → ((k : ℕ) → k < i → P (get_or slots k None)) → P y
+    → (k : ℕ) → k < i + 1 → P (get_or (set slots i y) k None)
+so_far P i [] y within below here k less = absurd (omega arith)
+so_far P zero (p ∷ slots) y within below here zero less = here
+so_far P zero (p ∷ slots) y within below here (suc k) less = absurd (omega arith)
+so_far P (suc i) (p ∷ slots) y within below here zero less = below 0 (omega arith)
+so_far P (suc i) (p ∷ slots) y within below here (suc k) less =
+    so_far P i slots y (omega arith) (λ j before. below (suc j) (omega arith)) here k (omega arith)
+
+-- what is so of each slot from this one on is so of each behind it
+pub from_there : (P : Option Peer → Type 0) (i : ℕ) (slots : List (Option Peer)) (y : Option Peer)
+    → P None → ((k : ℕ) → i ≤ k → P (get_or slots k None))
+    → (k : ℕ) → i + 1 ≤ k → P (get_or (set slots i y) k None)
+from_there P i [] y none all k more = none
+from_there P zero (p ∷ slots) y none all zero more = absurd (omega arith)
+from_there P zero (p ∷ slots) y none all (suc k) more = all (suc k) (omega arith)
+from_there P (suc i) (p ∷ slots) y none all zero more = absurd (omega arith)
+from_there P (suc i) (p ∷ slots) y none all (suc k) more =
+    from_there P i slots y none (λ j from. all (suc j) (omega arith)) k (omega arith)
+
+pub found_again : (i : ℕ) (slots : List (Option Peer)) (d : Option Peer) (e : Option Session)
+    → i < length slots → option_map session_of (get_or slots i d) ≡ get_or (sessions_of slots) i e
+found_again i [] d e within = absurd (omega arith)
+found_again zero (p ∷ slots) d e within = refl
+found_again (suc i) (p ∷ slots) d e within = found_again i slots d e (omega arith)
+
+pub sessions_at : (i : ℕ) (slots : List (Option Peer)) (y : Option Peer)
+    → sessions_of (set slots i y) ≡ set (sessions_of slots) i (option_map session_of y)
+sessions_at i [] y = refl
+sessions_at zero (p ∷ slots) y = refl
+sessions_at (suc i) (p ∷ slots) y =
+    ap (λ ps. option_map session_of p ∷ ps) (sessions_at i slots y)
+
+-- ---- a peer is taken out and put back
+
+-- the peers with one that is there
+stays_there : (k : ℕ) (x : Session) (peers : List (Option Session)) → peer_at peers k ≡ Some x
+    → with_peer k (Some x) peers ≡ peers
+stays_there k x [] there = absurd cc
+stays_there zero x (p ∷ peers) there = ap (λ q. q ∷ peers) (sym there)
+stays_there (suc k) x (p ∷ peers) there = ap (λ ps. p ∷ ps) (stays_there k x peers there)
+
+put_again : (k : ℕ) (x : Session) (p : Peer) (peers out back : List (Option Session))
+    → out ≡ without_key k (Some p) peers → back ≡ with_peer k (Some x) out
+    → back ≡ with_peer k (Some x) peers
+put_again k x p peers out back taken put =
+    put ∙ ap (with_peer k (Some x)) taken ∙ with_peer-twice k (Some x) None peers
+
+abbrev pub state : Book → List (Option Session) → StationState
+state b peers = record { book = b; peers = peers }
+
+pub took : (k n : ℕ) (b : Book) (peers out back : List (Option Session)) (p : Peer) (x : Session)
+    → Some (session_of p) ≡ peer_at peers k → out ≡ without_key k (Some p) peers
+    → x ≡ record (session_of p) { owed = drop n p.outbox.owed }
+    → back ≡ with_peer k (Some x) out
+    → state b back ≡ with_taken k n (state b peers)
+took k n b peers out back p x there taken is put =
+    ap (λ ps. state b ps)
+    (put_again k x p peers out back taken put
+    ∙ ap (λ y. with_peer k (Some y) peers) is)
+    ∙ ap (λ y. taken_by k n y (state b peers)) there
+
+pub finished_there : (k : ℕ) (b b' : Book) (peers out back : List (Option Session)) (p q : Peer)
+    → Some (session_of p) ≡ peer_at peers k → out ≡ without_key k (Some p) peers
+    → turn_of b' q ≡ finished_if (turn_of b p)
+    → back ≡ with_peer k (Some (session_of q)) out
+    → state b' back ≡ with_end k (state b peers)
+finished_there k b b' peers out back p q there taken is put =
+    by_test (is_none p.end) is
+    ∙ ap (λ y. finished_at k y (state b peers)) there
+  where
+    by_test : (lasts : Bool)
+        → turn_of b' q ≡ (if lasts then finished (turn_of b p) else turn_of b p)
+        → state b' back
+        ≡ (if lasts then with_turn k (finished (turn_of b p)) (state b peers) else state b peers)
+    by_test true is =
+        let t = finished (turn_of b p) in
+        let told = left-told p.talk.on b peers in
+        ap (state b') (put_again k (session_of q) p peers out back taken put)
+        ∙ ap (λ (u : Turn). state u.book (with_peer k (Some u.session) peers)) is
+        ∙ ap (λ ps. state t.book (with_peer k (Some t.session) ps)) told
+    by_test false is =
+        ap (state b') (put_again k (session_of q) p peers out back taken put)
+        ∙ ap (λ (u : Turn). state u.book (with_peer k (Some u.session) peers)) is
+        ∙ ap (state b) (stays_there k (session_of p) peers (sym there))
+
+pub heard_there : (k : ℕ) (piece : List ℕ) (b b' : Book)
+    (peers out told back : List (Option Session)) (p q : Peer)
+    → Some (session_of p) ≡ peer_at peers k → out ≡ without_key k (Some p) peers
+    → is_read (session_of p) ≡ true
+    → Hears piece (turn_of b p) (turn_of b' q) out told
+    → back ≡ with_peer k (Some (session_of q)) told
+    → (memory : Grants) × (state b' back ≡ with_octets memory k piece (state b peers))
+heard_there k piece b b' peers out told back p q there taken read hears put = (
+  hears.memory,
+  (let t = heard hears.memory piece (turn_of b p) in
+      let more = rows_since b t.book in
+      let rows : rows_since b b' ≡ more = ap (λ (u : Turn). rows_since b u.book) hears.turn in
+      let last : back ≡ with_peer k (Some (session_of q)) (with_notices more peers) =
+      put
+      ∙ ap (with_peer k (Some (session_of q)))
+      (hears.told ∙ ap (λ rs. with_notices rs out) rows ∙ ap (with_notices more) taken)
+      ∙ put_back k (Some (session_of q)) more peers in
+      ap (state b') last
+      ∙ ap (λ (u : Turn). state u.book (with_peer k (Some u.session) (with_notices more peers)))
+      hears.turn
+      ∙ sym (ap (λ r. if r then with_turn k t (state b peers) else state b peers) read)
+      ∙ ap (λ y. heard_from hears.memory k piece y (state b peers)) there),
+)
+
+pub left_there : (k : ℕ) (s : StationState) (b : Book) (peers out : List (Option Session))
+    (r : Option Peer)
+    → state b peers ≡ with_end k s → option_map session_of r ≡ peer_at peers k
+    → out ≡ without_key k r peers → state b out ≡ without_peer k s
+left_there k s b peers out r is there taken =
+    subst (λ (a : StationState). state b out ≡ freed k (peer_at a.peers k) a) is
+    (by_peer r there taken)
+  where
+    by_peer : (r : Option Peer) → option_map session_of r ≡ peer_at peers k
+        → out ≡ without_key k r peers
+        → state b out ≡ freed k (peer_at peers k) (state b peers)
+    by_peer None there taken =
+        ap (state b) taken ∙ ap (λ y. freed k y (state b peers)) there
+    by_peer (Some p) there taken =
+        ap (state b) taken ∙ ap (λ y. freed k y (state b peers)) there
+
+pub heard_seen : (k : ℕ) (piece : List ℕ) (v w s s' : StationState) → v ≡ w → s ≡ s'
+    → ((memory : Grants) × (w ≡ with_octets memory k piece s))
+    → (memory : Grants) × (v ≡ with_octets memory k piece s')
+heard_seen k piece v w s s' after before found =
+    (found.0, after ∙ found.1 ∙ ap (with_octets found.0 k piece) before)

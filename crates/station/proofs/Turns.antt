@@ -1,0 +1,158 @@
+-- Rows that a turn of a session adds.
+use Rattle.std.proofs.Common.{◌≡◌, ℕ, ◌+◌, Bool, true, false, List, [], ◌∷◌, ◌++◌, length, drop}
+use Rattle.std.proofs.Common.{Option, Some, None, refl, ap, sym, ◌∙◌, append_assoc, append-nil}
+use Rattle.std.proofs.Common.{arith}
+use Rattle.std.specs.Prelude.{if◌then◌else◌, is_none}
+use Rattle.site_base.specs.declared.actor.Actor.{Actor}
+use Rattle.site_base.specs.declared.actor.Actor.TheVariants.{Till}
+use Rattle.site_base.specs.declared.event.Event.{Event}
+use Rattle.site_base.specs.declared.event.Event.TheVariants.{SignOff}
+use Rattle.site_base.specs.declared.row.Row.{Row}
+use Rattle.site_base.specs.Configured.{Configured}
+use Rattle.app_message.specs.Telegram.{Telegram}
+use Rattle.site_book.specs.Book.{Book, next_row, with_row_of, site_of_book}
+use Rattle.written_site.specs.SiteState.{is_signed_on}
+use Rattle.till_session.specs.declared.talk.Meaning.{Meaning}
+use Rattle.till_session.specs.declared.talk.Meaning.TheVariants as meanings
+use Rattle.till_session.specs.Counters.{Outcome, row_made}
+use Rattle.till_session.specs.Text.{meaning_at}
+use Rattle.station.specs.declared.peer_end.PeerEnd.{PeerEnd}
+use Rattle.station.specs.Moves.{rows_since}
+use Rattle.station.specs.Peers.{with_notices}
+use Rattle.station.specs.Sessions.{Granted, Session, Turn, answered, answered_all, answered_by}
+use Rattle.station.specs.Sessions.{answered_so, ended, granted, outcome_at, told, told_last}
+use Rattle.station.specs.Sessions.{with_outcome, without_till}
+use Rattle.station.proofs.Notices.{no_sign_off_change, with_notices-append, with_notices-none}
+use Rattle.station.proofs.Notices.{with_notices-unchanged}
+
+-- a book with more rows
+pub record Grows (earlier later : Book) : Type 0 where
+  pub more : List Row
+  pub rows : later.rows ≡ earlier.rows ++ more
+  pub same : later.config ≡ earlier.config
+
+drop-front : (a b : List Row) → drop (length a) (a ++ b) ≡ b
+drop-front [] b = refl
+drop-front (r ∷ a) b = drop-front a b
+
+pub since : (a b : Book) → (g : Grows a b) → rows_since a b ≡ g.more
+since a b g = ap (drop (length a.rows)) g.rows ∙ drop-front a.rows g.more
+
+abbrev pub grows_none : (b : Book) → Grows b b
+grows_none b = record { more = []; rows = sym (append-nil b.rows); same = refl }
+
+abbrev pub grows_then : (a b c : Book) → Grows a b → Grows b c → Grows a c
+grows_then a b c one two = record {
+  more = one.more ++ two.more;
+  rows =
+      two.rows ∙ ap (λ rs. rs ++ two.more) one.rows
+      ∙ append_assoc a.rows one.more two.more;
+  same = two.same ∙ one.same;
+}
+
+pub since_then : (a b c : Book) → Grows a b → Grows b c
+    → rows_since a c ≡ rows_since a b ++ rows_since b c
+since_then a b c one two =
+    since a c (grows_then a b c one two)
+    ∙ ap (λ rs. rs ++ two.more) (sym (since a b one))
+    ∙ ap (λ rs. rows_since a b ++ rs) (sym (since b c two))
+
+-- the others are told of a turn's rows, and then of the next one's
+pub told_then : (a b c : Book) (x y z : List (Option Session)) → Grows a b → Grows b c
+    → y ≡ with_notices (rows_since a b) x → z ≡ with_notices (rows_since b c) y
+    → z ≡ with_notices (rows_since a c) x
+told_then a b c x y z one two first second =
+    second ∙ ap (with_notices (rows_since b c)) first
+    ∙ sym (with_notices-append (rows_since a b) (rows_since b c) x)
+    ∙ ap (λ rs. with_notices rs x) (sym (since_then a b c one two))
+
+pub told_none : (b : Book) (x : List (Option Session)) → x ≡ with_notices (rows_since b b) x
+told_none b x =
+    sym (ap (λ rs. with_notices rs x) (since b b (grows_none b)) ∙ with_notices-none x)
+
+-- ---- a session's end
+
+abbrev pub with_row-grows : (b : Book) (actor : Actor) (event : Event)
+    → Grows b (with_row_of b actor event)
+with_row-grows b actor event =
+    record { more = next_row b actor event ∷ []; rows = refl; same = refl }
+
+pub left-grows : (on : Option ℕ) (b : Book) → Grows b (without_till on b)
+left-grows None b = grows_none b
+left-grows (Some t) b = by_test (is_signed_on (site_of_book b) t)
+  where
+    by_test : (s : Bool) → Grows b (if s then with_row_of b (Till t) SignOff else b)
+    by_test true = with_row-grows b (Till t) SignOff
+    by_test false = grows_none b
+
+-- nobody is told that a till is left
+pub left-told : (on : Option ℕ) (b : Book) (x : List (Option Session))
+    → x ≡ with_notices (rows_since b (without_till on b)) x
+left-told None b x = told_none b x
+left-told (Some t) b x = by_test (is_signed_on (site_of_book b) t)
+  where
+    by_test : (s : Bool)
+        → x ≡ with_notices (rows_since b (if s then with_row_of b (Till t) SignOff else b)) x
+    by_test true =
+        let row = next_row b (Till t) SignOff in
+        sym (ap (λ rs. with_notices rs x)
+        (since b (with_row_of b (Till t) SignOff) (with_row-grows b (Till t) SignOff))
+        ∙ with_notices-unchanged row x (no_sign_off_change row.reply))
+    by_test false = told_none b x
+
+pub ended-grows : (end : PeerEnd) (t : Turn) → Grows t.book (ended end t).book
+ended-grows end t = left-grows t.session.talk.on t.book
+
+-- ---- a message
+
+told-grows : (memory : Bool) (text : List ℕ) (t : Turn) → Grows t.book (told memory text t).book
+told-grows true text t = grows_none t.book
+told-grows false text t = left-grows t.session.talk.on t.book
+
+last-grows : (memory : Bool) (text : List ℕ) (end : PeerEnd) (t : Turn)
+    → Grows t.book (told_last memory text end t).book
+last-grows true text end t = left-grows t.session.talk.on t.book
+last-grows false text end t = left-grows t.session.talk.on t.book
+
+abbrev pub outcome-grows : (actor : Actor) (event : Event) (outcome : Outcome) (b : Book)
+    → Grows b (with_outcome actor event outcome b)
+outcome-grows actor event outcome b =
+    record { more = row_made actor event outcome; rows = refl; same = refl }
+
+by-grows : (g : Granted) (m : Telegram) (meaning : Meaning) (t : Turn)
+    → Grows t.book (answered_by g m meaning t).book
+by-grows g m meanings.Another t = last-grows g.text _ _ t
+by-grows g m (meanings.Fault f) t = told-grows g.text _ _
+by-grows g m (meanings.Request actor event) t =
+    let outcome = outcome_at g.row t.book actor event in
+    grows_then t.book (with_outcome actor event outcome t.book) _
+    (outcome-grows actor event outcome t.book)
+    (told-grows g.text _ _)
+
+pub answered-grows : (g : Granted) (m : Telegram) (t : Turn) → Grows t.book (answered g m t).book
+answered-grows g m t = by_test (is_none t.session.end)
+  where
+    by_test : (b : Bool)
+        → Grows t.book (if b then answered_by g m (meaning_at t.session.talk.peer m) t else t).book
+    by_test true = by-grows g m (meaning_at t.session.talk.peer m) t
+    by_test false = grows_none t.book
+
+pub all-grows : (gs : List Granted) (ms : List Telegram) (t : Turn)
+    → Grows t.book (answered_all gs ms t).book
+all-grows gs [] t = grows_none t.book
+all-grows [] (m ∷ ms) t =
+    grows_then t.book (answered granted m t).book _ (answered-grows granted m t)
+    (all-grows [] ms (answered granted m t))
+all-grows (g ∷ gs) (m ∷ ms) t =
+    grows_then t.book (answered g m t).book _ (answered-grows g m t)
+    (all-grows gs ms (answered g m t))
+
+-- ---- messages one after another
+
+pub one_more : (gs : List Granted) (ms : List Telegram) (g : Granted) (m : Telegram) (t : Turn)
+    → length gs ≡ length ms
+    → answered_all (gs ++ g ∷ []) (ms ++ m ∷ []) t ≡ answered g m (answered_all gs ms t)
+one_more [] [] g m t same = refl
+one_more [] (n ∷ ms) g m t same = absurd (omega arith)
+one_more (h ∷ gs) [] g m t same = absurd (omega arith)
+one_more (h ∷ gs) (n ∷ ms) g m t same = one_more gs ms g m (answered h n t) (omega arith)

@@ -1,0 +1,17 @@
+use Rattle.std.proofs.Common.{sym}
+use Rattle.std.proofs.lemmas.Result.{err_from_is_err_and}
+use Rattle.station.specs.PeerViews.{sessions_of}
+use Rattle.station.proofs.Answering.{no_change, untold}
+use Rattle.station.proofs.Notices.{with_notices-none}
+use Rattle.station.proofs.asking.ask_at.Goals as goal
+
+pub returns-in_err-write_change-clause-others : goal.returns-in_err-write_change-clause-others
+returns-in_err-write_change-clause-others c =
+    let p = err_from_is_err_and c.from_residual.result c.from_residual.ensures.1 in
+    rw p.1 (sym (with_notices-none (sessions_of c.args.others.now)))
+
+pub returns-in-None-clause-others : goal.returns-in-None-clause-others
+returns-in-None-clause-others c =
+    let change = rw c.in-None.is at c.in_ok-write_change.ensures.change in
+    untold c.args.actor.now c.args.event.now c.ask_book.result (sessions_of c.args.others.now)
+    (no_change _ _ change)

@@ -1,0 +1,83 @@
+-- The laws of the station, over every list of moves.
+use Rattle.std.specs.Prelude.{◌≡◌, ℕ, true, false, List, ◌++◌, Option, Some, None}
+use Rattle.std.specs.List.{AllByRecursion}
+use Rattle.site_base.specs.declared.event.Event.{Event}
+use Rattle.site_base.specs.declared.row.Row.{Row}
+use Rattle.site_base.specs.declared.view.PointView.{PointView}
+use Rattle.site_base.specs.Events.{has_change, point_named}
+use Rattle.app_message.specs.Stream.{fed_by}
+use Rattle.written_site.specs.SiteRun.{IsLegal}
+use Rattle.written_site.specs.SiteState.{is_signed_on, opening}
+use Rattle.site_book.specs.Book.{Book, site_of_book}
+use Rattle.station.specs.declared.peer_end.PeerEnd.{PeerEnd}
+use Rattle.station.specs.Adding.{AddsRequests, AddsSignOff, is_silent}
+use Rattle.station.specs.Moves.{StationState, with_arrival, with_octets, without_peer}
+use Rattle.station.specs.Peers.{peer_at}
+use Rattle.station.specs.Runs.{Move, Stays, after, after_move, heard_of, opened, told}
+use Rattle.station.specs.Sessions.{Grants, Session, is_read}
+use Rattle.station.specs.Standing.{standing_events}
+use Rattle.station.specs.Stories.{IsTold}
+
+-- A peer that arrives, at whatever station, is told its story, whatever moves come until it leaves:
+-- its own, cut in any way, and those of any number of others.
+abbrev pub EachPeerIsToldItsStory : Type 0
+EachPeerIsToldItsStory = (s : StationState) (k : ℕ) (ms : List Move)
+    → peer_at s.peers k ≡ None → Stays k ms
+    → let start = with_arrival k s in
+    (x : Session) × (peer_at (after ms start).peers k ≡ Some x)
+    × IsTold s.book.config s.book.rows (after ms start).book.rows (heard_of k ms start)
+    (told k ms start) x.end
+
+-- The book's rows are one history, whatever moves come at a station of a book whose rows are one:
+-- moves only add rows, and each reply is the written step's at the site that the rows before it led
+-- to.
+pub record IsOneHistory (b : Book) (ms more : List Move) : Type 0 where
+  pub legal : IsLegal (opening b.config) (after ms (opened b)).book.rows
+  pub later : List Row
+  pub grows : (after more (after ms (opened b))).book.rows
+      ≡ (after ms (opened b)).book.rows ++ later
+
+abbrev pub RowsAreOneHistory : Type 0
+RowsAreOneHistory = (b : Book) (ms more : List Move) → IsLegal (opening b.config) b.rows
+    → IsOneHistory b ms more
+
+-- Right behind the move with which a session ends, the till that it signed on and didn't sign off
+-- isn't signed on.
+abbrev pub EndsLeaveTheirTill : Type 0
+EndsLeaveTheirTill = (b : Book) (ms : List Move) (m : Move) (k : ℕ) (x y : Session)
+    (end : PeerEnd) (t : ℕ)
+    → peer_at (after ms (opened b)).peers k ≡ Some x → x.end ≡ None
+    → peer_at (after_move m (after ms (opened b))).peers k ≡ Some y → y.end ≡ Some end
+    → y.talk.on ≡ Some t
+    → is_signed_on (site_of_book (after_move m (after ms (opened b))).book) t ≡ false
+
+-- .. nor is it where a peer is gone whose session lasted.
+abbrev pub PeersLeaveTheirTill : Type 0
+PeersLeaveTheirTill = (s : StationState) (k : ℕ) (x : Session) (t : ℕ)
+    → peer_at s.peers k ≡ Some x → x.end ≡ None → x.talk.on ≡ Some t
+    → is_signed_on (site_of_book (without_peer k s).book) t ≡ false
+
+-- Requests are asked in the order in which they are heard: with the octets of a peer that is read
+-- from, the book gets the rows of the first of the requests among the messages that they bring, in
+-- their order, and behind them at most the sign-off of the session's till; with any other move at
+-- most a sign-off.
+pub record AreAskedInOrder (s : StationState) : Type 0 where
+  pub heard : (memory : Grants) (k : ℕ) (octets : List ℕ) (x : Session)
+      → peer_at s.peers k ≡ Some x → is_read x ≡ true
+      → AddsRequests x.talk.peer (fed_by x.held octets).messages s.book
+      (with_octets memory k octets s).book
+  pub silent : (m : Move) → is_silent m ≡ true → AddsSignOff s.book (after_move m s).book
+
+abbrev pub RequestsAreAskedInOrder : Type 0
+RequestsAreAskedInOrder = (s : StationState) → AreAskedInOrder s
+
+-- a change of point p, that its dispenser is told of
+abbrev pub IsChangeOf : ℕ → Event → Type 0
+IsChangeOf p e = (has_change e ≡ true) × (point_named e ≡ Some p)
+
+abbrev pub AreChangesOf : ℕ → List Event → Type 0
+AreChangesOf p events = AllByRecursion (IsChangeOf p) events
+
+-- Each standing notice is a change of the point that stands.
+abbrev pub StandingNoticesAreChanges : Type 0
+StandingNoticesAreChanges = (p : ℕ) (v : PointView) → AreChangesOf p (standing_events p v)

@@ -1,0 +1,14 @@
+pub mod Papers
+pub mod PeerViews
+pub mod Outboxes
+pub mod Standing
+pub mod Notices
+pub mod Sessions
+pub mod Peers
+pub mod Moves
+pub mod Hearing
+pub mod Reads
+pub mod Runs
+pub mod Stories
+pub mod Adding
+pub mod Laws

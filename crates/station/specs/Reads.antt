@@ -1,0 +1,45 @@
+-- What the station shows of a peer.
+use Rattle.std.specs.Prelude.{◌≡◌, ◌<◌, ℕ, Bool, false, List, [], Option, Some, None, IsSome}
+use Rattle.station.specs.declared.peer_end.PeerEnd.{PeerEnd}
+use Rattle.station.specs.declared.sizes.TheConstants.{PEERS}
+use Rattle.station.specs.Moves.{StationState, with_arrival}
+use Rattle.station.specs.Peers.{peer_at}
+use Rattle.station.specs.Sessions.{Session, is_read}
+
+abbrev pub owed_to : Option Session → List ℕ
+owed_to None = []
+owed_to (Some x) = x.owed
+
+-- the octets that a key's peer is owed
+abbrev pub owed_at : StationState → ℕ → List ℕ
+owed_at s k = owed_to (peer_at s.peers k)
+
+abbrev pub is_read_of : Option Session → Bool
+is_read_of None = false
+is_read_of (Some x) = is_read x
+
+-- a key's peer is read from
+abbrev pub is_read_at : StationState → ℕ → Bool
+is_read_at s k = is_read_of (peer_at s.peers k)
+
+abbrev pub end_of : Option Session → Option PeerEnd
+end_of None = None
+end_of (Some x) = x.end
+
+-- how the session of a key's peer ended
+abbrev pub end_at : StationState → ℕ → Option PeerEnd
+end_at s k = end_of (peer_at s.peers k)
+
+abbrev pub node_of : Option Session → Option (List ℕ)
+node_of None = None
+node_of (Some x) = x.talk.peer
+
+-- the originator of its first message
+abbrev pub node_at : StationState → ℕ → Option (List ℕ)
+node_at s k = node_of (peer_at s.peers k)
+
+-- a peer arrived and got this key, which nobody had; or nothing changed, since every key is taken
+abbrev pub Arrives : Option ℕ → StationState → StationState → Type 0
+Arrives (Some key) old new =
+    (key < PEERS) × (peer_at old.peers key ≡ None) × (new ≡ with_arrival key old)
+Arrives None old new = (new ≡ old) × ((k : ℕ) → k < PEERS → IsSome (peer_at old.peers k))

@@ -1,0 +1,72 @@
+-- Lists of moves, from an opening station on: who sent what, and what was told.
+use Rattle.std.specs.Prelude.{◌≡◌, ℕ, ◌==◌, Bool, true, false, is_none, List, [], ◌∷◌, ◌++◌, take}
+use Rattle.std.specs.Prelude.{drop, Option, Some, None, if◌then◌else◌}
+use Rattle.site_book.specs.Book.{Book}
+use Rattle.station.specs.Moves.{StationState, with_arrival, with_end, with_octets, with_taken}
+use Rattle.station.specs.Moves.{without_peer}
+use Rattle.station.specs.Peers.{peer_at}
+use Rattle.station.specs.Reads.{is_read_at, owed_at}
+use Rattle.station.specs.Sessions.{Grants, Session}
+
+-- what may come next; where memory is wanting while octets are heard, the move says it
+pub data Move : Type 0 where
+  Arrives : (key : ℕ) → Move
+  Says : (memory : Grants) (key : ℕ) (octets : List ℕ) → Move
+  Takes : (key : ℕ) (n : ℕ) → Move
+  Finishes : (key : ℕ) → Move
+  Leaves : (key : ℕ) → Move
+
+-- a key that nobody has is given
+abbrev pub arrived : ℕ → Option Session → StationState → StationState
+arrived k None s = with_arrival k s
+arrived k (Some x) s = s
+
+-- the station after a move
+abbrev pub after_move : Move → StationState → StationState
+after_move (Arrives k) s = arrived k (peer_at s.peers k) s
+after_move (Says memory k octets) s = with_octets memory k octets s
+after_move (Takes k n) s = with_taken k n s
+after_move (Finishes k) s = with_end k s
+after_move (Leaves k) s = without_peer k s
+
+-- .. and after moves, one after another
+abbrev pub after : List Move → StationState → StationState
+after [] s = s
+after (m ∷ ms) s = after ms (after_move m s)
+
+-- a station at this book, without peers
+abbrev pub opened : Book → StationState
+opened b = record { book = b; peers = [] }
+
+-- ---- one peer, until it leaves
+
+-- the octets that were heard of key k with a move
+abbrev pub heard_with : ℕ → Move → StationState → List ℕ
+heard_with k (Says memory j octets) s =
+    if j == k then (if is_read_at s k then octets else []) else []
+heard_with k m s = []
+
+-- .. and with moves
+abbrev pub heard_of : ℕ → List Move → StationState → List ℕ
+heard_of k [] s = []
+heard_of k (m ∷ ms) s = heard_with k m s ++ heard_of k ms (after_move m s)
+
+-- the octets that the peer of key k took with a move
+abbrev pub taken_with : ℕ → Move → StationState → List ℕ
+taken_with k (Takes j n) s = if j == k then take n (owed_at s k) else []
+taken_with k m s = []
+
+-- what the peer of key k is told: what it takes, and what it is owed in the end
+abbrev pub told : ℕ → List Move → StationState → List ℕ
+told k [] s = owed_at s k
+told k (m ∷ ms) s = taken_with k m s ++ told k ms (after_move m s)
+
+-- with this move the peer of key k doesn't leave, and nobody comes in its place
+abbrev pub stays_with : ℕ → Move → Bool
+stays_with k (Leaves j) = if j == k then false else true
+stays_with k m = true
+
+-- .. and with none of these
+abbrev pub Stays : ℕ → List Move → Type 0
+Stays k [] = Unit {0}
+Stays k (m ∷ ms) = (stays_with k m ≡ true) × Stays k ms

@@ -1,0 +1,142 @@
+-- What a peer is told: its session text, and notices between.
+--
+-- The story of a peer is what happened at the station while its session lasted, in order: each of
+-- its messages, and each row that wasn't made by one of them. Three readings of a story are the
+-- session text, the rows, and what the peer is told.
+use Rattle.std.specs.Prelude.{◌≡◌, ℕ, Bool, true, false, List, [], ◌∷◌, ◌++◌, map, Option, Some}
+use Rattle.std.specs.Prelude.{None, Ok, Err}
+use Rattle.site_base.specs.declared.actor.Actor.{Actor}
+use Rattle.site_base.specs.declared.event.Event.{Event}
+use Rattle.site_base.specs.declared.row.Row.{Row}
+use Rattle.site_base.specs.Configured.{Configured}
+use Rattle.app_message.specs.Stream.{stream_of}
+use Rattle.app_message.specs.Telegram.{Telegram}
+use Rattle.device_map.specs.declared.fault.MapFault.{MapFault}
+use Rattle.device_map.specs.Requests.{request_at}
+use Rattle.site_book.specs.Book.{Book}
+use Rattle.till_session.specs.Counters.{Asked, outcome_given, request_asked, rows_made}
+use Rattle.till_session.specs.declared.fault.SessionFault.TheVariants as faults
+use Rattle.till_session.specs.Text.{messages_text, peer_after, session_requests}
+use Rattle.till_session.specs.Text.{session_text}
+use Rattle.station.specs.declared.peer_end.PeerEnd.{PeerEnd}
+use Rattle.station.specs.declared.peer_end.PeerEnd.TheVariants as ends
+use Rattle.station.specs.Notices.{notices_of, octets_of, row_notice, standing_text}
+use Rattle.station.specs.Sessions.{opening_text}
+
+-- a message of the peer, with the request that it is and its answer, if it is one; or a row that
+-- somebody else made
+pub data Happening : Type 0 where
+  Speaks : (message : Telegram) (asked : List Asked) → Happening
+  Passes : (row : Row) → Happening
+
+abbrev pub book_of : Configured → List Row → Book
+book_of c rows = record { config = c; rows = rows }
+
+-- what is said to a message: its part of the session text
+abbrev pub reply_to_one : Option (List ℕ) → Telegram → List Asked → List ℕ
+reply_to_one peer m asked = messages_text [] peer (m ∷ []) (map outcome_given asked)
+
+-- whom the session serves after a story
+abbrev pub peer_in : Option (List ℕ) → List Happening → Option (List ℕ)
+peer_in peer [] = peer
+peer_in peer (Speaks m asked ∷ story) = peer_in (peer_after peer m.from) story
+peer_in peer (Passes r ∷ story) = peer_in peer story
+
+-- the messages of a story
+abbrev pub messages_in : List Happening → List Telegram
+messages_in [] = []
+messages_in (Speaks m asked ∷ story) = m ∷ messages_in story
+messages_in (Passes r ∷ story) = messages_in story
+
+-- the requests of a story, with their answers
+abbrev pub asked_in : List Happening → List Asked
+asked_in [] = []
+asked_in (Speaks m asked ∷ story) = asked ++ asked_in story
+asked_in (Passes r ∷ story) = asked_in story
+
+-- what was asked with a message is the request that it is, if it is one
+abbrev pub IsAskedBy : Telegram → List Asked → Type 0
+IsAskedBy m [] = (f : MapFault) × (request_at m ≡ Err f)
+IsAskedBy m (a ∷ []) = request_at m ≡ Ok (a.actor, a.event)
+IsAskedBy m (a ∷ b ∷ asked) = ⊥
+
+-- .. with each message of a story
+abbrev pub AreAsked : List Happening → Type 0
+AreAsked [] = Unit {0}
+AreAsked (Speaks m asked ∷ story) = IsAskedBy m asked × AreAsked story
+AreAsked (Passes r ∷ story) = AreAsked story
+
+-- the rows of a story
+abbrev pub rows_in : List Happening → List Row
+rows_in [] = []
+rows_in (Speaks m asked ∷ story) = rows_made asked ++ rows_in story
+rows_in (Passes r ∷ story) = r ∷ rows_in story
+
+-- what is said to the messages of a story: the session text, as far as the story goes
+abbrev pub said_in : Option (List ℕ) → List Happening → List ℕ
+said_in peer [] = []
+said_in peer (Speaks m asked ∷ story) =
+    reply_to_one peer m asked ++ said_in (peer_after peer m.from) story
+said_in peer (Passes r ∷ story) = said_in peer story
+
+-- the notices of a story: behind the first message the standing ones, as the point stands then, and
+-- the notice of each row that passes behind it
+abbrev pub notices_in : Configured → List Row → Option (List ℕ) → List Happening → List ℕ
+notices_in c rows peer [] = []
+notices_in c rows peer (Speaks m asked ∷ story) =
+    opening_text peer m.from (book_of c (rows ++ rows_made asked))
+    ++ notices_in c (rows ++ rows_made asked) (peer_after peer m.from) story
+notices_in c rows peer (Passes r ∷ story) =
+    octets_of (row_notice peer r) ++ notices_in c (rows ++ r ∷ []) peer story
+
+-- What a peer is told in a story that begins behind these rows: what is said to each message,
+-- behind the first one's the standing notices, and the notice of each row that passes.
+abbrev pub told_in : Configured → List Row → Option (List ℕ) → List Happening → List ℕ
+told_in c rows peer [] = []
+told_in c rows peer (Speaks m asked ∷ story) =
+    let behind = rows ++ rows_made asked in
+    reply_to_one peer m asked ++ opening_text peer m.from (book_of c behind)
+    ++ told_in c behind (peer_after peer m.from) story
+told_in c rows peer (Passes r ∷ story) =
+    octets_of (row_notice peer r) ++ told_in c (rows ++ r ∷ []) peer story
+
+-- the notices that are due in a story: behind its first message the standing ones, as the point
+-- stands then, and then those of each row, whoever made it
+abbrev pub notices_due : Configured → List Row → List Happening → List ℕ
+notices_due c rows [] = []
+notices_due c rows (Speaks m asked ∷ story) =
+    standing_text (book_of c (rows ++ rows_made asked)) m.from
+    ++ notices_of (Some m.from) (rows_in story)
+notices_due c rows (Passes r ∷ story) = notices_due c (rows ++ r ∷ []) story
+
+-- the session ended early: its text goes on where memory was wanting
+abbrev pub is_whole : Option PeerEnd → Bool
+is_whole (Some (ends.Fault faults.NoMemory)) = false
+is_whole end = true
+
+-- What the peer of a session is told that began behind these rows, where so much was heard of it.
+-- There is a story: its messages are those that were heard, in order, each with the request that it
+-- is; the rows since are its rows, and those behind the session's end. The peer is told the text of
+-- its story, and last why its session ended, if it is told that. What is said in the story is the
+-- session text of what was heard, with the answers that its requests were given, and all its
+-- requests were asked; where memory was wanting, a front of both. The notices in the story are
+-- those that are due.
+pub record IsTold (c : Configured) (before after : List Row) (heard octets : List ℕ)
+    (end : Option PeerEnd) : Type 0 where
+  pub story : List Happening
+  pub unanswered : List Telegram
+  pub messages : (stream_of heard).messages ≡ messages_in story ++ unanswered
+  pub asked : AreAsked story
+  pub late : List Row
+  pub rows : after ≡ before ++ rows_in story ++ late
+  pub lasts : end ≡ None → late ≡ []
+  pub refusal : List ℕ
+  pub told : octets ≡ told_in c before None story ++ refusal
+  pub unsaid : List ℕ
+  pub text : session_text (stream_of heard) (map outcome_given (asked_in story))
+      ≡ said_in None story ++ refusal ++ unsaid
+  pub unasked : List (Actor × Event)
+  pub requests : session_requests (stream_of heard)
+      ≡ map request_asked (asked_in story) ++ unasked
+  pub whole : is_whole end ≡ true → (unsaid ≡ []) × (unasked ≡ [])
+  pub notices : notices_in c before None story ≡ notices_due c before story

@@ -1,0 +1,36 @@
+//! The laws of the station. Each is a function whose contract is the law.
+
+ghost use Rattle.station.specs.Laws.{EachPeerIsToldItsStory, EndsLeaveTheirTill};
+ghost use Rattle.station.specs.Laws.{PeersLeaveTheirTill, RequestsAreAskedInOrder};
+ghost use Rattle.station.specs.Laws.{RowsAreOneHistory, StandingNoticesAreChanges};
+
+/// A peer is told its story: the session text of what was heard of it, with the answers that its
+/// requests were given, and between the notices of its point, each in its place.
+pub fn each_peer_is_told_its_story()
+    ensures { EachPeerIsToldItsStory }
+{}
+
+/// The rows of all peers are one history.
+pub fn rows_are_one_history()
+    ensures { RowsAreOneHistory }
+{}
+
+/// The end of a session leaves its till.
+pub fn ends_leave_their_till()
+    ensures { EndsLeaveTheirTill }
+{}
+
+/// A peer that is gone leaves its till.
+pub fn peers_leave_their_till()
+    ensures { PeersLeaveTheirTill }
+{}
+
+/// Requests are asked in the order in which they are heard.
+pub fn requests_are_asked_in_order()
+    ensures { RequestsAreAskedInOrder }
+{}
+
+/// What a dispenser that comes back is told are changes of its point.
+pub fn standing_notices_are_changes()
+    ensures { StandingNoticesAreChanges }
+{}

@@ -1,0 +1,30 @@
+//! The station without its devices: the sessions of all its peers over one book.
+//!
+//! A `Station` owns a book. Peers arrive, their octets are heard, what they are owed is taken, they
+//! leave: each move is exact (`specs/Moves.antt`, over `specs/Sessions.antt` for one session). A
+//! session is the one of till_session. Beside its session text the peer of a dispenser is told
+//! notices: what stands at its point behind its first message, and from then on each change there.
+//!
+//! The laws (`specs/Laws.antt`) hold over every list of moves: a peer is told its story
+//! (`specs/Stories.antt`), the rows are one history, requests are asked in the order in which they
+//! are heard, and the end of a session leaves its till.
+#![tactic(auto)]
+
+mod asking;
+mod hearing;
+mod laws;
+mod outbox;
+mod paper;
+mod peer;
+mod peer_end;
+mod sizes;
+mod slots;
+mod station;
+
+pub use laws::{
+    each_peer_is_told_its_story, ends_leave_their_till, peers_leave_their_till,
+    requests_are_asked_in_order, rows_are_one_history, standing_notices_are_changes,
+};
+pub use peer_end::PeerEnd;
+pub use sizes::{NOTICE_LIMIT, PEERS, READ_LIMIT};
+pub use station::Station;

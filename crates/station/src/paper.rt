@@ -1,0 +1,187 @@
+//! What is written before it is told.
+
+ghost use Rattle.std.specs.Prelude.{◌≡◌, ◌++◌, Ok, Some, IfOk, OnOk};
+ghost use Rattle.app_message.specs.Spelling.{spelling};
+ghost use Rattle.device_map.specs.Changes.{change_by};
+ghost use Rattle.device_map.specs.Replies.{fault_message};
+ghost use Rattle.till_session.specs.Text.{is_same_node, number_text, outcome_text};
+ghost use Rattle.station.specs.Notices.{events_text, notice_at, octets_of, standing_text};
+ghost use Rattle.station.specs.Papers.{IsChangeTo};
+ghost use Rattle.station.specs.Standing.{release_of, standing_events, stop_of};
+
+use app_message::{Message, StreamFault, encode_into};
+use device_map::{change_of, refusal_in, stream_refusal};
+use site_base::{Actor, Answer, Event, FpNo, NoMemory, NoRow, PointState, PointView, Reply, Row};
+use site_book::SiteBook;
+use std::alloc::Global;
+use std::mem;
+use till_session::reply_to;
+
+/// Buffers that stay: for a message's body, for the octets that a peer is to be told, and for a
+/// notice.
+#[derive(Drop)]
+pub struct Paper {
+    alloc: Global,
+    body: Vec<u8>,
+    pub(crate) text: Vec<u8>,
+    pub(crate) notice: Vec<u8>,
+}
+
+impl Paper {
+    /// Empty buffers. It takes no memory.
+    pub(crate) fn new(alloc: Global) -> Paper {
+        Paper {
+            alloc,
+            body: Vec::new(alloc),
+            text: Vec::new(alloc),
+            notice: Vec::new(alloc),
+        }
+    }
+
+    /// The text is the number that a message is told in place of a reply.
+    pub(crate) fn write_number(&mut self, message: &Message, number: u8) -> Result<(), NoMemory>
+        ensures { OnOk result (self.new.text.items ≡ number_text message.now number) }
+    {
+        let refusal = refusal_in(self.take_body(), &message.as_spelled(), number)?;
+        self.write(refusal)
+    }
+
+    /// The text is what a request was answered: its reply, or why there is no row.
+    pub(crate) fn write_outcome(
+        &mut self,
+        message: &Message,
+        outcome: &Result<Reply, NoRow>,
+    ) -> Result<(), NoMemory>
+        ensures { OnOk result (self.new.text.items ≡ outcome_text message.now outcome.now) }
+    {
+        let reply = reply_to(self.take_body(), message, outcome)?;
+        self.write(reply)
+    }
+
+    /// The text is why a stream ended.
+    pub(crate) fn write_fault(&mut self, fault: &StreamFault) -> Result<(), NoMemory>
+        ensures { OnOk result (self.new.text.items ≡ spelling (fault_message fault.now)) }
+    {
+        let refusal = stream_refusal(self.alloc, fault)?;
+        self.write(refusal)
+    }
+
+    /// The text is a message, whose buffer serves again.
+    fn write(&mut self, message: Message) -> Result<(), NoMemory>
+        ensures { OnOk result (self.new.text.items ≡ spelling message) }
+    {
+        encode_into(&message, &mut self.text)?;
+        self.body = message.into_buffer();
+        Ok(())
+    }
+
+    fn take_body(&mut self) -> Vec<u8> {
+        mem::replace(&mut self.body, Vec::new(self.alloc))
+    }
+
+    /// Writes the standing notices of the peer at a node behind the text: what stands at the point
+    /// whose dispenser it is.
+    pub(crate) fn add_standing(&mut self, book: &SiteBook, node: [u8; 2]) -> Result<(), NoMemory>
+        ensures { OnOk result (self.new.text.items
+            ≡ self.old.text.items ++ standing_text book.now node) }
+    {
+        match FpNo::new(node[1]) {
+            None => Ok(()),
+            Some(p) => match book.point(p) {
+                None => Ok(()),
+                Some(view) => self.add_view(node, p, &view),
+            },
+        }
+    }
+
+    /// Writes what stands at a point, as its dispenser is told it.
+    fn add_view(&mut self, node: [u8; 2], p: FpNo, view: &PointView) -> Result<(), NoMemory>
+        ensures { OnOk result (self.new.text.items
+            ≡ self.old.text.items ++ events_text node (standing_events p view.now)) }
+    {
+        match view.state {
+            PointState::Inoperative | PointState::Closed => Ok(()),
+            PointState::Idle | PointState::Calling => self.add_change(node, p, Event::Open(p)),
+            PointState::Authorised | PointState::Started | PointState::Fuelling => {
+                self.add_change(node, p, Event::Open(p))?;
+                self.add_change(node, p, release_of(p, view))
+            }
+            PointState::SuspendedStarted | PointState::SuspendedFuelling => {
+                self.add_change(node, p, Event::Open(p))?;
+                self.add_change(node, p, release_of(p, view))?;
+                self.add_change(node, p, stop_of(p, view))
+            }
+        }
+    }
+
+    /// Writes the change of an accepted event behind the text, if it goes to this node.
+    fn add_change(&mut self, node: [u8; 2], p: FpNo, event: Event) -> Result<(), NoMemory>
+        ensures { OnOk result (self.new.text.items ≡ self.old.text.items
+            ++ octets_of (notice_at (change_by event) (Some node))) }
+    {
+        match self.write_change(p, event)? {
+            None => {}
+            Some(to) => {
+                if is_same_node(node, to) {
+                    self.text.extend_from_slice(&self.notice)?;
+                }
+            }
+        }
+        Ok(())
+    }
+
+    /// The notice is the change of an accepted event, and the node that it goes to is answered, if
+    /// the event has one. The text stays.
+    pub(crate) fn write_change(
+        &mut self,
+        p: FpNo,
+        event: Event,
+    ) -> Result<Option<[u8; 2]>, NoMemory>
+        ensures change { IfOk result (λ to. IsChangeTo (change_by event) to self.new.notice.items) }
+        ensures text { self.new.text.items ≡ self.old.text.items }
+    {
+        let accepted = &Row {
+            actor: Actor::Dispenser(p),
+            event,
+            reply: Ok(Answer::Done),
+        };
+        match change_of(self.alloc, accepted)? {
+            None => Ok(None),
+            Some(change) => {
+                encode_into(&change, &mut self.notice)?;
+                Ok(Some(change.to()))
+            }
+        }
+    }
+}
+
+/// Are they the same node?
+pub(crate) fn is_same_node(a: [u8; 2], b: [u8; 2]) -> bool
+    ensures { result ≡ is_same_node a b }
+{
+    a[0] == b[0] && a[1] == b[1]
+}
+
+/// How a point was released.
+fn release_of(p: FpNo, view: &PointView) -> Event
+    ensures { result ≡ release_of p view.now }
+{
+    if view.test {
+        return Event::TestRelease(p);
+    }
+    match view.prepaid {
+        Some(cents) => Event::Prepay(p, cents),
+        None => Event::Release(p, view.preset),
+    }
+}
+
+/// How the fuelling at a point was stopped.
+fn stop_of(p: FpNo, view: &PointView) -> Event
+    ensures { result ≡ stop_of p view.now }
+{
+    if view.ending {
+        Event::Terminate(p)
+    } else {
+        Event::Suspend(p)
+    }
+}

@@ -1,0 +1,80 @@
+//! A peer: its session, and what it is owed.
+
+ghost use Rattle.std.specs.Prelude.{◌≡◌, ◌≤◌, [], None, Some, length, nat_lt, is_none, is_some};
+ghost use Rattle.std.specs.Prelude.{IfSome};
+ghost use Rattle.station.specs.PeerViews.{is_at, session_of};
+ghost use Rattle.station.specs.Peers.{listener, noticed_by};
+ghost use Rattle.station.specs.Notices.{notice_at};
+ghost use Rattle.station.specs.Sessions.{is_read, opening_session};
+
+use crate::outbox::Outbox;
+use crate::peer_end::PeerEnd;
+use crate::sizes::{NOTICE_LIMIT, READ_LIMIT};
+use app_message::Decoder;
+use site_base::NoMemory;
+use std::alloc::Global;
+use till_session::Talk;
+
+/// A peer of the station.
+#[derive(Drop)]
+pub struct Peer {
+    pub(crate) decoder: Decoder,
+    pub(crate) talk: Talk,
+    pub(crate) outbox: Outbox,
+    /// How its session ended, if it did.
+    pub(crate) end: Option<PeerEnd>,
+    /// Was it told a notice since it was last asked?
+    pub(crate) has_news: bool,
+}
+
+impl Peer {
+    /// A peer that has said nothing. It takes no memory.
+    pub(crate) fn new(alloc: Global) -> Peer
+        ensures { session_of result ≡ opening_session }
+    {
+        Peer {
+            decoder: Decoder::new(alloc),
+            talk: Talk::new(alloc),
+            outbox: Outbox::new(alloc),
+            end: None,
+            has_news: false,
+        }
+    }
+
+    /// Does its session last?
+    pub(crate) fn lasts(&self) -> bool
+        ensures { result ≡ is_none self.now.end }
+    {
+        self.end.is_none()
+    }
+
+    /// Is it read from? Its session lasts, and it takes what it is owed.
+    pub(crate) fn is_read(&self) -> bool
+        ensures { result ≡ is_read (session_of self.now) }
+    {
+        self.end.is_none() && self.outbox.len() < READ_LIMIT
+    }
+
+    /// Does it listen at this node?
+    pub(crate) fn listens_at(&self, node: [u8; 2]) -> bool
+        ensures { result ≡ is_at (listener self.now.end self.now.talk.peer) node }
+    {
+        match (self.end, self.talk.peer()) {
+            (None, Some(peer)) => peer[0] == node[0] && peer[1] == node[1],
+            _ => false,
+        }
+    }
+
+    /// Tells it a notice, in reserved room; where it is owed too much, its session ends instead.
+    pub(crate) fn notice(&mut self, octets: &[u8])
+        requires { length octets.now ≤ self.old.outbox.room }
+        ensures { session_of self.new ≡ noticed_by (Some octets.now) (session_of self.old) }
+    {
+        if self.outbox.len() > NOTICE_LIMIT {
+            self.end = Some(PeerEnd::Behind);
+        } else {
+            self.outbox.put_reserved(octets);
+        }
+        self.has_news = true;
+    }
+}

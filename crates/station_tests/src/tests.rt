@@ -1,0 +1,3 @@
+//! What no clause says, by octets.
+
+mod notices;
