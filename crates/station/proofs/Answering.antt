@@ -37,9 +37,9 @@ use Rattle.station.specs.Peers.{peer_at, with_notices}
 use Rattle.station.specs.PeerViews.{session_of}
 use Rattle.station.specs.Reads.{is_read_at, is_read_of}
 use Rattle.station.specs.Sessions.{Granted, Grants, Session, Turn, all_granted, answered}
-use Rattle.station.specs.Sessions.{answered_all, answered_by, asked, ended, granted, heard, is_read}
+use Rattle.station.specs.Sessions.{answered_all, answered_by, asked, ended, granted, heard}
 use Rattle.station.specs.Sessions.{no_memory, opening_text, outcome_at, owing, refused_by, served}
-use Rattle.station.specs.Sessions.{taken, told, told_last, with_outcome, without_till}
+use Rattle.station.specs.Sessions.{told, told_last, with_outcome, without_till}
 use Rattle.station.proofs.Courses.{refused-grows}
 use Rattle.station.proofs.Notices.{with_notices-none, with_notices-unchanged}
 use Rattle.station.proofs.Turns.{Grows, all-grows, answered-grows, left-grows}

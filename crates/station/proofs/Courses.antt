@@ -1,5 +1,5 @@
 -- Moves, as one peer sees them.
-use Rattle.std.proofs.Common.{◌≡◌, ◌≢◌, ◌⊎◌, inl, inr, ℕ, ◌==◌, Bool, true, false, List, [], ◌∷◌}
+use Rattle.std.proofs.Common.{◌≡◌, ◌≢◌, inl, inr, ℕ, ◌==◌, Bool, true, false, List, [], ◌∷◌}
 use Rattle.std.proofs.Common.{◌++◌, Option, Some, None, refl, ap, sym, subst, ◌∙◌, append_assoc}
 use Rattle.std.proofs.Common.{append-nil, take, drop, take-append-drop, map}
 use Rattle.std.specs.Prelude.{◌&&◌, if◌then◌else◌, is_none, length, nat_lt, option_map}
@@ -15,7 +15,7 @@ use Rattle.site_book.specs.Book.{Book}
 use Rattle.till_session.specs.declared.fault.SessionFault.TheVariants as faults
 use Rattle.till_session.specs.declared.fault.TalkFault.TheVariants as talk
 use Rattle.till_session.specs.Counters.{outcome_given}
-use Rattle.till_session.specs.Text.{messages_text, refusal_text, session_text}
+use Rattle.till_session.specs.Text.{messages_text, refusal_text}
 use Rattle.till_session.proofs.Talks.{on_none}
 use Rattle.station.specs.declared.peer_end.PeerEnd.{PeerEnd}
 use Rattle.station.specs.declared.peer_end.PeerEnd.TheVariants as ends
@@ -32,9 +32,9 @@ use Rattle.station.specs.Sessions.{is_read, no_memory, opening_session, refused_
 use Rattle.station.specs.Sessions.{told_last}
 use Rattle.station.specs.Stories.{IsTold, asked_in, is_whole, messages_in, rows_in}
 use Rattle.station.specs.Stories.{said_in, told_in}
-use Rattle.station.proofs.Lives.{InCourse, IsDone, IsHearing, IsOverIn, finishes, hears, rows_come}
+use Rattle.station.proofs.Lives.{InCourse, finishes, hears, rows_come}
 use Rattle.station.proofs.Peers.{peer_at-map, peer_at-other, peer_at-same}
-use Rattle.station.proofs.Stories.{IsLiving, notices_are_due}
+use Rattle.station.proofs.Stories.{notices_are_due}
 use Rattle.station.proofs.Turns.{Grows, all-grows, ended-grows, grows_none, grows_then, left-grows}
 use Rattle.station.proofs.Turns.{since}
 

@@ -1,6 +1,6 @@
 -- The book's rows are one history: each move adds rows that the written step makes.
 use Rattle.std.proofs.Common.{◌≡◌, ℕ, Bool, true, false, List, [], ◌∷◌, ◌++◌, Option, Some, None}
-use Rattle.std.proofs.Common.{Ok, Err, refl, sym, ap, subst, append-nil}
+use Rattle.std.proofs.Common.{Ok, Err, refl, sym, subst, append-nil}
 use Rattle.std.specs.Prelude.{if◌then◌else◌, is_none}
 use Rattle.site_base.specs.declared.actor.Actor.{Actor}
 use Rattle.site_base.specs.declared.actor.Actor.TheVariants.{Till}
@@ -165,7 +165,8 @@ pub arrived_book : (k : ℕ) (y : Option Session) (s : StationState) → (arrive
 arrived_book k None s = refl
 arrived_book k (Some x) s = refl
 
-pub taken_book : (k n : ℕ) (y : Option Session) (s : StationState) → (taken_by k n y s).book ≡ s.book
+pub taken_book : (k n : ℕ) (y : Option Session) (s : StationState)
+    → (taken_by k n y s).book ≡ s.book
 taken_book k n None s = refl
 taken_book k n (Some x) s = refl
 

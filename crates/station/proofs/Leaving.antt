@@ -4,12 +4,9 @@ use Rattle.std.proofs.Common.{Some, None, drop, refl, ap, sym, subst, ◌∙◌}
 use Rattle.std.specs.Prelude.{◌&&◌, if◌then◌else◌, is_none, length, nat_lt, option_map}
 use Rattle.std.specs.Prelude.{slice_index}
 use Rattle.std.proofs.lemmas.Bool.{eq-eqb}
-use Rattle.std.specs.Ordering.{nat_cmp}
 use Rattle.std.specs.Cmp.{nat_cmp_total, unsigned_tied}
 use Rattle.std.specs.FinSet as set
-use Rattle.site_base.specs.declared.actor.Actor.{Actor}
 use Rattle.site_base.specs.declared.actor.Actor.TheVariants.{Till}
-use Rattle.site_base.specs.declared.event.Event.{Event}
 use Rattle.site_base.specs.declared.event.Event.TheVariants.{SignOff}
 use Rattle.site_base.specs.declared.refusal.Refusal.{Refusal}
 use Rattle.site_base.specs.declared.row.Row.{Row}
@@ -25,7 +22,6 @@ use Rattle.device_map.proofs.Results.{equal}
 use Rattle.written_site.specs.SiteChecks.{first_refusal}
 use Rattle.written_site.specs.SiteState.{SiteState, is_signed_on, opening}
 use Rattle.written_site.specs.SiteStep.{accepted_site, site_after}
-use Rattle.written_site.specs.SiteRun.{site_of_rows}
 use Rattle.written_site.proofs.Histories.{site_of_rows-push}
 use Rattle.site_book.specs.Book.{Book, next_row, site_of_book, with_row_of}
 use Rattle.till_session.specs.declared.fault.SessionFault.TheVariants as faults

@@ -19,7 +19,6 @@ use Rattle.device_map.specs.Replies.{fault_message}
 use Rattle.device_map.specs.Requests.{request_at}
 use Rattle.site_book.specs.Book.{Book}
 use Rattle.till_session.specs.declared.fault.SessionFault.TheVariants as faults
-use Rattle.till_session.specs.declared.fault.TalkFault.{TalkFault}
 use Rattle.till_session.specs.declared.fault.TalkFault.TheVariants as talk
 use Rattle.till_session.specs.declared.fault.TheConstants.{ORIGINATOR_CHANGED}
 use Rattle.till_session.specs.declared.talk.Meaning.{Meaning}
@@ -36,16 +35,17 @@ use Rattle.station.specs.declared.sizes.TheConstants.{NOTICE_LIMIT}
 use Rattle.station.specs.Notices.{notice_at, notices_of, octets_of, row_notice}
 use Rattle.station.specs.Peers.{listener, noticed, noticed_all, noticed_by}
 use Rattle.station.specs.Sessions.{Granted, Grants, Session, Turn, answered, answered_all}
-use Rattle.station.specs.Sessions.{answered_by, answered_so, end_by, ended, finished, granted, heard}
+use Rattle.station.specs.Sessions.{answered_by, answered_so, end_by, ended, finished, granted}
+use Rattle.station.specs.Sessions.{heard}
 use Rattle.station.specs.Sessions.{no_memory}
-use Rattle.station.specs.Sessions.{opening_text, outcome_at, owing, refused_by, served, taken}
+use Rattle.station.specs.Sessions.{opening_text, outcome_at, refused_by, served, taken}
 use Rattle.station.specs.Sessions.{told, told_last, with_outcome}
 use Rattle.station.specs.Stories.{AreAsked, Happening, asked_in, book_of, is_whole}
 use Rattle.station.specs.Stories.{messages_in, rows_in, said_in, told_in}
 use Rattle.station.proofs.Quiet.{own_quiet}
 use Rattle.station.proofs.Stories.{AreOwnQuiet, IsLiving}
 use Rattle.station.proofs.Stories.{passes, speaks}
-use Rattle.station.proofs.Turns.{Grows, grows_none, grows_then, left-grows, outcome-grows}
+use Rattle.station.proofs.Turns.{Grows, grows_then, left-grows, outcome-grows}
 
 -- a session that ended so: its text is that of these messages and of what stands last
 pub record IsDone (c : Configured) (before : List Row) (had : List ℕ) (all : List Telegram)

@@ -1,8 +1,7 @@
 -- Who is told what.
 use Rattle.std.proofs.Common.{◌≡◌, ℕ, Bool, true, false, List, [], ◌∷◌, ◌++◌, map, Option, Some}
 use Rattle.std.proofs.Common.{None, Result, Ok, Err, refl, ap, sym, ◌∙◌}
-use Rattle.std.specs.Prelude.{option_map, if◌then◌else◌}
-use Rattle.site_base.specs.declared.actor.Actor.{Actor}
+use Rattle.std.specs.Prelude.{if◌then◌else◌}
 use Rattle.site_base.specs.declared.answer.Answer.{Answer}
 use Rattle.site_base.specs.declared.event.Event.{Event}
 use Rattle.site_base.specs.declared.event.Event.TheVariants.{SignOff}
@@ -12,7 +11,7 @@ use Rattle.app_message.specs.Spelling.{spelling}
 use Rattle.app_message.specs.Telegram.{Telegram}
 use Rattle.device_map.specs.Changes.{change_of, change_where}
 use Rattle.till_session.specs.Text.{is_same_node}
-use Rattle.station.specs.Notices.{notice_at, octets_of, row_notice}
+use Rattle.station.specs.Notices.{notice_at}
 use Rattle.station.specs.Peers.{listener, noticed, noticed_all, noticed_by, with_notices}
 use Rattle.station.specs.PeerViews.{is_at, session_noticed, slot_noticed}
 use Rattle.station.specs.Sessions.{Session}

@@ -1,8 +1,8 @@
 -- A peer's own rows are no news to it: a change goes to a dispenser, and a dispenser's reports make
 -- none.
-use Rattle.std.proofs.Common.{◌≡◌, ℕ, Bool, true, false, List, [], ◌∷◌, ◌++◌, Option, Some}
+use Rattle.std.proofs.Common.{◌≡◌, ℕ, Bool, true, false, List, [], Option, Some}
 use Rattle.std.proofs.Common.{None, Result, Ok, Err, refl, ap, sym, ◌∙◌, append-nil}
-use Rattle.std.specs.Prelude.{◌&&◌, ◌==◌, if◌then◌else◌, slice_index}
+use Rattle.std.specs.Prelude.{if◌then◌else◌, slice_index}
 use Rattle.site_base.specs.declared.actor.Actor.{Actor}
 use Rattle.site_base.specs.declared.actor.Actor.TheVariants.{Till, Dispenser}
 use Rattle.site_base.specs.declared.answer.Answer.{Answer}
@@ -10,22 +10,18 @@ use Rattle.site_base.specs.declared.event.Event.{Event}
 use Rattle.site_base.specs.declared.event.Event.TheVariants as events
 use Rattle.site_base.specs.declared.refusal.NoRow.TheVariants as norow
 use Rattle.site_base.specs.declared.refusal.Refusal.{Refusal}
-use Rattle.site_base.specs.declared.row.Row.{Row}
 use Rattle.site_base.specs.Checks.{reply_or}
-use Rattle.app_message.specs.Spelling.{spelling}
 use Rattle.app_message.specs.Telegram.{Telegram}
 use Rattle.device_map.specs.declared.ids.TheConstants as ids
-use Rattle.device_map.specs.Changes.{change_by, change_of, change_where}
-use Rattle.device_map.specs.Requests.{request_at}
+use Rattle.device_map.specs.Changes.{change_by, change_where}
 use Rattle.written_site.specs.SiteChecks.{first_refusal, own_kind}
 use Rattle.written_site.specs.SiteState.{SiteState}
 use Rattle.written_site.specs.SiteStep.{reply_to, site_answer}
 use Rattle.written_site.proofs.Passed.{passed}
 use Rattle.site_book.specs.Book.{Book, book_reply, is_full, site_of_book}
-use Rattle.till_session.specs.Counters.{Outcome, row_made}
-use Rattle.till_session.specs.Course.{IsOwn, IsSpokenBy}
-use Rattle.till_session.specs.Text.{is_another, is_same_node, peer_after}
-use Rattle.till_session.proofs.Speakers.{spoken_by}
+use Rattle.till_session.specs.Counters.{row_made}
+use Rattle.till_session.specs.Course.{IsSpokenBy}
+use Rattle.till_session.specs.Text.{is_same_node}
 use Rattle.station.specs.Notices.{notice_at, notices_of, octets_of, row_notice}
 use Rattle.station.specs.Sessions.{outcome_at}
 

@@ -15,7 +15,7 @@ use Rattle.station.specs.Moves.{StationState, finished_at, freed, heard_from, ro
 use Rattle.station.specs.Moves.{with_end, with_octets, with_taken, with_turn, without_peer}
 use Rattle.station.specs.Peers.{noticed_all}
 use Rattle.station.proofs.Turns.{left-told}
-use Rattle.station.proofs.Peers.{map-with_peer, with_peer-next, with_peer-twice}
+use Rattle.station.proofs.Peers.{map-with_peer, with_peer-twice}
 
 -- the slot at a place, with any default
 pub session_found : (k : ℕ) (slots : List (Option Peer)) (d : Option Peer) → k < length slots

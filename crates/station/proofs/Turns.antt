@@ -1,5 +1,5 @@
 -- Rows that a turn of a session adds.
-use Rattle.std.proofs.Common.{◌≡◌, ℕ, ◌+◌, Bool, true, false, List, [], ◌∷◌, ◌++◌, length, drop}
+use Rattle.std.proofs.Common.{◌≡◌, ℕ, Bool, true, false, List, [], ◌∷◌, ◌++◌, length, drop}
 use Rattle.std.proofs.Common.{Option, Some, None, refl, ap, sym, ◌∙◌, append_assoc, append-nil}
 use Rattle.std.proofs.Common.{arith}
 use Rattle.std.specs.Prelude.{if◌then◌else◌, is_none}
@@ -8,7 +8,6 @@ use Rattle.site_base.specs.declared.actor.Actor.TheVariants.{Till}
 use Rattle.site_base.specs.declared.event.Event.{Event}
 use Rattle.site_base.specs.declared.event.Event.TheVariants.{SignOff}
 use Rattle.site_base.specs.declared.row.Row.{Row}
-use Rattle.site_base.specs.Configured.{Configured}
 use Rattle.app_message.specs.Telegram.{Telegram}
 use Rattle.site_book.specs.Book.{Book, next_row, with_row_of, site_of_book}
 use Rattle.written_site.specs.SiteState.{is_signed_on}
@@ -20,7 +19,7 @@ use Rattle.station.specs.declared.peer_end.PeerEnd.{PeerEnd}
 use Rattle.station.specs.Moves.{rows_since}
 use Rattle.station.specs.Peers.{with_notices}
 use Rattle.station.specs.Sessions.{Granted, Session, Turn, answered, answered_all, answered_by}
-use Rattle.station.specs.Sessions.{answered_so, ended, granted, outcome_at, told, told_last}
+use Rattle.station.specs.Sessions.{ended, granted, outcome_at, told, told_last}
 use Rattle.station.specs.Sessions.{with_outcome, without_till}
 use Rattle.station.proofs.Notices.{no_sign_off_change, with_notices-append, with_notices-none}
 use Rattle.station.proofs.Notices.{with_notices-unchanged}

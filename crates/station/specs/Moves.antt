@@ -1,5 +1,5 @@
 -- The station: a book, and its peers. What each move does.
-use Rattle.std.specs.Prelude.{◌≡◌, ℕ, Bool, is_none, List, [], ◌∷◌, ◌++◌, length, drop}
+use Rattle.std.specs.Prelude.{ℕ, is_none, List, length, drop}
 use Rattle.std.specs.Prelude.{Option, Some, None, if◌then◌else◌}
 use Rattle.site_base.specs.declared.row.Row.{Row}
 use Rattle.site_book.specs.Book.{Book}

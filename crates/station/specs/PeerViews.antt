@@ -4,7 +4,6 @@ use Rattle.std.specs.Prelude.{option_map}
 use Rattle.std.specs.Prelude.{if◌then◌else◌}
 use Rattle.std.specs.Borrow.{Bor}
 use Rattle.std.proofs.Common.{get_or}
-use Rattle.app_message.specs.Telegram.{Telegram}
 use Rattle.till_session.specs.Text.{is_same_node}
 use Rattle.station.specs.declared.peer.Peer.{Peer}
 use Rattle.station.specs.Sessions.{Session}

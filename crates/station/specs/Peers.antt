@@ -1,5 +1,5 @@
 -- The peers of a station by their keys, and what rows tell them.
-use Rattle.std.specs.Prelude.{◌≡◌, ℕ, zero, suc, Bool, nat_lt, List, [], ◌∷◌, ◌++◌, length, map}
+use Rattle.std.specs.Prelude.{ℕ, zero, suc, nat_lt, List, [], ◌∷◌, ◌++◌, length, map}
 use Rattle.std.specs.Prelude.{Option, Some, None, option_map, if◌then◌else◌}
 use Rattle.site_base.specs.declared.row.Row.{Row}
 use Rattle.station.specs.declared.peer_end.PeerEnd.{PeerEnd}

@@ -1,6 +1,6 @@
 -- Lists of moves, from an opening station on: who sent what, and what was told.
-use Rattle.std.specs.Prelude.{◌≡◌, ℕ, ◌==◌, Bool, true, false, is_none, List, [], ◌∷◌, ◌++◌, take}
-use Rattle.std.specs.Prelude.{drop, Option, Some, None, if◌then◌else◌}
+use Rattle.std.specs.Prelude.{◌≡◌, ℕ, ◌==◌, Bool, true, false, List, [], ◌∷◌, ◌++◌, take}
+use Rattle.std.specs.Prelude.{Option, Some, None, if◌then◌else◌}
 use Rattle.site_book.specs.Book.{Book}
 use Rattle.station.specs.Moves.{StationState, with_arrival, with_end, with_octets, with_taken}
 use Rattle.station.specs.Moves.{without_peer}

@@ -1,5 +1,5 @@
 -- What a dispenser that comes back has to know: the changes that its point's state stands for.
-use Rattle.std.specs.Prelude.{ℕ, ◌&&◌, List, [], ◌∷◌, Option, Some, None, if◌then◌else◌}
+use Rattle.std.specs.Prelude.{ℕ, List, [], ◌∷◌, Option, Some, None, if◌then◌else◌}
 use Rattle.site_base.specs.declared.event.Event.{Event}
 use Rattle.site_base.specs.declared.event.Event.TheVariants as events
 use Rattle.site_base.specs.declared.limits.TheConstants.{POINTS}

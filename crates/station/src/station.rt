@@ -142,8 +142,9 @@ impl Station {
     }
 
     /// The least key, from this one on, whose peer was told a notice since its news were last
-    /// taken; None where there is none. Whoever has the connections asks so behind each move, since octets
-    /// are owed then to peers that haven't sent any.
+    /// taken; None where there is none. Whoever has the connections asks so behind each move, since
+    /// octets are owed then to peers that haven't sent any. No contract says that no news are left
+    /// out.
     pub fn take_news(&mut self, from: usize) -> Option<usize>
         ensures same { self.new ≡ self.old }
         ensures key { IfSome result (λ key. (from ≤ key) × (key < PEERS)) }

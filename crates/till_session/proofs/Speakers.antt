@@ -91,6 +91,7 @@ not_another peer from is =
     one : (a b : Bool) → (a && b) ≡ true → a ≡ true
     one true b is = refl
     one false b is = absurd cc
+
     kept : (b : Bool) → not b ≡ false → b ≡ true
     kept true is = refl
     kept false is = absurd cc

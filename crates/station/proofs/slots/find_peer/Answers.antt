@@ -1,6 +1,5 @@
-use Rattle.std.proofs.Common.{◌≡◌, ◌∙◌, Option, Some, None, ap, get_or, sym}
+use Rattle.std.proofs.Common.{◌≡◌, ◌∙◌, Some, None, ap, get_or, sym}
 use Rattle.std.specs.Prelude.{option_map}
-use Rattle.station.specs.declared.peer.Peer.{Peer}
 use Rattle.station.specs.PeerViews.{session_of}
 use Rattle.station.proofs.SlotSessions.{nobody_there, session_found}
 use Rattle.station.proofs.slots.find_peer.Goals as goal

@@ -1,6 +1,6 @@
-use Rattle.std.proofs.Common.{◌∙◌, Option, ap, arith, sym}
+use Rattle.std.proofs.Common.{◌∙◌, ap, sym}
 use Rattle.std.specs.Prelude.{option_map}
-use Rattle.station.specs.PeerViews.{session_of, sessions_of}
+use Rattle.station.specs.PeerViews.{session_of}
 use Rattle.station.proofs.SlotSessions.{nobody_there, session_found, taken_out}
 use Rattle.station.proofs.slots.take_peer.Goals as goal
 
