@@ -165,7 +165,8 @@ pub arrived_book : (k : ℕ) (y : Option Session) (s : StationState) → (arrive
 arrived_book k None s = refl
 arrived_book k (Some x) s = refl
 
-pub taken_book : (k n : ℕ) (y : Option Session) (s : StationState) → (taken_by k n y s).book ≡ s.book
+pub taken_book : (k n : ℕ) (y : Option Session) (s : StationState)
+    → (taken_by k n y s).book ≡ s.book
 taken_book k n None s = refl
 taken_book k n (Some x) s = refl
 

@@ -35,7 +35,8 @@ use Rattle.station.specs.declared.sizes.TheConstants.{NOTICE_LIMIT}
 use Rattle.station.specs.Notices.{notice_at, notices_of, octets_of, row_notice}
 use Rattle.station.specs.Peers.{listener, noticed, noticed_all, noticed_by}
 use Rattle.station.specs.Sessions.{Granted, Grants, Session, Turn, answered, answered_all}
-use Rattle.station.specs.Sessions.{answered_by, answered_so, end_by, ended, finished, granted, heard}
+use Rattle.station.specs.Sessions.{answered_by, answered_so, end_by, ended, finished, granted}
+use Rattle.station.specs.Sessions.{heard}
 use Rattle.station.specs.Sessions.{no_memory}
 use Rattle.station.specs.Sessions.{opening_text, outcome_at, refused_by, served, taken}
 use Rattle.station.specs.Sessions.{told, told_last, with_outcome}

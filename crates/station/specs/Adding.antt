@@ -9,13 +9,12 @@ use Rattle.till_session.specs.Counters.{Asked, request_asked, rows_made, sign_of
 use Rattle.till_session.specs.Text.{requests_in}
 use Rattle.station.specs.Runs.{Move, Says}
 
--- no row, or the sign-off of a till that a session left
+-- no row, or the sign-off of a till
 abbrev pub IsLeaving : List Row → Type 0
 IsLeaving left = (left ≡ []) ⊎ ((t : ℕ) × (left ≡ sign_off_row t ∷ []))
 
 -- a session that serves this peer heard these messages: the first of their requests were asked, in
--- order, and their rows were added, in that order; behind them the sign-off of its till, where the
--- session ended
+-- order, and their rows were added, in that order; behind them at most the sign-off of a till
 pub record AddsRequests (peer : Option (List ℕ)) (ms : List Telegram) (old new : Book) :
     Type 0 where
   pub asked : List Asked
@@ -30,7 +29,7 @@ abbrev pub is_silent : Move → Bool
 is_silent (Says memory k octets) = false
 is_silent m = true
 
--- no row was added, but the sign-off of a till that a session left
+-- no row was added, but at most the sign-off of a till
 pub record AddsSignOff (old new : Book) : Type 0 where
   pub left : List Row
   pub leaving : IsLeaving left

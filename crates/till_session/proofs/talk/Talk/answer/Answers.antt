@@ -7,20 +7,23 @@ use Rattle.till_session.proofs.Talks.{talked_another, talked_another_cut, talked
 use Rattle.till_session.proofs.Talks.{talked_refused}
 use Rattle.till_session.proofs.talk.Talk.answer.Goals as goal
 
-pub returns-in_err-refuse-in-Another-clause-talked : goal.returns-in_err-refuse-in-Another-clause-talked
+pub returns-in_err-refuse-in-Another-clause-talked :
+    goal.returns-in_err-refuse-in-Another-clause-talked
 returns-in_err-refuse-in-Another-clause-talked g c =
     let st = c.args.self.now in
     let other = another_meant st.peer c.args.message.now
     (sym c.take_meaning.ensures.meaning ∙ c.in-Another.is) in
     let p = err_from_is_err_and c.from_residual.result c.from_residual.ensures.1 in
-    let early : ends_early p.0 ≡ true = ap ends_early p.2 ∙ c.in_err-refuse-in-Another.ensures.ends in
+    let early : ends_early p.0 ≡ true =
+    ap ends_early p.2 ∙ c.in_err-refuse-in-Another.ensures.ends in
     let met = c.take_meaning.ensures.peer
     ∙ ap (λ q. record st { peer = q }) (same_peer st.peer c.args.message.now.from other) in
     rw (p.1, c.refuse.ensures.same, met)
     (talked_another_cut p.0 st c.args.message.now _ _ _ _ early other
     c.in_err-refuse-in-Another.ensures.front)
 
-pub returns-in_ok-refuse-in-Another-clause-talked : goal.returns-in_ok-refuse-in-Another-clause-talked
+pub returns-in_ok-refuse-in-Another-clause-talked :
+    goal.returns-in_ok-refuse-in-Another-clause-talked
 returns-in_ok-refuse-in-Another-clause-talked g c =
     let st = c.args.self.now in
     let other = another_meant st.peer c.args.message.now
