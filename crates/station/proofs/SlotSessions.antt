@@ -1,9 +1,11 @@
 -- The slots as sessions.
 use Rattle.std.proofs.Common.{◌≡◌, ℕ, zero, suc, ◌+◌, ◌<◌, ◌≤◌, Bool, true, false, List, [], ◌∷◌}
 use Rattle.std.proofs.Common.{◌++◌, length, get_or, drop}
-use Rattle.std.proofs.Common.{Option, Some, None, refl, ap, sym, subst, ◌∙◌, arith}
+use Rattle.std.proofs.Common.{Option, Some, None, Global, Vec, refl, ap, sym, subst, ◌∙◌, arith}
 use Rattle.std.specs.Prelude.{if◌then◌else◌, is_none, option_map}
 use Rattle.std.proofs.Math.ListN.{set}
+use Rattle.std.specs.Vec.{with_items}
+use Rattle.std.proofs.lemmas.List.{with_items_is}
 use Rattle.station.specs.declared.peer.Peer.{Peer}
 use Rattle.station.specs.Peers.{peer_at, with_notices, with_peer}
 use Rattle.station.specs.PeerViews.{session_of, sessions_of, without_key}
@@ -134,6 +136,30 @@ put_again k x p peers out back taken put =
 
 abbrev pub state : Book → List (Option Session) → StationState
 state b peers = record { book = b; peers = peers }
+
+-- A peer is taken out of lent slots, and another one is put into its slot, where they are lent
+-- again.
+pub record IsPutBack (k : ℕ) (slots : Vec (Option Peer) Global) (taken put : List (Option Peer))
+    (p : Peer) (x : Session) : Type 0 where
+  pub there : Some (session_of p) ≡ peer_at (sessions_of slots.items) k
+  pub out : sessions_of taken ≡ without_key k (Some p) (sessions_of slots.items)
+  pub back : sessions_of put ≡ with_peer k (Some x) (sessions_of taken)
+  pub items : (with_items (with_items slots taken) put).items ≡ put
+
+pub moved_back : (k : ℕ) (slots : Vec (Option Peer) Global)
+    (lent taken again put : List (Option Peer)) (p : Peer) (x : Session)
+    → lent ≡ slots.items → length lent ≡ slots.len → length taken ≡ length lent
+    → again ≡ (with_items slots taken).items → length again ≡ slots.len
+    → length put ≡ length again → Some (session_of p) ≡ peer_at (sessions_of lent) k
+    → sessions_of taken ≡ without_key k (Some p) (sessions_of lent)
+    → sessions_of put ≡ with_peer k (Some x) (sessions_of again)
+    → IsPutBack k slots taken put p x
+moved_back k slots _ taken _ put p x first one kept later two placed there out back = record {
+  there = rw first at there;
+  out = rw first at out;
+  back = rw (later ∙ with_items_is slots taken (kept ∙ one)) at back;
+  items = with_items_is (with_items slots taken) put (placed ∙ two);
+}
 
 pub took : (k n : ℕ) (b : Book) (peers out back : List (Option Session)) (p : Peer) (x : Session)
     → Some (session_of p) ≡ peer_at peers k → out ≡ without_key k (Some p) peers

@@ -107,7 +107,7 @@ quiet-more peer (Passes r ∷ story) h quiet one = quiet-more peer story h quiet
 
 notices_of-append : (node : Option (List ℕ)) (a b : List Row)
     → notices_of node (a ++ b) ≡ notices_of node a ++ notices_of node b
-notices_of-append node [] b = refl
+notices_of-append _ [] b = refl
 notices_of-append node (r ∷ a) b =
     ap (λ t. octets_of (row_notice node r) ++ t) (notices_of-append node a b)
     ∙ sym (append_assoc (octets_of (row_notice node r)) (notices_of node a) (notices_of node b))

@@ -13,7 +13,7 @@ use Rattle.station.specs.Standing.{standing_at}
 
 -- a change as the peer at this node is told it, if it goes there
 abbrev pub notice_at : Option Telegram → Option (List ℕ) → Option (List ℕ)
-notice_at None node = None
+notice_at None _ = None
 notice_at (Some m) None = None
 notice_at (Some m) (Some node) = if is_same_node node m.to then Some (spelling m) else None
 
@@ -28,7 +28,7 @@ row_notice node r = notice_at (change_of r) node
 
 -- the notices of rows, in order
 abbrev pub notices_of : Option (List ℕ) → List Row → List ℕ
-notices_of node [] = []
+notices_of _ [] = []
 notices_of node (r ∷ rows) = octets_of (row_notice node r) ++ notices_of node rows
 
 -- the notices of events, as if they were accepted now
