@@ -30,8 +30,8 @@ use Rattle.station.specs.Reads.{is_read_at, owed_at}
 use Rattle.station.specs.Sessions.{Grants, Session, Turn, answered_all, ended, finished, heard}
 use Rattle.station.specs.Sessions.{is_read, no_memory, opening_session, refused_by, taken}
 use Rattle.station.specs.Sessions.{told_last}
-use Rattle.station.specs.Stories.{IsTold, asked_in, is_whole, messages_in, rows_in}
-use Rattle.station.specs.Stories.{said_in, told_in}
+use Rattle.station.specs.Stories.{IsTold, asked_in, is_all_answered, is_whole, messages_in}
+use Rattle.station.specs.Stories.{refusal_by, rows_in, said_in, told_in}
 use Rattle.station.proofs.Lives.{InCourse, finishes, hears, rows_come}
 use Rattle.station.proofs.Peers.{peer_at-map, peer_at-other, peer_at-same}
 use Rattle.station.proofs.Stories.{notices_are_due}
@@ -255,6 +255,8 @@ own_takes c before had sent k n s seen = record {
         told = all_owed had seen.session.owed n ∙ d.1.told;
         unanswered = d.1.unanswered;
         messages = d.1.messages;
+        answered = d.1.answered;
+        refused = d.1.refused;
         asked = d.1.asked;
         quiet = d.1.quiet;
         unsaid = d.1.unsaid;
@@ -346,10 +348,13 @@ is_told c before had sent b x (inl h) =
       story = l.story;
       unanswered = [];
       messages = sym (append-nil (messages_in l.story) ∙ l.messages);
+      answered = λ is. refl;
       asked = l.asked;
       unasked = [];
       requests = (let all = l.said.requests [] in rw (append-nil ms) at all);
       refusal = [];
+      refused =
+          ap (λ e. refusal_by e (refusal_text (stream_of sent).fault) []) (sym l.lasts);
       late = [];
       rows = l.rows ∙ sym (append-nil (before ++ rows_in l.story));
       lasts = λ is. refl;
@@ -368,10 +373,15 @@ is_told c before had sent b x (inr d) = record {
   story = d.1.story;
   unanswered = d.1.unanswered;
   messages = d.1.messages;
+  answered = λ is. d.1.answered (ap is_all_answered (sym d.1.over) ∙ is);
   asked = d.1.asked;
   unasked = d.1.unasked;
   requests = d.1.requests;
   refusal = d.1.refusal;
+  refused =
+      d.1.refused
+      ∙ ap (λ e. refusal_by e (refusal_text (stream_of sent).fault) d.1.unanswered)
+      (sym d.1.over);
   late = d.1.late;
   rows = d.1.rows;
   lasts = λ none. absurd (let no : Some d.0 ≡ None = sym d.1.over ∙ none in cc);

@@ -40,8 +40,8 @@ use Rattle.station.specs.Sessions.{heard}
 use Rattle.station.specs.Sessions.{no_memory}
 use Rattle.station.specs.Sessions.{opening_text, outcome_at, refused_by, served, taken}
 use Rattle.station.specs.Sessions.{told, told_last, with_outcome}
-use Rattle.station.specs.Stories.{AreAsked, Happening, asked_in, book_of, is_whole}
-use Rattle.station.specs.Stories.{messages_in, rows_in, said_in, told_in}
+use Rattle.station.specs.Stories.{AreAsked, Happening, asked_in, book_of, is_all_answered}
+use Rattle.station.specs.Stories.{is_whole, messages_in, refusal_by, rows_in, said_in, told_in}
 use Rattle.station.proofs.Quiet.{own_quiet}
 use Rattle.station.proofs.Stories.{AreOwnQuiet, IsLiving}
 use Rattle.station.proofs.Stories.{passes, speaks}
@@ -57,6 +57,8 @@ pub record IsDone (c : Configured) (before : List Row) (had : List ℕ) (all : L
   pub told : had ++ x.owed ≡ told_in c before None story ++ refusal
   pub unanswered : List Telegram
   pub messages : all ≡ messages_in story ++ unanswered
+  pub answered : is_all_answered (Some end) ≡ true → unanswered ≡ []
+  pub refused : refusal ≡ refusal_by (Some end) last unanswered
   pub asked : AreAsked story
   pub quiet : AreOwnQuiet None story
   pub unsaid : List ℕ
@@ -90,6 +92,8 @@ stops c before had done later last b b' x x' l g owed over = record {
       ap (λ o. had ++ o) owed ∙ l.told ∙ sym (append-nil (told_in c before None l.story));
   unanswered = later;
   messages = ap (λ ms. ms ++ later) (sym l.messages);
+  answered = λ is. absurd cc;
+  refused = refl;
   asked = l.asked;
   quiet = l.quiet;
   unasked = requests_in x.talk.peer later;
@@ -109,8 +113,8 @@ stops c before had done later last b b' x x' l g owed over = record {
 pub closes : (c : Configured) (before : List Row) (had : List ℕ) (done : List Telegram)
     (last : List ℕ) (end : PeerEnd) (b b' : Book) (x x' : Session)
     → IsLiving c before had done b x → Grows b b' → x'.owed ≡ x.owed ++ last → x'.end ≡ Some end
-    → IsDone c before had done last end b' x'
-closes c before had done last end b b' x x' l g owed over = record {
+    → last ≡ refusal_by (Some end) last [] → IsDone c before had done last end b' x'
+closes c before had done last end b b' x x' l g owed over refused = record {
   story = l.story;
   refusal = last;
   late = g.more;
@@ -120,6 +124,8 @@ closes c before had done last end b b' x x' l g owed over = record {
       ∙ ap (λ t. t ++ last) l.told;
   unanswered = [];
   messages = sym (append-nil (messages_in l.story) ∙ l.messages);
+  answered = λ is. refl;
+  refused = refused;
   asked = l.asked;
   quiet = l.quiet;
   unasked = [];
@@ -133,13 +139,16 @@ closes c before had done last end b b' x x' l g owed over = record {
   over = over;
 }
 
+abbrev another_end : PeerEnd
+another_end = ends.Fault (faults.Talk talk.OriginatorChanged)
+
 -- another originator spoke, and was told so
 another_closes : (c : Configured) (before : List Row) (had : List ℕ) (done later : List Telegram)
-    (m : Telegram) (last : List ℕ) (end : PeerEnd) (b b' : Book) (x x' : Session)
+    (m : Telegram) (last : List ℕ) (b b' : Book) (x x' : Session)
     → IsLiving c before had done b x → is_another x.talk.peer m.from ≡ true → Grows b b'
-    → x'.owed ≡ x.owed ++ number_text m ORIGINATOR_CHANGED → x'.end ≡ Some end
-    → IsDone c before had (done ++ m ∷ later) last end b' x'
-another_closes c before had done later m last end b b' x x' l other g owed over =
+    → x'.owed ≡ x.owed ++ number_text m ORIGINATOR_CHANGED → x'.end ≡ Some another_end
+    → IsDone c before had (done ++ m ∷ later) last another_end b' x'
+another_closes c before had done later m last b b' x x' l other g owed over =
     let n = number_text m ORIGINATOR_CHANGED in
     let is_over = over_then None x.talk.peer done (m ∷ []) (asked_in l.story) [] (said_in None
     l.story) n l.said (another_over x.talk.peer m other) in
@@ -153,6 +162,8 @@ another_closes c before had done later m last end b b' x x' l other g owed over 
           ∙ ap (λ t. t ++ n) l.told;
       unanswered = m ∷ later;
       messages = ap (λ ms. ms ++ m ∷ later) (sym l.messages);
+      answered = λ is. absurd cc;
+      refused = refl;
       asked = l.asked;
       quiet = l.quiet;
       unasked = [];
@@ -175,9 +186,6 @@ another_closes c before had done later m last end b b' x x' l other g owed over 
 
 -- ---- a message
 
-abbrev another_end : PeerEnd
-another_end = ends.Fault (faults.Talk talk.OriginatorChanged)
-
 lasting_answer : (g : Granted) (m : Telegram) (t : Turn) → t.session.end ≡ None
     → answered g m t ≡ answered_by g m (meaning_at t.session.talk.peer m) t
 lasting_answer g m t lasts =
@@ -191,7 +199,7 @@ another_answered : (c : Configured) (before : List Row) (had : List ℕ) (done l
     (told_last memory (number_text m ORIGINATOR_CHANGED) another_end t).session
 another_answered c before had done later m last true t l other = (
   another_end,
-  another_closes c before had done later m last another_end t.book _ t.session _ l other
+  another_closes c before had done later m last t.book _ t.session _ l other
       (left-grows t.session.talk.on t.book) refl refl,
 )
 another_answered c before had done later m last false t l other = (
@@ -407,15 +415,15 @@ over_unrefused memory (Some f) t end over =
 
 fault_told : (c : Configured) (before : List Row) (had : List ℕ) (done : List Telegram)
     (memory : Bool) (text : List ℕ) (end : PeerEnd) (t : Turn)
-    → IsLiving c before had done t.book t.session
+    → IsLiving c before had done t.book t.session → text ≡ refusal_by (Some end) text []
     → (e : PeerEnd) × IsDone c before had done text e (told_last memory text end t).book
     (told_last memory text end t).session
-fault_told c before had done true text end t l = (
+fault_told c before had done true text end t l refused = (
   end,
   closes c before had done text end t.book _ t.session _ l (left-grows t.session.talk.on t.book)
-      refl refl,
+      refl refl refused,
 )
-fault_told c before had done false text end t l = (
+fault_told c before had done false text end t l refused = (
   no_memory,
   (let stopped = stops c before had done [] text t.book (ended no_memory t).book t.session
       (ended no_memory t).session l (left-grows t.session.talk.on t.book) refl refl in
@@ -432,7 +440,7 @@ fault_refused c before had sent memory f t is l =
     let end : PeerEnd = ends.Fault (faults.Talk (talk.Stream f.fault)) in
     let there : refused_by memory (Some f) t ≡ told_last memory text end t =
     ap (λ e. if is_none e then told_last memory text end t else t) l.lasts in
-    let over = fault_told c before had (stream_of sent).messages memory text end t l in
+    let over = fault_told c before had (stream_of sent).messages memory text end t l refl in
     subst (λ (u : Turn). IsOverIn c before had sent u.book u.session) (sym there)
     (over.0, rw is over.1)
 
@@ -506,6 +514,15 @@ hears c before had sent piece g t h = by_piece g.piece
 
 -- ---- the end of its octets
 
+-- where nothing stands last, and no message is left, nothing is refused
+none_refused : (end : PeerEnd) → [] ≡ refusal_by (Some end) [] []
+none_refused ends.Well = refl
+none_refused ends.Behind = refl
+none_refused (ends.Fault (faults.Talk talk.OriginatorChanged)) = refl
+none_refused (ends.Fault (faults.Talk (talk.Stream f))) = refl
+none_refused (ends.Fault (faults.Talk talk.Truncated)) = refl
+none_refused (ends.Fault f) = refl
+
 -- a session that lasts closes, and nothing more is told
 closed : (c : Configured) (before : List Row) (had sent : List ℕ) (end : PeerEnd) (b b' : Book)
     (x x' : Session) → IsHearing c before had sent b x → Grows b b' → x'.owed ≡ x.owed
@@ -514,7 +531,7 @@ closed c before had sent end b b' x x' h g owed over = (
   end,
   rw h.sound
       (closes c before had (stream_of sent).messages [] end b b' x x' h.living g
-      (owed ∙ sym (append-nil x.owed)) over),
+      (owed ∙ sym (append-nil x.owed)) over (none_refused end)),
 )
 
 pub finishes : (c : Configured) (before : List Row) (had sent : List ℕ) (t : Turn)
@@ -551,6 +568,8 @@ later_rows c before had all last end b b' x d g = record {
   told = d.told;
   unanswered = d.unanswered;
   messages = d.messages;
+  answered = d.answered;
+  refused = d.refused;
   asked = d.asked;
   quiet = d.quiet;
   unsaid = d.unsaid;

@@ -16,8 +16,10 @@ use Rattle.device_map.specs.Requests.{request_at}
 use Rattle.site_book.specs.Book.{Book}
 use Rattle.till_session.specs.Counters.{Asked, outcome_given, request_asked, rows_made}
 use Rattle.till_session.specs.declared.fault.SessionFault.TheVariants as faults
-use Rattle.till_session.specs.Text.{messages_text, peer_after, session_requests}
-use Rattle.till_session.specs.Text.{session_text}
+use Rattle.till_session.specs.declared.fault.TalkFault.TheVariants as talk
+use Rattle.till_session.specs.declared.fault.TheConstants.{ORIGINATOR_CHANGED}
+use Rattle.till_session.specs.Text.{messages_text, number_text, peer_after, refusal_text}
+use Rattle.till_session.specs.Text.{session_requests, session_text}
 use Rattle.station.specs.declared.peer_end.PeerEnd.{PeerEnd}
 use Rattle.station.specs.declared.peer_end.PeerEnd.TheVariants as ends
 use Rattle.station.specs.Notices.{notices_of, octets_of, row_notice, standing_text}
@@ -109,28 +111,46 @@ notices_due c rows (Speaks m asked ∷ story) =
     ++ notices_of (Some m.from) (rows_in story)
 notices_due c rows (Passes r ∷ story) = notices_due c (rows ++ r ∷ []) story
 
--- the session ended early: its text goes on where memory was wanting
+-- the session's text is whole: it isn't where memory was wanting
 abbrev pub is_whole : Option PeerEnd → Bool
 is_whole (Some (ends.Fault faults.NoMemory)) = false
 is_whole end = true
 
+-- Each message that was heard is answered, unless memory was wanting or another originator spoke.
+abbrev pub is_all_answered : Option PeerEnd → Bool
+is_all_answered (Some (ends.Fault faults.NoMemory)) = false
+is_all_answered (Some (ends.Fault (faults.Talk talk.OriginatorChanged))) = false
+is_all_answered end = true
+
+-- What a session that ended so is told last, by the refusal of its stream and the messages that
+-- weren't answered: another originator that it is another, a fault of the stream its refusal; else
+-- nothing.
+abbrev pub refusal_by : Option PeerEnd → List ℕ → List Telegram → List ℕ
+refusal_by (Some (ends.Fault (faults.Talk talk.OriginatorChanged))) last (m ∷ unanswered) =
+    number_text m ORIGINATOR_CHANGED
+refusal_by (Some (ends.Fault (faults.Talk (talk.Stream f)))) last unanswered = last
+refusal_by end last unanswered = []
+
 -- What the peer of a session is told that began behind these rows, where so much was heard of it.
--- There is a story: its messages are those that were heard, in order, each with the request that it
--- is; the rows since are its rows, and those behind the session's end. The peer is told the text of
--- its story, and last why its session ended, if it is told that. What is said in the story is the
--- session text of what was heard, with the answers that its requests were given, and all its
--- requests were asked; where memory was wanting, a front of both. The notices in the story are
--- those that are due.
+-- There is a story: its messages are the first of those that were heard, in order, each with the
+-- request that it is. The rows since are its rows, and late ones: those behind the session's end,
+-- and before them the row whose reply found no memory, if there is one. A session that lasts has no
+-- late rows. The peer is told the text of its story, and last the refusal of its session's end.
+-- What is said in the story is the session text of what was heard, with the answers that its
+-- requests were given, and all its requests were asked; where memory was wanting, a front of both.
+-- The notices in the story are those that are due.
 pub record IsTold (c : Configured) (before after : List Row) (heard octets : List ℕ)
     (end : Option PeerEnd) : Type 0 where
   pub story : List Happening
   pub unanswered : List Telegram
   pub messages : (stream_of heard).messages ≡ messages_in story ++ unanswered
+  pub answered : is_all_answered end ≡ true → unanswered ≡ []
   pub asked : AreAsked story
   pub late : List Row
   pub rows : after ≡ before ++ rows_in story ++ late
   pub lasts : end ≡ None → late ≡ []
   pub refusal : List ℕ
+  pub refused : refusal ≡ refusal_by end (refusal_text (stream_of heard).fault) unanswered
   pub told : octets ≡ told_in c before None story ++ refusal
   pub unsaid : List ℕ
   pub text : session_text (stream_of heard) (map outcome_given (asked_in story))
