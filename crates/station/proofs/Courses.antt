@@ -236,6 +236,7 @@ own_takes c before had sent k n s seen = record {
         rows = h.living.rows;
         told = all_owed had seen.session.owed n ∙ h.living.told;
         peer = h.living.peer;
+        signed = h.living.signed;
         said = h.living.said;
         messages = h.living.messages;
         asked = h.living.asked;
@@ -264,6 +265,7 @@ own_takes c before had sent k n s seen = record {
         unasked = d.1.unasked;
         requests = d.1.requests;
         whole = d.1.whole;
+        signed = d.1.signed;
         over = d.1.over;
       },
     )
@@ -340,7 +342,8 @@ moves c before had sent k (Leaves j) s stays seen = by_key (j == k) refl stays
 -- ---- what it is told
 
 is_told : (c : Configured) (before : List Row) (had sent : List ℕ) (b : Book) (x : Session)
-    → InCourse c before had sent b x → IsTold c before b.rows sent (had ++ x.owed) x.end
+    → InCourse c before had sent b x → IsTold c before b.rows sent (had ++ x.owed)
+    x.talk.on x.end
 is_told c before had sent b x (inl h) =
     let l = h.living in
     let ms = (stream_of sent).messages in
@@ -367,6 +370,7 @@ is_told c before had sent b x (inl h) =
           rw (append-nil ms, append-nil (map outcome_given (asked_in l.story))) at whole)
           ∙ sym (append-nil (said_in None l.story ++ []));
       whole = λ is. (refl, refl);
+      signed = λ is. l.signed;
       notices = notices_are_due c before l.story l.quiet;
     }
 is_told c before had sent b x (inr d) = record {
@@ -389,13 +393,15 @@ is_told c before had sent b x (inr d) = record {
   unsaid = d.1.unsaid;
   text = d.1.text;
   whole = λ is. d.1.whole (ap is_whole (sym d.1.over) ∙ is);
+  signed = λ is. d.1.signed (ap is_whole (sym d.1.over) ∙ is);
   notices = notices_are_due c before d.1.story d.1.quiet;
 }
 
 pub runs : (c : Configured) (before : List Row) (k : ℕ) (ms : List Move) (had sent : List ℕ)
     (s : StationState) → Stays k ms → IsSeen c before had sent k s
     → (x : Session) × (peer_at (after ms s).peers k ≡ Some x)
-    × IsTold c before (after ms s).book.rows (sent ++ heard_of k ms s) (had ++ told k ms s) x.end
+    × IsTold c before (after ms s).book.rows (sent ++ heard_of k ms s) (had ++ told k ms s)
+    x.talk.on x.end
 runs c before k [] had sent s stays seen = (
   seen.session,
   seen.there,
@@ -407,10 +413,10 @@ runs c before k (m ∷ ms) had sent s stays seen =
       next.0,
       next.1,
       subst (λ o. IsTold c before (after (m ∷ ms) s).book.rows
-          (sent ++ heard_of k (m ∷ ms) s) o next.0.end)
+          (sent ++ heard_of k (m ∷ ms) s) o next.0.talk.on next.0.end)
           (append_assoc had (taken_with k m s) (told k ms (after_move m s)))
           (subst (λ o. IsTold c before (after (m ∷ ms) s).book.rows o
-          ((had ++ taken_with k m s) ++ told k ms (after_move m s)) next.0.end)
+          ((had ++ taken_with k m s) ++ told k ms (after_move m s)) next.0.talk.on next.0.end)
           (append_assoc sent (heard_with k m s) (heard_of k ms (after_move m s))) next.2),
     )
 
@@ -428,6 +434,7 @@ arrives k s = record {
       rows = sym (append-nil s.book.rows);
       told = refl;
       peer = refl;
+      signed = refl;
       said = on_none None;
       messages = refl;
       asked = tt;

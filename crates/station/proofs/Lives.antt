@@ -24,6 +24,7 @@ use Rattle.till_session.specs.declared.fault.TheConstants.{ORIGINATOR_CHANGED}
 use Rattle.till_session.specs.declared.talk.Meaning.{Meaning}
 use Rattle.till_session.specs.declared.talk.Meaning.TheVariants as meanings
 use Rattle.till_session.specs.Counters.{Asked, outcome_given, request_asked, row_made, rows_made}
+use Rattle.till_session.specs.Counters.{signed_on_after}
 use Rattle.till_session.specs.Course.{TalkState}
 use Rattle.till_session.specs.Text.{is_another, left_over, meaning_at, messages_text, number_text}
 use Rattle.till_session.specs.Text.{outcome_text, peer_after, refusal_text, requests_in}
@@ -67,6 +68,7 @@ pub record IsDone (c : Configured) (before : List Row) (had : List ℕ) (all : L
   pub unasked : List (Actor × Event)
   pub requests : requests_in None all ≡ map request_asked (asked_in story) ++ unasked
   pub whole : is_whole (Some end) ≡ true → (unsaid ≡ []) × (unasked ≡ [])
+  pub signed : is_whole (Some end) ≡ true → x.talk.on ≡ signed_on_after None (asked_in story)
   pub over : x.end ≡ Some end
 
 -- a session that lasts in these messages, or has ended
@@ -106,6 +108,7 @@ stops c before had done later last b b' x x' l g owed over = record {
       ∙ ap (λ s. s ++ messages_text last x.talk.peer later [])
       (sym (append-nil (said_in None l.story)));
   whole = λ is. absurd cc;
+  signed = λ is. absurd cc;
   over = over;
 }
 
@@ -113,8 +116,9 @@ stops c before had done later last b b' x x' l g owed over = record {
 pub closes : (c : Configured) (before : List Row) (had : List ℕ) (done : List Telegram)
     (last : List ℕ) (end : PeerEnd) (b b' : Book) (x x' : Session)
     → IsLiving c before had done b x → Grows b b' → x'.owed ≡ x.owed ++ last → x'.end ≡ Some end
-    → last ≡ refusal_by (Some end) last [] → IsDone c before had done last end b' x'
-closes c before had done last end b b' x x' l g owed over refused = record {
+    → last ≡ refusal_by (Some end) last [] → x'.talk.on ≡ x.talk.on
+    → IsDone c before had done last end b' x'
+closes c before had done last end b b' x x' l g owed over refused on = record {
   story = l.story;
   refusal = last;
   late = g.more;
@@ -136,6 +140,7 @@ closes c before had done last end b b' x x' l g owed over refused = record {
       rw (append-nil done, append-nil (map outcome_given (asked_in l.story))) at whole)
       ∙ sym (append-nil (said_in None l.story ++ last));
   whole = λ is. (refl, refl);
+  signed = λ is. on ∙ l.signed;
   over = over;
 }
 
@@ -147,8 +152,9 @@ another_closes : (c : Configured) (before : List Row) (had : List ℕ) (done lat
     (m : Telegram) (last : List ℕ) (b b' : Book) (x x' : Session)
     → IsLiving c before had done b x → is_another x.talk.peer m.from ≡ true → Grows b b'
     → x'.owed ≡ x.owed ++ number_text m ORIGINATOR_CHANGED → x'.end ≡ Some another_end
+    → x'.talk.on ≡ x.talk.on
     → IsDone c before had (done ++ m ∷ later) last another_end b' x'
-another_closes c before had done later m last b b' x x' l other g owed over =
+another_closes c before had done later m last b b' x x' l other g owed over on =
     let n = number_text m ORIGINATOR_CHANGED in
     let is_over = over_then None x.talk.peer done (m ∷ []) (asked_in l.story) [] (said_in None
     l.story) n l.said (another_over x.talk.peer m other) in
@@ -181,6 +187,7 @@ another_closes c before had done later m last b b' x x' l other g owed over =
           ) at whole)
           ∙ sym (append-nil (said_in None l.story ++ n));
       whole = λ is. (refl, refl);
+      signed = λ is. on ∙ l.signed;
       over = over;
     }
 
@@ -200,7 +207,7 @@ another_answered : (c : Configured) (before : List Row) (had : List ℕ) (done l
 another_answered c before had done later m last true t l other = (
   another_end,
   another_closes c before had done later m last t.book _ t.session _ l other
-      (left-grows t.session.talk.on t.book) refl refl,
+      (left-grows t.session.talk.on t.book) refl refl refl,
 )
 another_answered c before had done later m last false t l other = (
   no_memory,
@@ -220,7 +227,7 @@ fault_answered : (c : Configured) (before : List Row) (had : List ℕ) (done lat
 fault_answered c before had done later m last f true t l same is =
     inl (speaks c before had done t.book t.book t.session _ m [] (number_text m (map_number f)) l
     (refused_on t.session.talk.peer m f same is) refl (sym (append-nil t.book.rows)) refl l.lasts
-    refl refl (f, is))
+    refl refl (f, is) refl)
 fault_answered c before had done later m last f false t l same is =
     inr (
       no_memory,
@@ -249,7 +256,7 @@ request_answered c before had done later m last actor event row true t l same is
     inl (speaks c before had done t.book (with_outcome actor event outcome t.book) t.session _ m
     (a ∷ []) (outcome_text m outcome) l (answered_on p m a same is) refl
     (ap (λ rs. t.book.rows ++ rs) (sym made)) refl l.lasts refl
-    (ap (notices_of (peer_after p m.from)) made ∙ own) is)
+    (ap (notices_of (peer_after p m.from)) made ∙ own) is refl)
 request_answered c before had done later m last actor event row false t l same is =
     let outcome = outcome_at row t.book actor event in
     inr (
@@ -391,6 +398,7 @@ same_living c before had done b x x' l talk owed end = record {
   rows = l.rows;
   told = ap (λ o. had ++ o) owed ∙ l.told;
   peer = ap (λ (s : TalkState). s.peer) talk ∙ l.peer;
+  signed = ap (λ (s : TalkState). s.on) talk ∙ l.signed;
   said = rw talk l.said;
   messages = l.messages;
   asked = l.asked;
@@ -421,7 +429,7 @@ fault_told : (c : Configured) (before : List Row) (had : List ℕ) (done : List 
 fault_told c before had done true text end t l refused = (
   end,
   closes c before had done text end t.book _ t.session _ l (left-grows t.session.talk.on t.book)
-      refl refl refused,
+      refl refl refused refl,
 )
 fault_told c before had done false text end t l refused = (
   no_memory,
@@ -526,12 +534,12 @@ none_refused (ends.Fault f) = refl
 -- a session that lasts closes, and nothing more is told
 closed : (c : Configured) (before : List Row) (had sent : List ℕ) (end : PeerEnd) (b b' : Book)
     (x x' : Session) → IsHearing c before had sent b x → Grows b b' → x'.owed ≡ x.owed
-    → x'.end ≡ Some end → IsOverIn c before had sent b' x'
-closed c before had sent end b b' x x' h g owed over = (
+    → x'.end ≡ Some end → x'.talk.on ≡ x.talk.on → IsOverIn c before had sent b' x'
+closed c before had sent end b b' x x' h g owed over on = (
   end,
   rw h.sound
       (closes c before had (stream_of sent).messages [] end b b' x x' h.living g
-      (owed ∙ sym (append-nil x.owed)) over (none_refused end)),
+      (owed ∙ sym (append-nil x.owed)) over (none_refused end) on),
 )
 
 pub finishes : (c : Configured) (before : List Row) (had sent : List ℕ) (t : Turn)
@@ -539,7 +547,7 @@ pub finishes : (c : Configured) (before : List Row) (had sent : List ℕ) (t : T
     → IsOverIn c before had sent (finished t).book (finished t).session
 finishes c before had sent t h =
     closed c before had sent (end_by (left_over t.session.held.rest)) t.book (finished t).book
-    t.session (finished t).session h (left-grows t.session.talk.on t.book) refl refl
+    t.session (finished t).session h (left-grows t.session.talk.on t.book) refl refl refl
 
 -- ---- rows of others
 
@@ -577,6 +585,7 @@ later_rows c before had all last end b b' x d g = record {
   unasked = d.unasked;
   requests = d.requests;
   whole = d.whole;
+  signed = d.signed;
   over = d.over;
 }
 
@@ -605,7 +614,7 @@ row_passes c before had sent b x r h =
         by_test true =
             inr (closed c before had sent ends.Behind b (record b { rows = b.rows ++ r ∷ [] }) x
             (record x { end = Some ends.Behind }) h
-            (record { more = r ∷ []; rows = refl; same = refl }) refl refl)
+            (record { more = r ∷ []; rows = refl; same = refl }) refl refl refl)
         by_test false = inl (record {
           living = passes c before had (stream_of sent).messages b _ x _ r h.living refl refl refl
               h.living.lasts (ap (λ n. x.owed ++ octets_of n) (sym is));

@@ -5,7 +5,7 @@ use Rattle.site_base.specs.declared.row.Row.{Row}
 use Rattle.site_base.specs.Configured.{Configured}
 use Rattle.app_message.specs.Telegram.{Telegram}
 use Rattle.site_book.specs.Book.{Book}
-use Rattle.till_session.specs.Counters.{Asked, outcome_given, rows_made}
+use Rattle.till_session.specs.Counters.{Asked, outcome_given, rows_made, signed_by, signed_on_after}
 use Rattle.till_session.specs.Course.{GoesOn, TalkState}
 use Rattle.till_session.specs.Text.{messages_text, peer_after}
 use Rattle.till_session.proofs.Talks.{on_then}
@@ -87,6 +87,19 @@ said-more peer (Speaks m asked ∷ story) h =
     (said_in (peer_in q story) (h ∷ [])))
 said-more peer (Passes r ∷ story) h = said-more peer story h
 
+signed-append : (on : Option ℕ) (a b : List Asked)
+    → signed_on_after on (a ++ b) ≡ signed_on_after (signed_on_after on a) b
+signed-append on [] b = refl
+signed-append on (x ∷ a) b = signed-append (signed_by x.actor x.event x.outcome on) a b
+
+-- the till that is signed on after one happening more
+signed-more : (story : List Happening) (h : Happening)
+    → signed_on_after None (asked_in (story ++ h ∷ []))
+    ≡ signed_on_after (signed_on_after None (asked_in story)) (asked_in (h ∷ []))
+signed-more story h =
+    ap (signed_on_after None) (asked-more story h)
+    ∙ signed-append None (asked_in story) (asked_in (h ∷ []))
+
 -- ---- own rows are no news to a peer
 
 -- each row that a message of the story made is none that its peer is told
@@ -154,6 +167,7 @@ pub record IsLiving (c : Configured) (before : List Row) (had : List ℕ) (answe
   pub rows : b.rows ≡ before ++ rows_in story
   pub told : had ++ x.owed ≡ told_in c before None story
   pub peer : x.talk.peer ≡ peer_in None story
+  pub signed : x.talk.on ≡ signed_on_after None (asked_in story)
   pub said : GoesOn None x.talk.peer answered (asked_in story) (said_in None story)
   pub messages : messages_in story ≡ answered
   pub asked : AreAsked story
@@ -194,6 +208,7 @@ passes c before had ms b b' x x' r l same more talk lasts owed =
           (ap (λ q. octets_of (row_notice q r)) l.peer
           ∙ sym (append-nil (octets_of (row_notice (peer_in None l.story) r))));
       peer = ap (λ (t : TalkState). t.peer) talk ∙ l.peer ∙ sym (peer-more None l.story h);
+      signed = ap (λ (t : TalkState). t.on) talk ∙ l.signed ∙ sym (signed-more l.story h);
       said =
           let asked : asked_in (l.story ++ h ∷ []) ≡ asked_in l.story =
           asked-more l.story h ∙ append-nil (asked_in l.story) in
@@ -223,8 +238,9 @@ pub speaks : (c : Configured) (before : List Row) (had : List ℕ) (ms : List Te
     → x'.talk.peer ≡ peer_after x.talk.peer m.from → x'.end ≡ None
     → x'.owed ≡ x.owed ++ (text ++ opening_text x.talk.peer m.from b')
     → notices_of (peer_after x.talk.peer m.from) (rows_made asked) ≡ [] → IsAskedBy m asked
+    → x'.talk.on ≡ signed_on_after x.talk.on asked
     → IsLiving c before had (ms ++ m ∷ []) b' x'
-speaks c before had ms b b' x x' m asked text l on same more peer lasts owed quiet asks =
+speaks c before had ms b b' x x' m asked text l on same more peer lasts owed quiet asks signed =
     let h = Speaks m asked in
     let p = x.talk.peer in
     let behind = (before ++ rows_in l.story) ++ rows_made asked in
@@ -251,6 +267,11 @@ speaks c before had ms b b' x x' m asked text l on same more peer lasts owed qui
       peer =
           peer ∙ ap (λ q. peer_after q m.from) l.peer
           ∙ sym (peer-more None l.story h);
+      signed =
+          signed ∙ ap (λ o. signed_on_after o asked) l.signed
+          ∙ ap (signed_on_after (signed_on_after None (asked_in l.story)))
+          (sym (append-nil asked))
+          ∙ sym (signed-more l.story h);
       said =
           let all : asked_in (l.story ++ h ∷ []) ≡ asked_in l.story ++ asked =
           asked-more l.story h ∙ ap (λ a. asked_in l.story ++ a) (append-nil asked) in

@@ -26,7 +26,7 @@ EachPeerIsToldItsStory = (s : StationState) (k : ℕ) (ms : List Move)
     → let start = with_arrival k s in
     (x : Session) × (peer_at (after ms start).peers k ≡ Some x)
     × IsTold s.book.config s.book.rows (after ms start).book.rows (heard_of k ms start)
-    (told k ms start) x.end
+    (told k ms start) x.talk.on x.end
 
 -- The book's rows are one history, whatever moves come at a station of a book whose rows are one:
 -- moves only add rows, and each reply is the written step's at the site that the rows before it led

@@ -15,6 +15,7 @@ use Rattle.device_map.specs.declared.fault.MapFault.{MapFault}
 use Rattle.device_map.specs.Requests.{request_at}
 use Rattle.site_book.specs.Book.{Book}
 use Rattle.till_session.specs.Counters.{Asked, outcome_given, request_asked, rows_made}
+use Rattle.till_session.specs.Counters.{signed_on_after}
 use Rattle.till_session.specs.declared.fault.SessionFault.TheVariants as faults
 use Rattle.till_session.specs.declared.fault.TalkFault.TheVariants as talk
 use Rattle.till_session.specs.declared.fault.TheConstants.{ORIGINATOR_CHANGED}
@@ -137,10 +138,11 @@ refusal_by end last unanswered = []
 -- and before them the row whose reply found no memory, if there is one. A session that lasts has no
 -- late rows. The peer is told the text of its story, and last the refusal of its session's end.
 -- What is said in the story is the session text of what was heard, with the answers that its
--- requests were given, and all its requests were asked; where memory was wanting, a front of both.
--- The notices in the story are those that are due.
+-- requests were given, all its requests were asked, and the session is signed on as the till that
+-- they leave signed on; where memory was wanting, a front of the text and of the requests. The
+-- notices in the story are those that are due.
 pub record IsTold (c : Configured) (before after : List Row) (heard octets : List ℕ)
-    (end : Option PeerEnd) : Type 0 where
+    (on : Option ℕ) (end : Option PeerEnd) : Type 0 where
   pub story : List Happening
   pub unanswered : List Telegram
   pub messages : (stream_of heard).messages ≡ messages_in story ++ unanswered
@@ -159,4 +161,5 @@ pub record IsTold (c : Configured) (before after : List Row) (heard octets : Lis
   pub requests : session_requests (stream_of heard)
       ≡ map request_asked (asked_in story) ++ unasked
   pub whole : is_whole end ≡ true → (unsaid ≡ []) × (unasked ≡ [])
+  pub signed : is_whole end ≡ true → on ≡ signed_on_after None (asked_in story)
   pub notices : notices_in c before None story ≡ notices_due c before story
