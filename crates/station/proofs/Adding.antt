@@ -32,6 +32,7 @@ use Rattle.station.specs.Adding.{AddsRequests, AddsSignOff, IsLeaving, is_silent
 use Rattle.station.specs.Moves.{StationState, finished_at, heard_from, with_end, with_octets}
 use Rattle.station.specs.Moves.{with_turn}
 use Rattle.station.specs.Peers.{peer_at}
+use Rattle.station.specs.Reads.{is_read_at, is_read_of}
 use Rattle.station.specs.Runs.{Arrives, Finishes, Leaves as Gone, Move, Says, Takes, after_move}
 use Rattle.station.specs.Sessions.{Granted, Grants, Session, Turn, answered, answered_all}
 use Rattle.station.specs.Sessions.{answered_by, asked, ended, finished, granted, heard, is_read}
@@ -291,6 +292,18 @@ octets_ask s memory k octets x there read =
     (subst (λ b. AddsRequests x.talk.peer ms s.book
     (if b then with_turn k (heard memory octets start) s else s).book)
     (sym read) (piece_asks memory octets start))
+
+-- octets for a key whose peer isn't read from, or that nobody has
+pub octets_unheard : (s : StationState) (memory : Grants) (k : ℕ) (octets : List ℕ)
+    → is_read_at s k ≡ false → with_octets memory k octets s ≡ s
+octets_unheard s memory k octets unread = by_slot (peer_at s.peers k) unread
+  where
+    by_slot : (y : Option Session) → is_read_of y ≡ false → heard_from memory k octets y s ≡ s
+    by_slot None unread = refl
+    by_slot (Some x) unread =
+        ap (λ b. if b
+        then with_turn k (heard memory octets (record { book = s.book; session = x })) s
+        else s) unread
 
 -- ---- moves without octets
 
