@@ -10,7 +10,7 @@ use Rattle.written_site.specs.SiteRun.{IsLegal}
 use Rattle.written_site.specs.SiteState.{is_signed_on, opening}
 use Rattle.site_book.specs.Book.{Book, site_of_book}
 use Rattle.station.specs.declared.peer_end.PeerEnd.{PeerEnd}
-use Rattle.station.specs.Adding.{AddsRequests, AddsSignOff, is_silent}
+use Rattle.station.specs.Adding.{AddsRequests, AddsSignOff, is_silent, till_left}
 use Rattle.station.specs.Moves.{StationState, with_arrival, with_octets, without_peer}
 use Rattle.station.specs.Peers.{peer_at}
 use Rattle.station.specs.Reads.{is_read_at}
@@ -61,16 +61,17 @@ PeersLeaveTheirTill = (s : StationState) (k : ℕ) (x : Session) (t : ℕ)
 -- Requests are asked in the order in which they are heard: with the octets of a peer that is read
 -- from, the book gets the rows of the first of the requests among the messages that they bring, in
 -- their order, and behind them at most the sign-off of the session's till. Octets for a key whose
--- peer isn't read from, or that nobody has, change nothing. With a move without octets the book gets
--- at most a sign-off.
+-- peer isn't read from, or that nobody has, change nothing. Where a peer's octets end, or it leaves,
+-- the book gets at most the sign-off of its till, and with arrivals and with what is taken no row.
 pub record AreAskedInOrder (s : StationState) : Type 0 where
   pub heard : (memory : Grants) (k : ℕ) (octets : List ℕ) (x : Session)
       → peer_at s.peers k ≡ Some x → is_read x ≡ true
-      → AddsRequests x.talk.peer (fed_by x.held octets).messages s.book
+      → AddsRequests x.talk.peer x.talk.on (fed_by x.held octets).messages s.book
       (with_octets memory k octets s).book
   pub unheard : (memory : Grants) (k : ℕ) (octets : List ℕ) → is_read_at s k ≡ false
       → with_octets memory k octets s ≡ s
-  pub silent : (m : Move) → is_silent m ≡ true → AddsSignOff s.book (after_move m s).book
+  pub silent : (m : Move) → is_silent m ≡ true
+      → AddsSignOff (till_left m s) s.book (after_move m s).book
 
 abbrev pub RequestsAreAskedInOrder : Type 0
 RequestsAreAskedInOrder = (s : StationState) → AreAskedInOrder s
