@@ -3,7 +3,6 @@ use Rattle.std.proofs.Common.{◌≡◌, ℕ, Bool, true, false, List, [], ◌�
 use Rattle.std.proofs.Common.{None, Result, Ok, Err, refl, ap, sym, ◌∙◌}
 use Rattle.std.specs.Prelude.{if◌then◌else◌}
 use Rattle.site_base.specs.declared.answer.Answer.{Answer}
-use Rattle.site_base.specs.declared.event.Event.{Event}
 use Rattle.site_base.specs.declared.event.Event.TheVariants.{SignOff}
 use Rattle.site_base.specs.declared.refusal.Refusal.{Refusal}
 use Rattle.site_base.specs.declared.row.Row.{Row}
@@ -54,10 +53,6 @@ with_notices-unchanged r (Some x ∷ peers) none =
 pub no_sign_off_change : (reply : Result Answer Refusal) → change_where SignOff reply ≡ None
 no_sign_off_change (Ok answer) = refl
 no_sign_off_change (Err refusal) = refl
-
-pub no_refused_change : (event : Event) (refusal : Refusal)
-    → change_where event (Err refusal) ≡ None
-no_refused_change event refusal = refl
 
 -- ---- a row with a change
 

@@ -1,5 +1,5 @@
 -- The peers of a station as a list.
-use Rattle.std.proofs.Common.{◌≡◌, ◌≢◌, ℕ, zero, suc, ◌<◌, List, [], ◌∷◌, ◌++◌, length, map, get_or}
+use Rattle.std.proofs.Common.{◌≡◌, ◌≢◌, ℕ, zero, suc, ◌<◌, List, [], ◌∷◌, length, map}
 use Rattle.std.proofs.Common.{Option, None, refl, ap, sym, arith}
 use Rattle.std.proofs.Math.ListN.{set}
 use Rattle.station.specs.Peers.{peer_at, with_peer}
@@ -53,14 +53,3 @@ with_peer-set k x [] within = absurd (omega arith)
 with_peer-set zero x (p ∷ peers) within = refl
 with_peer-set (suc k) x (p ∷ peers) within =
     ap (λ ps. p ∷ ps) (with_peer-set k x peers (omega arith))
-
--- the next key
-pub with_peer-next : (x : Option Session) (peers : List (Option Session))
-    → with_peer (length peers) x peers ≡ peers ++ x ∷ []
-with_peer-next x [] = refl
-with_peer-next x (p ∷ peers) = ap (λ ps. p ∷ ps) (with_peer-next x peers)
-
-pub peer_at-get : (k : ℕ) (peers : List (Option Session)) → peer_at peers k ≡ get_or peers k None
-peer_at-get k [] = refl
-peer_at-get zero (p ∷ peers) = refl
-peer_at-get (suc k) (p ∷ peers) = peer_at-get k peers

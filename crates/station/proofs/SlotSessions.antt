@@ -1,7 +1,7 @@
 -- The slots as sessions.
 use Rattle.std.proofs.Common.{◌≡◌, ℕ, zero, suc, ◌+◌, ◌<◌, ◌≤◌, Bool, true, false, List, [], ◌∷◌}
 use Rattle.std.proofs.Common.{◌++◌, length, get_or, drop}
-use Rattle.std.proofs.Common.{Option, Some, None, Global, Vec, refl, ap, sym, subst, ◌∙◌, arith}
+use Rattle.std.proofs.Common.{Option, Some, None, Global, Vec, refl, ap, sym, ◌∙◌, arith}
 use Rattle.std.specs.Prelude.{if◌then◌else◌, is_none, option_map}
 use Rattle.std.proofs.Math.ListN.{set}
 use Rattle.std.specs.Vec.{with_items}
@@ -13,8 +13,8 @@ use Rattle.station.specs.Sessions.{Grants, Session, Turn, finished, heard, is_re
 use Rattle.site_base.specs.declared.row.Row.{Row}
 use Rattle.site_book.specs.Book.{Book}
 use Rattle.station.specs.Hearing.{Hears, finished_if, turn_of}
-use Rattle.station.specs.Moves.{StationState, finished_at, freed, heard_from, rows_since, taken_by}
-use Rattle.station.specs.Moves.{with_end, with_octets, with_taken, with_turn, without_peer}
+use Rattle.station.specs.Moves.{StationState, finished_at, heard_from, rows_since, taken_by}
+use Rattle.station.specs.Moves.{with_end, with_octets, with_taken, with_turn}
 use Rattle.station.specs.Peers.{noticed_all}
 use Rattle.station.proofs.Turns.{left-told}
 use Rattle.station.proofs.Peers.{map-with_peer, with_peer-twice}
@@ -219,22 +219,6 @@ heard_there k piece b b' peers out told back p q there taken read hears put = (
       ∙ sym (ap (λ r. if r then with_turn k t (state b peers) else state b peers) read)
       ∙ ap (λ y. heard_from hears.memory k piece y (state b peers)) there),
 )
-
-pub left_there : (k : ℕ) (s : StationState) (b : Book) (peers out : List (Option Session))
-    (r : Option Peer)
-    → state b peers ≡ with_end k s → option_map session_of r ≡ peer_at peers k
-    → out ≡ without_key k r peers → state b out ≡ without_peer k s
-left_there k s b peers out r is there taken =
-    subst (λ (a : StationState). state b out ≡ freed k (peer_at a.peers k) a) is
-    (by_peer r there taken)
-  where
-    by_peer : (r : Option Peer) → option_map session_of r ≡ peer_at peers k
-        → out ≡ without_key k r peers
-        → state b out ≡ freed k (peer_at peers k) (state b peers)
-    by_peer None there taken =
-        ap (state b) taken ∙ ap (λ y. freed k y (state b peers)) there
-    by_peer (Some p) there taken =
-        ap (state b) taken ∙ ap (λ y. freed k y (state b peers)) there
 
 pub heard_seen : (k : ℕ) (piece : List ℕ) (v w s s' : StationState) → v ≡ w → s ≡ s'
     → ((memory : Grants) × (w ≡ with_octets memory k piece s))

@@ -1,6 +1,6 @@
 //! A request at the station's book, and who is told of its row.
 
-ghost use Rattle.std.specs.Prelude.{◌≡◌, ◌≤◌, ℕ, Bool, length, OnOk, Some, map, option_map};
+ghost use Rattle.std.specs.Prelude.{◌≡◌, Bool, length, OnOk, Some, map, option_map};
 ghost use Rattle.device_map.specs.Changes.{change_by};
 ghost use Rattle.till_session.specs.Counters.{row_made};
 ghost use Rattle.station.specs.Papers.{IsChangeTo};

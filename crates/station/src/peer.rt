@@ -1,17 +1,14 @@
 //! A peer: its session, and what it is owed.
 
-ghost use Rattle.std.specs.Prelude.{◌≡◌, ◌≤◌, [], None, Some, length, nat_lt, is_none, is_some};
-ghost use Rattle.std.specs.Prelude.{IfSome};
+ghost use Rattle.std.specs.Prelude.{◌≡◌, ◌≤◌, None, Some, length, is_none};
 ghost use Rattle.station.specs.PeerViews.{is_at, session_of};
 ghost use Rattle.station.specs.Peers.{listener, noticed_by};
-ghost use Rattle.station.specs.Notices.{notice_at};
 ghost use Rattle.station.specs.Sessions.{is_read, opening_session};
 
 use crate::outbox::Outbox;
 use crate::peer_end::PeerEnd;
 use crate::sizes::{NOTICE_LIMIT, READ_LIMIT};
 use app_message::Decoder;
-use site_base::NoMemory;
 use std::alloc::Global;
 use till_session::Talk;
 

@@ -2,8 +2,7 @@
 
 ghost use Rattle.std.specs.Prelude.{◌≡◌, ◌<◌, ◌≤◌, ℕ, [], length, IfOk, IfSome, OnErr};
 ghost use Rattle.std.specs.Prelude.{IsSome};
-ghost use Rattle.station.specs.Moves.{with_arrival, with_end, with_octets, with_taken};
-ghost use Rattle.station.specs.Moves.{without_peer};
+ghost use Rattle.station.specs.Moves.{with_end, with_octets, with_taken, without_peer};
 ghost use Rattle.station.specs.Peers.{peer_at};
 ghost use Rattle.station.specs.Reads.{Arrives, end_at, is_read_at, node_at, owed_at};
 ghost use Rattle.station.specs.Runs.{opened};
