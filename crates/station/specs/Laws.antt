@@ -61,8 +61,9 @@ PeersLeaveTheirTill = (s : StationState) (k : ℕ) (x : Session) (t : ℕ)
 -- Requests are asked in the order in which they are heard: with the octets of a peer that is read
 -- from, the book gets the rows of the first of the requests among the messages that they bring, in
 -- their order, and behind them at most the sign-off of the session's till. Octets for a key whose
--- peer isn't read from, or that nobody has, change nothing. Where a peer's octets end, or it leaves,
--- the book gets at most the sign-off of its till, and with arrivals and with what is taken no row.
+-- peer isn't read from, or that nobody has, change nothing. Where a peer's octets end, or it
+-- leaves, the book gets at most the sign-off of its till, and with arrivals and with what is taken
+-- no row.
 pub record AreAskedInOrder (s : StationState) : Type 0 where
   pub heard : (memory : Grants) (k : ℕ) (octets : List ℕ) (x : Session)
       → peer_at s.peers k ≡ Some x → is_read x ≡ true
