@@ -5,12 +5,11 @@ ghost use Rattle.std.specs.Prelude.{IsSome};
 ghost use Rattle.std.specs.Prelude.{IsOk, IsOkAnd, Err, Some, None, true};
 ghost use Rattle.app_message.specs.declared.sizes.TheConstants.{HEADER, LONGEST_BODY};
 ghost use Rattle.app_message.specs.Numbers.{as_message_fault};
-ghost use Rattle.app_message.specs.Stream.{IsHeld, fault_of, stream, stream_of, fed_by, held};
+ghost use Rattle.app_message.specs.Stream.{IsHeld, fault_of, stream_of, fed_by, held};
 ghost use Rattle.app_message.specs.Stream.{held_after};
 ghost use Rattle.app_message.specs.Fronts.{IsFront};
 
 use crate::fault::{GrammarFault, MessageFault, StreamFault};
-use crate::message::Message;
 use crate::messages::Messages;
 use crate::reading::{self, Stop};
 use crate::spelled_message::SpelledMessage;

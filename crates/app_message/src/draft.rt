@@ -8,7 +8,7 @@ ghost use Rattle.app_message.specs.declared.sizes.TheConstants.{LONGEST_ADDRESS,
 ghost use Rattle.app_message.specs.Telegram.{telegram, entry};
 ghost use Rattle.app_message.specs.Spelling.{item_text, IsMessage};
 ghost use Rattle.app_message.specs.Parts.{parts_fault, do_rise};
-ghost use Rattle.app_message.specs.Bodies.{listed, of_body, with_item, AreItems};
+ghost use Rattle.app_message.specs.Bodies.{of_body, with_item};
 
 use crate::fault::MessageFault;
 use crate::items::Items;

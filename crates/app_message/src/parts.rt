@@ -2,7 +2,7 @@
 
 ghost use Rattle.std.specs.Prelude.{◌≡◌, ◌≤◌, ◌<◌, ◌⊎◌, List, length, take, drop, slice_index};
 ghost use Rattle.std.specs.Prelude.{nat_le};
-ghost use Rattle.std.specs.Prelude.{true, Option, Some, None, IfErr, OnOk};
+ghost use Rattle.std.specs.Prelude.{true, Some, None, IfErr, OnOk};
 ghost use Rattle.app_message.specs.declared.sizes.TheConstants.{LONGEST_ADDRESS, LONGEST_BODY};
 ghost use Rattle.app_message.specs.Telegram.{Entry, entries, AreOctets};
 ghost use Rattle.app_message.specs.Spelling.{body_text, IsHead};

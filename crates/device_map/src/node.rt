@@ -3,7 +3,7 @@
 ghost use Rattle.std.specs.Prelude.{◌≡◌, [], ◌∷◌};
 ghost use Rattle.device_map.specs.declared.ids.TheConstants.{DISPENSER_SUBNET};
 ghost use Rattle.device_map.specs.Stages.{Gives};
-ghost use Rattle.device_map.specs.Nodes.{is_site_node, site_node, for_us, till_at, dispenser_at};
+ghost use Rattle.device_map.specs.Nodes.{site_node, for_us, till_at, dispenser_at};
 ghost use Rattle.device_map.specs.Nodes.{actor_at, is_request};
 
 use crate::fault::MapFault;

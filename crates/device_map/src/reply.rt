@@ -6,11 +6,10 @@ ghost use Rattle.app_message.specs.Bodies.{with_items};
 ghost use Rattle.device_map.specs.Replies.{preset_items, prepaid_items, point_items, test_items};
 ghost use Rattle.device_map.specs.Replies.{standing_items};
 ghost use Rattle.device_map.specs.Replies.{transaction_items, product_items, site_items, outcome};
-ghost use Rattle.device_map.specs.Replies.{answer_items, answer_kind, detail_items, refusal_items};
+ghost use Rattle.device_map.specs.Replies.{answer_items, refusal_items};
 ghost use Rattle.device_map.specs.Replies.{reply_items, reply_kind, reply_message, number_message};
 ghost use Rattle.device_map.specs.Replies.{fault_message, AreShort, back, told_message};
 ghost use Rattle.device_map.specs.Replies.{told_number};
-ghost use Rattle.device_map.specs.Nodes.{site_node};
 
 use crate::decimal::packed_digits;
 use crate::item_writing::{put_eight, put_four, put_octet, put_two};

@@ -4,7 +4,7 @@ ghost use Rattle.std.specs.Prelude.{◌≡◌, true};
 ghost use Rattle.site_base.specs.declared.limits.TheConstants.{POINTS, PRODUCTS};
 ghost use Rattle.site_base.specs.Ranges.{is_between};
 ghost use Rattle.device_map.specs.Laws.{is_in_range, is_meter, is_preset, is_sale};
-ghost use Rattle.device_map.specs.Ways.{asking, by_command, digits_of, reading, sale_digits};
+ghost use Rattle.device_map.specs.Ways.{by_command, digits_of, reading, sale_digits};
 ghost use Rattle.device_map.specs.Ways.{shift_digits, way_to};
 
 use crate::address::Database;

@@ -1,12 +1,10 @@
 -- Where a byte stands in a text, and where it doesn't.
 use Rattle.std.proofs.Common.{◌≡◌, ℕ, zero, suc, ◌-◌, ◌<◌, List, [], ◌∷◌, ◌++◌, length, take, drop}
-use Rattle.std.proofs.Common.{get_or, Bool, true, false, not, eqb, filter, refl, ap, arith, Option}
-use Rattle.std.proofs.Common.{Some, None}
-use Rattle.std.specs.Prelude.{is_some}
+use Rattle.std.proofs.Common.{get_or, Bool, true, false, not, eqb, filter, refl, ap, arith}
 use Rattle.std.proofs.lemmas.Bool.{eqb-true}
 use Rattle.std.proofs.lemmas.List.{take_all}
 use Rattle.std.specs.List.{list_all}
-use Rattle.memchr.specs.Find.{Nowhere, NoneBefore, Passes, IsFirstByte, is_byte}
+use Rattle.memchr.specs.Find.{Nowhere, NoneBefore, Passes, is_byte}
 
 not_it : (b : Bool) → (b ≡ true → ⊥) → not b ≡ true
 not_it true h = absurd (h refl)
@@ -40,12 +38,6 @@ filter_absent a (x ∷ xs) h =
     let first = not_it (eqb x a) (h 0 (omega arith) (omega arith)) in
     let others = filter_absent a xs (λ k low high. h (suc k) (omega arith) (omega arith)) in
     rw first (ap (λ (l : List ℕ). x ∷ l) others)
-
--- no place was found where it stands
-pub not_found : (a : ℕ) (xs : List ℕ) (r : Option ℕ) → IsFirstByte (is_byte a) xs r
-    → is_some r ≡ false → filter (λ b. not (eqb b a)) xs ≡ xs
-not_found a xs None h e = filter_absent a xs h
-not_found a xs (Some k) h e = absurd cc
 
 -- the first place where it stands: the bytes before it, and those from it on
 pub record Found (a : ℕ) (xs : List ℕ) (k : ℕ) : Type 0 where

@@ -1,5 +1,6 @@
 -- Sixteen digits that are read as eight octets side by side.
-use Rattle.std.proofs.Common.{◌≡◌, ℕ, zero, suc, ◌+◌, ◌-◌, ◌*◌, ◌%◌, ◌<◌, ◌≤◌, ◌==◌, ◌&&◌, ◌||◌, nat_lt, Bool}
+use Rattle.std.proofs.Common.{◌≡◌, ℕ, zero, suc, ◌+◌, ◌-◌, ◌*◌, ◌%◌, ◌<◌, ◌≤◌, ◌==◌, ◌&&◌}
+use Rattle.std.proofs.Common.{◌||◌, nat_lt, Bool}
 use Rattle.std.proofs.Common.{true, false, List, [], ◌∷◌, ◌++◌, length, map, drop, get_or, Ok, Err}
 use Rattle.std.proofs.Common.{Option, Some, None, unwrap_or, refl, sym, ap, ◌∙◌, arith, inl, inr}
 use Rattle.std.proofs.Common.{Fits, w8, Result}
@@ -31,13 +32,15 @@ is_digit : (c : ℕ) → c < 256 → is_other c ≡ false
     → (hex_digit_value c ≡ Some (digit_value c)) × (digit_value c < 16)
 is_digit c lt none =
     let test : reads c ≡ true = at_below reads 256 c refl lt in
-    let both = and_parts (unwrap_or (hex_digit_value c) 99 == digit_value c) (nat_lt (digit_value c) 16)
+    let both = and_parts (unwrap_or (hex_digit_value c) 99 == digit_value c)
+    (nat_lt (digit_value c) 16)
     (rw none at test) in
     let below = ltb-true (digit_value c) 16 both.1 in
     (from_value (hex_digit_value c) (digit_value c) below (eqb-true _ _ both.0), below)
 
 -- two digits are read as an octet
-pair_is : (a b i x y : ℕ) → hex_digit_value a ≡ Some x → x < 16 → hex_digit_value b ≡ Some y → y < 16
+pair_is : (a b i x y : ℕ) → hex_digit_value a ≡ Some x → x < 16
+    → hex_digit_value b ≡ Some y → y < 16
     → pair_value a b i ≡ Ok ((x * 16 % 256 + y) % 256)
 pair_is a b i x y ha lx hb ly =
     let shift : x * 16 % 256 ≡ x * 16 = mod-eq_of_lt (omega arith) in
@@ -53,7 +56,8 @@ lane : (text : List ℕ) (at k : ℕ) → at + 16 ≤ length text → k < 16
 lane text at k fits lt =
     let v : List ℕ = chunk at 16 text in
     let long = length-chunk at 16 text fits in
-    get_or_append_left (map digit_value v) (map digit_value v) 0 k (omega (arith, length-map v digit_value, long))
+    get_or_append_left (map digit_value v) (map digit_value v) 0 k
+    (omega (arith, length-map v digit_value, long))
     ∙ get_or-map digit_value v k 0 0 (omega (arith, long))
     ∙ ap digit_value (get_or-chunk at 16 text k 0 lt)
 
@@ -61,7 +65,8 @@ pub lanes_read : (text values : List ℕ) (at m : ℕ) → at + 16 ≤ length te
     → ((k : ℕ) → Fits w8 (get_or text k 0)) → values ≡ map digit_value (chunk at 16 text)
     → m ≡ mask_l (map is_other (chunk at 16 text)) → m ≡ 0 → (k : ℕ) → k < 8
     → pair_value (get_or text (at + 2 * k) 0) (get_or text (at + 2 * k + 1) 0) (at + 2 * k)
-    ≡ Ok ((get_or (values ++ values) (2 * k) 0 * 16 % 256 + get_or (values ++ values) (2 * k + 1) 0) % 256)
+    ≡ Ok ((get_or (values ++ values) (2 * k) 0 * 16 % 256
+    + get_or (values ++ values) (2 * k + 1) 0) % 256)
 lanes_read text values at m fits octets is mask none k lt =
     let empty = sym mask ∙ none in
     let other : (j : ℕ) → at ≤ j → j < at + 16 → is_other (get_or text j 0) ≡ false =
@@ -93,8 +98,8 @@ each_of_eight P a b c d e f g h (suc (suc (suc (suc (suc (suc (suc (suc k)))))))
 
 -- eight octets that are read take their place, and those before them stay
 pub eight_more : (text old os : List ℕ) (at : ℕ) → at + 8 ≤ length old → length os ≡ 8
-    → ((j : ℕ) → j < 8 → pair_value (get_or text (2 * at + 2 * j) 0) (get_or text (2 * at + 2 * j + 1) 0)
-    (2 * at + 2 * j) ≡ Ok (get_or os j 0))
+    → ((j : ℕ) → j < 8 → pair_value (get_or text (2 * at + 2 * j) 0)
+    (get_or text (2 * at + 2 * j + 1) 0) (2 * at + 2 * j) ≡ Ok (get_or os j 0))
     → (n : ℕ) → at ≤ n → IsRead text old n → IsRead text (put_chunk at old os) (at + 8)
 eight_more text old os at room eight here n from so_far k lt =
     elim (cases_lt k at) [
@@ -103,7 +108,8 @@ eight_more text old os at room eight here n from so_far k lt =
       | inr beyond ↦
           let back : at + (k - at) ≡ k = omega arith in
           let twice : 2 * at + 2 * (k - at) ≡ 2 * k = omega arith in
-          let there = get_or-put_chunk_at at old os (k - at) 0 (omega (arith, eight)) (omega (arith, eight)) in
+          let there = get_or-put_chunk_at at old os (k - at) 0 (omega (arith, eight))
+          (omega (arith, eight)) in
           let value = rw twice at (here (k - at) (omega arith)) in
           rw (rw back at there) value
     ]
@@ -121,8 +127,8 @@ cons_before o os (Err e) = refl
 
 -- octets whose digits are read stand before what is decoded behind them
 octets_read : (s os : List ℕ) (i : ℕ) → 2 * i + 2 * length os ≤ length s
-    → ((k : ℕ) → k < length os → pair_value (get_or s (2 * (i + k)) 0) (get_or s (2 * (i + k) + 1) 0)
-    (2 * (i + k)) ≡ Ok (get_or os k 0))
+    → ((k : ℕ) → k < length os → pair_value (get_or s (2 * (i + k)) 0)
+    (get_or s (2 * (i + k) + 1) 0) (2 * (i + k)) ≡ Ok (get_or os k 0))
     → decode_pairs (2 * i) (drop (2 * i) s)
     ≡ prepend os (decode_pairs (2 * (i + length os)) (drop (2 * (i + length os)) s))
 octets_read s [] i fits each =
@@ -153,7 +159,8 @@ unfolding decode_pairs
 all_read s os twice read =
     let whole = octets_read s os 0 (omega (arith, twice)) (λ k lt.
     let none : 0 + k ≡ k = omega arith in rw none (read k lt)) in
-    let none : drop (2 * (0 + length os)) s ≡ [] = drop_all (2 * (0 + length os)) s (omega (arith, twice)) in
+    let none : drop (2 * (0 + length os)) s ≡ [] =
+    drop_all (2 * (0 + length os)) s (omega (arith, twice)) in
     even s (length os) twice ∙ whole
     ∙ ap (λ (xs : List ℕ). prepend os (decode_pairs (2 * (0 + length os)) xs)) none
     ∙ ap Ok (append-nil os)

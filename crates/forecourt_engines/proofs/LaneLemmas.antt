@@ -42,19 +42,22 @@ pub tests_agree : (f g : ℕ → Bool) (v : List ℕ) → Each1 (Fits w8) v
     → all_below (λ c. beq (f c) (g c)) 256 ≡ true → map f v ≡ map g v
 tests_agree f g [] fit all = refl
 tests_agree f g (c ∷ v) fit all =
-    ap₂ (λ x xs. x ∷ xs) (beq-true (f c) (g c) (at_below (λ c. beq (f c) (g c)) 256 c all fit.0.fits))
+    ap₂ (λ x xs. x ∷ xs)
+    (beq-true (f c) (g c) (at_below (λ c. beq (f c) (g c)) 256 c all fit.0.fits))
     (tests_agree f g v fit.1 all)
 
 -- a choice lane by lane
 chosen : (m n l : ℕ → ℕ) (v : List ℕ)
-    → sel_l (map (top 7) (map m v)) (map n v) (map l v) ≡ map (λ c. cond (top 7 (m c)) (n c) (l c)) v
+    → sel_l (map (top 7) (map m v)) (map n v) (map l v)
+    ≡ map (λ c. cond (top 7 (m c)) (n c) (l c)) v
 chosen m n l [] = refl
 chosen m n l (c ∷ v) = ap (λ xs. cond (top 7 (m c)) (n c) (l c) ∷ xs) (chosen m n l v)
 
 pub selected : (m n l : ℕ → ℕ) (v : List ℕ) {ms ns ls : List ℕ} → ms ≡ map m v → ns ≡ map n v
     → ls ≡ map l v → sel_l (map (top 7) ms) ns ls ≡ map (λ c. cond (top 7 (m c)) (n c) (l c)) v
 selected m n l v {ms} {ns} {ls} p q r =
-    ap (λ (xs : List ℕ). sel_l (map (top 7) xs) ns ls) p ∙ ap₂ (λ xs ys. sel_l (map (top 7) (map m v)) xs ys) q r
+    ap (λ (xs : List ℕ). sel_l (map (top 7) xs) ns ls) p
+    ∙ ap₂ (λ xs ys. sel_l (map (top 7) (map m v)) xs ys) q r
     ∙ chosen m n l v
 
 -- the mask of a test lane by lane

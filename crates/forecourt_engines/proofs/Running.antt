@@ -2,12 +2,12 @@
 use Rattle.std.proofs.Common.{◌≡◌, ℕ, ◌+◌, ◌*◌, ◌<◌, ◌≤◌, length, length-append, arith, take, List}
 use Rattle.std.proofs.Common.{[], ◌∷◌, ◌++◌, Option, Some, None, is_some, inl, inr, true, refl, sym}
 use Rattle.std.proofs.Common.{ap, ◌∙◌, subst, append_assoc, append-nil}
-use Rattle.std.specs.Io.KnownBytes.{Appends, Consumes, Keeps, IsAtEnd}
+use Rattle.std.specs.Io.KnownBytes.{Appends, Consumes, IsAtEnd}
 use Rattle.std.proofs.lemmas.List.{length-take-le}
 use Rattle.site_base.specs.Devices.{AppendsFront}
 use Rattle.site_base.proofs.Known.{known, Appends-then, Appends-none, Appends-front}
-use Rattle.site_base.proofs.Known.{AppendsFront-whole, AppendsFront-longer, AppendsFront-so_far}
-use Rattle.site_base.proofs.Known.{Consumes-none, Consumes-then, Consumes-kept}
+use Rattle.site_base.proofs.Known.{AppendsFront-whole, AppendsFront-longer}
+use Rattle.site_base.proofs.Known.{Consumes-none, Consumes-then}
 use Rattle.forecourt_engines.specs.declared.fault.TextFault.{TextFault}
 use Rattle.forecourt_engines.specs.declared.fault.ReplayFault.{ReplayFault}
 use Rattle.forecourt_engines.specs.declared.fault.ReplayFault.TheVariants as faults
@@ -88,21 +88,6 @@ ends_unopened turns st a x f early = record {
   consumed = Consumes-none a;
   few = omega arith;
   front = AppendsFront-none x (last_text st);
-  whole = λ late. cc;
-  exact = λ late. cc;
-  rows = λ late. cc;
-  there = λ late. cc;
-}
-
--- no more could be read
-pub ends_unread : (turns more : ℕ) (st now : State) (a b c x y : Option (List ℕ)) (f : ReplayFault)
-    (book : Option Book) → is_early (Some f) ≡ true
-    → Running turns more st now a b x y → Keeps b c → Replayed turns st a c x y (Some f) book
-ends_unread turns more st now a b c x y f book early r k = record {
-  read = r.read;
-  consumed = Consumes-kept a b c r.read r.consumed k;
-  few = omega (arith, r.few);
-  front = AppendsFront-so_far x y (text_from st r.read) (last_text (after st r.read)) r.written;
   whole = λ late. cc;
   exact = λ late. cc;
   rows = λ late. cc;

@@ -1,5 +1,6 @@
 -- Eight octets that are written as sixteen digits side by side.
-use Rattle.std.proofs.Common.{◌≡◌, ℕ, zero, suc, ◌+◌, ◌-◌, ◌*◌, ◌/◌, ◌%◌, ◌<◌, ◌≤◌, List, [], ◌∷◌, ◌++◌, length, map}
+use Rattle.std.proofs.Common.{◌≡◌, ℕ, zero, suc, ◌+◌, ◌-◌, ◌*◌, ◌/◌, ◌%◌, ◌<◌, ◌≤◌, List}
+use Rattle.std.proofs.Common.{[], ◌∷◌, ◌++◌, length, map}
 use Rattle.std.proofs.Common.{get_or, refl, sym, ap, ◌∙◌, arith, inl, inr}
 use Rattle.std.proofs.lemmas.List.{get_or-append_right, get_or-map, get_or_append_left, length-map}
 use Rattle.std.proofs.lemmas.Simd.{get_or-chunk, length-chunk, pick_l_whole}
@@ -84,7 +85,8 @@ eight_written v h l long hs ls =
 -- two halves, one stored behind the other
 stored : (to : ℕ) (old front back : List ℕ) → length front ≡ 8 → length back ≡ 8
     → to + 16 ≤ length old → (j : ℕ) → j < 16
-    → get_or (put_chunk (to + 8) (put_chunk to old front) back) (to + j) 0 ≡ get_or (front ++ back) j 0
+    → get_or (put_chunk (to + 8) (put_chunk to old front) back) (to + j) 0
+    ≡ get_or (front ++ back) j 0
 stored to old front back f b room j less =
     elim (cases_lt j 8) [
       | inl first ↦
@@ -136,7 +138,8 @@ eight_more octets old front back at within twice f b are n from so_far k lt =
 pub all_written : (octets place : List ℕ) → length place ≡ 2 * length octets
     → IsWritten octets place (length octets) → place ≡ encode_lower octets
 all_written octets place twice written =
-    same_number_lists place (encode_lower octets) (twice ∙ sym (length-encode_with lower_digits octets))
+    same_number_lists place (encode_lower octets)
+    (twice ∙ sym (length-encode_with lower_digits octets))
     (λ j lt.
     let here = written (j / 2) (omega (arith, twice)) in
     let there = digits_at octets (j / 2) (omega (arith, twice)) in

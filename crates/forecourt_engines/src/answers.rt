@@ -1,6 +1,6 @@
 //! Messages answered over a book.
 
-ghost use Rattle.std.specs.Prelude.{◌≡◌, ◌≤◌, ◌+◌, ◌++◌, ◌∷◌, [], ◌*◌, length, replicate, IfOk};
+ghost use Rattle.std.specs.Prelude.{◌≡◌, ◌≤◌, ◌+◌, ◌++◌, ◌∷◌, [], ◌*◌, length, replicate};
 ghost use Rattle.std.specs.Prelude.{OnOk};
 ghost use Rattle.hex.specs.Hex.{encode_lower};
 ghost use Rattle.forecourt_engines.specs.Answers.{line_of, change_line, lines_for, after_message};

@@ -1,6 +1,6 @@
 //! How large a site is.
 
-ghost use Rattle.std.specs.Prelude.{◌≡◌, ◌≤◌, ◌*◌, length};
+ghost use Rattle.std.specs.Prelude.{◌≡◌, ◌≤◌, ◌*◌};
 ghost use Rattle.site_base.specs.declared.limits.TheConstants.{NOZZLES, POINTS};
 ghost use Rattle.forecourt_engines.specs.SiteSizes.{nozzle_count, sizes_of};
 

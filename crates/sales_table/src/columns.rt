@@ -1,7 +1,7 @@
 //! A table in columns, as people read it: titles at the left, figures at the right.
 
-ghost use Rattle.std.specs.Prelude.{◌≡◌, ◌++◌, flat_map, map, OnOk};
-ghost use Rattle.sales_table.specs.Columns.{at_left, at_right, line_text, longest, longest_figure};
+ghost use Rattle.std.specs.Prelude.{◌≡◌, ◌++◌, map, OnOk};
+ghost use Rattle.sales_table.specs.Columns.{at_right, line_text, longest, longest_figure};
 ghost use Rattle.sales_table.specs.Columns.{longest_title, spaces, table_text};
 
 use std::alloc::AllocError;

@@ -1,6 +1,6 @@
 //! Words that are one number or a few.
 
-ghost use Rattle.std.specs.Prelude.{◌≡◌, ℕ, true, IfNone, IfSome};
+ghost use Rattle.std.specs.Prelude.{ℕ, IfNone, IfSome};
 ghost use Rattle.site_base.specs.declared.limits.TheConstants.{GREATEST_READING, GREATEST_SEQ};
 ghost use Rattle.site_base.specs.declared.limits.TheConstants.{GREATEST_SHIFT};
 ghost use Rattle.forecourt_engines.specs.declared.words.parts.TheConstants.{GREATEST_AMOUNT};

@@ -1,6 +1,6 @@
 //! Words by their places in a line, counted from 1.
 
-ghost use Rattle.std.specs.Prelude.{◌≡◌, ◌≢◌, ◌+◌, ◌≤◌, ◌∷◌, [], length, map, slice_get, IfNone};
+ghost use Rattle.std.specs.Prelude.{◌≡◌, ◌≢◌, ◌≤◌, ◌∷◌, [], length, map, slice_get, IfNone};
 ghost use Rattle.std.specs.Prelude.{IfOk, IfSome, OnErr, OnOk, Some};
 ghost use Rattle.forecourt_engines.specs.LineWords.{line_words};
 

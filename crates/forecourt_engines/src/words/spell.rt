@@ -76,7 +76,7 @@ fn spell_request(
             Ok(()) => Ok(then),
             Err(NoMemory) => Err(LineFault::NoMemory),
         },
-        Ok(None) => Err(LineFault::Wrong(WrongWord::new(NAME_PLACE, Wanted::OwnEvent))),
+        Ok(None) => Err(LineFault::Wrong(wrong_name(&asked.actor))),
         Err(NoMemory) => Err(LineFault::NoMemory),
     }
 }
@@ -84,25 +84,33 @@ fn spell_request(
 /// The first wrong word of a line in which this one is wrong: the name of an event that isn't of
 /// its actor's kind stands before whatever is behind it.
 fn first_wrong(line: &[u8], wrong: WrongWord) -> WrongWord {
-    if wrong.place > NAME_PLACE && names_anothers(line) {
-        return WrongWord::new(NAME_PLACE, Wanted::OwnEvent);
+    if wrong.place <= NAME_PLACE {
+        return wrong;
     }
-    wrong
+    match actor_of_anothers(line) {
+        Some(actor) => wrong_name(&actor),
+        None => wrong,
+    }
 }
 
-/// Does the line name an event that isn't of its actor's kind?
-fn names_anothers(line: &[u8]) -> bool {
-    let Some(first) = word_behind(line, 0) else {
-        return false;
+/// The wrong word where this actor names an event of the other kind of actor.
+fn wrong_name(actor: &Actor) -> WrongWord {
+    let wanted = match actor {
+        Actor::Till(_) => Wanted::Request,
+        Actor::Dispenser(_) => Wanted::Report,
     };
-    let Some(second) = word_behind(line, 1) else {
-        return false;
-    };
-    match (actor_of(first), name_of(second)) {
-        (Some(Actor::Till(_)), Some(name)) => name.is_report(),
-        (Some(Actor::Dispenser(_)), Some(name)) => !name.is_report(),
-        _ => false,
+    WrongWord::new(NAME_PLACE, wanted)
+}
+
+/// The actor of a line that names an event of the other kind of actor.
+fn actor_of_anothers(line: &[u8]) -> Option<Actor> {
+    let actor = actor_of(word_behind(line, 0)?)?;
+    let name = name_of(word_behind(line, 1)?)?;
+    let is_dispenser = matches!(actor, Actor::Dispenser(_));
+    if name.is_report() == is_dispenser {
+        return None;
     }
+    Some(actor)
 }
 
 /// The token that follows: they rise to 31, and then begin with 1 again.

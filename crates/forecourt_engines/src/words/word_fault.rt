@@ -1,7 +1,9 @@
 //! A wrong word as it is told: quoted, with its place and what could stand there.
 
+use crate::number::split_at_octet;
 use crate::words::places::word_behind;
-use crate::words::wrong_word::WrongWord;
+use crate::words::splitting::count_words;
+use crate::words::wrong_word::{Wanted, WrongWord};
 use std::fmt;
 
 /// So many octets of a word are quoted.
@@ -17,14 +19,29 @@ pub struct WordFault<'a> {
 }
 
 impl<'a> fmt::Display for WordFault<'a> {
-    /// `word 4 "2000": volume, money, or nothing`; where it isn't there `word 3 is missing: token`.
+    /// `word 4 "2000": volume, money, or nothing`; where it isn't there `word 3 is missing: token`,
+    /// or before the comma that comes too early `word 3 is missing before the comma: ..`.
     fn fmt<W: fmt::Write>(&self, f: &mut fmt::Formatter<W>) -> fmt::Result {
         let place = self.wrong.place;
         let wanted = self.wrong.wanted;
+        if is_before_comma(self.line, &self.wrong) {
+            return write!(f, "word {place} is missing before the comma: {wanted}");
+        }
         match word_behind(self.line, place.saturating_sub(1)) {
             Some(word) => write!(f, "word {place} {}: {wanted}", Quoted { word }),
             None => write!(f, "word {place} is missing: {wanted}"),
         }
+    }
+}
+
+/// Is the wrong word one that should stand before the line's comma, and doesn't?
+fn is_before_comma(line: &[u8], wrong: &WrongWord) -> bool {
+    match wrong.wanted {
+        Wanted::Token | Wanted::TokenNumber | Wanted::Nothing => false,
+        _ => match split_at_octet(b',', line) {
+            Some((front, _)) => wrong.place > count_words(front),
+            None => false,
+        },
     }
 }
 

@@ -7,8 +7,10 @@ use std::fmt;
 pub enum Wanted {
     /// `t1` to `t32`, or `d1` to `d64`.
     Actor,
-    /// An event that the actor may ask for or report.
-    OwnEvent,
+    /// The name of what a till asks for.
+    Request,
+    /// The name of what a dispenser reports.
+    Report,
     /// The name of an event.
     EventName,
     /// A fuelling point's number.
@@ -68,7 +70,8 @@ impl fmt::Display for Wanted {
     fn fmt<W: fmt::Write>(&self, f: &mut fmt::Formatter<W>) -> fmt::Result {
         f.write_str(match self {
             Wanted::Actor => "t1 to t32, or d1 to d64",
-            Wanted::OwnEvent => "what a till asks for, or what a dispenser reports",
+            Wanted::Request => "what a till asks for, as SignOn",
+            Wanted::Report => "what a dispenser reports, as Online",
             Wanted::EventName => "the name of an event, as SignOn",
             Wanted::Point => "a fuelling point, 1 to 64",
             Wanted::Product => "a product, 1 to 8",

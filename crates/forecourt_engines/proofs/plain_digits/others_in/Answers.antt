@@ -10,7 +10,9 @@ returns c =
     let long = c.fits-octets.0 in
     masked _ is_other v long c.fits-octets.1
     (zip2_of_maps bit_and _ _ v
-    (zip2_of_maps (λ (a b : ℕ). cond (leb a b) 255 0) _ _ v (splat_is_map v 16 10 long) (zip2_splat {Y = ℕ} _ v 16 48 long))
+    (zip2_of_maps (λ (a b : ℕ). cond (leb a b) 255 0) _ _ v (splat_is_map v 16 10 long)
+    (zip2_splat {Y = ℕ} _ v 16 48 long))
     (zip2_of_maps (λ (a b : ℕ). cond (leb a b) 255 0) _ _ v (splat_is_map v 16 6 long)
-    (zip2_of_maps {X = ℕ} {Y = ℕ} _ _ _ v (zip2_splat {Y = ℕ} _ v 16 32 long) (splat_is_map v 16 97 long))))
+    (zip2_of_maps {X = ℕ} {Y = ℕ} _ _ _ v (zip2_splat {Y = ℕ} _ v 16 32 long)
+    (splat_is_map v 16 97 long))))
     refl

@@ -1,6 +1,7 @@
 use Rattle.std.proofs.Common.{arith, ap, ◌∙◌, Some, []}
 use Rattle.app_message.specs.declared.fault.StreamFault.{StreamFault}
-use Rattle.app_message.proofs.Cutting.{fault_long, few_left, front_message, front_short, front_fault}
+use Rattle.app_message.proofs.Cutting.{fault_long, few_left, front_message, front_short}
+use Rattle.app_message.proofs.Cutting.{front_fault}
 use Rattle.app_message.proofs.decoder.Decoder.read_front.Goals as goal
 
 pub returns-in-Ok-clause-front : goal.returns-in-Ok-clause-front

@@ -1,7 +1,6 @@
-use Rattle.std.proofs.Common.{◌≡◌, ◌∙◌, ap, false, subst, sym, true}
+use Rattle.std.proofs.Common.{◌≡◌, ◌∙◌, ap, sym, true}
 use Rattle.std.proofs.lemmas.Result.{err_from_is_err_and}
-use Rattle.till_session.specs.Course.{IsSpokenBy, TalkState, ends_early}
-use Rattle.till_session.specs.Text.{is_another, peer_after}
+use Rattle.till_session.specs.Course.{ends_early}
 use Rattle.till_session.proofs.Speakers.{another_meant, fault_meant, request_meant, same_peer}
 use Rattle.till_session.proofs.Talks.{talked_another, talked_another_cut, talked_asked}
 use Rattle.till_session.proofs.Talks.{talked_refused}
