@@ -31,6 +31,7 @@ fn with_replays<'a>(alloc: Global, program: Command<'a>) -> Result<Command<'a>, 
 /// The commands that open a desk for a day.
 fn with_days<'a>(alloc: Global, program: Command<'a>) -> Result<Command<'a>, AllocError> {
     let program = with(program, serve(alloc))?;
+    let program = with(program, station(alloc))?;
     with(program, demo(alloc))
 }
 
@@ -107,6 +108,21 @@ fn serve<'a>(alloc: Global) -> Result<Command<'a>, AllocError> {
         .arg(number(alloc, "sessions", sessions))
 }
 
+fn station<'a>(alloc: Global) -> Result<Command<'a>, AllocError> {
+    let idle = "Ends a session of which nothing came for so many seconds, from 1 to 86400";
+    let detached = "Runs until the system stops it, whatever standard input does";
+    Command::new(alloc, "station")
+        .about(
+            "Serves every till and dispenser of a site on 127.0.0.1 until standard input ends, \
+             and prints the report of the day",
+        )
+        .after_help("Example: forecourt station examples/five_points.toml --port 4001\n")
+        .arg(file(alloc))?
+        .arg(number(alloc, "port", "The port, from 0 (a free one) to 65535"))?
+        .arg(seconds(alloc, "idle", idle))?
+        .arg(flag(alloc, "detached", detached))
+}
+
 fn demo<'a>(alloc: Global) -> Result<Command<'a>, AllocError> {
     let loopback = "The tills' sessions run over sockets, on 127.0.0.1";
     Command::new(alloc, "demo")
@@ -159,6 +175,14 @@ fn number<'a>(alloc: Global, name: &'a str, help: &'a str) -> Arg<'a> {
         .value_name("N")
         .help(help)
         .required(true)
+}
+
+/// A number of seconds that a command may be given.
+fn seconds<'a>(alloc: Global, name: &'a str, help: &'a str) -> Arg<'a> {
+    Arg::new(alloc, name)
+        .long(name)
+        .value_name("SECONDS")
+        .help(help)
 }
 
 /// Prints what `clap` answers in place of matches: help and version on standard output, with status

@@ -16,6 +16,7 @@ mod report;
 mod sales;
 mod serve;
 mod spell;
+mod station;
 
 use crate::check::run_check;
 use crate::command_line::{build_commands, exit_without_matches};
@@ -27,6 +28,7 @@ use crate::report::run_report;
 use crate::sales::run_sales;
 use crate::serve::run_serve;
 use crate::spell::run_spell;
+use crate::station::run_station;
 use clap::ArgMatches;
 use std::env;
 use std::io::ErrorKind;
@@ -58,7 +60,7 @@ fn read_words(rt: &HostRuntime) -> Result<Vec<String>, ExitCode> {
     }
 }
 
-/// Parses the words, and dispatches. Only a server and a demo start `threads`.
+/// Parses the words, and dispatches. Only a server, a station and a demo start `threads`.
 fn parse<T: Threads + Wait + Sync>(rt: &HostRuntime, threads: &T, words: &[String]) -> ExitCode {
     let commands = match build_commands(rt.alloc()) {
         Ok(commands) => commands,
@@ -82,6 +84,7 @@ fn dispatch<T: Threads + Wait + Sync>(
         Some(("report", words)) => run_report(rt, words),
         Some(("sales", words)) => run_sales(rt, words),
         Some(("serve", words)) => run_serve(rt, threads, words),
+        Some(("station", words)) => run_station(rt, threads, words),
         Some(("demo", words)) => run_demo(rt, threads, words),
         Some(("explain", words)) => run_explain(rt, words),
         Some(("spell", _)) => run_spell(rt),

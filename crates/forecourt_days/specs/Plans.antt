@@ -1,11 +1,14 @@
--- What the words of a command line ask of a server.
-use Rattle.std.specs.Prelude.{ℕ, List, ◌≡◌, ◌≤◌}
+-- What the words of a command line ask of a server, and of a station.
+use Rattle.std.specs.Prelude.{ℕ, List, ◌≡◌, ◌≤◌, Option, Some, None, ⊤, ⊥}
 use Rattle.std.specs.Str.Parse.{IsNumeral, digits_value}
 use Rattle.counter_desk.specs.declared.crews.TheConstants.{WORKERS}
 use Rattle.till_session.specs.declared.server.TheConstants.{SESSIONS}
 use Rattle.forecourt_days.specs.declared.options.OptionFault.{OptionFault}
-use Rattle.forecourt_days.specs.declared.options.OptionFault.TheVariants.{Port, Workers, Sessions}
+use Rattle.forecourt_days.specs.declared.options.OptionFault.TheVariants.{Idle, Port, Sessions}
+use Rattle.forecourt_days.specs.declared.options.OptionFault.TheVariants.{Workers}
 use Rattle.forecourt_days.specs.declared.plan.ServerPlan.{ServerPlan}
+use Rattle.forecourt_days.specs.declared.plan.StationPlan.{StationPlan}
+use Rattle.forecourt_days.specs.declared.plan.TheConstants.{IDLE_SECONDS}
 
 -- the word is of decimal digits alone, and the number that they write is n, in this range
 abbrev pub TellsNumber : ℕ → ℕ → List ℕ → ℕ → Type 0
@@ -39,3 +42,23 @@ IsFirstFault port workers sessions Workers =
 IsFirstFault port workers sessions Sessions =
     ((n : ℕ) × TellsPort port n) × ((n : ℕ) × TellsWorkers workers n)
     × ((n : ℕ) → ¬ TellsSessions sessions n)
+IsFirstFault port workers sessions Idle = ⊥
+
+-- ---- a station
+
+-- how many seconds a peer may be silent, 1 to 86,400; without a word there is no such limit
+abbrev pub TellsIdle : Option (List ℕ) → Option ℕ → Type 0
+TellsIdle None None = ⊤
+TellsIdle (Some word) (Some n) = TellsNumber 1 IDLE_SECONDS word n
+TellsIdle word n = ⊥
+
+-- each of the words tells its part of the plan
+abbrev pub TellsStationPlan : List ℕ → Option (List ℕ) → StationPlan → Type 0
+TellsStationPlan port idle plan = TellsPort port plan.port × TellsIdle idle plan.idle
+
+-- the first word that tells no number in its range
+abbrev pub IsFirstStationFault : List ℕ → Option (List ℕ) → OptionFault → Type 0
+IsFirstStationFault port idle Port = (n : ℕ) → ¬ TellsPort port n
+IsFirstStationFault port idle Idle =
+    ((n : ℕ) × TellsPort port n) × ((n : Option ℕ) → ¬ TellsIdle idle n)
+IsFirstStationFault port idle fault = ⊥

@@ -2,7 +2,8 @@
 //!
 //! `serve_day` opens a desk, serves so many sessions by so many workers over a `Loopback`, settles
 //! the desk, and writes the report: `specs/Days.antt` says what is written. `ServerPlan::read`
-//! reads what the command line asks for: `specs/Plans.antt`. `demo` is the whole station in one
+//! reads what the command line asks for, as `StationPlan::read` does for a station:
+//! `specs/Plans.antt`. `demo` is the whole station in one
 //! call: a setup is worked through by one worker; then the sections of a script are worked at side
 //! by side, a till's as a session, a dispenser's by a simulated dispenser; at the end the desk is
 //! settled: `specs/Demos.antt`, `specs/Sections.antt`. `demo_day` writes its report too.
@@ -27,6 +28,6 @@ pub use demos::{DemoEnd, DemoPlan, demo, demo_day};
 pub use fault::DayFault;
 pub use listener::{Loopback, ReadHalf, WriteHalf};
 pub use options::OptionFault;
-pub use plan::ServerPlan;
+pub use plan::{ServerPlan, StationPlan};
 pub use server::serve_day;
-pub use writing::put_report;
+pub use writing::{put_listening, put_report};

@@ -1,9 +1,10 @@
-//! The plan of a server, from the words of a command line.
+//! The plans of a server and of a station, from the words of a command line.
 
 ghost use Rattle.std.specs.Prelude.{ℕ, ◌≡◌, IfOk, IfErr, IfSome, IfNone};
-ghost use Rattle.forecourt_days.specs.Plans.{TellsNumber, TellsPlan, IsFirstFault};
+ghost use Rattle.forecourt_days.specs.Plans.{TellsIdle, TellsNumber, TellsPlan, TellsStationPlan};
+ghost use Rattle.forecourt_days.specs.Plans.{IsFirstFault, IsFirstStationFault};
 
-use crate::plan::ServerPlan;
+use crate::plan::{IDLE_SECONDS, ServerPlan, StationPlan};
 use counter_desk::WORKERS;
 use thiserror::Error;
 use till_session::SESSIONS;
@@ -20,6 +21,9 @@ pub enum OptionFault {
     /// The sessions.
     #[error("--sessions is a decimal number from 1 to {max}", max = SESSIONS)]
     Sessions,
+    /// The seconds of a silent session.
+    #[error("--idle is a decimal number from 1 to {max}", max = IDLE_SECONDS)]
+    Idle,
 }
 
 impl ServerPlan {
@@ -39,6 +43,38 @@ impl ServerPlan {
             workers: workers as usize,
             sessions: sessions as usize,
         })
+    }
+}
+
+impl StationPlan {
+    /// The plan that these words tell, or the first of them that isn't a decimal number in its
+    /// range: the port from 0 (a free one) to 65535, the seconds, where there is a word of them,
+    /// from 1 to 86,400. A sign is no digit.
+    pub fn read(port: &str, idle: Option<&str>) -> Result<StationPlan, OptionFault>
+        ensures plan { IfOk result (λ plan. TellsStationPlan port.now idle plan) }
+        ensures first { IfErr result (λ fault. IsFirstStationFault port.now idle fault) }
+    {
+        let port = number_in(port, 0, u64::from(u16::MAX)).ok_or(OptionFault::Port)?;
+        let idle = read_idle(idle)?;
+        Ok(StationPlan {
+            port: port as u16,
+            idle,
+        })
+    }
+}
+
+/// The seconds that a word tells, where there is one.
+fn read_idle(idle: Option<&str>) -> Result<Option<u64>, OptionFault>
+    ensures told { IfOk result (λ n. TellsIdle idle n) }
+    ensures other { IfErr result (λ fault.
+        (fault ≡ OptionFault.Idle) × ((n : Option ℕ) → ¬ TellsIdle idle n)) }
+{
+    match idle {
+        None => Ok(None),
+        Some(word) => match number_in(word, 1, IDLE_SECONDS) {
+            Some(seconds) => Ok(Some(seconds)),
+            None => Err(OptionFault::Idle),
+        },
     }
 }
 

@@ -1,4 +1,4 @@
-//! What is asked of a server.
+//! What is asked of a server, and of a station.
 
 ghost use Rattle.std.specs.Prelude.{◌≤◌};
 ghost use Rattle.counter_desk.specs.declared.crews.TheConstants.{WORKERS};
@@ -21,4 +21,16 @@ pub struct ServerPlan {
     ghost few_workers: { workers ≤ WORKERS },
     ghost some_sessions: { 1 ≤ sessions },
     ghost few_sessions: { sessions ≤ SESSIONS },
+}
+
+/// A session of which nothing comes for so many seconds can be ended, at most.
+pub const IDLE_SECONDS: u64 = 86_400;
+
+/// The port on which a station listens, and how long a peer may be silent.
+#[derive(Clone, Copy, Debug, PartialEq, Eq)]
+pub struct StationPlan {
+    /// The port, 0 for a free one.
+    pub port: u16,
+    /// A session of which nothing comes for so many seconds ends; without a number none does.
+    pub idle: Option<u64>,
 }

@@ -363,7 +363,7 @@ pub request_put : (text : Book → List ℕ) (b made : Book) (p p' : Peer) (talk
     ≡ t
     → session_of p' ≡ record (session_of p) {
       talk = talked;
-      owed = p.outbox.owed ++ text b;
+      owed = p.outbox ++ text b;
     }
     → turn_of b p' ≡ owing (text made) t
 request_put text b made p p' talked t book asked_is put =

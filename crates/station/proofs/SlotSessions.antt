@@ -16,6 +16,7 @@ use Rattle.station.specs.Hearing.{Hears, finished_if, turn_of}
 use Rattle.station.specs.Moves.{StationState, finished_at, heard_from, rows_since, taken_by}
 use Rattle.station.specs.Moves.{with_end, with_octets, with_taken, with_turn}
 use Rattle.station.specs.Peers.{noticed_all}
+use Rattle.station.specs.Reads.{owed_to}
 use Rattle.station.proofs.Turns.{left-told}
 use Rattle.station.proofs.Peers.{map-with_peer, with_peer-twice}
 
@@ -32,6 +33,15 @@ pub nobody_there : (k : ℕ) (slots : List (Option Peer)) → length slots ≤ k
 nobody_there k [] beyond = refl
 nobody_there zero (p ∷ slots) beyond = absurd (omega arith)
 nobody_there (suc k) (p ∷ slots) beyond = nobody_there k slots (omega arith)
+
+-- nobody is owed octets where nobody is
+pub unowed_beyond : (k : ℕ) (slots : List (Option Peer))
+    → (k < length slots → owed_to (peer_at (sessions_of slots) k) ≡ [])
+    → owed_to (peer_at (sessions_of slots) k) ≡ []
+unowed_beyond k [] within = refl
+unowed_beyond zero (p ∷ slots) within = within (omega arith)
+unowed_beyond (suc k) (p ∷ slots) within =
+    unowed_beyond k slots (λ less. within (omega arith))
 
 pub sessions_set : (k : ℕ) (slots : List (Option Peer)) (y : Option Peer) → k < length slots
     → sessions_of (set slots k y) ≡ with_peer k (option_map session_of y) (sessions_of slots)
@@ -83,28 +93,6 @@ sessions_kept i [] y d within same = absurd (omega arith)
 sessions_kept zero (p ∷ slots) y d within same = ap (λ q. q ∷ sessions_of slots) same
 sessions_kept (suc i) (p ∷ slots) y d within same =
     ap (λ ps. option_map session_of p ∷ ps) (sessions_kept i slots y d (omega arith) same)
-
--- what is so of each slot before this one, and of this one
-pub so_far : (P : Option Peer → Type 0) (i : ℕ) (slots : List (Option Peer)) (y : Option Peer)
-    → i < length slots → ((k : ℕ) → k < i → P (get_or slots k None)) → P y
-    → (k : ℕ) → k < i + 1 → P (get_or (set slots i y) k None)
-so_far P i [] y within below here k less = absurd (omega arith)
-so_far P zero (p ∷ slots) y within below here zero less = here
-so_far P zero (p ∷ slots) y within below here (suc k) less = absurd (omega arith)
-so_far P (suc i) (p ∷ slots) y within below here zero less = below 0 (omega arith)
-so_far P (suc i) (p ∷ slots) y within below here (suc k) less =
-    so_far P i slots y (omega arith) (λ j before. below (suc j) (omega arith)) here k (omega arith)
-
--- what is so of each slot from this one on is so of each behind it
-pub from_there : (P : Option Peer → Type 0) (i : ℕ) (slots : List (Option Peer)) (y : Option Peer)
-    → P None → ((k : ℕ) → i ≤ k → P (get_or slots k None))
-    → (k : ℕ) → i + 1 ≤ k → P (get_or (set slots i y) k None)
-from_there P i [] y none all k more = none
-from_there P zero (p ∷ slots) y none all zero more = absurd (omega arith)
-from_there P zero (p ∷ slots) y none all (suc k) more = all (suc k) (omega arith)
-from_there P (suc i) (p ∷ slots) y none all zero more = absurd (omega arith)
-from_there P (suc i) (p ∷ slots) y none all (suc k) more =
-    from_there P i slots y none (λ j from. all (suc j) (omega arith)) k (omega arith)
 
 pub found_again : (i : ℕ) (slots : List (Option Peer)) (d : Option Peer) (e : Option Session)
     → i < length slots → option_map session_of (get_or slots i d) ≡ get_or (sessions_of slots) i e
@@ -163,7 +151,7 @@ moved_back k slots _ taken _ put p x first one kept later two placed there out b
 
 pub took : (k n : ℕ) (b : Book) (peers out back : List (Option Session)) (p : Peer) (x : Session)
     → Some (session_of p) ≡ peer_at peers k → out ≡ without_key k (Some p) peers
-    → x ≡ record (session_of p) { owed = drop n p.outbox.owed }
+    → x ≡ record (session_of p) { owed = drop n p.outbox }
     → back ≡ with_peer k (Some x) out
     → state b back ≡ with_taken k n (state b peers)
 took k n b peers out back p x there taken is put =

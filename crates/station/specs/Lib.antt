@@ -1,6 +1,5 @@
 pub mod Papers
 pub mod PeerViews
-pub mod Outboxes
 pub mod Standing
 pub mod Notices
 pub mod Sessions

@@ -1,16 +1,15 @@
 -- What the peers that the code keeps are as sessions.
-use Rattle.std.specs.Prelude.{◌≡◌, ◌≤◌, ℕ, Bool, true, false, List, map, Option, Some, None}
+use Rattle.std.specs.Prelude.{ℕ, Bool, false, List, map, Option, Some, None}
 use Rattle.std.specs.Prelude.{option_map}
 use Rattle.std.specs.Prelude.{if◌then◌else◌}
 use Rattle.std.specs.Borrow.{Bor}
-use Rattle.std.proofs.Common.{get_or}
 use Rattle.till_session.specs.Text.{is_same_node}
 use Rattle.station.specs.declared.peer.Peer.{Peer}
 use Rattle.station.specs.Sessions.{Session}
 use Rattle.station.specs.Peers.{listener, noticed_by, with_peer}
 
 abbrev pub session_of : Peer → Session
-session_of p = record { held = p.decoder; talk = p.talk; owed = p.outbox.owed; end = p.end }
+session_of p = record { held = p.decoder; talk = p.talk; owed = p.outbox; end = p.end }
 
 abbrev pub session_at : Bor Peer → Session
 session_at p = session_of p.now
@@ -22,15 +21,6 @@ sessions_of slots = map (option_map session_of) slots
 abbrev pub is_at : Option (List ℕ) → List ℕ → Bool
 is_at None node = false
 is_at (Some peer) node = is_same_node peer node
-
--- a peer that listens at this node has room for so many octets
-abbrev pub HasRoomFor : List ℕ → ℕ → Option Peer → Type 0
-HasRoomFor node n None = Unit {0}
-HasRoomFor node n (Some p) = is_at (listener p.end p.talk.peer) node ≡ true → n ≤ p.outbox.room
-
--- .. and so has each of these
-abbrev pub AllHaveRoom : List ℕ → ℕ → List (Option Peer) → Type 0
-AllHaveRoom node n slots = (k : ℕ) → HasRoomFor node n (get_or slots k None)
 
 -- a session that listens at this node is told a notice of these octets
 abbrev pub session_noticed : List ℕ → List ℕ → Session → Session

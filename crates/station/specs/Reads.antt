@@ -1,5 +1,6 @@
 -- What the station shows of a peer.
-use Rattle.std.specs.Prelude.{◌≡◌, ◌<◌, ℕ, Bool, false, List, [], Option, Some, None, IsSome}
+use Rattle.std.specs.Prelude.{◌≡◌, ◌≢◌, ◌<◌, ◌≤◌, ℕ, Bool, false, List, [], Option}
+use Rattle.std.specs.Prelude.{Some, None, IsSome}
 use Rattle.station.specs.declared.peer_end.PeerEnd.{PeerEnd}
 use Rattle.station.specs.declared.sizes.TheConstants.{PEERS}
 use Rattle.station.specs.Moves.{StationState, with_arrival}
@@ -13,6 +14,17 @@ owed_to (Some x) = x.owed
 -- the octets that a key's peer is owed
 abbrev pub owed_at : StationState → ℕ → List ℕ
 owed_at s k = owed_to (peer_at s.peers k)
+
+-- from this key on the peer of this one is the first that is owed octets
+pub record IsNextOwed (from key : ℕ) (s : StationState) : Type 0 where
+  pub from_there : from ≤ key
+  pub within : key < PEERS
+  pub owed : owed_at s key ≢ []
+  pub first : (k : ℕ) → from ≤ k → k < key → owed_at s k ≡ []
+
+-- from this key on no peer is owed octets
+abbrev pub NoneIsOwed : ℕ → StationState → Type 0
+NoneIsOwed from s = (k : ℕ) → from ≤ k → owed_at s k ≡ []
 
 abbrev pub is_read_of : Option Session → Bool
 is_read_of None = false

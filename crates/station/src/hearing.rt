@@ -109,7 +109,7 @@ fn put_number(
     number: u8,
 ) -> Result<(), NoMemory>
     ensures ok { OnOk result (session_of peer.new ≡ record (session_of peer.old) {
-      owed = peer.old.outbox.owed ++ number_text message.now number;
+      owed = peer.old.outbox ++ number_text message.now number;
     }) }
     ensures err { OnErr result (session_of peer.new ≡ session_of peer.old) }
 {
@@ -172,7 +172,7 @@ fn put_outcome(
     before: Option<[u8; 2]>,
 ) -> Result<(), NoMemory>
     ensures ok { OnOk result (session_of peer.new ≡ record (session_of peer.old) {
-      owed = peer.old.outbox.owed ++ (outcome_text message.now outcome.now
+      owed = peer.old.outbox ++ (outcome_text message.now outcome.now
           ++ opening_text before message.now.from book.now);
     }) }
     ensures err { OnErr result (session_of peer.new ≡ session_of peer.old) }
@@ -190,7 +190,7 @@ fn tell(
     before: Option<[u8; 2]>,
 ) -> Result<(), NoMemory>
     ensures ok { OnOk result (session_of peer.new ≡ record (session_of peer.old) {
-      owed = peer.old.outbox.owed
+      owed = peer.old.outbox
           ++ (paper.old.text.items ++ opening_text before message.now.from book.now);
     }) }
     ensures err { OnErr result (session_of peer.new ≡ session_of peer.old) }
@@ -219,7 +219,7 @@ fn refuse(peer: &mut Peer, book: &mut SiteBook, paper: &mut Paper, fault: &Strea
 /// Tells a fault of the octets.
 fn tell_fault(peer: &mut Peer, paper: &mut Paper, fault: &StreamFault) -> Result<(), NoMemory>
     ensures ok { OnOk result (session_of peer.new ≡ record (session_of peer.old) {
-      owed = peer.old.outbox.owed ++ spelling (fault_message fault.now);
+      owed = peer.old.outbox ++ spelling (fault_message fault.now);
     }) }
     ensures err { OnErr result (session_of peer.new ≡ session_of peer.old) }
 {

@@ -1,63 +1,63 @@
 //! What a peer is owed.
 
-ghost use Rattle.std.specs.Prelude.{◌≡◌, ◌≤◌, ◌+◌, [], ◌++◌, drop, length, OnOk, OnErr};
+ghost use Rattle.std.specs.Prelude.{◌≡◌, ◌≤◌, [], ◌++◌, drop, length, IfOk, OnOk, OnErr};
+ghost use Rattle.std.specs.Prelude.{vec_capacity};
+ghost use Rattle.station.specs.declared.sizes.TheConstants.{NOTICE_LIMIT, NOTICE_OCTETS};
 
+use crate::sizes::{NOTICE_LIMIT, NOTICE_OCTETS};
 use site_base::NoMemory;
 use std::alloc::Global;
 use std::marker::Model;
 
-/// The octets that a peer hasn't taken yet, and the room that is reserved for more of them.
+/// The octets that a peer hasn't taken yet. Where they are few enough for a notice, there is room
+/// for it: no notice wants memory.
 #[derive(Drop)]
 pub struct Outbox {
-    alloc: Global,
     octets: Vec<u8>,
     // So many of the octets were taken.
     start: usize,
 }
 
 impl Model for Outbox {
-    ghost use Rattle.std.specs.Prelude.{◌-◌, ◌≤◌, drop, length, vec_len, vec_capacity};
-    ghost use Rattle.station.specs.Outboxes.{Owed};
+    ghost use Rattle.std.specs.Prelude.{ℕ, List, ◌+◌, ◌≤◌, drop, length, vec_capacity};
+    ghost use Rattle.station.specs.declared.sizes.TheConstants.{NOTICE_LIMIT, NOTICE_OCTETS};
 
-    ghost Value = { Owed };
+    ghost Value = { List ℕ };
 
-    ghost view = { λ o. record {
-      owed = drop o.start o.octets.items;
-      room = vec_capacity o.octets - vec_len o.octets;
-    } };
+    ghost view = { λ o. drop o.start o.octets.items };
 
-    ghost invariant = { λ o. o.start ≤ length o.octets.items };
+    ghost invariant = { λ o. (o.start ≤ length o.octets.items)
+        × (NOTICE_LIMIT + NOTICE_OCTETS ≤ vec_capacity o.octets) };
 }
 
 impl Outbox {
-    /// Nothing is owed. It takes no memory.
-    pub fn new(alloc: Global) -> Outbox
-        ensures { result.owed ≡ [] }
+    /// Nothing is owed. It takes the memory that notices may want.
+    pub fn new(alloc: Global) -> Result<Outbox, NoMemory>
+        ensures { IfOk result (λ outbox. outbox ≡ []) }
     {
-        Outbox {
-            alloc,
-            octets: Vec::new(alloc),
+        Ok(Outbox {
+            octets: Vec::with_capacity(alloc, NOTICE_LIMIT + NOTICE_OCTETS)?,
             start: 0,
-        }
+        })
     }
 
     /// The octets that are owed.
     pub fn as_slice(&self) -> &[u8]
-        ensures { result.now ≡ self.now.owed }
+        ensures { result.now ≡ self.now }
     {
         &self.octets[self.start..]
     }
 
     /// How many octets are owed.
     pub fn len(&self) -> usize
-        ensures { result ≡ length self.now.owed }
+        ensures { result ≡ length self.now }
     {
         self.octets.len() - self.start
     }
 
     /// So many octets were taken, or all, where fewer are owed.
     pub fn take(&mut self, n: usize)
-        ensures { self.new.owed ≡ drop n self.old.owed }
+        ensures { self.new ≡ drop n self.old }
     {
         if n < self.len() {
             self.start += n;
@@ -67,43 +67,43 @@ impl Outbox {
         }
     }
 
-    /// Makes room for so many more octets.
-    pub fn reserve(&mut self, additional: usize) -> Result<(), NoMemory>
-        ensures owed { self.new.owed ≡ self.old.owed }
-        ensures room { OnOk result (additional ≤ self.new.room) }
+    /// Puts a notice behind the octets that are owed, which are few enough for that.
+    pub fn put_notice(&mut self, octets: &[u8])
+        requires few { length self.old ≤ NOTICE_LIMIT }
+        requires short { length octets.now ≤ NOTICE_OCTETS }
+        ensures { self.new ≡ self.old ++ octets.now }
     {
-        // Octets that were taken make way once they are the greater part.
-        if self.start > self.len() {
-            self.shift()?;
+        if octets.len() <= self.octets.capacity() - self.octets.len() {
+            let _ = self.octets.extend_from_slice(octets);
+        } else {
+            drop_front(&mut self.octets, self.start);
+            self.start = 0;
+            let _ = self.octets.extend_from_slice(octets);
         }
-        self.octets.reserve(additional)?;
-        Ok(())
-    }
-
-    /// Lets go of the octets that were taken.
-    fn shift(&mut self) -> Result<(), NoMemory>
-        ensures { self.new.owed ≡ self.old.owed }
-    {
-        self.octets = Vec::from_slice(self.alloc, &self.octets[self.start..])?;
-        self.start = 0;
-        Ok(())
-    }
-
-    /// Puts octets behind those that are owed, into reserved room.
-    pub fn put_reserved(&mut self, octets: &[u8])
-        requires { length octets.now ≤ self.old.room }
-        ensures { self.new.owed ≡ self.old.owed ++ octets.now }
-    {
-        let _ = self.octets.extend_from_slice(octets);
     }
 
     /// Puts octets behind those that are owed.
     pub fn put(&mut self, octets: &[u8]) -> Result<(), NoMemory>
-        ensures ok { OnOk result (self.new.owed ≡ self.old.owed ++ octets.now) }
-        ensures err { OnErr result (self.new.owed ≡ self.old.owed) }
+        ensures ok { OnOk result (self.new ≡ self.old ++ octets.now) }
+        ensures err { OnErr result (self.new ≡ self.old) }
     {
-        self.reserve(octets.len())?;
-        self.put_reserved(octets);
+        // Octets that were taken make way once they are the greater part.
+        if self.start > self.len() {
+            drop_front(&mut self.octets, self.start);
+            self.start = 0;
+        }
+        self.octets.extend_from_slice(octets)?;
         Ok(())
     }
+}
+
+/// Lets go of the first octets of a list.
+fn drop_front(octets: &mut Vec<u8>, n: usize)
+    requires { n ≤ length octets.old.items }
+    ensures items { octets.new.items ≡ drop n octets.old.items }
+    ensures capacity { vec_capacity octets.new ≡ vec_capacity octets.old }
+{
+    let left = octets.len() - n;
+    octets.copy_within(n.., 0);
+    octets.truncate(left);
 }

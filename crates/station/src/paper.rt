@@ -1,6 +1,7 @@
 //! What is written before it is told.
 
-ghost use Rattle.std.specs.Prelude.{◌≡◌, ◌++◌, Ok, Some, IfOk, OnOk};
+ghost use Rattle.std.specs.Prelude.{◌≡◌, ◌≤◌, ◌++◌, Ok, Some, IfOk, OnOk, length};
+ghost use Rattle.station.specs.declared.sizes.TheConstants.{NOTICE_OCTETS};
 ghost use Rattle.app_message.specs.Spelling.{spelling};
 ghost use Rattle.device_map.specs.Changes.{change_by};
 ghost use Rattle.device_map.specs.Replies.{fault_message};
@@ -25,6 +26,7 @@ pub struct Paper {
     body: Vec<u8>,
     pub(crate) text: Vec<u8>,
     pub(crate) notice: Vec<u8>,
+    ghost short: { length notice.items ≤ NOTICE_OCTETS },
 }
 
 impl Paper {

@@ -1,6 +1,7 @@
 //! A peer: its session, and what it is owed.
 
-ghost use Rattle.std.specs.Prelude.{◌≡◌, ◌≤◌, None, Some, length, is_none};
+ghost use Rattle.std.specs.Prelude.{◌≡◌, ◌≤◌, None, Some, length, is_none, IfOk};
+ghost use Rattle.station.specs.declared.sizes.TheConstants.{NOTICE_OCTETS};
 ghost use Rattle.station.specs.PeerViews.{is_at, session_of};
 ghost use Rattle.station.specs.Peers.{listener, noticed_by};
 ghost use Rattle.station.specs.Sessions.{is_read, opening_session};
@@ -9,6 +10,7 @@ use crate::outbox::Outbox;
 use crate::peer_end::PeerEnd;
 use crate::sizes::{NOTICE_LIMIT, READ_LIMIT};
 use app_message::Decoder;
+use site_base::NoMemory;
 use std::alloc::Global;
 use till_session::Talk;
 
@@ -20,22 +22,19 @@ pub struct Peer {
     pub(crate) outbox: Outbox,
     /// How its session ended, if it did.
     pub(crate) end: Option<PeerEnd>,
-    /// Was it told a notice since it was last asked?
-    pub(crate) has_news: bool,
 }
 
 impl Peer {
-    /// A peer that has said nothing. It takes no memory.
-    pub(crate) fn new(alloc: Global) -> Peer
-        ensures { session_of result ≡ opening_session }
+    /// A peer that has said nothing.
+    pub(crate) fn new(alloc: Global) -> Result<Peer, NoMemory>
+        ensures { IfOk result (λ peer. session_of peer ≡ opening_session) }
     {
-        Peer {
+        Ok(Peer {
             decoder: Decoder::new(alloc),
             talk: Talk::new(alloc),
-            outbox: Outbox::new(alloc),
+            outbox: Outbox::new(alloc)?,
             end: None,
-            has_news: false,
-        }
+        })
     }
 
     /// Does its session last?
@@ -62,16 +61,15 @@ impl Peer {
         }
     }
 
-    /// Tells it a notice, in reserved room; where it is owed too much, its session ends instead.
+    /// Tells it a notice; where it is owed too much, its session ends instead.
     pub(crate) fn notice(&mut self, octets: &[u8])
-        requires { length octets.now ≤ self.old.outbox.room }
+        requires { length octets.now ≤ NOTICE_OCTETS }
         ensures { session_of self.new ≡ noticed_by (Some octets.now) (session_of self.old) }
     {
         if self.outbox.len() > NOTICE_LIMIT {
             self.end = Some(PeerEnd::Behind);
         } else {
-            self.outbox.put_reserved(octets);
+            self.outbox.put_notice(octets);
         }
-        self.has_news = true;
     }
 }

@@ -1,9 +1,10 @@
 //! The peers in their slots: a key is the place of a slot.
 
-ghost use Rattle.std.specs.Prelude.{◌≡◌, ◌<◌, ◌≤◌, ℕ, length, None, Some, IsSome, IfNone, IfSome};
-ghost use Rattle.std.specs.Prelude.{option_map};
+ghost use Rattle.std.specs.Prelude.{◌≡◌, ◌≢◌, ◌<◌, ◌≤◌, ℕ, [], length, None, Some, IsSome, IfNone};
+ghost use Rattle.std.specs.Prelude.{IfSome, false, option_map, true};
 ghost use Rattle.station.specs.Peers.{peer_at, with_peer};
 ghost use Rattle.station.specs.PeerViews.{session_at, session_of, sessions_of, without_key};
+ghost use Rattle.station.specs.Reads.{owed_to};
 
 use crate::peer::Peer;
 
@@ -59,28 +60,30 @@ pub(crate) fn free_key(slots: &[Option<Peer>]) -> Option<usize>
     None
 }
 
-/// The least key, from this one on, whose peer was told a notice since its news were last taken.
-/// The news of that peer are taken.
-pub(crate) fn take_news(slots: &mut [Option<Peer>], from: usize) -> Option<usize>
-    ensures same { sessions_of slots.new ≡ sessions_of slots.old }
-    ensures key { IfSome result (λ key. (from ≤ key) × (key < length slots.old)) }
+/// The least key, from this one on, whose peer is owed octets.
+pub(crate) fn next_owed(slots: &[Option<Peer>], from: usize) -> Option<usize>
+    ensures within { IfSome result (λ key. (from ≤ key) × (key < length slots.now)) }
+    ensures owed { IfSome result (λ key. owed_to (peer_at (sessions_of slots.now) key) ≢ []) }
+    ensures least { IfSome result (λ key. (k : ℕ) → from ≤ k → k < key
+        → owed_to (peer_at (sessions_of slots.now) k) ≡ []) }
+    ensures none { IfNone result ((k : ℕ) → from ≤ k
+        → owed_to (peer_at (sessions_of slots.now) k) ≡ []) }
 {
     for key in from..slots.len() {
-        if take_news_at(&mut slots[key]) {
+        if is_owed(slots, key) {
             return Some(key);
         }
     }
     None
 }
 
-/// Was the peer told a notice since its news were last taken?
-fn take_news_at(slot: &mut Option<Peer>) -> bool
-    ensures { option_map session_of slot.new ≡ option_map session_of slot.old }
+/// Is the peer of a key owed octets?
+fn is_owed(slots: &[Option<Peer>], key: usize) -> bool
+    ensures yes { result ≡ true → owed_to (peer_at (sessions_of slots.now) key) ≢ [] }
+    ensures no { result ≡ false → owed_to (peer_at (sessions_of slots.now) key) ≡ [] }
 {
-    if let Some(peer) = slot {
-        let had_news = peer.has_news;
-        peer.has_news = false;
-        return had_news;
+    match find_peer(slots, key) {
+        Some(peer) => peer.outbox.len() > 0,
+        None => false,
     }
-    false
 }

@@ -1,10 +1,11 @@
 //! The station: a book and its peers.
 
-ghost use Rattle.std.specs.Prelude.{◌≡◌, ◌<◌, ◌≤◌, ℕ, [], length, IfOk, IfSome, OnErr};
+ghost use Rattle.std.specs.Prelude.{◌≡◌, ◌<◌, ℕ, [], length, IfNone, IfOk, IfSome, OnErr};
 ghost use Rattle.std.specs.Prelude.{IsSome};
 ghost use Rattle.station.specs.Moves.{with_end, with_octets, with_taken, without_peer};
 ghost use Rattle.station.specs.Peers.{peer_at};
-ghost use Rattle.station.specs.Reads.{Arrives, end_at, is_read_at, node_at, owed_at};
+ghost use Rattle.station.specs.Reads.{Arrives, IsNextOwed, NoneIsOwed, end_at, is_read_at};
+ghost use Rattle.station.specs.Reads.{node_at, owed_at};
 ghost use Rattle.station.specs.Runs.{opened};
 ghost use Rattle.station.specs.Sessions.{Grants};
 
@@ -13,7 +14,7 @@ use crate::paper::Paper;
 use crate::peer::Peer;
 use crate::peer_end::PeerEnd;
 use crate::sizes::PEERS;
-use crate::slots::{find_peer, free_key, put_peer, take_news, take_peer};
+use crate::slots::{find_peer, free_key, next_owed, put_peer, take_peer};
 use app_message::Messages;
 use site_base::NoMemory;
 use site_book::SiteBook;
@@ -76,7 +77,8 @@ impl Station {
     {
         match free_key(&self.slots) {
             Some(key) => {
-                put_peer(&mut self.slots, key, Peer::new(self.alloc));
+                let peer = Peer::new(self.alloc)?;
+                put_peer(&mut self.slots, key, peer);
                 Ok(Some(key))
             }
             None => self.add_slot(),
@@ -93,7 +95,8 @@ impl Station {
         if key >= PEERS {
             return Ok(None);
         }
-        self.slots.push(Some(Peer::new(self.alloc)))?;
+        let peer = Peer::new(self.alloc)?;
+        self.slots.push(Some(peer))?;
         Ok(Some(key))
     }
 
@@ -140,15 +143,14 @@ impl Station {
         }
     }
 
-    /// The least key, from this one on, whose peer was told a notice since its news were last
-    /// taken; None where there is none. Whoever has the connections asks so behind each move, since
-    /// octets are owed then to peers that haven't sent any. No contract says that no news are left
-    /// out.
-    pub fn take_news(&mut self, from: usize) -> Option<usize>
-        ensures same { self.new ≡ self.old }
-        ensures key { IfSome result (λ key. (from ≤ key) × (key < PEERS)) }
+    /// The least key, from this one on, whose peer is owed octets; None where none is. Whoever has
+    /// the connections asks so behind moves, since peers that haven't sent anything may be owed
+    /// notices.
+    pub fn next_owed(&self, from: usize) -> Option<usize>
+        ensures found { IfSome result (λ key. IsNextOwed from key self.now) }
+        ensures none { IfNone result (NoneIsOwed from self.now) }
     {
-        take_news(&mut self.slots, from)
+        next_owed(&self.slots, from)
     }
 
     /// A peer has taken so many of the octets that it is owed.

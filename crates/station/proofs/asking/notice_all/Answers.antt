@@ -2,8 +2,8 @@ use Rattle.std.proofs.Common.{◌<◌, ◌∙◌, ap, arith, get_or, length}
 use Rattle.std.specs.Prelude.{option_map}
 use Rattle.std.proofs.lemmas.List.Edits.{map_over_more}
 use Rattle.std.proofs.Math.ListN.{length-set, set}
-use Rattle.station.specs.PeerViews.{HasRoomFor, session_of, sessions_of, slot_noticed}
-use Rattle.station.proofs.SlotSessions.{found_again, from_there, sessions_at, sessions_size}
+use Rattle.station.specs.PeerViews.{session_of, sessions_of, slot_noticed}
+use Rattle.station.proofs.SlotSessions.{found_again, sessions_at, sessions_size}
 use Rattle.station.proofs.asking.notice_all.Goals as goal
 
 pub loop-i-preserved : goal.loop-i-preserved
@@ -21,8 +21,5 @@ loop-i-preserved c =
           ∙ map_over_more f (sessions_of c.args.slots.now) (sessions_of slots) i x
           (omega (arith, old_size, c.loop-i.invariant.size)) c.loop-i.invariant.noticed
           (found_again i slots c.index-slots-i.result x within);
-      room =
-          from_there (HasRoomFor c.args.node (length c.args.notice.now)) i slots
-          c.notice_at.new.slot tt c.loop-i.invariant.room;
       size = simp length-set c.loop-i.invariant.size;
     }

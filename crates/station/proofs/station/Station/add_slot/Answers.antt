@@ -13,7 +13,7 @@ returns-clause-ok c =
       omega arith,
       nobody_there c.len-key.result slots (omega arith),
       ap (state c.self.inside.book)
-          (sessions_next slots c.new.result
-          ∙ ap (λ x. with_peer (length slots) (Some x) (sessions_of slots)) c.new.ensures
+          (sessions_next slots c.in_ok-peer.peer
+          ∙ ap (λ x. with_peer (length slots) (Some x) (sessions_of slots)) c.in_ok-peer.ensures
           ∙ ap (λ k. with_peer k (Some opening_session) (sessions_of slots)) (sym size)),
     )

@@ -1,0 +1,93 @@
+//! `forecourt station FILE --port N [--idle SECONDS] [--detached]`.
+
+use crate::TURNS;
+use crate::exit::{COMMAND_LINE, exit_day, exit_with};
+use crate::files::read_site;
+use clap::ArgMatches;
+use forecourt_days::{DayFault, StationPlan};
+use mio::Waker;
+use site_base::{Counted, SiteConfig};
+use station_server::{StationServer, station_day};
+use std::io::{ErrorKind, Read};
+use std::process::ExitCode;
+use std::sync::Wait;
+use std::thread;
+use std::thread::{JoinHandle, Threads};
+
+/// Standard input's octets are passed over by so many.
+const PASSED_OVER: usize = 4_096;
+
+/// Serves every till and dispenser of a site until standard input ends, and prints the report of
+/// the day; with `--detached` until the system stops it. Wrong words come before the site file, and
+/// its faults before the listener's.
+pub fn run_station<T: Threads + Wait + Sync>(
+    rt: &HostRuntime,
+    threads: &T,
+    words: &ArgMatches<'_>,
+) -> ExitCode {
+    let port = words.get_str("port").unwrap_or("");
+    match StationPlan::read(port, words.get_str("idle")) {
+        Ok(plan) => match read_site(rt, words) {
+            Ok(config) => {
+                let end = serve_on(rt, threads, &config, plan, words.get_flag("detached"));
+                exit_day(rt, end)
+            }
+            Err(status) => status,
+        },
+        Err(fault) => exit_with(eprintln!(rt; "error: {fault}"), COMMAND_LINE),
+    }
+}
+
+/// Listens, and serves a day on this site.
+fn serve_on<T: Threads + Wait + Sync>(
+    rt: &HostRuntime,
+    threads: &T,
+    config: &SiteConfig,
+    plan: StationPlan,
+    is_detached: bool,
+) -> Result<(), DayFault> {
+    let mut server = StationServer::bind(rt, rt, rt.alloc(), plan.port)?;
+    let watch = if is_detached {
+        None
+    } else {
+        Some(watch_input(rt, threads, &server)?)
+    };
+    let mut writer = Counted::new(rt.stdout());
+    let mut left = TURNS;
+    let alloc = rt.alloc();
+    station_day(
+        threads, rt, alloc, config, &mut server, plan.idle, &mut left, &mut writer,
+    )?;
+    if let Some(watch) = watch {
+        watch.join(threads);
+    }
+    Ok(())
+}
+
+/// Starts the thread that waits for standard input's end, and then ends the day.
+fn watch_input<T: Threads>(
+    rt: &HostRuntime,
+    threads: &T,
+    server: &StationServer,
+) -> Result<JoinHandle<()>, DayFault> {
+    let waker = server.waker()?;
+    let input = rt.stdin();
+    match thread::spawn(threads, move || wake_at_end(input, &waker)) {
+        Ok(watch) => Ok(watch),
+        Err(_) => Err(DayFault::NoWorker),
+    }
+}
+
+/// Passes over the octets of an input, and wakes once they have ended, or can't be read.
+fn wake_at_end<R: Read + Drop>(mut input: R, waker: &Waker) {
+    let mut piece = [0; PASSED_OVER];
+    for _ in 0..u64::MAX {
+        match input.read(&mut piece) {
+            Ok(0) => break,
+            Ok(_) => {}
+            Err(error) if error.kind() == ErrorKind::Interrupted => {}
+            Err(_) => break,
+        }
+    }
+    let _ = waker.wake();
+}

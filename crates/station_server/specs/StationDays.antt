@@ -1,0 +1,34 @@
+-- What a station's day writes.
+use Rattle.std.specs.Prelude.{◌≡◌, ◌⊎◌, ℕ, List, ◌++◌, [], Option}
+use Rattle.std.specs.Io.KnownBytes.{Appends}
+use Rattle.site_base.specs.Configured.{Configured}
+use Rattle.site_base.specs.Devices.{AppendsFront}
+use Rattle.site_book.specs.Book.{Book}
+use Rattle.forecourt_engines.specs.Report.{book_report}
+use Rattle.forecourt_days.specs.Days.{listening_line}
+use Rattle.station.specs.Moves.{StationState}
+use Rattle.station.specs.Runs.{Move, after, opened}
+
+-- a book of this configuration without rows
+abbrev pub opening_book : Configured → Book
+opening_book config = record { config = config; rows = [] }
+
+-- the book of the station after these moves, of a day that opens on this site
+abbrev pub day_book : Configured → List Move → Book
+day_book config moves = (after moves (opened (opening_book config))).book
+
+-- the line that tells the port, and the report of the book that the day's moves led to
+abbrev pub station_text : Configured → ℕ → List Move → List ℕ
+station_text config port moves = listening_line port ++ book_report (day_book config moves)
+
+-- the whole text of a day was written
+pub record TellsDay (config : Configured) (port : ℕ) (holds holds' : Option (List ℕ))
+    : Type 0 where
+  pub moves : List Move
+  pub told : Appends holds holds' (station_text config port moves)
+
+-- a front of the text of a day was written
+pub record TellsFront (config : Configured) (port : ℕ) (holds holds' : Option (List ℕ))
+    : Type 0 where
+  pub moves : List Move
+  pub told : AppendsFront holds holds' (station_text config port moves)

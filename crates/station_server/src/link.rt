@@ -1,0 +1,150 @@
+//! A peer's connection.
+
+ghost use Rattle.std.specs.Prelude.{◌<◌, length};
+ghost use Rattle.station_server.specs.Reaches.{Reaches};
+
+use crate::calls::{Call, read_once, write_once};
+use crate::sizes::CALLS_A_TURN;
+use mio::net::TcpStream;
+use station::Station;
+use std::io::{ErrorKind, Read};
+use std::net::Shutdown;
+use std::time::Instant;
+
+/// A connection, and how far its session has come.
+#[derive(Drop)]
+pub(crate) struct Link {
+    pub(crate) stream: TcpStream,
+    /// When octets came last.
+    pub(crate) heard_at: Instant,
+    /// Since its session has ended: when the peer last took octets.
+    pub(crate) closing_since: Option<Instant>,
+    /// Reading stopped before the peer had no more.
+    pub(crate) is_unread: bool,
+    /// It waits to be sent what it is owed, in this round.
+    pub(crate) is_due: bool,
+    /// Whether the peer may still send, or take.
+    pub(crate) reach: Reach,
+}
+
+/// What a peer can still do.
+#[derive(Clone, Copy, Debug, PartialEq, Eq)]
+pub(crate) enum Reach {
+    /// Send and take.
+    Both,
+    /// Take alone: it sends no more.
+    Takes,
+    /// Nothing: the connection failed.
+    Nothing,
+}
+
+impl Link {
+    /// The connection of a peer that has just come.
+    pub(crate) fn new(stream: TcpStream, now: Instant) -> Link {
+        Link {
+            stream,
+            heard_at: now,
+            closing_since: None,
+            is_unread: false,
+            is_due: false,
+            reach: Reach::Both,
+        }
+    }
+
+    /// Reads from the peer, and has the station hear it: until there is no more for now, the peer
+    /// isn't read from, or its turn is over. With `to_end` it is known that the peer sends no more.
+    pub(crate) fn hear(
+        &mut self,
+        station: &mut Station,
+        key: usize,
+        piece: &mut [u8],
+        to_end: bool,
+        now: Instant,
+    )
+        requires { 0 < length piece.old }
+        ensures { Reaches station.old station.new }
+    {
+        self.is_unread = true;
+        for _ in 0..CALLS_A_TURN {
+            if !station.is_read(key) {
+                return;
+            }
+            let size = piece.len();
+            match read_once(&mut self.stream, station, key, piece) {
+                Call::Passed(n) => {
+                    self.heard_at = now;
+                    if n < size && !to_end {
+                        self.is_unread = false;
+                        return;
+                    }
+                }
+                Call::Interrupted => {}
+                Call::Waits => {
+                    self.is_unread = false;
+                    return;
+                }
+                Call::Ended => {
+                    self.reach = Reach::Takes;
+                    return;
+                }
+                Call::Failed => {
+                    self.reach = Reach::Nothing;
+                    return;
+                }
+            }
+        }
+    }
+
+    /// Sends what the peer is owed, as far as its connection takes it for now.
+    pub(crate) fn send(&mut self, station: &mut Station, key: usize, now: Instant)
+        ensures { Reaches station.old station.new }
+    {
+        for _ in 0..CALLS_A_TURN {
+            if station.owed(key).is_empty() {
+                return;
+            }
+            match write_once(&mut self.stream, station, key) {
+                Call::Passed(_) => self.note_taken(now),
+                Call::Interrupted => {}
+                Call::Waits => return,
+                Call::Ended | Call::Failed => {
+                    self.reach = Reach::Nothing;
+                    return;
+                }
+            }
+        }
+    }
+
+    /// The peer has taken octets.
+    fn note_taken(&mut self, now: Instant) {
+        if self.closing_since.is_some() {
+            self.closing_since = Some(now);
+        }
+    }
+
+    /// Reads what a peer sends whose session has ended, and hears none of it.
+    pub(crate) fn ignore(&mut self, piece: &mut [u8]) {
+        for _ in 0..CALLS_A_TURN {
+            match self.stream.read(piece) {
+                Ok(0) => {
+                    self.reach = Reach::Takes;
+                    return;
+                }
+                Ok(_) => {}
+                Err(error) => {
+                    match error.kind() {
+                        ErrorKind::WouldBlock => {}
+                        ErrorKind::Interrupted => {}
+                        _ => self.reach = Reach::Nothing,
+                    }
+                    return;
+                }
+            }
+        }
+    }
+
+    /// Tells the peer that nothing more will come.
+    pub(crate) fn shut(&self) {
+        let _ = self.stream.shutdown(Shutdown::Write);
+    }
+}

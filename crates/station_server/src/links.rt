@@ -1,0 +1,290 @@
+//! The connections of all peers, and the station that they speak with.
+
+ghost use Rattle.std.specs.Prelude.{◌≡◌, ◌<◌, length, IfOk};
+ghost use Rattle.site_book.specs.Book.{Book};
+ghost use Rattle.station.specs.Runs.{opened};
+ghost use Rattle.station_server.specs.Reaches.{Reaches};
+
+use crate::link::{Link, Reach};
+use crate::naming::{EndedSession, PeerName};
+use crate::sizes::{CLOSING_SECONDS, PIECE_OCTETS};
+use mio::net::TcpStream;
+use mio::{Interest, Registry, Token};
+use site_base::NoMemory;
+use site_book::SiteBook;
+use station::{PEERS, PeerEnd, Station};
+use std::alloc::Global;
+use std::time::Instant;
+
+/// The connections by their peers' keys, and the station.
+#[derive(Drop)]
+pub(crate) struct Links {
+    pub(crate) station: Station,
+    links: Vec<Option<Link>>,
+    piece: Vec<u8>,
+    /// The keys of those that are sent what they are owed at the end of this round.
+    due: Vec<usize>,
+    /// How many of the due keys count.
+    due_count: usize,
+    /// So many sessions have ended whose connections haven't.
+    closing: usize,
+    ghost some: { 0 < length piece.items },
+}
+
+impl Links {
+    /// No connections, and a station at this book.
+    pub(crate) fn new(alloc: Global, book: SiteBook) -> Result<Links, NoMemory>
+        ensures { IfOk result (λ links. links.station ≡ opened book) }
+    {
+        let mut links = Vec::with_capacity(alloc, PEERS)?;
+        for _ in 0..PEERS {
+            links.push(None)?;
+        }
+        Ok(Links {
+            station: Station::new(alloc, book),
+            links,
+            piece: Vec::from_elem(alloc, 0, PIECE_OCTETS)?,
+            due: Vec::from_elem(alloc, 0, PEERS)?,
+            due_count: 0,
+            closing: 0,
+        })
+    }
+
+    /// Are there sessions that have ended, and connections that haven't?
+    pub(crate) fn has_closing(&self) -> bool {
+        self.closing > 0
+    }
+
+    /// A peer has come. Where 1,024 are there, or memory is wanting, its connection is closed.
+    pub(crate) fn welcome(&mut self, registry: &Registry, mut stream: TcpStream, now: Instant)
+        ensures { Reaches self.old.station self.new.station }
+    {
+        let Ok(Some(key)) = self.station.arrive() else {
+            return;
+        };
+        let _ = stream.set_nodelay(true);
+        let both = Interest::READABLE | Interest::WRITABLE;
+        if registry.register(&mut stream, Token(key), both).is_ok() && key < self.links.len() {
+            self.links[key] = Some(Link::new(stream, now));
+        } else {
+            self.station.leave(key);
+        }
+    }
+
+    /// A peer has sent something, or hung up. With `to_end` it is known that it sends no more.
+    pub(crate) fn hear(&mut self, key: usize, to_end: bool, now: Instant)
+        ensures { Reaches self.old.station self.new.station }
+    {
+        if let Some(Some(link)) = self.links.get_mut(key) {
+            if link.closing_since.is_some() {
+                link.ignore(&mut self.piece);
+            } else {
+                link.hear(&mut self.station, key, &mut self.piece, to_end, now);
+            }
+        }
+    }
+
+    /// A peer is sent what it is owed at the end of this round.
+    pub(crate) fn make_due(&mut self, key: usize)
+        ensures { self.new.station ≡ self.old.station }
+    {
+        if let Some(Some(link)) = self.links.get_mut(key) {
+            if !link.is_due && self.due_count < self.due.len() {
+                link.is_due = true;
+                self.due[self.due_count] = key;
+                self.due_count += 1;
+            }
+        }
+    }
+
+    /// Peers that were told notices in this round are sent them too.
+    pub(crate) fn make_told_due(&mut self)
+        ensures { self.new.station ≡ self.old.station }
+    {
+        let mut from = 0;
+        for _ in 0..PEERS {
+            let Some(key) = self.station.take_news(from) else {
+                return;
+            };
+            self.make_due(key);
+            from = key;
+        }
+    }
+
+    /// Whoever is due is sent what it is owed, and a session that has ended is closed.
+    pub(crate) fn send_due<E: Eprint>(&mut self, registry: &Registry, rt: &E, now: Instant)
+        ensures { Reaches self.old.station self.new.station }
+    {
+        for at in 0..self.due_count.min(self.due.len()) {
+            let key = self.due[at];
+            self.settle(registry, rt, key, now);
+        }
+        self.due_count = 0;
+    }
+
+    /// A peer is sent what it is owed, and its connection follows its session.
+    fn settle<E: Eprint>(&mut self, registry: &Registry, rt: &E, key: usize, now: Instant)
+        ensures { Reaches self.old.station self.new.station }
+    {
+        let Some(Some(link)) = self.links.get_mut(key) else {
+            return;
+        };
+        link.is_due = false;
+        link.send(&mut self.station, key, now);
+        if link.reach == Reach::Nothing {
+            self.remove(key);
+            return;
+        }
+        match self.station.end(key) {
+            None => self.read_again(registry, key),
+            Some(end) => self.close(rt, key, end, now),
+        }
+    }
+
+    /// Where reading stopped before the peer had no more, and it is read from, what it sent is
+    /// reported again.
+    fn read_again(&mut self, registry: &Registry, key: usize)
+        ensures { self.new.station ≡ self.old.station }
+    {
+        if !self.station.is_read(key) {
+            return;
+        }
+        if let Some(Some(link)) = self.links.get_mut(key) {
+            if link.is_unread {
+                link.is_unread = false;
+                let both = Interest::READABLE | Interest::WRITABLE;
+                let _ = registry.reregister(&mut link.stream, Token(key), both);
+            }
+        }
+    }
+
+    /// The session of a peer has ended: that is told, and once the peer has what it is owed, its
+    /// connection is closed.
+    fn close<E: Eprint>(&mut self, rt: &E, key: usize, end: PeerEnd, now: Instant)
+        ensures { Reaches self.old.station self.new.station }
+    {
+        let is_new = self.begin_to_close(key, now);
+        if is_new && end != PeerEnd::Well {
+            let node = self.station.node(key);
+            let ended = EndedSession { node, end };
+            let _ = eprintln!(rt; "{ended}");
+        }
+        if end == PeerEnd::Behind || self.has_all(key) {
+            self.remove(key);
+        }
+    }
+
+    /// The connection of a session that has ended is one that closes; false where it was one.
+    fn begin_to_close(&mut self, key: usize, now: Instant) -> bool
+        ensures { self.new.station ≡ self.old.station }
+    {
+        if let Some(Some(link)) = self.links.get_mut(key) {
+            if link.closing_since.is_none() {
+                link.closing_since = Some(now);
+                self.closing = self.closing.saturating_add(1);
+                return true;
+            }
+        }
+        false
+    }
+
+    /// Has the peer what it is owed, and sends no more? It is told that nothing more will come.
+    fn has_all(&mut self, key: usize) -> bool
+        ensures { self.new.station ≡ self.old.station }
+    {
+        if !self.station.owed(key).is_empty() {
+            return false;
+        }
+        match self.links.get_mut(key) {
+            Some(Some(link)) => {
+                link.shut();
+                link.reach != Reach::Both
+            }
+            _ => false,
+        }
+    }
+
+    /// The connection of a peer is closed, and the peer leaves.
+    fn remove(&mut self, key: usize)
+        ensures { Reaches self.old.station self.new.station }
+    {
+        self.station.leave(key);
+        if let Some(slot) = self.links.get_mut(key) {
+            if let Some(link) = slot.take() {
+                if link.closing_since.is_some() {
+                    self.closing = self.closing.saturating_sub(1);
+                }
+            }
+        }
+    }
+
+    /// Sessions of which nothing came for so many seconds end, and connections that don't close are
+    /// closed.
+    pub(crate) fn sweep<E: Eprint>(
+        &mut self,
+        registry: &Registry,
+        rt: &E,
+        idle: Option<u64>,
+        now: Instant,
+    )
+        ensures { Reaches self.old.station self.new.station }
+    {
+        for key in 0..self.links.len() {
+            match self.state_of(key, idle, now) {
+                Waiting::Well => {}
+                Waiting::Idle(seconds) => {
+                    let name = PeerName {
+                        node: self.station.node(key),
+                    };
+                    let _ = eprintln!(rt; "session of {name}: nothing came for {seconds} seconds");
+                    self.station.finish(key);
+                    self.make_due(key);
+                }
+                Waiting::Stuck => self.remove(key),
+            }
+        }
+        self.send_due(registry, rt, now);
+    }
+
+    /// How long a peer is waited for already.
+    fn state_of(&self, key: usize, idle: Option<u64>, now: Instant) -> Waiting {
+        let Some(Some(link)) = self.links.get(key) else {
+            return Waiting::Well;
+        };
+        match (link.closing_since, idle) {
+            (Some(since), _) if now.duration_since(since).as_secs() >= CLOSING_SECONDS => {
+                Waiting::Stuck
+            }
+            (None, Some(seconds)) if now.duration_since(link.heard_at).as_secs() >= seconds => {
+                Waiting::Idle(seconds)
+            }
+            _ => Waiting::Well,
+        }
+    }
+
+    /// The day ends: each session ends, what it is owed is sent as far as its connection takes it,
+    /// and its connection is closed.
+    pub(crate) fn end_all(&mut self, now: Instant)
+        ensures { Reaches self.old.station self.new.station }
+    {
+        for key in 0..self.links.len() {
+            self.station.finish(key);
+            if let Some(Some(link)) = self.links.get_mut(key) {
+                link.send(&mut self.station, key, now);
+                link.shut();
+            }
+            self.remove(key);
+        }
+    }
+}
+
+/// What is to be done of a peer that is waited for.
+#[derive(Clone, Copy, Debug, PartialEq, Eq)]
+enum Waiting {
+    /// Nothing.
+    Well,
+    /// Nothing came of it for so many seconds, which is too long.
+    Idle(u64),
+    /// Its session has ended, and its connection doesn't.
+    Stuck,
+}

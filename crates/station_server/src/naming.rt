@@ -1,0 +1,44 @@
+//! How a session's end is told.
+
+use station::PeerEnd;
+use std::fmt;
+
+/// A session that ended, as it is told on standard error.
+#[derive(Clone, Copy, Debug)]
+pub(crate) struct EndedSession {
+    /// The originator of its first message, if there was one.
+    pub(crate) node: Option<[u8; 2]>,
+    /// How it ended.
+    pub(crate) end: PeerEnd,
+}
+
+impl fmt::Display for EndedSession {
+    /// `session of t1: fault 44: the octets end inside a message`.
+    fn fmt<W: fmt::Write>(&self, f: &mut fmt::Formatter<W>) -> fmt::Result {
+        let name = PeerName { node: self.node };
+        match self.end {
+            PeerEnd::Fault(fault) => {
+                let number = fault.number();
+                write!(f, "session of {name}: fault {number}: {fault}")
+            }
+            end => write!(f, "session of {name}: {end}"),
+        }
+    }
+}
+
+/// Who a peer is, by the originator of its first message: `t1`, `d3`.
+#[derive(Clone, Copy, Debug)]
+pub(crate) struct PeerName {
+    pub(crate) node: Option<[u8; 2]>,
+}
+
+impl fmt::Display for PeerName {
+    fn fmt<W: fmt::Write>(&self, f: &mut fmt::Formatter<W>) -> fmt::Result {
+        match self.node {
+            None => write!(f, "a peer that said nothing"),
+            Some([2, till]) => write!(f, "t{till}"),
+            Some([3, dispenser]) => write!(f, "d{dispenser}"),
+            Some([subnet, node]) => write!(f, "node {subnet} {node}"),
+        }
+    }
+}

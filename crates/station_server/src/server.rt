@@ -1,0 +1,218 @@
+//! The server: it waits until connections are ready, round after round.
+
+ghost use Rattle.station_server.specs.Reaches.{Reaches};
+
+use crate::links::Links;
+use crate::sizes::{ACCEPTS_A_TURN, EVENTS_A_ROUND, SWEEP_SECONDS};
+use forecourt_days::DayFault;
+use mio::event::Event;
+use mio::net::TcpListener;
+use mio::{Events, Interest, Poll, Token, Waker};
+use std::alloc::Global;
+use std::io::{self, ErrorKind};
+use std::net::{Ipv4Addr, Net, SocketAddr, SocketAddrV4};
+use std::sync::Wait;
+use std::time::{Clock, Duration, Instant};
+
+/// What a new connection is reported under.
+const LISTENER: Token = Token(usize::MAX);
+/// What the day's end is reported under.
+const WAKER: Token = Token(usize::MAX - 1);
+
+/// A listener on 127.0.0.1, and what waits for its connections.
+#[derive(Drop)]
+pub struct StationServer {
+    poll: Poll,
+    events: Events,
+    listener: TcpListener,
+    port: u16,
+    /// Accepting failed: it is tried again.
+    is_deaf: bool,
+    /// That was told.
+    has_told: bool,
+    swept_at: Instant,
+    time: Instant,
+}
+
+/// How a round ends.
+#[derive(Clone, Copy, Debug, PartialEq, Eq)]
+enum Round {
+    Next,
+    Last,
+}
+
+impl StationServer {
+    /// Listens on this port of 127.0.0.1, on a free one where it is 0. `NoConnection` where that
+    /// can't be.
+    pub fn bind<N: Net, C: Clock>(
+        net: &N,
+        clock: &C,
+        alloc: Global,
+        port: u16,
+    ) -> Result<StationServer, DayFault> {
+        let events = match Events::with_capacity(alloc, EVENTS_A_ROUND) {
+            Ok(events) => events,
+            Err(_) => return Err(DayFault::NoMemory),
+        };
+        match listen(net, clock, events, port) {
+            Ok(server) => Ok(server),
+            Err(_) => Err(DayFault::NoConnection),
+        }
+    }
+
+    /// The port on which it listens.
+    pub fn port(&self) -> u16
+        ensures { result ≡ self.now.port }
+    {
+        self.port
+    }
+
+    /// What time it was in the last round.
+    pub(crate) fn time(&self) -> Instant {
+        self.time
+    }
+
+    /// What ends the day, from another thread.
+    pub fn waker(&self) -> Result<Waker, DayFault> {
+        Waker::new(self.poll.registry(), WAKER).map_err(|_| DayFault::NoConnection)
+    }
+
+    /// Serves connections until the day's end. Sessions of which nothing comes for so many seconds
+    /// are ended.
+    pub(crate) fn serve<T: Wait, R: Clock + Eprint>(
+        &mut self,
+        threads: &T,
+        rt: &R,
+        links: &mut Links,
+        idle: Option<u64>,
+    ) -> Result<(), DayFault>
+        ensures { Reaches links.old.station links.new.station }
+    {
+        for _ in threads.forever() {
+            let rest = self.rest(links, idle);
+            match self.poll.poll(&mut self.events, rest) {
+                Ok(()) => {}
+                Err(_) => return Err(DayFault::NoConnection),
+            }
+            self.look_at_clock(rt);
+            if self.take_turns(rt, links) == Round::Last {
+                return Ok(());
+            }
+            self.send_all(rt, links, idle);
+        }
+        Ok(())
+    }
+
+    /// How long it waits for the next round: as long as it takes, or until the next sweep.
+    fn rest(&self, links: &Links, idle: Option<u64>) -> Option<Duration> {
+        if self.is_deaf || links.has_closing() || idle.is_some() {
+            return Some(Duration::from_secs(SWEEP_SECONDS));
+        }
+        None
+    }
+
+    /// What time it is; where the clock doesn't tell, none has passed.
+    fn look_at_clock<R: Clock>(&mut self, rt: &R) {
+        if let Ok(now) = Instant::now(rt) {
+            self.time = now;
+        }
+    }
+
+    /// Each connection that is ready has its turn.
+    fn take_turns<R: Eprint>(&mut self, rt: &R, links: &mut Links) -> Round
+        ensures { Reaches links.old.station links.new.station }
+    {
+        let mut has_callers = false;
+        for event in &self.events {
+            match event.token() {
+                WAKER => return Round::Last,
+                LISTENER => has_callers = true,
+                Token(key) => take_turn(links, event, key, self.time),
+            }
+        }
+        if has_callers || self.is_deaf {
+            self.accept_all(rt, links);
+        }
+        Round::Next
+    }
+
+    /// Accepts the connections that wait. Where that fails it is told once, and tried again.
+    fn accept_all<R: Eprint>(&mut self, rt: &R, links: &mut Links)
+        ensures { Reaches links.old.station links.new.station }
+    {
+        self.is_deaf = false;
+        for _ in 0..ACCEPTS_A_TURN {
+            match self.listener.accept() {
+                Ok((stream, _)) => links.welcome(self.poll.registry(), stream, self.time),
+                Err(error) => match error.kind() {
+                    ErrorKind::WouldBlock => return,
+                    ErrorKind::Interrupted | ErrorKind::ConnectionAborted => {}
+                    _ => {
+                        self.tell_deaf(rt, &error);
+                        return;
+                    }
+                },
+            }
+        }
+        let registry = self.poll.registry();
+        let _ = registry.reregister(&mut self.listener, LISTENER, Interest::READABLE);
+    }
+
+    /// Accepting failed so: it is told, the first time.
+    fn tell_deaf<R: Eprint>(&mut self, rt: &R, error: &io::Error) {
+        self.is_deaf = true;
+        if !self.has_told {
+            self.has_told = true;
+            let _ = eprintln!(rt; "cannot accept: {error}; it is tried again each second");
+        }
+    }
+
+    /// Sends what is owed, and looks each second whose session is idle or doesn't close.
+    fn send_all<R: Eprint>(&mut self, rt: &R, links: &mut Links, idle: Option<u64>)
+        ensures { Reaches links.old.station links.new.station }
+    {
+        links.make_told_due();
+        links.send_due(self.poll.registry(), rt, self.time);
+        if self.time.duration_since(self.swept_at).as_secs() >= SWEEP_SECONDS {
+            self.swept_at = self.time;
+            links.sweep(self.poll.registry(), rt, idle, self.time);
+        }
+    }
+}
+
+/// A connection that is ready has its turn.
+fn take_turn(links: &mut Links, event: &Event, key: usize, now: Instant)
+    ensures { Reaches links.old.station links.new.station }
+{
+    let to_end = event.is_read_closed();
+    if event.is_readable() || event.is_error() || to_end {
+        links.hear(key, to_end, now);
+    }
+    links.make_due(key);
+}
+
+/// A listener on 127.0.0.1 that is watched.
+fn listen<N: Net, C: Clock>(
+    net: &N,
+    clock: &C,
+    events: Events,
+    port: u16,
+) -> io::Result<StationServer> {
+    let here = SocketAddr::V4(SocketAddrV4::new(Ipv4Addr::LOCALHOST, port));
+    let poll = Poll::new(net)?;
+    let mut listener = TcpListener::bind(net, here)?;
+    let port = listener.local_addr()?.port();
+    poll.registry()
+        .register(&mut listener, LISTENER, Interest::READABLE)?;
+    let now = Instant::now(clock)?;
+    Ok(StationServer {
+        poll,
+        events,
+        listener,
+        port,
+        is_deaf: false,
+        has_told: false,
+        swept_at: now,
+        time: now,
+    })
+}
