@@ -4,10 +4,10 @@ use crate::TURNS;
 use crate::exit::{COMMAND_LINE, exit_day, exit_with};
 use crate::files::read_site;
 use clap::ArgMatches;
-use forecourt_days::{DayFault, StationPlan};
+use forecourt_days::{DayFault, StationPlan, station_day};
 use mio::Waker;
 use site_base::{Counted, SiteConfig};
-use station_server::{StationServer, station_day};
+use station_server::StationServer;
 use std::io::{ErrorKind, Read};
 use std::process::ExitCode;
 use std::sync::Wait;
@@ -56,7 +56,14 @@ fn serve_on<T: Threads + Wait + Sync>(
     let mut left = TURNS;
     let alloc = rt.alloc();
     station_day(
-        threads, rt, alloc, config, &mut server, plan.idle, &mut left, &mut writer,
+        threads,
+        rt,
+        alloc,
+        config,
+        &mut server,
+        plan.idle,
+        &mut left,
+        &mut writer,
     )?;
     if let Some(watch) = watch {
         watch.join(threads);

@@ -3,3 +3,4 @@ pub mod Demos
 pub mod Faults
 pub mod Plans
 pub mod Sections
+pub mod StationDays

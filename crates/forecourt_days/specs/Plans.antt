@@ -1,5 +1,5 @@
 -- What the words of a command line ask of a server, and of a station.
-use Rattle.std.specs.Prelude.{ℕ, List, ◌≡◌, ◌≤◌, Option, Some, None, ⊤, ⊥}
+use Rattle.std.specs.Prelude.{ℕ, List, ◌≡◌, ◌≤◌, Option, Some, None, ⊤}
 use Rattle.std.specs.Str.Parse.{IsNumeral, digits_value}
 use Rattle.counter_desk.specs.declared.crews.TheConstants.{WORKERS}
 use Rattle.till_session.specs.declared.server.TheConstants.{SESSIONS}

@@ -5,6 +5,7 @@ ghost use Rattle.forecourt_days.specs.Days.{day_status};
 
 use counter_desk::{Naming, SettleFault, Unsettled};
 use site_base::{NoMemory, WriteFault};
+use station_server::ServerFault;
 use std::sync::ledger::Ledger;
 use thiserror::Error;
 
@@ -65,6 +66,20 @@ impl From<WriteFault> for DayFault {
 
     fn from(fault: WriteFault) -> DayFault {
         DayFault::Write(fault)
+    }
+}
+
+impl From<ServerFault> for DayFault {
+    ghost use Rattle.std.specs.Prelude.{◌≡◌};
+    ghost use Rattle.forecourt_days.specs.StationDays.{ended_by};
+
+    ghost from_gives = { λ f e. e ≡ ended_by f };
+
+    fn from(fault: ServerFault) -> DayFault {
+        match fault {
+            ServerFault::NoMemory => DayFault::NoMemory,
+            ServerFault::NoConnection => DayFault::NoConnection,
+        }
     }
 }
 

@@ -3,7 +3,7 @@
 //! `serve_day` opens a desk, serves so many sessions by so many workers over a `Loopback`, settles
 //! the desk, and writes the report: `specs/Days.antt` says what is written. `ServerPlan::read`
 //! reads what the command line asks for, as `StationPlan::read` does for a station:
-//! `specs/Plans.antt`. `demo` is the whole station in one
+//! `specs/Plans.antt`; `station_day` is that of a station: `specs/StationDays.antt`. `demo` is the whole station in one
 //! call: a setup is worked through by one worker; then the sections of a script are worked at side
 //! by side, a till's as a session, a dispenser's by a simulated dispenser; at the end the desk is
 //! settled: `specs/Demos.antt`, `specs/Sections.antt`. `demo_day` writes its report too.
@@ -20,6 +20,7 @@ mod over_memory;
 mod plan;
 mod section;
 mod server;
+mod station_day;
 mod workers;
 mod writing;
 
@@ -30,4 +31,5 @@ pub use listener::{Loopback, ReadHalf, WriteHalf};
 pub use options::OptionFault;
 pub use plan::{ServerPlan, StationPlan};
 pub use server::serve_day;
+pub use station_day::station_day;
 pub use writing::{put_listening, put_report};

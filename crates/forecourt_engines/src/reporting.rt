@@ -88,7 +88,11 @@ fn put_report<W: Write>(
 }
 
 /// The report of a book of this configuration, by its audit: that no share settled.
-pub fn report_of_book(alloc: Global, config: &SiteConfig, book: &SiteBook) -> Result<String, NoMemory>
+pub fn report_of_book(
+    alloc: Global,
+    config: &SiteConfig,
+    book: &SiteBook,
+) -> Result<String, NoMemory>
     requires { book.now.config ≡ config.now }
     ensures { IfOk result (λ text. string_bytes text ≡ book_report book.now) }
 {

@@ -1,6 +1,6 @@
 -- What a call at a peer's connection does: to what the peer sent, to what it got, and to the
 -- station.
-use Rattle.std.specs.Prelude.{◌≡◌, ℕ, List, [], length, take, Option, ⊥}
+use Rattle.std.specs.Prelude.{◌≡◌, ℕ, List, [], length, take, Option}
 use Rattle.std.specs.Io.KnownBytes.{Appends, Consumes, IsAtEnd, Keeps}
 use Rattle.station.specs.Moves.{StationState, with_end, with_octets, with_taken}
 use Rattle.station.specs.Reads.{owed_at}

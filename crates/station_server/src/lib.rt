@@ -3,18 +3,18 @@
 //! `StationServer` waits until connections are ready (`mio`, edge-triggered). In a round it has the
 //! station hear what the ready peers sent, and then it sends what is owed, to peers that are told
 //! notices too. What it does with the station is made of the station's own moves alone
-//! (`specs/Reaches.antt`), so each law of `station` holds of what it serves. `station_day` is a
-//! whole day: the line that tells the port, the sessions, and the report of the book
-//! (`specs/StationDays.antt`).
+//! (`specs/Reaches.antt`), so each law of `station` holds of what it serves. One call of a
+//! connection is exact (`specs/Calls.antt`); that readiness is told, and the clock, are the system's.
 #![tactic(auto)]
 
 mod calls;
-mod day;
+mod connections;
+mod fault;
 mod link;
-mod links;
 mod naming;
 mod server;
 mod sizes;
 
-pub use day::station_day;
+pub use connections::Connections;
+pub use fault::ServerFault;
 pub use server::StationServer;

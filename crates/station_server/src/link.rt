@@ -21,6 +21,8 @@ pub(crate) struct Link {
     pub(crate) closing_since: Option<Instant>,
     /// Reading stopped before the peer had no more.
     pub(crate) is_unread: bool,
+    /// It takes no octets for now.
+    pub(crate) is_full: bool,
     /// It waits to be sent what it is owed, in this round.
     pub(crate) is_due: bool,
     /// Whether the peer may still send, or take.
@@ -46,6 +48,7 @@ impl Link {
             heard_at: now,
             closing_since: None,
             is_unread: false,
+            is_full: false,
             is_due: false,
             reach: Reach::Both,
         }
@@ -53,6 +56,7 @@ impl Link {
 
     /// Reads from the peer, and has the station hear it: until there is no more for now, the peer
     /// isn't read from, or its turn is over. With `to_end` it is known that the peer sends no more.
+    #[tactic(auto, using(crate::proofs::Reaching::moved))]
     pub(crate) fn hear(
         &mut self,
         station: &mut Station,
@@ -96,6 +100,7 @@ impl Link {
     }
 
     /// Sends what the peer is owed, as far as its connection takes it for now.
+    #[tactic(auto, using(crate::proofs::Reaching::moved))]
     pub(crate) fn send(&mut self, station: &mut Station, key: usize, now: Instant)
         ensures { Reaches station.old station.new }
     {
@@ -106,7 +111,10 @@ impl Link {
             match write_once(&mut self.stream, station, key) {
                 Call::Passed(_) => self.note_taken(now),
                 Call::Interrupted => {}
-                Call::Waits => return,
+                Call::Waits => {
+                    self.is_full = true;
+                    return;
+                }
                 Call::Ended | Call::Failed => {
                     self.reach = Reach::Nothing;
                     return;

@@ -36,9 +36,11 @@ impl fmt::Display for PeerName {
     fn fmt<W: fmt::Write>(&self, f: &mut fmt::Formatter<W>) -> fmt::Result {
         match self.node {
             None => write!(f, "a peer that said nothing"),
-            Some([2, till]) => write!(f, "t{till}"),
-            Some([3, dispenser]) => write!(f, "d{dispenser}"),
-            Some([subnet, node]) => write!(f, "node {subnet} {node}"),
+            Some(node) => match (node[0], node[1]) {
+                (2, till) => write!(f, "t{till}"),
+                (3, dispenser) => write!(f, "d{dispenser}"),
+                (subnet, node) => write!(f, "node {subnet} {node}"),
+            },
         }
     }
 }

@@ -1,10 +1,11 @@
 //! The server: it waits until connections are ready, round after round.
 
+ghost use Rattle.std.specs.Prelude.{◌≡◌};
 ghost use Rattle.station_server.specs.Reaches.{Reaches};
 
-use crate::links::Links;
+use crate::connections::Connections;
+use crate::fault::ServerFault;
 use crate::sizes::{ACCEPTS_A_TURN, EVENTS_A_ROUND, SWEEP_SECONDS};
-use forecourt_days::DayFault;
 use mio::event::Event;
 use mio::net::TcpListener;
 use mio::{Events, Interest, Poll, Token, Waker};
@@ -49,14 +50,14 @@ impl StationServer {
         clock: &C,
         alloc: Global,
         port: u16,
-    ) -> Result<StationServer, DayFault> {
+    ) -> Result<StationServer, ServerFault> {
         let events = match Events::with_capacity(alloc, EVENTS_A_ROUND) {
             Ok(events) => events,
-            Err(_) => return Err(DayFault::NoMemory),
+            Err(_) => return Err(ServerFault::NoMemory),
         };
         match listen(net, clock, events, port) {
             Ok(server) => Ok(server),
-            Err(_) => Err(DayFault::NoConnection),
+            Err(_) => Err(ServerFault::NoConnection),
         }
     }
 
@@ -67,45 +68,58 @@ impl StationServer {
         self.port
     }
 
-    /// What time it was in the last round.
-    pub(crate) fn time(&self) -> Instant {
-        self.time
-    }
-
     /// What ends the day, from another thread.
-    pub fn waker(&self) -> Result<Waker, DayFault> {
-        Waker::new(self.poll.registry(), WAKER).map_err(|_| DayFault::NoConnection)
+    pub fn waker(&self) -> Result<Waker, ServerFault> {
+        Waker::new(self.poll.registry(), WAKER).map_err(|_| ServerFault::NoConnection)
     }
 
     /// Serves connections until the day's end. Sessions of which nothing comes for so many seconds
-    /// are ended.
-    pub(crate) fn serve<T: Wait, R: Clock + Eprint>(
+    /// are ended. At the day's end each session ends, and what it is owed is sent as far as its
+    /// connection takes it; so too where waiting for connections fails, with `NoConnection`.
+    #[tactic(auto, using(crate::proofs::Reaching::moved))]
+    pub fn serve<T: Wait, R: Clock + Eprint>(
         &mut self,
         threads: &T,
         rt: &R,
-        links: &mut Links,
+        connections: &mut Connections,
         idle: Option<u64>,
-    ) -> Result<(), DayFault>
-        ensures { Reaches links.old.station links.new.station }
+    ) -> Result<(), ServerFault>
+        ensures { Reaches connections.old.station connections.new.station }
+    {
+        let served = self.serve_rounds(threads, rt, connections, idle);
+        connections.end_all(self.time);
+        served
+    }
+
+    /// Serves connections until the day's end.
+    #[tactic(auto, using(crate::proofs::Reaching::moved))]
+    fn serve_rounds<T: Wait, R: Clock + Eprint>(
+        &mut self,
+        threads: &T,
+        rt: &R,
+        connections: &mut Connections,
+        idle: Option<u64>,
+    ) -> Result<(), ServerFault>
+        ensures { Reaches connections.old.station connections.new.station }
     {
         for _ in threads.forever() {
-            let rest = self.rest(links, idle);
+            let rest = self.rest(connections, idle);
             match self.poll.poll(&mut self.events, rest) {
                 Ok(()) => {}
-                Err(_) => return Err(DayFault::NoConnection),
+                Err(_) => return Err(ServerFault::NoConnection),
             }
             self.look_at_clock(rt);
-            if self.take_turns(rt, links) == Round::Last {
+            if self.take_turns(rt, connections) == Round::Last {
                 return Ok(());
             }
-            self.send_all(rt, links, idle);
+            self.send_all(rt, connections, idle);
         }
         Ok(())
     }
 
     /// How long it waits for the next round: as long as it takes, or until the next sweep.
-    fn rest(&self, links: &Links, idle: Option<u64>) -> Option<Duration> {
-        if self.is_deaf || links.has_closing() || idle.is_some() {
+    fn rest(&self, connections: &Connections, idle: Option<u64>) -> Option<Duration> {
+        if self.is_deaf || connections.has_closing() || idle.is_some() {
             return Some(Duration::from_secs(SWEEP_SECONDS));
         }
         None
@@ -119,31 +133,33 @@ impl StationServer {
     }
 
     /// Each connection that is ready has its turn.
-    fn take_turns<R: Eprint>(&mut self, rt: &R, links: &mut Links) -> Round
-        ensures { Reaches links.old.station links.new.station }
+    #[tactic(auto, using(crate::proofs::Reaching::moved))]
+    fn take_turns<R: Eprint>(&mut self, rt: &R, connections: &mut Connections) -> Round
+        ensures { Reaches connections.old.station connections.new.station }
     {
         let mut has_callers = false;
         for event in &self.events {
             match event.token() {
                 WAKER => return Round::Last,
                 LISTENER => has_callers = true,
-                Token(key) => take_turn(links, event, key, self.time),
+                Token(key) => take_turn(connections, event, key, self.time),
             }
         }
         if has_callers || self.is_deaf {
-            self.accept_all(rt, links);
+            self.accept_all(rt, connections);
         }
         Round::Next
     }
 
     /// Accepts the connections that wait. Where that fails it is told once, and tried again.
-    fn accept_all<R: Eprint>(&mut self, rt: &R, links: &mut Links)
-        ensures { Reaches links.old.station links.new.station }
+    #[tactic(auto, using(crate::proofs::Reaching::moved))]
+    fn accept_all<R: Eprint>(&mut self, rt: &R, connections: &mut Connections)
+        ensures { Reaches connections.old.station connections.new.station }
     {
         self.is_deaf = false;
         for _ in 0..ACCEPTS_A_TURN {
             match self.listener.accept() {
-                Ok((stream, _)) => links.welcome(self.poll.registry(), stream, self.time),
+                Ok((stream, _)) => connections.welcome(self.poll.registry(), stream, self.time),
                 Err(error) => match error.kind() {
                     ErrorKind::WouldBlock => return,
                     ErrorKind::Interrupted | ErrorKind::ConnectionAborted => {}
@@ -168,27 +184,32 @@ impl StationServer {
     }
 
     /// Sends what is owed, and looks each second whose session is idle or doesn't close.
-    fn send_all<R: Eprint>(&mut self, rt: &R, links: &mut Links, idle: Option<u64>)
-        ensures { Reaches links.old.station links.new.station }
+    #[tactic(auto, using(crate::proofs::Reaching::moved))]
+    fn send_all<R: Eprint>(&mut self, rt: &R, connections: &mut Connections, idle: Option<u64>)
+        ensures { Reaches connections.old.station connections.new.station }
     {
-        links.make_told_due();
-        links.send_due(self.poll.registry(), rt, self.time);
+        connections.make_owed_due();
+        connections.send_due(self.poll.registry(), rt, self.time);
         if self.time.duration_since(self.swept_at).as_secs() >= SWEEP_SECONDS {
             self.swept_at = self.time;
-            links.sweep(self.poll.registry(), rt, idle, self.time);
+            connections.sweep(self.poll.registry(), rt, idle, self.time);
         }
     }
 }
 
 /// A connection that is ready has its turn.
-fn take_turn(links: &mut Links, event: &Event, key: usize, now: Instant)
-    ensures { Reaches links.old.station links.new.station }
+#[tactic(auto, using(crate::proofs::Reaching::moved))]
+fn take_turn(connections: &mut Connections, event: &Event, key: usize, now: Instant)
+    ensures { Reaches connections.old.station connections.new.station }
 {
+    if event.is_writable() {
+        connections.unblock(key);
+    }
     let to_end = event.is_read_closed();
     if event.is_readable() || event.is_error() || to_end {
-        links.hear(key, to_end, now);
+        connections.hear(key, to_end, now);
     }
-    links.make_due(key);
+    connections.make_due(key);
 }
 
 /// A listener on 127.0.0.1 that is watched.

@@ -5,14 +5,14 @@ ghost use Rattle.site_base.specs.Counted.{device_of};
 ghost use Rattle.std.specs.Io.KnownBytes.{Appends};
 ghost use Rattle.site_base.specs.Devices.{AppendsFront};
 ghost use Rattle.forecourt_engines.specs.Report.{book_report};
-ghost use Rattle.station_server.specs.StationDays.{TellsDay, TellsFront};
+ghost use Rattle.forecourt_days.specs.StationDays.{TellsDay, TellsFront};
 
-use crate::links::Links;
-use crate::server::StationServer;
-use forecourt_days::{DayFault, put_listening};
+use crate::fault::DayFault;
+use crate::writing::put_listening;
 use forecourt_engines::reporting::report_of_book;
 use site_base::{Counted, SiteConfig, write_whole};
 use site_book::SiteBook;
+use station_server::{Connections, StationServer};
 use std::alloc::Global;
 use std::io::Write;
 use std::sync::Wait;
@@ -38,12 +38,12 @@ pub fn station_day<W: Write, T: Wait, R: Clock + Eprint>(
     ensures front { TellsFront config.now server.old.port
         (W.contents (device_of writer.old)) (W.contents (device_of writer.new)) }
 {
-    let mut links = Links::new(alloc, SiteBook::try_open(alloc, config)?)?;
+    let mut connections = Connections::new(alloc, SiteBook::try_open(alloc, config)?)?;
     put_listening(alloc, server.port(), writer, turns)?;
-    let served = server.serve(threads, rt, &mut links, idle);
-    links.end_all(server.time());
-    put_book_report(alloc, links.station.book(), writer, turns)?;
-    served
+    let served = server.serve(threads, rt, &mut connections, idle);
+    put_book_report(alloc, connections.book(), writer, turns)?;
+    served?;
+    Ok(())
 }
 
 /// Writes the report of a book. However it ends, a front of it is written.

@@ -6,7 +6,10 @@ use Rattle.site_base.specs.Devices.{AppendsFront}
 use Rattle.site_book.specs.Book.{Book}
 use Rattle.forecourt_engines.specs.Report.{book_report}
 use Rattle.forecourt_days.specs.Days.{listening_line}
-use Rattle.station.specs.Moves.{StationState}
+use Rattle.station_server.specs.declared.fault.ServerFault.{ServerFault}
+use Rattle.station_server.specs.declared.fault.ServerFault.TheVariants as servers
+use Rattle.forecourt_days.specs.declared.fault.DayFault.{DayFault}
+use Rattle.forecourt_days.specs.declared.fault.DayFault.TheVariants.{NoConnection, NoMemory}
 use Rattle.station.specs.Runs.{Move, after, opened}
 
 -- a book of this configuration without rows
@@ -20,6 +23,11 @@ day_book config moves = (after moves (opened (opening_book config))).book
 -- the line that tells the port, and the report of the book that the day's moves led to
 abbrev pub station_text : Configured → ℕ → List Move → List ℕ
 station_text config port moves = listening_line port ++ book_report (day_book config moves)
+
+-- how a day ends whose server ends so
+abbrev pub ended_by : ServerFault → DayFault
+ended_by servers.NoMemory = NoMemory
+ended_by servers.NoConnection = NoConnection
 
 -- the whole text of a day was written
 pub record TellsDay (config : Configured) (port : ℕ) (holds holds' : Option (List ℕ))

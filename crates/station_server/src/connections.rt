@@ -2,6 +2,7 @@
 
 ghost use Rattle.std.specs.Prelude.{◌≡◌, ◌<◌, length, IfOk};
 ghost use Rattle.site_book.specs.Book.{Book};
+ghost use Rattle.station.specs.Moves.{without_peer};
 ghost use Rattle.station.specs.Runs.{opened};
 ghost use Rattle.station_server.specs.Reaches.{Reaches};
 
@@ -18,7 +19,7 @@ use std::time::Instant;
 
 /// The connections by their peers' keys, and the station.
 #[derive(Drop)]
-pub(crate) struct Links {
+pub struct Connections {
     pub(crate) station: Station,
     links: Vec<Option<Link>>,
     piece: Vec<u8>,
@@ -31,16 +32,16 @@ pub(crate) struct Links {
     ghost some: { 0 < length piece.items },
 }
 
-impl Links {
+impl Connections {
     /// No connections, and a station at this book.
-    pub(crate) fn new(alloc: Global, book: SiteBook) -> Result<Links, NoMemory>
-        ensures { IfOk result (λ links. links.station ≡ opened book) }
+    pub fn new(alloc: Global, book: SiteBook) -> Result<Connections, NoMemory>
+        ensures { IfOk result (λ c. c.station ≡ opened book) }
     {
         let mut links = Vec::with_capacity(alloc, PEERS)?;
         for _ in 0..PEERS {
             links.push(None)?;
         }
-        Ok(Links {
+        Ok(Connections {
             station: Station::new(alloc, book),
             links,
             piece: Vec::from_elem(alloc, 0, PIECE_OCTETS)?,
@@ -50,12 +51,20 @@ impl Links {
         })
     }
 
+    /// The book of the station.
+    pub fn book(&self) -> &SiteBook
+        ensures { result.now ≡ self.now.station.book }
+    {
+        self.station.book()
+    }
+
     /// Are there sessions that have ended, and connections that haven't?
     pub(crate) fn has_closing(&self) -> bool {
         self.closing > 0
     }
 
     /// A peer has come. Where 1,024 are there, or memory is wanting, its connection is closed.
+    #[tactic(auto, using(crate::proofs::Reaching::moved))]
     pub(crate) fn welcome(&mut self, registry: &Registry, mut stream: TcpStream, now: Instant)
         ensures { Reaches self.old.station self.new.station }
     {
@@ -72,6 +81,7 @@ impl Links {
     }
 
     /// A peer has sent something, or hung up. With `to_end` it is known that it sends no more.
+    #[tactic(auto, using(crate::proofs::Reaching::moved))]
     pub(crate) fn hear(&mut self, key: usize, to_end: bool, now: Instant)
         ensures { Reaches self.old.station self.new.station }
     {
@@ -81,6 +91,15 @@ impl Links {
             } else {
                 link.hear(&mut self.station, key, &mut self.piece, to_end, now);
             }
+        }
+    }
+
+    /// A peer's connection takes octets again.
+    pub(crate) fn unblock(&mut self, key: usize)
+        ensures { self.new.station ≡ self.old.station }
+    {
+        if let Some(Some(link)) = self.links.get_mut(key) {
+            link.is_full = false;
         }
     }
 
@@ -97,32 +116,50 @@ impl Links {
         }
     }
 
-    /// Peers that were told notices in this round are sent them too.
-    pub(crate) fn make_told_due(&mut self)
+    /// Peers that are owed octets are sent them at the end of this round, but for those whose
+    /// connections take none for now.
+    pub(crate) fn make_owed_due(&mut self)
         ensures { self.new.station ≡ self.old.station }
     {
         let mut from = 0;
         for _ in 0..PEERS {
-            let Some(key) = self.station.take_news(from) else {
+            let Some(key) = self.station.next_owed(from) else {
                 return;
             };
-            self.make_due(key);
-            from = key;
+            if self.takes_octets(key) {
+                self.make_due(key);
+            }
+            from = key + 1;
+        }
+    }
+
+    /// Does the connection of a peer take octets, or has its session ended just now?
+    fn takes_octets(&self, key: usize) -> bool {
+        match self.links.get(key) {
+            Some(Some(link)) => {
+                let has_ended = link.closing_since.is_none() && self.station.end(key).is_some();
+                !link.is_full || has_ended
+            }
+            _ => false,
         }
     }
 
     /// Whoever is due is sent what it is owed, and a session that has ended is closed.
+    #[tactic(auto, using(crate::proofs::Reaching::moved))]
     pub(crate) fn send_due<E: Eprint>(&mut self, registry: &Registry, rt: &E, now: Instant)
         ensures { Reaches self.old.station self.new.station }
     {
-        for at in 0..self.due_count.min(self.due.len()) {
-            let key = self.due[at];
-            self.settle(registry, rt, key, now);
+        for at in 0..self.due_count {
+            if let Some(key) = self.due.get(at) {
+                let key = *key;
+                self.settle(registry, rt, key, now);
+            }
         }
         self.due_count = 0;
     }
 
     /// A peer is sent what it is owed, and its connection follows its session.
+    #[tactic(auto, using(crate::proofs::Reaching::moved))]
     fn settle<E: Eprint>(&mut self, registry: &Registry, rt: &E, key: usize, now: Instant)
         ensures { Reaches self.old.station self.new.station }
     {
@@ -160,6 +197,7 @@ impl Links {
 
     /// The session of a peer has ended: that is told, and once the peer has what it is owed, its
     /// connection is closed.
+    #[tactic(auto, using(crate::proofs::Reaching::moved))]
     fn close<E: Eprint>(&mut self, rt: &E, key: usize, end: PeerEnd, now: Instant)
         ensures { Reaches self.old.station self.new.station }
     {
@@ -206,7 +244,7 @@ impl Links {
 
     /// The connection of a peer is closed, and the peer leaves.
     fn remove(&mut self, key: usize)
-        ensures { Reaches self.old.station self.new.station }
+        ensures { self.new.station ≡ without_peer key self.old.station }
     {
         self.station.leave(key);
         if let Some(slot) = self.links.get_mut(key) {
@@ -220,6 +258,7 @@ impl Links {
 
     /// Sessions of which nothing came for so many seconds end, and connections that don't close are
     /// closed.
+    #[tactic(auto, using(crate::proofs::Reaching::moved))]
     pub(crate) fn sweep<E: Eprint>(
         &mut self,
         registry: &Registry,
@@ -264,16 +303,33 @@ impl Links {
 
     /// The day ends: each session ends, what it is owed is sent as far as its connection takes it,
     /// and its connection is closed.
+    #[tactic(auto, using(crate::proofs::Reaching::moved))]
     pub(crate) fn end_all(&mut self, now: Instant)
         ensures { Reaches self.old.station self.new.station }
     {
         for key in 0..self.links.len() {
-            self.station.finish(key);
-            if let Some(Some(link)) = self.links.get_mut(key) {
-                link.send(&mut self.station, key, now);
-                link.shut();
-            }
-            self.remove(key);
+            self.end(key, now);
+        }
+    }
+
+    /// The session of a peer ends, and its connection is closed.
+    #[tactic(auto, using(crate::proofs::Reaching::moved))]
+    fn end(&mut self, key: usize, now: Instant)
+        ensures { Reaches self.old.station self.new.station }
+    {
+        self.station.finish(key);
+        self.send_last(key, now);
+        self.remove(key);
+    }
+
+    /// A peer is sent what it is owed, and told that nothing more will come.
+    #[tactic(auto, using(crate::proofs::Reaching::moved))]
+    fn send_last(&mut self, key: usize, now: Instant)
+        ensures { Reaches self.old.station self.new.station }
+    {
+        if let Some(Some(link)) = self.links.get_mut(key) {
+            link.send(&mut self.station, key, now);
+            link.shut();
         }
     }
 }

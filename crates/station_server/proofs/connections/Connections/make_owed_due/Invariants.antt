@@ -1,0 +1,5 @@
+use Rattle.std.proofs.Common.{◌≡◌}
+use Rattle.station_server.proofs.connections.Connections.make_owed_due.Given as goal
+
+abbrev pub invariant-loop : goal.invariant-loop
+invariant-loop l = l.self.station ≡ l.fn.self.station
