@@ -18,7 +18,7 @@ LONGEST_LINE = 65_536  # octets of a line of messages
 # Who speaks.
 SITE, TILL, DISPENSER = 1, 2, 3
 # What is sent.
-READ, WRITE, REPORT, ACKNOWLEDGE = 0, 2, 3, 7
+READ, WRITE, REPORT, NOTICE, ACKNOWLEDGE = 0, 2, 3, 4, 7
 # Addresses.
 SITE_ADDRESS, OPEN_SHIFT = b"\x01", 0x21
 # Commands.
@@ -179,6 +179,12 @@ def receive(peer, length):
     while len(octets) < length and (piece := peer.recv(length - len(octets))):
         octets += piece
     return octets
+
+
+def receive_message(peer):
+    """One message, or as much of it as comes before the connection ends."""
+    head = receive(peer, 8)
+    return head + receive(peer, int.from_bytes(head[6:8], "big"))
 
 
 def receive_all(peer):

@@ -10,7 +10,7 @@ use site_base::{Counted, SiteConfig};
 use station_server::StationServer;
 use std::io::{ErrorKind, Read};
 use std::process::ExitCode;
-use std::sync::Wait;
+use std::sync::{Arc, Wait};
 use std::thread;
 use std::thread::{JoinHandle, Threads};
 
@@ -47,10 +47,12 @@ fn serve_on<T: Threads + Wait + Sync>(
     is_detached: bool,
 ) -> Result<(), DayFault> {
     let mut server = StationServer::bind(rt, rt, rt.alloc(), plan.port)?;
+    // A wake is lost where its waker is let go before the server has seen it.
+    let waker = Arc::new(rt.alloc(), server.waker()?).map_err(|_| DayFault::NoMemory)?;
     let watch = if is_detached {
         None
     } else {
-        Some(watch_input(rt, threads, &server)?)
+        Some(watch_input(rt, threads, &waker)?)
     };
     let mut writer = Counted::new(rt.stdout());
     let mut left = TURNS;
@@ -75,11 +77,11 @@ fn serve_on<T: Threads + Wait + Sync>(
 fn watch_input<T: Threads>(
     rt: &HostRuntime,
     threads: &T,
-    server: &StationServer,
+    waker: &Arc<Waker>,
 ) -> Result<JoinHandle<()>, DayFault> {
-    let waker = server.waker()?;
+    let theirs = Arc::try_clone(waker).map_err(|_| DayFault::NoMemory)?;
     let input = rt.stdin();
-    match thread::spawn(threads, move || wake_at_end(input, &waker)) {
+    match thread::spawn(threads, move || wake_at_end(input, &theirs)) {
         Ok(watch) => Ok(watch),
         Err(_) => Err(DayFault::NoWorker),
     }

@@ -20,7 +20,7 @@ mod over_memory;
 mod plan;
 mod section;
 mod server;
-mod station_day;
+mod stations;
 mod workers;
 mod writing;
 
@@ -31,5 +31,5 @@ pub use listener::{Loopback, ReadHalf, WriteHalf};
 pub use options::OptionFault;
 pub use plan::{ServerPlan, StationPlan};
 pub use server::serve_day;
-pub use station_day::station_day;
+pub use stations::station_day;
 pub use writing::{put_listening, put_report};

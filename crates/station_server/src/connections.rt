@@ -172,22 +172,21 @@ impl Connections {
             self.remove(key);
             return;
         }
-        match self.station.end(key) {
-            None => self.read_again(registry, key),
-            Some(end) => self.close(rt, key, end, now),
+        self.report_again(registry, key);
+        if let Some(end) = self.station.end(key) {
+            self.close(rt, key, end, now);
         }
     }
 
-    /// Where reading stopped before the peer had no more, and it is read from, what it sent is
-    /// reported again.
-    fn read_again(&mut self, registry: &Registry, key: usize)
+    /// Where a peer's turn was over before all was read or sent that could be, its connection is
+    /// reported once more.
+    fn report_again(&mut self, registry: &Registry, key: usize)
         ensures { self.new.station ≡ self.old.station }
     {
-        if !self.station.is_read(key) {
-            return;
-        }
+        let is_read = self.station.is_read(key);
+        let is_owed = !self.station.owed(key).is_empty();
         if let Some(Some(link)) = self.links.get_mut(key) {
-            if link.is_unread {
+            if link.is_unread && is_read || is_owed && !link.is_full {
                 link.is_unread = false;
                 let both = Interest::READABLE | Interest::WRITABLE;
                 let _ = registry.reregister(&mut link.stream, Token(key), both);

@@ -88,7 +88,7 @@ fn dispenser_hears_of_its_release(rt: HostRuntime) -> Result<(), Fail> {
     let mut told = reply_at(&rt, alloc, &station, 2, &online)?;
     told.extend_from_slice(&notice_at(&rt, alloc, &station, 1)?)?;
     assert!(rt; is_owed(&mut station, d, &told), "the standing notice");
-    assert!(rt; station.take_news(0).is_none());
+    assert!(rt; station.next_owed(0).is_none());
 
     // The till releases the point: the dispenser is told so.
     let release = request(
@@ -101,12 +101,12 @@ fn dispenser_hears_of_its_release(rt: HostRuntime) -> Result<(), Fail> {
     let told = reply_at(&rt, alloc, &station, 3, &release)?;
     assert!(rt; is_owed(&mut station, t, &told), "the reply to the release");
     let told = notice_at(&rt, alloc, &station, 3)?;
-    assert!(rt; station.take_news(0) == Some(d));
-    assert!(rt; station.take_news(0).is_none());
+    assert!(rt; station.next_owed(0) == Some(d) && station.next_owed(d + 1).is_none());
     assert!(rt;
         is_owed(&mut station, d, &told),
         "the notice of the release"
     );
+    assert!(rt; station.next_owed(0).is_none());
 
     // The till is gone: it is signed off.
     station.leave(t);

@@ -1,0 +1,158 @@
+"""What tests of the program over real sockets share: a day that runs, and how tests are run."""
+
+import contextlib
+import fcntl
+import pathlib
+import select
+import socket
+import struct
+import subprocess
+import termios
+import threading
+import time
+
+from running import Checks
+from station import connect, read_point, receive_all
+
+WAIT = 60  # seconds, for what comes at once if all is well
+LOOK = 0.01  # seconds between two looks at what is waited for
+LOOKS = 10  # at what stays the same, so that it will stay so
+TESTS = []
+
+
+class Failed(Exception):
+    pass
+
+
+def test(function):
+    TESTS.append(function)
+    return function
+
+
+def expect(what, got, wanted):
+    if got != wanted:
+        shown = [x.hex(" ") if isinstance(x, bytes) else repr(x) for x in (got, wanted)]
+        raise Failed(f"{what}: {shown[0][:300]}, wanted {shown[1][:300]}")
+
+
+def wait_until(what, is_so):
+    """Waits until it is so."""
+    end = time.monotonic() + WAIT
+    while not is_so():
+        if time.monotonic() > end:
+            raise Failed(f"not within {WAIT} seconds: {what}")
+        time.sleep(LOOK)
+
+
+# ---- the program
+
+
+class Day:
+    """A program that serves."""
+
+    def __init__(self, process, port):
+        self.process, self.port = process, port
+
+    def connect(self):
+        return connect(self.port)
+
+    def ask(self, sent):
+        """Sends the octets, says that no more come, and returns all that comes back."""
+        with self.connect() as peer:
+            sender = threading.Thread(target=send_and_end, args=(peer, sent))
+            sender.start()
+            got = receive_all(peer)
+            sender.join()
+            return got
+
+    def report(self, told=""):
+        """The report, once the program has ended well, and told this on standard error."""
+        out, err = self.process.communicate(timeout=WAIT)
+        expect("status and standard error", (self.process.returncode, err.decode()), (0, told))
+        return out.decode()
+
+    def queues(self, port):
+        """How many octets the server hasn't sent to the peer at this port, and how many of it it
+        hasn't read; None where it has no such socket."""
+        here, there = (f"0100007F:{number:04X}" for number in (self.port, port))
+        for line in pathlib.Path("/proc/net/tcp").read_text().splitlines()[1:]:
+            _, local, remote, state, queues, *_, inode = line.split()[:10]
+            if (local, remote) == (here, there) and inode != "0":
+                return tuple(int(octets, 16) for octets in queues.split(":"))
+        return None
+
+    def wait_until_read(self, peer):
+        """Waits until the server has the connection, and has read all that the peer sent."""
+        port = peer.getsockname()[1]
+        wait_until("all octets read", lambda: (self.queues(port) or (0, 1))[1] == 0)
+
+    def wait_until_left(self, port):
+        """Waits until the server has closed its connection to this port, which comes after its
+        till was left."""
+        wait_until("the connection closed", lambda: self.queues(port) is None)
+
+    def wait_until_full(self, peer):
+        """Waits until no octet goes either way: the server writes in vain, and reads no more."""
+        port, looks = peer.getsockname()[1], []
+
+        def look():
+            unread = fcntl.ioctl(peer, termios.FIONREAD, b"\0" * 4)
+            takes_more = bool(select.select([], [peer], [], 0)[1])
+            looks.append((takes_more, unread, self.queues(port)))
+            return not takes_more and looks[-LOOKS:] == [looks[-1]] * LOOKS
+
+        wait_until("the buffers full", look)
+
+
+@contextlib.contextmanager
+def start_day(command, **how):
+    """A program that says where it listens, and is gone behind the block."""
+    pipe = subprocess.PIPE
+    process = subprocess.Popen(command, stdout=pipe, stderr=pipe, bufsize=0, **how)
+    try:
+        line = process.stdout.readline().decode()
+        if not line.startswith("listening 127.0.0.1:") or not line.endswith("\n"):
+            raise Failed(
+                f"the first line is '{line}', standard error '{process.stderr.read().decode()}'"
+            )
+        yield Day(process, int(line.split(":")[1]))
+    finally:
+        if process.poll() is None:
+            process.kill()
+        process.communicate()
+
+
+def send_and_end(peer, sent):
+    with contextlib.suppress(OSError):
+        peer.sendall(sent)
+        peer.shutdown(socket.SHUT_WR)
+
+
+def send_reset(peer):
+    """Closes a connection so that its other end fails."""
+    peer.setsockopt(socket.SOL_SOCKET, socket.SO_LINGER, struct.pack("ii", 1, 0))
+    peer.close()
+
+
+def send_until(peer, closing, till=1):
+    """Sends a till's reads of a point, as many as are taken, until the connection is to be
+    closed."""
+    whole = b"".join(read_point(till, n % 32, 3) for n in range(6_000))
+    rest = whole
+    while not closing.is_set():
+        if select.select([], [peer], [], LOOK)[1]:
+            rest = rest[peer.send(rest) :] or whole
+
+
+def run_tests(subject, place):
+    """Runs each test, with a folder that is removed behind them."""
+    checks = Checks(subject)
+    with place:
+        for one in TESTS:
+            try:
+                one()
+                checks.passed += 1
+            except (Failed, OSError, subprocess.TimeoutExpired) as why:
+                checks.failed += 1
+                print(f"{subject} test '{one.__name__}': {type(why).__name__} {why}", flush=True)
+    checks.finish()
