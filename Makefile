@@ -36,6 +36,7 @@ test:
 	scripts/gate
 	scripts/test-program $(PROGRAM)
 	scripts/test-server $(PROGRAM)
+	scripts/test-station $(PROGRAM)
 	scripts/test-demos $(PROGRAM)
 	scripts/test-tables $(TABLES)
 	scripts/test-faults
