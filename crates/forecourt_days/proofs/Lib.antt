@@ -1,2 +1,3 @@
 mod Serving
 mod Telling
+pub mod StationTelling

@@ -1,5 +1,5 @@
 -- What a station's day writes.
-use Rattle.std.specs.Prelude.{◌≡◌, ◌⊎◌, ℕ, List, ◌++◌, [], Option}
+use Rattle.std.specs.Prelude.{ℕ, List, ◌++◌, [], Option}
 use Rattle.std.specs.Io.KnownBytes.{Appends}
 use Rattle.site_base.specs.Configured.{Configured}
 use Rattle.site_base.specs.Devices.{AppendsFront}

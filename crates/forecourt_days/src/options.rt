@@ -1,6 +1,6 @@
 //! The plans of a server and of a station, from the words of a command line.
 
-ghost use Rattle.std.specs.Prelude.{ℕ, ◌≡◌, IfOk, IfErr, IfSome, IfNone};
+ghost use Rattle.std.specs.Prelude.{ℕ, Option, ◌≡◌, IfOk, IfErr, IfSome, IfNone, option_map};
 ghost use Rattle.forecourt_days.specs.Plans.{TellsIdle, TellsNumber, TellsPlan, TellsStationPlan};
 ghost use Rattle.forecourt_days.specs.Plans.{IsFirstFault, IsFirstStationFault};
 
@@ -51,8 +51,10 @@ impl StationPlan {
     /// range: the port from 0 (a free one) to 65535, the seconds, where there is a word of them,
     /// from 1 to 86,400. A sign is no digit.
     pub fn read(port: &str, idle: Option<&str>) -> Result<StationPlan, OptionFault>
-        ensures plan { IfOk result (λ plan. TellsStationPlan port.now idle plan) }
-        ensures first { IfErr result (λ fault. IsFirstStationFault port.now idle fault) }
+        ensures plan { IfOk result (λ plan.
+            TellsStationPlan port.now (option_map (λ w. w.now) idle.entry) plan) }
+        ensures first { IfErr result (λ fault.
+            IsFirstStationFault port.now (option_map (λ w. w.now) idle.entry) fault) }
     {
         let port = number_in(port, 0, u64::from(u16::MAX)).ok_or(OptionFault::Port)?;
         let idle = read_idle(idle)?;
@@ -65,9 +67,10 @@ impl StationPlan {
 
 /// The seconds that a word tells, where there is one.
 fn read_idle(idle: Option<&str>) -> Result<Option<u64>, OptionFault>
-    ensures told { IfOk result (λ n. TellsIdle idle n) }
+    ensures told { IfOk result (λ n. TellsIdle (option_map (λ w. w.now) idle.entry) n) }
     ensures other { IfErr result (λ fault.
-        (fault ≡ OptionFault.Idle) × ((n : Option ℕ) → ¬ TellsIdle idle n)) }
+        (fault ≡ OptionFault.Idle)
+        × ((n : Option ℕ) → ¬ TellsIdle (option_map (λ w. w.now) idle.entry) n)) }
 {
     match idle {
         None => Ok(None),

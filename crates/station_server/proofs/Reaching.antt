@@ -1,8 +1,7 @@
 -- Moves of a station, one after another.
 use Rattle.std.proofs.Common.{◌≡◌, ℕ, List, [], ◌∷◌, ◌++◌, Option, Some, None, refl, sym, ap, ◌∙◌}
-use Rattle.station.specs.Moves.{StationState, with_arrival, with_end, with_octets, with_taken}
+use Rattle.station.specs.Moves.{StationState, with_end, with_octets, with_taken}
 use Rattle.station.specs.Moves.{without_peer}
-use Rattle.station.specs.Peers.{peer_at}
 use Rattle.station.specs.Reads.{Arrives as GetsKey}
 use Rattle.station.specs.Runs.{Arrives, Finishes, Leaves, Move, Says, Takes, after, after_move}
 use Rattle.station.specs.Runs.{arrived}
