@@ -1,7 +1,7 @@
 //! The forecourt site controller's program: its command line, its files, its exit statuses and its
-//! texts on standard error. Each command stands in a file of its name; what it does stands in
-//! `forecourt_engines` and `forecourt_days`, how a site file is read in `site_file`, how a script
-//! is in `demo_script`.
+//! texts on standard error. Each command stands in a file of its name, but for `station`, which a
+//! crate has too: it is `station_command.rt`. What a command does stands in `forecourt_engines` and
+//! `forecourt_days`, how a site file is read in `site_file`, how a script is in `demo_script`.
 #![tactic(auto)]
 
 mod check;
@@ -16,7 +16,7 @@ mod report;
 mod sales;
 mod serve;
 mod spell;
-mod station;
+mod station_command;
 
 use crate::check::run_check;
 use crate::command_line::{build_commands, exit_without_matches};
@@ -28,7 +28,7 @@ use crate::report::run_report;
 use crate::sales::run_sales;
 use crate::serve::run_serve;
 use crate::spell::run_spell;
-use crate::station::run_station;
+use crate::station_command::run_station;
 use clap::ArgMatches;
 use std::env;
 use std::io::ErrorKind;

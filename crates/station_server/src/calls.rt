@@ -1,6 +1,7 @@
 //! One call of a connection: octets that a peer sent are heard, octets that it is owed are sent.
 
-ghost use Rattle.std.specs.Prelude.{◌<◌, length};
+ghost use Rattle.std.specs.Prelude.{◌≡◌, ◌<◌, length, true};
+ghost use Rattle.station.specs.Reads.{is_read_at};
 ghost use Rattle.station_server.specs.Calls.{HearsCall, SendsCall};
 
 use station::Station;
@@ -21,15 +22,16 @@ pub enum Call {
     Failed,
 }
 
-/// Reads once from the connection of a peer, and has the station hear what came: octets, or that no
-/// more come. Where nothing came, the station stays as it is.
+/// Reads once from the connection of a peer that is read from, and has the station hear what came:
+/// octets, or that no more come. Where nothing came, the station stays as it is.
 pub fn read_once<R: Read>(
     reader: &mut R,
     station: &mut Station,
     key: usize,
     piece: &mut [u8],
 ) -> Call
-    requires { 0 < length piece.old }
+    requires some { 0 < length piece.old }
+    requires read { is_read_at station.old key ≡ true }
     ensures { HearsCall result key (R.remaining reader.old) (R.remaining reader.new) station.old
         station.new }
 {

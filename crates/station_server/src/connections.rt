@@ -65,15 +65,28 @@ impl Connections {
 
     /// A peer has come. Where 1,024 are there, or memory is wanting, its connection is closed.
     #[tactic(auto, using(crate::proofs::Reaching::moved))]
-    pub(crate) fn welcome(&mut self, registry: &Registry, mut stream: TcpStream, now: Instant)
+    pub(crate) fn welcome<E: Eprint>(
+        &mut self,
+        registry: &Registry,
+        rt: &E,
+        mut stream: TcpStream,
+        now: Instant,
+    )
         ensures { Reaches self.old.station self.new.station }
     {
-        let Ok(Some(key)) = self.station.arrive() else {
-            return;
+        let key = match self.station.arrive() {
+            Ok(Some(key)) => key,
+            Ok(None) => return,
+            Err(NoMemory) => {
+                let _ = eprintln!(rt; "a connection was closed: fault 31: out of memory");
+                return;
+            }
         };
         let _ = stream.set_nodelay(true);
-        let both = Interest::READABLE | Interest::WRITABLE;
-        if registry.register(&mut stream, Token(key), both).is_ok() && key < self.links.len() {
+        let is_watched = registry
+            .register(&mut stream, Token(key), both_ways())
+            .is_ok();
+        if is_watched && key < self.links.len() {
             self.links[key] = Some(Link::new(stream, now));
         } else {
             self.station.leave(key);
@@ -169,13 +182,16 @@ impl Connections {
         link.is_due = false;
         link.send(&mut self.station, key, now);
         if link.reach == Reach::Nothing {
+            self.station.finish(key);
+            self.begin_to_close(rt, key, now);
             self.remove(key);
             return;
         }
-        self.report_again(registry, key);
         if let Some(end) = self.station.end(key) {
-            self.close(rt, key, end, now);
+            self.begin_to_close(rt, key, now);
+            self.close(key, end);
         }
+        self.report_again(registry, key);
     }
 
     /// Where a peer's turn was over before all was read or sent that could be, its connection is
@@ -186,33 +202,33 @@ impl Connections {
         let is_read = self.station.is_read(key);
         let is_owed = !self.station.owed(key).is_empty();
         if let Some(Some(link)) = self.links.get_mut(key) {
-            if link.is_unread && is_read || is_owed && !link.is_full {
-                link.is_unread = false;
-                let both = Interest::READABLE | Interest::WRITABLE;
-                let _ = registry.reregister(&mut link.stream, Token(key), both);
+            let is_left = link.is_unread && (is_read || link.closing_since.is_some());
+            if is_left || is_owed && !link.is_full {
+                let _ = registry.reregister(&mut link.stream, Token(key), both_ways());
             }
         }
     }
 
-    /// The session of a peer has ended: that is told, and once the peer has what it is owed, its
-    /// connection is closed.
-    #[tactic(auto, using(crate::proofs::Reaching::moved))]
-    fn close<E: Eprint>(&mut self, rt: &E, key: usize, end: PeerEnd, now: Instant)
-        ensures { Reaches self.old.station self.new.station }
+    /// The session of a peer has ended: its connection is one that closes. That is told once, where
+    /// it ended otherwise than with its peer's octets.
+    fn begin_to_close<E: Eprint>(&mut self, rt: &E, key: usize, now: Instant)
+        ensures { self.new.station ≡ self.old.station }
     {
-        let is_new = self.begin_to_close(key, now);
-        if is_new && end != PeerEnd::Well {
-            let node = self.station.node(key);
-            let ended = EndedSession { node, end };
-            let _ = eprintln!(rt; "{ended}");
+        if !self.note_closing(key, now) {
+            return;
         }
-        if end == PeerEnd::Behind || self.has_all(key) {
-            self.remove(key);
+        match self.station.end(key) {
+            None | Some(PeerEnd::Well) => {}
+            Some(end) => {
+                let node = self.station.node(key);
+                let ended = EndedSession { node, end };
+                let _ = eprintln!(rt; "{ended}");
+            }
         }
     }
 
-    /// The connection of a session that has ended is one that closes; false where it was one.
-    fn begin_to_close(&mut self, key: usize, now: Instant) -> bool
+    /// The connection of a peer is one that closes; false where it was one.
+    fn note_closing(&mut self, key: usize, now: Instant) -> bool
         ensures { self.new.station ≡ self.old.station }
     {
         if let Some(Some(link)) = self.links.get_mut(key) {
@@ -225,19 +241,25 @@ impl Connections {
         false
     }
 
-    /// Has the peer what it is owed, and sends no more? It is told that nothing more will come.
-    fn has_all(&mut self, key: usize) -> bool
-        ensures { self.new.station ≡ self.old.station }
+    /// A peer whose session ended so has what it is owed: it is told that nothing more will come,
+    /// and once it sends no more its connection is closed. That of one that doesn't take what it is
+    /// owed is closed at once.
+    #[tactic(auto, using(crate::proofs::Reaching::moved))]
+    fn close(&mut self, key: usize, end: PeerEnd)
+        ensures { Reaches self.old.station self.new.station }
     {
-        if !self.station.owed(key).is_empty() {
-            return false;
+        if end == PeerEnd::Behind {
+            self.remove(key);
+            return;
         }
-        match self.links.get_mut(key) {
-            Some(Some(link)) => {
-                link.shut();
-                link.reach != Reach::Both
+        if !self.station.owed(key).is_empty() {
+            return;
+        }
+        if let Some(Some(link)) = self.links.get_mut(key) {
+            link.shut();
+            if link.reach != Reach::Both {
+                self.remove(key);
             }
-            _ => false,
         }
     }
 
@@ -276,6 +298,7 @@ impl Connections {
                     };
                     let _ = eprintln!(rt; "session of {name}: nothing came for {seconds} seconds");
                     self.station.finish(key);
+                    let _ = self.note_closing(key, now);
                     self.make_due(key);
                 }
                 Waiting::Stuck => self.remove(key),
@@ -293,7 +316,8 @@ impl Connections {
             (Some(since), _) if now.duration_since(since).as_secs() >= CLOSING_SECONDS => {
                 Waiting::Stuck
             }
-            (None, Some(seconds)) if now.duration_since(link.heard_at).as_secs() >= seconds => {
+            (None, Some(seconds))
+                if !link.is_unread && now.duration_since(link.heard_at).as_secs() >= seconds => {
                 Waiting::Idle(seconds)
             }
             _ => Waiting::Well,
@@ -321,7 +345,8 @@ impl Connections {
         self.remove(key);
     }
 
-    /// A peer is sent what it is owed, and told that nothing more will come.
+    /// A peer is sent what it is owed, and told that nothing more will come. What it has sent is
+    /// read, since a connection that is closed before that loses what was sent last.
     #[tactic(auto, using(crate::proofs::Reaching::moved))]
     fn send_last(&mut self, key: usize, now: Instant)
         ensures { Reaches self.old.station self.new.station }
@@ -329,8 +354,14 @@ impl Connections {
         if let Some(Some(link)) = self.links.get_mut(key) {
             link.send(&mut self.station, key, now);
             link.shut();
+            link.ignore(&mut self.piece);
         }
     }
+}
+
+/// The interest of a connection: it is read from, and written to.
+fn both_ways() -> Interest {
+    Interest::READABLE | Interest::WRITABLE
 }
 
 /// What is to be done of a peer that is waited for.

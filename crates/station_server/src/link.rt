@@ -25,6 +25,8 @@ pub(crate) struct Link {
     pub(crate) is_full: bool,
     /// It waits to be sent what it is owed, in this round.
     pub(crate) is_due: bool,
+    /// The peer was told that nothing more will come.
+    is_shut: bool,
     /// Whether the peer may still send, or take.
     pub(crate) reach: Reach,
 }
@@ -50,6 +52,7 @@ impl Link {
             is_unread: false,
             is_full: false,
             is_due: false,
+            is_shut: false,
             reach: Reach::Both,
         }
     }
@@ -130,29 +133,38 @@ impl Link {
         }
     }
 
-    /// Reads what a peer sends whose session has ended, and hears none of it.
+    /// Reads what a peer sends whose session has ended, and has nobody hear it: until there is no
+    /// more for now, or its turn is over.
     pub(crate) fn ignore(&mut self, piece: &mut [u8]) {
+        self.is_unread = true;
         for _ in 0..CALLS_A_TURN {
             match self.stream.read(piece) {
                 Ok(0) => {
+                    self.is_unread = false;
                     self.reach = Reach::Takes;
                     return;
                 }
                 Ok(_) => {}
-                Err(error) => {
-                    match error.kind() {
-                        ErrorKind::WouldBlock => {}
-                        ErrorKind::Interrupted => {}
-                        _ => self.reach = Reach::Nothing,
+                Err(error) => match error.kind() {
+                    ErrorKind::Interrupted => {}
+                    ErrorKind::WouldBlock => {
+                        self.is_unread = false;
+                        return;
                     }
-                    return;
-                }
+                    _ => {
+                        self.reach = Reach::Nothing;
+                        return;
+                    }
+                },
             }
         }
     }
 
-    /// Tells the peer that nothing more will come.
-    pub(crate) fn shut(&self) {
-        let _ = self.stream.shutdown(Shutdown::Write);
+    /// Tells the peer, once, that nothing more will come.
+    pub(crate) fn shut(&mut self) {
+        if !self.is_shut {
+            self.is_shut = true;
+            let _ = self.stream.shutdown(Shutdown::Write);
+        }
     }
 }

@@ -27,6 +27,8 @@ pub struct StationServer {
     events: Events,
     listener: TcpListener,
     port: u16,
+    /// Connections wait to be accepted.
+    has_callers: bool,
     /// Accepting failed: it is tried again.
     is_deaf: bool,
     /// That was told.
@@ -109,10 +111,13 @@ impl StationServer {
                 Err(_) => return Err(ServerFault::NoConnection),
             }
             self.look_at_clock(rt);
-            if self.take_turns(rt, connections) == Round::Last {
+            if self.take_turns(connections) == Round::Last {
                 return Ok(());
             }
             self.send_all(rt, connections, idle);
+            if self.has_callers {
+                self.accept_all(rt, connections);
+            }
         }
         Ok(())
     }
@@ -134,19 +139,16 @@ impl StationServer {
 
     /// Each connection that is ready has its turn.
     #[tactic(auto, using(crate::proofs::Reaching::moved))]
-    fn take_turns<R: Eprint>(&mut self, rt: &R, connections: &mut Connections) -> Round
+    fn take_turns(&mut self, connections: &mut Connections) -> Round
         ensures { Reaches connections.old.station connections.new.station }
     {
-        let mut has_callers = false;
+        self.has_callers = false;
         for event in &self.events {
             match event.token() {
                 WAKER => return Round::Last,
-                LISTENER => has_callers = true,
+                LISTENER => self.has_callers = true,
                 Token(key) => take_turn(connections, event, key, self.time),
             }
-        }
-        if has_callers || self.is_deaf {
-            self.accept_all(rt, connections);
         }
         Round::Next
     }
@@ -159,7 +161,7 @@ impl StationServer {
         self.is_deaf = false;
         for _ in 0..ACCEPTS_A_TURN {
             match self.listener.accept() {
-                Ok((stream, _)) => connections.welcome(self.poll.registry(), stream, self.time),
+                Ok((stream, _)) => connections.welcome(self.poll.registry(), rt, stream, self.time),
                 Err(error) => match error.kind() {
                     ErrorKind::WouldBlock => return,
                     ErrorKind::Interrupted | ErrorKind::ConnectionAborted => {}
@@ -183,7 +185,7 @@ impl StationServer {
         }
     }
 
-    /// Sends what is owed, and looks each second whose session is idle or doesn't close.
+    /// Sends what is owed, and each second does what waits for time to pass.
     #[tactic(auto, using(crate::proofs::Reaching::moved))]
     fn send_all<R: Eprint>(&mut self, rt: &R, connections: &mut Connections, idle: Option<u64>)
         ensures { Reaches connections.old.station connections.new.station }
@@ -192,7 +194,18 @@ impl StationServer {
         connections.send_due(self.poll.registry(), rt, self.time);
         if self.time.duration_since(self.swept_at).as_secs() >= SWEEP_SECONDS {
             self.swept_at = self.time;
-            connections.sweep(self.poll.registry(), rt, idle, self.time);
+            self.sweep(rt, connections, idle);
+        }
+    }
+
+    /// Looks whose session is idle or doesn't close, and accepts again where that failed.
+    #[tactic(auto, using(crate::proofs::Reaching::moved))]
+    fn sweep<R: Eprint>(&mut self, rt: &R, connections: &mut Connections, idle: Option<u64>)
+        ensures { Reaches connections.old.station connections.new.station }
+    {
+        connections.sweep(self.poll.registry(), rt, idle, self.time);
+        if self.is_deaf {
+            self.accept_all(rt, connections);
         }
     }
 }
@@ -231,6 +244,7 @@ fn listen<N: Net, C: Clock>(
         events,
         listener,
         port,
+        has_callers: false,
         is_deaf: false,
         has_told: false,
         swept_at: now,
