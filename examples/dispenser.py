@@ -3,8 +3,9 @@
 
 Listens at a site that `forecourt station` serves on this port of 127.0.0.1. Once its fuelling
 point is released, nozzle 1, whose meter stands at the reading, is lifted; it flows a litre at a
-time until the millilitres are out, waits while it is suspended, stops where a till ends it, and
-hangs up. What it is told is printed. docs/PROFILE.md has every identifier."""
+time until the millilitres are out or the preset is reached, waits while it is suspended, stops
+where a till ends it, and hangs up. What it is told is printed. docs/PROFILE.md has every
+identifier."""
 import socket
 import sys
 import time
@@ -18,7 +19,9 @@ NAMES = {
     OPEN: "open", CLOSE: "closed", RELEASE: "released", TERMINATE: "ended", SUSPEND: "suspended",
     RESUME: "resumed", PREPAY: "released, prepaid", TEST_RELEASE: "released for a test",
 }  # fmt: skip
-RESULT, NOZZLE, READING = 0x01, 0x70, 0x71
+RESULT, DETAIL, NOZZLE, READING, PRICE = 0x01, 0x02, 0x70, 0x71, 0x72
+VOLUME_LIMIT, MONEY_LIMIT = 0x50, 0x51  # of a release: millilitres, cents
+WRONG_STATE = 10  # the refusal of what a point can't do in its state
 LITRE = 1_000
 
 
@@ -28,6 +31,7 @@ class Dispenser:
         self.stream = self.site.makefile("rb")
         self.point, self.reading, self.token = point, reading, 0
         self.is_released = self.is_suspended = self.is_ended = False
+        self.limits = {}
 
     def read_message(self):
         """The kind of the next message, and its items' octets by identifier."""
@@ -46,6 +50,7 @@ class Dispenser:
         print(f"point {self.point} is {NAMES[change]}", flush=True)
         if change in (RELEASE, PREPAY, TEST_RELEASE):
             self.is_released, self.is_suspended, self.is_ended = True, False, False
+            self.limits = {name: int.from_bytes(text, "big") for name, text in items.items()}
         elif change in (SUSPEND, RESUME):
             self.is_suspended = change == SUSPEND
         elif change == TERMINATE:
@@ -66,12 +71,29 @@ class Dispenser:
                 return told
             self.note(told)
 
+    def expect_accepted(self, command, told, *others):
+        """Ends with what a refusal says, but for those of these numbers."""
+        number = told[RESULT][0]
+        if number not in (0, *others):
+            detail = int.from_bytes(told.get(DETAIL, b""), "big")
+            sys.exit(
+                f"report {command:02X} is refused: {number}, detail {detail};"
+                f" forecourt explain {number} says why"
+            )
+
     def report_meter(self, command):
         meter = ((NOZZLE, b"\1"), (READING, self.reading.to_bytes(8, "big")))
         told = self.report(command, *meter)
-        if told[RESULT] != b"\0":
-            sys.exit(f"report {command:02X} is refused: forecourt explain {told[RESULT][0]}")
+        self.expect_accepted(command, told)
         return told
+
+    def find_end(self, millilitres, price):
+        """The reading at which it stops: a preset of money is reached by so many millilitres at
+        this price, in mills a litre."""
+        most = self.limits.get(VOLUME_LIMIT, millilitres)
+        if price and MONEY_LIMIT in self.limits:
+            most = self.limits[MONEY_LIMIT] * 10_000 // price
+        return self.reading + min(millilitres, most)
 
     def wait_until(self, is_so):
         while not is_so():
@@ -80,12 +102,15 @@ class Dispenser:
 
 def main(port, point, millilitres, reading=0):
     pump = Dispenser(port, point, reading)
-    pump.report(ONLINE)  # refused where the point is online already; what stands there is told
+    # Refused where the point is online already; what stands there is told behind the reply.
+    pump.expect_accepted(ONLINE, pump.report(ONLINE), WRONG_STATE)
     pump.wait_until(lambda: pump.is_released)
-    pump.report_meter(LIFT)
-    end = pump.reading + millilitres
-    while pump.reading < end and not pump.is_ended:
-        pump.wait_until(lambda: not pump.is_suspended)
+    started = pump.report_meter(LIFT)
+    end = pump.find_end(millilitres, int.from_bytes(started.get(PRICE, b""), "big"))
+    while pump.reading < end:
+        pump.wait_until(lambda: pump.is_ended or not pump.is_suspended)
+        if pump.is_ended:
+            break
         pump.reading = min(pump.reading + LITRE, end)
         pump.report_meter(FLOW)
         time.sleep(0.05)

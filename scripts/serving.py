@@ -66,8 +66,10 @@ class Day:
             return got
 
     def report(self, told=""):
-        """The report, once the program has ended well, and told this on standard error."""
+        """The report, once the program has ended well, and told this on standard error; with
+        None, whatever it told."""
         out, err = self.process.communicate(timeout=WAIT)
+        told = err.decode() if told is None else told
         expect("status and standard error", (self.process.returncode, err.decode()), (0, told))
         return out.decode()
 
