@@ -194,7 +194,7 @@ static double make_notices(int pumps, int requests, int *times)
             fail("a notice isn't the one that is wanted");
         receive(till, got, 16);
         ask(till, "01 01 02 01 00 42 00 04 01 21 3F 00",
-            "02 01 01 01 00 E2 00 08 01 21 01 01 00 03 01 08", 1, p);
+            "02 01 01 01 00 E2 00 08 01 21 01 01 00 03 01 07", 1, p);
         receive(all[p - 1].stream, got, n);
     }
     return requests / (read_clock() - start);

@@ -3,6 +3,7 @@
  *   echo-ready    listens on a free port of 127.0.0.1, prints it, and sends back what connections
  *                 send, on one thread (epoll, edge-triggered), until its standard input ends
  */
+#define _GNU_SOURCE
 #include <arpa/inet.h>
 #include <errno.h>
 #include <fcntl.h>
