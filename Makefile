@@ -17,8 +17,8 @@ help:
 	@echo 'make audit    the mutants of the audit, of every crate or of CRATES="a b"'
 	@echo 'make bench    messages a second, memory, and their growth with the input; calls a second of'
 	@echo '              tills that collide; what a message costs with 5 and 64 points and with up to'
-	@echo '              100,000 sales, a row of a book of a million, and a request of a server beside'
-	@echo '              an echo'
+	@echo '              100,000 sales, a row of a book of a million, and a request of a server and of'
+	@echo '              a station beside an echo'
 
 run:
 	@cd crates/forecourt && rt try < stdin
@@ -49,4 +49,5 @@ bench: build
 	@scripts/bench-fuellings $(PROGRAM) 20000 40000 100000
 	@scripts/bench-book $(PROGRAM)
 	@scripts/bench-server $(PROGRAM)
+	@scripts/bench-station $(PROGRAM)
 	@scripts/instructions $(PROGRAM)
