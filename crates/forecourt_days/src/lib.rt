@@ -1,12 +1,13 @@
 //! Days: a server's and a demo's, from their first line to the report of what is settled.
 //!
 //! `serve_day` opens a desk, serves so many sessions by so many workers over a `Loopback`, settles
-//! the desk, and writes the report: `specs/Days.antt` says what is written. `ServerPlan::read`
-//! reads what the command line asks for, as `StationPlan::read` does for a station:
-//! `specs/Plans.antt`; `station_day` is that of a station: `specs/StationDays.antt`. `demo` is the whole station in one
-//! call: a setup is worked through by one worker; then the sections of a script are worked at side
-//! by side, a till's as a session, a dispenser's by a simulated dispenser; at the end the desk is
-//! settled: `specs/Demos.antt`, `specs/Sections.antt`. `demo_day` writes its report too.
+//! the desk, and writes the report: `specs/Days.antt` says what is written. `station_day` has a
+//! station serve until its day's end, and writes the report of its book: `specs/StationDays.antt`.
+//! `ServerPlan::read` and `StationPlan::read` read what the command line asks of them:
+//! `specs/Plans.antt`. `demo` is a whole site in one call: a setup is worked through by one worker;
+//! then the sections of a script are worked at side by side, a till's as a session, a dispenser's
+//! by a simulated dispenser; at the end the desk is settled: `specs/Demos.antt`,
+//! `specs/Sections.antt`. `demo_day` writes its report too.
 #![tactic(auto)]
 
 mod client;

@@ -13,7 +13,8 @@ use Rattle.station_server.specs.Calls.{HearsCall, SendsCall}
 use Rattle.station_server.specs.Reaches.{Reaches}
 
 -- moves, and then more
-after_both : (ms more : List Move) (s : StationState) → after (ms ++ more) s ≡ after more (after ms s)
+after_both : (ms more : List Move) (s : StationState)
+    → after (ms ++ more) s ≡ after more (after ms s)
 after_both [] more s = refl
 after_both (m ∷ ms) more s = after_both ms more (after_move m s)
 

@@ -4,7 +4,7 @@
 //! station hear what the ready peers sent, and then it sends what is owed, to peers that are told
 //! notices too. What it does with the station is made of the station's own moves alone
 //! (`specs/Reaches.antt`), so each law of `station` holds of what it serves. One call of a
-//! connection is exact (`specs/Calls.antt`); that readiness is told, and the clock, are the system's.
+//! connection is exact (`specs/Calls.antt`); readiness and the clock are the system's.
 #![tactic(auto)]
 
 mod calls;
