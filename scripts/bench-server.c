@@ -8,17 +8,9 @@
  * Printed are requests a second of them all, and microseconds that half, 99 of 100 and 999 of 1,000
  * replies took at most.
  */
-#include <arpa/inet.h>
-#include <netinet/in.h>
-#include <netinet/tcp.h>
+#include "bench.h"
 #include <pthread.h>
 #include <stdint.h>
-#include <stdio.h>
-#include <stdlib.h>
-#include <string.h>
-#include <sys/socket.h>
-#include <time.h>
-#include <unistd.h>
 
 enum { MOST = 128, CLIENTS = 16, WARMING = 200 };
 
@@ -29,41 +21,8 @@ struct client {
 };
 
 static const char *kind;
-static int port, clients, requests;
+static int clients, requests;
 static pthread_barrier_t begin;
-
-static void fail(const char *why)
-{
-    fprintf(stderr, "bench-server: %s\n", why);
-    exit(1);
-}
-
-static double read_clock(void)
-{
-    struct timespec t;
-    clock_gettime(CLOCK_MONOTONIC, &t);
-    return t.tv_sec + t.tv_nsec * 1e-9;
-}
-
-static int connect_here(void)
-{
-    struct sockaddr_in here = {.sin_family = AF_INET, .sin_port = htons(port)};
-    int one = 1, s = socket(AF_INET, SOCK_STREAM, 0);
-    here.sin_addr.s_addr = htonl(INADDR_LOOPBACK);
-    if (s < 0 || connect(s, (struct sockaddr *)&here, sizeof here) != 0)
-        fail("can't connect");
-    setsockopt(s, IPPROTO_TCP, TCP_NODELAY, &one, sizeof one);
-    return s;
-}
-
-/* Octets of a text in hexadecimal; returns how many. */
-static int parse_octets(const char *text, unsigned char *to)
-{
-    int n = 0;
-    for (unsigned value; sscanf(text, " %2x", &value) == 1; text += strspn(text, " "), text += 2)
-        to[n++] = value;
-    return n;
-}
 
 /* Sends a message, and looks whether the reply is the one that is wanted. */
 static void ask(int s, const unsigned char *sent, int length, const unsigned char *wanted, int due)
@@ -198,14 +157,9 @@ static void *run(void *client)
     return NULL;
 }
 
-static int compare_times(const void *a, const void *b)
-{
-    int x = *(const int *)a, y = *(const int *)b;
-    return (x > y) - (x < y);
-}
-
 int main(int count, char **words)
 {
+    program = "bench-server";
     if (count != 5)
         fail("reads|echo|sales PORT CLIENTS REQUESTS");
     kind = words[1];
@@ -231,8 +185,6 @@ int main(int count, char **words)
         longest = all[i].seconds > longest ? all[i].seconds : longest;
     }
     long sum = (long)clients * requests;
-    qsort(times, sum, sizeof(int), compare_times);
-    printf("%.0f %.1f %.1f %.1f\n", sum / longest, times[sum / 2] / 1e3,
-           times[sum * 99 / 100] / 1e3, times[sum * 999 / 1000] / 1e3);
+    print_times(sum / longest, times, sum);
     return 0;
 }

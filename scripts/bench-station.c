@@ -9,16 +9,8 @@
  * of them all, and microseconds that half, 99 of 100 and 999 of 1,000 replies took at most; of
  * notices what it took from the till's request until the dispenser was told.
  */
-#include <arpa/inet.h>
-#include <netinet/in.h>
-#include <netinet/tcp.h>
-#include <stdio.h>
-#include <stdlib.h>
-#include <string.h>
+#include "bench.h"
 #include <sys/epoll.h>
-#include <sys/socket.h>
-#include <time.h>
-#include <unistd.h>
 
 enum { MOST = 128, CLIENTS = 1000, TILLS = 32, EVENTS = 256 };
 
@@ -30,40 +22,7 @@ struct client {
 
 static struct client all[CLIENTS];
 static unsigned char request[MOST], reply[MOST];
-static int size, due, port;
-
-static void fail(const char *why)
-{
-    fprintf(stderr, "bench-station: %s\n", why);
-    exit(1);
-}
-
-static double read_clock(void)
-{
-    struct timespec t;
-    clock_gettime(CLOCK_MONOTONIC, &t);
-    return t.tv_sec + t.tv_nsec * 1e-9;
-}
-
-static int connect_here(void)
-{
-    struct sockaddr_in here = {.sin_family = AF_INET, .sin_port = htons(port)};
-    int one = 1, s = socket(AF_INET, SOCK_STREAM, 0);
-    here.sin_addr.s_addr = htonl(INADDR_LOOPBACK);
-    if (s < 0 || connect(s, (struct sockaddr *)&here, sizeof here) != 0)
-        fail("can't connect");
-    setsockopt(s, IPPROTO_TCP, TCP_NODELAY, &one, sizeof one);
-    return s;
-}
-
-/* Octets of a text in hexadecimal; returns how many. */
-static int parse_octets(const char *text, unsigned char *to)
-{
-    int n = 0;
-    for (unsigned value; sscanf(text, " %2x", &value) == 1; text += strspn(text, " "), text += 2)
-        to[n++] = value;
-    return n;
-}
+static int size, due;
 
 static void receive(int s, unsigned char *got, int length)
 {
@@ -200,14 +159,9 @@ static double make_notices(int pumps, int requests, int *times)
     return requests / (read_clock() - start);
 }
 
-static int compare_times(const void *a, const void *b)
-{
-    int x = *(const int *)a, y = *(const int *)b;
-    return (x > y) - (x < y);
-}
-
 int main(int count, char **words)
 {
+    program = "bench-station";
     if (count != 5)
         fail("reads|echo|ping|notices PORT CLIENTS REQUESTS");
     const char *kind = words[1];
@@ -218,8 +172,6 @@ int main(int count, char **words)
         fail("1 to 1,000 clients, 1,000 requests at least");
     double rate = strcmp(kind, "notices") == 0 ? make_notices(clients, requests, times)
                                                : make_requests(kind, clients, requests, times);
-    qsort(times, requests, sizeof(int), compare_times);
-    printf("%.0f %.1f %.1f %.1f\n", rate, times[requests / 2] / 1e3, times[requests * 99L / 100] / 1e3,
-           times[requests * 999L / 1000] / 1e3);
+    print_times(rate, times, requests);
     return 0;
 }
