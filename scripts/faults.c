@@ -8,6 +8,7 @@
  *   TAKE_ALL=M         standard output takes M octets in all, and then none
  *   FAIL_RECEIVE=K     the Kth read of a socket fails
  *   FAIL_SEND=K        the Kth write to a socket fails
+ *   BLOCK_SEND=K       the Kth write to a socket would block
  *   SHORT_SEND=M       a write to a socket takes at most M octets
  *   FAIL_SOCKET=K      the Kth socket isn't made
  *   FAIL_BIND=K        the Kth socket gets no address
@@ -60,7 +61,7 @@ static int fails(const char *name, long *calls)
     return 1;
 }
 
-static long allocations, reads, file_reads, writes, taken, received, sent;
+static long allocations, reads, file_reads, writes, taken, received, sent, blocked;
 static int read_before, file_read_before, written_before, received_before, sent_before;
 
 /* Is this the allocation that fails? The system says so, too. */
@@ -178,6 +179,10 @@ ssize_t send(int socket, const void *text, size_t size, int flags)
         return -1;
     if (fails("FAIL_SEND", &sent)) {
         errno = EIO;
+        return -1;
+    }
+    if (fails("BLOCK_SEND", &blocked)) {
+        errno = EAGAIN;
         return -1;
     }
     if (number("SHORT_SEND") && size > (size_t)number("SHORT_SEND")) {

@@ -12,7 +12,7 @@ use Rattle.app_message.specs.declared.kind.Kind.TheVariants.{Read, Answer, Write
 use Rattle.app_message.specs.declared.kind.Kind.TheVariants.{Ack}
 use Rattle.app_message.specs.Telegram.{Entry, Telegram, telegram, IsEntry, Rises}
 use Rattle.app_message.specs.Spelling.{kind_code, item_text, body, spelling, IsHead, IsMessage}
-use Rattle.app_message.specs.Stream.{walked, stream_on, stream_of}
+use Rattle.app_message.specs.Stream.{with_messages, stream_on, stream_of}
 use Rattle.app_message.proofs.Stages.{ok_is}
 use Rattle.app_message.proofs.Cutting.{stream_step}
 use Rattle.app_message.specs.Grammar.{Halt, Header, kind_at, header_at, item_at, items_at}
@@ -177,6 +177,6 @@ no_prefix m n a b vm vn same =
     (ap (λ (x : Telegram × List ℕ). x.0) pair, ap (λ (x : Telegram × List ℕ). x.1) pair)
 
 pub read_again : (m : Telegram) (s : List ℕ) → IsMessage m
-    → stream_of (spelling m ++ s) ≡ walked (m ∷ []) (stream_of s)
+    → stream_of (spelling m ++ s) ≡ with_messages (m ∷ []) (stream_of s)
 read_again m s valid = stream_step (spelling m ++ s) ∙ ap (stream_on (spelling m ++ s) stream_of)
     (front_again m s valid)

@@ -14,7 +14,7 @@ use Rattle.app_message.specs.declared.kind.Kind.{Kind}
 use Rattle.app_message.specs.Telegram.{Entry, entry, Telegram, telegram, AreOctets, IsEntry, Rises}
 use Rattle.app_message.specs.Spelling.{item_text, body_text, body, IsHead}
 use Rattle.app_message.specs.Grammar.{Header, items_at, address_at, body_at}
-use Rattle.app_message.specs.Bodies.{listed_in, listed, of_body, AreItems, IsBody, IsDraft}
+use Rattle.app_message.specs.Bodies.{entries_up_to, entries_in, of_body, AreItems, IsBody, IsDraft}
 use Rattle.app_message.specs.Bodies.{with_item}
 use Rattle.app_message.specs.Parts.{parts_fault, do_rise}
 use Rattle.app_message.proofs.Rising.{rises}
@@ -22,8 +22,8 @@ use Rattle.app_message.proofs.Taking.{items_take, body_takes}
 
 -- items that were written are listed again
 pub listed_again : (n : ℕ) (es : List Entry) → length (flat_map item_text es) ≤ n
-    → listed_in n (flat_map item_text es) ≡ es
-unfolding listed_in
+    → entries_up_to n (flat_map item_text es) ≡ es
+unfolding entries_up_to
 listed_again zero [] p = refl
 listed_again zero (e ∷ es) p = absurd (omega arith)
 listed_again (suc n) [] p = refl
@@ -36,7 +36,7 @@ listed_again (suc n) (e ∷ es) p =
       listed_again n es fewer,
     ) refl
 
-pub listed_text : (es : List Entry) → listed (flat_map item_text es) ≡ es
+pub listed_text : (es : List Entry) → entries_in (flat_map item_text es) ≡ es
 listed_text es = listed_again (length (flat_map item_text es)) es (omega arith)
 
 pub are_items : (es : List Entry) → AllByRecursion IsEntry es → AreItems (flat_map item_text es)
@@ -66,21 +66,21 @@ address_within s address t e = rw e (omega (arith, length-append address t))
 -- the first item of a list of octets, and the others
 pub record First (id size : ℕ) (s : List ℕ) : Type 0 where
   pub within : size ≤ length s
-  pub is : listed (id ∷ size ∷ s) ≡ entry id (take size s) ∷ listed (drop size s)
+  pub is : entries_in (id ∷ size ∷ s) ≡ entry id (take size s) ∷ entries_in (drop size s)
   pub few : length (take size s) ≤ 254
   pub others : AreItems (drop size s)
 
 pub first_of : (id size : ℕ) (s : List ℕ) → AreItems (id ∷ size ∷ s) → First id size s
-unfolding listed_in
+unfolding entries_up_to
 first_of id size s items =
-    let others : List Entry = listed_in (suc (length s)) (drop size s) in
+    let others : List Entry = entries_up_to (suc (length s)) (drop size s) in
     let more : List ℕ = flat_map item_text others in
     let text : id ∷ size ∷ s ≡ id ∷ length (take size s) ∷ (take size s ++ more) = items.text in
     let long : length (take size s) ≡ size = sym (ap (λ (t : List ℕ). get_or t 1 0) text) in
     let parts : s ≡ take size s ++ more = ap (λ (t : List ℕ). drop 2 t) text in
     let rest : drop size s ≡ more =
     ap (λ (t : List ℕ). drop size t) parts ∙ drop_at (take size s) more size long in
-    let same : listed (drop size s) ≡ others = ap listed rest ∙ listed_text others in
+    let same : entries_in (drop size s) ≡ others = ap entries_in rest ∙ listed_text others in
     record {
       within = omega (arith, long, length-take size s);
       is = ap (λ (es : List Entry). entry id (take size s) ∷ es) (sym same);
@@ -94,7 +94,7 @@ behind s = take (length s - 2) (drop 2 s)
 
 pub record Next (s : List ℕ) : Type 0 where
   pub within : get_or s 1 0 ≤ length (behind s)
-  pub is : listed s ≡ entry (get_or s 0 0) (take (get_or s 1 0) (behind s)) ∷ listed
+  pub is : entries_in s ≡ entry (get_or s 0 0) (take (get_or s 1 0) (behind s)) ∷ entries_in
       (drop (get_or s 1 0) (behind s))
   pub few : length (take (get_or s 1 0) (behind s)) ≤ 254
   pub others : AreItems (drop (get_or s 1 0) (behind s))
@@ -109,15 +109,16 @@ next_of (id ∷ size ∷ s) long items =
     record {
       within = subst (λ (t : List ℕ). size ≤ length t) (sym all) first.within;
       is = subst
-          (λ (t : List ℕ). listed (id ∷ size ∷ s) ≡ entry id (take size t) ∷ listed (drop size t))
+          (λ (t : List ℕ). entries_in (id ∷ size ∷ s)
+          ≡ entry id (take size t) ∷ entries_in (drop size t))
           (sym all) first.is;
       few = subst (λ (t : List ℕ). length (take size t) ≤ 254) (sym all) first.few;
       others = subst (λ (t : List ℕ). AreItems (drop size t)) (sym all) first.others;
     }
 
 -- fewer than two octets list nothing
-pub short_lists_none : (s : List ℕ) → length s < 2 → listed s ≡ []
-unfolding listed_in
+pub short_lists_none : (s : List ℕ) → length s < 2 → entries_in s ≡ []
+unfolding entries_up_to
 short_lists_none [] short = refl
 short_lists_none (id ∷ []) short = refl
 short_lists_none (id ∷ size ∷ s) short = absurd (omega arith)
@@ -127,19 +128,19 @@ listed_some : (b : ℕ) (s : List ℕ) (es : List Entry) → b ∷ s ≡ flat_ma
 listed_some b s [] text = absurd cc
 listed_some b s (e ∷ es) text = ne_eqb (length (e ∷ es)) 0 (λ h. omega arith)
 
-pub is_none_left : (s : List ℕ) → AreItems s → eqb (length s) 0 ≡ eqb (length (listed s)) 0
-unfolding listed_in
+pub is_none_left : (s : List ℕ) → AreItems s → eqb (length s) 0 ≡ eqb (length (entries_in s)) 0
+unfolding entries_up_to
 is_none_left [] items = refl
 is_none_left (b ∷ s) items =
     let some : eqb (length (b ∷ s)) 0 ≡ false = ne_eqb (length (b ∷ s)) 0 (λ h. omega arith) in
-    some ∙ sym (listed_some b s (listed (b ∷ s)) items.text)
+    some ∙ sym (listed_some b s (entries_in (b ∷ s)) items.text)
 
 -- what was read is what is listed
 pub read_is_listed : (s : List ℕ) (es : List Entry) → AreOctets s
-    → items_at (length s) 0 s ≡ Ok es → items_at (length s) 0 s ≡ Ok (listed s)
+    → items_at (length s) 0 s ≡ Ok es → items_at (length s) 0 s ≡ Ok (entries_in s)
 read_is_listed s es octets e =
     let taken = items_take (length s) 0 s es (omega arith) octets e in
-    let same : listed s ≡ es = ap listed taken.parts ∙ listed_text es in
+    let same : entries_in s ≡ es = ap entries_in taken.parts ∙ listed_text es in
     e ∙ ap (λ (l : List Entry). Ok l) (sym same)
 
 -- ---- bodies and drafts
@@ -172,7 +173,7 @@ abbrev pub rest_of : List ℕ → List ℕ
 rest_of s = drop (get_or s 0 0) (drop 1 s)
 
 pub body_from : (h : Header) (s : List ℕ) → address_at s ≡ Ok (get_or s 0 0)
-    → items_at (length (rest_of s)) 0 (rest_of s) ≡ Ok (listed (rest_of s))
+    → items_at (length (rest_of s)) 0 (rest_of s) ≡ Ok (entries_in (rest_of s))
     → body_at h s ≡ Ok (of_body h.to h.from h.kind h.token s)
 unfolding body_at
 body_from h s address items = rw (address, items) refl
@@ -180,11 +181,11 @@ body_from h s address items = rw (address, items) refl
 pub is_body : (to from : List ℕ) (kind : Kind) (token : ℕ) (s : List ℕ) → IsHead to from token
     → AreOctets s → 2 ≤ length s → length s ≤ 1024
     → address_at s ≡ Ok (get_or s 0 0)
-    → items_at (length (rest_of s)) 0 (rest_of s) ≡ Ok (listed (rest_of s))
+    → items_at (length (rest_of s)) 0 (rest_of s) ≡ Ok (entries_in (rest_of s))
     → IsBody (of_body to from kind token s) s
 is_body to from kind token s head octets least most address items =
     let taken =
-    body_takes to from kind token s (get_or s 0 0) (listed (rest_of s)) head octets least most
+    body_takes to from kind token s (get_or s 0 0) (entries_in (rest_of s)) head octets least most
     address items in
     record { text = taken.parts; valid = taken.valid }
 

@@ -12,8 +12,9 @@ use Rattle.app_message.specs.declared.fault.StreamFault.{StreamFault}
 use Rattle.app_message.specs.Telegram.{Telegram, AreOctets}
 use Rattle.app_message.specs.Grammar.{Halt, short, fault, ◌>>=◌, Header, header_at, body_at}
 use Rattle.app_message.specs.Grammar.{front_at}
-use Rattle.app_message.specs.Stream.{Stream, stream, fault_of, walked, stream_on, walk, stream_of}
-use Rattle.app_message.specs.Stream.{Held, IsHeld, held, held_after, fed_by}
+use Rattle.app_message.specs.Stream.{Stream, stream, fault_of, with_messages, stream_on, walk}
+use Rattle.app_message.specs.Stream.{stream_of}
+use Rattle.app_message.specs.Stream.{Held, IsHeld, held_part, held_after, fed_by}
 use Rattle.app_message.specs.Fronts.{IsFront}
 use Rattle.app_message.proofs.Stages.{AreOctets-drop, bind_ok, guard_ok, ok_is}
 use Rattle.app_message.proofs.Taking.{header_takes}
@@ -132,7 +133,7 @@ front_stays a b =
 
 on_same : (s : List ℕ) (f g : List ℕ → Stream) (r : Result (Telegram × List ℕ) Halt)
     → ((x : Telegram × List ℕ) → r ≡ Ok x → f x.1 ≡ g x.1) → stream_on s f r ≡ stream_on s g r
-on_same s f g (Ok x) same = ap (walked (x.0 ∷ [])) (same x refl)
+on_same s f g (Ok x) same = ap (with_messages (x.0 ∷ [])) (same x refl)
 on_same s f g (Err short) same = refl
 on_same s f g (Err (fault d)) same = refl
 
@@ -161,24 +162,24 @@ stream_step s =
 
 -- a stream by what stands at its front
 abbrev Cut : List ℕ → List ℕ → Type 0
-Cut a b = stream_of (a ++ b) ≡ walked (stream_of a).messages (fed_by (held_after a) b)
+Cut a b = stream_of (a ++ b) ≡ with_messages (stream_of a).messages (fed_by (held_after a) b)
 
 cut_on : (a b : List ℕ) (r later : Result (Telegram × List ℕ) Halt) → front_at a ≡ r
     → front_at (a ++ b) ≡ later → Stays b r later → ((x : Telegram × List ℕ) → r ≡ Ok x → Cut x.1 b)
     → Cut a b
 cut_on a b (Ok x) later here there stay cut =
-    let first : stream_of a ≡ walked (x.0 ∷ []) (stream_of x.1) =
+    let first : stream_of a ≡ with_messages (x.0 ∷ []) (stream_of x.1) =
     stream_step a ∙ ap (stream_on a stream_of) here in
-    let whole : stream_of (a ++ b) ≡ walked (x.0 ∷ []) (stream_of (x.1 ++ b)) =
+    let whole : stream_of (a ++ b) ≡ with_messages (x.0 ∷ []) (stream_of (x.1 ++ b)) =
     stream_step (a ++ b) ∙ ap (stream_on (a ++ b) stream_of) (there ∙ stay) in
-    let both : stream_of (a ++ b) ≡ walked (x.0 ∷ [])
-    (walked (stream_of x.1).messages (fed_by (held_after x.1) b)) =
-    whole ∙ ap (walked (x.0 ∷ [])) (cut x refl) in
-    both ∙ ap (λ (t : Stream). walked t.messages (fed_by (held t) b)) (sym first)
+    let both : stream_of (a ++ b) ≡ with_messages (x.0 ∷ [])
+    (with_messages (stream_of x.1).messages (fed_by (held_after x.1) b)) =
+    whole ∙ ap (with_messages (x.0 ∷ [])) (cut x refl) in
+    both ∙ ap (λ (t : Stream). with_messages t.messages (fed_by (held_part t) b)) (sym first)
 cut_on a b (Err short) later here there stay cut =
     let first : stream_of a ≡ record { messages = []; rest = a; fault = None } =
     stream_step a ∙ ap (stream_on a stream_of) here in
-    ap (λ (t : Stream). walked t.messages (fed_by (held t) b)) (sym first)
+    ap (λ (t : Stream). with_messages t.messages (fed_by (held_part t) b)) (sym first)
 cut_on a b (Err (fault f)) later here there stay cut =
     let first : stream_of a ≡ record { messages = []; rest = []; fault = Some (fault_of f a) } =
     stream_step a ∙ ap (stream_on a stream_of) here in
@@ -196,7 +197,7 @@ cut_on a b (Err (fault f)) later here there stay cut =
     let end : Stream = record { messages = []; rest = []; fault = Some (fault_of f a) } in
     let ended : stream_of (a ++ b) ≡ end =
     whole ∙ ap (λ (g : StreamFault). record { messages = []; rest = []; fault = Some g }) same in
-    ended ∙ ap (λ (t : Stream). walked t.messages (fed_by (held t) b)) (sym first)
+    ended ∙ ap (λ (t : Stream). with_messages t.messages (fed_by (held_part t) b)) (sym first)
 
 cut_in : (n : ℕ) (a b : List ℕ) → length a ≤ n → Cut a b
 cut_in zero a b p = cut_on a b (front_at a) (front_at (a ++ b)) refl refl (front_stays a b)
@@ -211,7 +212,7 @@ any_cut a b = cut_in (length a) a b (omega arith)
 
 held_on : (s : List ℕ) (r : Result (Telegram × List ℕ) Halt) → AreOctets s → front_at s ≡ r
     → ((x : Telegram × List ℕ) → r ≡ Ok x → IsHeld (held_after x.1))
-    → IsHeld (held (stream_on s stream_of r))
+    → IsHeld (held_part (stream_on s stream_of r))
 held_on s (Ok x) fits here kept = kept x refl
 held_on s (Err short) fits here kept = record { few = short_bound s fits here; quiet = tt }
 held_on s (Err (fault f)) fits here kept = record { few = omega arith; quiet = refl }
@@ -245,14 +246,14 @@ pub front_short : (s : List ℕ) (old new : Held) → front_at s ≡ Err short
     → new ≡ record { rest = s; fault = None } → IsFront s old new None
 front_short s old new e kept =
     let is : stream_of s ≡ stream [] s None = stream_step s ∙ ap (stream_on s stream_of) e in
-    (ap (λ (t : Stream). t.messages) is, kept ∙ ap held (sym is))
+    (ap (λ (t : Stream). t.messages) is, kept ∙ ap held_part (sym is))
 
 pub front_fault : (s : List ℕ) (old new : Held) (f : GrammarFault) → front_at s ≡ Err (fault f)
     → new ≡ record { rest = []; fault = Some (fault_of f s) } → IsFront s old new None
 front_fault s old new f e kept =
     let is : stream_of s ≡ stream [] [] (Some (fault_of f s)) =
     stream_step s ∙ ap (stream_on s stream_of) e in
-    (ap (λ (t : Stream). t.messages) is, kept ∙ ap held (sym is))
+    (ap (λ (t : Stream). t.messages) is, kept ∙ ap held_part (sym is))
 
 -- octets without a whole message have few
 pub few_left : (s : List ℕ) → AreOctets s → front_at s ≡ Err short → length s ≤ 1031
@@ -269,25 +270,28 @@ is_at_start (b ∷ rest) f empty none = absurd (omega arith)
 -- ---- the loop over messages
 
 pub walk_on : (ms : List Telegram) (s : List ℕ) (m : Telegram) (t : List ℕ) (total : Stream)
-    → stream_of s ≡ walked (m ∷ []) (stream_of t) → walked ms (stream_of s) ≡ total
-    → walked (ms ++ m ∷ []) (stream_of t) ≡ total
+    → stream_of s ≡ with_messages (m ∷ []) (stream_of t) → with_messages ms (stream_of s) ≡ total
+    → with_messages (ms ++ m ∷ []) (stream_of t) ≡ total
 walk_on ms s m t total first so_far =
-    let regroup : walked (ms ++ m ∷ []) (stream_of t) ≡ walked ms (walked (m ∷ []) (stream_of t)) =
+    let regroup : with_messages (ms ++ m ∷ []) (stream_of t)
+    ≡ with_messages ms (with_messages (m ∷ []) (stream_of t)) =
     ap (λ (all : List Telegram). record {
       messages = all;
       rest = (stream_of t).rest;
       fault = (stream_of t).fault;
     }) (append_assoc ms (m ∷ []) (stream_of t).messages) in
-    regroup ∙ ap (walked ms) (sym first) ∙ so_far
+    regroup ∙ ap (with_messages ms) (sym first) ∙ so_far
 
 -- no message follows
 pub walk_ends : (ms : List Telegram) (s rest : List ℕ) (f : Option StreamFault) (total : Stream)
-    → stream_of s ≡ stream [] rest f → walked ms (stream_of s) ≡ total → stream ms rest f ≡ total
+    → stream_of s ≡ stream [] rest f → with_messages ms (stream_of s) ≡ total → stream ms rest f
+    ≡ total
 walk_ends ms s rest f total first so_far =
-    let regroup : stream ms rest f ≡ walked ms (stream [] rest f) =
+    let regroup : stream ms rest f ≡ with_messages ms (stream [] rest f) =
     ap (λ (all : List Telegram). stream all rest f) (sym (append-nil ms)) in
-    regroup ∙ ap (walked ms) (sym first) ∙ so_far
+    regroup ∙ ap (with_messages ms) (sym first) ∙ so_far
 
 pub kept_is : (s : List ℕ) (ms : List Telegram) (rest : List ℕ) (g : Option StreamFault)
     → AreOctets s → stream ms rest g ≡ stream_of s → IsHeld (record { rest = rest; fault = g })
-kept_is s ms rest g fits same = subst (λ (t : Stream). IsHeld (held t)) (sym same) (is_held s fits)
+kept_is s ms rest g fits same =
+    subst (λ (t : Stream). IsHeld (held_part t)) (sym same) (is_held s fits)

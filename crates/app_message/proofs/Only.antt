@@ -21,7 +21,7 @@ use Rattle.app_message.specs.Grammar.{items_at, address_at, body_at, front_at}
 use Rattle.app_message.specs.Faults.{code_in, bits_in, size_in, address_size_in, items_in}
 use Rattle.app_message.specs.Faults.{HasHeader, IsWhole, IsShort, IsBadAddress, least_after}
 use Rattle.app_message.specs.Faults.{IsBadItem, HasBadItems, BeginsWith}
-use Rattle.app_message.specs.Stream.{Stream, stream, fault_of, walked, stream_on, stream_of}
+use Rattle.app_message.specs.Stream.{Stream, stream, fault_of, with_messages, stream_on, stream_of}
 use Rattle.app_message.specs.Laws.{Ends, IsStream}
 use Rattle.app_message.proofs.Cutting.{stream_step}
 use Rattle.app_message.proofs.Again.{item_again, read_again}
@@ -267,7 +267,7 @@ one_in (m ∷ ms) rest left f fits valid end =
     append_assoc (spelling m) (flat_map spelling ms) left in
     let inside : AreOctets more =
     AreOctets-behind (spelling m) more (subst (λ (x : List ℕ). AreOctets x) text fits) in
-    ap (walked (m ∷ [])) (one_in ms rest left f inside valid.1 end) ∙ sym
+    ap (with_messages (m ∷ [])) (one_in ms rest left f inside valid.1 end) ∙ sym
     (read_again m more valid.0) ∙ ap stream_of (sym text)
 
 pub one_stream : (s : List ℕ) (t : Stream) → AreOctets s → IsStream s t → t ≡ stream_of s

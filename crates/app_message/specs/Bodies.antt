@@ -9,26 +9,26 @@ use Rattle.app_message.specs.Spelling.{item_text, body, IsHead, IsMessage}
 
 -- one item after another, in as many steps as there are octets: an identifier, the number of octets
 -- of its content, the content
-unfoldable pub listed_in : ℕ → List ℕ → List Entry
-listed_in zero s = []
-listed_in (suc n) [] = []
-listed_in (suc n) (id ∷ []) = []
-listed_in (suc n) (id ∷ size ∷ s) = entry id (take size s) ∷ listed_in n (drop size s)
+unfoldable pub entries_up_to : ℕ → List ℕ → List Entry
+entries_up_to zero s = []
+entries_up_to (suc n) [] = []
+entries_up_to (suc n) (id ∷ []) = []
+entries_up_to (suc n) (id ∷ size ∷ s) = entry id (take size s) ∷ entries_up_to n (drop size s)
 
 -- the items that octets list
-abbrev pub listed : List ℕ → List Entry
-listed s = listed_in (length s) s
+abbrev pub entries_in : List ℕ → List Entry
+entries_in s = entries_up_to (length s) s
 
 -- the message of a head and the octets of a body: the number of octets of the address, the address,
 -- the items
 abbrev pub of_body : List ℕ → List ℕ → Kind → ℕ → List ℕ → Telegram
 of_body to from kind token s = telegram to from kind token (take (slice_index s 0) (drop 1 s))
-    (listed (drop (slice_index s 0) (drop 1 s)))
+    (entries_in (drop (slice_index s 0) (drop 1 s)))
 
 -- octets that are the spelling of the items that they list
 pub record AreItems (s : List ℕ) : Type 0 where
-  pub text : s ≡ flat_map item_text (listed s)
-  pub valid : AllByRecursion IsEntry (listed s)
+  pub text : s ≡ flat_map item_text (entries_in s)
+  pub valid : AllByRecursion IsEntry (entries_in s)
 
 -- octets that are the body of a message that can be spelled
 pub record IsBody (m : Telegram) (s : List ℕ) : Type 0 where

@@ -5,7 +5,7 @@ use Rattle.app_message.specs.declared.fault.StreamFault.{StreamFault}
 use Rattle.app_message.specs.Telegram.{Telegram, AreOctets}
 use Rattle.app_message.specs.Spelling.{spelling, IsMessage}
 use Rattle.app_message.specs.Faults.{IsShort, BeginsWith}
-use Rattle.app_message.specs.Stream.{Stream, walked, stream_of, fed_by, held_after}
+use Rattle.app_message.specs.Stream.{Stream, with_messages, stream_of, fed_by, held_after}
 
 -- What ends the messages of a stream: without a fault what is left is the rest, and holds no whole
 -- message; with a fault it begins with that fault, which has the originator and the token there.
@@ -38,10 +38,10 @@ NoPrefix = (m n : Telegram) (a b : List ℕ) → IsMessage m → IsMessage n →
 -- what was spelled is read again, whatever follows
 abbrev pub ReadAgain : Type 0
 ReadAgain = (m : Telegram) (s : List ℕ) → IsMessage m
-    → stream_of (spelling m ++ s) ≡ walked (m ∷ []) (stream_of s)
+    → stream_of (spelling m ++ s) ≡ with_messages (m ∷ []) (stream_of s)
 
 -- however a stream is cut, its messages are those of the first piece, and then those that the
 -- second brings
 abbrev pub AnyCutting : Type 0
 AnyCutting = (a b : List ℕ)
-    → stream_of (a ++ b) ≡ walked (stream_of a).messages (fed_by (held_after a) b)
+    → stream_of (a ++ b) ≡ with_messages (stream_of a).messages (fed_by (held_after a) b)

@@ -24,12 +24,12 @@ fault_of f s = record {
 }
 
 -- these messages, and then a stream
-abbrev pub walked : List Telegram → Stream → Stream
-walked ms t = record { messages = ms ++ t.messages; rest = t.rest; fault = t.fault }
+abbrev pub with_messages : List Telegram → Stream → Stream
+with_messages ms t = record { messages = ms ++ t.messages; rest = t.rest; fault = t.fault }
 
 -- what a stream is by what stands at its front
 abbrev pub stream_on : List ℕ → (List ℕ → Stream) → Result (Telegram × List ℕ) Halt → Stream
-stream_on s on (Ok x) = walked (x.0 ∷ []) (on x.1)
+stream_on s on (Ok x) = with_messages (x.0 ∷ []) (on x.1)
 stream_on s on (Err short) = record { messages = []; rest = s; fault = None }
 stream_on s on (Err (fault f)) = record { messages = []; rest = []; fault = Some (fault_of f s) }
 
@@ -51,12 +51,12 @@ pub record IsHeld (h : Held) : Type 0 where
   pub few : length h.rest ≤ 1031
   pub quiet : IfSome h.fault (λ _. h.rest ≡ [])
 
-abbrev pub held : Stream → Held
-held t = record { rest = t.rest; fault = t.fault }
+abbrev pub held_part : Stream → Held
+held_part t = record { rest = t.rest; fault = t.fault }
 
 -- what is kept after these octets, in whatever pieces they came
 abbrev pub held_after : List ℕ → Held
-held_after s = held (stream_of s)
+held_after s = held_part (stream_of s)
 
 abbrev pub fed_from : Option StreamFault → List ℕ → Stream
 fed_from None s = stream_of s

@@ -5,7 +5,7 @@ ghost use Rattle.std.specs.Prelude.{IsSome};
 ghost use Rattle.std.specs.Prelude.{IsOk, IsOkAnd, Err, Some, None, true};
 ghost use Rattle.app_message.specs.declared.sizes.TheConstants.{HEADER, LONGEST_BODY};
 ghost use Rattle.app_message.specs.Numbers.{as_message_fault};
-ghost use Rattle.app_message.specs.Stream.{IsHeld, fault_of, stream_of, fed_by, held};
+ghost use Rattle.app_message.specs.Stream.{IsHeld, fault_of, stream_of, fed_by, held_part};
 ghost use Rattle.app_message.specs.Stream.{held_after};
 ghost use Rattle.app_message.specs.Fronts.{IsFront};
 
@@ -67,7 +67,7 @@ impl Decoder {
         ensures messages { IfOk result
             (λ fed. fed.messages ≡ (fed_by self.old piece.now).messages) }
         ensures fault { IfOk result (λ fed. fed.fault ≡ (fed_by self.old piece.now).fault) }
-        ensures held { OnOk result (self.new ≡ held (fed_by self.old piece.now)) }
+        ensures held { OnOk result (self.new ≡ held_part (fed_by self.old piece.now)) }
         ensures err { OnErr result (self.new ≡ self.old) }
 
         // After a fault no memory is taken, and the answer is that fault for good.
@@ -91,7 +91,7 @@ impl Decoder {
     ) -> Result<Option<StreamFault>, NoMemory>
         ensures messages { OnOk result (messages.new ≡ (fed_by self.old piece.now).messages) }
         ensures fault { IfOk result (λ fault. fault ≡ (fed_by self.old piece.now).fault) }
-        ensures held { OnOk result (self.new ≡ held (fed_by self.old piece.now)) }
+        ensures held { OnOk result (self.new ≡ held_part (fed_by self.old piece.now)) }
         ensures err { OnErr result (self.new ≡ self.old) }
 
         // After a fault no memory is taken, and the answer is that fault for good.
@@ -176,7 +176,7 @@ impl Decoder {
         requires { messages.old ≡ [] }
         ensures messages { OnOk result (messages.new ≡ (stream_of octets.now).messages) }
         ensures fault { IfOk result (λ fault. fault ≡ (stream_of octets.now).fault) }
-        ensures held { OnOk result (self.new ≡ held (stream_of octets.now)) }
+        ensures held { OnOk result (self.new ≡ held_part (stream_of octets.now)) }
         ensures err { OnErr result (self.new ≡ self.old) }
     {
         let mut rest = octets;

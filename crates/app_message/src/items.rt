@@ -2,7 +2,7 @@
 
 ghost use Rattle.std.specs.Prelude.{◌≡◌, ◌==◌, length};
 ghost use Rattle.std.specs.Iterator.{YieldsFirst, item_count};
-ghost use Rattle.app_message.specs.Bodies.{listed, AreItems};
+ghost use Rattle.app_message.specs.Bodies.{entries_in, AreItems};
 
 use crate::item::Item;
 use std::marker::Model;
@@ -17,11 +17,11 @@ pub struct Items<'a> {
 impl<'a> Model for Items<'a> {
     ghost use Rattle.std.specs.Prelude.{List};
     ghost use Rattle.app_message.specs.Telegram.{Entry};
-    ghost use Rattle.app_message.specs.Bodies.{listed, AreItems};
+    ghost use Rattle.app_message.specs.Bodies.{entries_in, AreItems};
 
     ghost Value = { List Entry };
 
-    ghost view = { λ i. listed i.rest.now };
+    ghost view = { λ i. entries_in i.rest.now };
 
     ghost invariant = { λ i. AreItems i.rest.now };
 }
@@ -30,7 +30,7 @@ impl<'a> Items<'a> {
     /// The items that these octets list.
     pub(crate) fn new(octets: &'a [u8]) -> Items<'a>
         requires { AreItems octets.now }
-        ensures { result ≡ listed octets.now }
+        ensures { result ≡ entries_in octets.now }
     {
         Items { rest: octets }
     }

@@ -5,7 +5,7 @@
 //! first fault; what it gives doesn't depend on how the stream was cut.
 //!
 //! Worked messages, faults and parts, by their octets, are theorems of the definitions that the
-//! contracts cite: `proofs/Worked.antt`.
+//! contracts cite: `proofs/WorkedMessages.antt`.
 #![tactic(auto)]
 
 mod decoder;

@@ -7,7 +7,7 @@ ghost use Rattle.app_message.specs.declared.sizes.TheConstants.{SHORTEST_BODY};
 ghost use Rattle.app_message.specs.Spelling.{IsHead};
 ghost use Rattle.app_message.specs.Grammar.{kind_at, length_at, header_at, item_at, items_at};
 ghost use Rattle.app_message.specs.Grammar.{address_at, body_at, front_at};
-ghost use Rattle.app_message.specs.Bodies.{listed};
+ghost use Rattle.app_message.specs.Bodies.{entries_in};
 ghost use Rattle.app_message.specs.Reading.{Gives, header};
 
 use crate::fault::GrammarFault;
@@ -111,7 +111,8 @@ fn item_of(low: u16, octets: &[u8]) -> Result<(Item<'_>, &[u8]), Stop>
 
 /// Whether these octets list items without a fault.
 fn check_items(octets: &[u8]) -> Result<(), Stop>
-    ensures { Gives (λ _. listed octets.now) result (items_at (length octets.now) 0 octets.now) }
+    ensures { Gives (λ _. entries_in octets.now) result
+        (items_at (length octets.now) 0 octets.now) }
 {
     let mut rest = octets;
     let mut low = 0u16;

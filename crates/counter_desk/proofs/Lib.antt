@@ -8,5 +8,5 @@ pub mod Same
 pub mod SameReplies
 pub mod Placing
 pub mod Strange
-pub mod Submitted
+pub mod CallsMade
 pub mod Threads

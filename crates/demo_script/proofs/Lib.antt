@@ -1,5 +1,5 @@
-pub mod Lined
+pub mod FirstLines
 pub mod Messages
-pub mod Parted
-pub mod Reached
+pub mod NumberPairs
+pub mod ReadLines
 pub mod Unique

@@ -4,7 +4,7 @@ use Rattle.std.proofs.Common.{Ok, Err, true, false, refl, sym, ap, subst, ◌∙
 use Rattle.std.specs.Prelude.{is_some, IfOk, IfNone}
 use Rattle.hex.specs.Hex.{decode_of}
 use Rattle.hex.specs.declared.error.FromHexError.{FromHexError}
-use Rattle.app_message.specs.Stream.{Held, Stream, fed_by, held, held_after, stream, stream_of}
+use Rattle.app_message.specs.Stream.{Held, Stream, fed_by, held_part, held_after, stream, stream_of}
 use Rattle.app_message.specs.Stream.{walk}
 use Rattle.app_message.specs.Telegram.{Telegram}
 use Rattle.forecourt_engines.specs.declared.line.LineText.TheVariants as texts
@@ -52,12 +52,12 @@ pub record IsFed (octets : List ℕ) (h : Held) (messages : List Telegram)
   pub start : h ≡ held_after []
   pub messages_are : messages ≡ (fed_by h octets).messages
   pub fault_is : fault ≡ (fed_by h octets).fault
-  pub held_is : kept ≡ held (fed_by h octets)
+  pub held_is : kept ≡ held_part (fed_by h octets)
 
 pub fed_of : (octets : List ℕ) (h : Held) (messages : List Telegram) (fault : Option StreamFault)
     (kept : Held)
     → h ≡ held_after [] → messages ≡ (fed_by h octets).messages → fault ≡ (fed_by h octets).fault
-    → kept ≡ held (fed_by h octets) → IsFed octets h messages fault kept
+    → kept ≡ held_part (fed_by h octets) → IsFed octets h messages fault kept
 fed_of octets h messages fault kept start messages_are fault_is held_is =
     record {
       start = start;

@@ -28,7 +28,7 @@ use Rattle.demo_script.specs.Script.{IsRefused, IsScript, IsStepText, IsTask, Is
 use Rattle.demo_script.specs.Script.{IsWork, Says, SaysIf, nothing_read, sections_of, with_line}
 use Rattle.demo_script.proofs.Messages.{message_is}
 use Rattle.forecourt_engines.proofs.Numerals.{behind_is}
-use Rattle.forecourt_engines.proofs.Parted.{digits_above, parts_are}
+use Rattle.forecourt_engines.proofs.TextParts.{digits_above, parts_are}
 
 -- ---- steps
 

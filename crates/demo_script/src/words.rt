@@ -12,7 +12,7 @@ ghost use Rattle.demo_script.specs.Script.{Begins, IsDispenserText, IsStepText};
 use crate::limits::{GREATEST_POLLS, GREATEST_PUMPED};
 use crate::line::Line;
 use dispenser_sim::Step;
-use forecourt_engines::number::{behind, is_word, number_behind, split_at_octet};
+use forecourt_engines::number::{is_word, number_behind, split_at_octet, strip_word};
 use site_base::{FpNo, Millilitres, NOZZLES, NozzleNo, POINTS, PointState};
 
 /// The section that the text begins: `till`, or `dispenser P POLLS`.
@@ -109,7 +109,7 @@ fn dispenser_in(text: &[u8]) -> Option<(FpNo, u64)>
     ensures found { IfSome result (λ d. IsDispenserText text.now d.0 d.1) }
     ensures other { IfNone result ((p : ℕ) → (polls : ℕ) → ¬ IsDispenserText text.now p polls) }
 {
-    let Some(numbers) = behind(b"dispenser ", text) else {
+    let Some(numbers) = strip_word(b"dispenser ", text) else {
         return None;
     };
     let Some((first, last)) = split_at_octet(b' ', numbers) else {

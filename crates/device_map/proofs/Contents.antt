@@ -23,7 +23,7 @@ use Rattle.device_map.specs.declared.way.Content.{Content}
 use Rattle.device_map.specs.declared.way.Content.TheVariants.{Nothing, Limit, Payment, Meter}
 use Rattle.device_map.specs.declared.way.Content.TheVariants.{Price}
 use Rattle.device_map.specs.Stages.{◌>>=◌}
-use Rattle.device_map.specs.Further.{items_end, taken, present, four_octets_in, nozzle_in}
+use Rattle.device_map.specs.Further.{items_end, take_item, expect_item, four_octets_in, nozzle_in}
 use Rattle.device_map.specs.Further.{reading_in, preset_of, preset_in, money_in, meter_in}
 use Rattle.device_map.specs.Items.{octet, four_octets, eight_octets}
 use Rattle.device_map.specs.Laws.{is_preset, is_meter}
@@ -212,7 +212,7 @@ picked : (id : ℕ) (e : Entry) (es : List Entry) (b : Bool) → (e.id == id) �
 picked id e es true is = record { parts = refl; named = is }
 picked id e es false is = record { parts = refl; named = tt }
 
-taken_is : (id : ℕ) (items : List Entry) → IsTaken id items (taken id items)
+taken_is : (id : ℕ) (items : List Entry) → IsTaken id items (take_item id items)
 taken_is id [] = record { parts = refl; named = tt }
 taken_is id (e ∷ es) = picked id e es (e.id == id) refl
 
@@ -239,23 +239,24 @@ pub preset_back : (low : ℕ) (items : List Entry) (preset : Preset) → Rises l
     → preset_in items ≡ Ok preset → items ≡ preset_items preset
 unfolding preset_in
 preset_back low items preset rise is =
-    let left = (taken ids.PRESET_VOLUME items).1 in
+    let left = (take_item ids.PRESET_VOLUME items).1 in
     let volume = taken_is ids.PRESET_VOLUME items in
     let money = taken_is ids.PRESET_MONEY left in
-    let ended = bind_ok (items_end (taken ids.PRESET_MONEY left).1) _ preset is in
-    let parts : items ≡ with_item (taken ids.PRESET_VOLUME items).0
-    (with_item (taken ids.PRESET_MONEY left).0 []) =
+    let ended = bind_ok (items_end (take_item ids.PRESET_MONEY left).1) _ preset is in
+    let parts : items ≡ with_item (take_item ids.PRESET_VOLUME items).0
+    (with_item (take_item ids.PRESET_MONEY left).0 []) =
     volume.parts
-    ∙ ap (with_item (taken ids.PRESET_VOLUME items).0)
+    ∙ ap (with_item (take_item ids.PRESET_VOLUME items).0)
     (money.parts
-    ∙ ap (with_item (taken ids.PRESET_MONEY left).0)
-    (nothing_back (taken ids.PRESET_MONEY left).1 ended.0 ended.1)) in
+    ∙ ap (with_item (take_item ids.PRESET_MONEY left).0)
+    (nothing_back (take_item ids.PRESET_MONEY left).1 ended.0 ended.1)) in
     parts
-    ∙ preset_told low (taken ids.PRESET_VOLUME items).0 (taken ids.PRESET_MONEY left).0 preset
+    ∙ preset_told low (take_item ids.PRESET_VOLUME items).0 (take_item ids.PRESET_MONEY left).0
+    preset
     volume.named money.named (subst (λ (x : List Entry). Rises low x) parts rise) ended.2
 
 money_told : (low : ℕ) (found : Option Entry) (money : Entry) (cents : ℕ)
-    → IsNamed ids.PRESET_MONEY found → Rises low (with_item found []) → present found ≡ Ok money
+    → IsNamed ids.PRESET_MONEY found → Rises low (with_item found []) → expect_item found ≡ Ok money
     → four_octets_in money.content ≡ Ok cents → with_item found [] ≡ content_items (Payment cents)
 money_told low None money cents named rise there is = absurd cc
 money_told low (Some e) money cents named rise there is =
@@ -266,13 +267,13 @@ pub money_back : (low : ℕ) (items : List Entry) (cents : ℕ) → Rises low it
     → money_in items ≡ Ok cents → items ≡ content_items (Payment cents)
 unfolding money_in
 money_back low items cents rise is =
-    let found = (taken ids.PRESET_MONEY items).0 in
+    let found = (take_item ids.PRESET_MONEY items).0 in
     let money = taken_is ids.PRESET_MONEY items in
-    let ended = bind_ok (items_end (taken ids.PRESET_MONEY items).1) _ cents is in
-    let there = bind_ok (present found) _ cents ended.2 in
+    let ended = bind_ok (items_end (take_item ids.PRESET_MONEY items).1) _ cents is in
+    let there = bind_ok (expect_item found) _ cents ended.2 in
     let parts : items ≡ with_item found [] =
     money.parts
-    ∙ ap (with_item found) (nothing_back (taken ids.PRESET_MONEY items).1 ended.0 ended.1) in
+    ∙ ap (with_item found) (nothing_back (take_item ids.PRESET_MONEY items).1 ended.0 ended.1) in
     parts
     ∙ money_told low found there.0 cents money.named
     (subst (λ (x : List Entry). Rises low x) parts rise) there.1 there.2
@@ -280,7 +281,7 @@ money_back low items cents rise is =
 meter_told : (low : ℕ) (first second : Option Entry) (nozzle reading : Entry) (n r : ℕ)
     → IsNamed ids.NOZZLE first → IsNamed ids.READING second
     → Rises low (with_item first (with_item second []))
-    → present first ≡ Ok nozzle → present second ≡ Ok reading
+    → expect_item first ≡ Ok nozzle → expect_item second ≡ Ok reading
     → nozzle_in nozzle ≡ Ok n → reading_in reading ≡ Ok r
     → with_item first (with_item second []) ≡ content_items (Meter n r)
 unfolding octet
@@ -297,14 +298,14 @@ pub meter_back : (low : ℕ) (items : List Entry) (n r : ℕ) → Rises low item
     → meter_in items ≡ Ok (n, r) → items ≡ content_items (Meter n r)
 unfolding meter_in
 meter_back low items n r rise is =
-    let left = (taken ids.NOZZLE items).1 in
-    let first = (taken ids.NOZZLE items).0 in
-    let second = (taken ids.READING left).0 in
+    let left = (take_item ids.NOZZLE items).1 in
+    let first = (take_item ids.NOZZLE items).0 in
+    let second = (take_item ids.READING left).0 in
     let nozzle = taken_is ids.NOZZLE items in
     let reading = taken_is ids.READING left in
-    let ended = bind_ok (items_end (taken ids.READING left).1) _ (n, r) is in
-    let there = bind_ok (present first) _ (n, r) ended.2 in
-    let there' = bind_ok (present second) _ (n, r) there.2 in
+    let ended = bind_ok (items_end (take_item ids.READING left).1) _ (n, r) is in
+    let there = bind_ok (expect_item first) _ (n, r) ended.2 in
+    let there' = bind_ok (expect_item second) _ (n, r) there.2 in
     let number = bind_ok (nozzle_in there.0) _ (n, r) there'.2 in
     let reads = bind_ok (reading_in there'.0) _ (n, r) number.2 in
     let pair : (number.0, reads.0) ≡ (n, r) = ok_is (number.0, reads.0) (n, r) reads.2 in
@@ -312,7 +313,7 @@ meter_back low items n r rise is =
     nozzle.parts
     ∙ ap (with_item first)
     (reading.parts
-    ∙ ap (with_item second) (nothing_back (taken ids.READING left).1 ended.0 ended.1)) in
+    ∙ ap (with_item second) (nothing_back (take_item ids.READING left).1 ended.0 ended.1)) in
     parts
     ∙ meter_told low first second there.0 there'.0 n r nozzle.named reading.named
     (subst (λ (x : List Entry). Rises low x) parts rise) there.1 there'.1

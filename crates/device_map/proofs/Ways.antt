@@ -27,7 +27,7 @@ use Rattle.device_map.specs.Commands.{Shape, bare, limited, prepaid, metered, of
 use Rattle.device_map.specs.Commands.{Command, commands, reading_of}
 use Rattle.device_map.specs.Further.{items_end, preset_in, money_in, meter_in, sale_in}
 use Rattle.device_map.specs.Further.{four_octets_in}
-use Rattle.device_map.specs.Requests.{shape_of, plain, event_by, command_in, event_at}
+use Rattle.device_map.specs.Requests.{shape_of, plain_event, event_by, command_in, event_at}
 use Rattle.device_map.specs.Laws.{may_ask, is_point_if_named, is_carried, is_in_range, is_sale}
 use Rattle.device_map.specs.declared.way.Content.{Content}
 use Rattle.device_map.specs.declared.way.Content.TheVariants.{Nothing, Limit, Payment, Meter}
@@ -197,7 +197,7 @@ pub record IsBy (kind : Kind) (d : Database) (command : Option ℕ) (inside : Li
   pub inside_is : inside ≡ content_inside content
   pub is : items ≡ content_items content
 
-plain_is : (inside : List ℕ) (made event : Event) → plain inside made ≡ Ok event
+plain_is : (inside : List ℕ) (made event : Event) → plain_event inside made ≡ Ok event
     → (inside ≡ []) × (made ≡ event)
 plain_is inside made event is =
     let test = passed (length inside == 0) BadNumber (Ok made) event is in

@@ -11,8 +11,8 @@ use Rattle.device_map.specs.declared.fault.MapFault.TheVariants.{BadDecimal}
 use Rattle.device_map.specs.Stages.{◌>>=◌}
 
 -- a number's four digits, as a number of two octets
-abbrev pub packed : ℕ → ℕ
-packed n = n / 1000 % 10 * 4096 + n / 100 % 10 * 256 + n / 10 % 10 * 16 + n % 10
+abbrev pub pack_digits : ℕ → ℕ
+pack_digits n = n / 1000 % 10 * 4096 + n / 100 % 10 * 256 + n / 10 % 10 * 16 + n % 10
 
 -- both digits of an octet are decimal
 abbrev pub is_decimal : ℕ → Bool

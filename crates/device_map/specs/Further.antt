@@ -23,14 +23,14 @@ items_end items = if length items == 0 then Ok tt else Err UnknownItem
 
 -- the item with this identifier, if it stands next, and the items left. Identifiers rise: a listed
 -- item that isn't next isn't there
-abbrev pub taken : ℕ → List Entry → Option Entry × List Entry
-taken id [] = (None, [])
-taken id (e ∷ es) = if e.id == id then (Some e, es) else (None, e ∷ es)
+abbrev pub take_item : ℕ → List Entry → Option Entry × List Entry
+take_item id [] = (None, [])
+take_item id (e ∷ es) = if e.id == id then (Some e, es) else (None, e ∷ es)
 
 -- a listed item is there
-abbrev pub present : Option Entry → Result Entry MapFault
-present None = Err ItemMissing
-present (Some e) = Ok e
+abbrev pub expect_item : Option Entry → Result Entry MapFault
+expect_item None = Err ItemMissing
+expect_item (Some e) = Ok e
 
 -- the number of a content of four octets
 abbrev pub four_octets_in : List ℕ → Result ℕ MapFault
@@ -65,27 +65,27 @@ preset_of (Some volume) (Some money) = Err UnknownItem
 -- a volume, or money, or nothing
 unfoldable pub preset_in : List Entry → Result Preset MapFault
 preset_in items = do
-  let volume = taken ids.PRESET_VOLUME items
-  let money = taken ids.PRESET_MONEY volume.1
+  let volume = take_item ids.PRESET_VOLUME items
+  let money = take_item ids.PRESET_MONEY volume.1
   _ ← items_end money.1
   preset_of volume.0 money.0
 
 -- money
 unfoldable pub money_in : List Entry → Result ℕ MapFault
 money_in items = do
-  let money = taken ids.PRESET_MONEY items
+  let money = take_item ids.PRESET_MONEY items
   _ ← items_end money.1
-  item ← present money.0
+  item ← expect_item money.0
   four_octets_in item.content
 
 -- a nozzle and the reading of its meter
 unfoldable pub meter_in : List Entry → Result (ℕ × ℕ) MapFault
 meter_in items = do
-  let nozzle = taken ids.NOZZLE items
-  let reading = taken ids.READING nozzle.1
+  let nozzle = take_item ids.NOZZLE items
+  let reading = take_item ids.READING nozzle.1
   _ ← items_end reading.1
-  nozzle_item ← present nozzle.0
-  reading_item ← present reading.0
+  nozzle_item ← expect_item nozzle.0
+  reading_item ← expect_item reading.0
   number ← nozzle_in nozzle_item
   millilitres ← reading_in reading_item
   Ok (number, millilitres)

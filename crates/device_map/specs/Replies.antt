@@ -21,7 +21,7 @@ use Rattle.app_message.specs.Parts.{do_rise}
 use Rattle.app_message.specs.Spelling.{item_text}
 use Rattle.app_message.specs.Telegram.{Entry, Telegram}
 use Rattle.device_map.specs.declared.ids.TheConstants as ids
-use Rattle.device_map.specs.Decimal.{packed}
+use Rattle.device_map.specs.Decimal.{pack_digits}
 use Rattle.device_map.specs.Items.{octet, two_octets, four_octets, eight_octets}
 use Rattle.device_map.specs.Nodes.{site_node}
 
@@ -86,7 +86,7 @@ answer_items (answers.Flowed growth) = outcome 3 ++ eight_octets ids.VOLUME grow
 answer_items answers.HungUp = outcome 4
 answer_items answers.NoSale = outcome 5
 answer_items (answers.Sold seq growth) = outcome 6 ++ eight_octets ids.VOLUME growth
-    ++ two_octets ids.SEQUENCE (packed seq)
+    ++ two_octets ids.SEQUENCE (pack_digits seq)
 answer_items answers.Stopped = outcome 7
 answer_items answers.Ending = outcome 8
 answer_items answers.Locked = outcome 9

@@ -34,27 +34,27 @@ shape_of id [] = Err UnknownItem
 shape_of id (row ∷ rows) = if id == row.id then Ok row.shape else shape_of id rows
 
 -- the event of a command without content
-abbrev pub plain : List ℕ → Event → Result Event MapFault
-plain content event = if length content == 0 then Ok event else Err BadNumber
+abbrev pub plain_event : List ℕ → Event → Result Event MapFault
+plain_event content event = if length content == 0 then Ok event else Err BadNumber
 
 -- the event of a request of this shape, by its command's content and the items behind the command,
 -- which are judged first
 abbrev pub event_by : Shape → List ℕ → List Entry → Result Event MapFault
 event_by (bare event) content items = do
   _ ← items_end items
-  plain content event
+  plain_event content event
 event_by (limited event) content items = do
   preset ← preset_in items
-  plain content (event preset)
+  plain_event content (event preset)
 event_by (prepaid event) content items = do
   cents ← money_in items
-  plain content (event cents)
+  plain_event content (event cents)
 event_by (metered event) content items = do
   meter ← meter_in items
-  plain content (event meter.0 meter.1)
+  plain_event content (event meter.0 meter.1)
 event_by (of_sale digits event) content items = do
   sale ← sale_in digits items
-  plain content (event sale)
+  plain_event content (event sale)
 event_by (priced event) content items = do
   _ ← items_end items
   price ← four_octets_in content

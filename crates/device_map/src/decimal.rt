@@ -2,7 +2,7 @@
 
 ghost use Rattle.std.specs.Prelude.{◌≡◌, ◌≤◌, ◌&&◌};
 ghost use Rattle.device_map.specs.Stages.{Gives};
-ghost use Rattle.device_map.specs.Decimal.{packed, is_decimal, two_digits, four_digits};
+ghost use Rattle.device_map.specs.Decimal.{pack_digits, is_decimal, two_digits, four_digits};
 ghost use Rattle.device_map.specs.Decimal.{decimal_in, shift_in, sale_named};
 ghost use Rattle.device_map.specs.Ways.{digits_of};
 
@@ -130,7 +130,7 @@ fn two_digits(octet: u8) -> u16
 /// A sequence number as four decimal digits, packed two to an octet.
 pub fn packed_digits(number: u16) -> u16
     requires { number ≤ GREATEST_SEQ }
-    ensures { result ≡ packed number }
+    ensures { result ≡ pack_digits number }
 {
     number / 1000 % 10 * 4096 + number / 100 % 10 * 256 + number / 10 % 10 * 16 + number % 10
 }

@@ -2,7 +2,8 @@
 
 ghost use Rattle.device_map.specs.Stages.{Gives};
 ghost use Rattle.device_map.specs.Commands.{bare, commands, reading_of};
-ghost use Rattle.device_map.specs.Requests.{first_item, plain, event_by, event_among, command_in};
+ghost use Rattle.device_map.specs.Requests.{first_item, plain_event, event_by, event_among};
+ghost use Rattle.device_map.specs.Requests.{command_in};
 ghost use Rattle.device_map.specs.Requests.{read_by, event_at, request_at};
 
 use crate::address::Database;
@@ -53,12 +54,12 @@ fn read_event(database: Database, items: Items<'_>) -> Result<Event, MapFault>
     ensures { Gives result (read_by (reading_of database) items.entry) }
 {
     match database {
-        Database::Site => bare(Event::ReadSite, &[], items),
-        Database::Point(point) => bare(Event::ReadPoint(point), &[], items),
+        Database::Site => bare_event(Event::ReadSite, &[], items),
+        Database::Point(point) => bare_event(Event::ReadPoint(point), &[], items),
         Database::Transaction(point, digits) => {
             Ok(Event::ReadTransaction(point, further_items::sale(digits, items)?))
         }
-        Database::Product(product) => bare(Event::ReadProduct(product), &[], items),
+        Database::Product(product) => bare_event(Event::ReadProduct(product), &[], items),
     }
 }
 
@@ -103,9 +104,9 @@ fn site_event(command: &Item<'_>, items: Items<'_>) -> Result<Event, MapFault>
 {
     let content = command.content();
     match command.id() {
-        ids::SIGN_ON => bare(Event::SignOn, content, items),
-        ids::SIGN_OFF => bare(Event::SignOff, content, items),
-        ids::CLOSE_SHIFT => bare(Event::CloseShift, content, items),
+        ids::SIGN_ON => bare_event(Event::SignOn, content, items),
+        ids::SIGN_OFF => bare_event(Event::SignOff, content, items),
+        ids::CLOSE_SHIFT => bare_event(Event::CloseShift, content, items),
         _ => Err(MapFault::UnknownItem),
     }
 }
@@ -117,22 +118,22 @@ fn point_event(point: FpNo, command: &Item<'_>, items: Items<'_>) -> Result<Even
 {
     let content = command.content();
     match command.id() {
-        ids::OPEN => bare(Event::Open(point), content, items),
-        ids::CLOSE => bare(Event::Close(point), content, items),
-        ids::RELEASE => plain(
+        ids::OPEN => bare_event(Event::Open(point), content, items),
+        ids::CLOSE => bare_event(Event::Close(point), content, items),
+        ids::RELEASE => plain_event(
             Event::Release(point, further_items::preset(items)?),
             content,
         ),
-        ids::TERMINATE => bare(Event::Terminate(point), content, items),
-        ids::SUSPEND => bare(Event::Suspend(point), content, items),
-        ids::RESUME => bare(Event::Resume(point), content, items),
-        ids::ASSIGN => bare(Event::Assign(point), content, items),
-        ids::UNASSIGN => bare(Event::Unassign(point), content, items),
-        ids::PREPAY => plain(Event::Prepay(point, further_items::money(items)?), content),
-        ids::TEST_RELEASE => bare(Event::TestRelease(point), content, items),
+        ids::TERMINATE => bare_event(Event::Terminate(point), content, items),
+        ids::SUSPEND => bare_event(Event::Suspend(point), content, items),
+        ids::RESUME => bare_event(Event::Resume(point), content, items),
+        ids::ASSIGN => bare_event(Event::Assign(point), content, items),
+        ids::UNASSIGN => bare_event(Event::Unassign(point), content, items),
+        ids::PREPAY => plain_event(Event::Prepay(point, further_items::money(items)?), content),
+        ids::TEST_RELEASE => bare_event(Event::TestRelease(point), content, items),
         ids::REPLACE_METER => {
             let (nozzle, reading) = further_items::meter(items)?;
-            plain(Event::ReplaceMeter(point, nozzle, reading), content)
+            plain_event(Event::ReplaceMeter(point, nozzle, reading), content)
         }
         _ => Err(MapFault::UnknownItem),
     }
@@ -151,15 +152,15 @@ fn sale_event(
 {
     let content = command.content();
     match command.id() {
-        ids::LOCK => plain(
+        ids::LOCK => plain_event(
             Event::Lock(point, further_items::sale(digits, items)?),
             content,
         ),
-        ids::UNLOCK => plain(
+        ids::UNLOCK => plain_event(
             Event::Unlock(point, further_items::sale(digits, items)?),
             content,
         ),
-        ids::CLEAR => plain(
+        ids::CLEAR => plain_event(
             Event::Clear(point, further_items::sale(digits, items)?),
             content,
         ),
@@ -193,35 +194,35 @@ fn reported_event(point: FpNo, command: &Item<'_>, items: Items<'_>) -> Result<E
 {
     let content = command.content();
     match command.id() {
-        ids::ONLINE => bare(Event::Online(point), content, items),
-        ids::OFFLINE => bare(Event::Offline(point), content, items),
+        ids::ONLINE => bare_event(Event::Online(point), content, items),
+        ids::OFFLINE => bare_event(Event::Offline(point), content, items),
         ids::LIFT => {
             let (nozzle, reading) = further_items::meter(items)?;
-            plain(Event::Lift(point, nozzle, reading), content)
+            plain_event(Event::Lift(point, nozzle, reading), content)
         }
         ids::FLOW => {
             let (nozzle, reading) = further_items::meter(items)?;
-            plain(Event::Flow(point, nozzle, reading), content)
+            plain_event(Event::Flow(point, nozzle, reading), content)
         }
         ids::HANG_UP => {
             let (nozzle, reading) = further_items::meter(items)?;
-            plain(Event::HangUp(point, nozzle, reading), content)
+            plain_event(Event::HangUp(point, nozzle, reading), content)
         }
         _ => Err(MapFault::UnknownItem),
     }
 }
 
 /// The event of a request with nothing behind its command and no content in it.
-fn bare(event: Event, content: &[u8], items: Items<'_>) -> Result<Event, MapFault>
+fn bare_event(event: Event, content: &[u8], items: Items<'_>) -> Result<Event, MapFault>
     ensures { Gives result (event_by (bare event) content.now items.entry) }
 {
     further_items::expect_nothing(items)?;
-    plain(event, content)
+    plain_event(event, content)
 }
 
 /// The event of a command without content.
-fn plain(event: Event, content: &[u8]) -> Result<Event, MapFault>
-    ensures { Gives result (plain content.now event) }
+fn plain_event(event: Event, content: &[u8]) -> Result<Event, MapFault>
+    ensures { Gives result (plain_event content.now event) }
 {
     if content.is_empty() {
         Ok(event)

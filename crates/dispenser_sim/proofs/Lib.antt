@@ -1,1 +1,1 @@
-pub mod Reported
+pub mod StepsTaken

@@ -103,9 +103,10 @@ is_reported (WaitFor state) = false
 is_reported step = true
 
 -- the steps that are reported
-abbrev pub reported : List Step → List Step
-reported [] = []
-reported (step ∷ steps) = if is_reported step then step ∷ reported steps else reported steps
+abbrev pub reported_steps : List Step → List Step
+reported_steps [] = []
+reported_steps (step ∷ steps) =
+    if is_reported step then step ∷ reported_steps steps else reported_steps steps
 
 -- each step has its receipt, in order: the dispenser's report of that step
 abbrev pub AreReports : Configured → DispenserFacts → List Step → List Receipt → Type 0
@@ -144,7 +145,7 @@ pub record AreTaken (config : Configured) (steps : List Step) (before after : Di
     (old new : List Receipt) (sold refused : ℕ) : Type 0 where
   pub made : List Receipt
   pub added : new ≡ old ++ made
-  pub told : AreReports config before (reported steps) made
+  pub told : AreReports config before (reported_steps steps) made
   pub kept : after ≡ kept_after_all made before
   pub sales : sold ≡ sold_in made
   pub refusals : refused ≡ refused_in made

@@ -5,7 +5,7 @@ use Rattle.site_base.specs.declared.actor.Actor.{Actor}
 use Rattle.site_base.specs.declared.event.Event.{Event}
 use Rattle.site_base.specs.Configured.{Configured}
 use Rattle.site_base.specs.Devices.{AppendsFront}
-use Rattle.site_base.proofs.Known.{Appends-then, Appends-front}
+use Rattle.site_base.proofs.KnownBytes.{Appends-then, Appends-front}
 use Rattle.counter_desk.specs.declared.settlement.Settled.{Settled}
 use Rattle.forecourt_engines.specs.Report.{report_text}
 use Rattle.forecourt_days.specs.declared.demos.DemoEnd.{DemoEnd}

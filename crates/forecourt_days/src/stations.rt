@@ -19,10 +19,10 @@ use std::sync::Wait;
 use std::time::Clock;
 
 /// A day of a station on the site of this configuration, whose server listens already: it writes
-/// where, serves until the day's end, ends the sessions that are left, and writes the report of its
-/// book, by the book's audit. Sessions of which nothing comes for so many seconds are ended. Where
-/// waiting for connections fails the day ends so, with `NoConnection` behind the report. However
-/// it ends, what it wrote is a front of that text.
+/// where, serves until the day's end, ends the sessions that are left, so that nobody is there, and
+/// writes the report of its book, by the book's audit. Sessions of which nothing comes for so many
+/// seconds are ended. Where waiting for connections fails the day ends so, with `NoConnection`
+/// behind the report. However it ends, what it wrote is a front of that text.
 pub fn station_day<W: Write, T: Wait, R: Clock + Eprint>(
     threads: &T,
     rt: &R,

@@ -3,7 +3,8 @@ use Rattle.std.proofs.Common.{◌≡◌, ℕ, List, [], ◌∷◌, ◌++◌, ref
 use Rattle.std.proofs.Common.{append-nil, Option, None}
 use Rattle.std.specs.Borrow.{Bor}
 use Rattle.app_message.specs.Telegram.{Telegram}
-use Rattle.app_message.specs.Stream.{Held, Stream, fed_by, held, held_after, stream_of, walked}
+use Rattle.app_message.specs.Stream.{Held, Stream, fed_by, held_part, held_after, stream_of}
+use Rattle.app_message.specs.Stream.{with_messages}
 use Rattle.app_message.specs.Stream.{walk}
 use Rattle.app_message.specs.Fronts.{IsFront}
 use Rattle.forecourt_engines.specs.Answers.{Answerer, after_message, after_messages, answers_to}
@@ -13,7 +14,7 @@ use Rattle.forecourt_engines.specs.Text.{fault_text, stream_effect}
 
 -- what is left of octets leads where all of them lead, and says what they say and wasn't said
 pub record LeadsOn (octets rest said out : List ℕ) (first now : Answerer) : Type 0 where
-  pub kept : held (stream_of rest) ≡ held (stream_of octets)
+  pub kept : held_part (stream_of rest) ≡ held_part (stream_of octets)
   pub answerer : after_messages now (stream_of rest).messages
       ≡ after_messages first (stream_of octets).messages
   pub text : out ++ answers_to now (stream_of rest).messages
@@ -25,13 +26,13 @@ starts octets said first = record { kept = refl; answerer = refl; text = refl }
 -- a message more was answered
 pub goes_on : (octets rest after said out more : List ℕ) (first now then : Answerer) (m : Telegram)
     → LeadsOn octets rest said out first now
-    → stream_of rest ≡ walked (m ∷ []) (stream_of after)
+    → stream_of rest ≡ with_messages (m ∷ []) (stream_of after)
     → more ≡ out ++ lines_for now m → then ≡ after_message now m
     → LeadsOn octets after said more first then
 goes_on octets rest after said out more first now then m on front text state =
     let later : List Telegram = (stream_of after).messages in
     record {
-      kept = ap held (sym front) ∙ on.kept;
+      kept = ap held_part (sym front) ∙ on.kept;
       answerer = ap (λ (a : Answerer). after_messages a later) state
           ∙ ap (λ (s : Stream). after_messages now s.messages) (sym front) ∙ on.answerer;
       text = ap (λ (t : List ℕ). t ++ answers_to then later) text
@@ -59,8 +60,8 @@ ends st octets rest said out now old h front between on none is =
     ap (λ (ms : List Telegram). after_messages now ms) (sym left.0) ∙ on.answerer in
     record {
       state = ap (λ (k : Held). stream_state k now) (left.1 ∙ on.kept)
-          ∙ ap (stream_state (held (stream_of octets))) answered
-          ∙ ap (λ (s : Stream). stream_state (held s) (after_messages st.answerer s.messages))
+          ∙ ap (stream_state (held_part (stream_of octets))) answered
+          ∙ ap (λ (s : Stream). stream_state (held_part s) (after_messages st.answerer s.messages))
           (sym alone);
       text = sym (append-nil out)
           ∙ ap (λ (ms : List Telegram). out ++ answers_to now ms) (sym left.0) ∙ on.text

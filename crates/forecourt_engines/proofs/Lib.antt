@@ -7,14 +7,14 @@ pub mod AnsweredStreams
 pub mod Lines
 pub mod WholeTexts
 pub mod Running
-pub mod Worked
+pub mod WorkedTexts
 pub mod NozzleCount
 pub mod Reports
 pub mod Numerals
-pub mod Parted
+pub mod TextParts
 pub mod OneName
 pub mod Unsaid
 pub mod Splitting
-pub mod Asked
+pub mod OneRequest
 pub mod OneMeaning
 pub mod Places

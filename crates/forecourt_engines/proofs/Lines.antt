@@ -10,10 +10,12 @@ use Rattle.forecourt_engines.specs.declared.fault.TextFault.{TextFault}
 use Rattle.forecourt_engines.specs.declared.fault.TextFault.TheVariants.{TooLong}
 use Rattle.forecourt_engines.specs.declared.line.TheConstants.{LINE_OCTETS}
 use Rattle.forecourt_engines.specs.Answers.{Answerer}
-use Rattle.forecourt_engines.specs.Text.{State, kept_of, effect, line_effect, next_line, next, said}
-use Rattle.forecourt_engines.specs.Text.{octet_step, says, after, text_from, ended, last_text}
+use Rattle.forecourt_engines.specs.Text.{State, kept_of, effect, line_effect, next_line, next}
+use Rattle.forecourt_engines.specs.Text.{octet_text}
+use Rattle.forecourt_engines.specs.Text.{octet_step, says, after, text_from, end_input, last_text}
 use Rattle.forecourt_engines.proofs.Running.{after-append, text_from-append}
-use Rattle.forecourt_engines.specs.Laws.{between, IsLine, LineSays, LastLineSays, LongLineSays}
+use Rattle.forecourt_engines.specs.Laws.{between_lines, IsLine, LineSays, LastLineSays}
+use Rattle.forecourt_engines.specs.Laws.{LongLineSays}
 use Rattle.forecourt_engines.specs.Laws.{NothingFollows}
 
 -- in a line whose first octets are these
@@ -33,7 +35,7 @@ not_true false e = refl
 pub goes_on : (line : List ℕ) (number : ℕ) (stream : Held) (answerer : Answerer) (b : ℕ)
     → eqb b 10 ≡ false → length line < LINE_OCTETS
     → (next (within line number stream answerer) b ≡ within (line ++ b ∷ []) number stream answerer)
-    × (said (within line number stream answerer) b ≡ [])
+    × (octet_text (within line number stream answerer) b ≡ [])
 goes_on line number stream answerer b other short =
     (rw (other, lt-leb _ _ short) refl, rw other refl)
 
@@ -60,7 +62,8 @@ line_goes_on line (b ∷ more) number stream answerer plain short =
 -- a line feed ends the line
 line_ends : (line : List ℕ) (number : ℕ) (stream : Held) (answerer : Answerer)
     → (after (within line number stream answerer) (10 ∷ [])
-    ≡ next_line (between number stream answerer) (effect number stream answerer (kept_of line)))
+    ≡ next_line (between_lines number stream answerer)
+    (effect number stream answerer (kept_of line)))
     × (text_from (within line number stream answerer) (10 ∷ [])
     ≡ (effect number stream answerer (kept_of line)).text)
 line_ends line number stream answerer =
@@ -70,10 +73,10 @@ pub line_says : LineSays
 line_says number stream answerer line plain short =
     let on = line_goes_on [] line number stream answerer plain (omega arith) in
     let end = line_ends line number stream answerer in (
-      after-append (between number stream answerer) line (10 ∷ [])
+      after-append (between_lines number stream answerer) line (10 ∷ [])
           ∙ ap (λ (s : State). after s (10 ∷ [])) on.0 ∙ end.0,
-      text_from-append (between number stream answerer) line (10 ∷ [])
-          ∙ ap (λ (t : List ℕ). t ++ text_from (after (between number stream answerer) line)
+      text_from-append (between_lines number stream answerer) line (10 ∷ [])
+          ∙ ap (λ (t : List ℕ). t ++ text_from (after (between_lines number stream answerer) line)
           (10 ∷ [])) on.1
           ∙ ap (λ (s : State). text_from s (10 ∷ [])) on.0 ∙ end.1,
     )
@@ -81,8 +84,8 @@ line_says number stream answerer line plain short =
 pub last_line_says : LastLineSays
 last_line_says number stream answerer line plain short =
     let on = line_goes_on [] line number stream answerer plain (omega arith) in (
-      ap ended on.0,
-      ap (λ (t : List ℕ). t ++ last_text (after (between number stream answerer) line)) on.1
+      ap end_input on.0,
+      ap (λ (t : List ℕ). t ++ last_text (after (between_lines number stream answerer) line)) on.1
           ∙ ap last_text on.0,
     )
 
@@ -141,7 +144,8 @@ too_long line (b ∷ more) number stream answerer plain within_limit long =
           let other : eqb b 10 ≡ false = not_true _ parts.0 in
           let stops : next (within line number stream answerer) b
           ≡ stopped line number stream answerer = rw (other, le-leb _ _ full) refl in
-          let says_nothing : said (within line number stream answerer) b ≡ [] = rw other refl in
+          let says_nothing : octet_text (within line number stream answerer) b ≡ [] =
+          rw other refl in
           let rest = nothing_follows (stopped line number stream answerer) (TooLong number) more
           refl in
           let room : LINE_OCTETS - length line ≡ 0 = omega arith in
@@ -199,7 +203,7 @@ pub whole_line : (st : State) (line : List ℕ) → st.stop ≡ None → st.line
     ≡ (effect st.number st.stream st.answerer (kept_of line)).text)
 whole_line st line none empty plain short =
     let says = line_says st.number st.stream st.answerer line plain short in
-    let is : st ≡ between st.number st.stream st.answerer = sym (is_within st none)
+    let is : st ≡ between_lines st.number st.stream st.answerer = sym (is_within st none)
     ∙ ap (λ (l : List ℕ). within l st.number st.stream st.answerer) empty in (
       ap (λ (s : State). after s (line ++ 10 ∷ [])) is ∙ says.0,
       ap (λ (s : State). text_from s (line ++ 10 ∷ [])) is ∙ says.1,

@@ -30,8 +30,8 @@ use Rattle.forecourt_engines.specs.Said.{is_actor}
 use Rattle.forecourt_engines.specs.SpelledLines.{SpellsAs, token_then}
 use Rattle.forecourt_engines.specs.WordLaws.{AsksForOneThing, IsSpelledInOneWay}
 use Rattle.forecourt_engines.proofs.OneName.{one_name}
-use Rattle.forecourt_engines.proofs.Parted.{a_sale, digits_above, digits_below, id_parts, joined}
-use Rattle.forecourt_engines.proofs.Parted.{meter_parts, parts_are, sale_parts, unparted}
+use Rattle.forecourt_engines.proofs.TextParts.{a_sale, digits_above, digits_below, id_parts, joined}
+use Rattle.forecourt_engines.proofs.TextParts.{meter_parts, parts_are, sale_parts, unparted}
 use Rattle.forecourt_engines.proofs.Unsaid.{four, name_first, within}
 
 -- ---- numbers

@@ -4,7 +4,7 @@ use Rattle.std.proofs.Common.{Result, Ok, Err, refl, ap, subst, ◌∙◌, ◌==
 use Rattle.std.proofs.Common.{arith, if◌then◌else◌}
 use Rattle.std.specs.Io.KnownBytes.{Appends}
 use Rattle.site_base.specs.Devices.{AppendsFront}
-use Rattle.site_base.proofs.Known.{Consumes-none}
+use Rattle.site_base.proofs.KnownBytes.{Consumes-none}
 use Rattle.hex.specs.Hex.{decode_of}
 use Rattle.hex.specs.declared.error.FromHexError.{FromHexError}
 use Rattle.app_message.specs.Stream.{Held, fed_by}
@@ -26,7 +26,7 @@ use Rattle.forecourt_engines.specs.Reporting.{Reported, WritesReport, input_repo
 use Rattle.forecourt_engines.specs.Reporting.{opening_state}
 use Rattle.forecourt_engines.proofs.Running.{AppendsFront-none}
 use Rattle.forecourt_engines.specs.declared.line.TheConstants.{LINE_OCTETS}
-use Rattle.forecourt_engines.specs.Text.{State, after, book_of, octets_effect, ended, ends}
+use Rattle.forecourt_engines.specs.Text.{State, after, book_of, octets_effect, end_input, ends}
 use Rattle.forecourt_engines.specs.Text.{is_skipped, effect, kept_of, line_effect, next, next_line}
 use Rattle.forecourt_engines.specs.Text.{octet_step}
 
@@ -94,7 +94,7 @@ octets_keep : (st : State) (input : List ℕ) → (after st input).answerer.book
 octets_keep st [] = refl
 octets_keep st (b ∷ bs) = octets_keep (next st b) bs ∙ octet_keeps st b
 
-end_keeps : (st : State) → (ended st).answerer.book.config ≡ st.answerer.book.config
+end_keeps : (st : State) → (end_input st).answerer.book.config ≡ st.answerer.book.config
 end_keeps st = by_stop st.stop
   where
     by_stop : (stop : Option TextFault) → (ends stop st).answerer.book.config

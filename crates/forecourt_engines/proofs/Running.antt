@@ -5,15 +5,15 @@ use Rattle.std.proofs.Common.{ap, ◌∙◌, subst, append_assoc, append-nil}
 use Rattle.std.specs.Io.KnownBytes.{Appends, Consumes, IsAtEnd}
 use Rattle.std.proofs.lemmas.List.{length-take-le}
 use Rattle.site_base.specs.Devices.{AppendsFront}
-use Rattle.site_base.proofs.Known.{known, Appends-then, Appends-none, Appends-front}
-use Rattle.site_base.proofs.Known.{AppendsFront-whole, AppendsFront-longer}
-use Rattle.site_base.proofs.Known.{Consumes-none, Consumes-then}
+use Rattle.site_base.proofs.KnownBytes.{known, Appends-then, Appends-none, Appends-front}
+use Rattle.site_base.proofs.KnownBytes.{AppendsFront-whole, AppendsFront-longer}
+use Rattle.site_base.proofs.KnownBytes.{Consumes-none, Consumes-then}
 use Rattle.forecourt_engines.specs.declared.fault.TextFault.{TextFault}
 use Rattle.forecourt_engines.specs.declared.fault.ReplayFault.{ReplayFault}
 use Rattle.forecourt_engines.specs.declared.fault.ReplayFault.TheVariants as faults
 use Rattle.site_base.specs.declared.limits.TheConstants.{PIECE_OCTETS}
 use Rattle.site_book.specs.Book.{Book}
-use Rattle.forecourt_engines.specs.Text.{State, next, said, after, text_from, ended, ends}
+use Rattle.forecourt_engines.specs.Text.{State, next, octet_text, after, text_from, end_input, ends}
 use Rattle.forecourt_engines.specs.Text.{last_text, last_says, last_fault, fault_at_end, text_of}
 use Rattle.forecourt_engines.specs.Replay.{is_early, as_fault, Replayed}
 
@@ -27,8 +27,9 @@ pub text_from-append : (st : State) (a b : List ℕ)
     → text_from st (a ++ b) ≡ text_from st a ++ text_from (after st a) b
 text_from-append st [] b = refl
 text_from-append st (x ∷ a) b =
-    ap (λ (t : List ℕ). said st x ++ t) (text_from-append (next st x) a b)
-    ∙ sym (append_assoc (said st x) (text_from (next st x) a) (text_from (after (next st x) a) b))
+    ap (λ (t : List ℕ). octet_text st x ++ t) (text_from-append (next st x) a b)
+    ∙ sym (append_assoc (octet_text st x) (text_from (next st x) a)
+    (text_from (after (next st x) a) b))
 
 -- ---- the course
 
@@ -157,7 +158,7 @@ ends_late turns more st now a b c x y z piece f book early r none p q = record {
 pub ends_whole : (turns more : ℕ) (st now new : State) (a b c x y z : Option (List ℕ))
     (piece text : List ℕ) (fault : Option TextFault) → Running turns more st now a b x y
     → piece ≡ [] → Consumes b c piece → text ≡ last_text now → Appends y z text
-    → fault ≡ last_fault now → new ≡ ended now → IsAtEnd c
+    → fault ≡ last_fault now → new ≡ end_input now → IsAtEnd c
     → Replayed turns st a c x z (as_fault fault) (Some new.answerer.book)
 ends_whole turns more st now new a b c x y z piece text fault r none p told q why state done =
     let last : text ≡ last_text (after st r.read) = told ∙ ap last_text r.leads in
@@ -171,7 +172,7 @@ ends_whole turns more st now new a b c x y z piece text fault r none p told q wh
       front = AppendsFront-whole x z (text_of st r.read) written;
       whole = λ late. written;
       exact = λ late. ap as_fault (why ∙ ap last_fault r.leads);
-      rows = λ late. ap (λ (s : State). Some s.answerer.book) (state ∙ ap ended r.leads);
+      rows = λ late. ap (λ (s : State). Some s.answerer.book) (state ∙ ap end_input r.leads);
       there = λ late. inr done;
     }
 
@@ -180,7 +181,7 @@ ends_whole turns more st now new a b c x y z piece text fault r none p told q wh
 pub stopped_says : (st : State) (f : TextFault) → st.stop ≡ Some f → last_text st ≡ []
 stopped_says st f e = ap (λ (s : Option TextFault). last_says s st) e
 
-pub stopped_ended : (st : State) (f : TextFault) → st.stop ≡ Some f → ended st ≡ st
+pub stopped_ended : (st : State) (f : TextFault) → st.stop ≡ Some f → end_input st ≡ st
 stopped_ended st f e = ap (λ (s : Option TextFault). ends s st) e
 
 pub stopped_fault : (st : State) (f : TextFault) → st.stop ≡ Some f → last_fault st ≡ Some f

@@ -2,7 +2,7 @@
 use Rattle.std.proofs.Common.{◌≡◌, ◌≢◌, ℕ, zero, suc, ◌<◌, ◌≤◌, List, [], ◌∷◌, length, take}
 use Rattle.std.proofs.Common.{drop, refl, sym, ap, ◌∙◌, arith, true, false, get_or}
 use Rattle.forecourt_engines.specs.LineWords.{BeginsNoSpace, begun_by, is_comment}
-use Rattle.forecourt_engines.specs.LineWords.{is_space, lengthened}
+use Rattle.forecourt_engines.specs.LineWords.{is_space, lengthen_first}
 use Rattle.forecourt_engines.specs.LineWords.{words_in}
 
 -- the first octets are spaces
@@ -40,7 +40,7 @@ first_word (suc n) (x ∷ y ∷ text) few none ends =
     first_word n (y ∷ text) (omega arith) (λ k low. none (suc k) (omega arith))
     (λ more. ends (omega arith)) in
     let begun : words_in (y ∷ text) ≡ begun_by y text (words_in text) = rw next refl in
-    rw (first, next) (ap (lengthened x) (sym begun ∙ rest))
+    rw (first, next) (ap (lengthen_first x) (sym begun ∙ rest))
 
 -- nothing but spaces has no word
 pub all_skipped : (text : List ℕ) → AreSpaces (length text) text → [] ≡ words_in text
@@ -69,7 +69,7 @@ all_word (x ∷ y ∷ text) some none =
     let next : is_space y ≡ false = none 1 (omega arith) in
     let rest = all_word (y ∷ text) (λ e. cc) (λ k low. none (suc k) (omega arith)) in
     let begun : words_in (y ∷ text) ≡ begun_by y text (words_in text) = rw next refl in
-    rw (first, next) (ap (lengthened x) (sym begun ∙ rest))
+    rw (first, next) (ap (lengthen_first x) (sym begun ∙ rest))
 
 -- spaces in front make no comment, and take none away
 pub comment_skipped : (n : ℕ) (text : List ℕ) → n ≤ length text → AreSpaces n text

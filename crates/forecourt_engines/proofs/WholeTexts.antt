@@ -7,7 +7,8 @@ use Rattle.hex.specs.Hex.{decode_of}
 use Rattle.hex.specs.declared.error.FromHexError.{FromHexError}
 use Rattle.app_message.specs.declared.fault.StreamFault.{StreamFault}
 use Rattle.app_message.specs.Telegram.{Telegram}
-use Rattle.app_message.specs.Stream.{Stream, Held, walk, walked, held, held_after, stream_of}
+use Rattle.app_message.specs.Stream.{Stream, Held, walk, with_messages, held_part, held_after}
+use Rattle.app_message.specs.Stream.{stream_of}
 use Rattle.app_message.specs.Stream.{fed_by, fed_from}
 use Rattle.app_message.proofs.Cutting.{any_cut}
 use Rattle.forecourt_engines.specs.declared.fault.TextFault.{TextFault}
@@ -18,10 +19,12 @@ use Rattle.forecourt_engines.specs.Answers.{after_messages}
 use Rattle.forecourt_engines.specs.Text.{State, Effect, start, kept_of, is_skipped, effect}
 use Rattle.forecourt_engines.specs.Text.{octets_effect, stream_effect, stop_of, fault_text}
 use Rattle.forecourt_engines.specs.Text.{line_effect, next_number}
-use Rattle.forecourt_engines.specs.Text.{next_line, next, said, after, text_from, ended, last_text}
+use Rattle.forecourt_engines.specs.Text.{next_line, next, octet_text, after, text_from, end_input}
+use Rattle.forecourt_engines.specs.Text.{last_text}
 use Rattle.forecourt_engines.specs.Text.{left_over, fault_at_end, last_fault, text_of, fault_of}
 use Rattle.forecourt_engines.specs.Text.{book_of}
-use Rattle.forecourt_engines.specs.WholeText.{lines_from, octets_in, Spoken, spoken, spoken_then}
+use Rattle.forecourt_engines.specs.WholeText.{lines_from, octets_in, Spoken, speak_lines}
+use Rattle.forecourt_engines.specs.WholeText.{spoken_then}
 use Rattle.forecourt_engines.specs.WholeText.{end_of, IsOneStreamOfLines}
 use Rattle.forecourt_engines.proofs.Lines.{nothing_follows, goes_on}
 use Rattle.forecourt_engines.proofs.Running.{stopped_says, stopped_ended, stopped_fault}
@@ -92,7 +95,7 @@ data Outcome (b : Answerer) (a : List ℕ) (number : ℕ) (line : List ℕ) (t :
 -- octets that bring this stream
 fed : (b : Answerer) (a : List ℕ) (number : ℕ) (line octets : List ℕ) (s : Stream)
     (f : Option StreamFault) → s.fault ≡ f → octets_in number line ≡ Ok octets
-    → stream_of (a ++ octets) ≡ walked (stream_of a).messages s
+    → stream_of (a ++ octets) ≡ with_messages (stream_of a).messages s
     → Outcome b a number line (stream_effect (after_messages b (stream_of a).messages) s)
 fed b a number line octets s f is speaks cut =
     let before = after_messages b (stream_of a).messages in
@@ -117,7 +120,7 @@ fed b a number line octets s f is speaks cut =
     by_fault None none told answerer = goes octets (record {
       speaks = speaks;
       quiet = ap (λ (t : Stream). t.fault) cut ∙ none;
-      stream = sym (ap held cut);
+      stream = sym (ap held_part cut);
       answerer = answerer;
       stop = ap stop_of none;
       text =
@@ -196,13 +199,13 @@ record IsRest (b : Answerer) (a : List ℕ) (st : State) (input : List ℕ) (lin
         ≡ answers_to b (total a lines).messages ++ fault_text (total a lines).fault
     fault : last_fault (after st input)
         ≡ end_of (total a lines).fault lines.bad (total a lines).rest
-    answerer : (ended (after st input)).answerer ≡ after_messages b (total a lines).messages
+    answerer : (end_input (after st input)).answerer ≡ after_messages b (total a lines).messages
 
 -- a state in which the text has ended, whatever follows
 record IsOver (st : State) (input : List ℕ) (e : TextFault) : Type 0 where
   silent : text_from st input ++ last_text (after st input) ≡ []
   fault : last_fault (after st input) ≡ Some e
-  answerer : (ended (after st input)).answerer ≡ st.answerer
+  answerer : (end_input (after st input)).answerer ≡ st.answerer
 
 over : (st : State) (input : List ℕ) (e : TextFault) → st.stop ≡ Some e → IsOver st input e
 over st input e stop =
@@ -213,7 +216,7 @@ over st input e stop =
           ∙ ap last_text stays.0
           ∙ stopped_says st e stop;
       fault = ap last_fault stays.0 ∙ stopped_fault st e stop;
-      answerer = ap (λ (s : State). (ended s).answerer) stays.0
+      answerer = ap (λ (s : State). (end_input s).answerer) stays.0
           ∙ ap (λ (s : State). s.answerer) (stopped_ended st e stop);
     }
 
@@ -282,7 +285,7 @@ goes_rest b a number line bs octets rest g on =
           ∙ ap (λ (s : Stream). answers_to b s.messages ++ fault_text s.fault) joined;
       fault = ap (λ (s : State). last_fault (after s bs)) same ∙ on.fault
           ∙ ap (λ (s : Stream). end_of s.fault rest.bad s.rest) joined;
-      answerer = ap (λ (s : State). (ended (after s bs)).answerer) same ∙ on.answerer
+      answerer = ap (λ (s : State). (end_input (after s bs)).answerer) same ∙ on.answerer
           ∙ ap (λ (s : Stream). after_messages b s.messages) joined;
     }
 
@@ -293,7 +296,7 @@ broken : (a octets more : List ℕ) (f : StreamFault) → (stream_of (a ++ octet
 broken a octets more f is =
     ap stream_of (sym (append_assoc a octets more))
     ∙ any_cut (a ++ octets) more
-    ∙ ap (λ (g : Option StreamFault). walked (stream_of (a ++ octets)).messages
+    ∙ ap (λ (g : Option StreamFault). with_messages (stream_of (a ++ octets)).messages
     (fed_from g ((stream_of (a ++ octets)).rest ++ more))) is
     ∙ ap (λ (ms : List Telegram). record { messages = ms; rest = []; fault = Some f })
     (append-nil (stream_of (a ++ octets)).messages)
@@ -345,25 +348,29 @@ line_rest : (b : Answerer) (a : List ℕ) (number : ℕ) (line bs : List ℕ) �
     → length line ≤ LINE_OCTETS
     → ((c : List ℕ) → (stream_of c).fault ≡ None
     → IsRest b c (in_line b c (next_number number) []) bs
-    (spoken (next_number number) (lines_from [] bs)))
-    → IsRest b a (in_line b a number line) (10 ∷ bs) (spoken number (line ∷ lines_from [] bs))
+    (speak_lines (next_number number) (lines_from [] bs)))
+    → IsRest b a (in_line b a number line) (10 ∷ bs) (speak_lines number (line ∷ lines_from [] bs))
 line_rest b a number line bs quiet short on = by_outcome (outcome b a number line quiet short)
   where
     as_spoken : (r : Result (List ℕ) TextFault) → octets_in number line ≡ r
         → IsRest b a (in_line b a number line) (10 ∷ bs)
-        (spoken_then r (spoken (next_number number) (lines_from [] bs)))
-        → IsRest b a (in_line b a number line) (10 ∷ bs) (spoken number (line ∷ lines_from [] bs))
-    as_spoken r speaks said =
+        (spoken_then r (speak_lines (next_number number) (lines_from [] bs)))
+        → IsRest b a (in_line b a number line) (10 ∷ bs)
+        (speak_lines number (line ∷ lines_from [] bs))
+    as_spoken r speaks says =
         subst (λ (x : Result (List ℕ) TextFault). IsRest b a (in_line b a number line) (10 ∷ bs)
-        (spoken_then x (spoken (next_number number) (lines_from [] bs)))) (sym speaks) said
+        (spoken_then x (speak_lines (next_number number) (lines_from [] bs)))) (sym speaks)
+        says
 
     by_outcome : Outcome b a number line (line_effect (in_line b a number line))
-        → IsRest b a (in_line b a number line) (10 ∷ bs) (spoken number (line ∷ lines_from [] bs))
+        → IsRest b a (in_line b a number line) (10 ∷ bs)
+        (speak_lines number (line ∷ lines_from [] bs))
     by_outcome (goes octets g) = as_spoken (Ok octets) g.speaks
-        (goes_rest b a number line bs octets (spoken (next_number number) (lines_from [] bs)) g
+        (goes_rest b a number line bs octets (speak_lines (next_number number) (lines_from [] bs)) g
         (on (a ++ octets) g.quiet))
     by_outcome (breaks octets f g) = as_spoken (Ok octets) g.speaks
-        (breaks_rest b a number line bs octets f (spoken (next_number number) (lines_from [] bs)) g)
+        (breaks_rest b a number line bs octets f
+        (speak_lines (next_number number) (lines_from [] bs)) g)
     by_outcome (is_bad e g) = as_spoken (Err e) g.speaks (is_bad_rest b a number line bs e quiet g)
 
 -- ---- the end of the input
@@ -371,9 +378,9 @@ line_rest b a number line bs quiet short on = by_outcome (outcome b a number lin
 -- an empty line says nothing
 empty_says : (number : ℕ) (stream : Held) (answerer : Answerer) (stop : Option TextFault)
     → (last_text (in_empty number stream answerer stop) ≡ [])
-    × ((ended (in_empty number stream answerer stop)).answerer ≡ answerer)
-    × ((ended (in_empty number stream answerer stop)).stop ≡ stop)
-    × ((ended (in_empty number stream answerer stop)).stream ≡ stream)
+    × ((end_input (in_empty number stream answerer stop)).answerer ≡ answerer)
+    × ((end_input (in_empty number stream answerer stop)).stop ≡ stop)
+    × ((end_input (in_empty number stream answerer stop)).stream ≡ stream)
 empty_says number stream answerer None = (refl, refl, refl, refl)
 empty_says number stream answerer (Some e) = (refl, refl, refl, refl)
 
@@ -393,7 +400,7 @@ last_rest b a number line lines on =
           ∙ on.text;
       fault =
           ap (λ (f : Option TextFault). fault_at_end f then) (sym empty.2)
-          ∙ same_end (ended then).stop then (ended then) (sym empty.3)
+          ∙ same_end (end_input then).stop then (end_input then) (sym empty.3)
           ∙ on.fault;
       answerer = sym empty.1 ∙ on.answerer;
     }
@@ -406,7 +413,7 @@ last_rest b a number line lines on =
 -- ---- a line that is too long
 
 long_line : (line : List ℕ) (input : List ℕ) (number : ℕ) → LINE_OCTETS < length line
-    → spoken number (lines_from line input)
+    → speak_lines number (lines_from line input)
     ≡ record { octets = []; bad = Some (faults.TooLong number) }
 long_line [] [] number long = absurd (omega arith)
 long_line (x ∷ line) [] number long = rw (lt-ltb LINE_OCTETS (length (x ∷ line)) long) refl
@@ -414,9 +421,9 @@ long_line line (b ∷ bs) number long =
     by_test (long_line (line ++ b ∷ []) bs number
     (omega (arith, long, length-append line (b ∷ [])))) (eqb b 10) refl
   where
-    by_test : spoken number (lines_from (line ++ b ∷ []) bs)
+    by_test : speak_lines number (lines_from (line ++ b ∷ []) bs)
         ≡ record { octets = []; bad = Some (faults.TooLong number) }
-        → (is : Bool) → eqb b 10 ≡ is → spoken number (lines_from line (b ∷ bs))
+        → (is : Bool) → eqb b 10 ≡ is → speak_lines number (lines_from line (b ∷ bs))
         ≡ record { octets = []; bad = Some (faults.TooLong number) }
     by_test more true feed = rw (feed, lt-ltb LINE_OCTETS (length line) long) refl
     by_test more false other = rw other more
@@ -441,10 +448,10 @@ nothing_left b a number quiet =
 -- the text from inside a line on
 rest_of : (b : Answerer) (a : List ℕ) (number : ℕ) (line input : List ℕ)
     → (stream_of a).fault ≡ None → length line ≤ LINE_OCTETS
-    → IsRest b a (in_line b a number line) input (spoken number (lines_from line input))
+    → IsRest b a (in_line b a number line) input (speak_lines number (lines_from line input))
 rest_of b a number [] [] quiet short = nothing_left b a number quiet
 rest_of b a number (x ∷ line) [] quiet short =
-    last_rest b a number (x ∷ line) (spoken number ((x ∷ line) ∷ []))
+    last_rest b a number (x ∷ line) (speak_lines number ((x ∷ line) ∷ []))
     (line_rest b a number (x ∷ line) [] quiet short
     (λ c still. nothing_left b c (next_number number) still))
 rest_of b a number line (o ∷ bs) quiet short = by_feed (eqb o 10) refl
@@ -454,11 +461,12 @@ rest_of b a number line (o ∷ bs) quiet short = by_feed (eqb o 10) refl
     by_feed : (is : Bool) → eqb o 10 ≡ is
         → ((c : List ℕ) → (stream_of c).fault ≡ None
         → IsRest b c (in_line b c (next_number number) []) bs
-        (spoken (next_number number) (lines_from [] bs)))
+        (speak_lines (next_number number) (lines_from [] bs)))
         → (length (line ++ o ∷ []) ≤ LINE_OCTETS
         → IsRest b a (in_line b a number (line ++ o ∷ [])) bs
-        (spoken number (lines_from (line ++ o ∷ []) bs)))
-        → IsRest b a (in_line b a number line) (o ∷ bs) (spoken number (lines_from line (o ∷ bs)))
+        (speak_lines number (lines_from (line ++ o ∷ []) bs)))
+        → IsRest b a (in_line b a number line) (o ∷ bs)
+        (speak_lines number (lines_from line (o ∷ bs)))
     by_feed true feed later more =
         let is : o ≡ 10 = grind (arith, nat_tests) in
         rw is (line_rest b a number line bs quiet short later)
@@ -476,16 +484,16 @@ rest_of b a number line (o ∷ bs) quiet short = by_feed (eqb o 10) refl
                 ++ (text_from s bs ++ last_text (after s bs))) on.0
                 ∙ rest.text;
             fault = ap (λ (s : State). last_fault (after s bs)) on.0 ∙ rest.fault;
-            answerer = ap (λ (s : State). (ended (after s bs)).answerer) on.0 ∙ rest.answerer;
+            answerer = ap (λ (s : State). (end_input (after s bs)).answerer) on.0 ∙ rest.answerer;
           }))
       | inr full ↦ (
           let stops : next (in_line b a number line) o
           ≡ record (in_line b a number line) { stop = Some (faults.TooLong number) } =
           rw (other, le-leb _ _ full) refl in
-          let says_nothing : said (in_line b a number line) o ≡ [] = rw other refl in
-          let over_long : spoken number (lines_from line (o ∷ bs))
+          let says_nothing : octet_text (in_line b a number line) o ≡ [] = rw other refl in
+          let over_long : speak_lines number (lines_from line (o ∷ bs))
           ≡ record { octets = []; bad = Some (faults.TooLong number) } =
-          ap (λ (t : Bool). spoken number
+          ap (λ (t : Bool). speak_lines number
           (cond t (line ∷ lines_from [] bs) (lines_from (line ++ o ∷ []) bs))) other
           ∙ long_line (line ++ o ∷ []) bs number
           (omega (arith, full, length-append line (o ∷ []))) in
@@ -501,7 +509,7 @@ rest_of b a number line (o ∷ bs) quiet short = by_feed (eqb o 10) refl
                 ++ (text_from s bs ++ last_text (after s bs))) stops
                 ∙ rest.text;
             fault = ap (λ (s : State). last_fault (after s bs)) stops ∙ rest.fault;
-            answerer = ap (λ (s : State). (ended (after s bs)).answerer) stops ∙ rest.answerer;
+            answerer = ap (λ (s : State). (end_input (after s bs)).answerer) stops ∙ rest.answerer;
           }))
     ]
 

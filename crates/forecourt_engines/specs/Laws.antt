@@ -7,12 +7,13 @@ use Rattle.forecourt_engines.specs.declared.fault.TextFault.{TextFault}
 use Rattle.forecourt_engines.specs.declared.fault.TextFault.TheVariants.{TooLong}
 use Rattle.forecourt_engines.specs.declared.line.TheConstants.{LINE_OCTETS}
 use Rattle.forecourt_engines.specs.Answers.{Answerer}
-use Rattle.forecourt_engines.specs.Text.{State, kept_of, effect, next_line, after, text_from, ended}
+use Rattle.forecourt_engines.specs.Text.{State, kept_of, effect, next_line, after, text_from}
+use Rattle.forecourt_engines.specs.Text.{end_input}
 use Rattle.forecourt_engines.specs.Text.{last_text}
 
 -- between two lines: no line is begun, and the text goes on
-abbrev pub between : ℕ → Held → Answerer → State
-between number stream answerer =
+abbrev pub between_lines : ℕ → Held → Answerer → State
+between_lines number stream answerer =
     record { line = []; number = number; stream = stream; answerer = answerer; stop = None }
 
 -- octets without a line feed
@@ -23,28 +24,30 @@ IsLine line = list_all (λ b. not (b == 10)) line ≡ true
 abbrev pub LineSays : Type 0
 LineSays = (number : ℕ) (stream : Held) (answerer : Answerer) (line : List ℕ) → IsLine line
     → length line ≤ LINE_OCTETS
-    → (after (between number stream answerer) (line ++ 10 ∷ [])
-    ≡ next_line (between number stream answerer) (effect number stream answerer (kept_of line)))
-    × (text_from (between number stream answerer) (line ++ 10 ∷ [])
+    → (after (between_lines number stream answerer) (line ++ 10 ∷ [])
+    ≡ next_line (between_lines number stream answerer)
+    (effect number stream answerer (kept_of line)))
+    × (text_from (between_lines number stream answerer) (line ++ 10 ∷ [])
     ≡ (effect number stream answerer (kept_of line)).text)
 
 -- so does a last line that has no line feed
 abbrev pub LastLineSays : Type 0
 LastLineSays = (number : ℕ) (stream : Held) (answerer : Answerer) (line : List ℕ) → IsLine line
     → length line ≤ LINE_OCTETS
-    → (ended (after (between number stream answerer) line)
-    ≡ next_line (between number stream answerer) (effect number stream answerer (kept_of line)))
-    × (text_from (between number stream answerer) line
-    ++ last_text (after (between number stream answerer) line)
+    → (end_input (after (between_lines number stream answerer) line)
+    ≡ next_line (between_lines number stream answerer)
+    (effect number stream answerer (kept_of line)))
+    × (text_from (between_lines number stream answerer) line
+    ++ last_text (after (between_lines number stream answerer) line)
     ≡ (effect number stream answerer (kept_of line)).text)
 
 -- a line that is too long ends the text, says nothing and makes no row
 abbrev pub LongLineSays : Type 0
 LongLineSays = (number : ℕ) (stream : Held) (answerer : Answerer) (line : List ℕ) → IsLine line
     → LINE_OCTETS < length line
-    → ((after (between number stream answerer) line).stop ≡ Some (TooLong number))
-    × ((after (between number stream answerer) line).answerer ≡ answerer)
-    × (text_from (between number stream answerer) line ≡ [])
+    → ((after (between_lines number stream answerer) line).stop ≡ Some (TooLong number))
+    × ((after (between_lines number stream answerer) line).answerer ≡ answerer)
+    × (text_from (between_lines number stream answerer) line ≡ [])
 
 -- once the text has ended nothing is said, whatever follows
 abbrev pub NothingFollows : Type 0

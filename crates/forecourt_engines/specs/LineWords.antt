@@ -7,15 +7,15 @@ abbrev pub is_space : ℕ → Bool
 is_space octet = octet == 32 || octet == 9 || octet == 13
 
 -- words, with an octet more in front of the first
-abbrev pub lengthened : ℕ → List (List ℕ) → List (List ℕ)
-lengthened octet [] = (octet ∷ []) ∷ []
-lengthened octet (w ∷ ws) = (octet ∷ w) ∷ ws
+abbrev pub lengthen_first : ℕ → List (List ℕ) → List (List ℕ)
+lengthen_first octet [] = (octet ∷ []) ∷ []
+lengthen_first octet (w ∷ ws) = (octet ∷ w) ∷ ws
 
 -- the words of a text that goes on with this octet, where the rest has these words
 abbrev pub begun_by : ℕ → List ℕ → List (List ℕ) → List (List ℕ)
 begun_by octet [] words = (octet ∷ []) ∷ []
 begun_by octet (next ∷ rest) words =
-    if is_space next then (octet ∷ []) ∷ words else lengthened octet words
+    if is_space next then (octet ∷ []) ∷ words else lengthen_first octet words
 
 -- the words of a text: what stands between spaces
 abbrev pub words_in : List ℕ → List (List ℕ)

@@ -6,7 +6,7 @@ use Rattle.std.specs.Io.BufRead.{strip_last}
 use Rattle.hex.specs.Hex.{decode_of}
 use Rattle.hex.specs.declared.error.FromHexError.{FromHexError}
 use Rattle.app_message.specs.declared.fault.StreamFault.{StreamFault}
-use Rattle.app_message.specs.Stream.{Stream, Held, held, held_after, fed_by}
+use Rattle.app_message.specs.Stream.{Stream, Held, held_part, held_after, fed_by}
 use Rattle.device_map.specs.Replies.{fault_message}
 use Rattle.forecourt_engines.specs.declared.fault.TextFault.{TextFault}
 use Rattle.forecourt_engines.specs.declared.fault.TextFault.TheVariants as faults
@@ -60,7 +60,7 @@ fault_text (Some f) = line_of (fault_message f)
 -- what a piece of the stream leads to: its messages are answered in order, and then its fault
 abbrev pub stream_effect : Answerer → Stream → Effect
 stream_effect b s = record {
-  stream = held s;
+  stream = held_part s;
   answerer = after_messages b s.messages;
   stop = stop_of s.fault;
   text = answers_to b s.messages ++ fault_text s.fault;
@@ -122,8 +122,8 @@ says (Some f) st b = []
 says None st b = if b == 10 then (line_effect st).text else []
 
 -- the text that an octet adds
-abbrev pub said : State → ℕ → List ℕ
-said st b = says st.stop st b
+abbrev pub octet_text : State → ℕ → List ℕ
+octet_text st b = says st.stop st b
 
 -- ---- what an input says
 
@@ -135,15 +135,15 @@ after st (b ∷ bs) = after (next st b) bs
 -- the text that octets add
 abbrev pub text_from : State → List ℕ → List ℕ
 text_from st [] = []
-text_from st (b ∷ bs) = said st b ++ text_from (next st b) bs
+text_from st (b ∷ bs) = octet_text st b ++ text_from (next st b) bs
 
 -- the end of the input ends a line that has no line feed
 abbrev pub ends : Option TextFault → State → State
 ends (Some f) st = st
 ends None st = next_line st (line_effect st)
 
-abbrev pub ended : State → State
-ended st = ends st.stop st
+abbrev pub end_input : State → State
+end_input st = ends st.stop st
 
 abbrev pub last_says : Option TextFault → State → List ℕ
 last_says (Some f) st = []
@@ -162,7 +162,7 @@ fault_at_end (Some f) st = Some f
 fault_at_end None st = left_over st.stream.rest
 
 abbrev pub last_fault : State → Option TextFault
-last_fault st = fault_at_end (ended st).stop (ended st)
+last_fault st = fault_at_end (end_input st).stop (end_input st)
 
 -- the whole text of an input
 abbrev pub text_of : State → List ℕ → List ℕ
@@ -174,4 +174,4 @@ fault_of st input = last_fault (after st input)
 
 -- the book that it leads to
 abbrev pub book_of : State → List ℕ → Book
-book_of st input = (ended (after st input)).answerer.book
+book_of st input = (end_input (after st input)).answerer.book

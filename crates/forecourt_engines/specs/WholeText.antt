@@ -49,10 +49,10 @@ spoken_then (Ok octets) rest = record { octets = octets ++ rest.octets; bad = re
 spoken_then (Err f) rest = record { octets = []; bad = Some f }
 
 -- what lines speak, of which the first has this number
-abbrev pub spoken : ℕ → List (List ℕ) → Spoken
-spoken number [] = record { octets = []; bad = None }
-spoken number (line ∷ lines) =
-    spoken_then (octets_in number line) (spoken (next_number number) lines)
+abbrev pub speak_lines : ℕ → List (List ℕ) → Spoken
+speak_lines number [] = record { octets = []; bad = None }
+speak_lines number (line ∷ lines) =
+    spoken_then (octets_in number line) (speak_lines (next_number number) lines)
 
 -- why a text ends: the stream's fault, else the bad line, else octets of a message that doesn't
 -- come
@@ -72,4 +72,5 @@ pub record IsWhole (b : Answerer) (input : List ℕ) (lines : Spoken) (stream : 
 -- stream's fault, if it has one
 abbrev pub IsOneStreamOfLines : Type 0
 IsOneStreamOfLines = (b : Answerer) (input : List ℕ)
-    → IsWhole b input (spoken 1 (lines_of input)) (stream_of (spoken 1 (lines_of input)).octets)
+    → IsWhole b input (speak_lines 1 (lines_of input))
+    (stream_of (speak_lines 1 (lines_of input)).octets)

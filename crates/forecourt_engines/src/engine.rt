@@ -1,7 +1,7 @@
 //! The engine of a replay: octets in, text out.
 
 ghost use Rattle.std.specs.Prelude.{◌≡◌, [], ◌∷◌, ◌++◌, None, IfOk, OnOk};
-ghost use Rattle.forecourt_engines.specs.Text.{start, after, text_from, ended, last_text};
+ghost use Rattle.forecourt_engines.specs.Text.{start, after, text_from, end_input, last_text};
 ghost use Rattle.forecourt_engines.specs.Text.{last_fault};
 ghost use Rattle.forecourt_engines.specs.Text.{kept_of, effect, effect_in};
 ghost use Rattle.forecourt_engines.specs.Text.{line_effect, next_line, with_effect};
@@ -98,7 +98,7 @@ impl Engine {
     /// ends.
     pub fn finish(&mut self, out: &mut Vec<u8>) -> Result<Option<TextFault>, NoMemory>
         ensures fault { IfOk result (λ fault. fault ≡ last_fault self.old) }
-        ensures state { OnOk result (self.new ≡ ended self.old) }
+        ensures state { OnOk result (self.new ≡ end_input self.old) }
         ensures text { OnOk result (out.new.items ≡ out.old.items ++ last_text self.old) }
     {
         if self.stop.is_none() {

@@ -15,7 +15,7 @@ pub fn is_word(text: &[u8], word: &[u8]) -> bool
 }
 
 /// The rest of a text that begins with this word.
-pub fn behind<'a>(word: &[u8], text: &'a [u8]) -> Option<&'a [u8]>
+pub fn strip_word<'a>(word: &[u8], text: &'a [u8]) -> Option<&'a [u8]>
     ensures found { IfSome result (λ rest. text.now ≡ word.now ++ rest.now) }
     ensures other { IfNone result ((rest : List ℕ) → text.now ≢ word.now ++ rest) }
 {
@@ -65,7 +65,7 @@ pub fn number_behind(word: &[u8], text: &[u8], least: u64, most: u64) -> Option<
     ensures other { IfNone result ((n : ℕ) → least ≤ n → n ≤ most
         → text.now ≢ word.now ++ decimal n) }
 {
-    let Some(digits) = behind(word, text) else {
+    let Some(digits) = strip_word(word, text) else {
         return None;
     };
     let Some(n) = number_of(digits, most) else {

@@ -1,7 +1,7 @@
 //! A trace: lines of messages, to be explained.
 
 ghost use Rattle.std.specs.Prelude.{◌≡◌, ◌≤◌, ◌<◌, [], length, Some, None, IfOk, OnOk};
-ghost use Rattle.app_message.specs.Stream.{fed_by, held, held_after};
+ghost use Rattle.app_message.specs.Stream.{fed_by, held_part, held_after};
 ghost use Rattle.forecourt_engines.specs.Answers.{Answerer};
 ghost use Rattle.forecourt_engines.specs.Meanings.{messages_in};
 ghost use Rattle.forecourt_engines.specs.Text.{effect, kept_of, left_over, next_number, stop_of};
@@ -88,7 +88,7 @@ impl Trace {
         ensures stop { IfOk result (λ told. told.stop
             ≡ stop_of (fed_by self.old.stream octets.now).fault) }
         ensures stream { OnOk result (self.new.stream
-            ≡ held (fed_by self.old.stream octets.now)) }
+            ≡ held_part (fed_by self.old.stream octets.now)) }
     {
         let Fed { messages, fault } = self.decoder.feed(octets)?;
         match fault {

@@ -3,7 +3,7 @@ pub mod Whole
 pub mod Hands
 pub mod Growths
 pub mod Starts
-pub mod Lifted
+pub mod Lifts
 pub mod Suspension
 pub mod TestDraws
-pub mod Worked
+pub mod WorkedPoints

@@ -7,7 +7,7 @@ use Rattle.fuelling_point.specs.declared.event.PointEvent.{PointEvent}
 use Rattle.site_base.specs.declared.state.PointState.TheVariants.{Closed}
 use Rattle.std.proofs.lemmas.Bool.{false≢true}
 use Rattle.fuelling_point.specs.declared.step.PointStep.TheVariants.{Sold, Drawn}
-use Rattle.fuelling_point.specs.KeptPoints.{Facts, fresh, is_under_way, growth_of}
+use Rattle.fuelling_point.specs.KeptPoints.{Facts, empty_point, is_under_way, growth_of}
 use Rattle.fuelling_point.specs.History.{Moment, history, facts_at_end, facts_after, reply_to}
 use Rattle.fuelling_point.specs.History.{moments_of, point_after}
 use Rattle.fuelling_point.specs.Laws.{ends, flowed_in, reply_at, HasStarted, IsSoldAsStarted}
@@ -91,7 +91,7 @@ stands f (e ∷ es) is = elim (stands (facts_after e f) es is) [
 pub started : (events : List PointEvent) → is_under_way (point_after events).state ≡ true
     → HasStarted (moments_of events) (point_after events).price (point_after events).start
     (point_after events).volume
-started events is = elim (stands (fresh Closed) events is)
+started events is = elim (stands (empty_point Closed) events is)
     [ inl on ↦ absurd (false≢true on.under_way) | inr s ↦ s ]
 
 -- what is sold is the fuelling that stood under way

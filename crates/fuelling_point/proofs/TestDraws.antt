@@ -7,7 +7,7 @@ use Rattle.std.proofs.lemmas.Grind.{common_steps}
 use Rattle.site_base.specs.declared.state.PointState.TheVariants.{Closed}
 use Rattle.fuelling_point.specs.declared.event.PointEvent.{PointEvent}
 use Rattle.fuelling_point.specs.declared.step.PointStep.TheVariants.{Sold, Drawn}
-use Rattle.fuelling_point.specs.KeptPoints.{Facts, fresh}
+use Rattle.fuelling_point.specs.KeptPoints.{Facts, empty_point}
 use Rattle.fuelling_point.specs.Whole.{IsWhole}
 use Rattle.fuelling_point.specs.History.{Moment, history, facts_at_end, facts_after, reply_to}
 use Rattle.fuelling_point.specs.History.{moments_of, point_after}
@@ -76,7 +76,7 @@ stands f (e ∷ es) is = elim (stands (facts_after e f) es is) [
 -- a new point is no test, so one that is a test has had its test release
 has_release : (events : List PointEvent) → (point_after events).test ≡ true
     → HasTestRelease (moments_of events)
-has_release events is = elim (stands (fresh Closed) events is)
+has_release events is = elim (stands (empty_point Closed) events is)
     [ inl on ↦ absurd (false≢true on.is) | inr s ↦ s ]
 
 marked_by : (e : PointEvent) (f : Facts)
@@ -121,7 +121,8 @@ pub tests_are_drawn : AreTestsDrawn
 tests_are_drawn = record {
   released = λ events. (
     has_release events,
-    λ r. is_test (fresh Closed) events r.before r.since r.release stays_whole.begins r.parts r.taken
+    λ r. is_test (empty_point Closed) events r.before r.since r.release stays_whole.begins r.parts
+        r.taken
         r.goes_on,
   );
   unlimited = λ events is.

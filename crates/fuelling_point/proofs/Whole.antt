@@ -3,14 +3,14 @@ use Rattle.std.proofs.Common.{◌≡◌, ℕ, ◌≤◌, List, [], ◌∷◌, So
 use Rattle.std.proofs.lemmas.Grind.{common_steps}
 use Rattle.site_base.specs.declared.state.PointState.TheVariants.{Closed}
 use Rattle.fuelling_point.specs.declared.event.PointEvent.{PointEvent}
-use Rattle.fuelling_point.specs.KeptPoints.{Facts, fresh}
+use Rattle.fuelling_point.specs.KeptPoints.{Facts, empty_point}
 use Rattle.fuelling_point.specs.Whole.{IsWhole}
 use Rattle.fuelling_point.specs.PointChecks.{refusal_of}
 use Rattle.fuelling_point.specs.Step.{after}
 use Rattle.fuelling_point.specs.History.{reply_to, facts_after, facts_at_end, point_after}
 use Rattle.fuelling_point.specs.Laws.{delivered_by, StaysWhole, IsConserved, IsNeverNothing}
 
-begins : IsWhole (fresh Closed)
+begins : IsWhole (empty_point Closed)
 begins = record {
   nozzle = refl;
   nothing = λ state. refl;
@@ -67,7 +67,7 @@ whole_at_end f [] w = w
 whole_at_end f (e ∷ es) w = whole_at_end (facts_after e f) es (keeps e f w)
 
 pub whole_after : (events : List PointEvent) → IsWhole (point_after events)
-whole_after events = whole_at_end (fresh Closed) events begins
+whole_after events = whole_at_end (empty_point Closed) events begins
 
 pub conserved : IsConserved
 conserved event f w taken still =

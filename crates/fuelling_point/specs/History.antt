@@ -5,7 +5,7 @@ use Rattle.site_base.specs.Checks.{reply_or, value_or}
 use Rattle.site_base.specs.declared.state.PointState.TheVariants.{Closed}
 use Rattle.fuelling_point.specs.declared.event.PointEvent.{PointEvent}
 use Rattle.fuelling_point.specs.declared.step.PointStep.{PointStep}
-use Rattle.fuelling_point.specs.KeptPoints.{Facts, fresh}
+use Rattle.fuelling_point.specs.KeptPoints.{Facts, empty_point}
 use Rattle.fuelling_point.specs.PointChecks.{refusal_of}
 use Rattle.fuelling_point.specs.Step.{step_of, after}
 
@@ -34,8 +34,8 @@ facts_at_end f (event ∷ events) = facts_at_end (facts_after event f) events
 
 -- the moments of a new point that has had these events
 abbrev pub moments_of : List PointEvent → List Moment
-moments_of events = history (fresh Closed) events
+moments_of events = history (empty_point Closed) events
 
 -- what a new point keeps after these events
 abbrev pub point_after : List PointEvent → Facts
-point_after events = facts_at_end (fresh Closed) events
+point_after events = facts_at_end (empty_point Closed) events

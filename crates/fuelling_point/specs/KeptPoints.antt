@@ -28,8 +28,8 @@ pub record Facts : Type 0 where
   pub volume : ℕ
 
 -- a point in this state that keeps nothing
-abbrev pub fresh : PointState → Facts
-fresh s = record {
+abbrev pub empty_point : PointState → Facts
+empty_point s = record {
   state = s;
   out = None;
   ending = false;
@@ -93,25 +93,26 @@ FitsGrowth (HangUp nozzle growth) f = volume_of f + growth ≤ GREATEST_READING
 FitsGrowth event f = Unit {0}
 
 -- a fuelling that starts takes the price and the reading handed in, and no fuel has flowed
-abbrev pub starting : Move → ℕ → ℕ → Facts → Facts
-starting (goes Started) last price f = record f { price = price; start = last; volume = 0 }
-starting move last price f = f
+abbrev pub start_fuelling : Move → ℕ → ℕ → Facts → Facts
+start_fuelling (goes Started) last price f = record f { price = price; start = last; volume = 0 }
+start_fuelling move last price f = f
 
 -- what the point keeps of an accepted event, before it forgets any
-abbrev pub noted : PointEvent → Move → Facts → Facts
-noted (Lift nozzle last price) move f = starting move last price (record f { out = Some nozzle })
-noted (Release preset prepaid last price) move f =
-    starting move last price (record f { preset = preset; prepaid = prepaid })
-noted (TestRelease last price) move f =
-    starting move last price (record f { preset = Unset; prepaid = None; test = true })
-noted Terminate move f = record f { ending = true }
-noted (Flow nozzle growth) move f = record f { volume = f.volume + growth }
-noted (HangUp nozzle growth) move f = record f { volume = f.volume + growth }
-noted event move f = f
+abbrev pub note_event : PointEvent → Move → Facts → Facts
+note_event (Lift nozzle last price) move f =
+    start_fuelling move last price (record f { out = Some nozzle })
+note_event (Release preset prepaid last price) move f =
+    start_fuelling move last price (record f { preset = preset; prepaid = prepaid })
+note_event (TestRelease last price) move f =
+    start_fuelling move last price (record f { preset = Unset; prepaid = None; test = true })
+note_event Terminate move f = record f { ending = true }
+note_event (Flow nozzle growth) move f = record f { volume = f.volume + growth }
+note_event (HangUp nozzle growth) move f = record f { volume = f.volume + growth }
+note_event event move f = f
 
 -- a point that goes to inoperative or to idle forgets all that it kept
-abbrev pub moved : Move → Facts → Facts
-moved stay f = f
-moved (goes Inoperative) f = fresh Inoperative
-moved (goes Idle) f = fresh Idle
-moved (goes state) f = record f { state = state }
+abbrev pub move_point : Move → Facts → Facts
+move_point stay f = f
+move_point (goes Inoperative) f = empty_point Inoperative
+move_point (goes Idle) f = empty_point Idle
+move_point (goes state) f = record f { state = state }

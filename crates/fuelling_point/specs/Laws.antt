@@ -13,7 +13,7 @@ use Rattle.fuelling_point.specs.declared.event.PointEvent.TheVariants.{TestRelea
 use Rattle.fuelling_point.specs.declared.step.PointStep.{PointStep}
 use Rattle.fuelling_point.specs.declared.step.PointStep.TheVariants.{Flowed, Sold, Drawn, Stopped}
 use Rattle.fuelling_point.specs.declared.step.PointStep.TheVariants.{Ending}
-use Rattle.fuelling_point.specs.KeptPoints.{Facts, fresh, is_under_way, volume_of, growth_of}
+use Rattle.fuelling_point.specs.KeptPoints.{Facts, empty_point, is_under_way, volume_of, growth_of}
 use Rattle.fuelling_point.specs.Whole.{IsWhole, is_suspended}
 use Rattle.fuelling_point.specs.PointChecks.{refusal_of}
 use Rattle.fuelling_point.specs.Step.{step_of, after}
@@ -111,7 +111,7 @@ pub record HasLifted (moments : List Moment) (nozzle : ℕ) : Type 0 where
 
 -- a new point is whole, and an event leaves a whole point whole
 pub record StaysWhole : Type 0 where
-  pub begins : IsWhole (fresh states.Closed)
+  pub begins : IsWhole (empty_point states.Closed)
   pub keeps : (event : PointEvent) (f : Facts) → IsWhole f → IsWhole (facts_after event f)
 
 -- what has flowed in the fuelling so far and what an accepted event hands in is in the fuelling

@@ -7,7 +7,7 @@ use Rattle.fuelling_point.specs.declared.step.PointStep.TheVariants.{HungUp, NoS
 use Rattle.fuelling_point.specs.declared.step.PointStep.TheVariants.{Stopped, Ending}
 use Rattle.fuelling_point.specs.Table.{Line, Told, done, calling, start, flowed, hung_up, no_sale}
 use Rattle.fuelling_point.specs.Table.{sold, stopped, ending, line_of}
-use Rattle.fuelling_point.specs.KeptPoints.{Facts, growth_of, noted, moved}
+use Rattle.fuelling_point.specs.KeptPoints.{Facts, growth_of, note_event, move_point}
 
 -- what is told of a fuelling that is over, of this nozzle and volume: a test is drawn, any other is
 -- sold at the price it took
@@ -31,12 +31,12 @@ step_told ending growth f = Ending
 -- the step that the line gives; without a line there is none to tell
 abbrev pub step_by : Option Line → PointEvent → Facts → PointStep
 step_by None event f = Moved
-step_by (Some line) event f = step_told line.told (growth_of event) (noted event line.move f)
+step_by (Some line) event f = step_told line.told (growth_of event) (note_event event line.move f)
 
 -- the point after the line; without a line it stays
 abbrev pub after_by : Option Line → PointEvent → Facts → Facts
 after_by None event f = f
-after_by (Some line) event f = moved line.move (noted event line.move f)
+after_by (Some line) event f = move_point line.move (note_event event line.move f)
 
 -- what an accepted event is told
 abbrev pub step_of : PointEvent → Facts → PointStep

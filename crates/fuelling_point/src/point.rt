@@ -5,7 +5,8 @@ ghost use Rattle.std.specs.Prelude.{MatchResult, OnOk, OnErr, IfOk, IfErr};
 ghost use Rattle.site_base.specs.declared.limits.TheConstants.{GREATEST_READING};
 ghost use Rattle.site_base.specs.declared.state.PointState.TheVariants.{Closed, Started};
 ghost use Rattle.fuelling_point.specs.Table.{is_listed};
-ghost use Rattle.fuelling_point.specs.KeptPoints.{fresh, point_view, FitsGrowth, is_under_way};
+ghost use Rattle.fuelling_point.specs.KeptPoints.{empty_point, point_view, FitsGrowth};
+ghost use Rattle.fuelling_point.specs.KeptPoints.{is_under_way};
 ghost use Rattle.fuelling_point.specs.KeptPoints.{has_nozzle_out, start_of, volume_of};
 ghost use Rattle.fuelling_point.specs.Whole.{IsWhole};
 ghost use Rattle.fuelling_point.specs.Fields.{suspend_state, resume_state, flow_state};
@@ -53,7 +54,7 @@ impl Model for Point {
 impl Point {
     /// A closed point that keeps nothing.
     pub fn new() -> Self
-        ensures closed { result ≡ fresh Closed }
+        ensures closed { result ≡ empty_point Closed }
         ensures whole { IsWhole result }
     {
         Point {
@@ -309,7 +310,7 @@ impl Point {
     /// The point goes to a state in which it keeps nothing.
     fn forget_in(&mut self, state: PointState)
         requires { has_nozzle_out state ≡ false }
-        ensures { self.new ≡ fresh state }
+        ensures { self.new ≡ empty_point state }
     {
         self.state = state;
         self.out = None;

@@ -12,11 +12,11 @@ use Rattle.site_base.specs.declared.limits.TheConstants.{REPLACEMENT_LIMIT}
 use Rattle.site_base.specs.declared.config.PointEntry.{PointEntry}
 use Rattle.meters.specs.Nozzles.{Nozzle, nozzle_of, nozzles_of_points, with_last, with_meter}
 use Rattle.meters.specs.Nozzles.{with_nozzle, read_at, replaced_at, times_replaced, AreNozzles}
-use Rattle.meters.specs.Metered.{product_total, product_alone, most_of_a_site}
+use Rattle.meters.specs.MeteredVolumes.{product_total, product_alone, most_of_a_site}
 use Rattle.meters.specs.Places.{AreKept, ArePlaces, AreTotals}
-use Rattle.meters.proofs.Looked.{KeepsName, place_in-with_nozzle, length-with_nozzle}
-use Rattle.meters.proofs.Bounded.{reads, replaces, total_bound}
-use Rattle.meters.proofs.Weighed.{read_raises, meter_keeps, open_nothing}
+use Rattle.meters.proofs.Lookups.{KeepsName, place_in-with_nozzle, length-with_nozzle}
+use Rattle.meters.proofs.Bounds.{reads, replaces, total_bound}
+use Rattle.meters.proofs.Weights.{read_raises, meter_keeps, open_nothing}
 
 read_keeps_name : (reading : ℕ) → KeepsName (read_at reading)
 read_keeps_name reading = record { point = λ x. refl; number = λ x. refl }

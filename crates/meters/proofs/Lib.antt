@@ -1,6 +1,6 @@
-pub mod Bounded
+pub mod Bounds
 pub mod Cells
 pub mod KeptTotals
-pub mod Looked
-pub mod Weighed
-pub mod Worked
+pub mod Lookups
+pub mod Weights
+pub mod WorkedMeters

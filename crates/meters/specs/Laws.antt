@@ -6,7 +6,7 @@ use Rattle.site_base.specs.Configured.{Configured}
 use Rattle.meters.specs.declared.report.Report.{Report}
 use Rattle.meters.specs.Nozzles.{Nozzle, opening_nozzles, product_of, last_of, reading_of}
 use Rattle.meters.specs.Nozzles.{times_replaced, with_last, with_meter, EachMetered, AreNozzles}
-use Rattle.meters.specs.Metered.{most_of_a_site, product_total, metered_by, every_product}
+use Rattle.meters.specs.MeteredVolumes.{most_of_a_site, product_total, metered_by, every_product}
 use Rattle.meters.specs.Reports.{report_refusal, growth_of, after_report}
 
 -- a reading that isn't below the last one raises the total of the nozzle's product by the growth,

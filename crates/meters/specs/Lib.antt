@@ -1,5 +1,5 @@
 pub mod Laws
-pub mod Metered
+pub mod MeteredVolumes
 pub mod Nozzles
 pub mod Places
 pub mod Reports

@@ -24,8 +24,8 @@ abbrev pub is_nozzle : ℕ → ℕ → Nozzle → Bool
 is_nozzle p n x = x.point == p && x.number == n
 
 -- a configured nozzle when the site opens: its meter begins with the opening reading
-abbrev pub opened : ℕ → ℕ → NozzleEntry → Nozzle
-opened p n e = record {
+abbrev pub opening_nozzle : ℕ → ℕ → NozzleEntry → Nozzle
+opening_nozzle p n e = record {
   point = p;
   number = n;
   product = e.product;
@@ -36,13 +36,13 @@ opened p n e = record {
 }
 
 -- the nozzles of point p when the site opens, in their order, numbered from n
-abbrev pub numbered : ℕ → ℕ → List NozzleEntry → List Nozzle
-numbered p n [] = []
-numbered p n (e ∷ es) = opened p n e ∷ numbered p (n + 1) es
+abbrev pub number_nozzles : ℕ → ℕ → List NozzleEntry → List Nozzle
+number_nozzles p n [] = []
+number_nozzles p n (e ∷ es) = opening_nozzle p n e ∷ number_nozzles p (n + 1) es
 
 -- a configured point's nozzles when the site opens, numbered from 1
 abbrev pub nozzles_of_point : PointEntry → List Nozzle
-nozzles_of_point c = numbered c.number 1 c.nozzles
+nozzles_of_point c = number_nozzles c.number 1 c.nozzles
 
 -- the nozzles of the points, in configured order
 abbrev pub nozzles_of_points : List PointEntry → List Nozzle

@@ -5,7 +5,7 @@ use Rattle.std.specs.Prelude.{slice_set}
 use Rattle.site_base.specs.declared.limits.TheConstants.{NOZZLES, POINTS, PRODUCT_CELLS}
 use Rattle.meters.specs.Nozzles.{Nozzle, is_nozzle, nozzle_of, product_of, last_of, replacements_of}
 use Rattle.meters.specs.Nozzles.{with_last, with_meter, read_at, replaced_at, AreNozzles}
-use Rattle.meters.specs.Metered.{product_total}
+use Rattle.meters.specs.MeteredVolumes.{product_total}
 
 -- the place of nozzle n of point p, if there is such a nozzle
 abbrev pub place_in : ℕ → ℕ → List Nozzle → Option ℕ

@@ -3,8 +3,8 @@
 ghost use Rattle.std.specs.Prelude.{◌≡◌, ◌<◌, ◌≤◌, None, Some, OnOk, IfOk, IfErr};
 ghost use Rattle.site_base.specs.declared.limits.TheConstants.{GREATEST_READING, NOZZLE_CELLS};
 ghost use Rattle.site_base.specs.declared.limits.TheConstants.{NOZZLES, POINTS, REPLACEMENT_LIMIT};
-ghost use Rattle.meters.specs.Metered.{metered, most_of_a_nozzle};
-ghost use Rattle.meters.specs.Nozzles.{opened, read_at, replaced_at, IsMetered};
+ghost use Rattle.meters.specs.MeteredVolumes.{volume_metered, most_of_a_nozzle};
+ghost use Rattle.meters.specs.Nozzles.{opening_nozzle, read_at, replaced_at, IsMetered};
 ghost use Rattle.meters.specs.Places.{nozzle_cell};
 ghost use Rattle.meters.specs.Reports.{growth_of, report_refusal};
 
@@ -55,7 +55,7 @@ impl Model for Meter {
 impl Meter {
     /// The meter of a nozzle when the site opens.
     pub fn at_opening(point: FpNo, nozzle: NozzleNo, entry: &NozzleEntry) -> Self
-        ensures value { result ≡ opened point nozzle entry.now }
+        ensures value { result ≡ opening_nozzle point nozzle entry.now }
         ensures bounds { IsMetered result }
     {
         let _ = entry.reading.get();
@@ -104,7 +104,7 @@ impl Meter {
     /// The millilitres that the nozzle has metered since the site opened: those of this meter, and
     /// those of its earlier meters.
     pub fn metered_volume(&self) -> u64
-        ensures value { result ≡ metered self.now }
+        ensures value { result ≡ volume_metered self.now }
         ensures range { result ≤ most_of_a_nozzle }
     {
         (self.last.get() - self.began.get()) + self.earlier

@@ -7,7 +7,8 @@ ghost use Rattle.meters.specs.declared.report.Report.TheVariants.{Growing};
 ghost use Rattle.meters.specs.Nozzles.{opening_nozzles, nozzles_of_point, product_of, last_of};
 ghost use Rattle.meters.specs.Nozzles.{replacements_of, has_nozzle, reading_of, times_replaced};
 ghost use Rattle.meters.specs.Nozzles.{with_last, with_meter, AreNozzles, EachMetered};
-ghost use Rattle.meters.specs.Metered.{most_of_a_site, product_total, metered_by, every_product};
+ghost use Rattle.meters.specs.MeteredVolumes.{most_of_a_site, product_total, metered_by};
+ghost use Rattle.meters.specs.MeteredVolumes.{every_product};
 ghost use Rattle.meters.specs.Places.{IsPlace};
 ghost use Rattle.meters.specs.Reports.{growth_of, report_refusal};
 

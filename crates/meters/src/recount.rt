@@ -2,7 +2,7 @@
 
 ghost use Rattle.std.specs.Prelude.{◌≡◌};
 ghost use Rattle.meters.specs.Nozzles.{AreNozzles};
-ghost use Rattle.meters.specs.Metered.{product_total};
+ghost use Rattle.meters.specs.MeteredVolumes.{product_total};
 
 use crate::meter::Meter;
 use site_base::ProductNo;

@@ -4,7 +4,7 @@ use Rattle.std.proofs.Common.{◌∷◌, length, get_or, Some, unwrap_or, ◌==�
 use Rattle.std.proofs.lemmas.Bool.Decides.{nat_tests}
 use Rattle.std.specs.List.{All}
 use Rattle.std.proofs.lemmas.List.Elements.{All-append}
-use Rattle.site_base.specs.Numbered.{numbered, with_numbered}
+use Rattle.site_base.specs.Members.{member, with_numbered}
 use Rattle.site_base.proofs.Numbering.{numbered_within, numbered_with_same, numbered_with_other}
 use Rattle.site_base.proofs.Numbering.{length-with_numbered}
 use Rattle.shift_ledger.specs.declared.row.ShiftRow.{ShiftRow}
@@ -16,17 +16,17 @@ use Rattle.shift_ledger.specs.Laws.{HaveRows, IsCounted, IsDrawn, HasEveryFigure
 
 -- a member that is there and is written shows what was written, and every other stays
 written : {A : Type 0} (n m : ℕ) (xs : List A) (y d : A) → 1 ≤ n → n ≤ length xs
-    → unwrap_or (numbered m (with_numbered n y xs)) d
-    ≡ cond (m == n) y (unwrap_or (numbered m xs) d)
+    → unwrap_or (member m (with_numbered n y xs)) d
+    ≡ cond (m == n) y (unwrap_or (member m xs) d)
 written n m xs y d low high = by_test (m == n) refl
   where
     by_test : (b : Bool) → (m == n) ≡ b
-        → unwrap_or (numbered m (with_numbered n y xs)) d ≡ cond b y (unwrap_or (numbered m xs) d)
+        → unwrap_or (member m (with_numbered n y xs)) d ≡ cond b y (unwrap_or (member m xs) d)
     by_test true is =
         let same : m ≡ n = grind (arith, nat_tests) in
-        let there : numbered n xs ≡ Some (get_or xs (n - 1) d) =
+        let there : member n xs ≡ Some (get_or xs (n - 1) d) =
         numbered_within n xs (n - 1) d (omega arith) (omega arith) in
-        ap (λ (k : ℕ). unwrap_or (numbered k (with_numbered n y xs)) d) same
+        ap (λ (k : ℕ). unwrap_or (member k (with_numbered n y xs)) d) same
         ∙ ap (λ o. unwrap_or o d) (numbered_with_same n xs (get_or xs (n - 1) d) y there)
     by_test false is = ap (λ o. unwrap_or o d)
         (numbered_with_other n m xs y (grind (arith, nat_tests)))

@@ -1,5 +1,5 @@
 pub mod Counting
-pub mod Open
-pub mod Standing
-pub mod Summed
-pub mod Worked
+pub mod OpenShift
+pub mod ClosedShifts
+pub mod Sums
+pub mod WorkedShifts

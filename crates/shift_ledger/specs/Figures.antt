@@ -1,20 +1,20 @@
 -- The figures of one shift.
 use Rattle.std.specs.Prelude.{ℕ, ◌+◌, ◌^◌, ◌<◌, unwrap_or, replicate}
 use Rattle.site_base.specs.declared.limits.TheConstants.{TILL_CELLS, PRODUCT_CELLS}
-use Rattle.site_base.specs.Numbered.{numbered, with_numbered}
+use Rattle.site_base.specs.Members.{member, with_numbered}
 use Rattle.shift_ledger.specs.declared.row.ShiftRow.{ShiftRow}
 
 -- the clears of a till and their cents
 abbrev pub till_figures : ℕ → ShiftRow → ℕ × ℕ
-till_figures t row = unwrap_or (numbered t row.tills) (0, 0)
+till_figures t row = unwrap_or (member t row.tills) (0, 0)
 
 -- the millilitres cleared of a product
 abbrev pub product_figure : ℕ → ShiftRow → ℕ
-product_figure q row = unwrap_or (numbered q row.products) 0
+product_figure q row = unwrap_or (member q row.products) 0
 
 -- the millilitres that tests drew of a product
 abbrev pub adjusted_figure : ℕ → ShiftRow → ℕ
-adjusted_figure q row = unwrap_or (numbered q row.adjusted) 0
+adjusted_figure q row = unwrap_or (member q row.adjusted) 0
 
 -- a shift without clears and draws
 abbrev pub empty_figures : ShiftRow

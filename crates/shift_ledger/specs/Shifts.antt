@@ -2,7 +2,7 @@
 use Rattle.std.specs.Prelude.{ℕ, ◌+◌, List, [], ◌∷◌, ◌++◌, length, Option, Bool, ◌==◌}
 use Rattle.site_base.specs.declared.limits.TheConstants.{GREATEST_SHIFT}
 use Rattle.shift_ledger.specs.declared.row.ShiftRow.{ShiftRow}
-use Rattle.site_base.specs.Numbered.{numbered}
+use Rattle.site_base.specs.Members.{member}
 use Rattle.shift_ledger.specs.Figures.{adjusted_figure, empty_figures, with_clear, with_draw}
 
 -- the figures of the closed shifts in their order, and those of the open one
@@ -29,7 +29,7 @@ is_last s = open_number s == GREATEST_SHIFT
 
 -- the figures of shift n; of 0 and of shifts to come, none
 abbrev pub figures_of : ℕ → Shifts → Option ShiftRow
-figures_of n s = numbered n (s.closed ++ s.current ∷ [])
+figures_of n s = member n (s.closed ++ s.current ∷ [])
 
 -- the millilitres that tests drew of product q in these shifts
 abbrev pub drawn_among : ℕ → List ShiftRow → ℕ

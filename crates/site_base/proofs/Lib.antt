@@ -1,8 +1,8 @@
 pub mod Cells
 pub mod KeptRows
-pub mod Known
+pub mod KnownBytes
 pub mod Numbering
 pub mod Places
 pub mod PointSets
-pub mod Worked
+pub mod WorkedAmounts
 pub mod PriceRanges

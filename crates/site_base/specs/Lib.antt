@@ -8,7 +8,7 @@ pub mod Events
 pub mod History
 pub mod KeptRows
 pub mod Names
-pub mod Numbered
+pub mod Members
 pub mod PointSets
 pub mod Prices
 pub mod Ranges

@@ -37,12 +37,12 @@ abbrev pub sale_word : ℕ → SaleId → List ℕ
 sale_word p s = decimal p ++ codes "/" ++ id_word s
 
 -- an event's name, and a number behind it
-abbrev pub named : List ℕ → ℕ → List (List ℕ)
-named name n = name ∷ decimal n ∷ []
+abbrev pub number_words : List ℕ → ℕ → List (List ℕ)
+number_words name n = name ∷ decimal n ∷ []
 
 -- an event of a nozzle at its fuelling point
-abbrev pub metered : List ℕ → ℕ → ℕ → ℕ → List (List ℕ)
-metered name p n reading = name ∷ decimal p ∷ meter_word n reading ∷ []
+abbrev pub nozzle_words : List ℕ → ℕ → ℕ → ℕ → List (List ℕ)
+nozzle_words name p n reading = name ∷ decimal p ∷ meter_word n reading ∷ []
 
 -- an event of a transaction
 abbrev pub at_sale : List ℕ → ℕ → SaleId → List (List ℕ)
@@ -58,34 +58,34 @@ limit_words (Money cents) = codes "money" ∷ decimal cents ∷ []
 abbrev pub event_words : Event → List (List ℕ)
 event_words SignOn = codes "SignOn" ∷ []
 event_words SignOff = codes "SignOff" ∷ []
-event_words (Open p) = named (codes "Open") p
-event_words (Close p) = named (codes "Close") p
-event_words (Assign p) = named (codes "Assign") p
-event_words (Unassign p) = named (codes "Unassign") p
+event_words (Open p) = number_words (codes "Open") p
+event_words (Close p) = number_words (codes "Close") p
+event_words (Assign p) = number_words (codes "Assign") p
+event_words (Unassign p) = number_words (codes "Unassign") p
 event_words (Release p preset) = codes "Release" ∷ decimal p ∷ limit_words preset
 event_words (Prepay p cents) = codes "Prepay" ∷ decimal p ∷ decimal cents ∷ []
-event_words (TestRelease p) = named (codes "TestRelease") p
-event_words (Suspend p) = named (codes "Suspend") p
-event_words (Resume p) = named (codes "Resume") p
-event_words (Terminate p) = named (codes "Terminate") p
-event_words (ReplaceMeter p n reading) = metered (codes "ReplaceMeter") p n reading
-event_words (ReadPoint p) = named (codes "ReadPoint") p
+event_words (TestRelease p) = number_words (codes "TestRelease") p
+event_words (Suspend p) = number_words (codes "Suspend") p
+event_words (Resume p) = number_words (codes "Resume") p
+event_words (Terminate p) = number_words (codes "Terminate") p
+event_words (ReplaceMeter p n reading) = nozzle_words (codes "ReplaceMeter") p n reading
+event_words (ReadPoint p) = number_words (codes "ReadPoint") p
 event_words (Lock p s) = at_sale (codes "Lock") p s
 event_words (Unlock p s) = at_sale (codes "Unlock") p s
 event_words (Clear p s) = at_sale (codes "Clear") p s
 event_words (ReadTransaction p s) = at_sale (codes "ReadTransaction") p s
 event_words (SetPrice q mills) = codes "SetPrice" ∷ decimal q ∷ decimal mills ∷ []
-event_words (ReadProduct q) = named (codes "ReadProduct") q
+event_words (ReadProduct q) = number_words (codes "ReadProduct") q
 event_words CloseShift = codes "CloseShift" ∷ []
 event_words ReadSite = codes "ReadSite" ∷ []
-event_words (Online p) = named (codes "Online") p
-event_words (Offline p) = named (codes "Offline") p
-event_words (Lift p n reading) = metered (codes "Lift") p n reading
-event_words (Flow p n reading) = metered (codes "Flow") p n reading
-event_words (HangUp p n reading) = metered (codes "HangUp") p n reading
+event_words (Online p) = number_words (codes "Online") p
+event_words (Offline p) = number_words (codes "Offline") p
+event_words (Lift p n reading) = nozzle_words (codes "Lift") p n reading
+event_words (Flow p n reading) = nozzle_words (codes "Flow") p n reading
+event_words (HangUp p n reading) = nozzle_words (codes "HangUp") p n reading
 
 -- words with a space between them
-abbrev pub spaced : List (List ℕ) → List ℕ
-spaced [] = []
-spaced (w ∷ []) = w
-spaced (w ∷ ws) = w ++ (32 ∷ spaced ws)
+abbrev pub join_words : List (List ℕ) → List ℕ
+join_words [] = []
+join_words (w ∷ []) = w
+join_words (w ∷ ws) = w ++ (32 ∷ join_words ws)

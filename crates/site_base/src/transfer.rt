@@ -132,7 +132,7 @@ pub fn read_piece<R: Read>(
 /// where a call failed in another way or took no octet; no call is made after that. After either a
 /// front of the text is written, which may be empty. The writer's count rises by one at `Failed`
 /// and stays at every other end.
-#[tactic(auto, using(crate::proofs::Known::known))]
+#[tactic(auto, using(crate::proofs::KnownBytes::known))]
 pub fn write_whole<W: Write>(
     writer: &mut Counted<W>,
     text: &[u8],

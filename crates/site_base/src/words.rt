@@ -3,8 +3,9 @@
 
 ghost use Rattle.std.specs.Prelude.{Some, [], ◌∷◌, decimal};
 ghost use Rattle.std.specs.Fmt.{DisplaysOnOk};
-ghost use Rattle.site_base.specs.Words.{actor_word, at_sale, event_words, id_word, metered, named};
-ghost use Rattle.site_base.specs.Words.{spaced};
+ghost use Rattle.site_base.specs.Words.{actor_word, at_sale, event_words, id_word, nozzle_words};
+ghost use Rattle.site_base.specs.Words.{number_words};
+ghost use Rattle.site_base.specs.Words.{join_words};
 
 use crate::actor::Actor;
 use crate::amounts::Millilitres;
@@ -33,7 +34,7 @@ impl fmt::Display for Actor {
 /// The event's name, the number of what it is about, and what else it carries: `Open 3`,
 /// `Release 3 volume 3000`, `Prepay 1 2000`, `Lift 2 1@1000`, `ReadTransaction 3/2/1`.
 impl fmt::Display for Event {
-    ghost output = { λ event. Some (spaced (event_words event)) };
+    ghost output = { λ event. Some (join_words (event_words event)) };
 
     fn fmt<W: fmt::Write>(&self, f: &mut fmt::Formatter<W>) -> fmt::Result {
         match self {
@@ -71,7 +72,7 @@ impl fmt::Display for Event {
 /// An event of this name, and the number of what it is about: `Open 3`.
 fn write_named<W: fmt::Write>(f: &mut fmt::Formatter<W>, name: &str, n: u8) -> fmt::Result
     ensures { DisplaysOnOk W.Write.write_str_gives f.old result
-        (Some (spaced (named name.now n))) f.new }
+        (Some (join_words (number_words name.now n))) f.new }
 {
     write!(f, "{name} {n}")
 }
@@ -84,7 +85,7 @@ fn write_amount<W: fmt::Write>(
     amount: u32,
 ) -> fmt::Result
     ensures { DisplaysOnOk W.Write.write_str_gives f.old result
-        (Some (spaced (name.now ∷ decimal n ∷ decimal amount ∷ []))) f.new }
+        (Some (join_words (name.now ∷ decimal n ∷ decimal amount ∷ []))) f.new }
 {
     write!(f, "{name} {n} {amount}")
 }
@@ -92,7 +93,7 @@ fn write_amount<W: fmt::Write>(
 /// A release, with its preset where it has one: `Release 3`, `Release 3 money 2000`.
 fn write_release<W: fmt::Write>(f: &mut fmt::Formatter<W>, p: FpNo, preset: Preset) -> fmt::Result
     ensures { DisplaysOnOk W.Write.write_str_gives f.old result
-        (Some (spaced (event_words (Event.Release p preset)))) f.new }
+        (Some (join_words (event_words (Event.Release p preset)))) f.new }
 {
     let p = p.get();
     match preset {
@@ -111,7 +112,7 @@ fn write_meter<W: fmt::Write>(
     reading: Millilitres,
 ) -> fmt::Result
     ensures { DisplaysOnOk W.Write.write_str_gives f.old result
-        (Some (spaced (metered name.now p n reading))) f.new }
+        (Some (join_words (nozzle_words name.now p n reading))) f.new }
 {
     let (p, n, reading) = (p.get(), n.get(), reading.get());
     write!(f, "{name} {p} {n}@{reading}")
@@ -125,7 +126,7 @@ fn write_sale<W: fmt::Write>(
     sale: SaleId,
 ) -> fmt::Result
     ensures { DisplaysOnOk W.Write.write_str_gives f.old result
-        (Some (spaced (at_sale name.now p sale))) f.new }
+        (Some (join_words (at_sale name.now p sale))) f.new }
 {
     let p = p.get();
     write!(f, "{name} {p}/{sale}")

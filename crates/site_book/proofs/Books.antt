@@ -16,7 +16,7 @@ use Rattle.written_site.specs.Sound.{InRange}
 use Rattle.written_site.proofs.Histories.{site_of_rows-push, IsLegal-push}
 use Rattle.site_book.specs.Book.{IsBook}
 use Rattle.site_book.specs.SignedOn.{AreTills, IsTillActor, tills_on, tills_with}
-use Rattle.site_book.proofs.Signed.{counted_row, no_more, tills_after, tills_row}
+use Rattle.site_book.proofs.SignedTills.{counted_row, no_more, tills_after, tills_row}
 
 -- what is so of each row, of one row more
 each-push : (P : Row → Type 0) (rows : List Row) (r : Row) → AllByRecursion P rows → P r

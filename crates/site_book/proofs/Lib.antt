@@ -1,4 +1,4 @@
-pub mod Signed
+pub mod SignedTills
 pub mod BookSales
 pub mod BookDraws
 pub mod Books

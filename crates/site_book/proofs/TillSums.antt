@@ -23,7 +23,7 @@ use Rattle.written_site.specs.Histories.{Moment, moments_after, moments_of}
 use Rattle.written_site.specs.RowWords.{total}
 use Rattle.written_site.specs.ShiftFigures.{cents_by, clears_by, till_totals, tills}
 use Rattle.written_site.specs.ShiftLaws.{AreClearsCounted, cents_cleared, cents_for}
-use Rattle.written_site.specs.SiteChecks.{Passed, flowed}
+use Rattle.written_site.specs.SiteChecks.{Passed, flow_since}
 use Rattle.written_site.specs.SiteRun.{IsLegal}
 use Rattle.written_site.specs.SiteState.{SiteState, opening, view_sale}
 use Rattle.written_site.specs.SiteStep.{product_told, reply_to, sale_told, site_after, site_answer}
@@ -88,9 +88,9 @@ told_dispenser s d (Terminate p) passes = told_step s p 0 (step_at s (Terminate 
 told_dispenser s d (Offline p) passes = told_step s p 0 (step_at s (Offline p))
 told_dispenser s d (Lift p n reading) passes = told_step s p 0 (step_at s (Lift p n reading))
 told_dispenser s d (Flow p n reading) passes =
-    told_step s p (flowed s p n reading) (step_at s (Flow p n reading))
+    told_step s p (flow_since s p n reading) (step_at s (Flow p n reading))
 told_dispenser s d (HangUp p n reading) passes =
-    told_step s p (flowed s p n reading) (step_at s (HangUp p n reading))
+    told_step s p (flow_since s p n reading) (step_at s (HangUp p n reading))
 told_dispenser s d (ReadTransaction p id) passes = told_sale (view_sale s p id)
 told_dispenser s d (ReadProduct q) passes = told_product s q (row_of q s.prices)
 told_dispenser s d e passes = refl

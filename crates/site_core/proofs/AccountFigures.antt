@@ -4,7 +4,7 @@ use Rattle.std.proofs.Common.{Option, Some, None, unwrap_or, inl, inr, refl, sym
 use Rattle.std.proofs.Common.{arith, Result, Ok, Err, OnOk, OnErr}
 use Rattle.std.proofs.lemmas.Bool.{cases_eq}
 use Rattle.site_base.specs.declared.view.TransactionView.{TransactionView}
-use Rattle.site_base.specs.Numbered.{numbered}
+use Rattle.site_base.specs.Members.{member}
 use Rattle.site_base.proofs.Numbering.{numbered_next, numbered_place, numbered_push_here}
 use Rattle.site_base.proofs.Numbering.{numbered_push_other}
 use Rattle.shift_ledger.specs.declared.row.ShiftRow.{ShiftRow}
@@ -12,7 +12,7 @@ use Rattle.shift_ledger.specs.Figures.{empty_figures, product_figure, till_figur
 use Rattle.shift_ledger.specs.Laws.{closes, draws}
 use Rattle.shift_ledger.specs.Shifts.{Shifts, after_close, after_draw, first_shift, open_number}
 use Rattle.shift_ledger.proofs.Counting.{has_every_figure}
-use Rattle.shift_ledger.proofs.Standing.{is_opened_empty}
+use Rattle.shift_ledger.proofs.ClosedShifts.{is_opened_empty}
 use Rattle.transaction_buffer.specs.Sales.{Sales, is_unpaid, new_sale, new_standing, no_sales}
 use Rattle.transaction_buffer.specs.Sales.{with_new}
 use Rattle.written_site.specs.FigureSteps.{HasSameClears}
@@ -61,7 +61,7 @@ row_first h = elim (cases_eq h 1) [
       ∙ none h
 ]
   where
-    none : (n : ℕ) → unwrap_or (numbered n []) empty_figures ≡ empty_figures
+    none : (n : ℕ) → unwrap_or (member n []) empty_figures ≡ empty_figures
     none zero = refl
     none (suc n) =
         ap (λ o. unwrap_or o empty_figures) (numbered_place (suc n) [] (omega arith))

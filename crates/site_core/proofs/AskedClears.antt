@@ -4,7 +4,8 @@ use Rattle.std.proofs.Common.{ap, ◌∙◌}
 use Rattle.site_base.specs.declared.view.TransactionView.{TransactionView}
 use Rattle.transaction_buffer.specs.declared.request.Request.{Request}
 use Rattle.transaction_buffer.specs.declared.request.Request.TheVariants.{Lock, Unlock, Clear}
-use Rattle.transaction_buffer.specs.Sales.{Key, Sale, Sales, is_unpaid, sale_of, shown, view_of}
+use Rattle.transaction_buffer.specs.Sales.{Key, Sale, Sales, is_unpaid, sale_of, view_of_sale}
+use Rattle.transaction_buffer.specs.Sales.{view_of}
 use Rattle.transaction_buffer.specs.TransactionTable.{after_request, refusal_of}
 use Rattle.transaction_buffer.proofs.Rules.{cleared_by_its_locker}
 use Rattle.written_site.specs.FigureSteps.{HasClear, HasSameClears}
@@ -27,7 +28,7 @@ pub record IsOneClear (h t : ℕ) (k : Key) (old : Sales) (view : TransactionVie
 
 -- so is the sale of a clear that is accepted
 pub accepted_clear : (h t : ℕ) (k : Key) (old : Sales) (view : TransactionView)
-    → refusal_of (Clear h) t k old ≡ None → shown k old ≡ Some view
+    → refusal_of (Clear h) t k old ≡ None → view_of_sale k old ≡ Some view
     → (x : Sale) × IsOneClear h t k old view x
 accepted_clear h t k old view accepted told =
     let clear = cleared_by_its_locker t h k old accepted in

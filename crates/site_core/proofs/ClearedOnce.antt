@@ -8,7 +8,7 @@ use Rattle.std.proofs.lemmas.Bool.{cases_lt}
 use Rattle.std.proofs.lemmas.Bool.Decides.{nat_tests}
 use Rattle.std.proofs.lemmas.Option.{slice_get_past}
 use Rattle.site_base.specs.declared.limits.TheConstants.{PRODUCTS, TILLS}
-use Rattle.site_base.specs.Numbered.{numbered, with_numbered}
+use Rattle.site_base.specs.Members.{member, with_numbered}
 use Rattle.site_base.proofs.Numbering.{length-with_numbered, numbered_place, numbered_with_other}
 use Rattle.site_base.proofs.Numbering.{numbered_with_same, numbered_within, with_numbered_place}
 use Rattle.shift_ledger.specs.declared.row.ShiftRow.{ShiftRow}
@@ -32,24 +32,24 @@ use Rattle.site_core.proofs.NumberedCells.{member_at}
 
 -- a member that is changed shows the change, and every other stays
 changed : {A : Type 0} (n m : ℕ) (xs : List A) (change : A → A) (d : A) → 1 ≤ m → m ≤ length xs
-    → unwrap_or (numbered m (with_numbered n (change (unwrap_or (numbered n xs) d)) xs)) d
-    ≡ cond (m == n) (change (unwrap_or (numbered m xs) d)) (unwrap_or (numbered m xs) d)
+    → unwrap_or (member m (with_numbered n (change (unwrap_or (member n xs) d)) xs)) d
+    ≡ cond (m == n) (change (unwrap_or (member m xs) d)) (unwrap_or (member m xs) d)
 changed n m xs change d low high = by_test (m == n) refl
   where
     by_test : (b : Bool) → (m == n) ≡ b
-        → unwrap_or (numbered m (with_numbered n (change (unwrap_or (numbered n xs) d)) xs)) d
-        ≡ cond b (change (unwrap_or (numbered m xs) d)) (unwrap_or (numbered m xs) d)
+        → unwrap_or (member m (with_numbered n (change (unwrap_or (member n xs) d)) xs)) d
+        ≡ cond b (change (unwrap_or (member m xs) d)) (unwrap_or (member m xs) d)
     by_test true is =
         let same : m ≡ n = grind (arith, nat_tests) in
-        let there : numbered n xs ≡ Some (get_or xs (n - 1) d) =
+        let there : member n xs ≡ Some (get_or xs (n - 1) d) =
         numbered_within n xs (n - 1) d (omega arith) (omega arith) in
-        ap (λ (k : ℕ). unwrap_or (numbered k
-        (with_numbered n (change (unwrap_or (numbered n xs) d)) xs)) d) same
+        ap (λ (k : ℕ). unwrap_or (member k
+        (with_numbered n (change (unwrap_or (member n xs) d)) xs)) d) same
         ∙ ap (λ o. unwrap_or o d) (numbered_with_same n xs (get_or xs (n - 1) d)
-        (change (unwrap_or (numbered n xs) d)) there)
-        ∙ ap (λ (k : ℕ). change (unwrap_or (numbered k xs) d)) (sym same)
+        (change (unwrap_or (member n xs) d)) there)
+        ∙ ap (λ (k : ℕ). change (unwrap_or (member k xs) d)) (sym same)
     by_test false is = ap (λ o. unwrap_or o d)
-        (numbered_with_other n m xs (change (unwrap_or (numbered n xs) d))
+        (numbered_with_other n m xs (change (unwrap_or (member n xs) d))
         (grind (arith, nat_tests)))
 
 -- what the open shift's row changes, its number shows; every other shift's figure stays
@@ -136,8 +136,8 @@ cleared_once old new shifts totals t x clear kept = record {
 -- a figure that is as told where there is one, and else as little as can be
 told_or : {A : Type 0} (Holds : A → Type 0) (f : ℕ → A) (d : A) (n count : ℕ) (xs : List A)
     → length xs ≡ count
-    → ((m : ℕ) → 1 ≤ m → m ≤ count → unwrap_or (numbered m xs) d ≡ f m)
-    → Holds (f n) → Holds d → Holds (unwrap_or (numbered n xs) d)
+    → ((m : ℕ) → 1 ≤ m → m ≤ count → unwrap_or (member m xs) d ≡ f m)
+    → Holds (f n) → Holds d → Holds (unwrap_or (member n xs) d)
 told_or Holds f d zero count xs size told there none = none
 told_or Holds f d (suc n) count xs size told there none = elim (cases_lt n count) [
   | inl within ↦ subst Holds (sym (told (suc n) (omega arith) (omega arith))) there

@@ -2,12 +2,12 @@
 use Rattle.std.proofs.Common.{◌≡◌, ℕ, zero, suc, ◌+◌, ◌-◌, ◌*◌, ◌≤◌, List, [], ◌∷◌, Option}
 use Rattle.std.proofs.Common.{unwrap_or, refl, sym, ap, ◌∙◌, arith}
 use Rattle.std.specs.Prelude.{slice_get}
-use Rattle.site_base.specs.Numbered.{numbered}
+use Rattle.site_base.specs.Members.{member}
 use Rattle.site_base.proofs.Numbering.{numbered_place}
 use Rattle.shift_ledger.specs.declared.row.ShiftRow.{ShiftRow}
 use Rattle.shift_ledger.specs.Figures.{adjusted_figure}
 use Rattle.shift_ledger.specs.Shifts.{Shifts, drawn_among, drawn_in_all}
-use Rattle.meters.specs.Metered.{product_alone}
+use Rattle.meters.specs.MeteredVolumes.{product_alone}
 use Rattle.written_site.specs.Volumes.{weighed_from, drawn_of}
 use Rattle.site_core.specs.Accounts.{draws_of}
 use Rattle.site_core.proofs.NotedDraws.{alone_itself, other_alone, told}
@@ -34,7 +34,7 @@ alone_at q k (suc i) (v ∷ vs) is =
     omega (arith, none, alone_at q (k + 1) i vs (omega (arith, is)))
 
 alone_row : (q : ℕ) (row : List ℕ) → 1 ≤ q
-    → weighed_from (product_alone q) 1 row ≡ unwrap_or (numbered q row) 0
+    → weighed_from (product_alone q) 1 row ≡ unwrap_or (member q row) 0
 alone_row q row low =
     alone_at q 1 (q - 1) row (omega arith)
     ∙ ap (λ (o : Option ℕ). unwrap_or o 0) (sym (numbered_place q row low))

@@ -6,12 +6,12 @@ use Rattle.std.proofs.lemmas.List.{drop_more}
 use Rattle.site_base.specs.declared.state.Status.{Status}
 use Rattle.site_base.specs.declared.state.Status.TheVariants.{Payable, Locked, Cleared}
 use Rattle.fuelling_point.specs.KeptPoints.{Facts}
-use Rattle.meters.specs.Metered.{most_of_a_site, product_alone}
-use Rattle.meters.proofs.Bounded.{total_bound}
+use Rattle.meters.specs.MeteredVolumes.{most_of_a_site, product_alone}
+use Rattle.meters.proofs.Bounds.{total_bound}
 use Rattle.transaction_buffer.specs.Sums.{volume_by}
 use Rattle.written_site.specs.SiteState.{SiteState}
 use Rattle.written_site.specs.Sound.{Sound, IsPointSound}
-use Rattle.written_site.specs.Volumes.{product_out, running, running_at, running_by}
+use Rattle.written_site.specs.Volumes.{product_out, running_volume, running_at, running_by}
 use Rattle.site_core.proofs.PointPlaces.{alone_place}
 use Rattle.site_core.proofs.Reports.{rest_of}
 
@@ -40,7 +40,7 @@ sound_row s rows i row sound are within is =
 -- what was counted before it, with what flows at its point, is no more than a site can meter
 pub turn_fits : (s : SiteState) (q : ℕ) (rows : List (ℕ × Facts)) (i : ℕ) (row : ℕ × Facts)
     (sum flows : ℕ) → Sound s → i < length rows → row ≡ get_or rows i row
-    → sum + running_by (product_alone q) s.nozzles (drop i rows) ≡ running s q
+    → sum + running_by (product_alone q) s.nozzles (drop i rows) ≡ running_volume s q
     → flows ≡ product_alone q (product_out s.nozzles row.0 row.1) * running_at s.nozzles row.0 row.1
     → sum + flows ≤ most_of_a_site
 turn_fits s q rows i row sum flows sound within is whole its =

@@ -15,7 +15,7 @@ use Rattle.site_base.proofs.Numbering.{numbered_within}
 use Rattle.shift_ledger.specs.declared.row.ShiftRow.{ShiftRow}
 use Rattle.shift_ledger.specs.Figures.{adjusted_figure, empty_figures, with_draw}
 use Rattle.shift_ledger.specs.Shifts.{Shifts, after_close, after_draw, first_shift, open_number}
-use Rattle.meters.specs.Metered.{product_alone}
+use Rattle.meters.specs.MeteredVolumes.{product_alone}
 use Rattle.written_site.specs.SiteState.{nothing_drawn}
 use Rattle.written_site.specs.SiteStep.{draw_noted}
 use Rattle.written_site.specs.Sound.{is_draw_row}

@@ -20,7 +20,8 @@ use Rattle.meters.specs.Reports.{report_refusal}
 use Rattle.meters.specs.declared.report.Report.{Report}
 use Rattle.meters.specs.declared.report.Report.TheVariants.{Still, Growing}
 use Rattle.written_site.specs.SiteState.{SiteState, facts_of}
-use Rattle.written_site.specs.SiteChecks.{first_refusal, flowed, is_nozzle_there, is_there, numbers}
+use Rattle.written_site.specs.SiteChecks.{first_refusal, flow_since, is_nozzle_there, is_there}
+use Rattle.written_site.specs.SiteChecks.{numbers}
 use Rattle.written_site.specs.SiteChecks.{put_back_at}
 use Rattle.written_site.specs.Sound.{Sound}
 use Rattle.site_core.specs.declared.points.FoundPoint.{FoundPoint}
@@ -42,13 +43,14 @@ nozzle_is s p n is = passed (has_nozzle p n s.nozzles) _ is
 
 flow_at : (s : SiteState) (d n reading : ℕ) (point : FoundPoint) → Sound s
     → IsFound point s.points → reading ≤ GREATEST_READING
-    → refusal_of (points.Flow n (flowed s point.number n reading)) (facts_of s point.number) ≡ None
+    → refusal_of (points.Flow n (flow_since s point.number n reading)) (facts_of s point.number)
+    ≡ None
     → is_there s (Some point.number) ≡ None
     → is_nozzle_there s (Some point.number) (Some n) ≡ None
     → unless (point.number == d) NotYourPoint ≡ None
     → report_refusal Growing (reading_of point.number n s.nozzles) reading ≡ None
     → IsReady s (Dispenser d) (events.Flow point.number n reading)
-    (ready.Flow point n reading (flowed s point.number n reading))
+    (ready.Flow point n reading (flow_since s point.number n reading))
 flow_at s d n reading point sound found top takes there nozzle own reads =
     let p = point.number in
     let names : numbers s (events.Flow p n reading) ≡ None = rw (there, nozzle) refl in
@@ -60,7 +62,8 @@ flow_at s d n reading point sound found top takes there nozzle own reads =
         record {
           found = found;
           takes = takes;
-          fits = flow_fits s p n reading (flowed s p n reading) sound names refl takes reads top;
+          fits = flow_fits s p n reading (flow_since s p n reading) sound names refl takes reads
+              top;
         },
         nozzle_is s p n nozzle,
         reads,
@@ -72,7 +75,7 @@ flow_at s d n reading point sound found top takes there nozzle own reads =
 pub flow_ready : (s : SiteState) (d p n reading growth : ℕ) (point : FoundPoint) → Sound s
     → is_there s (Some p) ≡ None → point.number ≡ p → IsFound point s.points
     → is_nozzle_there s (Some p) (Some n) ≡ None → unless (p == d) NotYourPoint ≡ None
-    → growth ≡ flowed s p n reading → reading ≤ GREATEST_READING
+    → growth ≡ flow_since s p n reading → reading ≤ GREATEST_READING
     → refusal_of (points.Flow n growth) (facts_of s point.number) ≡ None
     → report_refusal Growing (reading_of p n s.nozzles) reading ≡ None
     → IsReady s (Dispenser d) (events.Flow p n reading) (ready.Flow point n reading growth)
@@ -80,7 +83,7 @@ flow_ready s d p n reading growth point sound there number found nozzle own is t
     subst (λ q. is_there s (Some q) ≡ None → is_nozzle_there s (Some q) (Some n) ≡ None
     → unless (q == d) NotYourPoint ≡ None
     → report_refusal Growing (reading_of q n s.nozzles) reading ≡ None
-    → growth ≡ flowed s q n reading
+    → growth ≡ flow_since s q n reading
     → IsReady s (Dispenser d) (events.Flow q n reading) (ready.Flow point n reading growth))
     number
     (λ a b e r g. subst (λ k. refusal_of (points.Flow n k) (facts_of s point.number) ≡ None
@@ -98,17 +101,17 @@ grows Still last reading reads = grind (arith, common_steps, nat_tests)
 hang_up_at : (s : SiteState) (d n reading : ℕ) (report : Report) (point : FoundPoint) → Sound s
     → IsFound point s.points → reading ≤ GREATEST_READING
     → report ≡ put_back_at (facts_of s point.number).state
-    → refusal_of (points.HangUp n (flowed s point.number n reading)) (facts_of s point.number)
+    → refusal_of (points.HangUp n (flow_since s point.number n reading)) (facts_of s point.number)
     ≡ None
     → is_there s (Some point.number) ≡ None
     → is_nozzle_there s (Some point.number) (Some n) ≡ None
     → unless (point.number == d) NotYourPoint ≡ None
     → report_refusal report (reading_of point.number n s.nozzles) reading ≡ None
     → IsReady s (Dispenser d) (events.HangUp point.number n reading)
-    (ready.HangUp point n reading (flowed s point.number n reading))
+    (ready.HangUp point n reading (flow_since s point.number n reading))
 hang_up_at s d n reading report point sound found top kind takes there nozzle own reads =
     let p = point.number in
-    let growth = flowed s p n reading in
+    let growth = flow_since s p n reading in
     let names : numbers s (events.HangUp p n reading) ≡ None = rw (there, nozzle) refl in
     let agrees : report_refusal (put_back_at (facts_of s p).state) (reading_of p n s.nozzles)
     reading ≡ None =
@@ -143,7 +146,7 @@ pub hang_up_ready : (s : SiteState) (d p n reading growth : ℕ) (report : Repor
     (point : FoundPoint) → Sound s
     → is_there s (Some p) ≡ None → point.number ≡ p → IsFound point s.points
     → is_nozzle_there s (Some p) (Some n) ≡ None → unless (p == d) NotYourPoint ≡ None
-    → growth ≡ flowed s p n reading → reading ≤ GREATEST_READING
+    → growth ≡ flow_since s p n reading → reading ≤ GREATEST_READING
     → refusal_of (points.HangUp n growth) (facts_of s point.number) ≡ None
     → report ≡ put_back_at (facts_of s point.number).state
     → report_refusal report (reading_of p n s.nozzles) reading ≡ None
@@ -153,7 +156,7 @@ hang_up_ready s d p n reading growth report point sound there number found nozzl
     subst (λ q. is_there s (Some q) ≡ None → is_nozzle_there s (Some q) (Some n) ≡ None
     → unless (q == d) NotYourPoint ≡ None
     → report_refusal report (reading_of q n s.nozzles) reading ≡ None
-    → growth ≡ flowed s q n reading
+    → growth ≡ flow_since s q n reading
     → IsReady s (Dispenser d) (events.HangUp q n reading) (ready.HangUp point n reading growth))
     number
     (λ a b e r g. subst (λ k. refusal_of (points.HangUp n k) (facts_of s point.number) ≡ None

@@ -20,26 +20,26 @@ use Rattle.fuelling_point.specs.PointChecks.{refusal_of}
 use Rattle.fuelling_point.specs.Step.{step_of, after}
 use Rattle.site_base.specs.Table.{with_row}
 use Rattle.fuelling_point.specs.Whole.{IsWhole, is_released}
-use Rattle.meters.specs.Metered.{most_of_a_site, product_alone, product_total}
+use Rattle.meters.specs.MeteredVolumes.{most_of_a_site, product_alone, product_total}
 use Rattle.meters.specs.Nozzles.{Nozzle, product_of, reading_of, nozzle_of, with_last}
 use Rattle.meters.specs.Reports.{report_refusal}
 use Rattle.meters.specs.declared.report.Report.{Report}
 use Rattle.meters.specs.declared.report.Report.TheVariants.{Growing}
-use Rattle.meters.proofs.Bounded.{total_bound, each_found}
-use Rattle.meters.proofs.Weighed.{accepted_above}
+use Rattle.meters.proofs.Bounds.{total_bound, each_found}
+use Rattle.meters.proofs.Weights.{accepted_above}
 use Rattle.transaction_buffer.specs.Sales.{Sale, next_after}
 use Rattle.transaction_buffer.specs.Sums as sums
 use Rattle.transaction_buffer.proofs.Summing.{alike_sum}
 use Rattle.transaction_buffer.proofs.Volumes.{add_up}
 use Rattle.site_base.specs.declared.state.Status.TheVariants as statuses
 use Rattle.written_site.specs.SiteState.{SiteState, facts_of, has_point}
-use Rattle.written_site.specs.SiteChecks.{own_event, numbers, flowed, put_back_at, may_ask}
+use Rattle.written_site.specs.SiteChecks.{own_event, numbers, flow_since, put_back_at, may_ask}
 use Rattle.written_site.specs.SiteChecks.{first_refusal}
 use Rattle.written_site.specs.SiteStep.{Steps, sales_by, draws_by, nozzles_after, step_told}
 use Rattle.written_site.specs.SiteStep.{holds_unless_over}
 use Rattle.written_site.specs.SoundSteps.{IsTaken}
 use Rattle.written_site.specs.Sound.{Sound, IsPointSound, MaySell}
-use Rattle.written_site.specs.Volumes.{nozzle_out, running, running_at, sold_by, drawn_of}
+use Rattle.written_site.specs.Volumes.{nozzle_out, running_volume, running_at, sold_by, drawn_of}
 use Rattle.written_site.proofs.SoundTables.{row_there}
 use Rattle.written_site.proofs.SoundMeters.{some_of, product_after}
 use Rattle.written_site.proofs.SoundReports.{reading_own}
@@ -92,10 +92,10 @@ sold_alone q s = alike_sum _ _ (alone q) s.sales
 
 -- what the meters have counted of a product is in fuellings, in sales and in draws
 pub conserved_of : (s : SiteState) (q : ℕ) → Sound s
-    → product_total q s.nozzles ≡ running s q + sums.volume_of q s.sales + drawn_of q s.drawn
+    → product_total q s.nozzles ≡ running_volume s q + sums.volume_of q s.sales + drawn_of q s.drawn
 conserved_of s q sound =
     sound.conserved (product_alone q)
-    ∙ ap (λ (v : ℕ). running s q + v + drawn_of q s.drawn) (sold_alone q s)
+    ∙ ap (λ (v : ℕ). running_volume s q + v + drawn_of q s.drawn) (sold_alone q s)
 
 -- what is in fuellings under way is what the meters have counted of a product and no sale or draw
 -- has
@@ -104,12 +104,13 @@ pub record IsRest (metered running payable locked cleared adjusted : ℕ) : Type
   pub rest : metered - payable - locked - cleared - adjusted ≡ running
 
 pub rest_of : (s : SiteState) (q : ℕ) → Sound s
-    → IsRest (product_total q s.nozzles) (running s q) (sums.volume_by q statuses.Payable s.sales)
+    → IsRest (product_total q s.nozzles) (running_volume s q)
+    (sums.volume_by q statuses.Payable s.sales)
     (sums.volume_by q statuses.Locked s.sales) (sums.volume_by q statuses.Cleared s.sales)
     (drawn_of q s.drawn)
 rest_of s q sound =
     let whole = conserved_of s q sound
-    ∙ ap (λ (v : ℕ). running s q + v + drawn_of q s.drawn) (sym (add_up q s.sales)) in
+    ∙ ap (λ (v : ℕ). running_volume s q + v + drawn_of q s.drawn) (sym (add_up q s.sales)) in
     record { whole = whole; rest = omega (arith, whole) }
 
 -- the same of figures that equal these
@@ -117,7 +118,7 @@ pub rest_told : (s : SiteState) (q metered payable locked cleared adjusted : ℕ
     → metered ≡ product_total q s.nozzles → payable ≡ sums.volume_by q statuses.Payable s.sales
     → locked ≡ sums.volume_by q statuses.Locked s.sales
     → cleared ≡ sums.volume_by q statuses.Cleared s.sales → adjusted ≡ drawn_of q s.drawn
-    → IsRest metered (running s q) payable locked cleared adjusted
+    → IsRest metered (running_volume s q) payable locked cleared adjusted
 rest_told s q metered payable locked cleared adjusted sound a b c d e =
     rw (a, b, c, d, e) (rest_of s q sound)
 
@@ -296,7 +297,7 @@ offline_there : (s : SiteState) (p : ℕ) → numbers s (Offline p) ≡ None →
 offline_there s p names = grind (arith, common_steps)
 
 pub flow_fits : (s : SiteState) (p n reading growth : ℕ) → Sound s
-    → numbers s (Flow p n reading) ≡ None → growth ≡ flowed s p n reading
+    → numbers s (Flow p n reading) ≡ None → growth ≡ flow_since s p n reading
     → refusal_of (points.Flow n growth) (facts_of s p) ≡ None
     → report_refusal Growing (reading_of p n s.nozzles) reading ≡ None
     → reading ≤ GREATEST_READING → volume_of (facts_of s p) + growth ≤ GREATEST_READING
@@ -307,7 +308,7 @@ flow_fits s p n reading growth sound names is takes reads top =
     (accepted_above Growing (reading_of p n s.nozzles) reading reads) top)
 
 pub hang_up_fits : (s : SiteState) (p n reading growth : ℕ) (report : Report) → Sound s
-    → numbers s (HangUp p n reading) ≡ None → growth ≡ flowed s p n reading
+    → numbers s (HangUp p n reading) ≡ None → growth ≡ flow_since s p n reading
     → refusal_of (points.HangUp n growth) (facts_of s p) ≡ None
     → report_refusal report (reading_of p n s.nozzles) reading ≡ None
     → reading ≤ GREATEST_READING → volume_of (facts_of s p) + growth ≤ GREATEST_READING
@@ -319,7 +320,7 @@ hang_up_fits s p n reading growth report sound names is takes reads top =
 
 pub hang_up_ends : (s : SiteState) (rows : List (ℕ × Facts)) (nozzles : List Nozzle)
     (p n reading growth : ℕ) (report : Report) (step : PointStep) → Sound s
-    → numbers s (HangUp p n reading) ≡ None → growth ≡ flowed s p n reading
+    → numbers s (HangUp p n reading) ≡ None → growth ≡ flow_since s p n reading
     → refusal_of (points.HangUp n growth) (facts_of s p) ≡ None
     → report ≡ put_back_at (facts_of s p).state
     → report_refusal report (reading_of p n s.nozzles) reading ≡ None
@@ -330,15 +331,15 @@ pub hang_up_ends : (s : SiteState) (rows : List (ℕ × Facts)) (nozzles : List 
 hang_up_ends s rows nozzles p n reading growth report step sound names is takes asks reads top moved
     told =
     let fit = hang_up_fits s p n reading growth report sound names is takes reads top in
-    let same : refusal_of (points.HangUp n (flowed s p n reading)) (facts_of s p) ≡ None =
+    let same : refusal_of (points.HangUp n (flow_since s p n reading)) (facts_of s p) ≡ None =
     sym (ap (λ (g : ℕ). refusal_of (points.HangUp n g) (facts_of s p)) is) ∙ takes in
     let agrees : report_refusal (put_back_at (facts_of s p).state) (reading_of p n s.nozzles)
     reading ≡ None =
     sym (ap (λ (r : Report). report_refusal r (reading_of p n s.nozzles) reading) asks) ∙ reads in
-    let fit' : volume_of (facts_of s p) + flowed s p n reading ≤ GREATEST_READING =
+    let fit' : volume_of (facts_of s p) + flow_since s p n reading ≤ GREATEST_READING =
     subst (λ (g : ℕ). volume_of (facts_of s p) + g ≤ GREATEST_READING) is fit in
     rw (moved, told, is) (report_ended s rows (HangUp p n reading) p
-    (points.HangUp n (flowed s p n reading)) sound
+    (points.HangUp n (flow_since s p n reading)) sound
     (record { names = names; takes = same; reads = agrees; range = top }) refl
     (hung_up_there s p n reading names) same fit')
 
@@ -376,7 +377,7 @@ pub hang_up_steps : (s new : SiteState) (rows : List (ℕ × Facts)) (nozzles : 
     (holds : FinMap nat_cmp ℕ)
     (d p n reading growth : ℕ) (report : Report) (step : PointStep) (answer : Answer)
     → Ended s (record s { points = rows; nozzles = nozzles }) nozzles p step
-    → may_ask s (Dispenser d) (HangUp p n reading) ≡ None → growth ≡ flowed s p n reading
+    → may_ask s (Dispenser d) (HangUp p n reading) ≡ None → growth ≡ flow_since s p n reading
     → refusal_of (points.HangUp n growth) (facts_of s p) ≡ None
     → report ≡ put_back_at (facts_of s p).state
     → report_refusal report (reading_of p n s.nozzles) reading ≡ None
@@ -394,7 +395,7 @@ pub hang_up_steps : (s new : SiteState) (rows : List (ℕ × Facts)) (nozzles : 
     → Steps s (Dispenser d) (HangUp p n reading) (record new { holds = holds }) (Ok answer)
 hang_up_steps s new rows nozzles holds d p n reading growth report step answer over asks is takes
     kind reads moved read stepped led held told =
-    let same : refusal_of (points.HangUp n (flowed s p n reading)) (facts_of s p) ≡ None =
+    let same : refusal_of (points.HangUp n (flow_since s p n reading)) (facts_of s p) ≡ None =
     sym (ap (λ (g : ℕ). refusal_of (points.HangUp n g) (facts_of s p)) is) ∙ takes in
     let agrees : report_refusal (put_back_at (facts_of s p).state) (reading_of p n s.nozzles)
     reading ≡ None =

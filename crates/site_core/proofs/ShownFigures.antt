@@ -8,7 +8,7 @@ use Rattle.std.proofs.lemmas.List.Elements.{All-append}
 use Rattle.std.proofs.lemmas.List.FromFn.{get_or-map-range_with_len, length-map-range_with_len}
 use Rattle.std.proofs.lemmas.Option.{get_or_from_slice_get, slice_get_within}
 use Rattle.site_base.specs.declared.limits.TheConstants.{PRODUCTS, TILLS}
-use Rattle.site_base.specs.Numbered.{numbered}
+use Rattle.site_base.specs.Members.{member}
 use Rattle.site_base.proofs.Numbering.{numbered_map, numbered_place}
 use Rattle.shift_ledger.specs.declared.row.ShiftRow.{ShiftRow}
 use Rattle.shift_ledger.specs.Figures.{empty_figures, product_figure, till_figures}
@@ -28,7 +28,7 @@ alone row is (suc k) d within = absurd (omega arith)
 
 -- a member of a list whose members all are so
 each_numbered : (P : ShiftRow → Type 0) (n : ℕ) (rows : List ShiftRow) (row : ShiftRow)
-    → All P rows → numbered n rows ≡ Some row → P row
+    → All P rows → member n rows ≡ Some row → P row
 each_numbered P zero rows row all is = cc
 each_numbered P (suc n) rows row all is =
     let there : slice_get rows (suc n - 1) ≡ Some row =
@@ -46,7 +46,7 @@ row_is n shifts row rows shown =
 -- ---- a list of so many figures is known by its figures
 
 known : {A : Type 0} (d : A) (f : ℕ → A) (count : ℕ) (xs : List A) → length xs ≡ count
-    → ((n : ℕ) → 1 ≤ n → n ≤ count → unwrap_or (numbered n xs) d ≡ f n)
+    → ((n : ℕ) → 1 ≤ n → n ≤ count → unwrap_or (member n xs) d ≡ f n)
     → xs ≡ map f (range_with_len 1 count)
 known d f count xs size figures =
     ext_get_or d xs (map f (range_with_len 1 count))

@@ -4,7 +4,7 @@ use Rattle.std.specs.Prelude.{slice_index, true, Option, Some, option_map, unwra
 use Rattle.std.specs.Coded.{Coded, code_by, coded_ℕ, coded×, coded_list}
 use Rattle.std.specs.List.{list_all, range_with_len}
 use Rattle.site_base.specs.declared.limits.TheConstants.{PRODUCT_CELLS, PRODUCTS, TILLS, TILL_CELLS}
-use Rattle.site_base.specs.Numbered.{numbered, with_numbered}
+use Rattle.site_base.specs.Members.{member, with_numbered}
 use Rattle.shift_ledger.specs.declared.row.ShiftRow.{ShiftRow}
 use Rattle.shift_ledger.specs.Figures.{empty_figures, one_clear_more, till_figures, product_figure}
 use Rattle.shift_ledger.specs.Laws.{HaveRows}
@@ -56,7 +56,7 @@ figures_in h sales draws = record {
 
 -- the figures of shift h, if it is open or closed
 abbrev pub shift_row : ℕ → Sales → List (List ℕ) → Option ShiftRow
-shift_row h sales drawn = option_map (figures_in h sales) (numbered h drawn)
+shift_row h sales drawn = option_map (figures_in h sales) (member h drawn)
 
 -- the row of shift h; of no such shift, an empty one
 abbrev pub row_in : ℕ → Shifts → ShiftRow
@@ -68,7 +68,7 @@ no_clears = replicate TILL_CELLS (0, 0)
 
 -- the clears of till t and their cents
 abbrev pub total_of : ℕ → List (ℕ × ℕ) → ℕ × ℕ
-total_of t tills = unwrap_or (numbered t tills) (0, 0)
+total_of t tills = unwrap_or (member t tills) (0, 0)
 
 -- the tills' clears and their cents, with one more of till t
 abbrev pub with_one_more : ℕ → ℕ → List (ℕ × ℕ) → List (ℕ × ℕ)

@@ -4,12 +4,13 @@ ghost use Rattle.std.specs.Prelude.{◌≡◌, ℕ, ◌+◌, ◌-◌, ◌^◌, �
 ghost use Rattle.std.specs.Prelude.{Some, true, false, is_some, length, sum_by, OnOk, OnErr, IfErr};
 ghost use Rattle.std.specs.Prelude.{IfSome};
 ghost use Rattle.site_base.specs.declared.limits.TheConstants.{GREATEST_SHIFT, UNPAID_LIMIT};
-ghost use Rattle.site_base.specs.Numbered.{numbered};
+ghost use Rattle.site_base.specs.Members.{member};
 ghost use Rattle.transaction_buffer.specs.Figures.{figure_of};
 ghost use Rattle.transaction_buffer.specs.FoundSales.{IsPlaced, key_of};
 ghost use Rattle.transaction_buffer.specs.Rooms.{one_taken, room_at};
 ghost use Rattle.transaction_buffer.specs.Sales.{HasNoneLater, has_sale, is_new, key, new_sale};
-ghost use Rattle.transaction_buffer.specs.Sales.{next_number, no_sales, sale_of, shown, unpaid_at};
+ghost use Rattle.transaction_buffer.specs.Sales.{next_number, no_sales, sale_of, view_of_sale};
+ghost use Rattle.transaction_buffer.specs.Sales.{unpaid_at};
 ghost use Rattle.transaction_buffer.specs.Sales.{with_new};
 ghost use Rattle.transaction_buffer.specs.Sums.{volume_by, volume_of};
 ghost use Rattle.transaction_buffer.specs.TransactionTable.{after_request, after_sign_off};
@@ -129,7 +130,7 @@ impl Accounts {
     /// The transaction as a read shows it.
     pub fn view(&self, sale: &FoundSale) -> TransactionView
         requires { IsPlaced sale.now self.now.sales }
-        ensures { shown (key_of sale.now) self.now.sales ≡ Some result }
+        ensures { view_of_sale (key_of sale.now) self.now.sales ≡ Some result }
     {
         self.sales.view(sale)
     }
@@ -282,7 +283,7 @@ impl Accounts {
     /// The millilitres that tests drew in shift n of each product, from 1 on. None for shifts to
     /// come.
     pub fn draws(&self, n: ShiftNo) -> Option<[u64; PRODUCT_CELLS]>
-        ensures { result ≡ numbered n self.now.drawn }
+        ensures { result ≡ member n self.now.drawn }
     {
         match self.shift(n) {
             Some(row) => Some(row.adjusted),

@@ -4,7 +4,7 @@ ghost use Rattle.std.specs.Prelude.{◌≡◌, ◌≤◌, true};
 ghost use Rattle.site_base.specs.declared.limits.TheConstants.{GREATEST_READING};
 ghost use Rattle.site_base.specs.declared.actor.Actor.TheVariants.{Dispenser};
 ghost use Rattle.meters.specs.Nozzles.{has_nozzle};
-ghost use Rattle.written_site.specs.SiteChecks.{flowed, put_back_at};
+ghost use Rattle.written_site.specs.SiteChecks.{flow_since, put_back_at};
 ghost use Rattle.written_site.specs.Sound.{Sound};
 ghost use Rattle.site_core.specs.Ready.{Checks};
 ghost use Rattle.site_core.specs.SiteParts.{site_of};
@@ -116,7 +116,7 @@ impl SiteParts {
     /// What has flowed by the nozzle since its last reading, where it reads this; 0 where it reads
     /// less.
     fn growth(&self, p: FpNo, n: NozzleNo, reading: Millilitres) -> u64
-        ensures value { result ≡ flowed (site_of self.now) p n reading }
+        ensures value { result ≡ flow_since (site_of self.now) p n reading }
         ensures range { reading ≤ GREATEST_READING }
     {
         let last = match self.meters.last(p, n) {

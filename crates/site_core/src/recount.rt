@@ -2,10 +2,10 @@
 //! the points, of the sales and of each shift's draws. No total that is kept is read.
 
 ghost use Rattle.std.specs.Prelude.{◌≡◌, ◌*◌, IfOk, map};
-ghost use Rattle.meters.specs.Metered.{product_alone};
+ghost use Rattle.meters.specs.MeteredVolumes.{product_alone};
 ghost use Rattle.written_site.specs.ShiftFigures.{cleared_in, product_totals, till_totals, tills};
 ghost use Rattle.written_site.specs.Sound.{IsPointSound, Sound};
-ghost use Rattle.written_site.specs.Volumes.{product_out, product_view, running, running_at};
+ghost use Rattle.written_site.specs.Volumes.{product_out, product_view, running_volume, running_at};
 ghost use Rattle.site_core.specs.Accounts.{products, shift_row, takings_of};
 ghost use Rattle.site_core.specs.SiteParts.{site_of};
 
@@ -66,7 +66,7 @@ impl SiteParts {
     /// The millilitres of product q in fuellings under way.
     fn recount_running(&self, q: ProductNo) -> u64
         requires { Sound (site_of self.now) }
-        ensures { result ≡ running (site_of self.now) q }
+        ensures { result ≡ running_volume (site_of self.now) q }
     {
         let mut sum = 0;
         for (p, point) in self.points.rows() {

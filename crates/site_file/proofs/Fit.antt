@@ -22,7 +22,7 @@ use Rattle.site_file.specs.declared.key.Key.{Key}
 use Rattle.site_file.specs.declared.key.Key.TheVariants.{Rows, Managers, Product, Point, Number}
 use Rattle.site_file.specs.declared.key.Key.TheVariants.{Name, Price, Nozzles, Reading}
 use Rattle.site_file.specs.Keys.{key_text}
-use Rattle.site_file.specs.SiteFile.{◌>>=◌, only_if, with_keys, value_at, whole, text, list}
+use Rattle.site_file.specs.SiteFile.{◌>>=◌, only_if, with_keys, value_at, whole_number, text, list}
 use Rattle.site_file.specs.SiteFile.{table_of, in_range, number_in, number_at, count, list_at}
 use Rattle.site_file.specs.SiteFile.{rows_of, manager_of, managers_from, managers_of}
 use Rattle.site_file.specs.SiteFile.{product_number, has_name, product_name, product_of}
@@ -73,7 +73,7 @@ number_in-fit : (key : Key) (low high : ℕ) (value : Data)
     → IfOk (number_in key low high value) (λ n. is_between low high n ≡ true)
 unfolding number_in
 number_in-fit key low high value =
-    later (whole key value) (in_range key low high) _ (λ z. in_range-fit key low high z)
+    later (whole_number key value) (in_range key low high) _ (λ z. in_range-fit key low high z)
 
 list_at-fit : (key : Key) (most : ℕ) (file : Members)
     → IfOk (list_at key most file) (λ items. is_between 1 most (count items) ≡ true)
@@ -208,7 +208,7 @@ nozzle_of-fit : (products : List ProductEntry) (value : Data)
 unfolding nozzle_of
 nozzle_of-fit products value =
     later (table_of Nozzles value) _ _ (λ members. later (with_keys _ members) _ _ (λ file.
-    later (value_at Product file) _ _ (λ named. later (whole Product named) _ _ (λ z.
+    later (value_at Product file) _ _ (λ named. later (whole_number Product named) _ _ (λ z.
     stage (product_in products z) _ _ _ (product_in-fit products z) (λ n there.
     later (number_at Reading 0 GREATEST_READING file) _ _ (λ reading. there))))))
 

@@ -2,7 +2,7 @@ pub mod EverySite
 pub mod Fit
 pub mod Lists
 pub mod Members
-pub mod Numbered
+pub mod ByNumber
 pub mod OfTree
 pub mod Trees
-pub mod Worked
+pub mod WorkedFiles

@@ -24,8 +24,10 @@ use Rattle.site_file.specs.declared.key.Key.TheVariants.{Rows, Managers, Product
 use Rattle.site_file.specs.declared.key.Key.TheVariants.{Name, Price, Nozzles, Reading}
 use Rattle.site_file.specs.Keys.{key_text, least}
 use Rattle.site_file.specs.Laws.{is_of_tree}
-use Rattle.site_file.specs.SiteFile.{◌>>=◌, only_if, refuse_least, with_keys, unknown_keys, there}
-use Rattle.site_file.specs.SiteFile.{value_at, whole, text, list, table_of, in_range, number_in}
+use Rattle.site_file.specs.SiteFile.{◌>>=◌, only_if, refuse_least, with_keys, unknown_keys}
+use Rattle.site_file.specs.SiteFile.{expect_value}
+use Rattle.site_file.specs.SiteFile.{value_at, whole_number, text, list, table_of, in_range}
+use Rattle.site_file.specs.SiteFile.{number_in}
 use Rattle.site_file.specs.SiteFile.{number_at, list_at, rows_of, manager_of, managers_from}
 use Rattle.site_file.specs.SiteFile.{managers_of, product_number, product_name, product_of}
 use Rattle.site_file.specs.SiteFile.{products_from, products_of, product_in, nozzle_of}
@@ -60,11 +62,11 @@ value_at-tree : (key : Key) (file : Members) → OfTree (value_at key file)
 unfolding value_at
 value_at-tree key file = by (get_member (key_text key) file)
   where
-    by : (value : Option Data) → OfTree (there key value)
+    by : (value : Option Data) → OfTree (expect_value key value)
     by None = refl
     by (Some value) = tt
 
-whole-tree : (key : Key) (value : Data) → OfTree (whole key value)
+whole-tree : (key : Key) (value : Data) → OfTree (whole_number key value)
 whole-tree key (integer z) = tt
 whole-tree key value = refl
 
@@ -87,7 +89,7 @@ in_range-tree key low high (negsuc n) = refl
 number_in-tree : (key : Key) (low high : ℕ) (value : Data) → OfTree (number_in key low high value)
 unfolding number_in
 number_in-tree key low high value =
-    stages (whole key value) _ (whole-tree key value) (λ z. in_range-tree key low high z)
+    stages (whole_number key value) _ (whole-tree key value) (λ z. in_range-tree key low high z)
 
 number_at-tree : (key : Key) (low high : ℕ) (file : Members) → OfTree (number_at key low high file)
 unfolding number_at
@@ -180,7 +182,7 @@ nozzle_of-tree products value =
     stages (table_of Nozzles value) _ (table-tree Nozzles value) (λ members.
     stages (with_keys _ members) _ (with_keys-tree _ members) (λ file.
     stages (value_at Product file) _ (value_at-tree Product file) (λ named.
-    stages (whole Product named) _ (whole-tree Product named) (λ z.
+    stages (whole_number Product named) _ (whole-tree Product named) (λ z.
     stages (product_in products z) _ (product_in-tree products z) (λ n.
     stages (number_at Reading 0 GREATEST_READING file) _
     (number_at-tree Reading 0 GREATEST_READING file) (λ reading. tt))))))

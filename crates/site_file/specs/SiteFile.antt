@@ -56,17 +56,17 @@ unfoldable pub with_keys : List Key → Members → Result Members ConfigFault
 with_keys known entries = refuse_least entries (least (unknown_keys known entries))
 
 -- what stands at a key, which must be there
-abbrev pub there : Key → Option Data → Result Data ConfigFault
-there key None = Err (MissingKey key)
-there key (Some value) = Ok value
+abbrev pub expect_value : Key → Option Data → Result Data ConfigFault
+expect_value key None = Err (MissingKey key)
+expect_value key (Some value) = Ok value
 
 unfoldable pub value_at : Key → Members → Result Data ConfigFault
-value_at key entries = there key (get_member (key_text key) entries)
+value_at key entries = expect_value key (get_member (key_text key) entries)
 
 -- a whole number, a text, a list, a table, or the wrong kind
-abbrev pub whole : Key → Data → Result ℤ ConfigFault
-whole key (integer z) = Ok z
-whole key value = Err (WrongKind key)
+abbrev pub whole_number : Key → Data → Result ℤ ConfigFault
+whole_number key (integer z) = Ok z
+whole_number key value = Err (WrongKind key)
 
 abbrev pub text : Key → Data → Result (List ℕ) ConfigFault
 text key (string octets) = Ok octets
@@ -86,7 +86,7 @@ in_range key low high (pos n) = only_if (is_between low high n) (OutOfRange key)
 in_range key low high (negsuc n) = Err (OutOfRange key)
 
 unfoldable pub number_in : Key → ℕ → ℕ → Data → Result ℕ ConfigFault
-number_in key low high value = whole key value >>= in_range key low high
+number_in key low high value = whole_number key value >>= in_range key low high
 
 unfoldable pub number_at : Key → ℕ → ℕ → Members → Result ℕ ConfigFault
 number_at key low high entries = value_at key entries >>= number_in key low high
@@ -178,7 +178,7 @@ nozzle_of products value = do
   entries ← table_of Nozzles value
   nozzle ← with_keys (Product ∷ Reading ∷ []) entries
   named ← value_at Product nozzle
-  number ← whole Product named
+  number ← whole_number Product named
   product ← product_in products number
   reading ← number_at Reading 0 GREATEST_READING nozzle
   Ok (record { product = product; reading = reading })

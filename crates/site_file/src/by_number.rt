@@ -39,7 +39,7 @@ impl Products {
     }
 
     /// The product of this number, if it is there.
-    pub fn numbered(&self, number: u64) -> Option<ProductNo>
+    pub fn get(&self, number: u64) -> Option<ProductNo>
         ensures there { is_some result ≡ has_product self.now number }
         ensures value { IfSome result (λ q. q ≡ number) }
     {

@@ -136,7 +136,7 @@ fn product_in(products: &Products, number: i64) -> Result<ProductNo, ConfigFault
     let Ok(number) = u64::try_from(number) else {
         return Err(ConfigFault::UnknownProduct);
     };
-    match products.numbered(number) {
+    match products.get(number) {
         Some(product) => Ok(product),
         None => Err(ConfigFault::UnknownProduct),
     }

@@ -34,7 +34,7 @@ impl PrintedKey {
         let mut text = String::new(alloc);
         let shown = front(key);
         for octet in shown {
-            text.push(printed(*octet))?;
+            text.push(printable_char(*octet))?;
         }
         Ok(PrintedKey { text })
     }
@@ -58,7 +58,7 @@ fn front(key: &[u8]) -> &[u8]
     }
 }
 
-fn printed(octet: u8) -> char
+fn printable_char(octet: u8) -> char
     ensures { result ≡ printed_octet octet }
 {
     if 0x21 <= octet && octet <= 0x7E {

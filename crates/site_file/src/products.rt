@@ -60,7 +60,7 @@ fn product_number(taken: &Products, product: &Table) -> Result<ProductNo, Config
     ensures new { IfOk result (λ n. has_product taken.now n ≡ false) }
 {
     let number = number_at(product, Key::Number, 1, u64::from(PRODUCTS))?;
-    match taken.numbered(number) {
+    match taken.get(number) {
         Some(_) => Err(ConfigFault::Repeated(Key::Number)),
         None => Ok(ProductNo::new(number as u8).unwrap()),
     }

@@ -33,7 +33,7 @@ pub fn value_at(table: &Table, key: Key) -> Result<&Value, ConfigFault>
 
 /// A whole number.
 pub fn read_whole(value: &Value, key: Key) -> Result<i64, ConfigFault>
-    ensures { Gives (λ z. z) result (spec.whole key (view value.now)) }
+    ensures { Gives (λ z. z) result (spec.whole_number key (view value.now)) }
 {
     match value {
         Value::Integer(number) => Ok(*number),

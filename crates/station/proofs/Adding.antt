@@ -12,7 +12,7 @@ use Rattle.site_base.specs.declared.row.Row.{Row}
 use Rattle.site_base.specs.Checks.{reply_or}
 use Rattle.app_message.specs.declared.fault.StreamFault.{StreamFault}
 use Rattle.app_message.specs.Spelling.{spelling}
-use Rattle.app_message.specs.Stream.{fed_by, held}
+use Rattle.app_message.specs.Stream.{fed_by, held_part}
 use Rattle.app_message.specs.Telegram.{Telegram}
 use Rattle.device_map.specs.declared.fault.MapFault.{MapFault}
 use Rattle.device_map.specs.Replies.{fault_message}
@@ -31,15 +31,16 @@ use Rattle.station.specs.declared.peer_end.PeerEnd.{PeerEnd}
 use Rattle.station.specs.declared.peer_end.PeerEnd.TheVariants as ends
 use Rattle.station.specs.Adding.{AddsRequests, AddsSignOff, IsLeaving, is_silent, till_left}
 use Rattle.station.specs.Adding.{till_of}
-use Rattle.station.specs.Moves.{StationState, finished_at, heard_from, with_end, with_octets}
+use Rattle.station.specs.Moves.{StationState, finish_at, hear_from, with_end, with_octets}
 use Rattle.station.specs.Moves.{with_turn}
 use Rattle.station.specs.Peers.{peer_at}
 use Rattle.station.specs.Reads.{is_read_at, is_read_of}
 use Rattle.station.specs.Runs.{Arrives, Finishes, Leaves as Gone, Move, Says, Takes, after_move}
-use Rattle.station.specs.Sessions.{Granted, Grants, Session, Turn, answered, answered_all}
-use Rattle.station.specs.Sessions.{answered_by, asked, ended, finished, granted, heard, is_read}
+use Rattle.station.specs.Sessions.{Granted, Grants, Session, Turn, answer, answer_all}
+use Rattle.station.specs.Sessions.{answer_meaning, ask, end_session, finish, full_grant, hear}
+use Rattle.station.specs.Sessions.{is_read}
 use Rattle.station.specs.Sessions.{no_memory, outcome_at}
-use Rattle.station.specs.Sessions.{refused_by, served, taken, told, told_last, with_outcome}
+use Rattle.station.specs.Sessions.{refuse_by, serve, take_messages, tell, tell_last, with_outcome}
 use Rattle.station.specs.Sessions.{without_till}
 use Rattle.station.proofs.History.{arrived_book, freed_book, taken_book}
 use Rattle.station.proofs.Leaving.{may_sign_off}
@@ -156,24 +157,24 @@ behind_request peer on m ms a b made u same is row rest = record {
 
 abbrev AddsAll : List Granted → List Telegram → Turn → Type 0
 AddsAll gs ms t =
-    Adds t.session.talk.peer t.session.talk.on ms t.book (answered_all gs ms t)
+    Adds t.session.talk.peer t.session.talk.on ms t.book (answer_all gs ms t)
 
 -- a session that has ended asks nothing
 over_asks : (peer : Option (List ℕ)) (gs : List Granted) (ms ns : List Telegram) (b : Book)
     (t : Turn) (end : PeerEnd) → t.session.end ≡ Some end → Leaves t.session.talk.on b t.book
-    → Adds peer t.session.talk.on ns b (answered_all gs ms t)
+    → Adds peer t.session.talk.on ns b (answer_all gs ms t)
 over_asks peer gs ms ns b t end over l =
     subst (Adds peer t.session.talk.on ns b) (sym (all_stay gs ms t end over))
     (unasked peer t.session.talk.on ns b t refl l (not_over t end l.left over))
 
 last_asks : (memory : Bool) (text : List ℕ) (end : PeerEnd) (peer : Option (List ℕ))
     (gs : List Granted) (ms ns : List Telegram) (t : Turn)
-    → Adds peer t.session.talk.on ns t.book (answered_all gs ms (told_last memory text end t))
+    → Adds peer t.session.talk.on ns t.book (answer_all gs ms (tell_last memory text end t))
 last_asks true text end peer gs ms ns t =
-    over_asks peer gs ms ns t.book (told_last true text end t) end refl
+    over_asks peer gs ms ns t.book (tell_last true text end t) end refl
     (leaves_till t.session.talk.on t.book)
 last_asks false text end peer gs ms ns t =
-    over_asks peer gs ms ns t.book (told_last false text end t) no_memory refl
+    over_asks peer gs ms ns t.book (tell_last false text end t) no_memory refl
     (leaves_till t.session.talk.on t.book)
 
 fault_asks : (memory : Bool) (text : List ℕ) (gs : List Granted) (m : Telegram)
@@ -181,40 +182,40 @@ fault_asks : (memory : Bool) (text : List ℕ) (gs : List Granted) (m : Telegram
     → is_another t.session.talk.peer m.from ≡ false → request_at m ≡ Err f
     → ((u : Turn) → AddsAll gs ms u)
     → Adds t.session.talk.peer t.session.talk.on (m ∷ ms) t.book
-    (answered_all gs ms (told memory text (served m.from t)))
+    (answer_all gs ms (tell memory text (serve m.from t)))
 fault_asks true text gs m ms f t same is on =
     behind_fault t.session.talk.peer t.session.talk.on m ms f t.book _ same is
-    (on (told true text (served m.from t)))
+    (on (tell true text (serve m.from t)))
 fault_asks false text gs m ms f t same is on =
     over_asks t.session.talk.peer gs ms (m ∷ ms) t.book
-    (told false text (served m.from t)) no_memory refl (leaves_till t.session.talk.on t.book)
+    (tell false text (serve m.from t)) no_memory refl (leaves_till t.session.talk.on t.book)
 
 request_asks : (memory : Bool) (text : List ℕ) (gs : List Granted) (m : Telegram)
     (ms : List Telegram) (a : Asked) (t : Turn)
     → is_another t.session.talk.peer m.from ≡ false → request_at m ≡ Ok (a.actor, a.event)
     → ((u : Turn) → AddsAll gs ms u)
     → Adds t.session.talk.peer t.session.talk.on (m ∷ ms) t.book
-    (answered_all gs ms (told memory text (asked a.actor a.event a.outcome (served m.from t))))
+    (answer_all gs ms (tell memory text (ask a.actor a.event a.outcome (serve m.from t))))
 request_asks true text gs m ms a t same is on =
     behind_request t.session.talk.peer t.session.talk.on m ms a t.book
     (with_outcome a.actor a.event a.outcome t.book) _ same is refl
-    (on (told true text (asked a.actor a.event a.outcome (served m.from t))))
+    (on (tell true text (ask a.actor a.event a.outcome (serve m.from t))))
 request_asks false text gs m ms a t same is on =
     let made = with_outcome a.actor a.event a.outcome t.book in
-    let after = asked a.actor a.event a.outcome (served m.from t) in
+    let after = ask a.actor a.event a.outcome (serve m.from t) in
     behind_request t.session.talk.peer t.session.talk.on m ms a t.book made _ same is refl
-    (over_asks (peer_after t.session.talk.peer m.from) gs ms ms made (told false text after)
+    (over_asks (peer_after t.session.talk.peer m.from) gs ms ms made (tell false text after)
     no_memory refl (leaves_till after.session.talk.on made))
 
 one_asks : (gs : List Granted) (g : Granted) (m : Telegram) (ms : List Telegram) (t : Turn)
     → ((u : Turn) → AddsAll gs ms u)
     → Adds t.session.talk.peer t.session.talk.on (m ∷ ms) t.book
-    (answered_all gs ms (answered g m t))
+    (answer_all gs ms (answer g m t))
 one_asks gs g m ms t on = by_end t.session.end refl
   where
     by_meaning : (meaning : Meaning) → meaning_at t.session.talk.peer m ≡ meaning
         → Adds t.session.talk.peer t.session.talk.on (m ∷ ms) t.book
-        (answered_all gs ms (answered_by g m meaning t))
+        (answer_all gs ms (answer_meaning g m meaning t))
     by_meaning meanings.Another is =
         last_asks g.text _ _ t.session.talk.peer gs ms (m ∷ ms) t
     by_meaning (meanings.Fault f) is =
@@ -230,8 +231,8 @@ one_asks gs g m ms t on = by_end t.session.end refl
         request_asks g.text _ gs m ms a t meant.0 meant.1 on
 
     by_end : (e : Option PeerEnd) → t.session.end ≡ e
-        → Adds t.session.talk.peer t.session.talk.on (m ∷ ms) t.book (answered_all gs ms
-        (if is_none e then answered_by g m (meaning_at t.session.talk.peer m) t else t))
+        → Adds t.session.talk.peer t.session.talk.on (m ∷ ms) t.book (answer_all gs ms
+        (if is_none e then answer_meaning g m (meaning_at t.session.talk.peer m) t else t))
     by_end None lasts = by_meaning (meaning_at t.session.talk.peer m) refl
     by_end (Some end) over =
         over_asks t.session.talk.peer gs ms (m ∷ ms) t.book t end over
@@ -241,7 +242,7 @@ all_ask : (gs : List Granted) (ms : List Telegram) (t : Turn) → AddsAll gs ms 
 all_ask gs [] t =
     unasked t.session.talk.peer t.session.talk.on [] t.book t refl
     (none_left t.session.talk.on t.book) (λ lasts. refl)
-all_ask [] (m ∷ ms) t = one_asks [] granted m ms t (λ u. all_ask [] ms u)
+all_ask [] (m ∷ ms) t = one_asks [] full_grant m ms t (λ u. all_ask [] ms u)
 all_ask (g ∷ gs) (m ∷ ms) t = one_asks gs g m ms t (λ u. all_ask gs ms u)
 
 -- ---- a piece
@@ -264,19 +265,19 @@ then_left peer on ms b b' u a lasts l = record {
 }
 
 last_leaves : (memory : Bool) (text : List ℕ) (end : PeerEnd) (t : Turn)
-    → Leaves t.session.talk.on t.book (told_last memory text end t).book
+    → Leaves t.session.talk.on t.book (tell_last memory text end t).book
 last_leaves true text end t = leaves_till t.session.talk.on t.book
 last_leaves false text end t = leaves_till t.session.talk.on t.book
 
 refused_asks : (peer : Option (List ℕ)) (on : Option ℕ) (ms : List Telegram) (b : Book)
     (memory : Bool) (fault : Option StreamFault) (t : Turn) → Adds peer on ms b t
-    → AddsRequests peer on ms b (refused_by memory fault t).book
+    → AddsRequests peer on ms b (refuse_by memory fault t).book
 refused_asks peer on ms b memory None t a = a.adds
 refused_asks peer on ms b memory (Some f) t a = by_end t.session.end refl
   where
     by_end : (e : Option PeerEnd) → t.session.end ≡ e
         → AddsRequests peer on ms b (if is_none e
-        then told_last memory (spelling (fault_message f)) (ends.Fault (faults.Talk
+        then tell_last memory (spelling (fault_message f)) (ends.Fault (faults.Talk
         (talk.Stream f.fault))) t
         else t).book
     by_end None lasts = then_left peer on ms b _ t a lasts (last_leaves memory _ _ t)
@@ -284,22 +285,24 @@ refused_asks peer on ms b memory (Some f) t a = by_end t.session.end refl
 
 pub piece_asks : (g : Grants) (piece : List ℕ) (t : Turn)
     → AddsRequests t.session.talk.peer t.session.talk.on (fed_by t.session.held piece).messages
-    t.book (heard g piece t).book
+    t.book (hear g piece t).book
 piece_asks g piece t = by_piece g.piece
   where
     by_piece : (b : Bool)
         → AddsRequests t.session.talk.peer t.session.talk.on (fed_by t.session.held piece).messages
         t.book
-        (if b then taken g (fed_by t.session.held piece) t else ended no_memory t).book
+        (if b then take_messages g (fed_by t.session.held piece) t
+        else end_session no_memory t).book
     by_piece true =
         let fed = fed_by t.session.held piece in
-        let start : Turn = record t { session = record t.session { held = held fed } } in
+        let start : Turn = record t { session = record t.session { held = held_part fed } } in
         refused_asks t.session.talk.peer t.session.talk.on fed.messages t.book g.refusal fed.fault
-        (answered_all g.messages fed.messages start) (all_ask g.messages fed.messages start)
+        (answer_all g.messages fed.messages start) (all_ask g.messages fed.messages start)
     by_piece false =
         let l = leaves_till t.session.talk.on t.book in
         (unasked t.session.talk.peer t.session.talk.on (fed_by t.session.held piece).messages t.book
-        (ended no_memory t) refl l (not_over (ended no_memory t) no_memory l.left refl)).adds
+        (end_session no_memory t) refl l
+        (not_over (end_session no_memory t) no_memory l.left refl)).adds
 
 pub octets_ask : (s : StationState) (memory : Grants) (k : ℕ) (octets : List ℕ) (x : Session)
     → peer_at s.peers k ≡ Some x → is_read x ≡ true
@@ -308,10 +311,10 @@ pub octets_ask : (s : StationState) (memory : Grants) (k : ℕ) (octets : List �
 octets_ask s memory k octets x there read =
     let start : Turn = record { book = s.book; session = x } in
     let ms = (fed_by x.held octets).messages in
-    subst (λ y. AddsRequests x.talk.peer x.talk.on ms s.book (heard_from memory k octets y s).book)
+    subst (λ y. AddsRequests x.talk.peer x.talk.on ms s.book (hear_from memory k octets y s).book)
     (sym there)
     (subst (λ b. AddsRequests x.talk.peer x.talk.on ms s.book
-    (if b then with_turn k (heard memory octets start) s else s).book)
+    (if b then with_turn k (hear memory octets start) s else s).book)
     (sym read) (piece_asks memory octets start))
 
 -- octets for a key whose peer isn't read from, or that nobody has
@@ -319,11 +322,11 @@ pub octets_unheard : (s : StationState) (memory : Grants) (k : ℕ) (octets : Li
     → is_read_at s k ≡ false → with_octets memory k octets s ≡ s
 octets_unheard s memory k octets unread = by_slot (peer_at s.peers k) unread
   where
-    by_slot : (y : Option Session) → is_read_of y ≡ false → heard_from memory k octets y s ≡ s
+    by_slot : (y : Option Session) → is_read_of y ≡ false → hear_from memory k octets y s ≡ s
     by_slot None unread = refl
     by_slot (Some x) unread =
         ap (λ b. if b
-        then with_turn k (heard memory octets (record { book = s.book; session = x })) s
+        then with_turn k (hear memory octets (record { book = s.book; session = x })) s
         else s) unread
 
 -- ---- moves without octets
@@ -335,13 +338,13 @@ adds_none : (on : Option ℕ) (b b' : Book) → b' ≡ b → AddsSignOff on b b'
 adds_none on b b' is = subst (AddsSignOff on b) (sym is) (signs_off on b b (none_left on b))
 
 ends_sign_off : (k : ℕ) (y : Option Session) (s : StationState)
-    → AddsSignOff (till_of y) s.book (finished_at k y s).book
+    → AddsSignOff (till_of y) s.book (finish_at k y s).book
 ends_sign_off k None s = adds_none None s.book s.book refl
 ends_sign_off k (Some x) s = by_test (is_none x.end)
   where
     by_test : (b : Bool)
         → AddsSignOff (if b then x.talk.on else None) s.book (if b
-        then with_turn k (finished (record { book = s.book; session = x })) s
+        then with_turn k (finish (record { book = s.book; session = x })) s
         else s).book
     by_test true = signs_off x.talk.on s.book _ (leaves_till x.talk.on s.book)
     by_test false = adds_none None s.book s.book refl

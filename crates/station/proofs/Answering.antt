@@ -11,7 +11,7 @@ use Rattle.site_base.specs.Devices.{one_more}
 use Rattle.site_base.specs.Events.{point_named}
 use Rattle.app_message.specs.declared.fault.StreamFault.{StreamFault}
 use Rattle.app_message.specs.Spelling.{spelling}
-use Rattle.app_message.specs.Stream.{Held, fed_by, held}
+use Rattle.app_message.specs.Stream.{Held, fed_by, held_part}
 use Rattle.app_message.specs.Telegram.{Telegram}
 use Rattle.device_map.specs.declared.fault.MapFault.{MapFault}
 use Rattle.device_map.specs.Changes.{change_by}
@@ -31,15 +31,15 @@ use Rattle.station.specs.declared.peer.Peer.{Peer}
 use Rattle.station.specs.declared.peer_end.PeerEnd.{PeerEnd}
 use Rattle.station.specs.declared.peer_end.PeerEnd.TheVariants as ends
 use Rattle.station.specs.Hearing.{Answers, AnswersAll, AnswersRequest, Hears, turn_of}
-use Rattle.station.specs.Moves.{StationState, heard_from, rows_since, with_octets, with_turn}
+use Rattle.station.specs.Moves.{StationState, hear_from, rows_since, with_octets, with_turn}
 use Rattle.station.specs.Papers.{IsChangeTo}
 use Rattle.station.specs.Peers.{peer_at, with_notices}
 use Rattle.station.specs.PeerViews.{session_of}
 use Rattle.station.specs.Reads.{is_read_at, is_read_of}
-use Rattle.station.specs.Sessions.{Granted, Grants, Session, Turn, all_granted, answered}
-use Rattle.station.specs.Sessions.{answered_all, answered_by, asked, ended, granted, heard}
-use Rattle.station.specs.Sessions.{no_memory, opening_text, outcome_at, owing, refused_by, served}
-use Rattle.station.specs.Sessions.{told, told_last, with_outcome, without_till}
+use Rattle.station.specs.Sessions.{Granted, Grants, Session, Turn, all_granted, answer}
+use Rattle.station.specs.Sessions.{answer_all, answer_meaning, ask, end_session, full_grant, hear}
+use Rattle.station.specs.Sessions.{no_memory, opening_text, outcome_at, with_text, refuse_by, serve}
+use Rattle.station.specs.Sessions.{tell, tell_last, with_outcome, without_till}
 use Rattle.station.proofs.Courses.{refused-grows}
 use Rattle.station.proofs.Notices.{with_notices-none, with_notices-unchanged}
 use Rattle.station.proofs.Turns.{Grows, all-grows, answered-grows, left-grows}
@@ -89,7 +89,7 @@ pub was_asked : (actor : Actor) (event : Event) (outcome : Outcome) (b b' : Book
     (talked : TalkState) → b' ≡ with_outcome actor event outcome b → talked.peer ≡ p.talk.peer
     → talked.on ≡ signed_by actor event outcome p.talk.on → talked.asked ≡ one_more p.talk.asked
     → (let t : Turn = record { book = b'; session = record (session_of p) { talk = talked } } in t)
-    ≡ asked actor event outcome (turn_of b p)
+    ≡ ask actor event outcome (turn_of b p)
 was_asked actor event outcome b b' p talked book peer on counted =
     ap (λ (k : Book). let t : Turn = record {
       book = k;
@@ -115,7 +115,7 @@ request_told : (memory : Bool) (text : List ℕ) (actor : Actor) (event : Event)
     (t : Turn) (others others' : List (Option Session))
     → others' ≡ with_notices (row_made actor event outcome) others
     → others' ≡ with_notices
-    (rows_since t.book (told memory text (asked actor event outcome t)).book) others
+    (rows_since t.book (tell memory text (ask actor event outcome t)).book) others
 request_told true text actor event outcome t others others' is =
     made_told actor event outcome t.book others others' is
 request_told false text actor event outcome t others others' is =
@@ -130,9 +130,9 @@ pub answers_request : (row memory : Bool) (m : Telegram) (actor : Actor) (event 
     (others others' : List (Option Session))
     → outcome ≡ outcome_at row t.book actor event
     → others' ≡ with_notices (row_made actor event outcome) others
-    → t' ≡ told memory (outcome_text m outcome
+    → t' ≡ tell memory (outcome_text m outcome
     ++ opening_text before m.from (with_outcome actor event outcome t.book))
-    (asked actor event outcome t)
+    (ask actor event outcome t)
     → AnswersRequest m actor event before t t' others others'
 answers_request row memory m actor event outcome before t t' others others' is told_is turn =
     let text = outcome_text m outcome
@@ -141,9 +141,9 @@ answers_request row memory m actor event outcome before t t' others others' is t
       memory = record { row = row; text = memory };
       turn =
           turn
-          ∙ ap (λ (o : Outcome). told memory (outcome_text m o
+          ∙ ap (λ (o : Outcome). tell memory (outcome_text m o
           ++ opening_text before m.from (with_outcome actor event o t.book))
-          (asked actor event o t)) is;
+          (ask actor event o t)) is;
       told =
           request_told memory text actor event outcome t others others' told_is
           ∙ ap (λ (u : Turn). with_notices (rows_since t.book u.book) others) (sym turn);
@@ -152,14 +152,14 @@ answers_request row memory m actor event outcome before t t' others others' is t
 -- ---- a message that is refused
 
 lasting : (g : Granted) (m : Telegram) (t : Turn) (meaning : Meaning) → t.session.end ≡ None
-    → meaning_at t.session.talk.peer m ≡ meaning → answered g m t ≡ answered_by g m meaning t
+    → meaning_at t.session.talk.peer m ≡ meaning → answer g m t ≡ answer_meaning g m meaning t
 lasting g m t meaning lasts is =
-    ap (λ e. if is_none e then answered_by g m (meaning_at t.session.talk.peer m) t else t) lasts
-    ∙ ap (λ k. answered_by g m k t) is
+    ap (λ e. if is_none e then answer_meaning g m (meaning_at t.session.talk.peer m) t else t) lasts
+    ∙ ap (λ k. answer_meaning g m k t) is
 
 last_told : (memory : Bool) (text : List ℕ) (end : PeerEnd) (t : Turn)
     (others : List (Option Session))
-    → others ≡ with_notices (rows_since t.book (told_last memory text end t).book) others
+    → others ≡ with_notices (rows_since t.book (tell_last memory text end t).book) others
 last_told true text end t others = left-told t.session.talk.on t.book others
 last_told false text end t others = left-told t.session.talk.on t.book others
 
@@ -167,7 +167,7 @@ pub answers_another : (memory : Bool) (m : Telegram) (b : Book) (p : Peer) (talk
     (t' : Turn) (others : List (Option Session))
     → p.end ≡ None → meaning_at p.talk.peer m ≡ meanings.Another
     → talked ≡ record p.talk { peer = peer_after p.talk.peer m.from }
-    → t' ≡ told_last memory (number_text m ORIGINATOR_CHANGED)
+    → t' ≡ tell_last memory (number_text m ORIGINATOR_CHANGED)
     (ends.Fault (faults.Talk talk.OriginatorChanged))
     (record { book = b; session = record (session_of p) { talk = talked } })
     → Answers m (turn_of b p) t' others others
@@ -177,8 +177,8 @@ answers_another memory m b p talked t' others lasts is met turn =
     let same : talked ≡ p.talk =
     met ∙ ap (λ q. record p.talk { peer = q })
     (same_peer p.talk.peer m.from (another_meant p.talk.peer m is)) in
-    let now : t' ≡ told_last memory text end (turn_of b p) =
-    turn ∙ ap (λ (s : TalkState). told_last memory text end
+    let now : t' ≡ tell_last memory text end (turn_of b p) =
+    turn ∙ ap (λ (s : TalkState). tell_last memory text end
     (record { book = b; session = record (session_of p) { talk = s } })) same in
     record {
       memory = record { row = true; text = memory };
@@ -192,7 +192,7 @@ answers_another memory m b p talked t' others lasts is met turn =
     }
 
 refusal_told : (memory : Bool) (text : List ℕ) (t : Turn) (others : List (Option Session))
-    → others ≡ with_notices (rows_since t.book (told memory text t).book) others
+    → others ≡ with_notices (rows_since t.book (tell memory text t).book) others
 refusal_told true text t others = told_none t.book others
 refusal_told false text t others = left-told t.session.talk.on t.book others
 
@@ -202,18 +202,18 @@ pub answers_fault : (memory : Bool) (m : Telegram) (f : MapFault) (number : ℕ)
     → p.end ≡ None → meaning_at p.talk.peer m ≡ meanings.Fault f → number ≡ map_number f
     → before ≡ p.talk.peer
     → talked ≡ record p.talk { peer = peer_after p.talk.peer m.from }
-    → t' ≡ told memory (number_text m number ++ opening_text before m.from b)
+    → t' ≡ tell memory (number_text m number ++ opening_text before m.from b)
     (record { book = b; session = record (session_of p) { talk = talked } })
     → Answers m (turn_of b p) t' others others
 answers_fault memory m f number before b p talked t' others lasts is numbered was met turn =
     let text = number_text m (map_number f) ++ opening_text p.talk.peer m.from b in
-    let now : t' ≡ told memory text (served m.from (turn_of b p)) =
+    let now : t' ≡ tell memory text (serve m.from (turn_of b p)) =
     turn
-    ∙ ap (λ n. told memory (number_text m n ++ opening_text before m.from b)
+    ∙ ap (λ n. tell memory (number_text m n ++ opening_text before m.from b)
     (record { book = b; session = record (session_of p) { talk = talked } })) numbered
-    ∙ ap (λ q. told memory (number_text m (map_number f) ++ opening_text q m.from b)
+    ∙ ap (λ q. tell memory (number_text m (map_number f) ++ opening_text q m.from b)
     (record { book = b; session = record (session_of p) { talk = talked } })) was
-    ∙ ap (λ (s : TalkState). told memory text
+    ∙ ap (λ (s : TalkState). tell memory text
     (record { book = b; session = record (session_of p) { talk = s } })) met in
     record {
       memory = record { row = true; text = memory };
@@ -222,7 +222,7 @@ answers_fault memory m f number before b p talked t' others lasts is numbered wa
           ∙ sym (lasting (record { row = true; text = memory }) m (turn_of b p)
           (meanings.Fault f) lasts is);
       told =
-          refusal_told memory text (served m.from (turn_of b p)) others
+          refusal_told memory text (serve m.from (turn_of b p)) others
           ∙ ap (λ (u : Turn). with_notices (rows_since b u.book) others) (sym now);
     }
 
@@ -232,9 +232,10 @@ answers_fault memory m f number before b p talked t' others lasts is numbered wa
 pub answers_none : (m : Telegram) (t : Turn) (others : List (Option Session))
     → is_none t.session.end ≡ false → Answers m t t others others
 answers_none m t others over = record {
-  memory = granted;
+  memory = full_grant;
   turn =
-      sym (ap (λ b. if b then answered_by granted m (meaning_at t.session.talk.peer m) t else t)
+      sym (ap (λ b. if b then answer_meaning full_grant m (meaning_at t.session.talk.peer m) t
+      else t)
       over);
   told = told_none t.book others;
 }
@@ -268,7 +269,7 @@ all_more ms i m a b c x y z within is all one =
         length-append (take i ms) (m ∷ []),
       );
       turn =
-          one.turn ∙ ap (answered one.memory m) all.turn
+          one.turn ∙ ap (answer one.memory m) all.turn
           ∙ sym (turns.one_more all.memory (take i ms) one.memory m a all.each);
       told = told_then a.book b.book c.book x y z grown grows all.told one.told;
     })
@@ -278,11 +279,12 @@ all_more ms i m a b c x y z within is all one =
 -- there was no memory for it
 pub hears_nothing : (piece : List ℕ) (b : Book) (p : Peer) (decoder : Held) (t' : Turn)
     (others : List (Option Session)) → decoder ≡ p.decoder
-    → t' ≡ ended no_memory (record { book = b; session = record (session_of p) { held = decoder } })
+    → t' ≡ end_session no_memory
+    (record { book = b; session = record (session_of p) { held = decoder } })
     → Hears piece (turn_of b p) t' others others
 hears_nothing piece b p decoder t' others same turn =
-    let now : t' ≡ ended no_memory (turn_of b p) =
-    turn ∙ ap (λ (h : Held). ended no_memory
+    let now : t' ≡ end_session no_memory (turn_of b p) =
+    turn ∙ ap (λ (h : Held). end_session no_memory
     (record { book = b; session = record (session_of p) { held = h } })) same in
     record {
       memory = record { piece = false; messages = []; refusal = true };
@@ -294,13 +296,13 @@ hears_nothing piece b p decoder t' others same turn =
 
 refused_told : (memory : Bool) (fault : Option StreamFault) (t : Turn)
     (others : List (Option Session))
-    → others ≡ with_notices (rows_since t.book (refused_by memory fault t).book) others
+    → others ≡ with_notices (rows_since t.book (refuse_by memory fault t).book) others
 refused_told memory None t others = told_none t.book others
 refused_told memory (Some f) t others = by_test (is_none t.session.end)
   where
     by_test : (b : Bool)
         → others ≡ with_notices (rows_since t.book (if b
-        then told_last memory (spelling (fault_message f)) (ends.Fault (faults.Talk
+        then tell_last memory (spelling (fault_message f)) (ends.Fault (faults.Talk
         (talk.Stream f.fault))) t
         else t).book) others
     by_test true = last_told memory _ _ t others
@@ -309,24 +311,25 @@ refused_told memory (Some f) t others = by_test (is_none t.session.end)
 pub hears_piece : (piece : List ℕ) (b : Book) (p : Peer) (decoder : Held) (ms : List Telegram)
     (fault : Option StreamFault) (memory : Bool) (t t' : Turn)
     (others others' : List (Option Session))
-    → decoder ≡ held (fed_by p.decoder piece) → ms ≡ (fed_by p.decoder piece).messages
+    → decoder ≡ held_part (fed_by p.decoder piece) → ms ≡ (fed_by p.decoder piece).messages
     → fault ≡ (fed_by p.decoder piece).fault
     → AnswersAll ms (record { book = b; session = record (session_of p) { held = decoder } }) t
     others others'
-    → t' ≡ refused_by memory fault t
+    → t' ≡ refuse_by memory fault t
     → Hears piece (turn_of b p) t' others others'
 hears_piece piece b p decoder ms fault memory t t' others others' holds listed faulty all turn =
     let fed = fed_by p.decoder piece in
-    let start : Turn = record { book = b; session = record (session_of p) { held = held fed } } in
-    let answers : t ≡ answered_all all.memory fed.messages start =
+    let start : Turn =
+    record { book = b; session = record (session_of p) { held = held_part fed } } in
+    let answers : t ≡ answer_all all.memory fed.messages start =
     all.turn
-    ∙ ap (λ (h : Held). answered_all all.memory ms
+    ∙ ap (λ (h : Held). answer_all all.memory ms
     (record { book = b; session = record (session_of p) { held = h } })) holds
-    ∙ ap (λ ns. answered_all all.memory ns start) listed in
+    ∙ ap (λ ns. answer_all all.memory ns start) listed in
     let grants : Grants = record { piece = true; messages = all.memory; refusal = memory } in
-    let now : t' ≡ heard grants piece (turn_of b p) =
-    turn ∙ ap (λ f. refused_by memory f t) faulty
-    ∙ ap (refused_by memory fed.fault) answers in
+    let now : t' ≡ hear grants piece (turn_of b p) =
+    turn ∙ ap (λ f. refuse_by memory f t) faulty
+    ∙ ap (refuse_by memory fed.fault) answers in
     let grown : Grows b t.book =
     subst (λ (u : Turn). Grows b u.book) (sym answers)
     (all-grows all.memory fed.messages start) in
@@ -348,11 +351,11 @@ pub unheard : (k : ℕ) (piece : List ℕ) (s : StationState) → is_read_at s k
 unheard k piece s unread = (all_granted, by_slot (peer_at s.peers k) unread)
   where
     by_slot : (slot : Option Session) → is_read_of slot ≡ false
-        → s ≡ heard_from all_granted k piece slot s
+        → s ≡ hear_from all_granted k piece slot s
     by_slot None unread = refl
     by_slot (Some x) unread =
         sym (ap (λ b. if b
-        then with_turn k (heard all_granted piece (record { book = s.book; session = x })) s
+        then with_turn k (hear all_granted piece (record { book = s.book; session = x })) s
         else s) unread)
 
 -- ---- what was put for a request
@@ -365,18 +368,18 @@ pub request_put : (text : Book → List ℕ) (b made : Book) (p p' : Peer) (talk
       talk = talked;
       owed = p.outbox ++ text b;
     }
-    → turn_of b p' ≡ owing (text made) t
+    → turn_of b p' ≡ with_text (text made) t
 request_put text b made p p' talked t book asked_is put =
     ap (λ (x : Session). let u : Turn = record { book = b; session = x } in u) put
-    ∙ ap (owing (text b)) asked_is
-    ∙ ap (λ (k : Book). owing (text k) t) book
+    ∙ ap (with_text (text b)) asked_is
+    ∙ ap (λ (k : Book). with_text (text k) t) book
 
 pub request_lost : (b : Book) (p p' : Peer) (talked : TalkState) (t t' : Turn)
     → (let u : Turn = record { book = b; session = record (session_of p) { talk = talked } } in u)
     ≡ t
     → session_of p' ≡ record (session_of p) { talk = talked }
-    → t' ≡ ended no_memory (turn_of b p') → t' ≡ ended no_memory t
+    → t' ≡ end_session no_memory (turn_of b p') → t' ≡ end_session no_memory t
 request_lost b p p' talked t t' asked_is put turn =
     turn
-    ∙ ap (λ (x : Session). ended no_memory (record { book = b; session = x })) put
-    ∙ ap (ended no_memory) asked_is
+    ∙ ap (λ (x : Session). end_session no_memory (record { book = b; session = x })) put
+    ∙ ap (end_session no_memory) asked_is

@@ -8,7 +8,7 @@ use Rattle.site_base.specs.declared.row.Row.{Row}
 use Rattle.site_base.specs.Configured.{Configured}
 use Rattle.app_message.specs.declared.fault.StreamFault.{StreamFault}
 use Rattle.app_message.specs.Spelling.{spelling}
-use Rattle.app_message.specs.Stream.{Stream, fed_by, held, stream_of, walk}
+use Rattle.app_message.specs.Stream.{Stream, fed_by, held_part, stream_of, walk}
 use Rattle.device_map.specs.Replies.{fault_message}
 use Rattle.device_map.proofs.Results.{equal}
 use Rattle.site_book.specs.Book.{Book}
@@ -20,16 +20,16 @@ use Rattle.till_session.proofs.Talks.{on_none}
 use Rattle.station.specs.declared.peer_end.PeerEnd.{PeerEnd}
 use Rattle.station.specs.declared.peer_end.PeerEnd.TheVariants as ends
 use Rattle.station.specs.declared.sizes.TheConstants.{READ_LIMIT}
-use Rattle.station.specs.Moves.{StationState, finished_at, freed, heard_from, rows_since, taken_by}
+use Rattle.station.specs.Moves.{StationState, finish_at, free, hear_from, rows_since, take_by}
 use Rattle.station.specs.Moves.{with_arrival, with_end, with_turn}
-use Rattle.station.specs.Peers.{noticed_all, peer_at, with_peer, with_notices}
+use Rattle.station.specs.Peers.{tell_rows, peer_at, with_peer, with_notices}
 use Rattle.station.specs.Runs.{Arrives, Finishes, Leaves, Move, Says, Stays, Takes, after}
-use Rattle.station.specs.Runs.{after_move, arrived, heard_of, heard_with, stays_with, taken_with}
-use Rattle.station.specs.Runs.{told}
+use Rattle.station.specs.Runs.{after_move, arrive, heard_of, heard_with, stays_with, taken_with}
+use Rattle.station.specs.Runs.{text_to}
 use Rattle.station.specs.Reads.{is_read_at, owed_at}
-use Rattle.station.specs.Sessions.{Grants, Session, Turn, answered_all, ended, finished, heard}
-use Rattle.station.specs.Sessions.{is_read, no_memory, opening_session, refused_by, taken}
-use Rattle.station.specs.Sessions.{told_last}
+use Rattle.station.specs.Sessions.{Grants, Session, Turn, answer_all, end_session, finish, hear}
+use Rattle.station.specs.Sessions.{is_read, no_memory, opening_session, refuse_by, take_messages}
+use Rattle.station.specs.Sessions.{tell_last}
 use Rattle.station.specs.Stories.{IsTold, asked_in, is_all_answered, is_whole, messages_in}
 use Rattle.station.specs.Stories.{refusal_by, rows_in, said_in, told_in}
 use Rattle.station.proofs.Lives.{InCourse, finishes, hears, rows_come}
@@ -48,33 +48,34 @@ other_key j k is same =
 -- ---- rows that a turn adds
 
 pub refused-grows : (memory : Bool) (fault : Option StreamFault) (t : Turn)
-    → Grows t.book (refused_by memory fault t).book
+    → Grows t.book (refuse_by memory fault t).book
 refused-grows memory None t = grows_none t.book
 refused-grows memory (Some f) t = by_test (is_none t.session.end) memory
   where
     by_test : (b memory : Bool)
         → Grows t.book
         (if b
-        then told_last memory (spelling (fault_message f)) (ends.Fault (faults.Talk
+        then tell_last memory (spelling (fault_message f)) (ends.Fault (faults.Talk
         (talk.Stream f.fault))) t
         else t).book
     by_test true true = left-grows t.session.talk.on t.book
     by_test true false = left-grows t.session.talk.on t.book
     by_test false memory = grows_none t.book
 
-pub taken-grows : (g : Grants) (fed : Stream) (t : Turn) → Grows t.book (taken g fed t).book
+pub taken-grows : (g : Grants) (fed : Stream) (t : Turn) → Grows t.book (take_messages g fed t).book
 taken-grows g fed t =
-    let start : Turn = record t { session = record t.session { held = held fed } } in
-    let answered = answered_all g.messages fed.messages start in
+    let start : Turn = record t { session = record t.session { held = held_part fed } } in
+    let answered = answer_all g.messages fed.messages start in
     grows_then t.book answered.book _ (all-grows g.messages fed.messages start)
     (refused-grows g.refusal fed.fault answered)
 
-pub heard-grows : (g : Grants) (piece : List ℕ) (t : Turn) → Grows t.book (heard g piece t).book
+pub heard-grows : (g : Grants) (piece : List ℕ) (t : Turn) → Grows t.book (hear g piece t).book
 heard-grows g piece t = by_piece g.piece
   where
     by_piece : (b : Bool)
         → Grows t.book
-        (if b then taken g (fed_by t.session.held piece) t else ended no_memory t).book
+        (if b then take_messages g (fed_by t.session.held piece) t
+        else end_session no_memory t).book
     by_piece true = taken-grows g (fed_by t.session.held piece) t
     by_piece false = ended-grows no_memory t
 
@@ -97,11 +98,11 @@ other_turn : (c : Configured) (before : List Row) (had sent : List ℕ) (k j : �
 other_turn c before had sent k j t s other g seen =
     let more = rows_since s.book t.book in
     record {
-      session = noticed_all more seen.session;
+      session = tell_rows more seen.session;
       there =
           peer_at-other j k (Some t.session) (with_notices more s.peers) other
-          ∙ peer_at-map (option_map (noticed_all more)) k s.peers refl
-          ∙ ap (option_map (noticed_all more)) seen.there;
+          ∙ peer_at-map (option_map (tell_rows more)) k s.peers refl
+          ∙ ap (option_map (tell_rows more)) seen.there;
       course =
           rows_come c before had sent more s.book t.book seen.session g.same
           (g.rows ∙ ap (λ rs. s.book.rows ++ rs) (sym (since s.book t.book g))) seen.course;
@@ -135,25 +136,25 @@ not_read x end over = ap (λ e. is_none e && nat_lt (length x.owed) READ_LIMIT) 
 own_says : (c : Configured) (before : List Row) (had sent : List ℕ) (k : ℕ) (memory : Grants)
     (octets : List ℕ) (s : StationState) → (seen : IsSeen c before had sent k s)
     → IsSeen c before had (sent ++ (if is_read seen.session then octets else [])) k
-    (heard_from memory k octets (Some seen.session) s)
+    (hear_from memory k octets (Some seen.session) s)
 own_says c before had sent k memory octets s seen = by_course seen.course
   where
     by_course : InCourse c before had sent s.book seen.session
         → IsSeen c before had (sent ++ (if is_read seen.session then octets else [])) k
-        (heard_from memory k octets (Some seen.session) s)
+        (hear_from memory k octets (Some seen.session) s)
     by_course (inl h) = by_test (is_read seen.session)
       where
         by_test : (b : Bool)
             → IsSeen c before had (sent ++ (if b then octets else [])) k
             (if b
-            then with_turn k (heard memory octets (record {
+            then with_turn k (hear memory octets (record {
               book = s.book;
               session = seen.session;
             })) s
             else s)
         by_test true =
             let start : Turn = record { book = s.book; session = seen.session } in
-            own_turn c before had (sent ++ octets) k (heard memory octets start) s
+            own_turn c before had (sent ++ octets) k (hear memory octets start) s
             (hears c before had sent octets memory start h)
         by_test false = rw (append-nil sent) seen
     by_course (inr d) =
@@ -161,52 +162,52 @@ own_says c before had sent k memory octets s seen = by_course seen.course
 
 other_says : (c : Configured) (before : List Row) (had sent : List ℕ) (k j : ℕ) (memory : Grants)
     (octets : List ℕ) (y : Option Session) (s : StationState) → k ≢ j
-    → IsSeen c before had sent k s → IsSeen c before had sent k (heard_from memory j octets y s)
+    → IsSeen c before had sent k s → IsSeen c before had sent k (hear_from memory j octets y s)
 other_says c before had sent k j memory octets None s other seen = seen
 other_says c before had sent k j memory octets (Some y) s other seen = by_test (is_read y)
   where
     by_test : (b : Bool)
         → IsSeen c before had sent k
-        (if b then with_turn j (heard memory octets (record { book = s.book; session = y })) s
+        (if b then with_turn j (hear memory octets (record { book = s.book; session = y })) s
         else s)
     by_test true =
         let start : Turn = record { book = s.book; session = y } in
-        other_turn c before had sent k j (heard memory octets start) s other
+        other_turn c before had sent k j (hear memory octets start) s other
         (heard-grows memory octets start) seen
     by_test false = seen
 
 own_ends : (c : Configured) (before : List Row) (had sent : List ℕ) (k : ℕ) (s : StationState)
     → (seen : IsSeen c before had sent k s)
-    → IsSeen c before had sent k (finished_at k (Some seen.session) s)
+    → IsSeen c before had sent k (finish_at k (Some seen.session) s)
 own_ends c before had sent k s seen = by_course seen.course
   where
     by_course : InCourse c before had sent s.book seen.session
-        → IsSeen c before had sent k (finished_at k (Some seen.session) s)
+        → IsSeen c before had sent k (finish_at k (Some seen.session) s)
     by_course (inl h) =
         let start : Turn = record { book = s.book; session = seen.session } in
         rw h.living.lasts
-        (own_turn c before had sent k (finished start) s
+        (own_turn c before had sent k (finish start) s
         (inr (finishes c before had sent start h)))
     by_course (inr d) = rw d.1.over seen
 
 other_ends : (c : Configured) (before : List Row) (had sent : List ℕ) (k j : ℕ)
     (y : Option Session) (s : StationState) → k ≢ j → IsSeen c before had sent k s
-    → IsSeen c before had sent k (finished_at j y s)
+    → IsSeen c before had sent k (finish_at j y s)
 other_ends c before had sent k j None s other seen = seen
 other_ends c before had sent k j (Some y) s other seen = by_test (is_none y.end)
   where
     by_test : (b : Bool)
         → IsSeen c before had sent k
-        (if b then with_turn j (finished (record { book = s.book; session = y })) s else s)
+        (if b then with_turn j (finish (record { book = s.book; session = y })) s else s)
     by_test true =
         let start : Turn = record { book = s.book; session = y } in
-        other_turn c before had sent k j (finished start) s other
+        other_turn c before had sent k j (finish start) s other
         (left-grows y.talk.on s.book) seen
     by_test false = seen
 
 other_frees : (c : Configured) (before : List Row) (had sent : List ℕ) (k j : ℕ)
     (y : Option Session) (s : StationState) → k ≢ j → IsSeen c before had sent k s
-    → IsSeen c before had sent k (freed j y s)
+    → IsSeen c before had sent k (free j y s)
 other_frees c before had sent k j None s other seen = seen
 other_frees c before had sent k j (Some y) s other seen =
     other_slot c before had sent k j None s other seen
@@ -219,7 +220,7 @@ all_owed had owed n =
 own_takes : (c : Configured) (before : List Row) (had sent : List ℕ) (k n : ℕ) (s : StationState)
     → (seen : IsSeen c before had sent k s)
     → IsSeen c before (had ++ take n seen.session.owed) sent k
-    (taken_by k n (Some seen.session) s)
+    (take_by k n (Some seen.session) s)
 own_takes c before had sent k n s seen = record {
   session = record seen.session { owed = drop n seen.session.owed };
   there = peer_at-same k _ s.peers;
@@ -272,14 +273,14 @@ own_takes c before had sent k n s seen = record {
 
 other_takes : (c : Configured) (before : List Row) (had sent : List ℕ) (k j n : ℕ)
     (y : Option Session) (s : StationState) → k ≢ j → IsSeen c before had sent k s
-    → IsSeen c before had sent k (taken_by j n y s)
+    → IsSeen c before had sent k (take_by j n y s)
 other_takes c before had sent k j n None s other seen = seen
 other_takes c before had sent k j n (Some y) s other seen =
     other_slot c before had sent k j _ s other seen
 
 other_arrives : (c : Configured) (before : List Row) (had sent : List ℕ) (k j : ℕ)
     (y : Option Session) (s : StationState) → peer_at s.peers j ≡ y
-    → IsSeen c before had sent k s → IsSeen c before had sent k (arrived j y s)
+    → IsSeen c before had sent k s → IsSeen c before had sent k (arrive j y s)
 other_arrives c before had sent k j (Some y) s is seen = seen
 other_arrives c before had sent k j None s is seen =
     other_slot c before had sent k j (Some opening_session) s
@@ -299,7 +300,7 @@ moves c before had sent k (Says memory j octets) s stays seen = by_key (j == k) 
     by_key : (b : Bool) → (j == k) ≡ b
         → IsSeen c before (had ++ [])
         (sent ++ (if b then (if is_read_at s k then octets else []) else [])) k
-        (heard_from memory j octets (peer_at s.peers j) s)
+        (hear_from memory j octets (peer_at s.peers j) s)
     by_key true is =
         rw (equal j k is, seen.there, append-nil had)
         (own_says c before had sent k memory octets s seen)
@@ -311,7 +312,7 @@ moves c before had sent k (Takes j n) s stays seen = by_key (j == k) refl
   where
     by_key : (b : Bool) → (j == k) ≡ b
         → IsSeen c before (had ++ (if b then take n (owed_at s k) else [])) (sent ++ []) k
-        (taken_by j n (peer_at s.peers j) s)
+        (take_by j n (peer_at s.peers j) s)
     by_key true is =
         rw (equal j k is, seen.there, append-nil sent) (own_takes c before had sent k n s seen)
     by_key false is =
@@ -320,7 +321,7 @@ moves c before had sent k (Takes j n) s stays seen = by_key (j == k) refl
 moves c before had sent k (Finishes j) s stays seen = by_key (j == k) refl
   where
     by_key : (b : Bool) → (j == k) ≡ b
-        → IsSeen c before (had ++ []) (sent ++ []) k (finished_at j (peer_at s.peers j) s)
+        → IsSeen c before (had ++ []) (sent ++ []) k (finish_at j (peer_at s.peers j) s)
     by_key true is =
         rw (equal j k is, seen.there, append-nil had, append-nil sent)
         (own_ends c before had sent k s seen)
@@ -331,7 +332,7 @@ moves c before had sent k (Leaves j) s stays seen = by_key (j == k) refl stays
   where
     by_key : (b : Bool) → (j == k) ≡ b → (if b then false else true) ≡ true
         → IsSeen c before (had ++ []) (sent ++ []) k
-        (freed j (peer_at (with_end j s).peers j) (with_end j s))
+        (free j (peer_at (with_end j s).peers j) (with_end j s))
     by_key true is stays = absurd cc
     by_key false is stays =
         nothing_more c before had sent k _
@@ -400,7 +401,7 @@ is_told c before had sent b x (inr d) = record {
 pub runs : (c : Configured) (before : List Row) (k : ℕ) (ms : List Move) (had sent : List ℕ)
     (s : StationState) → Stays k ms → IsSeen c before had sent k s
     → (x : Session) × (peer_at (after ms s).peers k ≡ Some x)
-    × IsTold c before (after ms s).book.rows (sent ++ heard_of k ms s) (had ++ told k ms s)
+    × IsTold c before (after ms s).book.rows (sent ++ heard_of k ms s) (had ++ text_to k ms s)
     x.talk.on x.end
 runs c before k [] had sent s stays seen = (
   seen.session,
@@ -414,9 +415,9 @@ runs c before k (m ∷ ms) had sent s stays seen =
       next.1,
       subst (λ o. IsTold c before (after (m ∷ ms) s).book.rows
           (sent ++ heard_of k (m ∷ ms) s) o next.0.talk.on next.0.end)
-          (append_assoc had (taken_with k m s) (told k ms (after_move m s)))
+          (append_assoc had (taken_with k m s) (text_to k ms (after_move m s)))
           (subst (λ o. IsTold c before (after (m ∷ ms) s).book.rows o
-          ((had ++ taken_with k m s) ++ told k ms (after_move m s)) next.0.talk.on next.0.end)
+          ((had ++ taken_with k m s) ++ text_to k ms (after_move m s)) next.0.talk.on next.0.end)
           (append_assoc sent (heard_with k m s) (heard_of k ms (after_move m s))) next.2),
     )
 

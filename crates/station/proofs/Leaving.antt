@@ -13,7 +13,7 @@ use Rattle.site_base.specs.declared.row.Row.{Row}
 use Rattle.site_base.specs.Checks.{value_or}
 use Rattle.app_message.specs.declared.fault.StreamFault.{StreamFault}
 use Rattle.app_message.specs.Spelling.{spelling}
-use Rattle.app_message.specs.Stream.{fed_by, held}
+use Rattle.app_message.specs.Stream.{fed_by, held_part}
 use Rattle.app_message.specs.Telegram.{Telegram}
 use Rattle.device_map.specs.declared.ids.TheConstants as ids
 use Rattle.device_map.specs.Changes.{change_of}
@@ -34,17 +34,19 @@ use Rattle.till_session.proofs.Speakers.{own_met, own_signed, request_meant, spo
 use Rattle.station.specs.declared.peer_end.PeerEnd.{PeerEnd}
 use Rattle.station.specs.declared.peer_end.PeerEnd.TheVariants as ends
 use Rattle.station.specs.declared.sizes.TheConstants.{NOTICE_LIMIT}
-use Rattle.station.specs.Moves.{StationState, finished_at, freed, heard_from, rows_since, taken_by}
+use Rattle.station.specs.Moves.{StationState, finish_at, free, hear_from, rows_since, take_by}
 use Rattle.station.specs.Moves.{with_end, with_turn, without_peer}
 use Rattle.station.specs.Notices.{notice_at, row_notice}
-use Rattle.station.specs.Peers.{listener, noticed, noticed_all, noticed_by, peer_at, with_notices}
+use Rattle.station.specs.Peers.{listener, tell_row, tell_rows, tell_notice, peer_at, with_notices}
 use Rattle.station.specs.Peers.{with_peer}
 use Rattle.station.specs.Runs.{Arrives, Finishes, Leaves, Move, Says, Takes, after, after_move}
-use Rattle.station.specs.Runs.{arrived, opened}
-use Rattle.station.specs.Sessions.{Granted, Grants, Session, Turn, answered, answered_all}
-use Rattle.station.specs.Sessions.{answered_by, ended, granted, heard, no_memory, refused_by, taken}
-use Rattle.station.specs.Sessions.{asked, end_by, finished, is_read, opening_session, outcome_at}
-use Rattle.station.specs.Sessions.{owing, served, told, told_last, without_till}
+use Rattle.station.specs.Runs.{arrive, opening_station}
+use Rattle.station.specs.Sessions.{Granted, Grants, Session, Turn, answer, answer_all}
+use Rattle.station.specs.Sessions.{answer_meaning, end_session, full_grant, hear, no_memory}
+use Rattle.station.specs.Sessions.{refuse_by}
+use Rattle.station.specs.Sessions.{take_messages}
+use Rattle.station.specs.Sessions.{ask, end_by, finish, is_read, opening_session, outcome_at}
+use Rattle.station.specs.Sessions.{with_text, serve, tell, tell_last, without_till}
 use Rattle.station.proofs.Courses.{other_key}
 use Rattle.station.proofs.Lives.{nobody_noticed}
 use Rattle.station.proofs.Peers.{peer_at-map, peer_at-other, peer_at-same}
@@ -82,7 +84,7 @@ abbrev pub HasLeft : Turn → Type 0
 HasLeft t = (end : PeerEnd) (u : ℕ) → t.session.end ≡ Some end → t.session.talk.on ≡ Some u
     → is_signed_on (site_of_book t.book) u ≡ false
 
-pub ended_left : (end : PeerEnd) (t : Turn) → HasLeft (ended end t)
+pub ended_left : (end : PeerEnd) (t : Turn) → HasLeft (end_session end t)
 ended_left end t e u over on =
     ap (λ o. is_signed_on (site_of_book (without_till o t.book)) u) on ∙ signed_off t.book u
 
@@ -92,58 +94,59 @@ lasting_left t lasts end u over on =
     absurd (let no : None ≡ Some end = sym lasts ∙ over in cc)
 
 told_left : (memory : Bool) (text : List ℕ) (t : Turn) → t.session.end ≡ None
-    → HasLeft (told memory text t)
-told_left true text t lasts = lasting_left (told true text t) lasts
+    → HasLeft (tell memory text t)
+told_left true text t lasts = lasting_left (tell true text t) lasts
 told_left false text t lasts = ended_left no_memory t
 
 last_left : (memory : Bool) (text : List ℕ) (end : PeerEnd) (t : Turn)
-    → HasLeft (told_last memory text end t)
-last_left true text end t = ended_left end (owing text t)
+    → HasLeft (tell_last memory text end t)
+last_left true text end t = ended_left end (with_text text t)
 last_left false text end t = ended_left no_memory t
 
 by_left : (g : Granted) (m : Telegram) (meaning : Meaning) (t : Turn) → t.session.end ≡ None
-    → HasLeft (answered_by g m meaning t)
+    → HasLeft (answer_meaning g m meaning t)
 by_left g m meanings.Another t lasts = last_left g.text _ _ t
 by_left g m (meanings.Fault f) t lasts = told_left g.text _ _ lasts
 by_left g m (meanings.Request actor event) t lasts = told_left g.text _ _ lasts
 
-one_left : (g : Granted) (m : Telegram) (t : Turn) → HasLeft t → HasLeft (answered g m t)
+one_left : (g : Granted) (m : Telegram) (t : Turn) → HasLeft t → HasLeft (answer g m t)
 one_left g m t left = by_end t.session.end refl
   where
     by_end : (e : Option PeerEnd) → t.session.end ≡ e
-        → HasLeft (if is_none e then answered_by g m (meaning_at t.session.talk.peer m) t else t)
+        → HasLeft (if is_none e then answer_meaning g m (meaning_at t.session.talk.peer m) t else t)
     by_end None lasts = by_left g m (meaning_at t.session.talk.peer m) t lasts
     by_end (Some end) over = left
 
 all_left : (gs : List Granted) (ms : List Telegram) (t : Turn) → HasLeft t
-    → HasLeft (answered_all gs ms t)
+    → HasLeft (answer_all gs ms t)
 all_left gs [] t left = left
-all_left [] (m ∷ ms) t left = all_left [] ms (answered granted m t) (one_left granted m t left)
-all_left (g ∷ gs) (m ∷ ms) t left = all_left gs ms (answered g m t) (one_left g m t left)
+all_left [] (m ∷ ms) t left = all_left [] ms (answer full_grant m t) (one_left full_grant m t left)
+all_left (g ∷ gs) (m ∷ ms) t left = all_left gs ms (answer g m t) (one_left g m t left)
 
 refused_left : (memory : Bool) (fault : Option StreamFault) (t : Turn) → HasLeft t
-    → HasLeft (refused_by memory fault t)
+    → HasLeft (refuse_by memory fault t)
 refused_left memory None t left = left
 refused_left memory (Some f) t left = by_test (is_none t.session.end)
   where
     by_test : (b : Bool)
         → HasLeft (if b
-        then told_last memory (spelling (fault_message f)) (ends.Fault (faults.Talk
+        then tell_last memory (spelling (fault_message f)) (ends.Fault (faults.Talk
         (talk.Stream f.fault))) t
         else t)
     by_test true = last_left memory _ _ t
     by_test false = left
 
 pub heard_left : (g : Grants) (piece : List ℕ) (t : Turn) → t.session.end ≡ None
-    → HasLeft (heard g piece t)
+    → HasLeft (hear g piece t)
 heard_left g piece t lasts = by_piece g.piece
   where
     by_piece : (b : Bool)
-        → HasLeft (if b then taken g (fed_by t.session.held piece) t else ended no_memory t)
+        → HasLeft (if b then take_messages g (fed_by t.session.held piece) t
+        else end_session no_memory t)
     by_piece true =
         let fed = fed_by t.session.held piece in
-        let start : Turn = record t { session = record t.session { held = held fed } } in
-        refused_left g.refusal fed.fault (answered_all g.messages fed.messages start)
+        let start : Turn = record t { session = record t.session { held = held_part fed } } in
+        refused_left g.refusal fed.fault (answer_all g.messages fed.messages start)
         (all_left g.messages fed.messages start (lasting_left start lasts))
     by_piece false = ended_left no_memory t
 
@@ -153,77 +156,77 @@ abbrev pub IsOwnSession : Session → Type 0
 IsOwnSession x = IsOwn x.talk.on x.talk.peer
 
 told_own : (memory : Bool) (text : List ℕ) (t : Turn) → IsOwnSession t.session
-    → IsOwnSession (told memory text t).session
+    → IsOwnSession (tell memory text t).session
 told_own true text t own = own
 told_own false text t own = own
 
 last_own : (memory : Bool) (text : List ℕ) (end : PeerEnd) (t : Turn) → IsOwnSession t.session
-    → IsOwnSession (told_last memory text end t).session
+    → IsOwnSession (tell_last memory text end t).session
 last_own true text end t own = own
 last_own false text end t own = own
 
 by_own : (g : Granted) (m : Telegram) (meaning : Meaning) (t : Turn)
     → meaning_at t.session.talk.peer m ≡ meaning → IsOwnSession t.session
-    → IsOwnSession (answered_by g m meaning t).session
+    → IsOwnSession (answer_meaning g m meaning t).session
 by_own g m meanings.Another t is own = last_own g.text _ _ t own
 by_own g m (meanings.Fault f) t is own =
-    told_own g.text _ (served m.from t)
+    told_own g.text _ (serve m.from t)
     (own_met t.session.talk.on t.session.talk.peer m.from own)
 by_own g m (meanings.Request actor event) t is own =
     let p = t.session.talk.peer in
     let meant = request_meant p m actor event is in
     let outcome = outcome_at g.row t.book actor event in
-    told_own g.text _ (asked actor event outcome (served m.from t))
+    told_own g.text _ (ask actor event outcome (serve m.from t))
     (own_signed actor event outcome t.session.talk.on (peer_after p m.from)
     (spoken_by p m actor event meant.0 meant.1)
     (own_met t.session.talk.on p m.from own))
 
-one_own : (g : Granted) (m : Telegram) (t : Turn) → IsOwnSession t.session
-    → IsOwnSession (answered g m t).session
+pub one_own : (g : Granted) (m : Telegram) (t : Turn) → IsOwnSession t.session
+    → IsOwnSession (answer g m t).session
 one_own g m t own = by_test (is_none t.session.end)
   where
     by_test : (b : Bool)
-        → IsOwnSession (if b then answered_by g m (meaning_at t.session.talk.peer m) t
+        → IsOwnSession (if b then answer_meaning g m (meaning_at t.session.talk.peer m) t
         else t).session
     by_test true = by_own g m (meaning_at t.session.talk.peer m) t refl own
     by_test false = own
 
 all_own : (gs : List Granted) (ms : List Telegram) (t : Turn) → IsOwnSession t.session
-    → IsOwnSession (answered_all gs ms t).session
+    → IsOwnSession (answer_all gs ms t).session
 all_own gs [] t own = own
-all_own [] (m ∷ ms) t own = all_own [] ms (answered granted m t) (one_own granted m t own)
-all_own (g ∷ gs) (m ∷ ms) t own = all_own gs ms (answered g m t) (one_own g m t own)
+all_own [] (m ∷ ms) t own = all_own [] ms (answer full_grant m t) (one_own full_grant m t own)
+all_own (g ∷ gs) (m ∷ ms) t own = all_own gs ms (answer g m t) (one_own g m t own)
 
 refused_own : (memory : Bool) (fault : Option StreamFault) (t : Turn) → IsOwnSession t.session
-    → IsOwnSession (refused_by memory fault t).session
+    → IsOwnSession (refuse_by memory fault t).session
 refused_own memory None t own = own
 refused_own memory (Some f) t own = by_test (is_none t.session.end)
   where
     by_test : (b : Bool)
         → IsOwnSession (if b
-        then told_last memory (spelling (fault_message f)) (ends.Fault (faults.Talk
+        then tell_last memory (spelling (fault_message f)) (ends.Fault (faults.Talk
         (talk.Stream f.fault))) t
         else t).session
     by_test true = last_own memory _ _ t own
     by_test false = own
 
 pub heard_own : (g : Grants) (piece : List ℕ) (t : Turn) → IsOwnSession t.session
-    → IsOwnSession (heard g piece t).session
+    → IsOwnSession (hear g piece t).session
 heard_own g piece t own = by_piece g.piece
   where
     by_piece : (b : Bool)
-        → IsOwnSession (if b then taken g (fed_by t.session.held piece) t
-        else ended no_memory t).session
+        → IsOwnSession (if b then take_messages g (fed_by t.session.held piece) t
+        else end_session no_memory t).session
     by_piece true =
         let fed = fed_by t.session.held piece in
-        let start : Turn = record t { session = record t.session { held = held fed } } in
-        refused_own g.refusal fed.fault (answered_all g.messages fed.messages start)
+        let start : Turn = record t { session = record t.session { held = held_part fed } } in
+        refused_own g.refusal fed.fault (answer_all g.messages fed.messages start)
         (all_own g.messages fed.messages start own)
     by_piece false = own
 
 -- ---- a notice changes no talk, and ends no session that signed a till on
 
-noticed_talk : (n : Option (List ℕ)) (x : Session) → (noticed_by n x).talk ≡ x.talk
+noticed_talk : (n : Option (List ℕ)) (x : Session) → (tell_notice n x).talk ≡ x.talk
 noticed_talk None x = refl
 noticed_talk (Some octets) x = by_test (nat_lt NOTICE_LIMIT (length x.owed))
   where
@@ -233,10 +236,10 @@ noticed_talk (Some octets) x = by_test (nat_lt NOTICE_LIMIT (length x.owed))
     by_test true = refl
     by_test false = refl
 
-pub all_talk : (rows : List Row) (x : Session) → (noticed_all rows x).talk ≡ x.talk
+pub all_talk : (rows : List Row) (x : Session) → (tell_rows rows x).talk ≡ x.talk
 all_talk [] x = refl
 all_talk (r ∷ rows) x =
-    all_talk rows (noticed r x)
+    all_talk rows (tell_row r x)
     ∙ noticed_talk (row_notice (listener x.end x.talk.peer) r) x
 
 -- nobody is listened for, or a till
@@ -256,7 +259,7 @@ till_notice r node till = by_change (change_of r) (where_goes r.event r.reply)
 
 -- a till's session is told no notice
 till_unnoticed : (r : Row) (x : Session) (t : ℕ) → x.talk.on ≡ Some t → IsOwnSession x
-    → noticed r x ≡ x
+    → tell_row r x ≡ x
 till_unnoticed r x t on own = by_peer (listener x.end x.talk.peer)
     (by_end x.end x.talk.peer (subst (λ o. IsOwn o x.talk.peer) on own))
   where
@@ -266,15 +269,15 @@ till_unnoticed r x t on own = by_peer (listener x.end x.talk.peer)
     by_end None (Some node) own = own.0
     by_end (Some end) p own = tt
 
-    by_peer : (p : Option (List ℕ)) → IsTillOrNone p → noticed_by (row_notice p r) x ≡ x
-    by_peer None is = ap (λ n. noticed_by n x) (nobody_noticed r)
-    by_peer (Some node) is = ap (λ n. noticed_by n x) (till_notice r node is)
+    by_peer : (p : Option (List ℕ)) → IsTillOrNone p → tell_notice (row_notice p r) x ≡ x
+    by_peer None is = ap (λ n. tell_notice n x) (nobody_noticed r)
+    by_peer (Some node) is = ap (λ n. tell_notice n x) (till_notice r node is)
 
 pub till_unended : (rows : List Row) (x : Session) (t : ℕ) → x.talk.on ≡ Some t
-    → IsOwnSession x → noticed_all rows x ≡ x
+    → IsOwnSession x → tell_rows rows x ≡ x
 till_unended [] x t on own = refl
 till_unended (r ∷ rows) x t on own =
-    ap (noticed_all rows) (till_unnoticed r x t on own) ∙ till_unended rows x t on own
+    ap (tell_rows rows) (till_unnoticed r x t on own) ∙ till_unended rows x t on own
 
 -- ---- every session of a station
 
@@ -287,13 +290,13 @@ noticed_own : (rows : List Row) (peers : List (Option Session)) (k : ℕ) (y : S
     → peer_at (with_notices rows peers) k ≡ Some y → IsOwnSession y
 noticed_own rows peers k y own is =
     by_slot (peer_at peers k) refl
-    (sym (peer_at-map (option_map (noticed_all rows)) k peers refl) ∙ is)
+    (sym (peer_at-map (option_map (tell_rows rows)) k peers refl) ∙ is)
   where
     by_slot : (slot : Option Session) → peer_at peers k ≡ slot
-        → option_map (noticed_all rows) slot ≡ Some y → IsOwnSession y
+        → option_map (tell_rows rows) slot ≡ Some y → IsOwnSession y
     by_slot None there is = absurd cc
     by_slot (Some x) there is =
-        let same : noticed_all rows x ≡ y = cc in
+        let same : tell_rows rows x ≡ y = cc in
         let talk : y.talk ≡ x.talk =
         ap (λ (z : Session). z.talk) (sym same) ∙ all_talk rows x in
         rw talk (own x there)
@@ -320,37 +323,37 @@ turn_own k t s own all =
     (λ j x is. noticed_own rows s.peers j x (all j) is)
 
 octets_own : (g : Grants) (k : ℕ) (piece : List ℕ) (y : Option Session) (s : StationState)
-    → peer_at s.peers k ≡ y → AreOwn s → AreOwn (heard_from g k piece y s)
+    → peer_at s.peers k ≡ y → AreOwn s → AreOwn (hear_from g k piece y s)
 octets_own g k piece None s there all = all
 octets_own g k piece (Some x) s there all = by_test (is_read x)
   where
     by_test : (b : Bool)
-        → AreOwn (if b then with_turn k (heard g piece (record { book = s.book; session = x })) s
+        → AreOwn (if b then with_turn k (hear g piece (record { book = s.book; session = x })) s
         else s)
     by_test true =
         let start : Turn = record { book = s.book; session = x } in
-        turn_own k (heard g piece start) s (heard_own g piece start (all k x there)) all
+        turn_own k (hear g piece start) s (heard_own g piece start (all k x there)) all
     by_test false = all
 
 ends_own : (k : ℕ) (y : Option Session) (s : StationState) → peer_at s.peers k ≡ y → AreOwn s
-    → AreOwn (finished_at k y s)
+    → AreOwn (finish_at k y s)
 ends_own k None s there all = all
 ends_own k (Some x) s there all = by_test (is_none x.end)
   where
     by_test : (b : Bool)
-        → AreOwn (if b then with_turn k (finished (record { book = s.book; session = x })) s
+        → AreOwn (if b then with_turn k (finish (record { book = s.book; session = x })) s
         else s)
     by_test true =
         let start : Turn = record { book = s.book; session = x } in
-        turn_own k (finished start) s (all k x there) all
+        turn_own k (finish start) s (all k x there) all
     by_test false = all
 
-freed_own : (k : ℕ) (y : Option Session) (s : StationState) → AreOwn s → AreOwn (freed k y s)
+freed_own : (k : ℕ) (y : Option Session) (s : StationState) → AreOwn s → AreOwn (free k y s)
 freed_own k None s all = all
 freed_own k (Some x) s all = slot_own k None s.peers (λ z is. absurd cc) all
 
 taken_own : (k n : ℕ) (y : Option Session) (s : StationState) → peer_at s.peers k ≡ y → AreOwn s
-    → AreOwn (taken_by k n y s)
+    → AreOwn (take_by k n y s)
 taken_own k n None s there all = all
 taken_own k n (Some x) s there all =
     slot_own k (Some (record x { owed = drop n x.owed })) s.peers
@@ -359,13 +362,13 @@ taken_own k n (Some x) s there all =
     subst IsOwnSession same (all k x there))
     all
 
-arrived_own : (k : ℕ) (y : Option Session) (s : StationState) → AreOwn s → AreOwn (arrived k y s)
+arrived_own : (k : ℕ) (y : Option Session) (s : StationState) → AreOwn s → AreOwn (arrive k y s)
 arrived_own k None s all =
     slot_own k (Some opening_session) s.peers
     (λ z is. let same : opening_session ≡ z = cc in subst IsOwnSession same tt) all
 arrived_own k (Some x) s all = all
 
-move_own : (m : Move) (s : StationState) → AreOwn s → AreOwn (after_move m s)
+pub move_own : (m : Move) (s : StationState) → AreOwn s → AreOwn (after_move m s)
 move_own (Arrives k) s all = arrived_own k (peer_at s.peers k) s all
 move_own (Says memory k octets) s all = octets_own memory k octets (peer_at s.peers k) s refl all
 move_own (Takes k n) s all = taken_own k n (peer_at s.peers k) s refl all
@@ -378,8 +381,8 @@ all_moves_own : (ms : List Move) (s : StationState) → AreOwn s → AreOwn (aft
 all_moves_own [] s all = all
 all_moves_own (m ∷ ms) s all = all_moves_own ms (after_move m s) (move_own m s all)
 
-pub always_own : (b : Book) (ms : List Move) → AreOwn (after ms (opened b))
-always_own b ms = all_moves_own ms (opened b) (λ k x is. absurd (nobody k x is))
+pub always_own : (b : Book) (ms : List Move) → AreOwn (after ms (opening_station b))
+always_own b ms = all_moves_own ms (opening_station b) (λ k x is. absurd (nobody k x is))
   where
     nobody : (k : ℕ) (x : Session) → peer_at [] k ≡ Some x → ⊥
     nobody k x is = cc
@@ -397,12 +400,12 @@ unended : (k j : ℕ) (t : Turn) (s : StationState) (x y : Session) (end : PeerE
     → peer_at (with_turn k t s).peers j ≡ Some y → y.end ≡ Some end → y.talk.on ≡ Some u → ⊥
 unended k j t s x y end u other own there lasts is over on =
     let rows = rows_since s.book t.book in
-    let told : option_map (noticed_all rows) (Some x) ≡ Some y =
-    ap (option_map (noticed_all rows)) (sym there)
-    ∙ sym (peer_at-map (option_map (noticed_all rows)) j s.peers refl)
+    let told : option_map (tell_rows rows) (Some x) ≡ Some y =
+    ap (option_map (tell_rows rows)) (sym there)
+    ∙ sym (peer_at-map (option_map (tell_rows rows)) j s.peers refl)
     ∙ sym (peer_at-other k j (Some t.session) (with_notices rows s.peers) (other_key k j other))
     ∙ is in
-    let same : noticed_all rows x ≡ y = cc in
+    let same : tell_rows rows x ≡ y = cc in
     let signed : x.talk.on ≡ Some u =
     sym (ap (λ (z : Session). z.talk.on) (sym same)
     ∙ ap (λ (a : TalkState). a.on) (all_talk rows x)) ∙ on in
@@ -432,8 +435,8 @@ same_slot s j x y end b u there lasts is over =
 octets_end : (g : Grants) (k j : ℕ) (piece : List ℕ) (slot : Option Session) (s : StationState)
     (x y : Session) (end : PeerEnd) (u : ℕ)
     → peer_at s.peers k ≡ slot → IsOwnSession x → peer_at s.peers j ≡ Some x → x.end ≡ None
-    → peer_at (heard_from g k piece slot s).peers j ≡ Some y → y.end ≡ Some end
-    → y.talk.on ≡ Some u → is_signed_on (site_of_book (heard_from g k piece slot s).book) u ≡ false
+    → peer_at (hear_from g k piece slot s).peers j ≡ Some y → y.end ≡ Some end
+    → y.talk.on ≡ Some u → is_signed_on (site_of_book (hear_from g k piece slot s).book) u ≡ false
 octets_end g k j piece None s x y end u here own there lasts is over on =
     same_slot s j x y end s.book u there lasts is over
 octets_end g k j piece (Some z) s x y end u here own there lasts is over on =
@@ -441,10 +444,10 @@ octets_end g k j piece (Some z) s x y end u here own there lasts is over on =
   where
     by_test : (b same : Bool) → (k == j) ≡ same
         → peer_at (if b
-        then with_turn k (heard g piece (record { book = s.book; session = z })) s
+        then with_turn k (hear g piece (record { book = s.book; session = z })) s
         else s).peers j ≡ Some y
         → is_signed_on (site_of_book (if b
-        then with_turn k (heard g piece (record { book = s.book; session = z })) s
+        then with_turn k (hear g piece (record { book = s.book; session = z })) s
         else s).book) u ≡ false
     by_test false same key is = same_slot s j x y end s.book u there lasts is over
     by_test true true key is =
@@ -452,18 +455,18 @@ octets_end g k j piece (Some z) s x y end u here own there lasts is over on =
         let one : k ≡ j = equal k j key in
         let both : Some z ≡ Some x = sym here ∙ ap (peer_at s.peers) one ∙ there in
         let it : z ≡ x = cc in
-        own_end k (heard g piece start) s y end u
+        own_end k (hear g piece start) s y end u
         (heard_left g piece start (ap (λ (w : Session). w.end) it ∙ lasts))
-        (ap (peer_at (with_turn k (heard g piece start) s).peers) one ∙ is) over on
+        (ap (peer_at (with_turn k (hear g piece start) s).peers) one ∙ is) over on
     by_test true false key is =
-        absurd (unended k j (heard g piece (record { book = s.book; session = z })) s x y end u key
+        absurd (unended k j (hear g piece (record { book = s.book; session = z })) s x y end u key
         own there lasts is over on)
 
 finish_end : (k j : ℕ) (slot : Option Session) (s : StationState)
     (x y : Session) (end : PeerEnd) (u : ℕ)
     → peer_at s.peers k ≡ slot → IsOwnSession x → peer_at s.peers j ≡ Some x → x.end ≡ None
-    → peer_at (finished_at k slot s).peers j ≡ Some y → y.end ≡ Some end
-    → y.talk.on ≡ Some u → is_signed_on (site_of_book (finished_at k slot s).book) u ≡ false
+    → peer_at (finish_at k slot s).peers j ≡ Some y → y.end ≡ Some end
+    → y.talk.on ≡ Some u → is_signed_on (site_of_book (finish_at k slot s).book) u ≡ false
 finish_end k j None s x y end u here own there lasts is over on =
     same_slot s j x y end s.book u there lasts is over
 finish_end k j (Some z) s x y end u here own there lasts is over on =
@@ -471,25 +474,25 @@ finish_end k j (Some z) s x y end u here own there lasts is over on =
   where
     by_test : (b same : Bool) → (k == j) ≡ same
         → peer_at (if b
-        then with_turn k (finished (record { book = s.book; session = z })) s
+        then with_turn k (finish (record { book = s.book; session = z })) s
         else s).peers j ≡ Some y
         → is_signed_on (site_of_book (if b
-        then with_turn k (finished (record { book = s.book; session = z })) s
+        then with_turn k (finish (record { book = s.book; session = z })) s
         else s).book) u ≡ false
     by_test false same key is = same_slot s j x y end s.book u there lasts is over
     by_test true true key is =
         let start : Turn = record { book = s.book; session = z } in
         let one : k ≡ j = equal k j key in
-        own_end k (finished start) s y end u (ended_left (end_by (left_over z.held.rest)) start)
-        (ap (peer_at (with_turn k (finished start) s).peers) one ∙ is) over on
+        own_end k (finish start) s y end u (ended_left (end_by (left_over z.held.rest)) start)
+        (ap (peer_at (with_turn k (finish start) s).peers) one ∙ is) over on
     by_test true false key is =
-        absurd (unended k j (finished (record { book = s.book; session = z })) s x y end u key
+        absurd (unended k j (finish (record { book = s.book; session = z })) s x y end u key
         own there lasts is over on)
 
 arrival_end : (k j : ℕ) (slot : Option Session) (s : StationState) (x y : Session)
     (end : PeerEnd) (u : ℕ) → peer_at s.peers k ≡ slot → peer_at s.peers j ≡ Some x
-    → x.end ≡ None → peer_at (arrived k slot s).peers j ≡ Some y → y.end ≡ Some end
-    → is_signed_on (site_of_book (arrived k slot s).book) u ≡ false
+    → x.end ≡ None → peer_at (arrive k slot s).peers j ≡ Some y → y.end ≡ Some end
+    → is_signed_on (site_of_book (arrive k slot s).book) u ≡ false
 arrival_end k j (Some z) s x y end u here there lasts is over =
     same_slot s j x y end s.book u there lasts is over
 arrival_end k j None s x y end u here there lasts is over = by_key (k == j) refl
@@ -504,8 +507,8 @@ arrival_end k j None s x y end u here there lasts is over = by_key (k == j) refl
 
 taking_end : (k j n : ℕ) (slot : Option Session) (s : StationState) (x y : Session)
     (end : PeerEnd) (u : ℕ) → peer_at s.peers k ≡ slot → peer_at s.peers j ≡ Some x
-    → x.end ≡ None → peer_at (taken_by k n slot s).peers j ≡ Some y → y.end ≡ Some end
-    → is_signed_on (site_of_book (taken_by k n slot s).book) u ≡ false
+    → x.end ≡ None → peer_at (take_by k n slot s).peers j ≡ Some y → y.end ≡ Some end
+    → is_signed_on (site_of_book (take_by k n slot s).book) u ≡ false
 taking_end k j n None s x y end u here there lasts is over =
     same_slot s j x y end s.book u there lasts is over
 taking_end k j n (Some z) s x y end u here there lasts is over = by_key (k == j) refl
@@ -528,7 +531,7 @@ taking_end k j n (Some z) s x y end u here there lasts is over = by_key (k == j)
 
 -- nobody is in a slot that was freed
 freed_slot : (k j : ℕ) (slot : Option Session) (s : StationState) (y : Session)
-    → peer_at s.peers k ≡ slot → peer_at (freed k slot s).peers j ≡ Some y
+    → peer_at s.peers k ≡ slot → peer_at (free k slot s).peers j ≡ Some y
     → peer_at s.peers j ≡ Some y
 freed_slot k j None s y here is = is
 freed_slot k j (Some z) s y here is = by_key (k == j) refl
@@ -540,7 +543,7 @@ freed_slot k j (Some z) s y here is = by_key (k == j) refl
         ∙ ap (peer_at (with_peer k None s.peers)) (equal k j key) ∙ is in cc)
     by_key false key = sym (peer_at-other k j None s.peers (other_key k j key)) ∙ is
 
-freed_book : (k : ℕ) (slot : Option Session) (s : StationState) → (freed k slot s).book ≡ s.book
+freed_book : (k : ℕ) (slot : Option Session) (s : StationState) → (free k slot s).book ≡ s.book
 freed_book k None s = refl
 freed_book k (Some z) s = refl
 
@@ -571,7 +574,7 @@ going_leaves k s x u there lasts on =
     let start : Turn = record { book = s.book; session = x } in
     ap (λ (b : Book). is_signed_on (site_of_book b) u)
     (freed_book k (peer_at (with_end k s).peers k) (with_end k s)
-    ∙ ap (λ (y : Option Session). (finished_at k y s).book) there
-    ∙ ap (λ e. (if is_none e then with_turn k (finished start) s else s).book) lasts
+    ∙ ap (λ (y : Option Session). (finish_at k y s).book) there
+    ∙ ap (λ e. (if is_none e then with_turn k (finish start) s else s).book) lasts
     ∙ ap (λ o. without_till o s.book) on)
     ∙ signed_off s.book u

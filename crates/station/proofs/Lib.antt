@@ -11,3 +11,5 @@ pub mod Leaving
 pub mod History
 pub mod Adding
 pub mod Standings
+pub mod Knowledge
+pub mod TillSessions

@@ -9,7 +9,8 @@ use Rattle.site_base.specs.declared.row.Row.{Row}
 use Rattle.site_base.specs.Configured.{Configured}
 use Rattle.app_message.specs.declared.fault.StreamFault.{StreamFault}
 use Rattle.app_message.specs.Spelling.{spelling}
-use Rattle.app_message.specs.Stream.{Held, Stream, fed_by, held, held_after, stream_of, walked}
+use Rattle.app_message.specs.Stream.{Held, Stream, fed_by, held_part, held_after, stream_of}
+use Rattle.app_message.specs.Stream.{with_messages}
 use Rattle.app_message.specs.Telegram.{Telegram}
 use Rattle.app_message.proofs.Cutting.{any_cut}
 use Rattle.device_map.specs.declared.fault.MapFault.{MapFault}
@@ -34,13 +35,14 @@ use Rattle.station.specs.declared.peer_end.PeerEnd.{PeerEnd}
 use Rattle.station.specs.declared.peer_end.PeerEnd.TheVariants as ends
 use Rattle.station.specs.declared.sizes.TheConstants.{NOTICE_LIMIT}
 use Rattle.station.specs.Notices.{notice_at, notices_of, octets_of, row_notice}
-use Rattle.station.specs.Peers.{listener, noticed, noticed_all, noticed_by}
-use Rattle.station.specs.Sessions.{Granted, Grants, Session, Turn, answered, answered_all}
-use Rattle.station.specs.Sessions.{answered_by, answered_so, end_by, ended, finished, granted}
-use Rattle.station.specs.Sessions.{heard}
+use Rattle.station.specs.Peers.{listener, tell_row, tell_rows, tell_notice}
+use Rattle.station.specs.Sessions.{Granted, Grants, Session, Turn, answer, answer_all}
+use Rattle.station.specs.Sessions.{answer_meaning, answer_so, end_by, end_session, finish}
+use Rattle.station.specs.Sessions.{full_grant}
+use Rattle.station.specs.Sessions.{hear}
 use Rattle.station.specs.Sessions.{no_memory}
-use Rattle.station.specs.Sessions.{opening_text, outcome_at, refused_by, served, taken}
-use Rattle.station.specs.Sessions.{told, told_last, with_outcome}
+use Rattle.station.specs.Sessions.{opening_text, outcome_at, refuse_by, serve, take_messages}
+use Rattle.station.specs.Sessions.{tell, tell_last, with_outcome}
 use Rattle.station.specs.Stories.{AreAsked, Happening, asked_in, book_of, is_all_answered}
 use Rattle.station.specs.Stories.{is_whole, messages_in, refusal_by, rows_in, said_in, told_in}
 use Rattle.station.proofs.Quiet.{own_quiet}
@@ -194,16 +196,16 @@ another_closes c before had done later m last b b' x x' l other g owed over on =
 -- ---- a message
 
 lasting_answer : (g : Granted) (m : Telegram) (t : Turn) → t.session.end ≡ None
-    → answered g m t ≡ answered_by g m (meaning_at t.session.talk.peer m) t
+    → answer g m t ≡ answer_meaning g m (meaning_at t.session.talk.peer m) t
 lasting_answer g m t lasts =
-    ap (λ e. if is_none e then answered_by g m (meaning_at t.session.talk.peer m) t else t) lasts
+    ap (λ e. if is_none e then answer_meaning g m (meaning_at t.session.talk.peer m) t else t) lasts
 
 another_answered : (c : Configured) (before : List Row) (had : List ℕ) (done later : List Telegram)
     (m : Telegram) (last : List ℕ) (memory : Bool) (t : Turn)
     → IsLiving c before had done t.book t.session → is_another t.session.talk.peer m.from ≡ true
     → (end : PeerEnd) × IsDone c before had (done ++ m ∷ later) last end
-    (told_last memory (number_text m ORIGINATOR_CHANGED) another_end t).book
-    (told_last memory (number_text m ORIGINATOR_CHANGED) another_end t).session
+    (tell_last memory (number_text m ORIGINATOR_CHANGED) another_end t).book
+    (tell_last memory (number_text m ORIGINATOR_CHANGED) another_end t).session
 another_answered c before had done later m last true t l other = (
   another_end,
   another_closes c before had done later m last t.book _ t.session _ l other
@@ -220,10 +222,10 @@ fault_answered : (c : Configured) (before : List Row) (had : List ℕ) (done lat
     → IsLiving c before had done t.book t.session
     → is_another t.session.talk.peer m.from ≡ false → request_at m ≡ Err f
     → Came c before had (done ++ m ∷ []) (done ++ m ∷ later) last
-    (told memory (number_text m (map_number f) ++ opening_text t.session.talk.peer m.from t.book)
-    (served m.from t)).book
-    (told memory (number_text m (map_number f) ++ opening_text t.session.talk.peer m.from t.book)
-    (served m.from t)).session
+    (tell memory (number_text m (map_number f) ++ opening_text t.session.talk.peer m.from t.book)
+    (serve m.from t)).book
+    (tell memory (number_text m (map_number f) ++ opening_text t.session.talk.peer m.from t.book)
+    (serve m.from t)).session
 fault_answered c before had done later m last f true t l same is =
     inl (speaks c before had done t.book t.book t.session _ m [] (number_text m (map_number f)) l
     (refused_on t.session.talk.peer m f same is) refl (sym (append-nil t.book.rows)) refl l.lasts
@@ -241,10 +243,10 @@ request_answered : (c : Configured) (before : List Row) (had : List ℕ)
     → IsLiving c before had done t.book t.session
     → is_another t.session.talk.peer m.from ≡ false → request_at m ≡ Ok (actor, event)
     → Came c before had (done ++ m ∷ []) (done ++ m ∷ later) last
-    (answered_so memory m actor event (outcome_at row t.book actor event) t.session.talk.peer
-    (served m.from t)).book
-    (answered_so memory m actor event (outcome_at row t.book actor event) t.session.talk.peer
-    (served m.from t)).session
+    (answer_so memory m actor event (outcome_at row t.book actor event) t.session.talk.peer
+    (serve m.from t)).book
+    (answer_so memory m actor event (outcome_at row t.book actor event) t.session.talk.peer
+    (serve m.from t)).session
 request_answered c before had done later m last actor event row true t l same is =
     let outcome = outcome_at row t.book actor event in
     let p = t.session.talk.peer in
@@ -270,8 +272,8 @@ request_answered c before had done later m last actor event row false t l same i
 one_answered : (c : Configured) (before : List Row) (had : List ℕ) (done later : List Telegram)
     (m : Telegram) (last : List ℕ) (g : Granted) (t : Turn)
     → IsLiving c before had done t.book t.session
-    → Came c before had (done ++ m ∷ []) (done ++ m ∷ later) last (answered g m t).book
-    (answered g m t).session
+    → Came c before had (done ++ m ∷ []) (done ++ m ∷ later) last (answer g m t).book
+    (answer g m t).session
 one_answered c before had done later m last g t l =
     subst (λ (u : Turn). Came c before had (done ++ m ∷ []) (done ++ m ∷ later) last u.book
     u.session)
@@ -279,7 +281,7 @@ one_answered c before had done later m last g t l =
   where
     by_meaning : (meaning : Meaning) → meaning_at t.session.talk.peer m ≡ meaning
         → Came c before had (done ++ m ∷ []) (done ++ m ∷ later) last
-        (answered_by g m meaning t).book (answered_by g m meaning t).session
+        (answer_meaning g m meaning t).book (answer_meaning g m meaning t).session
     by_meaning meanings.Another is =
         inr (another_answered c before had done later m last g.text t l
         (another_meant t.session.talk.peer m is))
@@ -293,17 +295,17 @@ one_answered c before had done later m last g t l =
 -- ---- messages
 
 over_stays : (g : Granted) (m : Telegram) (t : Turn) (end : PeerEnd) → t.session.end ≡ Some end
-    → answered g m t ≡ t
+    → answer g m t ≡ t
 over_stays g m t end over =
-    ap (λ e. if is_none e then answered_by g m (meaning_at t.session.talk.peer m) t else t) over
+    ap (λ e. if is_none e then answer_meaning g m (meaning_at t.session.talk.peer m) t else t) over
 
 pub all_stay : (gs : List Granted) (ms : List Telegram) (t : Turn) (end : PeerEnd)
-    → t.session.end ≡ Some end → answered_all gs ms t ≡ t
+    → t.session.end ≡ Some end → answer_all gs ms t ≡ t
 all_stay gs [] t end over = refl
 all_stay [] (m ∷ ms) t end over =
-    ap (answered_all [] ms) (over_stays granted m t end over) ∙ all_stay [] ms t end over
+    ap (answer_all [] ms) (over_stays full_grant m t end over) ∙ all_stay [] ms t end over
 all_stay (g ∷ gs) (m ∷ ms) t end over =
-    ap (answered_all gs ms) (over_stays g m t end over) ∙ all_stay gs ms t end over
+    ap (answer_all gs ms) (over_stays g m t end over) ∙ all_stay gs ms t end over
 
 -- a message was answered, and then come the others
 next_answered : (c : Configured) (before : List Row) (had : List ℕ) (done : List Telegram)
@@ -311,12 +313,12 @@ next_answered : (c : Configured) (before : List Row) (had : List ℕ) (done : Li
     → Came c before had (done ++ m ∷ []) (done ++ m ∷ ms) last t.book t.session
     → (IsLiving c before had (done ++ m ∷ []) t.book t.session
     → Came c before had ((done ++ m ∷ []) ++ ms) ((done ++ m ∷ []) ++ ms) last
-    (answered_all gs ms t).book (answered_all gs ms t).session)
-    → Came c before had (done ++ m ∷ ms) (done ++ m ∷ ms) last (answered_all gs ms t).book
-    (answered_all gs ms t).session
+    (answer_all gs ms t).book (answer_all gs ms t).session)
+    → Came c before had (done ++ m ∷ ms) (done ++ m ∷ ms) last (answer_all gs ms t).book
+    (answer_all gs ms t).session
 next_answered c before had done last gs m ms t (inl l) on =
-    subst (λ all. Came c before had all all last (answered_all gs ms t).book
-    (answered_all gs ms t).session)
+    subst (λ all. Came c before had all all last (answer_all gs ms t).book
+    (answer_all gs ms t).session)
     (append_assoc done (m ∷ []) ms) (on l)
 next_answered c before had done last gs m ms t (inr d) on =
     subst (λ (u : Turn). Came c before had (done ++ m ∷ ms) (done ++ m ∷ ms) last u.book u.session)
@@ -325,52 +327,52 @@ next_answered c before had done last gs m ms t (inr d) on =
 pub all_answered : (c : Configured) (before : List Row) (had : List ℕ) (done : List Telegram)
     (last : List ℕ) (gs : List Granted) (ms : List Telegram) (t : Turn)
     → IsLiving c before had done t.book t.session
-    → Came c before had (done ++ ms) (done ++ ms) last (answered_all gs ms t).book
-    (answered_all gs ms t).session
+    → Came c before had (done ++ ms) (done ++ ms) last (answer_all gs ms t).book
+    (answer_all gs ms t).session
 all_answered c before had done last gs [] t l =
     subst (λ all. Came c before had all all last t.book t.session) (sym (append-nil done)) (inl l)
 all_answered c before had done last [] (m ∷ ms) t l =
-    next_answered c before had done last [] m ms (answered granted m t)
-    (one_answered c before had done ms m last granted t l)
-    (λ l'. all_answered c before had (done ++ m ∷ []) last [] ms (answered granted m t) l')
+    next_answered c before had done last [] m ms (answer full_grant m t)
+    (one_answered c before had done ms m last full_grant t l)
+    (λ l'. all_answered c before had (done ++ m ∷ []) last [] ms (answer full_grant m t) l')
 all_answered c before had done last (g ∷ gs) (m ∷ ms) t l =
-    next_answered c before had done last gs m ms (answered g m t)
+    next_answered c before had done last gs m ms (answer g m t)
     (one_answered c before had done ms m last g t l)
-    (λ l'. all_answered c before had (done ++ m ∷ []) last gs ms (answered g m t) l')
+    (λ l'. all_answered c before had (done ++ m ∷ []) last gs ms (answer g m t) l')
 
 -- ---- a piece
 
 held_ended : (memory : Bool) (text : List ℕ) (t : Turn)
-    → (told memory text t).session.held ≡ t.session.held
+    → (tell memory text t).session.held ≡ t.session.held
 held_ended true text t = refl
 held_ended false text t = refl
 
 held_last : (memory : Bool) (text : List ℕ) (end : PeerEnd) (t : Turn)
-    → (told_last memory text end t).session.held ≡ t.session.held
+    → (tell_last memory text end t).session.held ≡ t.session.held
 held_last true text end t = refl
 held_last false text end t = refl
 
 held_by : (g : Granted) (m : Telegram) (meaning : Meaning) (t : Turn)
-    → (answered_by g m meaning t).session.held ≡ t.session.held
+    → (answer_meaning g m meaning t).session.held ≡ t.session.held
 held_by g m meanings.Another t = held_last g.text _ _ t
-held_by g m (meanings.Fault f) t = held_ended g.text _ (served m.from t)
+held_by g m (meanings.Fault f) t = held_ended g.text _ (serve m.from t)
 held_by g m (meanings.Request actor event) t = held_ended g.text _ _
 
 held_one : (g : Granted) (m : Telegram) (t : Turn)
-    → (answered g m t).session.held ≡ t.session.held
+    → (answer g m t).session.held ≡ t.session.held
 held_one g m t = by_test (is_none t.session.end)
   where
     by_test : (b : Bool)
-        → (if b then answered_by g m (meaning_at t.session.talk.peer m) t else t).session.held
+        → (if b then answer_meaning g m (meaning_at t.session.talk.peer m) t else t).session.held
         ≡ t.session.held
     by_test true = held_by g m (meaning_at t.session.talk.peer m) t
     by_test false = refl
 
 held_all : (gs : List Granted) (ms : List Telegram) (t : Turn)
-    → (answered_all gs ms t).session.held ≡ t.session.held
+    → (answer_all gs ms t).session.held ≡ t.session.held
 held_all gs [] t = refl
-held_all [] (m ∷ ms) t = held_all [] ms (answered granted m t) ∙ held_one granted m t
-held_all (g ∷ gs) (m ∷ ms) t = held_all gs ms (answered g m t) ∙ held_one g m t
+held_all [] (m ∷ ms) t = held_all [] ms (answer full_grant m t) ∙ held_one full_grant m t
+held_all (g ∷ gs) (m ∷ ms) t = held_all gs ms (answer g m t) ∙ held_one g m t
 
 -- a session that lasts, of which so much was heard
 pub record IsHearing (c : Configured) (before : List Row) (had sent : List ℕ) (b : Book)
@@ -408,24 +410,25 @@ same_living c before had done b x x' l talk owed end = record {
 
 -- the stream of what was heard and a piece
 fed_is : (h : Held) (sent piece : List ℕ) → h ≡ held_after sent
-    → stream_of (sent ++ piece) ≡ walked (stream_of sent).messages (fed_by h piece)
+    → stream_of (sent ++ piece) ≡ with_messages (stream_of sent).messages (fed_by h piece)
 fed_is h sent piece holds =
-    any_cut sent piece ∙ ap (λ k. walked (stream_of sent).messages (fed_by k piece)) (sym holds)
+    any_cut sent piece ∙ ap (λ k. with_messages (stream_of sent).messages (fed_by k piece))
+    (sym holds)
 
 over_unrefused : (memory : Bool) (fault : Option StreamFault) (t : Turn) (end : PeerEnd)
-    → t.session.end ≡ Some end → refused_by memory fault t ≡ t
+    → t.session.end ≡ Some end → refuse_by memory fault t ≡ t
 over_unrefused memory None t end over = refl
 over_unrefused memory (Some f) t end over =
     ap (λ e. if is_none e
-    then told_last memory (spelling (fault_message f)) (ends.Fault (faults.Talk
+    then tell_last memory (spelling (fault_message f)) (ends.Fault (faults.Talk
     (talk.Stream f.fault))) t
     else t) over
 
 fault_told : (c : Configured) (before : List Row) (had : List ℕ) (done : List Telegram)
     (memory : Bool) (text : List ℕ) (end : PeerEnd) (t : Turn)
     → IsLiving c before had done t.book t.session → text ≡ refusal_by (Some end) text []
-    → (e : PeerEnd) × IsDone c before had done text e (told_last memory text end t).book
-    (told_last memory text end t).session
+    → (e : PeerEnd) × IsDone c before had done text e (tell_last memory text end t).book
+    (tell_last memory text end t).session
 fault_told c before had done true text end t l refused = (
   end,
   closes c before had done text end t.book _ t.session _ l (left-grows t.session.talk.on t.book)
@@ -433,21 +436,21 @@ fault_told c before had done true text end t l refused = (
 )
 fault_told c before had done false text end t l refused = (
   no_memory,
-  (let stopped = stops c before had done [] text t.book (ended no_memory t).book t.session
-      (ended no_memory t).session l (left-grows t.session.talk.on t.book) refl refl in
+  (let stopped = stops c before had done [] text t.book (end_session no_memory t).book t.session
+      (end_session no_memory t).session l (left-grows t.session.talk.on t.book) refl refl in
       rw (append-nil done) at stopped),
 )
 
 fault_refused : (c : Configured) (before : List Row) (had sent : List ℕ) (memory : Bool)
     (f : StreamFault) (t : Turn) → (stream_of sent).fault ≡ Some f
     → IsLiving c before had (stream_of sent).messages t.book t.session
-    → IsOverIn c before had sent (refused_by memory (Some f) t).book
-    (refused_by memory (Some f) t).session
+    → IsOverIn c before had sent (refuse_by memory (Some f) t).book
+    (refuse_by memory (Some f) t).session
 fault_refused c before had sent memory f t is l =
     let text = spelling (fault_message f) in
     let end : PeerEnd = ends.Fault (faults.Talk (talk.Stream f.fault)) in
-    let there : refused_by memory (Some f) t ≡ told_last memory text end t =
-    ap (λ e. if is_none e then told_last memory text end t else t) l.lasts in
+    let there : refuse_by memory (Some f) t ≡ tell_last memory text end t =
+    ap (λ e. if is_none e then tell_last memory text end t else t) l.lasts in
     let over = fault_told c before had (stream_of sent).messages memory text end t l refl in
     subst (λ (u : Turn). IsOverIn c before had sent u.book u.session) (sym there)
     (over.0, rw is over.1)
@@ -458,8 +461,8 @@ refused : (c : Configured) (before : List Row) (had sent : List ℕ) (memory : B
     → t.session.held ≡ held_after sent
     → Came c before had (stream_of sent).messages (stream_of sent).messages (refusal_text fault)
     t.book t.session
-    → InCourse c before had sent (refused_by memory fault t).book
-    (refused_by memory fault t).session
+    → InCourse c before had sent (refuse_by memory fault t).book
+    (refuse_by memory fault t).session
 refused c before had sent memory None t is holds (inl l) =
     inl (record { living = l; holds = holds; sound = is })
 refused c before had sent memory None t is holds (inr d) =
@@ -477,46 +480,49 @@ refused c before had sent memory (Some f) t is holds (inr d) =
 
 piece_taken : (c : Configured) (before : List Row) (had sent piece : List ℕ) (g : Grants) (t : Turn)
     → IsHearing c before had sent t.book t.session
-    → InCourse c before had (sent ++ piece) (taken g (fed_by t.session.held piece) t).book
-    (taken g (fed_by t.session.held piece) t).session
+    → InCourse c before had (sent ++ piece) (take_messages g (fed_by t.session.held piece) t).book
+    (take_messages g (fed_by t.session.held piece) t).session
 piece_taken c before had sent piece g t h =
     let fed = fed_by t.session.held piece in
     let is = fed_is t.session.held sent piece h.holds in
-    let start : Turn = record t { session = record t.session { held = held fed } } in
+    let start : Turn = record t { session = record t.session { held = held_part fed } } in
     let living = same_living c before had (stream_of sent).messages t.book t.session start.session
     h.living refl refl refl in
     let came = all_answered c before had (stream_of sent).messages (refusal_text fed.fault)
     g.messages fed.messages start living in
-    let after = answered_all g.messages fed.messages start in
+    let after = answer_all g.messages fed.messages start in
     refused c before had (sent ++ piece) g.refusal fed.fault after
     (ap (λ (s : Stream). s.fault) is)
-    (held_all g.messages fed.messages start ∙ sym (ap held is))
+    (held_all g.messages fed.messages start ∙ sym (ap held_part is))
     (subst (λ all. Came c before had all all (refusal_text fed.fault) after.book after.session)
     (sym (ap (λ (s : Stream). s.messages) is)) came)
 
 piece_lost : (c : Configured) (before : List Row) (had sent piece : List ℕ) (t : Turn)
     → IsHearing c before had sent t.book t.session
-    → IsOverIn c before had (sent ++ piece) (ended no_memory t).book (ended no_memory t).session
+    → IsOverIn c before had (sent ++ piece) (end_session no_memory t).book
+    (end_session no_memory t).session
 piece_lost c before had sent piece t h =
     let fed = fed_by t.session.held piece in (
       no_memory,
       subst (λ (s : Stream). IsDone c before had s.messages (refusal_text s.fault) no_memory
-          (ended no_memory t).book (ended no_memory t).session)
+          (end_session no_memory t).book (end_session no_memory t).session)
           (sym (fed_is t.session.held sent piece h.holds))
           (stops c before had (stream_of sent).messages fed.messages (refusal_text fed.fault) t.book
-          (ended no_memory t).book t.session (ended no_memory t).session h.living
+          (end_session no_memory t).book t.session (end_session no_memory t).session h.living
           (left-grows t.session.talk.on t.book) refl refl),
     )
 
 pub hears : (c : Configured) (before : List Row) (had sent piece : List ℕ) (g : Grants) (t : Turn)
     → IsHearing c before had sent t.book t.session
-    → InCourse c before had (sent ++ piece) (heard g piece t).book (heard g piece t).session
+    → InCourse c before had (sent ++ piece) (hear g piece t).book (hear g piece t).session
 hears c before had sent piece g t h = by_piece g.piece
   where
     by_piece : (b : Bool)
         → InCourse c before had (sent ++ piece)
-        (if b then taken g (fed_by t.session.held piece) t else ended no_memory t).book
-        (if b then taken g (fed_by t.session.held piece) t else ended no_memory t).session
+        (if b then take_messages g (fed_by t.session.held piece) t
+        else end_session no_memory t).book
+        (if b then take_messages g (fed_by t.session.held piece) t
+        else end_session no_memory t).session
     by_piece true = piece_taken c before had sent piece g t h
     by_piece false = inr (piece_lost c before had sent piece t h)
 
@@ -544,10 +550,10 @@ closed c before had sent end b b' x x' h g owed over on = (
 
 pub finishes : (c : Configured) (before : List Row) (had sent : List ℕ) (t : Turn)
     → IsHearing c before had sent t.book t.session
-    → IsOverIn c before had sent (finished t).book (finished t).session
+    → IsOverIn c before had sent (finish t).book (finish t).session
 finishes c before had sent t h =
-    closed c before had sent (end_by (left_over t.session.held.rest)) t.book (finished t).book
-    t.session (finished t).session h (left-grows t.session.talk.on t.book) refl refl refl
+    closed c before had sent (end_by (left_over t.session.held.rest)) t.book (finish t).book
+    t.session (finish t).session h (left-grows t.session.talk.on t.book) refl refl refl
 
 -- ---- rows of others
 
@@ -558,10 +564,10 @@ nobody_noticed r = by_change (change_of r)
     by_change None = refl
     by_change (Some m) = refl
 
-over_unnoticed : (r : Row) (x : Session) (end : PeerEnd) → x.end ≡ Some end → noticed r x ≡ x
+over_unnoticed : (r : Row) (x : Session) (end : PeerEnd) → x.end ≡ Some end → tell_row r x ≡ x
 over_unnoticed r x end over =
-    ap (λ e. noticed_by (row_notice (listener e x.talk.peer) r) x) over
-    ∙ ap (λ n. noticed_by n x) (nobody_noticed r)
+    ap (λ e. tell_notice (row_notice (listener e x.talk.peer) r) x) over
+    ∙ ap (λ n. tell_notice n x) (nobody_noticed r)
 
 later_rows : (c : Configured) (before : List Row) (had : List ℕ) (all : List Telegram)
     (last : List ℕ) (end : PeerEnd) (b b' : Book) (x : Session)
@@ -591,14 +597,14 @@ later_rows c before had all last end b b' x d g = record {
 
 row_passes : (c : Configured) (before : List Row) (had sent : List ℕ) (b : Book) (x : Session)
     (r : Row) → IsHearing c before had sent b x
-    → InCourse c before had sent (record b { rows = b.rows ++ r ∷ [] }) (noticed r x)
+    → InCourse c before had sent (record b { rows = b.rows ++ r ∷ [] }) (tell_row r x)
 row_passes c before had sent b x r h =
     subst (InCourse c before had sent (record b { rows = b.rows ++ r ∷ [] }))
-    (sym (ap (λ e. noticed_by (row_notice (listener e x.talk.peer) r) x) h.living.lasts))
+    (sym (ap (λ e. tell_notice (row_notice (listener e x.talk.peer) r) x) h.living.lasts))
     (by_notice (row_notice x.talk.peer r) refl)
   where
     by_notice : (n : Option (List ℕ)) → row_notice x.talk.peer r ≡ n
-        → InCourse c before had sent (record b { rows = b.rows ++ r ∷ [] }) (noticed_by n x)
+        → InCourse c before had sent (record b { rows = b.rows ++ r ∷ [] }) (tell_notice n x)
     by_notice None is = inl (record {
       living = passes c before had (stream_of sent).messages b _ x x r h.living refl refl refl
           h.living.lasts (sym (append-nil x.owed) ∙ ap (λ n. x.owed ++ octets_of n) (sym is));
@@ -624,7 +630,7 @@ row_passes c before had sent b x r h =
 
 row_comes : (c : Configured) (before : List Row) (had sent : List ℕ) (b : Book) (x : Session)
     (r : Row) → InCourse c before had sent b x
-    → InCourse c before had sent (record b { rows = b.rows ++ r ∷ [] }) (noticed r x)
+    → InCourse c before had sent (record b { rows = b.rows ++ r ∷ [] }) (tell_row r x)
 row_comes c before had sent b x r (inl h) = row_passes c before had sent b x r h
 row_comes c before had sent b x r (inr d) =
     subst (InCourse c before had sent (record b { rows = b.rows ++ r ∷ [] }))
@@ -641,10 +647,10 @@ same_book b b' same rows =
 
 pub rows_come : (c : Configured) (before : List Row) (had sent : List ℕ) (more : List Row)
     (b b' : Book) (x : Session) → b'.config ≡ b.config → b'.rows ≡ b.rows ++ more
-    → InCourse c before had sent b x → InCourse c before had sent b' (noticed_all more x)
+    → InCourse c before had sent b x → InCourse c before had sent b' (tell_rows more x)
 rows_come c before had sent [] b b' x same rows course =
     subst (λ bk. InCourse c before had sent bk x)
     (sym (same_book b b' same (rows ∙ append-nil b.rows))) course
 rows_come c before had sent (r ∷ more) b b' x same rows course =
-    rows_come c before had sent more (record b { rows = b.rows ++ r ∷ [] }) b' (noticed r x) same
+    rows_come c before had sent more (record b { rows = b.rows ++ r ∷ [] }) b' (tell_row r x) same
     (rows ∙ sym (append_assoc b.rows (r ∷ []) more)) (row_comes c before had sent b x r course)

@@ -11,16 +11,16 @@ use Rattle.app_message.specs.Telegram.{Telegram}
 use Rattle.device_map.specs.Changes.{change_of, change_where}
 use Rattle.till_session.specs.Text.{is_same_node}
 use Rattle.station.specs.Notices.{notice_at}
-use Rattle.station.specs.Peers.{listener, noticed, noticed_all, noticed_by, with_notices}
+use Rattle.station.specs.Peers.{listener, tell_row, tell_rows, tell_notice, with_notices}
 use Rattle.station.specs.PeerViews.{is_at, session_noticed, slot_noticed}
 use Rattle.station.specs.Sessions.{Session}
 
 -- ---- rows one after another
 
 pub noticed_all-append : (a b : List Row) (x : Session)
-    → noticed_all (a ++ b) x ≡ noticed_all b (noticed_all a x)
+    → tell_rows (a ++ b) x ≡ tell_rows b (tell_rows a x)
 noticed_all-append [] b x = refl
-noticed_all-append (r ∷ a) b x = noticed_all-append a b (noticed r x)
+noticed_all-append (r ∷ a) b x = noticed_all-append a b (tell_row r x)
 
 pub with_notices-append : (a b : List Row) (peers : List (Option Session))
     → with_notices (a ++ b) peers ≡ with_notices b (with_notices a peers)
@@ -29,7 +29,7 @@ with_notices-append a b (None ∷ peers) = ap (λ ps. None ∷ ps) (with_notices
 with_notices-append a b (Some x ∷ peers) =
     let rest = with_notices-append a b peers in
     ap (λ y. Some y ∷ with_notices (a ++ b) peers) (noticed_all-append a b x)
-    ∙ ap (λ ps. Some (noticed_all b (noticed_all a x)) ∷ ps) rest
+    ∙ ap (λ ps. Some (tell_rows b (tell_rows a x)) ∷ ps) rest
 
 pub with_notices-none : (peers : List (Option Session)) → with_notices [] peers ≡ peers
 with_notices-none [] = refl
@@ -38,8 +38,8 @@ with_notices-none (Some x ∷ peers) = ap (λ ps. Some x ∷ ps) (with_notices-n
 
 -- ---- a row without a change
 
-pub unnoticed : (r : Row) (x : Session) → change_of r ≡ None → noticed r x ≡ x
-unnoticed r x none = ap (λ c. noticed_by (notice_at c (listener x.end x.talk.peer)) x) none
+pub unnoticed : (r : Row) (x : Session) → change_of r ≡ None → tell_row r x ≡ x
+unnoticed r x none = ap (λ c. tell_notice (notice_at c (listener x.end x.talk.peer)) x) none
 
 pub with_notices-unchanged : (r : Row) (peers : List (Option Session)) → change_of r ≡ None
     → with_notices (r ∷ []) peers ≡ peers
@@ -57,21 +57,21 @@ no_sign_off_change (Err refusal) = refl
 -- ---- a row with a change
 
 one_noticed : (m : Telegram) (end_peer : Option (List ℕ)) (x : Session)
-    → (if is_at end_peer m.to then noticed_by (Some (spelling m)) x else x)
-    ≡ noticed_by (notice_at (Some m) end_peer) x
+    → (if is_at end_peer m.to then tell_notice (Some (spelling m)) x else x)
+    ≡ tell_notice (notice_at (Some m) end_peer) x
 one_noticed m None x = refl
 one_noticed m (Some node) x = by_test (is_same_node node m.to)
   where
-    by_test : (b : Bool) → (if b then noticed_by (Some (spelling m)) x else x)
-        ≡ noticed_by (if b then Some (spelling m) else None) x
+    by_test : (b : Bool) → (if b then tell_notice (Some (spelling m)) x else x)
+        ≡ tell_notice (if b then Some (spelling m) else None) x
     by_test true = refl
     by_test false = refl
 
 pub session_told : (r : Row) (m : Telegram) (x : Session) → change_of r ≡ Some m
-    → session_noticed m.to (spelling m) x ≡ noticed r x
+    → session_noticed m.to (spelling m) x ≡ tell_row r x
 session_told r m x is =
     one_noticed m (listener x.end x.talk.peer) x
-    ∙ ap (λ c. noticed_by (notice_at c (listener x.end x.talk.peer)) x) (sym is)
+    ∙ ap (λ c. tell_notice (notice_at c (listener x.end x.talk.peer)) x) (sym is)
 
 pub all_told : (r : Row) (m : Telegram) (peers : List (Option Session)) → change_of r ≡ Some m
     → map (slot_noticed m.to (spelling m)) peers ≡ with_notices (r ∷ []) peers
@@ -79,4 +79,4 @@ all_told r m [] is = refl
 all_told r m (None ∷ peers) is = ap (λ ps. None ∷ ps) (all_told r m peers is)
 all_told r m (Some x ∷ peers) is =
     ap (λ y. Some y ∷ map (slot_noticed m.to (spelling m)) peers) (session_told r m x is)
-    ∙ ap (λ ps. Some (noticed r x) ∷ ps) (all_told r m peers is)
+    ∙ ap (λ ps. Some (tell_row r x) ∷ ps) (all_told r m peers is)

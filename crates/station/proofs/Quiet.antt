@@ -17,7 +17,7 @@ use Rattle.device_map.specs.Changes.{change_by, change_where}
 use Rattle.written_site.specs.SiteChecks.{first_refusal, own_kind}
 use Rattle.written_site.specs.SiteState.{SiteState}
 use Rattle.written_site.specs.SiteStep.{reply_to, site_answer}
-use Rattle.written_site.proofs.Passed.{passed}
+use Rattle.written_site.proofs.PassedChecks.{passed}
 use Rattle.site_book.specs.Book.{Book, book_reply, is_full, site_of_book}
 use Rattle.till_session.specs.Counters.{row_made}
 use Rattle.till_session.specs.Course.{IsSpokenBy}

@@ -9,13 +9,13 @@ use Rattle.std.proofs.lemmas.List.{with_items_is}
 use Rattle.station.specs.declared.peer.Peer.{Peer}
 use Rattle.station.specs.Peers.{peer_at, with_notices, with_peer}
 use Rattle.station.specs.PeerViews.{session_of, sessions_of, without_key}
-use Rattle.station.specs.Sessions.{Grants, Session, Turn, finished, heard, is_read}
+use Rattle.station.specs.Sessions.{Grants, Session, Turn, finish, hear, is_read}
 use Rattle.site_base.specs.declared.row.Row.{Row}
 use Rattle.site_book.specs.Book.{Book}
-use Rattle.station.specs.Hearing.{Hears, finished_if, turn_of}
-use Rattle.station.specs.Moves.{StationState, finished_at, heard_from, rows_since, taken_by}
+use Rattle.station.specs.Hearing.{Hears, finish_if, turn_of}
+use Rattle.station.specs.Moves.{StationState, finish_at, hear_from, rows_since, take_by}
 use Rattle.station.specs.Moves.{with_end, with_octets, with_taken, with_turn}
-use Rattle.station.specs.Peers.{noticed_all}
+use Rattle.station.specs.Peers.{tell_rows}
 use Rattle.station.specs.Reads.{owed_to}
 use Rattle.station.proofs.Turns.{left-told}
 use Rattle.station.proofs.Peers.{map-with_peer, with_peer-twice}
@@ -42,6 +42,13 @@ unowed_beyond k [] within = refl
 unowed_beyond zero (p ∷ slots) within = within (omega arith)
 unowed_beyond (suc k) (p ∷ slots) within =
     unowed_beyond k slots (λ less. within (omega arith))
+
+-- nobody is where there is no slot
+pub nobody_beyond : (k : ℕ) (slots : List (Option Peer)) → length slots ≤ k
+    → peer_at (sessions_of slots) k ≡ None
+nobody_beyond k [] beyond = refl
+nobody_beyond zero (p ∷ slots) beyond = absurd (omega arith)
+nobody_beyond (suc k) (p ∷ slots) beyond = nobody_beyond k slots (omega arith)
 
 pub sessions_set : (k : ℕ) (slots : List (Option Peer)) (y : Option Peer) → k < length slots
     → sessions_of (set slots k y) ≡ with_peer k (option_map session_of y) (sessions_of slots)
@@ -80,7 +87,7 @@ pub put_back : (k : ℕ) (x : Option Session) (rows : List Row) (peers : List (O
     → with_peer k x (with_notices rows (with_peer k None peers))
     ≡ with_peer k x (with_notices rows peers)
 put_back k x rows peers =
-    ap (with_peer k x) (map-with_peer (option_map (noticed_all rows)) k None peers refl)
+    ap (with_peer k x) (map-with_peer (option_map (tell_rows rows)) k None peers refl)
     ∙ with_peer-twice k x None (with_notices rows peers)
 
 -- ---- one slot of many
@@ -158,23 +165,23 @@ took k n b peers out back p x there taken is put =
     ap (λ ps. state b ps)
     (put_again k x p peers out back taken put
     ∙ ap (λ y. with_peer k (Some y) peers) is)
-    ∙ ap (λ y. taken_by k n y (state b peers)) there
+    ∙ ap (λ y. take_by k n y (state b peers)) there
 
 pub finished_there : (k : ℕ) (b b' : Book) (peers out back : List (Option Session)) (p q : Peer)
     → Some (session_of p) ≡ peer_at peers k → out ≡ without_key k (Some p) peers
-    → turn_of b' q ≡ finished_if (turn_of b p)
+    → turn_of b' q ≡ finish_if (turn_of b p)
     → back ≡ with_peer k (Some (session_of q)) out
     → state b' back ≡ with_end k (state b peers)
 finished_there k b b' peers out back p q there taken is put =
     by_test (is_none p.end) is
-    ∙ ap (λ y. finished_at k y (state b peers)) there
+    ∙ ap (λ y. finish_at k y (state b peers)) there
   where
     by_test : (lasts : Bool)
-        → turn_of b' q ≡ (if lasts then finished (turn_of b p) else turn_of b p)
+        → turn_of b' q ≡ (if lasts then finish (turn_of b p) else turn_of b p)
         → state b' back
-        ≡ (if lasts then with_turn k (finished (turn_of b p)) (state b peers) else state b peers)
+        ≡ (if lasts then with_turn k (finish (turn_of b p)) (state b peers) else state b peers)
     by_test true is =
-        let t = finished (turn_of b p) in
+        let t = finish (turn_of b p) in
         let told = left-told p.talk.on b peers in
         ap (state b') (put_again k (session_of q) p peers out back taken put)
         ∙ ap (λ (u : Turn). state u.book (with_peer k (Some u.session) peers)) is
@@ -193,7 +200,7 @@ pub heard_there : (k : ℕ) (piece : List ℕ) (b b' : Book)
     → (memory : Grants) × (state b' back ≡ with_octets memory k piece (state b peers))
 heard_there k piece b b' peers out told back p q there taken read hears put = (
   hears.memory,
-  (let t = heard hears.memory piece (turn_of b p) in
+  (let t = hear hears.memory piece (turn_of b p) in
       let more = rows_since b t.book in
       let rows : rows_since b b' ≡ more = ap (λ (u : Turn). rows_since b u.book) hears.turn in
       let last : back ≡ with_peer k (Some (session_of q)) (with_notices more peers) =
@@ -205,7 +212,7 @@ heard_there k piece b b' peers out told back p q there taken read hears put = (
       ∙ ap (λ (u : Turn). state u.book (with_peer k (Some u.session) (with_notices more peers)))
       hears.turn
       ∙ sym (ap (λ r. if r then with_turn k t (state b peers) else state b peers) read)
-      ∙ ap (λ y. heard_from hears.memory k piece y (state b peers)) there),
+      ∙ ap (λ y. hear_from hears.memory k piece y (state b peers)) there),
 )
 
 pub heard_seen : (k : ℕ) (piece : List ℕ) (v w s s' : StationState) → v ≡ w → s ≡ s'

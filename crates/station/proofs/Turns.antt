@@ -18,8 +18,8 @@ use Rattle.till_session.specs.Text.{meaning_at}
 use Rattle.station.specs.declared.peer_end.PeerEnd.{PeerEnd}
 use Rattle.station.specs.Moves.{rows_since}
 use Rattle.station.specs.Peers.{with_notices}
-use Rattle.station.specs.Sessions.{Granted, Session, Turn, answered, answered_all, answered_by}
-use Rattle.station.specs.Sessions.{ended, granted, outcome_at, told, told_last}
+use Rattle.station.specs.Sessions.{Granted, Session, Turn, answer, answer_all, answer_meaning}
+use Rattle.station.specs.Sessions.{end_session, full_grant, outcome_at, tell, tell_last}
 use Rattle.station.specs.Sessions.{with_outcome, without_till}
 use Rattle.station.proofs.Notices.{no_sign_off_change, with_notices-append, with_notices-none}
 use Rattle.station.proofs.Notices.{with_notices-unchanged}
@@ -99,17 +99,17 @@ left-told (Some t) b x = by_test (is_signed_on (site_of_book b) t)
         ∙ with_notices-unchanged row x (no_sign_off_change row.reply))
     by_test false = told_none b x
 
-pub ended-grows : (end : PeerEnd) (t : Turn) → Grows t.book (ended end t).book
+pub ended-grows : (end : PeerEnd) (t : Turn) → Grows t.book (end_session end t).book
 ended-grows end t = left-grows t.session.talk.on t.book
 
 -- ---- a message
 
-told-grows : (memory : Bool) (text : List ℕ) (t : Turn) → Grows t.book (told memory text t).book
+told-grows : (memory : Bool) (text : List ℕ) (t : Turn) → Grows t.book (tell memory text t).book
 told-grows true text t = grows_none t.book
 told-grows false text t = left-grows t.session.talk.on t.book
 
 last-grows : (memory : Bool) (text : List ℕ) (end : PeerEnd) (t : Turn)
-    → Grows t.book (told_last memory text end t).book
+    → Grows t.book (tell_last memory text end t).book
 last-grows true text end t = left-grows t.session.talk.on t.book
 last-grows false text end t = left-grows t.session.talk.on t.book
 
@@ -119,7 +119,7 @@ outcome-grows actor event outcome b =
     record { more = row_made actor event outcome; rows = refl; same = refl }
 
 by-grows : (g : Granted) (m : Telegram) (meaning : Meaning) (t : Turn)
-    → Grows t.book (answered_by g m meaning t).book
+    → Grows t.book (answer_meaning g m meaning t).book
 by-grows g m meanings.Another t = last-grows g.text _ _ t
 by-grows g m (meanings.Fault f) t = told-grows g.text _ _
 by-grows g m (meanings.Request actor event) t =
@@ -128,30 +128,31 @@ by-grows g m (meanings.Request actor event) t =
     (outcome-grows actor event outcome t.book)
     (told-grows g.text _ _)
 
-pub answered-grows : (g : Granted) (m : Telegram) (t : Turn) → Grows t.book (answered g m t).book
+pub answered-grows : (g : Granted) (m : Telegram) (t : Turn) → Grows t.book (answer g m t).book
 answered-grows g m t = by_test (is_none t.session.end)
   where
     by_test : (b : Bool)
-        → Grows t.book (if b then answered_by g m (meaning_at t.session.talk.peer m) t else t).book
+        → Grows t.book (if b then answer_meaning g m (meaning_at t.session.talk.peer m) t
+        else t).book
     by_test true = by-grows g m (meaning_at t.session.talk.peer m) t
     by_test false = grows_none t.book
 
 pub all-grows : (gs : List Granted) (ms : List Telegram) (t : Turn)
-    → Grows t.book (answered_all gs ms t).book
+    → Grows t.book (answer_all gs ms t).book
 all-grows gs [] t = grows_none t.book
 all-grows [] (m ∷ ms) t =
-    grows_then t.book (answered granted m t).book _ (answered-grows granted m t)
-    (all-grows [] ms (answered granted m t))
+    grows_then t.book (answer full_grant m t).book _ (answered-grows full_grant m t)
+    (all-grows [] ms (answer full_grant m t))
 all-grows (g ∷ gs) (m ∷ ms) t =
-    grows_then t.book (answered g m t).book _ (answered-grows g m t)
-    (all-grows gs ms (answered g m t))
+    grows_then t.book (answer g m t).book _ (answered-grows g m t)
+    (all-grows gs ms (answer g m t))
 
 -- ---- messages one after another
 
 pub one_more : (gs : List Granted) (ms : List Telegram) (g : Granted) (m : Telegram) (t : Turn)
     → length gs ≡ length ms
-    → answered_all (gs ++ g ∷ []) (ms ++ m ∷ []) t ≡ answered g m (answered_all gs ms t)
+    → answer_all (gs ++ g ∷ []) (ms ++ m ∷ []) t ≡ answer g m (answer_all gs ms t)
 one_more [] [] g m t same = refl
 one_more [] (n ∷ ms) g m t same = absurd (omega arith)
 one_more (h ∷ gs) [] g m t same = absurd (omega arith)
-one_more (h ∷ gs) (n ∷ ms) g m t same = one_more gs ms g m (answered h n t) (omega arith)
+one_more (h ∷ gs) (n ∷ ms) g m t same = one_more gs ms g m (answer h n t) (omega arith)

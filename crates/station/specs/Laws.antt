@@ -1,20 +1,22 @@
--- The laws of the station, over every list of moves.
-use Rattle.std.specs.Prelude.{◌≡◌, ℕ, true, false, List, ◌++◌, Some, None}
+-- The laws of the station, over every list of moves, or over every legal history.
+use Rattle.std.specs.Prelude.{◌≡◌, ℕ, true, false, List, ◌++◌, Some, None, is_some}
 use Rattle.std.specs.List.{AllByRecursion}
 use Rattle.site_base.specs.declared.event.Event.{Event}
 use Rattle.site_base.specs.declared.row.Row.{Row}
 use Rattle.site_base.specs.declared.view.PointView.{PointView}
+use Rattle.site_base.specs.Configured.{Configured}
 use Rattle.site_base.specs.Events.{has_change, point_named}
 use Rattle.app_message.specs.Stream.{fed_by}
-use Rattle.written_site.specs.SiteRun.{IsLegal}
-use Rattle.written_site.specs.SiteState.{is_signed_on, opening}
+use Rattle.written_site.specs.SiteRun.{IsLegal, site_of_rows}
+use Rattle.written_site.specs.SiteState.{is_signed_on, opening, view_point}
 use Rattle.site_book.specs.Book.{Book, site_of_book}
 use Rattle.station.specs.declared.peer_end.PeerEnd.{PeerEnd}
 use Rattle.station.specs.Adding.{AddsRequests, AddsSignOff, is_silent, till_left}
+use Rattle.station.specs.Knowledge.{learn_all, learn_rows, only_nozzle}
 use Rattle.station.specs.Moves.{StationState, with_arrival, with_octets, without_peer}
 use Rattle.station.specs.Peers.{peer_at}
 use Rattle.station.specs.Reads.{is_read_at}
-use Rattle.station.specs.Runs.{Move, Stays, after, after_move, heard_of, opened, told}
+use Rattle.station.specs.Runs.{Move, Stays, after, after_move, heard_of, opening_station, text_to}
 use Rattle.station.specs.Sessions.{Grants, Session, is_read}
 use Rattle.station.specs.Standing.{standing_events}
 use Rattle.station.specs.Stories.{IsTold}
@@ -27,16 +29,16 @@ EachPeerIsToldItsStory = (s : StationState) (k : ℕ) (ms : List Move)
     → let start = with_arrival k s in
     (x : Session) × (peer_at (after ms start).peers k ≡ Some x)
     × IsTold s.book.config s.book.rows (after ms start).book.rows (heard_of k ms start)
-    (told k ms start) x.talk.on x.end
+    (text_to k ms start) x.talk.on x.end
 
 -- The book's rows are one history, whatever moves come at a station of a book whose rows are one:
 -- moves only add rows, and each reply is the written step's at the site that the rows before it led
 -- to.
 pub record IsOneHistory (b : Book) (ms more : List Move) : Type 0 where
-  pub legal : IsLegal (opening b.config) (after ms (opened b)).book.rows
+  pub legal : IsLegal (opening b.config) (after ms (opening_station b)).book.rows
   pub later : List Row
-  pub grows : (after more (after ms (opened b))).book.rows
-      ≡ (after ms (opened b)).book.rows ++ later
+  pub grows : (after more (after ms (opening_station b))).book.rows
+      ≡ (after ms (opening_station b)).book.rows ++ later
 
 abbrev pub RowsAreOneHistory : Type 0
 RowsAreOneHistory = (b : Book) (ms more : List Move) → IsLegal (opening b.config) b.rows
@@ -47,16 +49,32 @@ RowsAreOneHistory = (b : Book) (ms more : List Move) → IsLegal (opening b.conf
 abbrev pub EndsLeaveTheirTill : Type 0
 EndsLeaveTheirTill = (b : Book) (ms : List Move) (m : Move) (k : ℕ) (x y : Session)
     (end : PeerEnd) (t : ℕ)
-    → peer_at (after ms (opened b)).peers k ≡ Some x → x.end ≡ None
-    → peer_at (after_move m (after ms (opened b))).peers k ≡ Some y → y.end ≡ Some end
+    → peer_at (after ms (opening_station b)).peers k ≡ Some x → x.end ≡ None
+    → peer_at (after_move m (after ms (opening_station b))).peers k ≡ Some y → y.end ≡ Some end
     → y.talk.on ≡ Some t
-    → is_signed_on (site_of_book (after_move m (after ms (opened b))).book) t ≡ false
+    → is_signed_on (site_of_book (after_move m (after ms (opening_station b))).book) t ≡ false
 
 -- .. nor is it where a peer is gone whose session lasted.
 abbrev pub PeersLeaveTheirTill : Type 0
 PeersLeaveTheirTill = (s : StationState) (k : ℕ) (x : Session) (t : ℕ)
     → peer_at s.peers k ≡ Some x → x.end ≡ None → x.talk.on ≡ Some t
     → is_signed_on (site_of_book (without_peer k s).book) t ≡ false
+
+-- a session that lasts has signed this till on, and not off
+pub record HasSession (s : StationState) (t : ℕ) : Type 0 where
+  pub key : ℕ
+  pub session : Session
+  pub there : peer_at s.peers key ≡ Some session
+  pub lasts : session.end ≡ None
+  pub on : session.talk.on ≡ Some t
+
+-- Each till that is signed on has such a session, where none was signed on when the station opened.
+-- So where nobody is left, no till is signed on.
+abbrev pub TillsHaveSessions : Type 0
+TillsHaveSessions = (b : Book) (ms : List Move)
+    → ((t : ℕ) → is_signed_on (site_of_book b) t ≡ false)
+    → (t : ℕ) → is_signed_on (site_of_book (after ms (opening_station b)).book) t ≡ true
+    → HasSession (after ms (opening_station b)) t
 
 -- Requests are asked in the order in which they are heard: with the octets of a peer that is read
 -- from, the book gets the rows of the first of the requests among the messages that they bring, in
@@ -87,3 +105,11 @@ AreChangesOf p events = AllByRecursion (IsChangeOf p) events
 -- Each standing notice is a change of the point that stands.
 abbrev pub StandingNoticesAreChanges : Type 0
 StandingNoticesAreChanges = (p : ℕ) (v : PointView) → AreChangesOf p (standing_events p v)
+
+-- A dispenser that comes back, with its nozzle as it last reported it, and is told what stands at
+-- its point knows what one knows that has listened since the day's beginning.
+abbrev pub StandingNoticesTellWhatWasMissed : Type 0
+StandingNoticesTellWhatWasMissed = (c : Configured) (rows : List Row) (p : ℕ) (v : PointView)
+    → IsLegal (opening c) rows → view_point (site_of_rows (opening c) rows) p ≡ Some v
+    → learn_all (standing_events p v) (only_nozzle (is_some v.out))
+    ≡ learn_rows p rows (only_nozzle false)

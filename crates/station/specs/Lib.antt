@@ -1,6 +1,7 @@
 pub mod Papers
 pub mod PeerViews
 pub mod Standing
+pub mod Knowledge
 pub mod Notices
 pub mod Sessions
 pub mod Peers

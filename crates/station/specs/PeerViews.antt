@@ -6,7 +6,7 @@ use Rattle.std.specs.Borrow.{Bor}
 use Rattle.till_session.specs.Text.{is_same_node}
 use Rattle.station.specs.declared.peer.Peer.{Peer}
 use Rattle.station.specs.Sessions.{Session}
-use Rattle.station.specs.Peers.{listener, noticed_by, with_peer}
+use Rattle.station.specs.Peers.{listener, tell_notice, with_peer}
 
 abbrev pub session_of : Peer → Session
 session_of p = record { held = p.decoder; talk = p.talk; owed = p.outbox; end = p.end }
@@ -25,7 +25,7 @@ is_at (Some peer) node = is_same_node peer node
 -- a session that listens at this node is told a notice of these octets
 abbrev pub session_noticed : List ℕ → List ℕ → Session → Session
 session_noticed node octets x =
-    if is_at (listener x.end x.talk.peer) node then noticed_by (Some octets) x else x
+    if is_at (listener x.end x.talk.peer) node then tell_notice (Some octets) x else x
 
 abbrev pub slot_noticed : List ℕ → List ℕ → Option Session → Option Session
 slot_noticed node octets slot = option_map (session_noticed node octets) slot

@@ -27,22 +27,22 @@ listener None peer = peer
 listener (Some end) peer = None
 
 -- a session is told a notice, if there is one; where it is owed too much, it ends instead
-abbrev pub noticed_by : Option (List ℕ) → Session → Session
-noticed_by None x = x
-noticed_by (Some octets) x =
+abbrev pub tell_notice : Option (List ℕ) → Session → Session
+tell_notice None x = x
+tell_notice (Some octets) x =
     if nat_lt NOTICE_LIMIT (length x.owed)
     then record x { end = Some ends.Behind }
     else record x { owed = x.owed ++ octets }
 
 -- .. of a row
-abbrev pub noticed : Row → Session → Session
-noticed r x = noticed_by (row_notice (listener x.end x.talk.peer) r) x
+abbrev pub tell_row : Row → Session → Session
+tell_row r x = tell_notice (row_notice (listener x.end x.talk.peer) r) x
 
 -- .. of rows, in order
-abbrev pub noticed_all : List Row → Session → Session
-noticed_all [] x = x
-noticed_all (r ∷ rows) x = noticed_all rows (noticed r x)
+abbrev pub tell_rows : List Row → Session → Session
+tell_rows [] x = x
+tell_rows (r ∷ rows) x = tell_rows rows (tell_row r x)
 
 -- all these peers are told of rows
 abbrev pub with_notices : List Row → List (Option Session) → List (Option Session)
-with_notices rows peers = map (option_map (noticed_all rows)) peers
+with_notices rows peers = map (option_map (tell_rows rows)) peers

@@ -26,6 +26,10 @@ pub record IsNextOwed (from key : ℕ) (s : StationState) : Type 0 where
 abbrev pub NoneIsOwed : ℕ → StationState → Type 0
 NoneIsOwed from s = (k : ℕ) → from ≤ k → owed_at s k ≡ []
 
+-- nobody is there
+abbrev pub HasNoPeer : StationState → Type 0
+HasNoPeer s = (k : ℕ) → peer_at s.peers k ≡ None
+
 abbrev pub is_read_of : Option Session → Bool
 is_read_of None = false
 is_read_of (Some x) = is_read x

@@ -17,13 +17,13 @@ pub data Move : Type 0 where
   Leaves : (key : ℕ) → Move
 
 -- a key that nobody has is given
-abbrev pub arrived : ℕ → Option Session → StationState → StationState
-arrived k None s = with_arrival k s
-arrived k (Some x) s = s
+abbrev pub arrive : ℕ → Option Session → StationState → StationState
+arrive k None s = with_arrival k s
+arrive k (Some x) s = s
 
 -- the station after a move
 abbrev pub after_move : Move → StationState → StationState
-after_move (Arrives k) s = arrived k (peer_at s.peers k) s
+after_move (Arrives k) s = arrive k (peer_at s.peers k) s
 after_move (Says memory k octets) s = with_octets memory k octets s
 after_move (Takes k n) s = with_taken k n s
 after_move (Finishes k) s = with_end k s
@@ -35,8 +35,8 @@ after [] s = s
 after (m ∷ ms) s = after ms (after_move m s)
 
 -- a station at this book, without peers
-abbrev pub opened : Book → StationState
-opened b = record { book = b; peers = [] }
+abbrev pub opening_station : Book → StationState
+opening_station b = record { book = b; peers = [] }
 
 -- ---- one peer, until it leaves
 
@@ -57,9 +57,9 @@ taken_with k (Takes j n) s = if j == k then take n (owed_at s k) else []
 taken_with k m s = []
 
 -- what the peer of key k is told: what it takes, and what it is owed in the end
-abbrev pub told : ℕ → List Move → StationState → List ℕ
-told k [] s = owed_at s k
-told k (m ∷ ms) s = taken_with k m s ++ told k ms (after_move m s)
+abbrev pub text_to : ℕ → List Move → StationState → List ℕ
+text_to k [] s = owed_at s k
+text_to k (m ∷ ms) s = taken_with k m s ++ text_to k ms (after_move m s)
 
 -- with this move the peer of key k doesn't leave, and nobody comes in its place
 abbrev pub stays_with : ℕ → Move → Bool

@@ -5,11 +5,11 @@ ghost use Rattle.app_message.specs.Spelling.{spelling};
 ghost use Rattle.device_map.specs.Replies.{fault_message};
 ghost use Rattle.till_session.specs.Course.{IsSpokenBy};
 ghost use Rattle.till_session.specs.Text.{number_text, outcome_text};
-ghost use Rattle.station.specs.Hearing.{Answers, AnswersAll, AnswersRequest, Hears, finished_if};
+ghost use Rattle.station.specs.Hearing.{Answers, AnswersAll, AnswersRequest, Hears, finish_if};
 ghost use Rattle.station.specs.Hearing.{turn_of};
 ghost use Rattle.station.specs.PeerViews.{session_of, sessions_of};
-ghost use Rattle.station.specs.Sessions.{ended, finished, opening_text, refused_by, told};
-ghost use Rattle.station.specs.Sessions.{told_last};
+ghost use Rattle.station.specs.Sessions.{end_session, finish, opening_text, refuse_by, tell};
+ghost use Rattle.station.specs.Sessions.{tell_last};
 
 use crate::asking::ask;
 use crate::paper::Paper;
@@ -89,7 +89,7 @@ fn answer(
 
 /// Another originator is told that it is another, and the session ends.
 fn refuse_another(peer: &mut Peer, book: &mut SiteBook, paper: &mut Paper, message: &Message)
-    ensures { (memory : Bool) × (turn_of book.new peer.new ≡ told_last memory
+    ensures { (memory : Bool) × (turn_of book.new peer.new ≡ tell_last memory
         (number_text message.now ORIGINATOR_CHANGED)
         (PeerEnd.Fault (SessionFault.Talk TalkFault.OriginatorChanged))
         (turn_of book.old peer.old)) }
@@ -126,7 +126,7 @@ fn refuse_message(
     number: u8,
     before: Option<[u8; 2]>,
 )
-    ensures { (memory : Bool) × (turn_of book.new peer.new ≡ told memory
+    ensures { (memory : Bool) × (turn_of book.new peer.new ≡ tell memory
         (number_text message.now number ++ opening_text before message.now.from book.old)
         (turn_of book.old peer.old)) }
 {
@@ -204,7 +204,7 @@ fn tell(
 /// Refuses a fault of the octets, if the session lasts; it ends with that.
 fn refuse(peer: &mut Peer, book: &mut SiteBook, paper: &mut Paper, fault: &StreamFault)
     ensures { (memory : Bool) × (turn_of book.new peer.new
-        ≡ refused_by memory (Some fault.now) (turn_of book.old peer.old)) }
+        ≡ refuse_by memory (Some fault.now) (turn_of book.old peer.old)) }
 {
     if !peer.lasts() {
         return;
@@ -229,7 +229,7 @@ fn tell_fault(peer: &mut Peer, paper: &mut Paper, fault: &StreamFault) -> Result
 
 /// The octets of a session have ended: it ends, inside a message or not, if it lasts.
 pub(crate) fn finish(peer: &mut Peer, book: &mut SiteBook)
-    ensures { turn_of book.new peer.new ≡ finished_if (turn_of book.old peer.old) }
+    ensures { turn_of book.new peer.new ≡ finish_if (turn_of book.old peer.old) }
 {
     if peer.lasts() {
         finish_lasting(peer, book);
@@ -238,7 +238,7 @@ pub(crate) fn finish(peer: &mut Peer, book: &mut SiteBook)
 
 /// The octets of a session that lasts have ended: it ends.
 fn finish_lasting(peer: &mut Peer, book: &mut SiteBook)
-    ensures { turn_of book.new peer.new ≡ finished (turn_of book.old peer.old) }
+    ensures { turn_of book.new peer.new ≡ finish (turn_of book.old peer.old) }
 {
     let end = if peer.decoder.held() > 0 {
         PeerEnd::Fault(SessionFault::Talk(TalkFault::Truncated))
@@ -250,7 +250,7 @@ fn finish_lasting(peer: &mut Peer, book: &mut SiteBook)
 
 /// A session ends so, and the till that it signed on and didn't sign off is signed off.
 fn end_session(peer: &mut Peer, book: &mut SiteBook, end: PeerEnd)
-    ensures { turn_of book.new peer.new ≡ ended end (turn_of book.old peer.old) }
+    ensures { turn_of book.new peer.new ≡ end_session end (turn_of book.old peer.old) }
 {
     peer.end = Some(end);
     if let Some(till) = peer.talk.till() {

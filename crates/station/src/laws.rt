@@ -3,6 +3,7 @@
 ghost use Rattle.station.specs.Laws.{EachPeerIsToldItsStory, EndsLeaveTheirTill};
 ghost use Rattle.station.specs.Laws.{PeersLeaveTheirTill, RequestsAreAskedInOrder};
 ghost use Rattle.station.specs.Laws.{RowsAreOneHistory, StandingNoticesAreChanges};
+ghost use Rattle.station.specs.Laws.{StandingNoticesTellWhatWasMissed, TillsHaveSessions};
 
 /// A peer is told its story: the session text of what was heard of it, with the answers that its
 /// requests were given, and between the notices of its point, each in its place.
@@ -25,6 +26,11 @@ pub fn peers_leave_their_till()
     ensures { PeersLeaveTheirTill }
 {}
 
+/// Each till that is signed on has a session that lasts.
+pub fn tills_have_sessions()
+    ensures { TillsHaveSessions }
+{}
+
 /// Requests are asked in the order in which they are heard.
 pub fn requests_are_asked_in_order()
     ensures { RequestsAreAskedInOrder }
@@ -33,4 +39,10 @@ pub fn requests_are_asked_in_order()
 /// What a dispenser that comes back is told are changes of its point.
 pub fn standing_notices_are_changes()
     ensures { StandingNoticesAreChanges }
+{}
+
+/// A dispenser that comes back, with its nozzle as it last reported it, knows with what it is told
+/// what one knows that has listened since the day's beginning.
+pub fn standing_notices_tell_what_was_missed()
+    ensures { StandingNoticesTellWhatWasMissed }
 {}

@@ -3,10 +3,11 @@
 ghost use Rattle.std.specs.Prelude.{◌≡◌, ◌≤◌, None, Some, length, is_none, IfOk};
 ghost use Rattle.station.specs.declared.sizes.TheConstants.{NOTICE_OCTETS};
 ghost use Rattle.station.specs.PeerViews.{is_at, session_of};
-ghost use Rattle.station.specs.Peers.{listener, noticed_by};
+ghost use Rattle.station.specs.Peers.{listener, tell_notice};
 ghost use Rattle.station.specs.Sessions.{is_read, opening_session};
 
 use crate::outbox::Outbox;
+use crate::paper::is_same_node;
 use crate::peer_end::PeerEnd;
 use crate::sizes::{NOTICE_LIMIT, READ_LIMIT};
 use app_message::Decoder;
@@ -56,7 +57,7 @@ impl Peer {
         ensures { result ≡ is_at (listener self.now.end self.now.talk.peer) node }
     {
         match (self.end, self.talk.peer()) {
-            (None, Some(peer)) => peer[0] == node[0] && peer[1] == node[1],
+            (None, Some(peer)) => is_same_node(peer, node),
             _ => false,
         }
     }
@@ -64,7 +65,7 @@ impl Peer {
     /// Tells it a notice; where it is owed too much, its session ends instead.
     pub(crate) fn notice(&mut self, octets: &[u8])
         requires { length octets.now ≤ NOTICE_OCTETS }
-        ensures { session_of self.new ≡ noticed_by (Some octets.now) (session_of self.old) }
+        ensures { session_of self.new ≡ tell_notice (Some octets.now) (session_of self.old) }
     {
         if self.outbox.len() > NOTICE_LIMIT {
             self.end = Some(PeerEnd::Behind);

@@ -1,12 +1,12 @@
 //! The station: a book and its peers.
 
 ghost use Rattle.std.specs.Prelude.{◌≡◌, ◌<◌, ℕ, [], length, IfNone, IfOk, IfSome, OnErr};
-ghost use Rattle.std.specs.Prelude.{IsSome};
+ghost use Rattle.std.specs.Prelude.{◌≤◌, None, IsSome};
 ghost use Rattle.station.specs.Moves.{with_end, with_octets, with_taken, without_peer};
 ghost use Rattle.station.specs.Peers.{peer_at};
 ghost use Rattle.station.specs.Reads.{Arrives, IsNextOwed, NoneIsOwed, end_at, is_read_at};
 ghost use Rattle.station.specs.Reads.{node_at, owed_at};
-ghost use Rattle.station.specs.Runs.{opened};
+ghost use Rattle.station.specs.Runs.{opening_station};
 ghost use Rattle.station.specs.Sessions.{Grants};
 
 use crate::hearing::{finish, hear};
@@ -51,7 +51,7 @@ impl Model for Station {
 impl Station {
     /// A station at this book, without peers. It takes no memory.
     pub fn new(alloc: Global, book: SiteBook) -> Station
-        ensures { result ≡ opened book }
+        ensures { result ≡ opening_station book }
     {
         Station {
             alloc,
@@ -62,9 +62,10 @@ impl Station {
         }
     }
 
-    /// The book.
+    /// The book. No key above 1,023 is given, by the station's type.
     pub fn book(&self) -> &SiteBook
-        ensures { result.now ≡ self.now.book }
+        ensures book { result.now ≡ self.now.book }
+        ensures keys { (k : ℕ) → PEERS ≤ k → peer_at self.now.peers k ≡ None }
     {
         &self.book
     }
@@ -134,7 +135,7 @@ impl Station {
     }
 
     /// The octets that a peer is owed.
-    pub fn owed(&self, key: usize) -> &[u8]
+    pub fn owed_octets(&self, key: usize) -> &[u8]
         ensures { result.now ≡ owed_at self.now key }
     {
         match find_peer(&self.slots, key) {

@@ -4,7 +4,7 @@ use Rattle.station.specs.Moves.{StationState, with_end, with_octets, with_taken}
 use Rattle.station.specs.Moves.{without_peer}
 use Rattle.station.specs.Reads.{Arrives as GetsKey}
 use Rattle.station.specs.Runs.{Arrives, Finishes, Leaves, Move, Says, Takes, after, after_move}
-use Rattle.station.specs.Runs.{arrived}
+use Rattle.station.specs.Runs.{arrive}
 use Rattle.station.specs.Sessions.{Grants}
 use Rattle.station_server.specs.declared.calls.Call.{Call}
 use Rattle.station_server.specs.declared.calls.Call.TheVariants.{Ended, Failed, Interrupted}
@@ -51,7 +51,7 @@ reaches_left k s t left = reaches_by (Leaves k) s t left
 pub reaches_arrival : (key : Option ℕ) (s t : StationState) → GetsKey key s t → Reaches s t
 reaches_arrival None s t gets = reaches_same s t gets.0
 reaches_arrival (Some k) s t gets =
-    reaches_by (Arrives k) s t (gets.2 ∙ ap (λ x. arrived k x s) (sym gets.1))
+    reaches_by (Arrives k) s t (gets.2 ∙ ap (λ x. arrive k x s) (sym gets.1))
 
 -- a call at a connection
 pub reaches_read : (call : Call) (k : ℕ) (left left' : Option (List ℕ)) (s t : StationState)

@@ -58,7 +58,7 @@ pub fn write_once<W: Write>(writer: &mut W, station: &mut Station, key: usize) -
     ensures { SendsCall result key (W.contents writer.old) (W.contents writer.new) station.old
         station.new }
 {
-    match writer.write(station.owed(key)) {
+    match writer.write(station.owed_octets(key)) {
         Ok(0) => Call::Failed,
         Ok(n) => {
             station.take(key, n);

@@ -3,10 +3,11 @@
 ghost use Rattle.std.specs.Prelude.{◌≡◌, ◌<◌, length, IfOk};
 ghost use Rattle.site_book.specs.Book.{Book};
 ghost use Rattle.station.specs.Moves.{without_peer};
-ghost use Rattle.station.specs.Runs.{opened};
+ghost use Rattle.station.specs.Reads.{HasNoPeer};
+ghost use Rattle.station.specs.Runs.{opening_station};
 ghost use Rattle.station_server.specs.Reaches.{Reaches};
 
-use crate::link::{Link, Reach};
+use crate::link::{Channel, Link};
 use crate::naming::{EndedSession, PeerName};
 use crate::sizes::{CLOSING_SECONDS, PIECE_OCTETS};
 use mio::net::TcpStream;
@@ -35,7 +36,7 @@ pub struct Connections {
 impl Connections {
     /// No connections, and a station at this book.
     pub fn new(alloc: Global, book: SiteBook) -> Result<Connections, NoMemory>
-        ensures { IfOk result (λ c. c.station ≡ opened book) }
+        ensures { IfOk result (λ c. c.station ≡ opening_station book) }
     {
         let mut links = Vec::with_capacity(alloc, PEERS)?;
         for _ in 0..PEERS {
@@ -165,7 +166,7 @@ impl Connections {
         for at in 0..self.due_count {
             if let Some(key) = self.due.get(at) {
                 let key = *key;
-                self.settle(registry, rt, key, now);
+                self.send_owed(registry, rt, key, now);
             }
         }
         self.due_count = 0;
@@ -173,7 +174,7 @@ impl Connections {
 
     /// A peer is sent what it is owed, and its connection follows its session.
     #[tactic(auto, using(crate::proofs::Reaching::moved))]
-    fn settle<E: Eprint>(&mut self, registry: &Registry, rt: &E, key: usize, now: Instant)
+    fn send_owed<E: Eprint>(&mut self, registry: &Registry, rt: &E, key: usize, now: Instant)
         ensures { Reaches self.old.station self.new.station }
     {
         let Some(Some(link)) = self.links.get_mut(key) else {
@@ -181,7 +182,7 @@ impl Connections {
         };
         link.is_due = false;
         link.send(&mut self.station, key, now);
-        if link.reach == Reach::Nothing {
+        if link.channel == Channel::Failed {
             self.station.finish(key);
             self.begin_to_close(rt, key, now);
             self.remove(key);
@@ -189,7 +190,7 @@ impl Connections {
         }
         if let Some(end) = self.station.end(key) {
             self.begin_to_close(rt, key, now);
-            self.close(key, end);
+            self.end_connection(key, end);
         }
         self.report_again(registry, key);
     }
@@ -200,7 +201,7 @@ impl Connections {
         ensures { self.new.station ≡ self.old.station }
     {
         let is_read = self.station.is_read(key);
-        let is_owed = !self.station.owed(key).is_empty();
+        let is_owed = !self.station.owed_octets(key).is_empty();
         if let Some(Some(link)) = self.links.get_mut(key) {
             let is_left = link.is_unread && (is_read || link.closing_since.is_some());
             if is_left || is_owed && !link.is_full {
@@ -245,19 +246,19 @@ impl Connections {
     /// and once it sends no more its connection is closed. That of one that doesn't take what it is
     /// owed is closed at once.
     #[tactic(auto, using(crate::proofs::Reaching::moved))]
-    fn close(&mut self, key: usize, end: PeerEnd)
+    fn end_connection(&mut self, key: usize, end: PeerEnd)
         ensures { Reaches self.old.station self.new.station }
     {
         if end == PeerEnd::Behind {
             self.remove(key);
             return;
         }
-        if !self.station.owed(key).is_empty() {
+        if !self.station.owed_octets(key).is_empty() {
             return;
         }
         if let Some(Some(link)) = self.links.get_mut(key) {
             link.shut();
-            if link.reach != Reach::Both {
+            if link.channel != Channel::Open {
                 self.remove(key);
             }
         }
@@ -290,9 +291,9 @@ impl Connections {
         ensures { Reaches self.old.station self.new.station }
     {
         for key in 0..self.links.len() {
-            match self.state_of(key, idle, now) {
-                Waiting::Well => {}
-                Waiting::Idle(seconds) => {
+            match self.find_timeout(key, idle, now) {
+                Timeout::NotYet => {}
+                Timeout::Idle(seconds) => {
                     let name = PeerName {
                         node: self.station.node(key),
                     };
@@ -301,48 +302,62 @@ impl Connections {
                     let _ = self.note_closing(key, now);
                     self.make_due(key);
                 }
-                Waiting::Stuck => self.remove(key),
+                Timeout::Closing => self.remove(key),
             }
         }
         self.send_due(registry, rt, now);
     }
 
-    /// How long a peer is waited for already.
-    fn state_of(&self, key: usize, idle: Option<u64>, now: Instant) -> Waiting {
+    /// Whether a peer was waited for too long.
+    fn find_timeout(&self, key: usize, idle: Option<u64>, now: Instant) -> Timeout {
         let Some(Some(link)) = self.links.get(key) else {
-            return Waiting::Well;
+            return Timeout::NotYet;
         };
         match (link.closing_since, idle) {
             (Some(since), _) if now.duration_since(since).as_secs() >= CLOSING_SECONDS => {
-                Waiting::Stuck
+                Timeout::Closing
             }
             (None, Some(seconds))
                 if !link.is_unread && now.duration_since(link.heard_at).as_secs() >= seconds => {
-                Waiting::Idle(seconds)
+                Timeout::Idle(seconds)
             }
-            _ => Waiting::Well,
+            _ => Timeout::NotYet,
         }
     }
 
-    /// The day ends: each session ends, what it is owed is sent as far as its connection takes it,
-    /// and its connection is closed.
+    /// The day ends: each session ends, and what it is owed is sent as far as its connection takes
+    /// it. Then each connection is closed: nobody is left.
     #[tactic(auto, using(crate::proofs::Reaching::moved))]
     pub(crate) fn end_all(&mut self, now: Instant)
-        ensures { Reaches self.old.station self.new.station }
+        ensures moves { Reaches self.old.station self.new.station }
+        ensures left { HasNoPeer self.new.station }
     {
-        for key in 0..self.links.len() {
+        for key in 0..PEERS {
             self.end(key, now);
         }
+        self.remove_all();
     }
 
-    /// The session of a peer ends, and its connection is closed.
+    /// The session of a peer ends, and it is sent what it is owed.
     #[tactic(auto, using(crate::proofs::Reaching::moved))]
     fn end(&mut self, key: usize, now: Instant)
         ensures { Reaches self.old.station self.new.station }
     {
         self.station.finish(key);
         self.send_last(key, now);
-        self.remove(key);
+    }
+
+    /// Each connection is closed, and its peer leaves.
+    #[tactic(auto, using(crate::proofs::Reaching::moved))]
+    fn remove_all(&mut self)
+        ensures moves { Reaches self.old.station self.new.station }
+        ensures left { HasNoPeer self.new.station }
+    {
+        for key in 0..PEERS {
+            self.remove(key);
+        }
+        // Keys above aren't given.
+        let _ = self.station.book();
     }
 
     /// A peer is sent what it is owed, and told that nothing more will come. What it has sent is
@@ -364,13 +379,13 @@ fn both_ways() -> Interest {
     Interest::READABLE | Interest::WRITABLE
 }
 
-/// What is to be done of a peer that is waited for.
+/// Whether a peer was waited for too long.
 #[derive(Clone, Copy, Debug, PartialEq, Eq)]
-enum Waiting {
-    /// Nothing.
-    Well,
-    /// Nothing came of it for so many seconds, which is too long.
+enum Timeout {
+    /// It wasn't.
+    NotYet,
+    /// Nothing came of it for so many seconds.
     Idle(u64),
     /// Its session has ended, and its connection doesn't.
-    Stuck,
+    Closing,
 }

@@ -27,19 +27,19 @@ pub(crate) struct Link {
     pub(crate) is_due: bool,
     /// The peer was told that nothing more will come.
     is_shut: bool,
-    /// Whether the peer may still send, or take.
-    pub(crate) reach: Reach,
+    /// What the peer may still do.
+    pub(crate) channel: Channel,
 }
 
 /// What a peer can still do.
 #[derive(Clone, Copy, Debug, PartialEq, Eq)]
-pub(crate) enum Reach {
+pub(crate) enum Channel {
     /// Send and take.
-    Both,
+    Open,
     /// Take alone: it sends no more.
-    Takes,
+    HalfClosed,
     /// Nothing: the connection failed.
-    Nothing,
+    Failed,
 }
 
 impl Link {
@@ -53,7 +53,7 @@ impl Link {
             is_full: false,
             is_due: false,
             is_shut: false,
-            reach: Reach::Both,
+            channel: Channel::Open,
         }
     }
 
@@ -91,11 +91,11 @@ impl Link {
                     return;
                 }
                 Call::Ended => {
-                    self.reach = Reach::Takes;
+                    self.channel = Channel::HalfClosed;
                     return;
                 }
                 Call::Failed => {
-                    self.reach = Reach::Nothing;
+                    self.channel = Channel::Failed;
                     return;
                 }
             }
@@ -108,7 +108,7 @@ impl Link {
         ensures { Reaches station.old station.new }
     {
         for _ in 0..CALLS_A_TURN {
-            if station.owed(key).is_empty() {
+            if station.owed_octets(key).is_empty() {
                 return;
             }
             match write_once(&mut self.stream, station, key) {
@@ -119,7 +119,7 @@ impl Link {
                     return;
                 }
                 Call::Ended | Call::Failed => {
-                    self.reach = Reach::Nothing;
+                    self.channel = Channel::Failed;
                     return;
                 }
             }
@@ -141,7 +141,7 @@ impl Link {
             match self.stream.read(piece) {
                 Ok(0) => {
                     self.is_unread = false;
-                    self.reach = Reach::Takes;
+                    self.channel = Channel::HalfClosed;
                     return;
                 }
                 Ok(_) => {}
@@ -152,7 +152,7 @@ impl Link {
                         return;
                     }
                     _ => {
-                        self.reach = Reach::Nothing;
+                        self.channel = Channel::Failed;
                         return;
                     }
                 },

@@ -1,6 +1,7 @@
 //! The server: it waits until connections are ready, round after round.
 
 ghost use Rattle.std.specs.Prelude.{◌≡◌};
+ghost use Rattle.station.specs.Reads.{HasNoPeer};
 ghost use Rattle.station_server.specs.Reaches.{Reaches};
 
 use crate::connections::Connections;
@@ -31,7 +32,7 @@ pub struct StationServer {
     has_callers: bool,
     /// Accepting failed: it is tried again.
     is_deaf: bool,
-    /// That was told.
+    /// That was told, and since then not all that waited were accepted.
     has_told: bool,
     swept_at: Instant,
     time: Instant,
@@ -76,8 +77,9 @@ impl StationServer {
     }
 
     /// Serves connections until the day's end. Sessions of which nothing comes for so many seconds
-    /// are ended. At the day's end each session ends, and what it is owed is sent as far as its
-    /// connection takes it; so too where waiting for connections fails, with `NoConnection`.
+    /// are ended. At the day's end each session ends, what it is owed is sent as far as its
+    /// connection takes it, and nobody is left; so too where waiting for connections fails, with
+    /// `NoConnection`.
     #[tactic(auto, using(crate::proofs::Reaching::moved))]
     pub fn serve<T: Wait, R: Clock + Eprint>(
         &mut self,
@@ -86,7 +88,8 @@ impl StationServer {
         connections: &mut Connections,
         idle: Option<u64>,
     ) -> Result<(), ServerFault>
-        ensures { Reaches connections.old.station connections.new.station }
+        ensures moves { Reaches connections.old.station connections.new.station }
+        ensures left { HasNoPeer connections.new.station }
     {
         let served = self.serve_rounds(threads, rt, connections, idle);
         connections.end_all(self.time);
@@ -105,8 +108,8 @@ impl StationServer {
         ensures { Reaches connections.old.station connections.new.station }
     {
         for _ in threads.forever() {
-            let rest = self.rest(connections, idle);
-            match self.poll.poll(&mut self.events, rest) {
+            let timeout = self.poll_timeout(connections, idle);
+            match self.poll.poll(&mut self.events, timeout) {
                 Ok(()) => {}
                 Err(_) => return Err(ServerFault::NoConnection),
             }
@@ -123,7 +126,7 @@ impl StationServer {
     }
 
     /// How long it waits for the next round: as long as it takes, or until the next sweep.
-    fn rest(&self, connections: &Connections, idle: Option<u64>) -> Option<Duration> {
+    fn poll_timeout(&self, connections: &Connections, idle: Option<u64>) -> Option<Duration> {
         if self.is_deaf || connections.has_closing() || idle.is_some() {
             return Some(Duration::from_secs(SWEEP_SECONDS));
         }
@@ -153,7 +156,8 @@ impl StationServer {
         Round::Next
     }
 
-    /// Accepts the connections that wait. Where that fails it is told once, and tried again.
+    /// Accepts the connections that wait. Where that fails it is told, once until all that wait are
+    /// accepted, and tried again.
     #[tactic(auto, using(crate::proofs::Reaching::moved))]
     fn accept_all<R: Eprint>(&mut self, rt: &R, connections: &mut Connections)
         ensures { Reaches connections.old.station connections.new.station }
@@ -163,7 +167,10 @@ impl StationServer {
             match self.listener.accept() {
                 Ok((stream, _)) => connections.welcome(self.poll.registry(), rt, stream, self.time),
                 Err(error) => match error.kind() {
-                    ErrorKind::WouldBlock => return,
+                    ErrorKind::WouldBlock => {
+                        self.has_told = false;
+                        return;
+                    }
                     ErrorKind::Interrupted | ErrorKind::ConnectionAborted => {}
                     _ => {
                         self.tell_deaf(rt, &error);
@@ -176,7 +183,7 @@ impl StationServer {
         let _ = registry.reregister(&mut self.listener, LISTENER, Interest::READABLE);
     }
 
-    /// Accepting failed so: it is told, the first time.
+    /// Accepting failed so: it is told, where it wasn't yet.
     fn tell_deaf<R: Eprint>(&mut self, rt: &R, error: &io::Error) {
         self.is_deaf = true;
         if !self.has_told {

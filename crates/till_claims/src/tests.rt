@@ -1,6 +1,6 @@
 //! What no clause says: that a till's points are told where there is memory for them.
 
-mod refused;
+mod out_of_memory;
 
 use crate::Claims;
 use site_base::{FpNo, TillNo};

@@ -10,12 +10,13 @@ use Rattle.site_base.specs.declared.actor.Actor.{Actor}
 use Rattle.site_base.specs.declared.event.Event.{Event}
 use Rattle.site_base.specs.declared.row.Row.{Row}
 use Rattle.site_base.specs.Devices.{AppendsFront}
-use Rattle.site_base.proofs.Known.{Appends-then, Appends-front, AppendsFront-so_far}
-use Rattle.site_base.proofs.Known.{AppendsFront-whole, Consumes-none, Consumes-then, Consumes-kept}
+use Rattle.site_base.proofs.KnownBytes.{Appends-then, Appends-front, AppendsFront-so_far}
+use Rattle.site_base.proofs.KnownBytes.{AppendsFront-whole, Consumes-none, Consumes-then}
+use Rattle.site_base.proofs.KnownBytes.{Consumes-kept}
 use Rattle.app_message.specs.declared.fault.StreamFault.{StreamFault}
 use Rattle.app_message.specs.Spelling.{spelling}
-use Rattle.app_message.specs.Stream.{Held, Stream, fed_by, held, held_after, stream_of, walk}
-use Rattle.app_message.specs.Stream.{walked}
+use Rattle.app_message.specs.Stream.{Held, Stream, fed_by, held_part, held_after, stream_of, walk}
+use Rattle.app_message.specs.Stream.{with_messages}
 use Rattle.app_message.specs.Telegram.{Telegram}
 use Rattle.app_message.proofs.Cutting.{any_cut}
 use Rattle.device_map.specs.Replies.{fault_message}
@@ -26,7 +27,7 @@ use Rattle.till_session.specs.declared.fault.TalkFault.TheVariants.{OriginatorCh
 use Rattle.site_base.specs.declared.limits.TheConstants.{PIECE_OCTETS}
 use Rattle.till_session.specs.Counters.{Asked, outcome_given, request_asked}
 use Rattle.till_session.specs.Course.{EndsStream, GoesOn, IsCut, IsOver, TalkState, Talked}
-use Rattle.till_session.specs.Course.{ends_talk, silent}
+use Rattle.till_session.specs.Course.{ends_talk, opening_talk}
 use Rattle.till_session.specs.Ends.{Conversed, as_session_fault, is_early}
 use Rattle.till_session.specs.Text.{fault_by, left_over, messages_text, refusal_text, requests_in}
 use Rattle.till_session.specs.Text.{session_fault, session_requests, session_text}
@@ -43,10 +44,11 @@ pub record Conversing (turns more : ℕ) (talk : TalkState) (decoder : Held)
   pub few : length read + more * PIECE_OCTETS ≤ turns * PIECE_OCTETS
   pub holding : decoder ≡ held_after read
   pub sound : (stream_of read).fault ≡ None
-  pub talked : Talked None silent talk (stream_of read).messages holds holds' rows rows' owes owes'
+  pub talked : Talked None opening_talk talk (stream_of read).messages holds holds' rows rows' owes
+      owes'
 
 pub starts : (turns : ℕ) (a u : Option (List ℕ)) (rows : List Row) (owes : ℕ → Bool)
-    → Conversing turns turns silent (held_after []) a a u u rows rows owes owes
+    → Conversing turns turns opening_talk (held_after []) a a u u rows rows owes owes
 unfolding walk
 starts turns a u rows owes = record {
   read = [];
@@ -54,32 +56,34 @@ starts turns a u rows owes = record {
   few = omega arith;
   holding = refl;
   sound = refl;
-  talked = talked_none silent u rows owes;
+  talked = talked_none opening_talk u rows owes;
 }
 
 -- the stream of what was read and a piece
 fed : (decoder : Held) (read piece : List ℕ) → decoder ≡ held_after read
-    → stream_of (read ++ piece) ≡ walked (stream_of read).messages (fed_by decoder piece)
+    → stream_of (read ++ piece) ≡ with_messages (stream_of read).messages (fed_by decoder piece)
 fed decoder read piece holding =
-    any_cut read piece ∙ ap (λ h. walked (stream_of read).messages (fed_by h piece)) (sym holding)
+    any_cut read piece ∙ ap (λ h. with_messages (stream_of read).messages (fed_by h piece))
+    (sym holding)
 
 -- the messages that a piece brought were answered
 heard_all : (f : Option SessionFault) (turns more : ℕ) (talk new : TalkState) (decoder : Held)
     (a b u v w : Option (List ℕ)) (x y z : List Row) (i j k : ℕ → Bool) (piece : List ℕ)
     → (so_far : Conversing turns more talk decoder a b u v x y i j)
     → Talked f talk new (fed_by decoder piece).messages v w y z j k
-    → Talked f silent new (stream_of (so_far.read ++ piece)).messages u w x z i k
+    → Talked f opening_talk new (stream_of (so_far.read ++ piece)).messages u w x z i k
 heard_all f turns more talk new decoder a b u v w x y z i j k piece so_far talked =
-    subst (λ ms. Talked f silent new ms u w x z i k)
+    subst (λ ms. Talked f opening_talk new ms u w x z i k)
     (sym (ap (λ (s : Stream). s.messages) (fed decoder so_far.read piece so_far.holding)))
-    (talked_then f silent talk new (stream_of so_far.read).messages (fed_by decoder piece).messages
+    (talked_then f opening_talk talk new (stream_of so_far.read).messages
+    (fed_by decoder piece).messages
     u v w x y z i j k so_far.talked talked)
 
 pub goes_on : (turns more less : ℕ) (talk new : TalkState) (decoder after : Held)
     (a b c u v w : Option (List ℕ)) (x y z : List Row) (i j k : ℕ → Bool) (piece : List ℕ)
     → Conversing turns more talk decoder a b u v x y i j
     → Consumes b c piece → length piece ≤ PIECE_OCTETS → less < more
-    → after ≡ held (fed_by decoder piece) → (fed_by decoder piece).fault ≡ None
+    → after ≡ held_part (fed_by decoder piece) → (fed_by decoder piece).fault ≡ None
     → Talked None talk new (fed_by decoder piece).messages v w y z j k
     → Conversing turns less new after a c u w x z i k
 goes_on turns more less talk new decoder after a b c u v w x y z i j k piece r p small spent kept
@@ -89,7 +93,7 @@ goes_on turns more less talk new decoder after a b c u v w x y z i j k piece r p
       read = r.read ++ piece;
       consumed = Consumes-then a b c r.read piece r.consumed p;
       few = omega (arith, r.few, small, spent, length-append r.read piece);
-      holding = kept ∙ sym (ap held cut);
+      holding = kept ∙ sym (ap held_part cut);
       sound = ap (λ (s : Stream). s.fault) cut ∙ none;
       talked = heard_all None turns more talk new decoder a b u v w x y z i j k piece r talked;
     }
@@ -115,7 +119,7 @@ same_length (a ∷ asked) = omega (arith, same_length asked)
 finished : (turns : ℕ) (fault g : Option SessionFault) (new : TalkState)
     (a c u v w : Option (List ℕ)) (x y : List Row) (i j : ℕ → Bool) (read : List ℕ)
     → Consumes a c read → length read ≤ turns * PIECE_OCTETS
-    → (talked : Talked g silent new (stream_of read).messages u v x y i j)
+    → (talked : Talked g opening_talk new (stream_of read).messages u v x y i j)
     → (rest : List (Actor × Event))
     → session_requests (stream_of read) ≡ map request_asked talked.asked ++ rest
     → AppendsFront u w (session_text (stream_of read) (map outcome_given talked.asked))
@@ -253,7 +257,7 @@ ends_read turns more fault talk decoder a b c u v x y i j piece r none p is =
 over_there : (turns : ℕ) (f : SessionFault) (new : TalkState) (a c u w : Option (List ℕ))
     (x y : List Row) (i j : ℕ → Bool) (read : List ℕ)
     → ends_talk f ≡ true → Consumes a c read → length read ≤ turns * PIECE_OCTETS
-    → Talked (Some f) silent new (stream_of read).messages u w x y i j
+    → Talked (Some f) opening_talk new (stream_of read).messages u w x y i j
     → Conversed turns (Some f) new a c u w x y i j
 over_there turns (faults.Talk OriginatorChanged) new a c u w x y i j read ends consumed few talked =
     let s = stream_of read in
@@ -304,7 +308,7 @@ ends_heard turns more less f talk new decoder a b c u v w x y z i j k piece ends
 faulty_there : (turns : ℕ) (e : SessionFault) (g : StreamFault) (new : TalkState)
     (a c u v w : Option (List ℕ)) (x y : List Row) (i j : ℕ → Bool) (read : List ℕ)
     → Consumes a c read → length read ≤ turns * PIECE_OCTETS → (stream_of read).fault ≡ Some g
-    → Talked None silent new (stream_of read).messages u v x y i j
+    → Talked None opening_talk new (stream_of read).messages u v x y i j
     → AppendsFront v w (spelling (fault_message g)) → EndsStream g e v w
     → Conversed turns (Some e) new a c u w x y i j
 faulty_there turns (faults.Talk fault) g new a c u v w x y i j read consumed few is talked front

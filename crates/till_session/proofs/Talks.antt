@@ -11,7 +11,7 @@ use Rattle.site_base.specs.declared.actor.Actor.{Actor}
 use Rattle.site_base.specs.declared.event.Event.{Event}
 use Rattle.site_base.specs.declared.row.Row.{Row}
 use Rattle.site_base.specs.Devices.{AppendsFront, greatest_count, one_more}
-use Rattle.site_base.proofs.Known.{Appends-then, Appends-none}
+use Rattle.site_base.proofs.KnownBytes.{Appends-then, Appends-none}
 use Rattle.app_message.specs.Telegram.{Telegram}
 use Rattle.device_map.specs.declared.fault.MapFault.{MapFault}
 use Rattle.device_map.specs.Faults.{map_number}

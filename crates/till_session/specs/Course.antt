@@ -30,8 +30,8 @@ pub record TalkState : Type 0 where
   pub asked : ℕ
 
 -- before the first message
-abbrev pub silent : TalkState
-silent = record { peer = None; on = None; asked = 0 }
+abbrev pub opening_talk : TalkState
+opening_talk = record { peer = None; on = None; asked = 0 }
 
 -- the till that it signed on is the one that it serves: it speaks from that till's node
 abbrev pub IsOwn : Option ℕ → Option (List ℕ) → Type 0

@@ -2,5 +2,5 @@ pub mod Counters
 pub mod Text
 pub mod Course
 pub mod Ends
-pub mod Drawn
+pub mod SessionEnds
 pub mod DeskCounters

@@ -5,7 +5,7 @@ ghost use Rattle.std.specs.Prelude.{IfSome, Some};
 ghost use Rattle.std.specs.List.{All};
 ghost use Rattle.counter_desk.specs.declared.crews.TheConstants.{WORKERS};
 ghost use Rattle.till_session.specs.declared.server.TheConstants.{SESSIONS};
-ghost use Rattle.till_session.specs.Drawn.{IsDrawnEnd, IsEndOf, IsSlotOf};
+ghost use Rattle.till_session.specs.SessionEnds.{IsDrawnEnd, IsEndOf, IsSlotOf};
 
 use crate::accept::{Accept, NoConnection};
 use crate::desk_counter::DeskCounter;
@@ -73,7 +73,7 @@ struct DrawnEnds(Plan);
 
 impl Promise<Vec<NumberedEnd>> for DrawnEnds {
     ghost use Rattle.std.specs.List.{All};
-    ghost use Rattle.till_session.specs.Drawn.{IsEndOf};
+    ghost use Rattle.till_session.specs.SessionEnds.{IsEndOf};
 
     ghost kept_by = { λ promise ends. All (IsEndOf promise.0) ends.items };
 }

@@ -6,7 +6,7 @@ ghost use Rattle.std.specs.Io.KnownBytes.{IsAtEnd};
 ghost use Rattle.site_base.specs.Counted.{device_of, failures_of};
 ghost use Rattle.site_base.specs.Devices.{Rose};
 ghost use Rattle.till_session.specs.Counters.{is_the_one};
-ghost use Rattle.till_session.specs.Course.{silent};
+ghost use Rattle.till_session.specs.Course.{opening_talk};
 ghost use Rattle.till_session.specs.Ends.{as_session_fault, Conversed, IsClosed, Served};
 ghost use Rattle.till_session.specs.Text.{left_over};
 
@@ -102,7 +102,7 @@ fn converse<R: Read, W: Write, C: Counter>(
     counter: &mut C,
     mut turns: u64,
 ) -> Result<(), SessionFault>
-    requires { talk.old ≡ silent }
+    requires { talk.old ≡ opening_talk }
     ensures conversed { Conversed turns (result_err result) talk.new
         (R.remaining (device_of reader.old)) (R.remaining (device_of reader.new))
         (W.contents (device_of writer.old)) (W.contents (device_of writer.new))

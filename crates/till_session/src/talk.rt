@@ -8,7 +8,8 @@ ghost use Rattle.site_base.specs.Devices.{AppendsFront, Rose, one_more};
 ghost use Rattle.app_message.specs.Spelling.{spelling};
 ghost use Rattle.device_map.specs.Replies.{fault_message};
 ghost use Rattle.till_session.specs.Counters.{owed_by, row_made, signed_by};
-ghost use Rattle.till_session.specs.Course.{silent, ends_early, ends_talk, AsksOnce, EndsStream};
+ghost use Rattle.till_session.specs.Course.{opening_talk, ends_early, ends_talk, AsksOnce};
+ghost use Rattle.till_session.specs.Course.{EndsStream};
 ghost use Rattle.till_session.specs.Course.{IsOwn, IsRequestOf, IsSpokenBy, Talked};
 ghost use Rattle.till_session.specs.Text.{is_another, meaning_at, peer_after, outcome_text};
 ghost use Rattle.till_session.specs.Text.{number_text};
@@ -67,7 +68,7 @@ impl Model for Talk {
 impl Talk {
     /// Before the first message. It takes no memory.
     pub fn new(alloc: Global) -> Talk
-        ensures { result ≡ silent }
+        ensures { result ≡ opening_talk }
     {
         Talk {
             alloc,

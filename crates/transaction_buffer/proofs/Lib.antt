@@ -1,7 +1,7 @@
-pub mod Accepted
+pub mod AcceptedRequests
 pub mod Counting
 pub mod InShift
-pub mod Kept
+pub mod SumsAfter
 pub mod LetGo
 pub mod FoundSales
 pub mod Lockers
@@ -17,4 +17,4 @@ pub mod TwoPlaces
 pub mod Unpaid
 pub mod PlacesUnpaid
 pub mod Volumes
-pub mod Worked
+pub mod WorkedSales

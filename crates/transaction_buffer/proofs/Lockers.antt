@@ -19,9 +19,10 @@ use Rattle.transaction_buffer.specs.declared.standing.Standing.TheVariants.{Paya
 use Rattle.transaction_buffer.specs.declared.standing.Standing.TheVariants.{ClearedBy}
 use Rattle.transaction_buffer.specs.KeptSales.{AreNoted}
 use Rattle.transaction_buffer.specs.SignOffs.{IsLetGo, IsLetGoWhere, AreLetGo}
-use Rattle.transaction_buffer.specs.Locked.{locker_at, lockers_at, no_lockers, is_locker}
-use Rattle.transaction_buffer.specs.Locked.{locker_without, lockers_without, AreTold, IsForgotten}
-use Rattle.transaction_buffer.specs.Locked.{IsNoted, KeepsOthers}
+use Rattle.transaction_buffer.specs.LockedSales.{locker_at, lockers_at, no_lockers, is_locker}
+use Rattle.transaction_buffer.specs.LockedSales.{locker_without, lockers_without, AreTold}
+use Rattle.transaction_buffer.specs.LockedSales.{IsForgotten}
+use Rattle.transaction_buffer.specs.LockedSales.{IsNoted, KeepsOthers}
 use Rattle.transaction_buffer.specs.Sales.{Sale}
 use Rattle.transaction_buffer.specs.Shelves.{Shelf, rooms_on}
 use Rattle.transaction_buffer.specs.TransactionTable.{is_locked_by, unlock_all_of, locker}

@@ -9,7 +9,7 @@ use Rattle.std.specs.FinMap as finite
 use Rattle.site_base.specs.Cells.{entries_from}
 use Rattle.site_base.proofs.Cells.{cell_read, cell_filled, entries_of_cells}
 use Rattle.site_base.proofs.Numbering.{numbered_within, numbered_with_other, with_numbered_place}
-use Rattle.site_base.specs.Numbered.{with_numbered}
+use Rattle.site_base.specs.Members.{with_numbered}
 use Rattle.std.proofs.lemmas.Bool.{cases_eq}
 use Rattle.transaction_buffer.specs.Sales.{Sale, no_sales, sales_at, sale_in, with_in}
 use Rattle.transaction_buffer.specs.TransactionTable.{unlock_all_of, after_sign_off}

@@ -12,7 +12,7 @@ use Rattle.transaction_buffer.specs.declared.span.Span.{Span}
 use Rattle.transaction_buffer.specs.Sales.{Sale, sale_in, made_in, with_in}
 use Rattle.transaction_buffer.specs.Shelves.{shifts_of, count_in, place_in, NoneAfter, IsSpan}
 use Rattle.transaction_buffer.specs.Shelves.{AreSpans, no_span}
-use Rattle.transaction_buffer.specs.Spans.{grown}
+use Rattle.transaction_buffer.specs.Spans.{with_one_more}
 
 same : (n m : ℕ) → (n == m) ≡ true → n ≡ m
 same n m is = grind (arith, nat_tests)
@@ -230,7 +230,7 @@ module _ (gs : List ℕ) (g : ℕ) (none_after : NoneAfter g gs) (top : g ≤ GR
 
   -- where the new one of the shift stands, from the first of the shift on
   last_place : (span : Span) → IsSpan g gs span
-      → (grown span (length gs)).first + span.count ≡ length gs
+      → (with_one_more span (length gs)).first + span.count ≡ length gs
   last_place span is = by_count (span.count == 0) refl
     where
       by_count : (b : Bool) → (span.count == 0) ≡ b
@@ -239,13 +239,14 @@ module _ (gs : List ℕ) (g : ℕ) (none_after : NoneAfter g gs) (top : g ≤ GR
       by_count false some =
           let e = apart span.count 0 some in is.ends none_after (omega arith)
 
-  kept_first : (span : Span) (n : ℕ) → n < span.count → (grown span (length gs)).first ≡ span.first
+  kept_first : (span : Span) (n : ℕ) → n < span.count → (with_one_more span (length gs)).first
+      ≡ span.first
   kept_first span n below =
       let some : (span.count == 0) ≡ false = is_apart span.count 0 (λ e. absurd (omega arith)) in
       ap (λ (b : Bool). cond b (length gs) span.first) some
 
   pub span_grown : (span : Span) → IsSpan g gs span → count_in g gs < GREATEST_SEQ
-      → IsSpan g (gs ++ g ∷ []) (grown span (length gs))
+      → IsSpan g (gs ++ g ∷ []) (with_one_more span (length gs))
   span_grown span is fewer = record {
     counts = ap (λ (n : ℕ). n + 1) is.counts ∙ sym count_own;
     few = omega (arith, is.counts);
@@ -257,7 +258,7 @@ module _ (gs : List ℕ) (g : ℕ) (none_after : NoneAfter g gs) (top : g ≤ GR
           let at : n ≡ count_in g gs = omega (arith, is.counts) in
           ap (λ (k : ℕ). place_in g (k + 1) (gs ++ g ∷ [])) at ∙ new_place g gs
           ∙ ap (λ (k : ℕ). Some k) (sym (last_place span is)
-          ∙ ap (λ (k : ℕ). (grown span (length gs)).first + k) (is.counts ∙ sym at))
+          ∙ ap (λ (k : ℕ). (with_one_more span (length gs)).first + k) (is.counts ∙ sym at))
     ];
     ends = λ none some.
         let count : length (gs ++ g ∷ []) ≡ length gs + 1 = length_push gs g in
@@ -285,7 +286,7 @@ module _ (gs : List ℕ) (g : ℕ) (none_after : NoneAfter g gs) (top : g ≤ GR
   -- the spans with one more of shift g
   pub spans_grown : (cells : List Span) (i : ℕ) → i + 1 ≡ g → i < length cells
       → count_in g gs < GREATEST_SEQ → AreSpans gs cells
-      → AreSpans (gs ++ g ∷ []) (set cells i (grown (get_or cells i no_span) (length gs)))
+      → AreSpans (gs ++ g ∷ []) (set cells i (with_one_more (get_or cells i no_span) (length gs)))
   spans_grown cells i place within fewer are h low high =
       elim (cases_eq h g) [
         | inl own ↦
@@ -293,16 +294,19 @@ module _ (gs : List ℕ) (g : ℕ) (none_after : NoneAfter g gs) (top : g ≤ GR
             let old : IsSpan g gs (get_or cells i no_span) =
             subst (λ (k : ℕ). IsSpan k gs (get_or cells i no_span)) own
             (subst (λ (k : ℕ). IsSpan h gs (get_or cells k no_span)) cell (are h low high)) in
-            let new : IsSpan g (gs ++ g ∷ []) (grown (get_or cells i no_span) (length gs)) =
+            let new : IsSpan g (gs ++ g ∷ []) (with_one_more (get_or cells i no_span) (length gs)) =
             span_grown (get_or cells i no_span) old fewer in
             subst (λ (s : Span). IsSpan h (gs ++ g ∷ []) s)
-            (sym (get_or-set_at cells i (h - 1) (grown (get_or cells i no_span) (length gs)) no_span
+            (sym (get_or-set_at cells i (h - 1)
+            (with_one_more (get_or cells i no_span) (length gs)) no_span
             cell within))
-            (subst (λ (k : ℕ). IsSpan k (gs ++ g ∷ []) (grown (get_or cells i no_span) (length gs)))
+            (subst (λ (k : ℕ). IsSpan k (gs ++ g ∷ [])
+            (with_one_more (get_or cells i no_span) (length gs)))
             (sym own) new)
         | inr other ↦
             subst (λ (s : Span). IsSpan h (gs ++ g ∷ []) s)
-            (sym (get_or-set_other cells i (h - 1) (grown (get_or cells i no_span) (length gs))
+            (sym (get_or-set_other cells i (h - 1)
+            (with_one_more (get_or cells i no_span) (length gs))
             no_span (omega arith)))
             (span_kept h (get_or cells (h - 1) no_span) other high (are h low high))
       ]

@@ -4,7 +4,7 @@ use Rattle.site_base.specs.declared.limits.TheConstants.{POINT_CELLS}
 use Rattle.transaction_buffer.specs.declared.locked_points.LockedPoints.{LockedPoints}
 use Rattle.transaction_buffer.specs.declared.sums.Sums.{Sums}
 use Rattle.transaction_buffer.specs.KeptSums.{AreSums}
-use Rattle.transaction_buffer.specs.Locked.{AreTold, IsNoted}
+use Rattle.transaction_buffer.specs.LockedSales.{AreTold, IsNoted}
 use Rattle.transaction_buffer.specs.Shelves.{Shelf, sales_on}
 
 -- there is a shelf for each point; the tills' sets have its point just where they have locked the

@@ -7,7 +7,7 @@ pub mod KeptSums
 pub mod KeptSales
 pub mod SignOffs
 pub mod Laws
-pub mod Locked
+pub mod LockedSales
 pub mod Rooms
 pub mod Sales
 pub mod Shelves

@@ -1,6 +1,6 @@
 -- What contracts see of a buffer: the sales, and the room for more of them.
 use Rattle.std.specs.Prelude.{ℕ, ◌-◌, List, unwrap_or}
-use Rattle.site_base.specs.Numbered.{numbered, with_numbered}
+use Rattle.site_base.specs.Members.{member, with_numbered}
 use Rattle.transaction_buffer.specs.Sales.{Sales}
 
 -- the sales of every point, and of each point, from 1 on, how many more there is room for
@@ -10,7 +10,7 @@ pub record Buffered : Type 0 where
 
 -- how many more sales of point p there is room for
 abbrev pub room_at : ℕ → List ℕ → ℕ
-room_at p rooms = unwrap_or (numbered p rooms) 0
+room_at p rooms = unwrap_or (member p rooms) 0
 
 -- the rooms once one more sale of point p has taken its place
 abbrev pub one_taken : ℕ → List ℕ → List ℕ

@@ -148,8 +148,8 @@ view_of x = record {
 }
 
 -- the sale of this name as a read shows it
-abbrev pub shown : Key → Sales → Option TransactionView
-shown k s = option_map view_of (sale_of k s)
+abbrev pub view_of_sale : Key → Sales → Option TransactionView
+view_of_sale k s = option_map view_of (sale_of k s)
 
 -- payable without a till, or locked with one
 abbrev pub begins : Status → Option ℕ → Bool

@@ -2,7 +2,7 @@
 use Rattle.std.specs.Prelude.{◌≡◌, ℕ, ◌+◌, ◌<◌, Bool, true, false, List, map, length}
 use Rattle.std.specs.Prelude.{slice_index_or}
 use Rattle.site_base.specs.PointSets.{has_point}
-use Rattle.transaction_buffer.specs.Locked.{AreTold, lockers_without}
+use Rattle.transaction_buffer.specs.LockedSales.{AreTold, lockers_without}
 use Rattle.transaction_buffer.specs.Shelves.{Shelf}
 use Rattle.transaction_buffer.specs.TransactionTable.{unlock_all_of}
 

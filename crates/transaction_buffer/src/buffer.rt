@@ -5,7 +5,7 @@ ghost use Rattle.std.specs.Prelude.{length, IfErr, IfSome, OnErr, OnOk};
 ghost use Rattle.site_base.specs.declared.limits.TheConstants.{POINT_CELLS, UNPAID_LIMIT};
 ghost use Rattle.transaction_buffer.specs.Sales.{key, no_sales, HasNoneLater, has_sale, sale_of};
 ghost use Rattle.transaction_buffer.specs.Sales.{next_number, unpaid_at, with_new, is_new};
-ghost use Rattle.transaction_buffer.specs.Sales.{new_sale, shown};
+ghost use Rattle.transaction_buffer.specs.Sales.{new_sale, view_of_sale};
 ghost use Rattle.transaction_buffer.specs.Requests.{Asked};
 ghost use Rattle.transaction_buffer.specs.Figures.{figure_of};
 ghost use Rattle.transaction_buffer.specs.FoundSales.{key_of, IsPlaced};
@@ -165,7 +165,7 @@ impl Buffer {
     /// The transaction as a read shows it.
     pub fn view(&self, found: &FoundSale) -> TransactionView
         requires placed { IsPlaced found.now self.now.sales }
-        ensures { shown (key_of found.now) self.now.sales ≡ Some result }
+        ensures { view_of_sale (key_of found.now) self.now.sales ≡ Some result }
     {
         let sale = self.sale(found);
         sale.view()
@@ -262,7 +262,7 @@ impl Buffer {
 
     /// The transaction as a read shows it. None where it isn't there.
     pub fn row(&self, p: FpNo, shift: ShiftNo, s: Seq) -> Option<TransactionView>
-        ensures { result ≡ shown (key shift p s) self.now.sales }
+        ensures { result ≡ view_of_sale (key shift p s) self.now.sales }
     {
         let found = self.find(p, shift, s)?;
         Some(self.view(&found))

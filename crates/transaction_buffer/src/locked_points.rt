@@ -2,7 +2,7 @@
 
 ghost use Rattle.std.specs.Prelude.{◌≡◌, length};
 ghost use Rattle.site_base.specs.declared.limits.TheConstants.{TILL_CELLS};
-ghost use Rattle.transaction_buffer.specs.Locked.{IsEntered, IsLeft};
+ghost use Rattle.transaction_buffer.specs.LockedSales.{IsEntered, IsLeft};
 
 use site_base::{FpNo, PointSet, TILL_CELLS, TillNo};
 
@@ -28,8 +28,8 @@ pub struct LockedPoints {
 
 impl LockedPoints {
     ghost use Rattle.std.specs.Prelude.{ℕ};
-    ghost use Rattle.transaction_buffer.specs.Locked.{no_lockers, IsForgotten, IsNoted};
-    ghost use Rattle.transaction_buffer.specs.Locked.{KeepsOthers};
+    ghost use Rattle.transaction_buffer.specs.LockedSales.{no_lockers, IsForgotten, IsNoted};
+    ghost use Rattle.transaction_buffer.specs.LockedSales.{KeepsOthers};
 
     /// No till has locked anything.
     pub fn new() -> Self

@@ -12,7 +12,7 @@ ghost use Rattle.transaction_buffer.specs.UnpaidPlaces.{figure_at, AreUnpaid, Is
 ghost use Rattle.transaction_buffer.specs.Figures.{figure_in};
 ghost use Rattle.transaction_buffer.specs.KeptSums.{AreMoved, CanMove};
 ghost use Rattle.transaction_buffer.specs.SignOffs.{IsLetGo};
-ghost use Rattle.transaction_buffer.specs.Locked.{locker_at, no_lockers, AreTold};
+ghost use Rattle.transaction_buffer.specs.LockedSales.{locker_at, no_lockers, AreTold};
 ghost use Rattle.transaction_buffer.specs.Sums.{sum_among, volume_locked_by};
 
 use crate::figure::Figure;
@@ -40,7 +40,7 @@ pub struct Shelf {
 impl Model for Shelf {
     ghost use Rattle.std.specs.Prelude.{◌-◌, ◌==◌, if◌then◌else◌, vec_len, vec_capacity};
     ghost use Rattle.site_base.specs.declared.limits.TheConstants.{GREATEST_SHIFT};
-    ghost use Rattle.transaction_buffer.specs.Locked.{lockers_at};
+    ghost use Rattle.transaction_buffer.specs.LockedSales.{lockers_at};
     ghost use Rattle.transaction_buffer.specs.Shelves.{Shelf as ShelfFacts, IsShelf};
 
     ghost Value = { ShelfFacts };
@@ -132,7 +132,7 @@ impl Shelf {
         let cell = usize::from(sale.shift().get()) - 1;
         let span = self.spans[cell];
         let place = self.sales.len();
-        self.spans[cell] = span.grown(place);
+        self.spans[cell] = span.with_one_more(place);
         self.unpaid = self.unpaid.after_sale(place, sale.is_unpaid());
         self.sales.push_reserved(sale);
     }

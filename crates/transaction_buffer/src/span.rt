@@ -13,15 +13,15 @@ pub struct Span {
 }
 
 impl Span {
-    ghost use Rattle.transaction_buffer.specs.Spans.{grown};
+    ghost use Rattle.transaction_buffer.specs.Spans.{with_one_more};
 
     /// No sales.
     pub const NONE: Self = Span { first: 0, count: 0 };
 
     /// With one more sale, which stands at this place.
-    pub fn grown(self, end: usize) -> Self
+    pub fn with_one_more(self, end: usize) -> Self
         requires { self.count < GREATEST_SEQ }
-        ensures { result ≡ grown self end }
+        ensures { result ≡ with_one_more self end }
     {
         let first = if self.count == 0 { end } else { self.first };
         Span {

@@ -46,7 +46,7 @@ use Rattle.written_site.specs.Histories.{Moment, moments_of}
 use Rattle.written_site.specs.RowWords.{OfBooks, open_after}
 use Rattle.written_site.specs.SaleWords.{key_sold, number_sold}
 use Rattle.written_site.specs.ShiftFigures.{cleared_in}
-use Rattle.written_site.specs.SiteChecks.{Passed, own_event, flowed}
+use Rattle.written_site.specs.SiteChecks.{Passed, own_event, flow_since}
 use Rattle.written_site.specs.SiteState.{SiteState, opening, facts_of, key_named, open_shift}
 use Rattle.written_site.specs.SiteStep.{site_answer, step_at, step_told, nozzles_after, sales_after}
 use Rattle.written_site.specs.SiteStep.{sales_by, sale_made, reply_to, site_after, first_locker}
@@ -197,8 +197,8 @@ named_accepted q k c earlier s a (Offline p) known passes =
     (step_at s (Offline p))
     refl
 named_accepted q k c earlier s a (HangUp p n reading) known passes =
-    sold_step c earlier s a (HangUp p n reading) known passes q k p (flowed s p n reading)
-    (points.HangUp n (flowed s p n reading)) refl (step_at s (HangUp p n reading)) refl
+    sold_step c earlier s a (HangUp p n reading) known passes q k p (flow_since s p n reading)
+    (points.HangUp n (flow_since s p n reading)) refl (step_at s (HangUp p n reading)) refl
 named_accepted q k c earlier s a (Clear p id) known passes =
     sold_none c q (volume_named q k s.sales) k earlier _ p _ (never_sold s (Clear p id) refl)
 named_accepted q k c earlier s a (Terminate p) known passes =

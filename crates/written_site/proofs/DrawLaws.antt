@@ -15,7 +15,7 @@ use Rattle.site_base.specs.declared.limits.TheConstants.{PRODUCT_CELLS}
 use Rattle.site_base.specs.declared.row.Row.{Row}
 use Rattle.site_base.specs.Configured.{Configured}
 use Rattle.site_base.specs.Events.{point_named}
-use Rattle.site_base.specs.Numbered.{numbered}
+use Rattle.site_base.specs.Members.{member}
 use Rattle.site_base.proofs.Numbering.{numbered_place}
 use Rattle.fuelling_point.specs.declared.event.PointEvent.{PointEvent}
 use Rattle.fuelling_point.specs.declared.event.PointEvent.TheVariants as points
@@ -23,18 +23,18 @@ use Rattle.fuelling_point.specs.declared.step.PointStep.{PointStep}
 use Rattle.fuelling_point.specs.declared.step.PointStep.TheVariants.{Drawn}
 use Rattle.fuelling_point.specs.KeptPoints.{growth_of}
 use Rattle.fuelling_point.specs.Step.{step_of}
-use Rattle.meters.specs.Metered.{product_alone}
+use Rattle.meters.specs.MeteredVolumes.{product_alone}
 use Rattle.written_site.specs.DrawLaws.{tells_drawn, run_at, product_read, draws_at, drawn_for}
 use Rattle.written_site.specs.DrawLaws.{drawn_while, AreDrawsCounted}
 use Rattle.written_site.specs.Histories.{Moment}
 use Rattle.written_site.specs.RowWords.{OfBooks, open_after}
 use Rattle.written_site.specs.ShiftFigures.{shift_drawn}
-use Rattle.written_site.specs.SiteChecks.{Passed, own_event, flowed}
+use Rattle.written_site.specs.SiteChecks.{Passed, own_event, flow_since}
 use Rattle.written_site.specs.SiteState.{SiteState, nothing_drawn, facts_of, open_shift}
 use Rattle.written_site.specs.SiteStep.{accepted_site, site_answer, step_at, step_told}
 use Rattle.written_site.specs.SiteStep.{nozzles_after, draws_by, draw_noted, reply_to, site_after}
 use Rattle.written_site.specs.Sound.{is_draw_row}
-use Rattle.written_site.specs.Volumes.{product_out, running_at, drawn_by, adjusted}
+use Rattle.written_site.specs.Volumes.{product_out, running_at, drawn_by, adjusted_volume}
 use Rattle.written_site.proofs.FigureDraws.{drawn_there, noted_figure, opened_figure}
 use Rattle.written_site.proofs.RowFacts.{own_after}
 use Rattle.written_site.proofs.RowWords.{told_row, of_row}
@@ -52,7 +52,7 @@ use Rattle.written_site.proofs.VolumeLaws.{unnoted, drawn_one}
 -- ---- one draw in the figures
 
 cells_in : (rows : List (List ℕ)) → list_all is_draw_row rows ≡ true → (h : ℕ) (row : List ℕ)
-    → numbered h rows ≡ Some row → length row ≡ PRODUCT_CELLS
+    → member h rows ≡ Some row → length row ≡ PRODUCT_CELLS
 cells_in rows all zero row is = cc
 cells_in rows all (suc h) row is =
     row_at (suc h - 1) row rows all (sym (numbered_place (suc h) rows (omega arith)) ∙ is)
@@ -210,7 +210,7 @@ record Adds (c : Configured) (q : ℕ) (earlier : List Row) (s : SiteState) (r :
     : Type 0 where
   shifts : (h : ℕ) → shift_drawn new h q
       ≡ shift_drawn s h q + drawn_while c h q (moment_at earlier s r)
-  all : adjusted new q ≡ adjusted s q + drawn_for c q (moment_at earlier s r)
+  all : adjusted_volume new q ≡ adjusted_volume s q + drawn_for c q (moment_at earlier s r)
 
 adds_none : (c : Configured) (q : ℕ) (earlier : List Row) (s : SiteState) (r : Row)
     (new : SiteState)
@@ -223,7 +223,7 @@ adds_none c q earlier s r new same none =
           (drawn_for c q (moment_at earlier s r))
           nothing;
       all = ap (drawn_by (product_alone q)) same
-          ∙ unmoved_all (adjusted s q) (drawn_for c q (moment_at earlier s r)) nothing;
+          ∙ unmoved_all (adjusted_volume s q) (drawn_for c q (moment_at earlier s r)) nothing;
     }
 
 adds_accepted : (c : Configured) (q : ℕ) (earlier : List Row) (s : SiteState) (a : Actor)
@@ -239,14 +239,16 @@ adds_accepted c q earlier s a (Offline p) known low high passes = record {
 }
 adds_accepted c q earlier s a (HangUp p n reading) known low high passes = record {
   shifts = λ h. figure_step c earlier s a (HangUp p n reading) known passes h q p
-      (points.HangUp n (flowed s p n reading)) refl low high (step_at s (HangUp p n reading)) refl;
+      (points.HangUp n (flow_since s p n reading)) refl low high (step_at s (HangUp p n reading))
+      refl;
   all = all_step c earlier s a (HangUp p n reading) known passes q p
-      (points.HangUp n (flowed s p n reading)) refl low high (step_at s (HangUp p n reading)) refl;
+      (points.HangUp n (flow_since s p n reading)) refl low high (step_at s (HangUp p n reading))
+      refl;
 }
 adds_accepted c q earlier s a CloseShift known low high passes = record {
   shifts = λ h. opened_figure h q s.drawn
       ∙ unmoved (shift_drawn s h q) (open_after earlier == h) 0 refl;
-  all = opened_weighs (product_alone q) s.drawn ∙ unmoved_all (adjusted s q) 0 refl;
+  all = opened_weighs (product_alone q) s.drawn ∙ unmoved_all (adjusted_volume s q) 0 refl;
 }
 adds_accepted c q earlier s a e known low high passes =
     adds_none c q earlier s (told_row a e (Ok (site_answer s e))) (accepted_site s a e) refl
@@ -265,7 +267,7 @@ zero_at zero i = refl
 zero_at (suc n) zero = refl
 zero_at (suc n) (suc i) = zero_at n i
 
-zero_numbered : (n q : ℕ) → ◌≡◌ {A = ℕ} (unwrap_or (numbered q (replicate n 0)) 0) 0
+zero_numbered : (n q : ℕ) → ◌≡◌ {A = ℕ} (unwrap_or (member q (replicate n 0)) 0) 0
 zero_numbered n q = by_test (q == 0)
   where
     by_test : (b : Bool)
@@ -278,7 +280,7 @@ none_first : (h q : ℕ) → drawn_there h q (nothing_drawn ∷ []) ≡ 0
 none_first h q = opened_figure h q [] ∙ by_test (h == 0)
   where
     by_test : (b : Bool)
-        → unwrap_or (numbered q (unwrap_or (if b then None else None) nothing_drawn)) 0 ≡ 0
+        → unwrap_or (member q (unwrap_or (if b then None else None) nothing_drawn)) 0 ≡ 0
     by_test true = zero_numbered PRODUCT_CELLS q
     by_test false = zero_numbered PRODUCT_CELLS q
 
@@ -290,7 +292,7 @@ draws_counted c rows legal = record {
       (adds_row c q low (omega (arith, high)) earlier s r known replies).shifts h)
       c rows (runs_first c) legal (none_first h q);
   all = λ q low high.
-      counted (KnowsRuns c) (runs_more c) (λ s. adjusted s q) (drawn_for c q)
+      counted (KnowsRuns c) (runs_more c) (λ s. adjusted_volume s q) (drawn_for c q)
       (λ earlier s r known replies.
       (adds_row c q low (omega (arith, high)) earlier s r known replies).all)
       c rows (runs_first c) legal (nothing_weighs (product_alone q));

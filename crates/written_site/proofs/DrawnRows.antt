@@ -23,7 +23,7 @@ use Rattle.fuelling_point.specs.declared.event.PointEvent.TheVariants as points
 use Rattle.fuelling_point.specs.declared.step.PointStep.{PointStep}
 use Rattle.fuelling_point.specs.declared.step.PointStep.TheVariants.{Drawn}
 use Rattle.fuelling_point.specs.KeptPoints.{Facts, growth_of, is_under_way, has_nozzle_out}
-use Rattle.fuelling_point.specs.KeptPoints.{fresh, point_view, volume_of}
+use Rattle.fuelling_point.specs.KeptPoints.{empty_point, point_view, volume_of}
 use Rattle.fuelling_point.specs.PointChecks.{refusal_of}
 use Rattle.fuelling_point.specs.Step.{step_of}
 use Rattle.meters.specs.Nozzles.{product_of}
@@ -32,7 +32,7 @@ use Rattle.written_site.specs.FuellingWords as configured
 use Rattle.written_site.specs.FuellingWords.{growth_at, nozzle_after}
 use Rattle.written_site.specs.Histories.{Moment}
 use Rattle.written_site.specs.Holders.{names_point}
-use Rattle.written_site.specs.SiteChecks.{Passed, own_event, flowed}
+use Rattle.written_site.specs.SiteChecks.{Passed, own_event, flow_since}
 use Rattle.written_site.specs.SiteRun.{site_of_rows, IsLegal}
 use Rattle.written_site.specs.SiteState.{SiteState, opening, facts_of, holder_of, view_point}
 use Rattle.written_site.specs.SiteStep.{site_answer, step_at, step_told, reply_to}
@@ -87,7 +87,8 @@ draws_accepted s a (Offline q) p passes named told =
     (step_at s (Offline q)) refl refl told
 draws_accepted s a (HangUp q n reading) p passes named told =
     draws_by_step s a (HangUp q n reading) p q
-    (points.HangUp n (flowed s q n reading)) passes refl named (step_at s (HangUp q n reading)) refl
+    (points.HangUp n (flow_since s q n reading)) passes refl named (step_at s (HangUp q n reading))
+    refl
     refl told
 draws_accepted s a e p passes named told = absurd (false≢true (sym (never_drawn s e refl) ∙ told))
 
@@ -115,7 +116,7 @@ shown_under_way s p under_way = by_row (row_of p s.points) refl
     by_row (Some f) is = rw is refl
     by_row None is =
         absurd (false≢true (ap (λ (o : Option Facts). is_under_way
-        (unwrap_or o (fresh states.Closed)).state) (sym is) ∙ under_way))
+        (unwrap_or o (empty_point states.Closed)).state) (sym is) ∙ under_way))
 
 -- a nozzle is out where a fuelling is under way
 out_under_way : (state : PointState) → is_under_way state ≡ true → has_nozzle_out state ≡ true

@@ -9,9 +9,9 @@ use Rattle.std.proofs.lemmas.List.Sums.{sum_by-cons}
 use Rattle.std.specs.List.{range_with_len, slice_get, sum_by}
 use Rattle.site_base.specs.declared.limits.TheConstants.{GREATEST_PRICE, PRODUCT_CELLS, TILLS}
 use Rattle.site_base.specs.Amounts.{amount}
-use Rattle.site_base.specs.Numbered.{numbered}
+use Rattle.site_base.specs.Members.{member}
 use Rattle.site_base.proofs.Numbering.{numbered_place, numbered_there}
-use Rattle.meters.specs.Metered.{every_product, most_of_a_site}
+use Rattle.meters.specs.MeteredVolumes.{every_product, most_of_a_site}
 use Rattle.transaction_buffer.specs.declared.standing.Standing.{Standing}
 use Rattle.transaction_buffer.specs.declared.standing.Standing.TheVariants.{Payable, LockedBy}
 use Rattle.transaction_buffer.specs.declared.standing.Standing.TheVariants.{ClearedBy}
@@ -211,7 +211,7 @@ by_one v (ClearedBy u g) = once_among true u v 1 TILLS
 -- ---- each figure
 
 -- a number that has a member is 1 at least
-number_low : (q : ℕ) (row : List ℕ) (v : ℕ) → numbered q row ≡ Some v → 1 ≤ q
+number_low : (q : ℕ) (row : List ℕ) (v : ℕ) → member q row ≡ Some v → 1 ≤ q
 number_low zero row v is = cc
 number_low (suc q) row v is = omega arith
 
@@ -221,10 +221,10 @@ zeros zero i = refl
 zeros (suc n) zero = refl
 zeros (suc n) (suc i) = zeros n i
 
-nothing_there : (q : ℕ) → unwrap_or (numbered q nothing_drawn) 0 < 2 ^ 64
+nothing_there : (q : ℕ) → unwrap_or (member q nothing_drawn) 0 < 2 ^ 64
 nothing_there zero = omega arith
 nothing_there (suc q) =
-    let none : unwrap_or (numbered (suc q) nothing_drawn) 0 ≡ 0 =
+    let none : unwrap_or (member (suc q) nothing_drawn) 0 ≡ 0 =
     ap (λ (o : Option ℕ). unwrap_or o 0) (numbered_place (suc q) nothing_drawn (omega arith))
     ∙ zeros PRODUCT_CELLS (suc q - 1) in
     omega (arith, none)
@@ -242,23 +242,23 @@ product_within q sales =
 
 -- what tests drew of a product in a shift is within what they drew of it
 draw_within : (s : SiteState) (h q : ℕ) → Sound s → shift_drawn s h q < 2 ^ 64
-draw_within s h q sound = by_row (numbered h s.drawn) refl
+draw_within s h q sound = by_row (member h s.drawn) refl
   where
-    in_row : (row : List ℕ) → numbered h s.drawn ≡ Some row → (o : Option ℕ) → numbered q row ≡ o
+    in_row : (row : List ℕ) → member h s.drawn ≡ Some row → (o : Option ℕ) → member q row ≡ o
         → unwrap_or o 0 < 2 ^ 64
     in_row row is None none = omega arith
     in_row row is (Some v) there =
         let low : 1 ≤ q = number_low q row v there in
         let place = numbered_there q row low (ap is_some there) in
         let figure = figure_drawn s h q row low (omega (arith, place)) is in
-        let same : unwrap_or (numbered q row) 0 ≡ v = ap (λ (o : Option ℕ). unwrap_or o 0) there in
+        let same : unwrap_or (member q row) 0 ≡ v = ap (λ (o : Option ℕ). unwrap_or o 0) there in
         let sums = adds_up s q sound in
         omega (arith, figure, same, sums.whole, sums.fits)
 
-    by_row : (o : Option (List ℕ)) → numbered h s.drawn ≡ o
-        → unwrap_or (numbered q (unwrap_or o nothing_drawn)) 0 < 2 ^ 64
+    by_row : (o : Option (List ℕ)) → member h s.drawn ≡ o
+        → unwrap_or (member q (unwrap_or o nothing_drawn)) 0 < 2 ^ 64
     by_row None is = nothing_there q
-    by_row (Some row) is = in_row row is (numbered q row) refl
+    by_row (Some row) is = in_row row is (member q row) refl
 
 pub figures_in_range : (s : SiteState) (h : ℕ) → Sound s → AreFiguresInRange s h
 figures_in_range s h sound =

@@ -8,7 +8,7 @@ use Rattle.site_base.specs.declared.actor.Actor.{Actor}
 use Rattle.site_base.specs.declared.event.Event.{Event}
 use Rattle.site_base.specs.declared.event.Event.TheVariants.{CloseShift, Offline, HangUp}
 use Rattle.site_base.specs.declared.limits.TheConstants.{PRODUCT_CELLS}
-use Rattle.site_base.specs.Numbered.{numbered}
+use Rattle.site_base.specs.Members.{member}
 use Rattle.site_base.proofs.Numbering.{numbered_place, numbered_within, numbered_with_same}
 use Rattle.site_base.proofs.Numbering.{numbered_with_other, numbered_push_here, numbered_push_other}
 use Rattle.site_base.proofs.Numbering.{numbered_next}
@@ -20,7 +20,7 @@ use Rattle.fuelling_point.specs.KeptPoints.{Facts}
 use Rattle.fuelling_point.specs.Laws.{drawn_in}
 use Rattle.fuelling_point.specs.Step.{step_of}
 use Rattle.written_site.specs.ShiftFigures.{shift_drawn}
-use Rattle.written_site.specs.SiteChecks.{own_event, flowed}
+use Rattle.written_site.specs.SiteChecks.{own_event, flow_since}
 use Rattle.written_site.specs.SiteState.{SiteState, facts_of, nothing_drawn, open_shift}
 use Rattle.written_site.specs.SiteStep.{accepted_site, draw_noted, draws_by, nozzles_after}
 use Rattle.written_site.specs.SiteStep.{one_more_drawn, step_at}
@@ -38,7 +38,7 @@ use Rattle.written_site.proofs.SoundVolumes.{product_supplied}
 
 -- what was drawn of product r in shift g, of these draws
 abbrev pub drawn_there : ℕ → ℕ → List (List ℕ) → ℕ
-drawn_there g r rows = unwrap_or (numbered r (unwrap_or (numbered g rows) nothing_drawn)) 0
+drawn_there g r rows = unwrap_or (member r (unwrap_or (member g rows) nothing_drawn)) 0
 
 -- a draw changes the last shift's draws, and no other's
 noted_at : (q v i : ℕ) (rows : List (List ℕ))
@@ -68,33 +68,33 @@ noted_at q v (suc i) (row ∷ next ∷ rows) =
 
 -- the figure of a product, with one more draw
 more_figure : (q r v : ℕ) (row : List ℕ) → 1 ≤ q → q ≤ length row
-    → unwrap_or (numbered r (one_more_drawn q v row)) 0
-    ≡ unwrap_or (numbered r row) 0 + cond (r == q) v 0
+    → unwrap_or (member r (one_more_drawn q v row)) 0
+    ≡ unwrap_or (member r row) 0 + cond (r == q) v 0
 more_figure q r v row low high = by_test (r == q) refl
   where
-    its : numbered q row ≡ Some (get_or row (q - 1) 0)
+    its : member q row ≡ Some (get_or row (q - 1) 0)
     its = numbered_within q row (q - 1) 0 (omega arith) (omega arith)
 
     apart : (r == q) ≡ false → r ≢ q
     apart at = grind (arith, nat_tests)
 
     by_test : (b : Bool) → (r == q) ≡ b
-        → unwrap_or (numbered r (one_more_drawn q v row)) 0
-        ≡ unwrap_or (numbered r row) 0 + cond b v 0
+        → unwrap_or (member r (one_more_drawn q v row)) 0
+        ≡ unwrap_or (member r row) 0 + cond b v 0
     by_test true at =
         let product : r ≡ q = same r q at in
-        ap (λ (n : ℕ). unwrap_or (numbered n (one_more_drawn q v row)) 0) product
+        ap (λ (n : ℕ). unwrap_or (member n (one_more_drawn q v row)) 0) product
         ∙ ap (λ (o : Option ℕ). unwrap_or o 0)
-        (numbered_with_same q row (get_or row (q - 1) 0) (unwrap_or (numbered q row) 0 + v) its)
-        ∙ ap (λ (n : ℕ). unwrap_or (numbered n row) 0 + v) (sym product)
+        (numbered_with_same q row (get_or row (q - 1) 0) (unwrap_or (member q row) 0 + v) its)
+        ∙ ap (λ (n : ℕ). unwrap_or (member n row) 0 + v) (sym product)
     by_test false at =
         ap (λ (o : Option ℕ). unwrap_or o 0)
-        (numbered_with_other q r row (unwrap_or (numbered q row) 0 + v) (apart at))
+        (numbered_with_other q r row (unwrap_or (member q row) 0 + v) (apart at))
         ∙ (omega arith)
 
 pub noted_figure : (q v g r : ℕ) (rows : List (List ℕ)) → 1 ≤ length rows → 1 ≤ q
     → q ≤ PRODUCT_CELLS
-    → ((h : ℕ) (row : List ℕ) → numbered h rows ≡ Some row → length row ≡ PRODUCT_CELLS)
+    → ((h : ℕ) (row : List ℕ) → member h rows ≡ Some row → length row ≡ PRODUCT_CELLS)
     → drawn_there g r (draw_noted q v rows)
     ≡ drawn_there g r rows + cond (g == length rows && r == q) v 0
 noted_figure q v zero r rows some low high cells =
@@ -107,10 +107,10 @@ noted_figure q v (suc i) r rows some low high cells = by_test (suc i == length r
     back : suc i - 1 ≡ i
     back = omega arith
 
-    place : numbered (suc i) rows ≡ slice_get rows i
+    place : member (suc i) rows ≡ slice_get rows i
     place = numbered_place (suc i) rows (omega arith) ∙ ap (slice_get rows) back
 
-    shown : numbered (suc i) (draw_noted q v rows)
+    shown : member (suc i) (draw_noted q v rows)
         ≡ cond (suc i == length rows) (option_map (one_more_drawn q v) (slice_get rows i))
         (slice_get rows i)
     shown =
@@ -123,25 +123,25 @@ noted_figure q v (suc i) r rows some low high cells = by_test (suc i == length r
     by_test true at =
         let count : suc i ≡ length rows = same (suc i) (length rows) at in
         let row : List ℕ = get_or rows i [] in
-        let there : numbered (suc i) rows ≡ Some row =
+        let there : member (suc i) rows ≡ Some row =
         numbered_within (suc i) rows i [] (omega arith) (omega (arith, count)) in
         let long : length row ≡ PRODUCT_CELLS = cells (suc i) row there in
-        let new : numbered (suc i) (draw_noted q v rows) ≡ Some (one_more_drawn q v row) =
+        let new : member (suc i) (draw_noted q v rows) ≡ Some (one_more_drawn q v row) =
         shown
         ∙ ap (λ (b : Bool). cond b (option_map (one_more_drawn q v) (slice_get rows i))
         (slice_get rows i)) at
         ∙ ap (option_map (one_more_drawn q v)) (sym place ∙ there) in
-        ap (λ (o : Option (List ℕ)). unwrap_or (numbered r (unwrap_or o nothing_drawn)) 0) new
+        ap (λ (o : Option (List ℕ)). unwrap_or (member r (unwrap_or o nothing_drawn)) 0) new
         ∙ more_figure q r v row low (omega (arith, long))
-        ∙ ap (λ (o : Option (List ℕ)). unwrap_or (numbered r (unwrap_or o nothing_drawn)) 0
+        ∙ ap (λ (o : Option (List ℕ)). unwrap_or (member r (unwrap_or o nothing_drawn)) 0
         + cond (r == q) v 0) (sym there)
     by_test false at =
-        let still : numbered (suc i) (draw_noted q v rows) ≡ numbered (suc i) rows =
+        let still : member (suc i) (draw_noted q v rows) ≡ member (suc i) rows =
         shown
         ∙ ap (λ (b : Bool). cond b (option_map (one_more_drawn q v) (slice_get rows i))
         (slice_get rows i)) at
         ∙ sym place in
-        ap (λ (o : Option (List ℕ)). unwrap_or (numbered r (unwrap_or o nothing_drawn)) 0) still
+        ap (λ (o : Option (List ℕ)). unwrap_or (member r (unwrap_or o nothing_drawn)) 0) still
         ∙ (omega arith)
 
 -- a shift that is opened has no draws, as every shift to come
@@ -157,12 +157,12 @@ opened_figure g r rows = by_test (g == length rows + 1) refl
     by_test true at =
         let next : g ≡ length rows + 1 = same g (length rows + 1) at in
         ap (λ (h : ℕ). drawn_there h r (rows ++ nothing_drawn ∷ [])) next
-        ∙ ap (λ (o : Option (List ℕ)). unwrap_or (numbered r (unwrap_or o nothing_drawn)) 0)
+        ∙ ap (λ (o : Option (List ℕ)). unwrap_or (member r (unwrap_or o nothing_drawn)) 0)
         (numbered_push_here rows nothing_drawn ∙ sym (ap (λ (o : Option (List ℕ)).
         Some (unwrap_or o nothing_drawn)) (numbered_next rows)))
         ∙ ap (λ (h : ℕ). drawn_there h r rows) (sym next)
     by_test false at =
-        ap (λ (o : Option (List ℕ)). unwrap_or (numbered r (unwrap_or o nothing_drawn)) 0)
+        ap (λ (o : Option (List ℕ)). unwrap_or (member r (unwrap_or o nothing_drawn)) 0)
         (numbered_push_other g rows nothing_drawn (apart at))
 
 -- ---- every event
@@ -202,7 +202,8 @@ pub draws_move : (s : SiteState) (a : Actor) (e : Event) (g r : ℕ) → Sound s
 draws_move s a (Offline p) g r sound taken =
     by_step s (Offline p) p points.Offline g r sound taken refl (step_at s (Offline p)) refl
 draws_move s a (HangUp p n reading) g r sound taken =
-    by_step s (HangUp p n reading) p (points.HangUp n (flowed s p n reading)) g r sound taken refl
+    by_step s (HangUp p n reading) p (points.HangUp n (flow_since s p n reading)) g r sound taken
+    refl
     (step_at s (HangUp p n reading)) refl
 draws_move s a CloseShift g r sound taken =
     opened_figure g r s.drawn

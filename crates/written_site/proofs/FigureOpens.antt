@@ -2,7 +2,7 @@
 use Rattle.std.proofs.Common.{◌≡◌, ℕ, ◌<◌, ◌==◌, ◌&&◌, Bool, false, cond, List, Option, Some, None}
 use Rattle.std.proofs.Common.{is_some, unwrap_or, refl, ap, arith}
 use Rattle.std.proofs.lemmas.Bool.Decides.{nat_tests}
-use Rattle.site_base.specs.Numbered.{numbered}
+use Rattle.site_base.specs.Members.{member}
 use Rattle.site_base.proofs.Numbering.{numbered_there}
 use Rattle.transaction_buffer.specs.declared.standing.Standing.{Standing}
 use Rattle.transaction_buffer.specs.declared.standing.Standing.TheVariants.{Payable, LockedBy}
@@ -26,9 +26,9 @@ not_cleared s h later (ClearedBy t g) is = apart (omega (arith, later, is))
     apart less = grind (arith, nat_tests)
 
 no_draws : (s : SiteState) (h : ℕ) → open_shift s < h → shift_draws s h ≡ nothing_drawn
-no_draws s h later = by_row (numbered h s.drawn) refl
+no_draws s h later = by_row (member h s.drawn) refl
   where
-    by_row : (o : Option (List ℕ)) → numbered h s.drawn ≡ o
+    by_row : (o : Option (List ℕ)) → member h s.drawn ≡ o
         → unwrap_or o nothing_drawn ≡ nothing_drawn
     by_row None is = refl
     by_row (Some row) is =

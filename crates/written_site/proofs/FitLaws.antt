@@ -8,7 +8,7 @@ use Rattle.written_site.specs.SiteRun.{site_of_rows, IsLegal, events_of}
 use Rattle.written_site.specs.SiteState.{SiteState, opening}
 use Rattle.written_site.specs.Sound.{IsFit, Sound}
 use Rattle.written_site.specs.SoundRuns.{AreInRange}
-use Rattle.meters.proofs.Bounded.{bound}
+use Rattle.meters.proofs.Bounds.{bound}
 use Rattle.written_site.proofs.Bridge.{legal_histories_are_runs}
 use Rattle.written_site.proofs.FigureBounds.{figures_fit}
 use Rattle.written_site.proofs.SoundRuns.{runs_stay_sound}

@@ -16,14 +16,14 @@ use Rattle.fuelling_point.specs.PointChecks.{refusal_of}
 use Rattle.fuelling_point.specs.Step.{after}
 use Rattle.fuelling_point.specs.Whole.{IsWhole}
 use Rattle.written_site.specs.SiteState.{SiteState, facts_of}
-use Rattle.written_site.specs.SiteChecks.{Passed, own_event, flowed, lifted}
+use Rattle.written_site.specs.SiteChecks.{Passed, own_event, flow_since, lift_at}
 use Rattle.written_site.specs.SiteStep.{site_answer}
 use Rattle.written_site.specs.Holders.{names_point}
 use Rattle.written_site.specs.FuellingWords.{nozzle_said, calling_said, tells_calling, is_started}
 use Rattle.written_site.specs.FuellingWords.{end_said, growth_at}
 use Rattle.written_site.specs.SaleWords.{release_said}
 use Rattle.written_site.specs.SoundSteps.{growth_by}
-use Rattle.written_site.proofs.FuellingTold.{growth_is}
+use Rattle.written_site.proofs.FuellingReplies.{growth_is}
 use Rattle.written_site.proofs.RowWords.{told_row}
 use Rattle.written_site.proofs.SlotRows.{moment_at}
 use Rattle.written_site.proofs.SoundReports.{apart}
@@ -74,10 +74,10 @@ own_named s e p event own = grind (arith, common_steps)
 pub nozzle_away : (s : SiteState) (e : Event) (p : ℕ)
     → ((event : PointEvent) → own_event s e ≡ Some (p, event) → ⊥) → nozzle_said p e ≡ None
 nozzle_away s (Lift q n reading) p away =
-    ap (λ (b : Bool). if b then Some (Some n) else None) (apart q p (lifted s q n) away)
+    ap (λ (b : Bool). if b then Some (Some n) else None) (apart q p (lift_at s q n) away)
 nozzle_away s (HangUp q n reading) p away =
     ap (λ (b : Bool). if b then Some None else None)
-    (apart q p (points.HangUp n (flowed s q n reading)) away)
+    (apart q p (points.HangUp n (flow_since s q n reading)) away)
 nozzle_away s (Offline q) p away =
     ap (λ (b : Bool). if b then Some None else None) (apart q p points.Offline away)
 nozzle_away s e p away = refl
@@ -88,17 +88,17 @@ pub calling_away : (s : SiteState) (e : Event) (p : ℕ)
 calling_away s (Lift q n reading) p away =
     ap (λ (b : Bool). if b then Some (tells_calling (Ok (site_answer s (Lift q n reading)))) else
     None)
-    (apart q p (lifted s q n) away)
+    (apart q p (lift_at s q n) away)
 calling_away s (HangUp q n reading) p away =
     ap (λ (b : Bool). if b then Some false else None)
-    (apart q p (points.HangUp n (flowed s q n reading)) away)
+    (apart q p (points.HangUp n (flow_since s q n reading)) away)
 calling_away s (Offline q) p away =
     ap (λ (b : Bool). if b then Some false else None) (apart q p points.Offline away)
 calling_away s e p away = refl
 
 pub end_away : (s : SiteState) (e : Event) (p : ℕ)
     → ((event : PointEvent) → own_event s e ≡ Some (p, event) → ⊥) → end_said p e ≡ false
-end_away s (HangUp q n reading) p away = apart q p (points.HangUp n (flowed s q n reading)) away
+end_away s (HangUp q n reading) p away = apart q p (points.HangUp n (flow_since s q n reading)) away
 end_away s (Offline q) p away = apart q p points.Offline away
 end_away s e p away = refl
 

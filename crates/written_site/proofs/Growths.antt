@@ -15,7 +15,7 @@ use Rattle.site_base.specs.Events.{growth_in_reply}
 use Rattle.site_base.specs.Table.{row_of}
 use Rattle.fuelling_point.specs.declared.event.PointEvent.{PointEvent}
 use Rattle.fuelling_point.specs.declared.event.PointEvent.TheVariants as points
-use Rattle.fuelling_point.specs.KeptPoints.{Facts, growth_of, noted}
+use Rattle.fuelling_point.specs.KeptPoints.{Facts, growth_of, note_event}
 use Rattle.fuelling_point.specs.Step as machine
 use Rattle.fuelling_point.specs.Table.{Line, Told, done, calling, start, flowed, hung_up, no_sale}
 use Rattle.fuelling_point.specs.Table.{sold, stopped, ending, line_of}
@@ -55,7 +55,7 @@ line_growth : (s : SiteState) (p : ℕ) (line : Option Line) (event : PointEvent
     ≤ growth_of event
 line_growth s p None event f = omega arith
 line_growth s p (Some line) event f =
-    told_growth s p (growth_of event) line.told (noted event line.move f)
+    told_growth s p (growth_of event) line.told (note_event event line.move f)
 
 -- what a report that is taken grows
 report_growth : (report : Report) (last reading : ℕ) → report_refusal report last reading ≡ None
@@ -93,12 +93,12 @@ product_growth s q (Some price) = omega arith
 answer_growth : (s : SiteState) (e : Event) → checks.metering s e ≡ None
     → growth_in_reply (Ok (site_answer s e)) ≤ GROWTH_LIMIT
 answer_growth s (Flow p n reading) reads =
-    let event : PointEvent = points.Flow n (checks.flowed s p n reading) in
+    let event : PointEvent = points.Flow n (checks.flow_since s p n reading) in
     let told = line_growth s p (line_of event (facts_of s p).state) event (facts_of s p) in
     let most = report_growth Growing (reading_of p n s.nozzles) reading reads in
     omega (arith, told, most)
 answer_growth s (HangUp p n reading) reads =
-    let event : PointEvent = points.HangUp n (checks.flowed s p n reading) in
+    let event : PointEvent = points.HangUp n (checks.flow_since s p n reading) in
     let told = line_growth s p (line_of event (facts_of s p).state) event (facts_of s p) in
     let most = report_growth (checks.put_back_at (facts_of s p).state) (reading_of p n s.nozzles)
     reading reads in
@@ -112,7 +112,7 @@ answer_growth s (Offline p) reads =
     (facts_of s p) in
     omega (arith, told)
 answer_growth s (Lift p n reading) reads =
-    let event : PointEvent = checks.lifted s p n in
+    let event : PointEvent = checks.lift_at s p n in
     let told = line_growth s p (line_of event (facts_of s p).state) event (facts_of s p) in
     omega (arith, told)
 answer_growth s (Clear p id) reads = clear_growth (sale_of (key_named s p id) s.sales)

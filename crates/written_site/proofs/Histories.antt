@@ -4,7 +4,7 @@ use Rattle.site_base.specs.declared.row.Row.{Row}
 use Rattle.written_site.specs.SiteState.{SiteState}
 use Rattle.written_site.specs.SiteStep.{reply_to, site_after}
 use Rattle.written_site.specs.SiteRun.{site_of_rows, IsLegal}
-use Rattle.written_site.specs.Histories.{folded}
+use Rattle.written_site.specs.Histories.{fold_rows}
 
 -- one more row leads on from where the rows before it led
 pub site_of_rows-push : (s : SiteState) (rs : List Row) (r : Row)
@@ -25,8 +25,8 @@ pub folds : {A : Type 0} (word : SiteState → A) (change : A → Row → A)
     → ((s : SiteState) (r : Row) → r.reply ≡ reply_to s r.actor r.event
     → word (site_after s r.actor r.event) ≡ change (word s) r)
     → (s : SiteState) (rs : List Row) → IsLegal s rs
-    → word (site_of_rows s rs) ≡ folded change (word s) rs
+    → word (site_of_rows s rs) ≡ fold_rows change (word s) rs
 folds word change agrees s [] legal = refl
 folds word change agrees s (r ∷ rs) legal =
     folds word change agrees (site_after s r.actor r.event) rs legal.1
-    ∙ ap (λ x. folded change x rs) (agrees s r legal.0)
+    ∙ ap (λ x. fold_rows change x rs) (agrees s r legal.0)

@@ -35,7 +35,7 @@ use Rattle.transaction_buffer.specs.Sales.{sale_of}
 use Rattle.written_site.specs.SiteState.{SiteState, opening, facts_of, holder_of, is_resting}
 use Rattle.written_site.specs.SiteState.{key_named, rests, view_sale, price_at_start}
 use Rattle.written_site.specs.SiteState.{reading_at_start}
-use Rattle.written_site.specs.SiteChecks.{first_refusal, free_for, flowed}
+use Rattle.written_site.specs.SiteChecks.{first_refusal, free_for, flow_since}
 use Rattle.written_site.specs.SiteStep.{accepted_site, site_after, site_answer, step_told}
 use Rattle.written_site.specs.SiteStep.{ends_at_sign_off}
 use Rattle.written_site.specs.SiteStep.{holds_without, holds_unless_over}
@@ -45,7 +45,7 @@ use Rattle.written_site.specs.Holders.{is_at_rest, stands_at_rest, takes_hold, e
 use Rattle.written_site.specs.Holders.{hold_taker, is_end, tells_end, AreHeldByOne, AreHoldsOf}
 use Rattle.written_site.specs.Holders.{IsHeldByOne, AreUnendedTakes, AreBooksHeldByOne}
 use Rattle.site_base.proofs.Cells.{apart, alike}
-use Rattle.written_site.proofs.Passed.{passed}
+use Rattle.written_site.proofs.PassedChecks.{passed}
 use Rattle.written_site.proofs.Bridge.{legal_histories_are_runs}
 use Rattle.written_site.proofs.ToldAnswers.{clears_sale, flows, lifts, shows_product, shows_sale}
 use Rattle.written_site.proofs.Slots.{next, MayTake, standing, Fair, end_between, last_take}
@@ -179,15 +179,15 @@ accepted s (Till t) SignOff p ok =
     (λ u. b && u == t)) (sym (at_rest s p)) (signed_off s t p)
 accepted s a (Offline q) p ok = unassigned s.holds p q
 accepted s a (HangUp q n reading) p ok =
-    stepped s s.holds p q (flowed s q n reading)
-    (machine.step_of (points.HangUp n (flowed s q n reading)) (facts_of s q))
+    stepped s s.holds p q (flow_since s q n reading)
+    (machine.step_of (points.HangUp n (flow_since s q n reading)) (facts_of s q))
 accepted s a (Terminate q) p ok =
     stepped s s.holds p q 0 (machine.step_of points.Terminate (facts_of s q))
 accepted s a (Lift q n reading) p ok =
     rw (lifts s q n (reading_at_start s q (Some n)) (price_at_start s q (Some n)) (facts_of s q)
     (facts_of s q).state) (idle (holder_of s p))
 accepted s a (Flow q n reading) p ok =
-    rw (flows s q n (flowed s q n reading) (facts_of s q) (growth_in (flowed s q n reading))
+    rw (flows s q n (flow_since s q n reading) (facts_of s q) (growth_in (flow_since s q n reading))
     (facts_of s q).state) (idle (holder_of s p))
 accepted s a (ReadProduct q) p ok =
     rw (shows_product s q (row_of q s.prices)) (idle (holder_of s p))

@@ -1,9 +1,9 @@
-pub mod Passed
+pub mod PassedChecks
 pub mod Histories
 pub mod Bridge
 pub mod Slots
 pub mod Holders
-pub mod Worked
+pub mod WorkedSteps
 pub mod WorkedHolds
 pub mod SoundTables
 pub mod EachSale
@@ -58,7 +58,7 @@ pub mod Lockers
 pub mod LockLaws
 pub mod SoldRows
 pub mod NumberLaws
-pub mod FuellingTold
+pub mod FuellingReplies
 pub mod FuellingMoves
 pub mod FuellingRows
 pub mod FuellingLaws

@@ -26,7 +26,7 @@ use Rattle.transaction_buffer.proofs.InShift.{none_next}
 use Rattle.transaction_buffer.proofs.Reading.{one_sale}
 use Rattle.transaction_buffer.proofs.Rules.{one_locker}
 use Rattle.written_site.specs.SiteState.{SiteState, facts_of, key_named, open_shift}
-use Rattle.written_site.specs.SiteChecks.{Passed, own_event, flowed}
+use Rattle.written_site.specs.SiteChecks.{Passed, own_event, flow_since}
 use Rattle.written_site.specs.SiteStep.{site_answer, step_at, step_told, nozzles_after, sales_after}
 use Rattle.written_site.specs.SiteStep.{sales_by, sale_made, first_locker, if_signed_on, reply_to}
 use Rattle.written_site.specs.SiteStep.{site_after}
@@ -210,8 +210,9 @@ does_accepted k earlier s a (Offline p) known passes =
     steps k earlier s a (Offline p) p 0 points.Offline known passes refl
     (step_at s (Offline p)) refl
 does_accepted k earlier s a (HangUp p n reading) known passes =
-    steps k earlier s a (HangUp p n reading) p (flowed s p n reading)
-    (points.HangUp n (flowed s p n reading)) known passes refl (step_at s (HangUp p n reading)) refl
+    steps k earlier s a (HangUp p n reading) p (flow_since s p n reading)
+    (points.HangUp n (flow_since s p n reading)) known passes refl (step_at s (HangUp p n reading))
+    refl
 does_accepted k earlier s a (Clear p id) known passes =
     rw (never_sold s (Clear p id) refl) (idle (locker_of k s.sales))
 does_accepted k earlier s a (Terminate p) known passes =

@@ -12,10 +12,11 @@ use Rattle.site_base.specs.declared.event.Event.TheVariants.{ReplaceMeter, Lift,
 use Rattle.site_base.specs.declared.row.Row.{Row}
 use Rattle.site_base.specs.declared.config.PointEntry.{PointEntry}
 use Rattle.site_base.specs.Configured.{Configured}
-use Rattle.meters.specs.Nozzles.{Nozzle, is_nozzle, numbered, nozzles_of_point, nozzles_of_points}
+use Rattle.meters.specs.Nozzles.{Nozzle, is_nozzle, number_nozzles, nozzles_of_point}
+use Rattle.meters.specs.Nozzles.{nozzles_of_points}
 use Rattle.meters.specs.Nozzles.{opening_nozzles, nozzle_of, has_nozzle, reading_of, with_nozzle}
 use Rattle.meters.specs.Nozzles.{with_last, read_at, replaced_at}
-use Rattle.meters.proofs.Looked.{KeepsName, nozzle_of-here, nozzle_of-other, reading_is}
+use Rattle.meters.proofs.Lookups.{KeepsName, nozzle_of-here, nozzle_of-other, reading_is}
 use Rattle.written_site.specs.Histories.{Moment, moments_of}
 use Rattle.written_site.specs.MeterLaws.{is_its, replace_said, begun_said, read_said, begun_of_row}
 use Rattle.written_site.specs.MeterLaws.{read_of_row, replaces_meter, read_after, counted_at}
@@ -199,7 +200,7 @@ abbrev pub EachFresh : List Nozzle → Type 0
 EachFresh [] = Unit {0}
 EachFresh (x ∷ xs) = IsFresh x × EachFresh xs
 
-fresh_numbered : (p n : ℕ) (es : List NozzleEntry) → EachFresh (numbered p n es)
+fresh_numbered : (p n : ℕ) (es : List NozzleEntry) → EachFresh (number_nozzles p n es)
 fresh_numbered p n [] = tt
 fresh_numbered p n (e ∷ es) =
     (record { began = refl; replaced = refl; earlier = refl }, fresh_numbered p (n + 1) es)

@@ -6,10 +6,10 @@ use Rattle.site_base.specs.declared.event.Event.{Event}
 use Rattle.site_base.specs.declared.event.Event.TheVariants.{ReplaceMeter, Flow, HangUp}
 use Rattle.site_base.specs.declared.row.Row.{Row}
 use Rattle.site_base.specs.Configured.{Configured}
-use Rattle.meters.specs.Metered.{metered, metered_by, product_alone, product_total}
+use Rattle.meters.specs.MeteredVolumes.{volume_metered, metered_by, product_alone, product_total}
 use Rattle.meters.specs.Nozzles.{Nozzle, is_nozzle, opening_nozzles, nozzle_of, with_nozzle}
 use Rattle.meters.specs.Nozzles.{read_at, replaced_at}
-use Rattle.meters.proofs.Looked.{KeepsName}
+use Rattle.meters.proofs.Lookups.{KeepsName}
 use Rattle.written_site.specs.MeteredRows.{metered_read, is_among, metered_of, metered_rows}
 use Rattle.written_site.specs.MeterLaws.{began_after, read_after}
 use Rattle.written_site.specs.SiteRun.{site_of_rows, IsLegal}
@@ -30,7 +30,7 @@ Aligned seen [] (y ∷ ys) = ⊥
 Aligned seen (x ∷ xs) [] = ⊥
 Aligned seen (x ∷ xs) (y ∷ ys) =
     (y.point ≡ x.point) × ((y.number ≡ x.number) × ((y.product ≡ x.product)
-    × ((is_among seen x.point x.number ≡ true → metered y ≡ 0) × Aligned (x ∷ seen) xs ys)))
+    × ((is_among seen x.point x.number ≡ true → volume_metered y ≡ 0) × Aligned (x ∷ seen) xs ys)))
 
 -- the name of a nozzle that stands as another
 named_as : (p n : ℕ) (x y : Nozzle) → y.point ≡ x.point → y.number ≡ x.number
@@ -103,7 +103,7 @@ aligned_first seen [] fresh = tt
 aligned_first seen (x ∷ xs) fresh =
     (refl, (refl, (refl, ((λ shadow. nothing), aligned_first (x ∷ seen) xs fresh.1))))
   where
-    nothing : metered x ≡ 0
+    nothing : volume_metered x ≡ 0
     nothing =
         let began = fresh.0.began in
         let earlier = fresh.0.earlier in
@@ -120,18 +120,18 @@ weighed false d v w none some = omega arith
 pub metered_as_read : (c : Configured) (q : ℕ) (rows : List Row) (seen xs ys : List Nozzle)
     → Aligned seen xs ys
     → ((p n : ℕ) (z : Nozzle) → is_among seen p n ≡ false → nozzle_of p n ys ≡ Some z
-    → metered z ≡ metered_read c p n rows)
+    → volume_metered z ≡ metered_read c p n rows)
     → metered_by (product_alone q) ys ≡ metered_of c q rows seen xs
 metered_as_read c q rows seen [] [] aligned each = refl
 metered_as_read c q rows seen [] (y ∷ ys) aligned each = absurd aligned
 metered_as_read c q rows seen (x ∷ xs) [] aligned each = absurd aligned
 metered_as_read c q rows seen (x ∷ xs) (y ∷ ys) aligned each =
     let rest = metered_as_read c q rows (x ∷ seen) xs ys aligned.1.1.1.1 later in
-    let here : product_alone q y.product * metered y
+    let here : product_alone q y.product * volume_metered y
     ≡ (if x.product == q && not (is_among seen x.point x.number)
     then metered_read c x.point x.number rows else 0) =
-    ap (λ (r : ℕ). product_alone q r * metered y) aligned.1.1.0
-    ∙ weighed (x.product == q) (is_among seen x.point x.number) (metered y)
+    ap (λ (r : ℕ). product_alone q r * volume_metered y) aligned.1.1.0
+    ∙ weighed (x.product == q) (is_among seen x.point x.number) (volume_metered y)
     (metered_read c x.point x.number rows) aligned.1.1.1.0 first in
     omega (arith, here, rest)
   where
@@ -139,16 +139,16 @@ metered_as_read c q rows seen (x ∷ xs) (y ∷ ys) aligned each =
     its_name = named_as x.point x.number x y aligned.0 aligned.1.0
         ∙ ap (λ (b : Bool). b && x.number == x.number) (itself x.point) ∙ itself x.number
 
-    first : is_among seen x.point x.number ≡ false → metered y
+    first : is_among seen x.point x.number ≡ false → volume_metered y
         ≡ metered_read c x.point x.number rows
     first unseen = each x.point x.number y unseen (rw its_name refl)
 
     later : (p n : ℕ) (z : Nozzle) → is_among (x ∷ seen) p n ≡ false → nozzle_of p n ys ≡ Some z
-        → metered z ≡ metered_read c p n rows
+        → volume_metered z ≡ metered_read c p n rows
     later p n z unseen is = by_test (is_nozzle p n x) refl unseen
       where
         by_test : (b : Bool) → is_nozzle p n x ≡ b → (b || is_among seen p n) ≡ false
-            → metered z ≡ metered_read c p n rows
+            → volume_metered z ≡ metered_read c p n rows
         by_test true at unseen = cc
         by_test false at unseen =
             let other : is_nozzle p n y ≡ false = named_as p n x y aligned.0 aligned.1.0 ∙ at in

@@ -28,7 +28,7 @@ use Rattle.transaction_buffer.specs.Sales.{Key, no_sales, made_at, unpaid_at}
 use Rattle.transaction_buffer.proofs.Counting.{counted_after}
 use Rattle.written_site.specs.SiteState.{SiteState, opening, facts_in, facts_of, key_named}
 use Rattle.written_site.specs.SiteState.{open_shift}
-use Rattle.written_site.specs.SiteChecks.{Passed, own_event, flowed}
+use Rattle.written_site.specs.SiteChecks.{Passed, own_event, flow_since}
 use Rattle.written_site.specs.SiteStep.{accepted_site, site_answer, step_at, step_told}
 use Rattle.written_site.specs.SiteStep.{nozzles_after, points_after, sales_after, sales_by}
 use Rattle.written_site.specs.SiteStep.{sale_made, reply_to, site_after}
@@ -107,7 +107,7 @@ made_accepted q h earlier s (Till t) (Clear p id) shift =
 made_accepted q h earlier s a (Offline p) shift =
     made_by q h earlier s s.nozzles p 0 (step_at s (Offline p)) shift
 made_accepted q h earlier s a (HangUp p n reading) shift =
-    made_by q h earlier s (nozzles_after s (HangUp p n reading)) p (flowed s p n reading)
+    made_by q h earlier s (nozzles_after s (HangUp p n reading)) p (flow_since s p n reading)
     (step_at s (HangUp p n reading)) shift
 made_accepted q h earlier s a (Clear p id) shift =
     not_made q h (made_at q h s.sales) earlier p _ (never_sold s (Clear p id) refl)
@@ -205,7 +205,7 @@ unpaid_accepted earlier s a (Offline p) rooms passes =
 unpaid_accepted earlier s a (HangUp p n reading) rooms passes =
     unpaid_by s (nozzles_after s (HangUp p n reading)) p (step_at s (HangUp p n reading))
     (may_there earlier s a (HangUp p n reading) p
-    (points.HangUp n (flowed s p n reading)) rooms passes
+    (points.HangUp n (flow_since s p n reading)) rooms passes
     refl)
     rooms.unpaid
 unpaid_accepted earlier s a e rooms passes = rooms.unpaid

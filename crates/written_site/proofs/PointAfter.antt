@@ -8,7 +8,7 @@ use Rattle.site_base.specs.declared.state.PointState.TheVariants.{Closed}
 use Rattle.site_base.specs.declared.config.PointEntry.{PointEntry}
 use Rattle.site_base.specs.Configured.{Configured}
 use Rattle.fuelling_point.specs.declared.event.PointEvent.{PointEvent}
-use Rattle.fuelling_point.specs.KeptPoints.{Facts, fresh}
+use Rattle.fuelling_point.specs.KeptPoints.{Facts, empty_point}
 use Rattle.fuelling_point.specs.PointChecks.{refusal_of}
 use Rattle.fuelling_point.specs.Step.{after}
 use Rattle.written_site.specs.SiteState.{SiteState, opening, points_of, facts_in, facts_of}
@@ -59,7 +59,7 @@ facts_after s a e passes q = by_own (own_event s e) refl
         false≢true (sym at ∙ ap (λ (r : ℕ). q == r) name ∙ itself q))
       where
         by_row : Option Facts → Facts
-        by_row o = unwrap_or o (fresh Closed)
+        by_row o = unwrap_or o (empty_point Closed)
 
     by_own : (own : Option (ℕ × PointEvent)) → own_event s e ≡ own → FactsAfter s e q
     by_own None is =
@@ -68,14 +68,15 @@ facts_after s a e passes q = by_own (own_event s e) refl
     by_own (Some x) is = by_test x.0 x.1 is (q == x.0) refl
 
 -- when the site opens, each point is closed
-closed_in : (entries : List PointEntry) (p : ℕ) → facts_in (points_of entries) p ≡ fresh Closed
+closed_in : (entries : List PointEntry) (p : ℕ) → facts_in (points_of entries) p
+    ≡ empty_point Closed
 closed_in [] p = refl
 closed_in (x ∷ xs) p = by_test (x.number == p) refl (closed_in xs p)
   where
-    by_test : (b : Bool) → (x.number == p) ≡ b → facts_in (points_of xs) p ≡ fresh Closed
-        → facts_in (points_of (x ∷ xs)) p ≡ fresh Closed
+    by_test : (b : Bool) → (x.number == p) ≡ b → facts_in (points_of xs) p ≡ empty_point Closed
+        → facts_in (points_of (x ∷ xs)) p ≡ empty_point Closed
     by_test true is rest = rw is refl
     by_test false is rest = rw is rest
 
-pub opens_closed : (c : Configured) (p : ℕ) → facts_of (opening c) p ≡ fresh Closed
+pub opens_closed : (c : Configured) (p : ℕ) → facts_of (opening c) p ≡ empty_point Closed
 opens_closed c p = closed_in c.points p

@@ -15,7 +15,7 @@ use Rattle.fuelling_point.specs.KeptPoints.{Facts, growth_of}
 use Rattle.fuelling_point.specs.PointChecks.{refusal_of}
 use Rattle.fuelling_point.specs.Step.{step_of, after}
 use Rattle.written_site.specs.Histories.{Moment, moments_of}
-use Rattle.written_site.specs.PointLaws.{event_for, own_of, added, own_events, tells_step}
+use Rattle.written_site.specs.PointLaws.{event_for, own_of, add_event, own_events, tells_step}
 use Rattle.written_site.specs.PointLaws.{ArePointsTheirOwn}
 use Rattle.written_site.specs.RowWords.{OfBooks}
 use Rattle.written_site.specs.SiteChecks.{own_event}
@@ -40,27 +40,27 @@ end_more f (x ∷ events) event = end_more (point_step x f) events event
 
 -- one moment more
 own_more : (p : ℕ) (ms : List Moment) (m : Moment)
-    → own_events p (ms ++ m ∷ []) ≡ own_events p ms ++ added (own_of p m) []
+    → own_events p (ms ++ m ∷ []) ≡ own_events p ms ++ add_event (own_of p m) []
 own_more p [] m = refl
-own_more p (x ∷ ms) m = ap (added (own_of p x)) (own_more p ms m) ∙ by_own (own_of p x)
+own_more p (x ∷ ms) m = ap (add_event (own_of p x)) (own_more p ms m) ∙ by_own (own_of p x)
   where
     by_own : (o : Option PointEvent)
-        → added o (own_events p ms ++ added (own_of p m) [])
-        ≡ added o (own_events p ms) ++ added (own_of p m) []
+        → add_event o (own_events p ms ++ add_event (own_of p m) [])
+        ≡ add_event o (own_events p ms) ++ add_event (own_of p m) []
     by_own None = refl
     by_own (Some event) = refl
 
 none_more : (p : ℕ) (ms : List Moment) (m : Moment) → own_of p m ≡ None
     → point_after (own_events p (ms ++ m ∷ [])) ≡ point_after (own_events p ms)
 none_more p ms m none =
-    ap point_after (own_more p ms m ∙ ap (λ o. own_events p ms ++ added o []) none
+    ap point_after (own_more p ms m ∙ ap (λ o. own_events p ms ++ add_event o []) none
     ∙ append_none (own_events p ms))
 
 some_more : (p : ℕ) (ms : List Moment) (m : Moment) (event : PointEvent) → own_of p m ≡ Some event
     → point_after (own_events p (ms ++ m ∷ []))
     ≡ point_step event (point_after (own_events p ms))
 some_more p ms m event some =
-    ap point_after (own_more p ms m ∙ ap (λ o. own_events p ms ++ added o []) some)
+    ap point_after (own_more p ms m ∙ ap (λ o. own_events p ms ++ add_event o []) some)
     ∙ end_more _ (own_events p ms) event
 
 -- ---- rows

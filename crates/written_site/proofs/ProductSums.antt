@@ -16,8 +16,9 @@ use Rattle.site_base.specs.declared.config.PointEntry.{PointEntry}
 use Rattle.site_base.specs.declared.config.ProductEntry.{ProductEntry}
 use Rattle.site_base.specs.Configured.{are_nozzles, has_product, none_alike, same_point}
 use Rattle.site_base.specs.Configured.{same_product}
-use Rattle.meters.specs.Metered.{every_product, metered, metered_by, product_alone, product_total}
-use Rattle.meters.specs.Nozzles.{Nozzle, is_nozzle, nozzles_of_points, numbered, read_at}
+use Rattle.meters.specs.MeteredVolumes.{every_product, volume_metered, metered_by, product_alone}
+use Rattle.meters.specs.MeteredVolumes.{product_total}
+use Rattle.meters.specs.Nozzles.{Nozzle, is_nozzle, nozzles_of_points, number_nozzles, read_at}
 use Rattle.meters.specs.Nozzles.{replaced_at, with_nozzle}
 use Rattle.written_site.specs.RowWords.{total}
 use Rattle.written_site.specs.SiteRun.{site_of_rows}
@@ -84,8 +85,8 @@ by_product : (ns : List ℕ) (xs : List Nozzle) → Apart ns → AreThere ns (pr
 by_product ns [] apart there = total_zero ns
 by_product ns (x ∷ xs) apart there =
     let rest = by_product ns xs apart there.1 in
-    let here = once x.product (metered x) ns apart there.0 in
-    let both = total_both (share x.product (metered x)) (λ n. product_total n xs) ns in
+    let here = once x.product (volume_metered x) ns apart there.0 in
+    let both = total_both (share x.product (volume_metered x)) (λ n. product_total n xs) ns in
     omega (arith, rest, here, both)
 
 -- ---- the nozzles keep their products
@@ -149,7 +150,7 @@ there_joined ns (x ∷ xs) ys one two = (one.0, there_joined ns xs ys one.1 two)
 
 point_there : (ps : List ProductEntry) (p n : ℕ) (es : List NozzleEntry)
     → list_all (λ e. has_product ps e.product) es ≡ true
-    → AreThere (configured_numbers ps) (products_of (numbered p n es))
+    → AreThere (configured_numbers ps) (products_of (number_nozzles p n es))
 point_there ps p n [] all = tt
 point_there ps p n (e ∷ es) all =
     let parts = and_parts (has_product ps e.product) (list_all (λ x. has_product ps x.product) es)
@@ -165,7 +166,8 @@ points_there ps (p ∷ points) all =
     (list_all (λ x. are_nozzles ps x.nozzles) points) all in
     let own = and_parts (is_between 1 NOZZLES (length p.nozzles))
     (list_all (λ n. has_product ps n.product) p.nozzles) parts.0 in
-    there_joined (configured_numbers ps) (numbered p.number 1 p.nozzles) (nozzles_of_points points)
+    there_joined (configured_numbers ps) (number_nozzles p.number 1 p.nozzles)
+    (nozzles_of_points points)
     (point_there ps p.number 1 p.nozzles own.1)
     (points_there ps points parts.1)
 

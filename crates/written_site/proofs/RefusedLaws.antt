@@ -26,7 +26,7 @@ use Rattle.written_site.specs.SiteStep.{sale_told, site_after, site_answer, step
 use Rattle.written_site.specs.StepLaws.{AreClearsTold, DoRefusalsLeave, IsClearTold, is_clear}
 use Rattle.written_site.specs.StepLaws.{is_cleared}
 use Rattle.written_site.specs.RowWords.{OfBooks}
-use Rattle.written_site.proofs.Passed.{both_pass}
+use Rattle.written_site.proofs.PassedChecks.{both_pass}
 use Rattle.written_site.proofs.RowWords.{of_row}
 
 -- ---- a refusal

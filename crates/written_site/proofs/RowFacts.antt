@@ -30,7 +30,8 @@ use Rattle.till_claims.specs.Holds.{is_held_by}
 use Rattle.site_base.specs.Table.{row_of}
 use Rattle.written_site.specs.SiteState.{SiteState, opening, facts_in, facts_of, holder_of}
 use Rattle.written_site.specs.SiteState.{is_signed_on, is_resting, open_shift}
-use Rattle.written_site.specs.SiteChecks.{Passed, own_event, flowed, released, test_released}
+use Rattle.written_site.specs.SiteChecks.{Passed, own_event, flow_since, release_at}
+use Rattle.written_site.specs.SiteChecks.{test_release_at}
 use Rattle.written_site.specs.SiteStep.{accepted_site, points_after, holds_after, holds_unless_over}
 use Rattle.written_site.specs.SiteStep.{ends_at_sign_off, ends_release, reply_to, site_after}
 use Rattle.written_site.specs.SiteStep.{site_answer}
@@ -170,7 +171,8 @@ holder_stays s a (Offline q) p passes is none =
     ∙ ap (λ (b : Bool). cond b None (holder_of s p))
     (not_this s a (Offline q) p q points.Offline passes refl (offline_ends (facts_of s q)) is)
 holder_stays s a (HangUp q n reading) p passes is none =
-    unless_over s a (HangUp q n reading) p q (points.HangUp n (flowed s q n reading)) passes refl is
+    unless_over s a (HangUp q n reading) p q (points.HangUp n (flow_since s q n reading)) passes
+    refl is
 holder_stays s a (Terminate q) p passes is none =
     unless_over s a (Terminate q) p q points.Terminate passes refl is
 holder_stays s a e p passes is none = refl
@@ -238,7 +240,7 @@ released_so : (s : SiteState) (a : Actor) (e : Event) (p : ℕ) (told : ToldRele
     → ((q : ℕ) → IsWhole (facts_of s q)) → Passed s a e
     → release_said p a e ≡ Some told → IsSo (accepted_site s a e) p told
 released_so s (Till t) (Release q preset) p told whole passes is =
-    taken_so s (Release q preset) p q (by_till t None) (released s q preset None) told passes refl
+    taken_so s (Release q preset) p q (by_till t None) (release_at s q preset None) told passes refl
     refl
     (λ taken. record {
       prepaid = release_pays preset None _ _ (facts_of s q) taken;
@@ -246,13 +248,13 @@ released_so s (Till t) (Release q preset) p told whole passes is =
     }) is
 released_so s (Till t) (Prepay q cents) p told whole passes is =
     taken_so s (Prepay q cents) p q (by_till t (Some cents))
-    (released s q (Money cents) (Some cents)) told passes refl refl
+    (release_at s q (Money cents) (Some cents)) told passes refl refl
     (λ taken. record {
       prepaid = release_pays (Money cents) (Some cents) _ _ (facts_of s q) taken;
       test = release_isn't_test (Money cents) (Some cents) _ _ (facts_of s q) (whole q) taken;
     }) is
 released_so s (Till t) (TestRelease q) p told whole passes is =
-    taken_so s (TestRelease q) p q (for_test t) (test_released s q) told passes refl refl
+    taken_so s (TestRelease q) p q (for_test t) (test_release_at s q) told passes refl refl
     (λ taken. record {
       prepaid = test_pays _ _ (facts_of s q) taken;
       test = test_is_test _ _ (facts_of s q) taken;
@@ -280,11 +282,11 @@ not_its p q release event other own none =
 no_release : (s : SiteState) (a : Actor) (e : Event) (p : ℕ) (event : PointEvent) → Passed s a e
     → own_event s e ≡ Some (p, event) → release_said p a e ≡ None → is_release event ≡ false
 no_release s (Till t) (Release q preset) p event passes own none =
-    not_its p q (by_till t None) event (released s q preset None) own none
+    not_its p q (by_till t None) event (release_at s q preset None) own none
 no_release s (Till t) (Prepay q cents) p event passes own none =
-    not_its p q (by_till t (Some cents)) event (released s q (Money cents) (Some cents)) own none
+    not_its p q (by_till t (Some cents)) event (release_at s q (Money cents) (Some cents)) own none
 no_release s (Till t) (TestRelease q) p event passes own none =
-    not_its p q (for_test t) event (test_released s q) own none
+    not_its p q (for_test t) event (test_release_at s q) own none
 no_release s (Dispenser d) (Release q preset) p event passes own none =
     (let asks = passes.asks in absurd cc)
 no_release s (Dispenser d) (Prepay q cents) p event passes own none =

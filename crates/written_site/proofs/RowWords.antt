@@ -14,11 +14,11 @@ use Rattle.written_site.specs.SiteState.{SiteState, opening}
 use Rattle.written_site.specs.SiteChecks.{Passed, first_refusal}
 use Rattle.written_site.specs.SiteStep.{accepted_site, site_answer, reply_to, site_after}
 use Rattle.written_site.specs.SiteRun.{rows_of, site_at_end, site_of_rows, IsLegal}
-use Rattle.written_site.specs.Histories.{folded}
+use Rattle.written_site.specs.Histories.{fold_rows}
 use Rattle.written_site.specs.RowWords.{OfEvents, OfBooks, last_said, latest, total}
 use Rattle.written_site.proofs.Bridge.{legal_histories_are_runs}
 use Rattle.written_site.proofs.Histories.{folds}
-use Rattle.written_site.proofs.Passed.{passed}
+use Rattle.written_site.proofs.PassedChecks.{passed}
 
 -- ---- laws of books are laws of events
 
@@ -81,7 +81,7 @@ said_again o None x = refl
 said_again o (Some y) x = refl
 
 folded_latest : {A : Type 0} (says : Row → Option A) (x : A) (rs : List Row)
-    → folded (λ y r. unwrap_or (says r) y) x rs ≡ unwrap_or (latest says rs) x
+    → fold_rows (λ y r. unwrap_or (says r) y) x rs ≡ unwrap_or (latest says rs) x
 folded_latest says x [] = refl
 folded_latest says x (r ∷ rs) =
     folded_latest says (unwrap_or (says r) x) rs ∙ sym (said_again (says r) (latest says rs) x)
@@ -132,7 +132,7 @@ total_word word figure agrees s (r ∷ rs) legal =
     omega (arith, rest, here)
 
 folded_said : {A : Type 0} (says : Row → Option A) (o : Option A) (rs : List Row)
-    → folded (λ x r. last_said x (says r)) o rs ≡ last_said o (latest says rs)
+    → fold_rows (λ x r. last_said x (says r)) o rs ≡ last_said o (latest says rs)
 folded_said says o [] = refl
 folded_said says o (r ∷ rs) =
     folded_said says (last_said o (says r)) rs ∙ sym (said_last o (says r) (latest says rs))

@@ -24,7 +24,7 @@ use Rattle.written_site.specs.FuellingWords.{starts, growth_at}
 use Rattle.written_site.specs.Histories.{Moment, moments_of}
 use Rattle.written_site.specs.Holders.{names_point}
 use Rattle.written_site.specs.SaleWords.{by_till, for_test, release_of, release_said}
-use Rattle.written_site.specs.SiteChecks.{Passed, own_event, lifted, released, test_released}
+use Rattle.written_site.specs.SiteChecks.{Passed, own_event, lift_at, release_at, test_release_at}
 use Rattle.written_site.specs.SiteState.{SiteState, opening, facts_in, facts_of}
 use Rattle.written_site.specs.SiteStep.{nozzles_after, site_answer, points_after, reply_to}
 use Rattle.written_site.specs.SiteStep.{site_after}
@@ -60,20 +60,20 @@ pub started_away : (s : SiteState) (e : Event) (p : ℕ)
     → is_started p e (Ok (site_answer s e)) ≡ false
 started_away s (Lift q n reading) p away =
     ap (λ (b : Bool). b && tells_start (Ok (site_answer s (Lift q n reading))))
-    (apart q p (lifted s q n) away)
+    (apart q p (lift_at s q n) away)
 started_away s e p away = refl
 
 pub release_away : (s : SiteState) (a : Actor) (e : Event) (p : ℕ)
     → ((event : PointEvent) → own_event s e ≡ Some (p, event) → ⊥) → release_said p a e ≡ None
 release_away s (Till t) (Release q preset) p away =
     ap (λ (b : Bool). if b then Some (by_till t None) else None)
-    (apart q p (released s q preset None) away)
+    (apart q p (release_at s q preset None) away)
 release_away s (Till t) (Prepay q cents) p away =
     ap (λ (b : Bool). if b then Some (by_till t (Some cents)) else None)
-    (apart q p (released s q (Money cents) (Some cents)) away)
+    (apart q p (release_at s q (Money cents) (Some cents)) away)
 release_away s (Till t) (TestRelease q) p away =
     ap (λ (b : Bool). if b then Some (for_test t) else None)
-    (apart q p (test_released s q) away)
+    (apart q p (test_release_at s q) away)
 release_away s a e p away = refl
 
 -- what is known: the volumes, and the run of each fuelling under way

@@ -21,7 +21,7 @@ use Rattle.written_site.specs.RowWords.{OfBooks, open_after}
 use Rattle.written_site.specs.ShiftFigures.{clears_in, cents_in, clears_by, cents_by}
 use Rattle.written_site.specs.ShiftLaws.{cents_cleared, cleared_cents, clears_for, cents_for}
 use Rattle.written_site.specs.ShiftLaws.{clears_while, cents_while, AreClearsCounted}
-use Rattle.written_site.specs.SiteChecks.{Passed, flowed}
+use Rattle.written_site.specs.SiteChecks.{Passed, flow_since}
 use Rattle.written_site.specs.SiteState.{SiteState, key_named, open_shift, view_sale}
 use Rattle.written_site.specs.SiteStep.{site_answer, step_at, step_told, sale_told, clear_told}
 use Rattle.written_site.specs.SiteStep.{product_told, sales_after, reply_to, site_after}
@@ -61,9 +61,9 @@ not_cleared t s a (Offline p) other = not_cleared_step t a s p 0 (step_at s (Off
 not_cleared t s a (Lift p n reading) other =
     not_cleared_step t a s p 0 (step_at s (Lift p n reading))
 not_cleared t s a (Flow p n reading) other =
-    not_cleared_step t a s p (flowed s p n reading) (step_at s (Flow p n reading))
+    not_cleared_step t a s p (flow_since s p n reading) (step_at s (Flow p n reading))
 not_cleared t s a (HangUp p n reading) other =
-    not_cleared_step t a s p (flowed s p n reading) (step_at s (HangUp p n reading))
+    not_cleared_step t a s p (flow_since s p n reading) (step_at s (HangUp p n reading))
 not_cleared t s a (ReadTransaction p id) other = not_cleared_sale t a (view_sale s p id)
 not_cleared t s a (ReadProduct q) other = not_cleared_product t a s q (row_of q s.prices)
 not_cleared t s (Till u) e other = refl

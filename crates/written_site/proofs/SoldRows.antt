@@ -18,7 +18,7 @@ use Rattle.fuelling_point.specs.PointChecks.{refusal_of}
 use Rattle.fuelling_point.specs.Step.{step_of}
 use Rattle.transaction_buffer.specs.Sales.{Key, key, made_at, next_key, with_new}
 use Rattle.written_site.specs.SiteState.{SiteState, opening, facts_of, open_shift}
-use Rattle.written_site.specs.SiteChecks.{Passed, own_event, flowed}
+use Rattle.written_site.specs.SiteChecks.{Passed, own_event, flow_since}
 use Rattle.written_site.specs.SiteStep.{accepted_site, site_answer, step_at, step_told}
 use Rattle.written_site.specs.SiteStep.{nozzles_after, sales_after, sales_by, sale_made, reply_to}
 use Rattle.written_site.specs.SiteStep.{site_after}
@@ -106,7 +106,7 @@ sells_accepted k earlier s a (Offline p) shift passes named =
     (lost_sales s a p) named
 sells_accepted k earlier s a (HangUp p n reading) shift passes named =
     sells_by k earlier s a (HangUp p n reading) p
-    (points.HangUp n (flowed s p n reading)) shift passes
+    (points.HangUp n (flow_since s p n reading)) shift passes
     refl (step_at s (HangUp p n reading)) refl (hung_up_sales s a p n reading) named
 sells_accepted k earlier s a (Terminate p) shift passes named =
     absurd (other_sells k _ (ap (key_sold earlier (Some p)) (never_sold s (Terminate p) refl))

@@ -8,7 +8,7 @@ use Rattle.written_site.specs.SiteChecks.{Passed, first_refusal}
 use Rattle.written_site.specs.SiteStep.{accepted_site, site_after}
 use Rattle.written_site.specs.Sound.{InRange, Sound, StaysSound}
 use Rattle.written_site.specs.SoundSteps.{IsTaken}
-use Rattle.written_site.proofs.Passed.{passed}
+use Rattle.written_site.proofs.PassedChecks.{passed}
 use Rattle.written_site.proofs.SoundDraws.{shifts_kept, shift_after, drawn_rows}
 use Rattle.written_site.proofs.SoundMeters.{product_after}
 use Rattle.written_site.proofs.SoundPrices.{in_range_after, priced_after}

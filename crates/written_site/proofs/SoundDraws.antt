@@ -13,7 +13,7 @@ use Rattle.site_base.specs.declared.event.Event.TheVariants.{CloseShift, Offline
 use Rattle.site_base.specs.declared.limits.TheConstants.{GREATEST_SHIFT, PRODUCT_CELLS}
 use Rattle.site_base.specs.declared.refusal.Refusal.TheVariants.{ShiftsSpent}
 use Rattle.site_base.specs.Checks.{unless}
-use Rattle.site_base.specs.Numbered.{numbered}
+use Rattle.site_base.specs.Members.{member}
 use Rattle.site_base.proofs.Numbering.{length-with_numbered, numbered_within, with_numbered_place}
 use Rattle.std.specs.Prelude.{◌+◌, unwrap_or}
 use Rattle.fuelling_point.specs.declared.step.PointStep.{PointStep}
@@ -38,7 +38,7 @@ noted_length q volume (row ∷ []) = refl
 noted_length q volume (row ∷ next ∷ rows) = ap suc (noted_length q volume (next ∷ rows))
 
 more_length : (q volume : ℕ) (row : List ℕ) → length (one_more_drawn q volume row) ≡ length row
-more_length q volume row = length-with_numbered q (unwrap_or (numbered q row) 0 + volume) row
+more_length q volume row = length-with_numbered q (unwrap_or (member q row) 0 + volume) row
 
 pub noted_rows : (q volume : ℕ) (rows : List (List ℕ)) → list_all is_draw_row rows ≡ true
     → list_all is_draw_row (draw_noted q volume rows) ≡ true
@@ -145,10 +145,10 @@ weighed_more : (w : ℕ → ℕ) (q volume : ℕ) (row : List ℕ) → 1 ≤ q �
     → weighed_from w 1 (one_more_drawn q volume row) ≡ weighed_from w 1 row + w q * volume
 weighed_more w q volume row low high =
     let within : q - 1 < length row = omega arith in
-    let figure : numbered q row ≡ Some (get_or row (q - 1) 0) =
+    let figure : member q row ≡ Some (get_or row (q - 1) 0) =
     numbered_within q row (q - 1) 0 (omega arith) within in
     let written : one_more_drawn q volume row ≡ set row (q - 1) (get_or row (q - 1) 0 + volume) =
-    with_numbered_place q (unwrap_or (numbered q row) 0 + volume) row low
+    with_numbered_place q (unwrap_or (member q row) 0 + volume) row low
     ∙ ap (λ o. set row (q - 1) (unwrap_or o 0 + volume)) figure in
     let place : 1 + (q - 1) ≡ q = omega arith in
     ap (weighed_from w 1) written

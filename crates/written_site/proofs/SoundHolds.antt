@@ -24,7 +24,8 @@ use Rattle.fuelling_point.specs.PointChecks.{refusal_of}
 use Rattle.fuelling_point.specs.Step.{step_of, after}
 use Rattle.fuelling_point.specs.Whole.{is_released}
 use Rattle.written_site.specs.SiteState.{SiteState, facts_of, holder_of, is_resting}
-use Rattle.written_site.specs.SiteChecks.{Passed, own_event, flowed, released, test_released}
+use Rattle.written_site.specs.SiteChecks.{Passed, own_event, flow_since, release_at}
+use Rattle.written_site.specs.SiteChecks.{test_release_at}
 use Rattle.written_site.specs.SiteStep.{with_event, points_after, holds_after, holds_unless_over}
 use Rattle.written_site.specs.SiteStep.{ends_at_sign_off, holds_without, ends_release}
 use Rattle.written_site.proofs.SoundTables.{same, told_once, facts_there, row_of-other, RowAfter}
@@ -171,16 +172,16 @@ pub held_after : (s : SiteState) (a : Actor) (e : Event) → Passed s a e → Ar
     → is_some (finite.get (holds_after s a e) q) ≡ true
 held_after s (Till t) SignOff passed held = signed_off s t held
 held_after s (Till t) (Assign p) passed held = takes s p t points.Assign held
-held_after s (Till t) (Release p preset) passed held = takes s p t (released s p preset None) held
+held_after s (Till t) (Release p preset) passed held = takes s p t (release_at s p preset None) held
 held_after s (Till t) (Prepay p cents) passed held =
-    takes s p t (released s p (Money cents) (Some cents)) held
-held_after s (Till t) (TestRelease p) passed held = takes s p t (test_released s p) held
+    takes s p t (release_at s p (Money cents) (Some cents)) held
+held_after s (Till t) (TestRelease p) passed held = takes s p t (test_release_at s p) held
 held_after s (Till t) (Unassign p) passed held =
     ends s p points.Unassign (unassigned_rests (facts_of s p) passed.takes) held
 held_after s a (Offline p) passed held =
     ends s p points.Offline (offline_ends (facts_of s p) passed.takes) held
 held_after s a (HangUp p n reading) passed held =
-    unless_over s p (points.HangUp n (flowed s p n reading)) refl held
+    unless_over s p (points.HangUp n (flow_since s p n reading)) refl held
 held_after s a (Terminate p) passed held = unless_over s p points.Terminate refl held
 held_after s (Dispenser d) (Release p preset) passed held = (let asks = passed.asks in absurd cc)
 held_after s (Dispenser d) (Prepay p cents) passed held = (let asks = passed.asks in absurd cc)

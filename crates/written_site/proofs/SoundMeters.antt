@@ -7,7 +7,7 @@ use Rattle.site_base.specs.declared.event.Event.{Event}
 use Rattle.site_base.specs.declared.event.Event.TheVariants.{ReplaceMeter, Flow, HangUp}
 use Rattle.meters.specs.Nozzles.{Nozzle, nozzle_of, has_nozzle, product_of, reading_of, with_nozzle}
 use Rattle.meters.specs.Nozzles.{with_last, read_at, replaced_at}
-use Rattle.meters.proofs.Looked.{KeepsName, nozzle_of-here, nozzle_of-other, there, reading_is}
+use Rattle.meters.proofs.Lookups.{KeepsName, nozzle_of-here, nozzle_of-other, there, reading_is}
 use Rattle.written_site.specs.SiteState.{SiteState}
 use Rattle.written_site.specs.SiteStep.{nozzles_after}
 use Rattle.written_site.proofs.SoundTables.{same}

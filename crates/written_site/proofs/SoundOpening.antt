@@ -21,13 +21,13 @@ use Rattle.site_base.specs.Configured.{Configured, none_alike, same_point, are_p
 use Rattle.site_base.specs.Configured.{are_products, has_product, is_site}
 use Rattle.site_base.specs.Prices.{prices_of}
 use Rattle.site_base.specs.Table.{row_of}
-use Rattle.fuelling_point.specs.KeptPoints.{Facts, fresh}
+use Rattle.fuelling_point.specs.KeptPoints.{Facts, empty_point}
 use Rattle.fuelling_point.proofs.Whole.{stays_whole}
-use Rattle.meters.specs.Metered.{metered_by}
-use Rattle.meters.specs.Nozzles.{Nozzle, product_of, is_nozzle, numbered, nozzles_of_point}
+use Rattle.meters.specs.MeteredVolumes.{metered_by}
+use Rattle.meters.specs.Nozzles.{Nozzle, product_of, is_nozzle, number_nozzles, nozzles_of_point}
 use Rattle.meters.specs.Nozzles.{nozzles_of_points, opening_nozzles, EachMetered, AreNozzles}
-use Rattle.meters.proofs.Bounded.{each_joined}
-use Rattle.meters.proofs.Weighed.{open_nothing}
+use Rattle.meters.proofs.Bounds.{each_joined}
+use Rattle.meters.proofs.Weights.{open_nothing}
 use Rattle.transaction_buffer.specs.Sales.{Key, Sale, no_sales, sales_at, sale_in, sale_of, made_in}
 use Rattle.transaction_buffer.specs.Sales.{made_at, unpaid_among, unpaid_at}
 use Rattle.transaction_buffer.proofs.OnShelves.{nothing_sold}
@@ -53,16 +53,16 @@ numbers_alone (p ∷ ps) =
     ∙ ap (λ (b : Bool). not (list_any (λ q. same_point p q) ps) && b) (numbers_alone ps)
 
 closed_rows : (p : ℕ) (f : Facts) (ps : List PointEntry) → row_of p (points_of ps) ≡ Some f
-    → fresh Closed ≡ f
+    → empty_point Closed ≡ f
 closed_rows p f [] is = cc
 closed_rows p f (q ∷ qs) is = by_test (q.number == p) refl (closed_rows p f qs)
   where
     by_test : (b : Bool) → (q.number == p) ≡ b
-        → (row_of p (points_of qs) ≡ Some f → fresh Closed ≡ f)
-        → fresh Closed ≡ f
+        → (row_of p (points_of qs) ≡ Some f → empty_point Closed ≡ f)
+        → empty_point Closed ≡ f
     by_test true at behind =
-        let first : row_of p (points_of (q ∷ qs)) ≡ Some (fresh Closed) = rw at refl in
-        told_once (fresh Closed) f (sym first ∙ is)
+        let first : row_of p (points_of (q ∷ qs)) ≡ Some (empty_point Closed) = rw at refl in
+        told_once (empty_point Closed) f (sym first ∙ is)
     by_test false at behind =
         let later : row_of p (points_of (q ∷ qs)) ≡ row_of p (points_of qs) = rw at refl in
         behind (sym later ∙ is)
@@ -70,7 +70,7 @@ closed_rows p f (q ∷ qs) is = by_test (q.number == p) refl (closed_rows p f qs
 none_out : (n : ℕ) → None ≡ Some n → ⊥
 none_out n is = cc
 
-closed_point : (s : SiteState) (p : ℕ) → IsPointSound s p (fresh Closed)
+closed_point : (s : SiteState) (p : ℕ) → IsPointSound s p (empty_point Closed)
 closed_point s p = record {
   whole = stays_whole.begins;
   nozzle = λ n out. absurd (none_out n out);
@@ -105,11 +105,11 @@ product_passes test p n q (x ∷ xs) all is =
         behind (sym later ∙ is)
 
 numbered_products : (test : ℕ → Bool) (p n : ℕ) (es : List NozzleEntry)
-    → list_all (λ e. test e.product) es ≡ true → each_product test (numbered p n es) ≡ true
+    → list_all (λ e. test e.product) es ≡ true → each_product test (number_nozzles p n es) ≡ true
 numbered_products test p n [] all = refl
 numbered_products test p n (e ∷ es) all =
     let parts = and_parts (test e.product) (list_all (λ x. test x.product) es) all in
-    and_from (test e.product) (each_product test (numbered p (n + 1) es)) parts.0
+    and_from (test e.product) (each_product test (number_nozzles p (n + 1) es)) parts.0
     (numbered_products test p (n + 1) es parts.1)
 
 opening_products : (products : List ProductEntry) (ps : List PointEntry)
@@ -153,7 +153,7 @@ product_there q (p ∷ ps) has all = by_test (p.number == q) refl (product_there
 -- ---- the meters
 
 opened_metered : (p n : ℕ) (es : List NozzleEntry)
-    → are_readable es ≡ true → EachMetered (numbered p n es)
+    → are_readable es ≡ true → EachMetered (number_nozzles p n es)
 opened_metered p n [] all = tt
 opened_metered p n (e ∷ es) all =
     let parts = and_parts (nat_le e.reading GREATEST_READING)
@@ -180,7 +180,7 @@ each_parts (x ∷ xs) ys each =
     let parts = each_parts xs ys each.1 in
     ((each.0, parts.0), parts.1)
 
-metered_readable : (p n : ℕ) (es : List NozzleEntry) → EachMetered (numbered p n es)
+metered_readable : (p n : ℕ) (es : List NozzleEntry) → EachMetered (number_nozzles p n es)
     → are_readable es ≡ true
 metered_readable p n [] each = refl
 metered_readable p n (e ∷ es) each =
@@ -195,7 +195,7 @@ readable_when_metered (p ∷ ps) each =
     and_from (are_readable p.nozzles) (list_all (λ q. are_readable q.nozzles) ps)
     (metered_readable p.number 1 p.nozzles parts.0) (readable_when_metered ps parts.1)
 
-numbered_length : (p n : ℕ) (es : List NozzleEntry) → length (numbered p n es) ≡ length es
+numbered_length : (p n : ℕ) (es : List NozzleEntry) → length (number_nozzles p n es) ≡ length es
 numbered_length p n [] = refl
 numbered_length p n (e ∷ es) = ap suc (numbered_length p (n + 1) es)
 

@@ -17,11 +17,11 @@ use Rattle.fuelling_point.specs.Whole.{IsWhole}
 use Rattle.meters.specs.Nozzles.{Nozzle, reading_of, has_nozzle, times_replaced, with_nozzle}
 use Rattle.meters.specs.Nozzles.{with_last, read_at, replaced_at, AreNozzles, EachMetered}
 use Rattle.meters.specs.declared.report.Report.TheVariants.{Growing}
-use Rattle.meters.proofs.Bounded.{reads, replaces}
-use Rattle.meters.proofs.Looked.{length-with_nozzle, read_there}
-use Rattle.meters.proofs.Weighed.{accepted_above}
+use Rattle.meters.proofs.Bounds.{reads, replaces}
+use Rattle.meters.proofs.Lookups.{length-with_nozzle, read_there}
+use Rattle.meters.proofs.Weights.{accepted_above}
 use Rattle.written_site.specs.SiteState.{SiteState, facts_of}
-use Rattle.written_site.specs.SiteChecks.{own_event, numbers, at_point, metering, flowed}
+use Rattle.written_site.specs.SiteChecks.{own_event, numbers, at_point, metering, flow_since}
 use Rattle.written_site.specs.SiteChecks.{put_back_at}
 use Rattle.written_site.specs.SiteStep.{nozzles_after}
 use Rattle.written_site.specs.SoundSteps.{IsTaken, growth_at, growth_by}
@@ -62,7 +62,7 @@ hung_up_nozzle s p n reading names = grind (arith, common_steps)
 grown : (s : SiteState) (p n reading : ℕ) → has_nozzle p n s.nozzles ≡ true
     → reading_of p n s.nozzles ≤ reading
     → reading_of p n (with_last p n reading s.nozzles)
-    ≡ reading_of p n s.nozzles + flowed s p n reading
+    ≡ reading_of p n s.nozzles + flow_since s p n reading
 grown s p n reading there above =
     let taken : reading_of p n (with_last p n reading s.nozzles) ≡ reading =
     reading_taken p n reading s.nozzles there in
@@ -80,14 +80,14 @@ read_of s e taken = record { names = taken.names; takes = taken.takes; reads = t
 -- a report's nozzle reads what flowed above what it read
 pub flow_grows : (s : SiteState) (p n reading : ℕ) → IsRead s (Flow p n reading)
     → reading_of p n (with_last p n reading s.nozzles)
-    ≡ reading_of p n s.nozzles + flowed s p n reading
+    ≡ reading_of p n s.nozzles + flow_since s p n reading
 flow_grows s p n reading taken =
     grown s p n reading (flow_nozzle s p n reading taken.names)
     (accepted_above Growing (reading_of p n s.nozzles) reading taken.reads)
 
 pub hung_up_grows : (s : SiteState) (p n reading : ℕ) → IsRead s (HangUp p n reading)
     → reading_of p n (with_last p n reading s.nozzles)
-    ≡ reading_of p n s.nozzles + flowed s p n reading
+    ≡ reading_of p n s.nozzles + flow_since s p n reading
 hung_up_grows s p n reading taken =
     grown s p n reading (hung_up_nozzle s p n reading taken.names)
     (accepted_above (put_back_at (facts_of s p).state) (reading_of p n s.nozzles) reading
@@ -111,10 +111,10 @@ pub reading_elsewhere : (s : SiteState) (e : Event) (q m : ℕ)
     → reading_of q m (nozzles_after s e) ≡ reading_of q m s.nozzles
 reading_elsewhere s (Flow p n reading) q m away =
     reading_other p n q m (read_at reading) s.nozzles
-    (apart p q (points.Flow n (flowed s p n reading)) away) (read_keeps reading)
+    (apart p q (points.Flow n (flow_since s p n reading)) away) (read_keeps reading)
 reading_elsewhere s (HangUp p n reading) q m away =
     reading_other p n q m (read_at reading) s.nozzles
-    (apart p q (points.HangUp n (flowed s p n reading)) away) (read_keeps reading)
+    (apart p q (points.HangUp n (flow_since s p n reading)) away) (read_keeps reading)
 reading_elsewhere s (ReplaceMeter p n reading) q m away =
     reading_other p n q m (replaced_at reading) s.nozzles
     (apart p q points.ReplaceMeter away) (replaced_keeps reading)
@@ -141,11 +141,11 @@ reads_own : (s : SiteState) (e : Event) → IsRead s e
     → ReadsOwn s (nozzles_after s e) (own_event s e)
 reads_own s (Flow p n reading) taken = λ w under_way.
     let out : nozzle_out (facts_of s p) ≡ n =
-    flow_is_out n (flowed s p n reading) (facts_of s p) w taken.takes in
+    flow_is_out n (flow_since s p n reading) (facts_of s p) w taken.takes in
     rw out (flow_grows s p n reading taken)
 reads_own s (HangUp p n reading) taken = λ w under_way.
     let out : nozzle_out (facts_of s p) ≡ n =
-    hung_up_is_out n (flowed s p n reading) (facts_of s p) w taken.takes in
+    hung_up_is_out n (flow_since s p n reading) (facts_of s p) w taken.takes in
     rw out (hung_up_grows s p n reading taken)
 reads_own s (ReplaceMeter p n reading) taken = λ w under_way.
     absurd (replaced_at_rest (facts_of s p) taken.takes under_way)

@@ -26,7 +26,7 @@ use Rattle.transaction_buffer.specs.TransactionTable.{sale_after_request, after_
 use Rattle.transaction_buffer.specs.TransactionTable.{after_sign_off, unlock_all_of, is_locked_by}
 use Rattle.transaction_buffer.proofs.Counting.{counted_after}
 use Rattle.written_site.specs.SiteState.{SiteState, facts_of, key_named, open_shift}
-use Rattle.written_site.specs.SiteChecks.{own_event, flowed}
+use Rattle.written_site.specs.SiteChecks.{own_event, flow_since}
 use Rattle.written_site.specs.SiteStep.{step_at, nozzles_after, sales_after, sales_by, sale_made}
 use Rattle.written_site.specs.Sound.{IsSaleSound, MaySell}
 use Rattle.written_site.proofs.EachSale.{Each, each_let_go, each_asked, each_sold}
@@ -112,7 +112,7 @@ counts_after s a (Offline p) q none =
     by_step s s.nozzles p q (step_at s (Offline p)) (λ at. own_step s p q points.Offline at none)
 counts_after s a (HangUp p n reading) q none =
     by_step s (nozzles_after s (HangUp p n reading)) p q (step_at s (HangUp p n reading))
-    (λ at. own_step s p q (points.HangUp n (flowed s p n reading)) at none)
+    (λ at. own_step s p q (points.HangUp n (flow_since s p n reading)) at none)
 counts_after s a e q none = no_more q s.sales
 
 -- ---- no more are unpaid than may be, and none is of a later shift

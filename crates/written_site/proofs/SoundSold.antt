@@ -22,7 +22,7 @@ use Rattle.meters.specs.Nozzles.{reading_of}
 use Rattle.transaction_buffer.specs.declared.request.Request.TheVariants as requests
 use Rattle.transaction_buffer.specs.Sales.{made_at, unpaid_at}
 use Rattle.written_site.specs.SiteState.{SiteState, facts_of, has_point, key_named, open_shift}
-use Rattle.written_site.specs.SiteChecks.{own_event, numbers, at_point, flowed}
+use Rattle.written_site.specs.SiteChecks.{own_event, numbers, at_point, flow_since}
 use Rattle.written_site.specs.SiteStep.{step_at, nozzles_after, sales_after, sale_made}
 use Rattle.written_site.specs.Sound.{IsPointSound, IsSaleSound, MaySell, Sound}
 use Rattle.written_site.specs.SoundSteps.{IsTaken}
@@ -154,7 +154,8 @@ unpaid_after s a (Offline p) sound taken =
     (may_sell_there s (Offline p) p points.Offline sound taken refl) sound.unpaid
 unpaid_after s a (HangUp p n reading) sound taken =
     unpaid_by s (nozzles_after s (HangUp p n reading)) p (step_at s (HangUp p n reading))
-    (may_sell_there s (HangUp p n reading) p (points.HangUp n (flowed s p n reading)) sound taken
+    (may_sell_there s (HangUp p n reading) p (points.HangUp n (flow_since s p n reading)) sound
+    taken
     refl)
     sound.unpaid
 unpaid_after s a e sound taken = sound.unpaid
@@ -191,7 +192,7 @@ sale_after s a (Offline p) sound taken =
     (sale_is_sound s (Offline p) p points.Offline sound taken refl) sound.sales
 sale_after s a (HangUp p n reading) sound taken =
     sales_by_step s (nozzles_after s (HangUp p n reading)) p (step_at s (HangUp p n reading))
-    (sale_is_sound s (HangUp p n reading) p (points.HangUp n (flowed s p n reading)) sound taken
+    (sale_is_sound s (HangUp p n reading) p (points.HangUp n (flow_since s p n reading)) sound taken
     refl)
     sound.sales
 sale_after s a e sound taken = sound.sales

@@ -6,13 +6,13 @@ use Rattle.std.proofs.Math.Nat.{mul-zero}
 use Rattle.std.proofs.lemmas.Bool.Decides.{nat_tests}
 use Rattle.std.specs.List.{slice_get}
 use Rattle.site_base.specs.declared.event.Event.{Event}
-use Rattle.site_base.specs.Numbered.{numbered}
+use Rattle.site_base.specs.Members.{member}
 use Rattle.site_base.proofs.Numbering.{numbered_place, numbered_within}
 use Rattle.site_base.specs.Table.{row_of}
 use Rattle.fuelling_point.specs.KeptPoints.{Facts}
-use Rattle.meters.specs.Metered.{most_of_a_site, product_alone}
+use Rattle.meters.specs.MeteredVolumes.{most_of_a_site, product_alone}
 use Rattle.meters.specs.Nozzles.{Nozzle}
-use Rattle.meters.proofs.Bounded.{total_bound}
+use Rattle.meters.proofs.Bounds.{total_bound}
 use Rattle.transaction_buffer.specs.Sales.{Sales}
 use Rattle.transaction_buffer.specs.Sums.{volume_in, volume_of}
 use Rattle.transaction_buffer.proofs.Summing.{alike_sum}
@@ -23,7 +23,7 @@ use Rattle.written_site.specs.Sound.{Sound}
 use Rattle.written_site.specs.SoundSteps.{IsTaken, AddUp, MovesRunning, growth_at, product_at}
 use Rattle.written_site.specs.SoundSteps.{sold_at, drawn_at}
 use Rattle.written_site.specs.Volumes.{product_out, running_at, running_by, sold_by, weighed_from}
-use Rattle.written_site.specs.Volumes.{drawn_by, running, adjusted}
+use Rattle.written_site.specs.Volumes.{drawn_by, running_volume, adjusted_volume}
 use Rattle.written_site.proofs.SoundTables.{same, itself, told_once}
 use Rattle.written_site.proofs.SoundVolumes.{running_moves}
 
@@ -135,7 +135,7 @@ slice_within w (suc i) row (first ∷ rows) is =
     rest (weighed_from w 1 row) (weighed_from w 1 first) (drawn_by w rows)
     (slice_within w i row rows is)
 
-row_within : (w : ℕ → ℕ) (h : ℕ) (row : List ℕ) (rows : List (List ℕ)) → numbered h rows ≡ Some row
+row_within : (w : ℕ → ℕ) (h : ℕ) (row : List ℕ) (rows : List (List ℕ)) → member h rows ≡ Some row
     → weighed_from w 1 row ≤ drawn_by w rows
 row_within w zero row rows is = absurd (no_figures row is)
 row_within w (suc h) row rows is =
@@ -143,11 +143,11 @@ row_within w (suc h) row rows is =
 
 -- the figure of product q
 pub figure_drawn : (s : SiteState) (h q : ℕ) (row : List ℕ) → 1 ≤ q → q ≤ length row
-    → numbered h s.drawn ≡ Some row → unwrap_or (numbered q row) 0 ≤ adjusted s q
+    → member h s.drawn ≡ Some row → unwrap_or (member q row) 0 ≤ adjusted_volume s q
 figure_drawn s h q row low high is =
-    let figure : numbered q row ≡ Some (get_or row (q - 1) 0) =
+    let figure : member q row ≡ Some (get_or row (q - 1) 0) =
     numbered_within q row (q - 1) 0 (omega arith) (omega arith) in
-    let value : unwrap_or (numbered q row) 0 ≡ get_or row (q - 1) 0 =
+    let value : unwrap_or (member q row) 0 ≡ get_or row (q - 1) 0 =
     ap (λ (o : Option ℕ). unwrap_or o 0) figure in
     let place : 1 + (q - 1) ≡ q = omega arith in
     let weight : product_alone q (1 + (q - 1)) ≡ 1 = ap (product_alone q) place ∙ own_weight q in
@@ -179,9 +179,10 @@ moves_running s e q sound taken =
     let weight : ℕ = product_alone q (product_at s e) in
     let new : ℕ = running_by (product_alone q) (nozzles_after s e) (points_after s e) in
     record {
-      own = λ is. moved_own weight new (sold_at s e + drawn_at s e) (running s q) (growth_at s e)
+      own = λ is.
+          moved_own weight new (sold_at s e + drawn_at s e) (running_volume s q) (growth_at s e)
           (ap (product_alone q) is ∙ own_weight q) moves;
-      other = λ other. moved_other weight new (sold_at s e + drawn_at s e) (running s q)
+      other = λ other. moved_other weight new (sold_at s e + drawn_at s e) (running_volume s q)
           (growth_at s e)
           (other_weight q (product_at s e) other) moves;
     }

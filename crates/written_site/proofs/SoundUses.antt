@@ -12,7 +12,7 @@ use Rattle.site_base.specs.declared.actor.Actor.TheVariants.{Till, Dispenser}
 use Rattle.site_base.specs.declared.event.Event.{Event}
 use Rattle.site_base.specs.declared.event.Event.TheVariants.{Lock, Unlock, Clear, Flow, HangUp}
 use Rattle.site_base.specs.declared.limits.TheConstants.{GREATEST_READING, PRODUCT_CELLS}
-use Rattle.site_base.specs.Numbered.{numbered}
+use Rattle.site_base.specs.Members.{member}
 use Rattle.site_base.specs.Table.{row_of}
 use Rattle.site_base.proofs.Numbering.{numbered_place, numbered_within}
 use Rattle.fuelling_point.specs.declared.event.PointEvent.{PointEvent}
@@ -23,18 +23,18 @@ use Rattle.fuelling_point.specs.KeptPoints.{volume_of as flowed_of}
 use Rattle.fuelling_point.specs.Laws.{sold_in, drawn_in}
 use Rattle.fuelling_point.specs.Step.{step_of}
 use Rattle.meters.specs.declared.report.Report.TheVariants.{Growing}
-use Rattle.meters.specs.Metered.{most_of_a_site, metered_by, every_product, product_alone}
+use Rattle.meters.specs.MeteredVolumes.{most_of_a_site, metered_by, every_product, product_alone}
 use Rattle.meters.specs.Nozzles.{Nozzle, AreNozzles, has_nozzle, nozzle_of, product_of, reading_of}
-use Rattle.meters.proofs.Bounded.{each_found, bound, total_bound}
-use Rattle.meters.proofs.Looked.{there}
-use Rattle.meters.proofs.Weighed.{accepted_above}
+use Rattle.meters.proofs.Bounds.{each_found, bound, total_bound}
+use Rattle.meters.proofs.Lookups.{there}
+use Rattle.meters.proofs.Weights.{accepted_above}
 use Rattle.transaction_buffer.specs.declared.request.Request.{Request}
 use Rattle.transaction_buffer.specs.Sales.{Key, Sale, Sales, next_number, sale_of}
 use Rattle.transaction_buffer.specs.Sums.{volume_of, volume_by, volume_with}
 use Rattle.transaction_buffer.specs.TransactionTable.{after_request}
 use Rattle.transaction_buffer.proofs.Volumes.{move}
 use Rattle.written_site.specs.SiteState.{SiteState, facts_of, open_shift, price_of, price_at_start}
-use Rattle.written_site.specs.SiteChecks.{own_event, first_refusal, flowed, put_back_at}
+use Rattle.written_site.specs.SiteChecks.{own_event, first_refusal, flow_since, put_back_at}
 use Rattle.written_site.specs.SiteChecks.{sale_request}
 use Rattle.written_site.specs.SiteStep.{nozzles_after, points_after, sales_after, drawn_after}
 use Rattle.written_site.specs.SiteStep.{step_at, step_by}
@@ -45,8 +45,8 @@ use Rattle.written_site.specs.SoundSteps.{MovesStatus, DoVolumesAddUp, FindsRoom
 use Rattle.written_site.specs.SoundSteps.{open_draws, growth_at, product_at, product_by, sold_at}
 use Rattle.written_site.specs.SoundSteps.{drawn_at}
 use Rattle.written_site.specs.Volumes.{nozzle_out, product_out, running_at, running_by, sold_by}
-use Rattle.written_site.specs.Volumes.{drawn_by, running, adjusted}
-use Rattle.written_site.proofs.Passed.{passed}
+use Rattle.written_site.specs.Volumes.{drawn_by, running_volume, adjusted_volume}
+use Rattle.written_site.proofs.PassedChecks.{passed}
 use Rattle.written_site.proofs.Sound.{taken_when_passed}
 use Rattle.written_site.proofs.SoundTables.{same, told_once}
 use Rattle.written_site.proofs.SoundMachine.{sold_from, drawn_from}
@@ -98,18 +98,18 @@ grown_within volume last reading low above high = omega arith
 pub growth_fits : (s : SiteState) (e : Event) → Sound s → IsTaken s e → FitsOwn s (own_event s e)
 growth_fits s (Flow p n reading) sound taken =
     let own =
-    own_point s (Flow p n reading) p (points.Flow n (flowed s p n reading)) sound taken refl in
+    own_point s (Flow p n reading) p (points.Flow n (flow_since s p n reading)) sound taken refl in
     let out : nozzle_out (facts_of s p) ≡ n =
-    flow_is_out n (flowed s p n reading) (facts_of s p) own.sound.whole own.taken in
+    flow_is_out n (flow_since s p n reading) (facts_of s p) own.sound.whole own.taken in
     let low = volume_low s p (facts_of s p) own.sound in
     grown_within (flowed_of (facts_of s p)) (reading_of p n s.nozzles) reading
     (subst (λ (m : ℕ). flowed_of (facts_of s p) ≤ reading_of p m s.nozzles) out low)
     (accepted_above Growing (reading_of p n s.nozzles) reading taken.reads) taken.range
 growth_fits s (HangUp p n reading) sound taken =
-    let own = own_point s (HangUp p n reading) p (points.HangUp n (flowed s p n reading)) sound
+    let own = own_point s (HangUp p n reading) p (points.HangUp n (flow_since s p n reading)) sound
     taken refl in
     let out : nozzle_out (facts_of s p) ≡ n =
-    hung_up_is_out n (flowed s p n reading) (facts_of s p) own.sound.whole own.taken in
+    hung_up_is_out n (flow_since s p n reading) (facts_of s p) own.sound.whole own.taken in
     let low = volume_low s p (facts_of s p) own.sound in
     grown_within (flowed_of (facts_of s p)) (reading_of p n s.nozzles) reading
     (subst (λ (m : ℕ). flowed_of (facts_of s p) ≤ reading_of p m s.nozzles) out low)
@@ -132,10 +132,10 @@ product_is s p n has =
 pub flow_product : (s : SiteState) (p n reading : ℕ) → Sound s → IsTaken s (Flow p n reading)
     → product_of p n s.nozzles ≡ Some (product_at s (Flow p n reading))
 flow_product s p n reading sound taken =
-    let event : PointEvent = points.Flow n (flowed s p n reading) in
+    let event : PointEvent = points.Flow n (flow_since s p n reading) in
     let own = own_point s (Flow p n reading) p event sound taken refl in
     let out : nozzle_out (facts_of s p) ≡ n =
-    flow_is_out n (flowed s p n reading) (facts_of s p) own.sound.whole own.taken in
+    flow_is_out n (flow_since s p n reading) (facts_of s p) own.sound.whole own.taken in
     product_is s p n (flow_nozzle s p n reading taken.names)
     ∙ ap (λ (m : ℕ). Some (unwrap_or (product_of p m s.nozzles) 0)) (sym out)
 
@@ -143,10 +143,10 @@ pub hung_up_product : (s : SiteState) (p n reading : ℕ) → Sound s
     → IsTaken s (HangUp p n reading)
     → product_of p n s.nozzles ≡ Some (product_at s (HangUp p n reading))
 hung_up_product s p n reading sound taken =
-    let event : PointEvent = points.HangUp n (flowed s p n reading) in
+    let event : PointEvent = points.HangUp n (flow_since s p n reading) in
     let own = own_point s (HangUp p n reading) p event sound taken refl in
     let out : nozzle_out (facts_of s p) ≡ n =
-    hung_up_is_out n (flowed s p n reading) (facts_of s p) own.sound.whole own.taken in
+    hung_up_is_out n (flow_since s p n reading) (facts_of s p) own.sound.whole own.taken in
     product_is s p n (hung_up_nozzle s p n reading taken.names)
     ∙ ap (λ (m : ℕ). Some (unwrap_or (product_of p m s.nozzles) 0)) (sym out)
 
@@ -193,7 +193,8 @@ delivery s e p event nozzle volume sound taken own over =
       supplied = subst (IsSupplied s) (sym product) (product_supplied s p (nozzle_out f) sound has);
       leaves = part_of volume
           (running_by (product_alone (product_at s e)) (nozzles_after s e) (points_after s e))
-          (sold_at s e + drawn_at s e) (running s (product_at s e) + growth_at s e) moves over.told;
+          (sold_at s e + drawn_at s e)
+          (running_volume s (product_at s e) + growth_at s e) moves over.told;
       held = at.sound.held (under_way_released f.state over.was);
     }
 
@@ -224,7 +225,7 @@ sold_fits s e volume sound taken told =
 
 drawn_fits : (s : SiteState) (e : Event) (volume : ℕ) → Sound s → IsTaken s e
     → drawn_at s e ≡ volume
-    → adjusted s (product_at s e) + volume < 2 ^ 64
+    → adjusted_volume s (product_at s e) + volume < 2 ^ 64
 drawn_fits s e volume sound taken told =
     let q : ℕ = product_at s e in
     let w : ℕ → ℕ = product_alone q in
@@ -232,11 +233,12 @@ drawn_fits s e volume sound taken told =
     let moves = moves_volumes w s (Dispenser 0) e sound taken in
     let all = conserved_after w s (Dispenser 0) e sound taken in
     within_most (metered_by w nozzles) (running_by w nozzles (points_after s e))
-    (adjusted s q) (drawn_by w (drawn_after s e)) 0 (sold_by w (sales_after s (Dispenser 0) e))
+    (adjusted_volume s q) (drawn_by w (drawn_after s e)) 0
+    (sold_by w (sales_after s (Dispenser 0) e))
     (w q) volume
     (omega (arith, all)) (total_bound q nozzles (nozzles_stay s e taken sound.meters))
     (own_weight q)
-    (moves.drawn ∙ ap (λ (v : ℕ). adjusted s q + w q * v) told)
+    (moves.drawn ∙ ap (λ (v : ℕ). adjusted_volume s q + w q * v) told)
 
 -- ---- a sale
 
@@ -296,7 +298,7 @@ row_at (suc i) row (first ∷ rows) all is =
     row_at i row rows parts.1 is
 
 -- each shift's draws have a figure for each product
-pub draw_cells : (s : SiteState) (h : ℕ) (row : List ℕ) → Sound s → numbered h s.drawn ≡ Some row
+pub draw_cells : (s : SiteState) (h : ℕ) (row : List ℕ) → Sound s → member h s.drawn ≡ Some row
     → length row ≡ PRODUCT_CELLS
 draw_cells s zero row sound is = cc
 draw_cells s (suc h) row sound is =
@@ -332,7 +334,7 @@ draw_fits s e p event nozzle volume sound taken own is =
       noted = draws_there s sound;
       cells = λ row there. draw_cells s (open_shift s) row sound there;
       figure = λ row there.
-          less_than (unwrap_or (numbered q row) 0) (adjusted s q) volume
+          less_than (unwrap_or (member q row) 0) (adjusted_volume s q) volume
           (figure_drawn s (open_shift s) q row over.supplied.low
           (subst (λ (n : ℕ). q ≤ n) (sym (draw_cells s (open_shift s) row sound there))
           over.supplied.high) there)
@@ -351,13 +353,13 @@ grown_running metered' metered running sold drawn weight growth most all moves o
 
 -- the volume under way of the product that an event moves, with what flows in it, fits in 64 bits
 pub running_fits : (s : SiteState) (e : Event) → Sound s → IsTaken s e
-    → running s (product_at s e) + growth_at s e < 2 ^ 64
+    → running_volume s (product_at s e) + growth_at s e < 2 ^ 64
 running_fits s e sound taken =
     let q : ℕ = product_at s e in
     let w : ℕ → ℕ = product_alone q in
     let moves = moves_volumes w s (Dispenser 0) e sound taken in
     let most = total_bound q (nozzles_after s e) (nozzles_stay s e taken sound.meters) in
-    grown_running (metered_by w (nozzles_after s e)) (metered_by w s.nozzles) (running s q)
+    grown_running (metered_by w (nozzles_after s e)) (metered_by w s.nozzles) (running_volume s q)
     (sold_by w s.sales) (drawn_by w s.drawn) (w q) (growth_at s e) most (sound.conserved w)
     moves.metered (own_weight q)
 
@@ -373,7 +375,7 @@ everything_within s sound =
 
 -- the volume of the fuelling at a point is part of its product's
 pub run_of_point : (s : SiteState) (p : ℕ) (f : Facts) → row_of p s.points ≡ Some f
-    → running_at s.nozzles p f ≤ running s (product_out s.nozzles p f)
+    → running_at s.nozzles p f ≤ running_volume s (product_out s.nozzles p f)
 run_of_point s p f there =
     let q : ℕ = product_out s.nozzles p f in
     let part = run_within (product_alone q) s.nozzles p f s.points there in
@@ -392,12 +394,13 @@ unmoved new old weight sold drawn growth s d g moves =
 -- an event in which nothing flows, and that ends no fuelling, leaves what is running
 pub running_still : (s : SiteState) (e : Event) (q : ℕ) → Sound s → IsTaken s e
     → growth_at s e ≡ 0 → ends_by (own_event s e) ≡ false
-    → running_by (product_alone q) (nozzles_after s e) (points_after s e) ≡ running s q
+    → running_by (product_alone q) (nozzles_after s e) (points_after s e) ≡ running_volume s q
 running_still s e q sound taken still goes_on =
     let moves = running_moves (product_alone q) s e sound taken in
     let sold : sold_at s e ≡ 0 = none_sold s (own_event s e) goes_on in
     let drawn : drawn_at s e ≡ 0 = none_drawn s (own_event s e) goes_on in
-    unmoved (running_by (product_alone q) (nozzles_after s e) (points_after s e)) (running s q)
+    unmoved (running_by (product_alone q) (nozzles_after s e) (points_after s e))
+    (running_volume s q)
     (product_alone q (product_at s e)) (sold_at s e) (drawn_at s e) (growth_at s e) sold drawn still
     moves
 

@@ -24,11 +24,11 @@ use Rattle.fuelling_point.specs.KeptPoints.{Facts, is_under_way, volume_of, grow
 use Rattle.fuelling_point.specs.Laws.{sold_in, drawn_in}
 use Rattle.fuelling_point.specs.Step.{step_of, after}
 use Rattle.fuelling_point.proofs.Whole.{conserved}
-use Rattle.meters.specs.Metered.{metered_by}
+use Rattle.meters.specs.MeteredVolumes.{metered_by}
 use Rattle.meters.specs.Nozzles.{Nozzle, AreNozzles, nozzle_of, product_of, reading_of, has_nozzle}
 use Rattle.meters.specs.Nozzles.{with_last}
-use Rattle.meters.proofs.Looked.{there, reading_is}
-use Rattle.meters.proofs.Weighed.{read_raises, meter_keeps, accepted_above}
+use Rattle.meters.proofs.Lookups.{there, reading_is}
+use Rattle.meters.proofs.Weights.{read_raises, meter_keeps, accepted_above}
 use Rattle.meters.specs.declared.report.Report.TheVariants.{Growing}
 use Rattle.transaction_buffer.specs.declared.standing.Standing.TheVariants.{Payable}
 use Rattle.transaction_buffer.specs.declared.request.Request.{Request}
@@ -38,7 +38,7 @@ use Rattle.transaction_buffer.specs.TransactionTable.{after_request, after_sign_
 use Rattle.transaction_buffer.specs.TransactionTable.{is_locked_by}
 use Rattle.transaction_buffer.proofs.Summing.{sold_sum, changed_sum, alike_sum}
 use Rattle.written_site.specs.SiteState.{SiteState, facts_in, facts_of, key_named, open_shift}
-use Rattle.written_site.specs.SiteChecks.{own_event, flowed, put_back_at}
+use Rattle.written_site.specs.SiteChecks.{own_event, flow_since, put_back_at}
 use Rattle.written_site.specs.SiteStep.{nozzles_after, points_after, sales_after, sales_by}
 use Rattle.written_site.specs.SiteStep.{sale_made, drawn_after, draws_by, step_at, step_by}
 use Rattle.written_site.specs.SiteStep.{with_event}
@@ -70,7 +70,7 @@ pub metered_out : (w : ℕ → ℕ) (s : SiteState) (p n reading : ℕ) (f : Fac
     → metered_by w (with_last p n reading s.nozzles)
     ≡ metered_by w s.nozzles + w x.product * (reading - x.last)
     → metered_by w (with_last p n reading s.nozzles)
-    ≡ metered_by w s.nozzles + w (product_out s.nozzles p f) * flowed s p n reading
+    ≡ metered_by w s.nozzles + w (product_out s.nozzles p f) * flow_since s p n reading
 metered_out w s p n reading f x is out adds =
     let last : reading_of p n s.nozzles ≡ x.last = reading_is p n s.nozzles x is in
     let product : product_out s.nozzles p f ≡ x.product =
@@ -85,7 +85,7 @@ metered_out w s p n reading f x is out adds =
 metered_more : (w : ℕ → ℕ) (s : SiteState) (p n reading : ℕ) (f : Facts) → AreNozzles s.nozzles
     → has_nozzle p n s.nozzles ≡ true → nozzle_out f ≡ n → reading_of p n s.nozzles ≤ reading
     → metered_by w (with_last p n reading s.nozzles)
-    ≡ metered_by w s.nozzles + w (product_out s.nozzles p f) * flowed s p n reading
+    ≡ metered_by w s.nozzles + w (product_out s.nozzles p f) * flow_since s p n reading
 metered_more w s p n reading f are has out above =
     let x = there (nozzle_of p n s.nozzles) has in
     let last : reading_of p n s.nozzles ≡ x.nozzle.last = reading_is p n s.nozzles x.nozzle x.is in
@@ -97,16 +97,16 @@ pub metered_moves : (w : ℕ → ℕ) (s : SiteState) (e : Event) → Sound s �
     ≡ metered_by w s.nozzles + w (product_at s e) * growth_at s e
 metered_moves w s (Flow p n reading) sound taken =
     let own =
-    own_point s (Flow p n reading) p (points.Flow n (flowed s p n reading)) sound taken refl in
+    own_point s (Flow p n reading) p (points.Flow n (flow_since s p n reading)) sound taken refl in
     metered_more w s p n reading (facts_of s p) sound.meters (flow_nozzle s p n reading taken.names)
-    (flow_is_out n (flowed s p n reading) (facts_of s p) own.sound.whole own.taken)
+    (flow_is_out n (flow_since s p n reading) (facts_of s p) own.sound.whole own.taken)
     (accepted_above Growing (reading_of p n s.nozzles) reading taken.reads)
 metered_moves w s (HangUp p n reading) sound taken =
-    let own = own_point s (HangUp p n reading) p (points.HangUp n (flowed s p n reading)) sound
+    let own = own_point s (HangUp p n reading) p (points.HangUp n (flow_since s p n reading)) sound
     taken refl in
     metered_more w s p n reading (facts_of s p) sound.meters
     (hung_up_nozzle s p n reading taken.names)
-    (hung_up_is_out n (flowed s p n reading) (facts_of s p) own.sound.whole own.taken)
+    (hung_up_is_out n (flow_since s p n reading) (facts_of s p) own.sound.whole own.taken)
     (accepted_above (put_back_at (facts_of s p).state) (reading_of p n s.nozzles) reading
     taken.reads)
 metered_moves w s (ReplaceMeter p n reading) sound taken =
@@ -288,7 +288,7 @@ sold_moves w s (Till t) (Clear p id) sound taken =
 sold_moves w s a (Offline p) sound taken =
     sold_by_step w s (Offline p) p points.Offline sound taken refl (step_at s (Offline p)) refl
 sold_moves w s a (HangUp p n reading) sound taken =
-    sold_by_step w s (HangUp p n reading) p (points.HangUp n (flowed s p n reading)) sound taken
+    sold_by_step w s (HangUp p n reading) p (points.HangUp n (flow_since s p n reading)) sound taken
     refl
     (step_at s (HangUp p n reading)) refl
 sold_moves w s a e sound taken =
@@ -346,7 +346,8 @@ pub drawn_moves : (w : ℕ → ℕ) (s : SiteState) (e : Event) → Sound s → 
 drawn_moves w s (Offline p) sound taken =
     drawn_by_step w s (Offline p) p points.Offline sound taken refl (step_at s (Offline p)) refl
 drawn_moves w s (HangUp p n reading) sound taken =
-    drawn_by_step w s (HangUp p n reading) p (points.HangUp n (flowed s p n reading)) sound taken
+    drawn_by_step w s (HangUp p n reading) p (points.HangUp n (flow_since s p n reading)) sound
+    taken
     refl
     (step_at s (HangUp p n reading)) refl
 drawn_moves w s CloseShift sound taken =

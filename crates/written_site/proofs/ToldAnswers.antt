@@ -20,7 +20,7 @@ use Rattle.fuelling_point.specs.Table.{growth_in}
 use Rattle.transaction_buffer.specs.Sales.{Sale, sale_of}
 use Rattle.written_site.specs.SiteState.{SiteState, facts_of, key_named, view_sale, price_at_start}
 use Rattle.written_site.specs.SiteState.{reading_at_start}
-use Rattle.written_site.specs.SiteChecks.{flowed}
+use Rattle.written_site.specs.SiteChecks.{flow_since}
 use Rattle.written_site.specs.SiteStep.{site_answer, step_told, sale_told, clear_told, product_told}
 use Rattle.written_site.specs.SaleWords.{number_sold}
 use Rattle.written_site.specs.Holders.{tells_end}
@@ -101,7 +101,7 @@ not_over s (Lift p n reading) other =
     (facts_of s p).state)
 not_over s (Flow p n reading) other =
     no_end (site_answer s (Flow p n reading))
-    (flows s p n (flowed s p n reading) (facts_of s p) (growth_in (flowed s p n reading))
+    (flows s p n (flow_since s p n reading) (facts_of s p) (growth_in (flow_since s p n reading))
     (facts_of s p).state)
 not_over s (ReadProduct q) other =
     no_end (site_answer s (ReadProduct q)) (shows_product s q (row_of q s.prices))

@@ -33,7 +33,7 @@ use Rattle.written_site.specs.Histories.{Moment, moments_of}
 use Rattle.written_site.specs.NumberLaws.{is_key_at, sells_at, clears_at}
 use Rattle.written_site.specs.RowWords.{count}
 use Rattle.written_site.specs.SaleWords.{key_sold, number_sold}
-use Rattle.written_site.specs.SiteChecks.{Passed, flowed}
+use Rattle.written_site.specs.SiteChecks.{Passed, flow_since}
 use Rattle.written_site.specs.SiteRun.{site_of_rows, IsLegal}
 use Rattle.written_site.specs.SiteState.{SiteState, opening, facts_of, key_named, open_shift}
 use Rattle.written_site.specs.SiteStep.{site_answer, step_at, step_told, first_locker}
@@ -197,7 +197,7 @@ balances_accepted q earlier s (Dispenser d) (Clear p id) passes =
 balances_accepted q earlier s a (Offline p) passes =
     sells_by q earlier s s.nozzles p 0 (step_at s (Offline p))
 balances_accepted q earlier s a (HangUp p n reading) passes =
-    sells_by q earlier s (nozzles_after s (HangUp p n reading)) p (flowed s p n reading)
+    sells_by q earlier s (nozzles_after s (HangUp p n reading)) p (flow_since s p n reading)
     (step_at s (HangUp p n reading))
 balances_accepted q earlier s a (Terminate p) passes =
     nothing_sold q s.sales earlier p _ (never_sold s (Terminate p) refl)

@@ -17,7 +17,7 @@ use Rattle.site_base.specs.declared.limits.TheConstants.{PRODUCT_CELLS}
 use Rattle.site_base.specs.declared.row.Row.{Row}
 use Rattle.site_base.specs.Configured.{Configured}
 use Rattle.site_base.specs.Events.{growth_in_reply}
-use Rattle.site_base.specs.Numbered.{numbered}
+use Rattle.site_base.specs.Members.{member}
 use Rattle.site_base.proofs.Numbering.{with_numbered_place}
 use Rattle.fuelling_point.specs.declared.event.PointEvent.{PointEvent}
 use Rattle.fuelling_point.specs.declared.event.PointEvent.TheVariants as points
@@ -27,17 +27,17 @@ use Rattle.fuelling_point.specs.KeptPoints.{Facts, volume_of}
 use Rattle.fuelling_point.specs.Laws.{sold_in, drawn_in}
 use Rattle.fuelling_point.specs.Step.{step_of}
 use Rattle.meters.specs.declared.report.Report.TheVariants.{Growing}
-use Rattle.meters.specs.Metered.{every_product, metered_by, product_alone}
+use Rattle.meters.specs.MeteredVolumes.{every_product, metered_by, product_alone}
 use Rattle.meters.specs.Nozzles.{Nozzle, opening_nozzles, read_at, replaced_at, reading_of}
-use Rattle.meters.proofs.Looked.{reading_is}
-use Rattle.meters.proofs.Weighed.{open_nothing, accepted_above}
+use Rattle.meters.proofs.Lookups.{reading_is}
+use Rattle.meters.proofs.Weights.{open_nothing, accepted_above}
 use Rattle.transaction_buffer.specs.declared.request.Request.TheVariants as requests
 use Rattle.transaction_buffer.specs.Sales.{no_sales}
 use Rattle.transaction_buffer.proofs.OnShelves.{nothing_sold}
 use Rattle.transaction_buffer.proofs.Summing.{sold_sum}
 use Rattle.transaction_buffer.proofs.Volumes.{add_up}
 use Rattle.written_site.specs.RowWords.{OfBooks, total}
-use Rattle.written_site.specs.SiteChecks.{Passed, own_event, flowed, put_back_at}
+use Rattle.written_site.specs.SiteChecks.{Passed, own_event, flow_since, put_back_at}
 use Rattle.written_site.specs.SiteRun.{site_of_rows}
 use Rattle.written_site.specs.SiteState.{SiteState, opening, points_of, nothing_drawn, facts_of}
 use Rattle.written_site.specs.SiteState.{key_named, open_shift}
@@ -50,7 +50,7 @@ use Rattle.written_site.specs.SoundSteps.{drawn_at}
 use Rattle.written_site.specs.VolumeLaws.{AreVolumesConserved}
 use Rattle.written_site.specs.Volumes.{product_out, running_at, running_by, sold_by, drawn_by}
 use Rattle.written_site.proofs.FuellingRows.{KnowsFuel, fuel_more, fuel_first}
-use Rattle.written_site.proofs.FuellingTold.{growth_is}
+use Rattle.written_site.proofs.FuellingReplies.{growth_is}
 use Rattle.written_site.proofs.MeterLaws.{Changed, mine, other, changed, fresh_found, fresh_points}
 use Rattle.written_site.proofs.MeteredRows.{totals_read}
 use Rattle.written_site.proofs.RowFacts.{own_after}
@@ -115,8 +115,8 @@ unnoted_row : (r v : ℕ) (row : List ℕ) → (r ≡ 0) ⊎ (length row < r) �
 unnoted_row r v row (inl none) =
     ap (λ (k : ℕ). one_more_drawn k v row) none
 unnoted_row r v row (inr beyond) =
-    with_numbered_place r (unwrap_or (numbered r row) 0 + v) row (omega (arith, beyond))
-    ∙ set_past row (r - 1) (unwrap_or (numbered r row) 0 + v) (omega (arith, beyond))
+    with_numbered_place r (unwrap_or (member r row) 0 + v) row (omega (arith, beyond))
+    ∙ set_past row (r - 1) (unwrap_or (member r row) 0 + v) (omega (arith, beyond))
 
 cells_so : (row : List ℕ) (r : ℕ) → length row ≡ PRODUCT_CELLS → (r ≡ 0) ⊎ (PRODUCT_CELLS < r)
     → (r ≡ 0) ⊎ (length row < r)
@@ -238,7 +238,7 @@ sales_move w c earlier s a (Offline p) fuel passes =
     (step_at s (Offline p)) refl
 sales_move w c earlier s a (HangUp p n reading) fuel passes =
     sold_step c earlier s a (HangUp p n reading) fuel passes w p
-    (points.HangUp n (flowed s p n reading)) refl (step_at s (HangUp p n reading)) refl
+    (points.HangUp n (flow_since s p n reading)) refl (step_at s (HangUp p n reading)) refl
 sales_move w c earlier s a e fuel passes =
     stays_so (w (product_at s e)) (sold_by w s.sales) (sold_at s e)
     (none_sold s (own_event s e) refl)
@@ -254,7 +254,7 @@ draws_move q c earlier s a (Offline p) fuel passes low high all some =
     (step_at s (Offline p)) refl
 draws_move q c earlier s a (HangUp p n reading) fuel passes low high all some =
     drawn_step c earlier s a (HangUp p n reading) fuel passes q p
-    (points.HangUp n (flowed s p n reading)) refl low high all some
+    (points.HangUp n (flow_since s p n reading)) refl low high all some
     (step_at s (HangUp p n reading)) refl
 draws_move q c earlier s a CloseShift fuel passes low high all some =
     opened_weighs (product_alone q) s.drawn

@@ -22,13 +22,13 @@ use Rattle.fuelling_point.specs.Step.{step_of, after}
 use Rattle.fuelling_point.specs.Whole.{IsWhole}
 use Rattle.fuelling_point.proofs.Whole.{conserved}
 use Rattle.meters.specs.declared.report.Report.TheVariants.{Growing}
-use Rattle.meters.specs.Metered.{metered_by}
+use Rattle.meters.specs.MeteredVolumes.{metered_by}
 use Rattle.meters.specs.Nozzles.{Nozzle, nozzle_of, has_nozzle, reading_of, with_last}
 use Rattle.meters.specs.Nozzles.{read_at}
-use Rattle.meters.proofs.Looked.{there, reading_is}
-use Rattle.meters.proofs.Weighed.{raised, meter_keeps, accepted_above}
+use Rattle.meters.proofs.Lookups.{there, reading_is}
+use Rattle.meters.proofs.Weights.{raised, meter_keeps, accepted_above}
 use Rattle.written_site.specs.SiteState.{SiteState, points_of, facts_in, facts_of}
-use Rattle.written_site.specs.SiteChecks.{Passed, own_event, flowed, put_back_at}
+use Rattle.written_site.specs.SiteChecks.{Passed, own_event, flow_since, put_back_at}
 use Rattle.written_site.specs.SiteStep.{nozzles_after, step_by, with_event}
 use Rattle.written_site.specs.SoundSteps.{growth_at, growth_by, product_at, product_by}
 use Rattle.written_site.specs.Volumes.{nozzle_out, product_out, running_at, running_by}
@@ -51,7 +51,7 @@ AreRisen xs = (p n : ℕ) (x : Nozzle) → nozzle_of p n xs ≡ Some x → x.beg
 raises : (w : ℕ → ℕ) (s : SiteState) (p n reading : ℕ) (f : Facts) → AreRisen s.nozzles
     → has_nozzle p n s.nozzles ≡ true → nozzle_out f ≡ n → reading_of p n s.nozzles ≤ reading
     → metered_by w (with_last p n reading s.nozzles)
-    ≡ metered_by w s.nozzles + w (product_out s.nozzles p f) * flowed s p n reading
+    ≡ metered_by w s.nozzles + w (product_out s.nozzles p f) * flow_since s p n reading
 raises w s p n reading f risen has out above =
     let x = there (nozzle_of p n s.nozzles) has in
     let last : reading_of p n s.nozzles ≡ x.nozzle.last = reading_is p n s.nozzles x.nozzle x.is in
@@ -66,11 +66,11 @@ pub meters_move : (w : ℕ → ℕ) (s : SiteState) (a : Actor) (e : Event) → 
     ≡ metered_by w s.nozzles + w (product_at s e) * growth_at s e
 meters_move w s a (Flow p n reading) risen whole passes =
     raises w s p n reading (facts_of s p) risen (flow_nozzle s p n reading passes.names)
-    (flow_is_out n (flowed s p n reading) (facts_of s p) (whole p) passes.takes)
+    (flow_is_out n (flow_since s p n reading) (facts_of s p) (whole p) passes.takes)
     (accepted_above Growing (reading_of p n s.nozzles) reading passes.reads)
 meters_move w s a (HangUp p n reading) risen whole passes =
     raises w s p n reading (facts_of s p) risen (hung_up_nozzle s p n reading passes.names)
-    (hung_up_is_out n (flowed s p n reading) (facts_of s p) (whole p) passes.takes)
+    (hung_up_is_out n (flow_since s p n reading) (facts_of s p) (whole p) passes.takes)
     (accepted_above (put_back_at (facts_of s p).state) (reading_of p n s.nozzles) reading
     passes.reads)
 meters_move w s a (ReplaceMeter p n reading) risen whole passes =

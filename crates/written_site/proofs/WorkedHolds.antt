@@ -18,15 +18,16 @@ use Rattle.site_base.specs.declared.state.PointState.TheVariants.{Inoperative, C
 use Rattle.site_base.specs.declared.state.PointState.TheVariants.{Calling, Authorised, Started}
 use Rattle.site_base.specs.declared.state.PointState.TheVariants.{SuspendedStarted, Fuelling}
 use Rattle.site_base.specs.declared.state.PointState.TheVariants.{SuspendedFuelling}
-use Rattle.fuelling_point.specs.KeptPoints.{Facts, fresh}
+use Rattle.fuelling_point.specs.KeptPoints.{Facts, empty_point}
 use Rattle.written_site.specs.SiteState.{SiteState, holder_of, is_resting}
 use Rattle.written_site.specs.SiteStep.{site_after, ends_at_sign_off}
 use Rattle.written_site.specs.SiteRun.{row_to}
 use Rattle.written_site.specs.Histories.{Moment, history}
 use Rattle.written_site.specs.Holders.{takes_hold, ends_hold}
 use Rattle.written_site.proofs.Holders.{held_by_one}
-use Rattle.written_site.proofs.Worked.{two_points, first, second, third, till_1, till_2, free_2}
-use Rattle.written_site.proofs.Worked.{held, one_of_two, two_of_two, leads_to_second}
+use Rattle.written_site.proofs.WorkedSteps.{two_points, first, second, third, till_1, till_2}
+use Rattle.written_site.proofs.WorkedSteps.{free_2}
+use Rattle.written_site.proofs.WorkedSteps.{held, one_of_two, two_of_two, leads_to_second}
 
 -- an Assign takes the hold
 assigns : holder_of (site_after second (Till 1) (Assign 2)) 2 ≡ Some 1
@@ -76,7 +77,7 @@ suspended_fuelling_doesn't = refl
 
 -- point 2 alone, in this state
 abbrev alone : PointState → List (ℕ × Facts)
-alone state = (2, fresh state) ∷ []
+alone state = (2, empty_point state) ∷ []
 
 -- till 1 holds point 2: its sign-off ends the hold where the point rests
 ends_closed : ends_at_sign_off (alone Closed) third.holds 1 2 ≡ true

@@ -20,7 +20,7 @@ use Rattle.fuelling_point.specs.declared.event.PointEvent.TheVariants as points
 use Rattle.fuelling_point.specs.History.{point_after}
 use Rattle.fuelling_point.specs.KeptPoints.{Facts}
 use Rattle.fuelling_point.specs.Step.{step_of}
-use Rattle.meters.specs.Metered.{every_product, metered_by, product_total}
+use Rattle.meters.specs.MeteredVolumes.{every_product, metered_by, product_total}
 use Rattle.meters.specs.Nozzles.{Nozzle, nozzle_of}
 use Rattle.transaction_buffer.specs.Sales.{Key, key, Sale, sale_of}
 use Rattle.transaction_buffer.specs.Sums.{volume_by}
@@ -44,7 +44,7 @@ use Rattle.written_site.specs.SiteState.{SiteState, opening, facts_of, is_signed
 use Rattle.written_site.specs.SiteStep.{site_after, step_told}
 use Rattle.written_site.specs.Slots.{IsLastTake}
 use Rattle.written_site.specs.Sound.{IsFit}
-use Rattle.written_site.specs.Volumes.{running, adjusted}
+use Rattle.written_site.specs.Volumes.{running_volume, adjusted_volume}
 use Rattle.written_site.proofs.ClearedLaws.{volumes_cleared}
 use Rattle.written_site.proofs.DrawLaws.{draws_counted}
 use Rattle.written_site.proofs.FitLaws.{every_figure_fits}
@@ -240,9 +240,9 @@ diesel_is_metered : product_total 1 evening.nozzles ≡ 10000
 diesel_is_metered = (volumes_conserved known_site day day_is_legal).metered 1
 
 diesel_is_conserved : ◌≡◌ {A = ℕ} 10000
-    (running evening 1 + volume_by 1 statuses.Payable evening.sales
+    (running_volume evening 1 + volume_by 1 statuses.Payable evening.sales
     + volume_by 1 statuses.Locked evening.sales + volume_by 1 statuses.Cleared evening.sales
-    + adjusted evening 1)
+    + adjusted_volume evening 1)
 diesel_is_conserved =
     (volumes_conserved known_site day day_is_legal).conserved 1 (omega arith) (omega arith)
 
@@ -282,11 +282,11 @@ none_drawn_in_shift_1 =
     (draws_counted known_site tested tested_is_legal).shifts 1 1 (omega arith) (omega arith)
 
 what_was_drawn : ◌≡◌ {A = ℕ} 5000
-    (running (site_of_rows (opening known_site) tested) 1
+    (running_volume (site_of_rows (opening known_site) tested) 1
     + volume_by 1 statuses.Payable (site_of_rows (opening known_site) tested).sales
     + volume_by 1 statuses.Locked (site_of_rows (opening known_site) tested).sales
     + volume_by 1 statuses.Cleared (site_of_rows (opening known_site) tested).sales
-    + adjusted (site_of_rows (opening known_site) tested) 1)
+    + adjusted_volume (site_of_rows (opening known_site) tested) 1)
 what_was_drawn =
     (volumes_conserved known_site tested tested_is_legal).conserved 1 (omega arith) (omega arith)
 

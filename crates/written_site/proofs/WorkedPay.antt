@@ -27,7 +27,7 @@ use Rattle.written_site.specs.ShiftFigures.{is_clear_of, takings_in, tills}
 use Rattle.written_site.specs.SiteState.{SiteState, nothing_drawn, open_shift}
 use Rattle.written_site.specs.SiteStep.{reply_to, site_after}
 use Rattle.written_site.proofs.FigureBounds.{swapped}
-use Rattle.written_site.proofs.Worked.{first, till_1, till_2, one_of_two, two_of_two}
+use Rattle.written_site.proofs.WorkedSteps.{first, till_1, till_2, one_of_two, two_of_two}
 
 abbrev pub one_sale : Standing → Sale
 one_sale standing = record {

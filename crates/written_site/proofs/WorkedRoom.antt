@@ -17,7 +17,7 @@ use Rattle.written_site.specs.SoundRuns.{AreInRange}
 use Rattle.written_site.specs.SoundSteps.{IsTaken, FitsOwn, IsSaleFit, IsDrawFit, AddUp}
 use Rattle.written_site.specs.SoundSteps.{MovesVolumes, MovesRunning, growth_at, product_at}
 use Rattle.written_site.specs.SoundSteps.{sold_at, drawn_at}
-use Rattle.written_site.specs.Volumes.{running}
+use Rattle.written_site.specs.Volumes.{running_volume}
 use Rattle.written_site.proofs.SoundRuns.{runs_stay_sound}
 use Rattle.written_site.proofs.SoundUses.{volumes_add_up, finds_room}
 use Rattle.written_site.proofs.WorkedRows.{known_site, flowing, t1, d1}
@@ -60,7 +60,7 @@ grown = refl
 of_diesel : product_at under_way hung_up ≡ 1
 of_diesel = refl
 
-running_before : running under_way 1 ≡ 5000
+running_before : running_volume under_way 1 ≡ 5000
 running_before = refl
 
 sold : sold_at under_way hung_up ≡ 5040
@@ -80,7 +80,7 @@ runs_when_sold = volumes_add_up.runs under_way hung_up 1 under_way_sound hung_up
 grows : FitsOwn under_way (own_event under_way hung_up)
 grows = finds_room.grows under_way hung_up under_way_sound hung_up_is_taken
 
-has_room : running under_way 1 + 40 < 2 ^ 64
+has_room : running_volume under_way 1 + 40 < 2 ^ 64
 has_room = finds_room.runs under_way hung_up under_way_sound hung_up_is_taken
 
 -- 5,000 ml of diesel have flowed at point 1 in a test

@@ -13,7 +13,7 @@ use Rattle.written_site.specs.Histories.{Moment, moments_of}
 use Rattle.written_site.specs.RowWords.{open_after, total}
 use Rattle.written_site.specs.ShiftFigures.{shift_drawn}
 use Rattle.written_site.specs.SiteState.{SiteState}
-use Rattle.written_site.specs.Volumes.{adjusted}
+use Rattle.written_site.specs.Volumes.{adjusted_volume}
 
 -- the reply tells that a test is over
 abbrev pub tells_drawn : Result Answer Refusal → Bool
@@ -55,4 +55,4 @@ pub record AreDrawsCounted (c : Configured) (rows : List Row) (s : SiteState) : 
   pub shifts : (h q : ℕ) → 1 ≤ q → q ≤ PRODUCTS
       → shift_drawn s h q ≡ total (drawn_while c h q) (moments_of c rows)
   pub all : (q : ℕ) → 1 ≤ q → q ≤ PRODUCTS
-      → adjusted s q ≡ total (drawn_for c q) (moments_of c rows)
+      → adjusted_volume s q ≡ total (drawn_for c q) (moments_of c rows)

@@ -30,6 +30,6 @@ abbrev pub history : Configured → List (Actor × Event) → List Moment
 history c events = moments_of c (rows_of (opening c) events)
 
 -- a value that rows change one after another
-abbrev pub folded : {A : Type 0} → (A → Row → A) → A → List Row → A
-folded change x [] = x
-folded change x (r ∷ rs) = folded change (change x r) rs
+abbrev pub fold_rows : {A : Type 0} → (A → Row → A) → A → List Row → A
+fold_rows change x [] = x
+fold_rows change x (r ∷ rs) = fold_rows change (change x r) rs

@@ -25,14 +25,14 @@ abbrev pub own_of : ℕ → Moment → Option PointEvent
 own_of p m = if is_ok m.row.reply then event_for p (own_event m.before m.row.event) else None
 
 -- one more event, if there is one
-abbrev pub added : Option PointEvent → List PointEvent → List PointEvent
-added None events = events
-added (Some event) events = event ∷ events
+abbrev pub add_event : Option PointEvent → List PointEvent → List PointEvent
+add_event None events = events
+add_event (Some event) events = event ∷ events
 
 -- the point's own events, one after another
 abbrev pub own_events : ℕ → List Moment → List PointEvent
 own_events p [] = []
-own_events p (m ∷ ms) = added (own_of p m) (own_events p ms)
+own_events p (m ∷ ms) = add_event (own_of p m) (own_events p ms)
 
 -- what the point does of such an event is told in its reply; any other that a point accepts is
 -- answered Done

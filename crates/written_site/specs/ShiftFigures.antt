@@ -5,7 +5,7 @@ use Rattle.std.specs.List.{range_with_len}
 use Rattle.site_base.specs.declared.limits.TheConstants.{TILLS}
 use Rattle.site_base.specs.declared.view.ProductView.{ProductView}
 use Rattle.site_base.specs.declared.view.SiteView.{SiteView}
-use Rattle.site_base.specs.Numbered.{numbered}
+use Rattle.site_base.specs.Members.{member}
 pub use Rattle.transaction_buffer.specs.Clears.{
   is_cleared_by,
   is_cleared_in,
@@ -22,11 +22,11 @@ use Rattle.written_site.specs.Volumes.{product_view}
 
 -- the millilitres of each product, from product 1 on, that tests drew in shift h
 abbrev pub shift_draws : SiteState → ℕ → List ℕ
-shift_draws s h = unwrap_or (numbered h s.drawn) nothing_drawn
+shift_draws s h = unwrap_or (member h s.drawn) nothing_drawn
 
 -- the millilitres of product q that tests drew in shift h
 abbrev pub shift_drawn : SiteState → ℕ → ℕ → ℕ
-shift_drawn s h q = unwrap_or (numbered q (shift_draws s h)) 0
+shift_drawn s h q = unwrap_or (member q (shift_draws s h)) 0
 
 -- the tills that a site may have
 abbrev pub tills : List ℕ

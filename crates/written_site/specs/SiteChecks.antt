@@ -50,23 +50,23 @@ use Rattle.written_site.specs.SiteState.{reading_at_start}
 
 -- a release of point p within this preset, which may be prepaid: a fuelling that it starts is of
 -- the nozzle that is out
-abbrev pub released : SiteState → ℕ → Preset → Option ℕ → PointEvent
-released s p preset prepaid =
+abbrev pub release_at : SiteState → ℕ → Preset → Option ℕ → PointEvent
+release_at s p preset prepaid =
     points.Release preset prepaid (reading_at_start s p (facts_of s p).out)
     (price_at_start s p (facts_of s p).out)
 
 -- a release of point p for a test
-abbrev pub test_released : SiteState → ℕ → PointEvent
-test_released s p = points.TestRelease (reading_at_start s p (facts_of s p).out)
+abbrev pub test_release_at : SiteState → ℕ → PointEvent
+test_release_at s p = points.TestRelease (reading_at_start s p (facts_of s p).out)
     (price_at_start s p (facts_of s p).out)
 
 -- nozzle n of point p is taken out
-abbrev pub lifted : SiteState → ℕ → ℕ → PointEvent
-lifted s p n = points.Lift n (reading_at_start s p (Some n)) (price_at_start s p (Some n))
+abbrev pub lift_at : SiteState → ℕ → ℕ → PointEvent
+lift_at s p n = points.Lift n (reading_at_start s p (Some n)) (price_at_start s p (Some n))
 
 -- what has flowed by nozzle n of point p since its last reading, where it reads this
-abbrev pub flowed : SiteState → ℕ → ℕ → ℕ → ℕ
-flowed s p n reading = growth_of (reading_of p n s.nozzles) reading
+abbrev pub flow_since : SiteState → ℕ → ℕ → ℕ → ℕ
+flow_since s p n reading = growth_of (reading_of p n s.nozzles) reading
 
 -- what an event is to the point that it names; none where it is nothing to a point
 abbrev pub own_event : SiteState → Event → Option (ℕ × PointEvent)
@@ -76,9 +76,9 @@ own_event s (Open p) = Some (p, points.Open)
 own_event s (Close p) = Some (p, points.Close)
 own_event s (Assign p) = Some (p, points.Assign)
 own_event s (Unassign p) = Some (p, points.Unassign)
-own_event s (Release p preset) = Some (p, released s p preset None)
-own_event s (Prepay p cents) = Some (p, released s p (Money cents) (Some cents))
-own_event s (TestRelease p) = Some (p, test_released s p)
+own_event s (Release p preset) = Some (p, release_at s p preset None)
+own_event s (Prepay p cents) = Some (p, release_at s p (Money cents) (Some cents))
+own_event s (TestRelease p) = Some (p, test_release_at s p)
 own_event s (Suspend p) = Some (p, points.Suspend)
 own_event s (Resume p) = Some (p, points.Resume)
 own_event s (Terminate p) = Some (p, points.Terminate)
@@ -94,9 +94,9 @@ own_event s CloseShift = None
 own_event s ReadSite = None
 own_event s (Online p) = Some (p, points.Online)
 own_event s (Offline p) = Some (p, points.Offline)
-own_event s (Lift p n reading) = Some (p, lifted s p n)
-own_event s (Flow p n reading) = Some (p, points.Flow n (flowed s p n reading))
-own_event s (HangUp p n reading) = Some (p, points.HangUp n (flowed s p n reading))
+own_event s (Lift p n reading) = Some (p, lift_at s p n)
+own_event s (Flow p n reading) = Some (p, points.Flow n (flow_since s p n reading))
+own_event s (HangUp p n reading) = Some (p, points.HangUp n (flow_since s p n reading))
 
 -- this very point
 abbrev pub is_point : ℕ → Option ℕ → Bool
@@ -143,9 +143,9 @@ own_kind (Till t) event = unless (is_none (reported_by event)) NotYourPoint
 own_kind (Dispenser d) event = unless (is_point d (reported_by event)) NotYourPoint
 
 -- what is for managers alone is asked by one
-abbrev pub managed : SiteState → Actor → Event → Option Refusal
-managed s (Till t) event = if needs_manager event then unless (is_manager s t) NotManager else None
-managed s (Dispenser d) event = None
+abbrev pub managing : SiteState → Actor → Event → Option Refusal
+managing s (Till t) event = if needs_manager event then unless (is_manager s t) NotManager else None
+managing s (Dispenser d) event = None
 
 -- a price that a product is given is in range
 abbrev pub pricing : Event → Option Refusal
@@ -264,7 +264,7 @@ may_ask s actor event =
     signing s actor event
     or_else numbers s event
     or_else own_kind actor event
-    or_else managed s actor event
+    or_else managing s actor event
     or_else pricing event
     or_else presets event
     or_else not_held s actor event
@@ -289,7 +289,7 @@ pub record Passed (s : SiteState) (actor : Actor) (event : Event) : Type 0 where
   pub signs : signing s actor event ≡ None
   pub names : numbers s event ≡ None
   pub asks : own_kind actor event ≡ None
-  pub manages : managed s actor event ≡ None
+  pub manages : managing s actor event ≡ None
   pub prices : pricing event ≡ None
   pub limits : presets event ≡ None
   pub free : not_held s actor event ≡ None

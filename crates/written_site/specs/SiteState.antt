@@ -14,9 +14,9 @@ use Rattle.site_base.specs.declared.config.PointEntry.{PointEntry}
 use Rattle.site_base.specs.Configured.{Configured}
 use Rattle.site_base.specs.Prices.{prices_of}
 use Rattle.site_base.specs.Table.{row_of}
-use Rattle.fuelling_point.specs.KeptPoints.{Facts, fresh, point_view}
+use Rattle.fuelling_point.specs.KeptPoints.{Facts, empty_point, point_view}
 use Rattle.meters.specs.Nozzles.{Nozzle, opening_nozzles, product_of, reading_of}
-use Rattle.transaction_buffer.specs.Sales.{Key, key, Sales, no_sales, shown}
+use Rattle.transaction_buffer.specs.Sales.{Key, key, Sales, no_sales, view_of_sale}
 
 -- The points by their numbers, in configured order; the nozzles with their meters; which till holds
 -- which point; the sales; the products' numbers with today's prices, in configured order; the tills
@@ -34,7 +34,7 @@ pub record SiteState : Type 0 where
 
 -- each configured point, closed
 abbrev pub points_of : List PointEntry → List (ℕ × Facts)
-points_of entries = map (λ p. (p.number, fresh Closed)) entries
+points_of entries = map (λ p. (p.number, empty_point Closed)) entries
 
 -- tests have drawn nothing of any product
 abbrev pub nothing_drawn : List ℕ
@@ -65,7 +65,7 @@ has_point s p = is_some (row_of p s.points)
 
 -- what the point with this number keeps; where none has it, what a closed one does
 abbrev pub facts_in : List (ℕ × Facts) → ℕ → Facts
-facts_in points p = unwrap_or (row_of p points) (fresh Closed)
+facts_in points p = unwrap_or (row_of p points) (empty_point Closed)
 
 -- what the point keeps; of a point that isn't there, a closed one's
 abbrev pub facts_of : SiteState → ℕ → Facts
@@ -105,7 +105,7 @@ key_named s p id = key (shift_named s id) p id.seq
 
 -- that sale as a read shows it
 abbrev pub view_sale : SiteState → ℕ → SaleId → Option TransactionView
-view_sale s p id = shown (key_named s p id) s.sales
+view_sale s p id = view_of_sale (key_named s p id) s.sales
 
 -- today's price of the product of nozzle n of point p, if there is such a nozzle
 abbrev pub price_of : List Nozzle → List (ℕ × ℕ) → ℕ → ℕ → Option ℕ

@@ -20,7 +20,7 @@ use Rattle.site_base.specs.declared.refusal.Refusal.{Refusal}
 use Rattle.site_base.specs.declared.view.TransactionView.{TransactionView}
 use Rattle.site_base.specs.Checks.{reply_or, value_or}
 use Rattle.site_base.specs.Amounts.{amount}
-use Rattle.site_base.specs.Numbered.{numbered, with_numbered}
+use Rattle.site_base.specs.Members.{member, with_numbered}
 use Rattle.site_base.specs.Table.{row_of, with_row}
 use Rattle.fuelling_point.specs.declared.event.PointEvent.{PointEvent}
 use Rattle.fuelling_point.specs.declared.step.PointStep.{PointStep}
@@ -215,7 +215,7 @@ prices_after s event = s.prices
 
 -- the draws of a shift, with one more of product q
 abbrev pub one_more_drawn : ℕ → ℕ → List ℕ → List ℕ
-one_more_drawn q volume row = with_numbered q (unwrap_or (numbered q row) 0 + volume) row
+one_more_drawn q volume row = with_numbered q (unwrap_or (member q row) 0 + volume) row
 
 -- the draws by shift, with one more in the open one
 abbrev pub draw_noted : ℕ → ℕ → List (List ℕ) → List (List ℕ)

@@ -18,7 +18,7 @@ use Rattle.site_base.specs.Prices.{prices_of, are_in_range}
 use Rattle.site_base.specs.Table.{row_of}
 use Rattle.fuelling_point.specs.KeptPoints.{Facts, is_under_way}
 use Rattle.fuelling_point.specs.Whole.{IsWhole, is_released}
-use Rattle.meters.specs.Metered.{metered_by}
+use Rattle.meters.specs.MeteredVolumes.{metered_by}
 use Rattle.meters.specs.Nozzles.{AreNozzles, has_nozzle, product_of, reading_of}
 use Rattle.transaction_buffer.specs.declared.standing.Standing.{Standing}
 use Rattle.transaction_buffer.specs.declared.standing.Standing.TheVariants.{Payable, LockedBy}

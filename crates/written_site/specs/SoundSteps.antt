@@ -9,13 +9,13 @@ use Rattle.site_base.specs.declared.limits.TheConstants.{GREATEST_READING, PRODU
 use Rattle.site_base.specs.declared.limits.TheConstants.{UNPAID_LIMIT}
 use Rattle.site_base.specs.declared.state.Status.{Status}
 use Rattle.site_base.specs.declared.state.Status.TheVariants as statuses
-use Rattle.site_base.specs.Numbered.{numbered}
+use Rattle.site_base.specs.Members.{member}
 use Rattle.fuelling_point.specs.declared.event.PointEvent.{PointEvent}
 use Rattle.fuelling_point.specs.declared.step.PointStep.TheVariants.{Sold, Drawn}
 use Rattle.fuelling_point.specs.KeptPoints.{FitsGrowth, growth_of}
 use Rattle.fuelling_point.specs.Laws.{sold_in, drawn_in, is_end}
 use Rattle.fuelling_point.specs.Step.{step_of}
-use Rattle.meters.specs.Metered.{most_of_a_site, metered_by, product_alone, product_total}
+use Rattle.meters.specs.MeteredVolumes.{most_of_a_site, metered_by, product_alone, product_total}
 use Rattle.meters.specs.Nozzles.{product_of}
 use Rattle.transaction_buffer.specs.declared.request.Request.{Request}
 use Rattle.transaction_buffer.specs.Sales.{Key, Sale, HasNoneLater, next_number, sale_of, unpaid_at}
@@ -27,7 +27,7 @@ use Rattle.written_site.specs.SiteStep.{step_at, nozzles_after, points_after, sa
 use Rattle.written_site.specs.SiteStep.{drawn_after}
 use Rattle.written_site.specs.Sound.{InRange, IsPrice, IsSupplied, Sound}
 use Rattle.written_site.specs.Volumes.{nozzle_out, product_out, running_at, running_by, sold_by}
-use Rattle.written_site.specs.Volumes.{drawn_by, running, adjusted}
+use Rattle.written_site.specs.Volumes.{drawn_by, running_volume, adjusted_volume}
 
 -- The event passes the checks on which points and volumes depend: what it names is there, its point
 -- takes it, and its meter agrees. Its reading is in range.
@@ -99,7 +99,7 @@ pub record IsDelivery (s : SiteState) (event : Event) (p nozzle volume : ℕ) : 
   pub product : product_of p nozzle s.nozzles ≡ Some (product_at s event)
   pub still : product_out (nozzles_after s event) p (facts_of s p) ≡ product_at s event
   pub supplied : IsSupplied s (product_at s event)
-  pub leaves : volume ≤ running s (product_at s event) + growth_at s event
+  pub leaves : volume ≤ running_volume s (product_at s event) + growth_at s event
   pub held : is_some (holder_of s p) ≡ true
 
 -- What is true where it is sold. The price is the one that the fuelling took, and in range. Fewer
@@ -118,7 +118,7 @@ pub record IsSaleFit (s : SiteState) (event : Event) (p nozzle volume price : �
 
 -- the draws of the open shift, a figure for each product
 abbrev pub open_draws : SiteState → Option (List ℕ)
-open_draws s = numbered (open_shift s) s.drawn
+open_draws s = member (open_shift s) s.drawn
 
 -- What is true where it is drawn by a test. The open shift has its draws, with a figure for each
 -- product. With this one, the figure of the product and all draws of it fit in 64 bits.
@@ -127,8 +127,8 @@ pub record IsDrawFit (s : SiteState) (event : Event) (p nozzle volume : ℕ) : T
   pub noted : is_some (open_draws s) ≡ true
   pub cells : (row : List ℕ) → open_draws s ≡ Some row → length row ≡ PRODUCT_CELLS
   pub figure : (row : List ℕ) → open_draws s ≡ Some row
-      → unwrap_or (numbered (product_at s event) row) 0 + volume < 2 ^ 64
-  pub total : adjusted s (product_at s event) + volume < 2 ^ 64
+      → unwrap_or (member (product_at s event) row) 0 + volume < 2 ^ 64
+  pub total : adjusted_volume s (product_at s event) + volume < 2 ^ 64
 
 -- How an event moves the volume of product q under way: by what flows in it, less what is sold or
 -- drawn, if it moves this product; else not at all.
@@ -136,17 +136,19 @@ pub record MovesRunning (s : SiteState) (event : Event) (q : ℕ) : Type 0 where
   pub own : product_at s event ≡ q
       → running_by (product_alone q) (nozzles_after s event) (points_after s event)
       + (sold_at s event + drawn_at s event)
-      ≡ running s q + growth_at s event
+      ≡ running_volume s q + growth_at s event
   pub other : product_at s event ≢ q
-      → running_by (product_alone q) (nozzles_after s event) (points_after s event) ≡ running s q
+      → running_by (product_alone q) (nozzles_after s event) (points_after s event)
+      ≡ running_volume s q
 
 -- The volumes of product q: what its meters have counted is in the fuellings under way, in sales of
 -- each status and in draws, and it is no more than a site can meter, so that each of them fits in
 -- 64 bits.
 pub record AddUp (s : SiteState) (q : ℕ) : Type 0 where
   pub whole : product_total q s.nozzles
-      ≡ running s q + volume_by q statuses.Payable s.sales + volume_by q statuses.Locked s.sales
-      + volume_by q statuses.Cleared s.sales + adjusted s q
+      ≡ running_volume s q + volume_by q statuses.Payable s.sales
+      + volume_by q statuses.Locked s.sales
+      + volume_by q statuses.Cleared s.sales + adjusted_volume s q
   pub sold : volume_by q statuses.Payable s.sales + volume_by q statuses.Locked s.sales
       + volume_by q statuses.Cleared s.sales ≡ volume_of q s.sales
   pub most : product_total q s.nozzles ≤ most_of_a_site
@@ -182,7 +184,7 @@ pub record FindsRoom : Type 0 where
   pub grows : (s : SiteState) (event : Event) → Sound s → IsTaken s event
       → FitsOwn s (own_event s event)
   pub runs : (s : SiteState) (event : Event) → Sound s → IsTaken s event
-      → running s (product_at s event) + growth_at s event < 2 ^ 64
+      → running_volume s (product_at s event) + growth_at s event < 2 ^ 64
   pub sells : (s : SiteState) (event : Event) (p : ℕ) (own : PointEvent)
       (nozzle volume price : ℕ) (prepaid : Option ℕ)
       → Sound s → IsTaken s event → own_event s event ≡ Some (p, own)

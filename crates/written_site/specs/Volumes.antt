@@ -4,7 +4,7 @@ use Rattle.std.specs.Prelude.{ℕ, ◌+◌, ◌-◌, ◌*◌, List, [], ◌∷�
 use Rattle.site_base.specs.declared.state.Status.TheVariants.{Payable, Locked, Cleared}
 use Rattle.site_base.specs.declared.view.ProductView.{ProductView}
 use Rattle.fuelling_point.specs.KeptPoints.{Facts, is_under_way}
-use Rattle.meters.specs.Metered.{every_product, metered_by, product_alone, product_total}
+use Rattle.meters.specs.MeteredVolumes.{every_product, metered_by, product_alone, product_total}
 use Rattle.meters.specs.Nozzles.{Nozzle, product_of, reading_of}
 use Rattle.transaction_buffer.specs.Sales.{Sales}
 use Rattle.transaction_buffer.specs.Sums.{sum_of, volume_by}
@@ -45,26 +45,26 @@ drawn_by w [] = 0
 drawn_by w (shift ∷ shifts) = weighed_from w 1 shift + drawn_by w shifts
 
 -- the millilitres of product q in fuellings under way
-abbrev pub running : SiteState → ℕ → ℕ
-running s q = running_by (product_alone q) s.nozzles s.points
+abbrev pub running_volume : SiteState → ℕ → ℕ
+running_volume s q = running_by (product_alone q) s.nozzles s.points
 
 -- the millilitres that tests drew of product q in all shifts
 abbrev pub drawn_of : ℕ → List (List ℕ) → ℕ
 drawn_of q drawn = drawn_by (product_alone q) drawn
 
-abbrev pub adjusted : SiteState → ℕ → ℕ
-adjusted s q = drawn_of q s.drawn
+abbrev pub adjusted_volume : SiteState → ℕ → ℕ
+adjusted_volume s q = drawn_of q s.drawn
 
 -- a product at this price as a read shows it
 abbrev pub product_view : SiteState → ℕ → ℕ → ProductView
 product_view s q price = record {
   price = price;
   metered = product_total q s.nozzles;
-  running = running s q;
+  running = running_volume s q;
   payable = volume_by q Payable s.sales;
   locked = volume_by q Locked s.sales;
   cleared = volume_by q Cleared s.sales;
-  adjusted = adjusted s q;
+  adjusted = adjusted_volume s q;
 }
 
 -- what all meters of the site have counted, in millilitres

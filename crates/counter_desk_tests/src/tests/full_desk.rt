@@ -2,7 +2,7 @@
 
 use super::calls::{by_till, point};
 use super::day::{Day, run_day};
-use super::refused::leave;
+use super::out_of_memory::leave;
 use counter_desk::{Desk, Naming, Share};
 use forecourt_engines::known_site_of;
 use site_base::{Actor, Event, NoRow};

@@ -3,7 +3,7 @@
 ghost use Rattle.std.specs.Prelude.{◌≡◌, ◌^◌};
 
 use super::calls::{by_till, point};
-use super::refused::leave;
+use super::out_of_memory::leave;
 use counter_desk::{Desk, Naming, Root, SettleFault, Settled, Share, Unsettled, settle_all};
 use forecourt_engines::known_site_of;
 use site_base::{Event, NoMemory, SiteConfig};

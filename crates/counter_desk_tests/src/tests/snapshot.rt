@@ -2,7 +2,7 @@
 
 use super::calls::point;
 use super::day::run_day;
-use super::refused::PaidDay;
+use super::out_of_memory::PaidDay;
 use counter_desk::{Desk, Naming};
 use forecourt_engines::known_site_of;
 use site_base::{NoMemory, PointState};

@@ -66,7 +66,7 @@ pub fn read_asked(alloc: Global, text: &[u8]) -> Result<Asked, LineFault>
                 token,
             })
         }
-        Err(LineFault::Wrong(wrong)) => Err(LineFault::Wrong(wrong.behind(count_words(front)))),
+        Err(LineFault::Wrong(wrong)) => Err(LineFault::Wrong(wrong.shift_by(count_words(front)))),
         Err(LineFault::NoMemory) => Err(LineFault::NoMemory),
     }
 }

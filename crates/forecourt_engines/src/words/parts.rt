@@ -11,7 +11,7 @@ ghost use Rattle.site_base.specs.declared.sale.SaleId.{SaleId};
 ghost use Rattle.forecourt_engines.specs.Said.{IsActorWord, IsIdWord, IsMeterWord};
 ghost use Rattle.forecourt_engines.specs.Said.{IsNumberWord, IsSaleWord};
 
-use crate::number::{behind, number_behind, split_at_octet};
+use crate::number::{number_behind, split_at_octet, strip_word};
 use app_message::Token;
 use site_base::{
     Actor, FpNo, GREATEST_READING, GREATEST_SEQ, GREATEST_SHIFT, Millilitres, NOZZLES, NozzleNo,
@@ -28,13 +28,13 @@ pub fn actor_of(word: &[u8]) -> Option<Actor>
     ensures found { IfSome result (λ actor. IsActorWord word.now actor) }
     ensures other { IfNone result ((actor : Actor) → ¬ IsActorWord word.now actor) }
 {
-    if let Some(digits) = behind(b"t", word) {
+    if let Some(digits) = strip_word(b"t", word) {
         return match till_of(digits) {
             Some(till) => Some(Actor::Till(till)),
             None => None,
         };
     }
-    let Some(digits) = behind(b"d", word) else {
+    let Some(digits) = strip_word(b"d", word) else {
         return None;
     };
     match point_of(digits) {

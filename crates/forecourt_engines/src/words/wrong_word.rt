@@ -58,7 +58,7 @@ impl WrongWord {
     }
 
     /// The same word, where so many others stand before those among which it was counted.
-    pub fn behind(self, others: usize) -> WrongWord {
+    pub fn shift_by(self, others: usize) -> WrongWord {
         WrongWord {
             place: self.place.saturating_add(others),
             wanted: self.wanted,

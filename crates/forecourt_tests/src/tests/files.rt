@@ -1,7 +1,7 @@
 //! The site file of five fuelling points, and one of sixty-four. What their texts say is computed
 //! by theorems of site_file; here they are read.
 
-mod refused;
+mod out_of_memory;
 
 use site_base::SiteConfig;
 use site_file::read_config;

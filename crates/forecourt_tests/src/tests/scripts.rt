@@ -1,3 +1,3 @@
 //! demo_script: allocations that fail.
 
-mod refused;
+mod out_of_memory;

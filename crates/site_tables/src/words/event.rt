@@ -24,7 +24,7 @@ impl LastNamed {
     /// noted.
     pub fn next(&mut self, said: &Said) -> Option<(Actor, Event)> {
         let event = if said.counts {
-            self.counted(&said.event)?
+            self.count_from_last(&said.event)?
         } else {
             said.event
         };
@@ -38,7 +38,7 @@ impl LastNamed {
     }
 
     /// The event whose reading or number is counted from the one named last.
-    fn counted(&self, event: &Event) -> Option<Event> {
+    fn count_from_last(&self, event: &Event) -> Option<Event> {
         if let Some(more) = event.reading() {
             let reading = Millilitres::new(self.reading.checked_add(more.get())?)?;
             return with_reading(event, reading);

@@ -53,7 +53,7 @@ fn is_sign_off<R: Abort>(rt: &R, station: &Station, place: u64) -> bool {
 
 /// Is the peer owed just these octets? They are taken then.
 fn is_owed(station: &mut Station, key: usize, octets: &[u8]) -> bool {
-    let same = station.owed(key) == octets;
+    let same = station.owed_octets(key) == octets;
     station.take(key, octets.len());
     same
 }
@@ -75,12 +75,12 @@ fn dispenser_hears_of_its_release(rt: HostRuntime) -> Result<(), Fail> {
     octets.extend_from_slice(&encode(alloc, &open)?)?;
     assert!(rt; octets.len() > 5);
     station.hear(t, &octets[..5]);
-    assert!(rt; station.owed(t).is_empty());
+    assert!(rt; station.owed_octets(t).is_empty());
     station.hear(t, &octets[5..]);
     let mut told = reply_at(&rt, alloc, &station, 0, &on)?;
     told.extend_from_slice(&reply_at(&rt, alloc, &station, 1, &open)?)?;
     assert!(rt; is_owed(&mut station, t, &told), "the till's replies");
-    assert!(rt; station.owed(d).is_empty());
+    assert!(rt; station.owed_octets(d).is_empty());
 
     // The dispenser reports: behind the reply it is told that its point is open.
     let online = request(&rt, alloc, Actor::Dispenser(point), Event::Online(point))?;

@@ -63,7 +63,7 @@ fn cut_by_a_read(
     assert!(rt; seen.told.len() == size && seen.end.asked == asked);
     assert!(rt; seen.end.signed_off == (asked > 0));
     assert!(rt;
-        (seen.noted.last == Some(left(rt))) == (asked > 0),
+        (seen.noted.last == Some(leave_one(rt))) == (asked > 0),
         "not left last"
     );
     Ok(())
@@ -100,7 +100,7 @@ fn cut_by_a_write(
         "no front of the text"
     );
     assert!(rt; seen.told.len() == size && seen.end.asked == asked && seen.end.signed_off);
-    assert!(rt; seen.noted.last == Some(left(rt)), "not left last");
+    assert!(rt; seen.noted.last == Some(leave_one(rt)), "not left last");
     Ok(())
 }
 
@@ -112,12 +112,12 @@ fn whole(rt: &impl Abort, alloc: Global, seen: &Seen) -> Result<(), NoMemory> {
         seen.told == octets(rt, alloc, TWO_TILLS_TOLD)?,
         "told otherwise"
     );
-    assert!(rt; seen.noted.last == Some(left(rt)), "not left last");
+    assert!(rt; seen.noted.last == Some(leave_one(rt)), "not left last");
     Ok(())
 }
 
 /// Till 1 is left.
-fn left(rt: &impl Abort) -> Call {
+fn leave_one(rt: &impl Abort) -> Call {
     Call::Left(TillNo::new(1).expect(rt, "till 1"))
 }
 
@@ -135,7 +135,7 @@ fn the_reader_fails(rt: HostRuntime) -> Result<(), Fail> {
         let seen = session(&rt, alloc, &config, &[], peer)?;
         assert!(rt; seen.end.fault == Some(SessionFault::Read(ReadFault::Failed)));
         assert!(rt;
-            (seen.noted.last == Some(left(&rt))) == (k == 2),
+            (seen.noted.last == Some(leave_one(&rt))) == (k == 2),
             "not left last"
         );
         let size = if k == 2 { 32 } else { 0 };
@@ -202,7 +202,7 @@ fn writes_are_interrupted_without_end(rt: HostRuntime) -> Result<(), Fail> {
         );
         assert!(rt; seen.told.len() == size && seen.end.asked == asked);
         assert!(rt; seen.noted.written == written && seen.end.signed_off);
-        assert!(rt; seen.noted.last == Some(left(&rt)), "not left last");
+        assert!(rt; seen.noted.last == Some(leave_one(&rt)), "not left last");
         // Each read takes a turn, and each interrupted write but the last, which finds none.
         assert!(rt; seen.calls.saturating_add(reads) == first.saturating_add(10));
     }

@@ -99,7 +99,7 @@ pub struct Sender {
 
 impl Sender {
     /// How many octets it has sent by now.
-    fn sent(&self) -> usize {
+    fn count_sent(&self) -> usize {
         let mut sent = 0;
         for (told, size) in self.sends {
             if *told <= self.told.get() {
@@ -114,7 +114,7 @@ impl Read for Sender {
     /// A read that would wait for good, for octets that the peer doesn't send before it is told
     /// more, fails.
     fn read(&mut self, buf: &mut [u8]) -> io::Result<usize> {
-        let rest = self.sent().saturating_sub(self.read);
+        let rest = self.count_sent().saturating_sub(self.read);
         if rest == 0 && self.read < self.size {
             return Err(io::Error::from(ErrorKind::WouldBlock));
         }

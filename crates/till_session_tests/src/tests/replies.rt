@@ -43,12 +43,12 @@ fn tells(
     parts: [&str; 2],
 ) -> Result<(), NoMemory> {
     let told = encode(alloc, &reply_of(alloc, request, reply)?)?;
-    assert!(rt; told == joined(rt, alloc, parts)?, "told otherwise");
+    assert!(rt; told == join(rt, alloc, parts)?, "told otherwise");
     Ok(())
 }
 
 /// The octets of two texts.
-fn joined(rt: &impl Abort, alloc: Global, parts: [&str; 2]) -> Result<Vec<u8>, NoMemory> {
+fn join(rt: &impl Abort, alloc: Global, parts: [&str; 2]) -> Result<Vec<u8>, NoMemory> {
     let [first, second] = parts;
     let mut joined = octets(rt, alloc, first)?;
     joined.extend_from_slice(&octets(rt, alloc, second)?)?;
@@ -393,10 +393,7 @@ fn numbers_in_place_of_a_reply(rt: HostRuntime) -> Result<(), Fail> {
     ];
     for (number, told) in cases {
         let refusal = encode(alloc, &refusal_of(alloc, &request, number)?)?;
-        assert!(rt;
-            refusal == joined(&rt, alloc, [ACK, told])?,
-            "told otherwise"
-        );
+        assert!(rt; refusal == join(&rt, alloc, [ACK, told])?, "told otherwise");
     }
     Ok(())
 }

@@ -1,5 +1,5 @@
 use Rattle.std.proofs.Common.{arith}
-use Rattle.counter_desk.proofs.Submitted.{submitted_more}
+use Rattle.counter_desk.proofs.CallsMade.{submitted_more}
 use Rattle.counter_desk.proofs.worker.submit_all.Goals as goal
 
 pub loop-call-preserved : goal.loop-call-preserved

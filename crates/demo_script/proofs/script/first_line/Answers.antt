@@ -1,7 +1,7 @@
 use Rattle.std.proofs.Common.{◌≡◌, ◌∷◌, suc, take, drop, get_or, ap, ◌∙◌, add-one, arith}
 use Rattle.std.proofs.lemmas.Bool.{eqb-true, eq-eqb}
 use Rattle.demo_script.specs.Lines.{lines_of}
-use Rattle.demo_script.proofs.Lined.{line_first, line_last}
+use Rattle.demo_script.proofs.FirstLines.{line_first, line_last}
 use Rattle.demo_script.proofs.script.first_line.Goals as goal
 
 pub returns-in-Some-clause-line : goal.returns-in-Some-clause-line

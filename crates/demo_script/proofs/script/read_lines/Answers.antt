@@ -1,5 +1,5 @@
 use Rattle.std.proofs.Common.{arith}
-use Rattle.demo_script.proofs.Reached.{reached_more, reached_refused}
+use Rattle.demo_script.proofs.ReadLines.{reached_more, reached_refused}
 use Rattle.demo_script.proofs.script.read_lines.Goals as goal
 
 pub returns-in-Err-clause-refused : goal.returns-in-Err-clause-refused

@@ -1,4 +1,4 @@
-use Rattle.demo_script.proofs.Parted.{numbers_are, unparted}
+use Rattle.demo_script.proofs.NumberPairs.{numbers_are, unparted}
 use Rattle.demo_script.proofs.words.dispenser_in.Goals as goal
 
 pub returns-in_default-split_at_octet-clause-other :

@@ -11,24 +11,25 @@ returns-in_err-put_listening-clause-front g c =
 pub returns-in_err-put_book_report-clause-front : goal.returns-in_err-put_book_report-clause-front
 returns-in_err-put_book_report-clause-front g c =
     tells_station_front _ _ _ _ _ _ _ _ _ _ c.port.ensures c.in_ok-try_open.ensures
-    c.in_ok-connections.ensures c.serve-served.ensures c.book.ensures
+    c.in_ok-connections.ensures c.serve-served.ensures.moves c.book.ensures
     c.in_ok-put_listening.ensures.written c.put_book_report.ensures.front
 
 -- the server ended before the day did
 pub returns-in_err-served-clause-front : goal.returns-in_err-served-clause-front
 returns-in_err-served-clause-front g c =
     tells_station_front _ _ _ _ _ _ _ _ _ _ c.port.ensures c.in_ok-try_open.ensures
-    c.in_ok-connections.ensures c.serve-served.ensures c.book.ensures
+    c.in_ok-connections.ensures c.serve-served.ensures.moves c.book.ensures
     c.in_ok-put_listening.ensures.written c.in_ok-put_book_report.ensures.front
 
 pub returns-clause-told : goal.returns-clause-told
 returns-clause-told g c =
     tells_station _ _ _ _ _ _ _ _ _ _ c.port.ensures c.in_ok-try_open.ensures
-    c.in_ok-connections.ensures c.serve-served.ensures c.book.ensures
+    c.in_ok-connections.ensures c.serve-served.ensures.moves c.serve-served.ensures.left
+    c.book.ensures
     c.in_ok-put_listening.ensures.written c.in_ok-put_book_report.ensures.written
 
 pub returns-clause-front : goal.returns-clause-front
 returns-clause-front g c =
     tells_station_front _ _ _ _ _ _ _ _ _ _ c.port.ensures c.in_ok-try_open.ensures
-    c.in_ok-connections.ensures c.serve-served.ensures c.book.ensures
+    c.in_ok-connections.ensures c.serve-served.ensures.moves c.book.ensures
     c.in_ok-put_listening.ensures.written c.in_ok-put_book_report.ensures.front

@@ -1,4 +1,4 @@
-use Rattle.fuelling_point.proofs.Lifted.{the_lifted}
+use Rattle.fuelling_point.proofs.Lifts.{the_lifted}
 use Rattle.fuelling_point.proofs.laws.sold_by_the_lifted_nozzle.Goals as goal
 
 pub returns : goal.returns

@@ -1,5 +1,5 @@
 use Rattle.std.proofs.Common.{rules}
-use Rattle.meters.proofs.Bounded.{total_bound}
+use Rattle.meters.proofs.Bounds.{total_bound}
 use Rattle.meters.proofs.recount.recount.Goals as goal
 
 pub overflow_add-sum : goal.overflow_add-sum

@@ -1,5 +1,5 @@
 use Rattle.std.proofs.Common.{◌≡◌, ◌+◌, drop}
-use Rattle.meters.specs.Metered.{product_total}
+use Rattle.meters.specs.MeteredVolumes.{product_total}
 use Rattle.meters.proofs.recount.recount.Given as goal
 
 -- what is counted, with what the nozzles behind have, is what all have

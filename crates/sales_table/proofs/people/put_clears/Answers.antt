@@ -1,6 +1,6 @@
 use Rattle.std.proofs.Common.{◌++◌, ℕ, ap, ◌∙◌, decimal}
 use Rattle.sales_table.specs.People.{money}
-use Rattle.sales_table.proofs.Joining.{put_both}
+use Rattle.sales_table.proofs.JoinedTexts.{put_both}
 use Rattle.sales_table.proofs.people.put_clears.Goals as goal
 
 pub returns : goal.returns

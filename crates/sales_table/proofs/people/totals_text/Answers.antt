@@ -2,7 +2,7 @@ use Rattle.std.proofs.Common.{◌++◌, ℕ, List, [], ap, ◌∙◌}
 use Rattle.site_base.specs.declared.view.ProductView.{ProductView}
 use Rattle.sales_table.specs.Columns.{Line, table_text}
 use Rattle.sales_table.specs.People.{clears_text, rows_text, table_lines}
-use Rattle.sales_table.proofs.Joining.{put_both}
+use Rattle.sales_table.proofs.JoinedTexts.{put_both}
 use Rattle.sales_table.proofs.people.totals_text.Goals as goal
 
 pub returns : goal.returns

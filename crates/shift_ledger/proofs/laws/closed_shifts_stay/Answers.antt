@@ -1,4 +1,4 @@
-use Rattle.shift_ledger.proofs.Standing.{do_stay as law}
+use Rattle.shift_ledger.proofs.ClosedShifts.{do_stay as law}
 use Rattle.shift_ledger.proofs.laws.closed_shifts_stay.Goals as goal
 
 pub returns : goal.returns

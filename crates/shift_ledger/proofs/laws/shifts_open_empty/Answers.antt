@@ -1,4 +1,4 @@
-use Rattle.shift_ledger.proofs.Standing.{is_opened_empty as law}
+use Rattle.shift_ledger.proofs.ClosedShifts.{is_opened_empty as law}
 use Rattle.shift_ledger.proofs.laws.shifts_open_empty.Goals as goal
 
 pub returns : goal.returns

@@ -1,6 +1,6 @@
 -- A call that took octets, or none: what is written is the text up to where that call ended.
 use Rattle.std.proofs.Common.{ℕ, ◌+◌, ◌∙◌, arith, length-drop, length-take}
-use Rattle.site_base.proofs.Known.{Appends-taken, AppendsFront-taken}
+use Rattle.site_base.proofs.KnownBytes.{Appends-taken, AppendsFront-taken}
 use Rattle.site_base.proofs.transfer.write_whole.Goals as goal
 
 pub returns-in-Ok-eq0-clause-front : goal.returns-in-Ok-eq0-clause-front

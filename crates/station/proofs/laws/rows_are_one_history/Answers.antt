@@ -1,10 +1,10 @@
-use Rattle.station.specs.Runs.{after, opened}
+use Rattle.station.specs.Runs.{after, opening_station}
 use Rattle.station.proofs.History.{always_legal, moves_on}
 use Rattle.station.proofs.laws.rows_are_one_history.Goals as goal
 
 pub returns : goal.returns
 returns c = λ b ms more legal.
-    let later = moves_on more (after ms (opened b)) in
+    let later = moves_on more (after ms (opening_station b)) in
     record {
       legal = always_legal b ms legal;
       later = later.grows.more;

@@ -1,6 +1,6 @@
 use Rattle.std.proofs.Common.{◌∙◌, ap, arith, length}
 use Rattle.std.proofs.lemmas.List.Elements.{All-push, All-rest}
-use Rattle.till_session.specs.Drawn.{IsStartOf}
+use Rattle.till_session.specs.SessionEnds.{IsStartOf}
 use Rattle.till_session.proofs.server.run_all.Goals as goal
 use Rattle.till_session.proofs.server.run_all.Goals.{in-Ok, in-Err}
 

@@ -1,7 +1,7 @@
 use Rattle.std.proofs.Common.{◌≡◌, ◌+◌, ◌≤◌, length, vec_capacity, vec_len}
 use Rattle.std.specs.List.{All}
 use Rattle.std.specs.Vec.Iter.{into_iter_items, into_iter_len}
-use Rattle.till_session.specs.Drawn.{IsSlotOf, IsStartOf}
+use Rattle.till_session.specs.SessionEnds.{IsSlotOf, IsStartOf}
 use Rattle.till_session.proofs.server.run_all.Given as goal
 
 -- there is room for the threads that may still be started

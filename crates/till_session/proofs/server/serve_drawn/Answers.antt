@@ -1,6 +1,6 @@
 use Rattle.std.proofs.Common.{arith}
 use Rattle.std.proofs.lemmas.List.Elements.{All-push}
-use Rattle.till_session.specs.Drawn.{IsEndOf}
+use Rattle.till_session.specs.SessionEnds.{IsEndOf}
 use Rattle.till_session.proofs.server.serve_drawn.Goals as goal
 
 pub loop-preserved : goal.loop-preserved

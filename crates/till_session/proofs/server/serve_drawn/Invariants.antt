@@ -1,6 +1,6 @@
 use Rattle.std.proofs.Common.{◌+◌, ◌≤◌, vec_capacity, vec_len}
 use Rattle.std.specs.List.{All}
-use Rattle.till_session.specs.Drawn.{IsEndOf}
+use Rattle.till_session.specs.SessionEnds.{IsEndOf}
 use Rattle.till_session.proofs.server.serve_drawn.Given as goal
 
 -- there is room for the ends of the sessions that may still be drawn

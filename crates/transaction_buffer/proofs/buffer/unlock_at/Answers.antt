@@ -1,5 +1,5 @@
 use Rattle.std.proofs.Common.{◌∙◌, arith, length-set}
-use Rattle.transaction_buffer.proofs.Kept.{can_let_go, kept_let_go}
+use Rattle.transaction_buffer.proofs.SumsAfter.{can_let_go, kept_let_go}
 use Rattle.transaction_buffer.proofs.LetGo.{stages_next}
 use Rattle.transaction_buffer.proofs.buffer.unlock_at.Goals as goal
 

@@ -1,5 +1,5 @@
 use Rattle.std.proofs.Common.{◌<◌, length, arith}
-use Rattle.app_message.specs.Bodies.{listed}
+use Rattle.app_message.specs.Bodies.{entries_in}
 use Rattle.app_message.proofs.Bodies.{next_of, short_lists_none}
 use Rattle.app_message.proofs.items.ItemsIterator.next.Goals as goal
 
@@ -37,6 +37,6 @@ returns-clause-steps c =
 pub returns-clause-goes : goal.returns-clause-goes
 returns-clause-goes c =
     let next = next_of c.self.inside.rest.now c.in-len2-up.len_at_least c.self.invariant in
-    let fewer : length (listed c.split_at.result.1.now) < length c.args.self.now =
+    let fewer : length (entries_in c.split_at.result.1.now) < length c.args.self.now =
     rw (← c.self.view_is, c.split_at.ensures.back, c.from.ensures, next.is) (omega arith) in
     record { on = λ _. (tt, tt, fewer); keeps = tt; rests = λ _. tt }

@@ -1,5 +1,5 @@
 use Rattle.std.proofs.Common.{arith, ◌∙◌}
-use Rattle.dispenser_sim.proofs.Reported.{taken_more}
+use Rattle.dispenser_sim.proofs.StepsTaken.{taken_more}
 use Rattle.dispenser_sim.proofs.dispenser.Dispenser.take_steps.Goals as goal
 
 pub loop-step-preserved : goal.loop-step-preserved

@@ -1,4 +1,4 @@
-use Rattle.forecourt_engines.proofs.Asked.{no_token, nothing_asked, nothing_before}
+use Rattle.forecourt_engines.proofs.OneRequest.{no_token, nothing_asked, nothing_before}
 use Rattle.forecourt_engines.proofs.words.asked.read_asked.Goals as goal
 
 pub returns-in-Err-clause-other : goal.returns-in-Err-clause-other

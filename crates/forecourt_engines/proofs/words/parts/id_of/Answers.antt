@@ -1,4 +1,4 @@
-use Rattle.forecourt_engines.proofs.Parted.{no_seq, no_shift}
+use Rattle.forecourt_engines.proofs.TextParts.{no_seq, no_shift}
 use Rattle.forecourt_engines.proofs.words.parts.id_of.Goals as goal
 
 pub returns-in_default-shift_of-clause-other : goal.returns-in_default-shift_of-clause-other

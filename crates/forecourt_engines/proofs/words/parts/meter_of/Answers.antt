@@ -1,4 +1,4 @@
-use Rattle.forecourt_engines.proofs.Parted.{meter_parts}
+use Rattle.forecourt_engines.proofs.TextParts.{meter_parts}
 use Rattle.forecourt_engines.proofs.words.parts.meter_of.Goals as goal
 
 pub returns-in_default-nozzle_of-clause-other : goal.returns-in_default-nozzle_of-clause-other

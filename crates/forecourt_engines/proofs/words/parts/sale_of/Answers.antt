@@ -1,4 +1,4 @@
-use Rattle.forecourt_engines.proofs.Parted.{sale_parts}
+use Rattle.forecourt_engines.proofs.TextParts.{sale_parts}
 use Rattle.forecourt_engines.proofs.words.parts.sale_of.Goals as goal
 
 pub returns-in_default-point_of-clause-other : goal.returns-in_default-point_of-clause-other

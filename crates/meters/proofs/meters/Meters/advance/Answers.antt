@@ -3,11 +3,11 @@ use Rattle.std.proofs.Common.{subst, ap, ◌∙◌}
 use Rattle.std.proofs.Math.ListN.{set}
 use Rattle.meters.specs.declared.report.Report.TheVariants.{Growing}
 use Rattle.meters.specs.Nozzles.{Nozzle, reading_of, with_last, read_at}
-use Rattle.meters.specs.Metered.{most_of_a_site}
+use Rattle.meters.specs.MeteredVolumes.{most_of_a_site}
 use Rattle.meters.specs.Places.{AreKept}
 use Rattle.meters.specs.Reports.{growth_of}
-use Rattle.meters.proofs.Looked.{reading_is}
-use Rattle.meters.proofs.Weighed.{accepted_above}
+use Rattle.meters.proofs.Lookups.{reading_is}
+use Rattle.meters.proofs.Weights.{accepted_above}
 use Rattle.meters.proofs.KeptTotals.{fits, kept_read}
 use Rattle.meters.proofs.meters.Meters.advance.Goals as goal
 use Rattle.meters.proofs.meters.Meters.advance.Goals.{After-cell}

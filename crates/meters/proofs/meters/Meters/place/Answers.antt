@@ -1,6 +1,6 @@
 use Rattle.std.proofs.Common.{◌≡◌, None, ap, ◌∙◌, get_or}
 use Rattle.meters.specs.Places.{place_in}
-use Rattle.meters.proofs.Looked.{is_place, is_there}
+use Rattle.meters.proofs.Lookups.{is_place, is_there}
 use Rattle.meters.proofs.meters.Meters.place.Goals as goal
 
 pub returns : goal.returns

@@ -1,5 +1,5 @@
 use Rattle.std.proofs.Common.{◌+◌, arith}
-use Rattle.meters.proofs.Bounded.{bound, total_bound}
+use Rattle.meters.proofs.Bounds.{bound, total_bound}
 use Rattle.meters.proofs.meters.Meters.product_total.Goals as goal
 
 pub returns-clause-range : goal.returns-clause-range

@@ -8,7 +8,7 @@ use Rattle.site_book.specs.Book.{IsBook, book_reply}
 use Rattle.site_book.specs.SignedOn.{tills_on}
 use Rattle.site_book.proofs.Books.{IsBook-push, tills_with-most}
 use Rattle.written_site.proofs.Growths.{growth_fits}
-use Rattle.site_book.proofs.Signed.{no_more}
+use Rattle.site_book.proofs.SignedTills.{no_more}
 use Rattle.site_book.proofs.book.SiteBook.apply.Goals as goal
 
 pub tills_with-self-inside-requires : goal.tills_with-self-inside-requires

@@ -5,7 +5,7 @@ use Rattle.site_base.specs.declared.row.Row.{Row}
 use Rattle.site_base.specs.declared.limits.TheConstants.{TILLS}
 use Rattle.site_book.specs.SignedOn.{tills_on}
 use Rattle.site_book.proofs.Books.{IsBook-push}
-use Rattle.site_book.proofs.Signed.{no_more, one_on, tills_after}
+use Rattle.site_book.proofs.SignedTills.{no_more, one_on, tills_after}
 use Rattle.site_book.proofs.book.SiteBook.sign_off.Goals as goal
 
 pub add_sign_off-placed-requires-clause-row : goal.add_sign_off-placed-requires-clause-row

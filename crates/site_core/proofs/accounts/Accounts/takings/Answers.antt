@@ -1,7 +1,7 @@
 use Rattle.std.proofs.Common.{◌≡◌, ◌<◌, ◌^◌, ℕ, length, sym, ap, subst, ◌∙◌}
 use Rattle.std.specs.List.{sum_by}
 use Rattle.shift_ledger.specs.Shifts.{figures_of}
-use Rattle.shift_ledger.proofs.Standing.{do_stay}
+use Rattle.shift_ledger.proofs.ClosedShifts.{do_stay}
 use Rattle.written_site.specs.ShiftFigures.{takings_in}
 use Rattle.site_core.proofs.NotedDraws.{draws-open}
 use Rattle.site_core.proofs.ShownFigures.{takings_shown}

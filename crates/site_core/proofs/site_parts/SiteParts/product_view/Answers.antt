@@ -1,12 +1,12 @@
 use Rattle.std.proofs.Common.{refl, arith}
-use Rattle.written_site.specs.Volumes.{running}
+use Rattle.written_site.specs.Volumes.{running_volume}
 use Rattle.site_core.specs.SiteParts.{site_of}
 use Rattle.site_core.proofs.Reports.{IsRest, rest_told}
 use Rattle.site_core.proofs.site_parts.SiteParts.product_view.Goals as goal
 
 -- the figures that were read, as the site's rules have them
 abbrev rest : (c : goal.After-drawn_volume-adjusted)
-    → IsRest c.product_total-metered.result (running (site_of c.args.self.now) c.args.q)
+    → IsRest c.product_total-metered.result (running_volume (site_of c.args.self.now) c.args.q)
     c.sum-payable.result
     c.sum-locked.result c.sum-cleared.result c.drawn_volume-adjusted.result
 rest c =

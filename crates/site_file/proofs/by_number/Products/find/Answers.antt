@@ -2,7 +2,7 @@ use Rattle.std.proofs.Common.{◌≡◌, ℕ, List, Option, Some, None, IfSome, 
 use Rattle.std.proofs.Common.{refl, sym, ap, ◌∙◌}
 use Rattle.site_base.specs.declared.config.ProductEntry.{ProductEntry}
 use Rattle.site_base.specs.Configured.{has_product}
-use Rattle.site_file.proofs.Numbered.{found_there, found_number}
+use Rattle.site_file.proofs.ByNumber.{found_there, found_number}
 use Rattle.site_file.proofs.by_number.Products.find.Goals as goal
 
 copied_there : (r : Option (Bor ProductEntry)) → is_some r ≡ is_some (option_copied r)

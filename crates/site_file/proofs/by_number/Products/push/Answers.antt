@@ -2,7 +2,7 @@ use Rattle.std.proofs.Common.{ap, ◌∙◌, List, refl}
 use Rattle.std.specs.Map.{values_of}
 use Rattle.site_base.specs.declared.config.ProductEntry.{ProductEntry}
 use Rattle.site_base.specs.Configured.{has_product}
-use Rattle.site_file.proofs.Numbered.{inserted, are_by_number-push, values_of-push}
+use Rattle.site_file.proofs.ByNumber.{inserted, are_by_number-push, values_of-push}
 use Rattle.site_file.proofs.by_number.Products.push.Goals as goal
 
 pub invariant_of-self-2 : goal.invariant_of-self-2

@@ -1,6 +1,6 @@
 use Rattle.std.proofs.Common.{◌≡◌, vec_len}
 use Rattle.std.specs.List.{All}
-use Rattle.till_session.specs.Drawn.{IsSlotOf}
+use Rattle.till_session.specs.SessionEnds.{IsSlotOf}
 use Rattle.till_session.proofs.server.Plan.keep.Given as goal
 
 abbrev pub invariant-loop-numbered : goal.invariant-loop-numbered

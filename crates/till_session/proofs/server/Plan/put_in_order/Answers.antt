@@ -1,6 +1,6 @@
 use Rattle.std.proofs.Common.{None, arith, subst}
 use Rattle.std.proofs.lemmas.List.Elements.{All-push}
-use Rattle.till_session.specs.Drawn.{IsDrawnEnd, IsSlotOf}
+use Rattle.till_session.specs.SessionEnds.{IsDrawnEnd, IsSlotOf}
 use Rattle.till_session.proofs.server.Plan.put_in_order.Goals as goal
 use Rattle.till_session.proofs.server.Plan.put_in_order.Goals.{in-Some, in_default}
 

@@ -1,6 +1,6 @@
 use Rattle.std.proofs.Common.{◌≤◌, length, vec_capacity, vec_len}
 use Rattle.std.specs.List.{All}
-use Rattle.till_session.specs.Drawn.{IsDrawnEnd}
+use Rattle.till_session.specs.SessionEnds.{IsDrawnEnd}
 use Rattle.till_session.proofs.server.Plan.put_in_order.Given as goal
 
 abbrev pub invariant-loop-slot : goal.invariant-loop-slot

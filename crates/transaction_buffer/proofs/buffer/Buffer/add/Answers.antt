@@ -8,7 +8,7 @@ use Rattle.transaction_buffer.specs.Sums.{volume_of}
 use Rattle.transaction_buffer.specs.Shelves.{sales_on, stock}
 use Rattle.transaction_buffer.proofs.OnShelves.{sales_there, room_taken, room_there, shelf_filled}
 use Rattle.transaction_buffer.proofs.OnShelves.{stock_push}
-use Rattle.transaction_buffer.proofs.Kept.{fits_more, kept_sold}
+use Rattle.transaction_buffer.proofs.SumsAfter.{fits_more, kept_sold}
 use Rattle.transaction_buffer.proofs.Lockers.{noted_there, noted_after}
 use Rattle.transaction_buffer.proofs.Spans.{made_counts}
 use Rattle.transaction_buffer.proofs.buffer.Buffer.add.Goals as goal

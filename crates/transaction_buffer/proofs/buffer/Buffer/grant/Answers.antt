@@ -9,9 +9,9 @@ use Rattle.transaction_buffer.specs.Sales.{with_sale}
 use Rattle.transaction_buffer.specs.Shelves.{stock, sales_on}
 use Rattle.transaction_buffer.specs.TransactionTable.{line_for, line_of, refusal_in}
 use Rattle.transaction_buffer.specs.TransactionTable.{sale_after_request}
-use Rattle.transaction_buffer.proofs.Accepted.{IsAccepted, accepted, granted}
+use Rattle.transaction_buffer.proofs.AcceptedRequests.{IsAccepted, accepted, granted}
 use Rattle.transaction_buffer.proofs.FoundSales.{found_there}
-use Rattle.transaction_buffer.proofs.Kept.{among, fits_again, kept_replaced}
+use Rattle.transaction_buffer.proofs.SumsAfter.{among, fits_again, kept_replaced}
 use Rattle.transaction_buffer.proofs.Lockers.{noted_there, noted_after}
 use Rattle.transaction_buffer.proofs.OnShelves.{rooms_same, sales_there, shelf_filled, stock_with}
 use Rattle.transaction_buffer.proofs.Spans.{StandsAt}

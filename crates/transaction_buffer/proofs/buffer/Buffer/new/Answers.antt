@@ -3,7 +3,7 @@ use Rattle.std.proofs.Common.{rules}
 use Rattle.transaction_buffer.specs.KeptSums.{AreSums}
 use Rattle.transaction_buffer.specs.Sales.{no_sales}
 use Rattle.transaction_buffer.specs.Shelves.{Shelf, sales_on}
-use Rattle.transaction_buffer.specs.Locked.{no_lockers, AreTold, IsNoted}
+use Rattle.transaction_buffer.specs.LockedSales.{no_lockers, AreTold, IsNoted}
 use Rattle.transaction_buffer.specs.Sums.{volume_in, volume_with}
 use Rattle.transaction_buffer.proofs.OnShelves.{nothing_there, nothing_sold}
 use Rattle.transaction_buffer.proofs.buffer.Buffer.new.Goals as goal

@@ -6,7 +6,7 @@ use Rattle.site_base.specs.declared.limits.TheConstants.{GREATEST_SHIFT}
 use Rattle.transaction_buffer.specs.declared.span.Span.{Span}
 use Rattle.transaction_buffer.specs.Sales.{Sale, unpaid_among}
 use Rattle.transaction_buffer.specs.Shelves.{AreSpans, shifts_of, no_span}
-use Rattle.transaction_buffer.specs.Spans.{grown}
+use Rattle.transaction_buffer.specs.Spans.{with_one_more}
 use Rattle.transaction_buffer.proofs.Spans.{made_counts, shifts_pushed, spans_grown, room_full}
 use Rattle.transaction_buffer.specs.UnpaidPlaces.{AreUnpaid, place_with, place_kept}
 use Rattle.transaction_buffer.proofs.Unpaid.{unpaid_push}
@@ -29,9 +29,9 @@ its_span c =
     no_span
     (omega (arith, cells))
 
-pub grown-requires : goal.grown-requires
-grown-requires c =
-    let d = (goal.at.grown-requires c).After-index-span in
+pub with_one_more-requires : goal.with_one_more-requires
+with_one_more-requires c =
+    let d = (goal.at.with_one_more-requires c).After-index-span in
     let requires = rw (← c.self.view_is) at c.requires in
     let g = c.args.sale.shift in
     let span = c.self.invariant.spans g (omega arith) (omega arith) in
@@ -52,15 +52,16 @@ invariant_of-self c =
     let requires = rw (← c.self.view_is) at c.requires in
     let whole : length cells ≡ GREATEST_SHIFT = full d in
     let count : length (shifts_of xs) ≡ length xs = length-map xs (λ (y : Sale). y.shift) in
-    let span : c.grown.result ≡ grown (get_or cells i no_span) (length (shifts_of xs)) =
-    c.grown.ensures ∙ ap (λ s. grown s c.len-place.result) (its_span d)
-    ∙ ap (λ n. grown (get_or cells i no_span) n) (omega (arith, count)) in
+    let span : c.with_one_more.result
+    ≡ with_one_more (get_or cells i no_span) (length (shifts_of xs)) =
+    c.with_one_more.ensures ∙ ap (λ s. with_one_more s c.len-place.result) (its_span d)
+    ∙ ap (λ n. with_one_more (get_or cells i no_span) n) (omega (arith, count)) in
     let spans = spans_grown (shifts_of xs) x.shift requires.order (omega arith) cells i
     (omega arith)
     (omega (arith, whole)) (omega (arith, made_counts x.shift xs, requires.number))
     c.self.invariant.spans in
-    let as_many : length (set cells i c.grown.result) ≡ length cells =
-    length-set cells i c.grown.result in
+    let as_many : length (set cells i c.with_one_more.result) ≡ length cells =
+    length-set cells i c.with_one_more.result in
     let place : c.len-place.result ≡ length xs = omega arith in
     let unpaid : unpaid_among (xs ++ x ∷ []) ≤ unpaid_among xs + 1 = unpaid_push xs x in
     rw c.push_reserved.ensures.items (record {
@@ -78,6 +79,6 @@ invariant_of-self c =
       few = omega (arith, as_many, whole);
       spans = subst (λ s. AreSpans (shifts_of (xs ++ x ∷ [])) (set cells i s)) (sym span)
           (subst (λ gs. AreSpans gs (set cells i
-          (grown (get_or cells i no_span) (length (shifts_of xs)))))
+          (with_one_more (get_or cells i no_span) (length (shifts_of xs)))))
           (sym (shifts_pushed xs x)) spans);
     })

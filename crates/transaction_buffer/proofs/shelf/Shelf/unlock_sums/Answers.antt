@@ -2,7 +2,7 @@ use Rattle.std.proofs.Common.{◌≡◌, ℕ, ◌+◌, List, sym, subst}
 use Rattle.transaction_buffer.specs.Sales.{Sale}
 use Rattle.transaction_buffer.specs.Sums.{sum_among, volume_locked_by}
 use Rattle.transaction_buffer.specs.UnpaidPlaces.{figure_at}
-use Rattle.transaction_buffer.proofs.Kept.{can_first, can_second, moved_twice}
+use Rattle.transaction_buffer.proofs.SumsAfter.{can_first, can_second, moved_twice}
 use Rattle.transaction_buffer.proofs.TwoPlaces.{locked_at_places}
 use Rattle.transaction_buffer.proofs.shelf.Shelf.unlock_sums.Goals as goal
 use Rattle.transaction_buffer.proofs.shelf.Shelf.unlock_sums.Goals.{After-deref-sales}
