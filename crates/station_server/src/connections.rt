@@ -30,6 +30,8 @@ pub struct Connections {
     due_count: usize,
     /// So many sessions have ended whose connections haven't.
     closing: usize,
+    /// Of so many rows it was looked whether a dispenser is told of them.
+    rows_seen: u64,
     ghost some: { 0 < length piece.items },
 }
 
@@ -49,6 +51,7 @@ impl Connections {
             due: Vec::from_elem(alloc, 0, PEERS)?,
             due_count: 0,
             closing: 0,
+            rows_seen: 0,
         })
     }
 
@@ -130,11 +133,14 @@ impl Connections {
         }
     }
 
-    /// Peers that are owed octets are sent them at the end of this round, but for those whose
-    /// connections take none for now.
+    /// Where a dispenser is told of a row of this round, peers that are owed octets are sent them at
+    /// its end, but for those whose connections take none for now. Whoever spoke is sent them anyway.
     pub(crate) fn make_owed_due(&mut self)
         ensures { self.new.station ≡ self.old.station }
     {
+        if !self.has_changes() {
+            return;
+        }
         let mut from = 0;
         for _ in 0..PEERS {
             let Some(key) = self.station.next_owed(from) else {
@@ -145,6 +151,20 @@ impl Connections {
             }
             from = key + 1;
         }
+    }
+
+    /// Is there a row, since this was asked last, that a dispenser may be told of?
+    fn has_changes(&mut self) -> bool
+        ensures { self.new.station ≡ self.old.station }
+    {
+        let first = self.rows_seen;
+        self.rows_seen = self.station.book().len();
+        for place in first..self.rows_seen {
+            if is_change(self.station.book(), place) {
+                return true;
+            }
+        }
+        false
     }
 
     /// Does the connection of a peer take octets, or has its session ended just now?
@@ -371,6 +391,14 @@ impl Connections {
             link.shut();
             link.ignore(&mut self.piece);
         }
+    }
+}
+
+/// Is the row at this place one that a dispenser may be told of?
+fn is_change(book: &SiteBook, place: u64) -> bool {
+    match book.row(place) {
+        Some(row) => row.reply.is_ok() && row.event.has_change(),
+        None => false,
     }
 }
 
