@@ -59,11 +59,11 @@ impl SiteParts {
             Event::ReadProduct(q) => self.check_read_product(t, *q),
             Event::CloseShift => self.check_close_shift(t),
             Event::ReadSite => self.check_read_site(t),
-            Event::Online(_) => Err(self.refuse_report(t, event)),
-            Event::Offline(_) => Err(self.refuse_report(t, event)),
-            Event::Lift(_, _, _) => Err(self.refuse_report(t, event)),
-            Event::Flow(_, _, _) => Err(self.refuse_report(t, event)),
-            Event::HangUp(_, _, _) => Err(self.refuse_report(t, event)),
+            Event::Online(_) => self.refuse_report(t, event),
+            Event::Offline(_) => self.refuse_report(t, event),
+            Event::Lift(_, _, _) => self.refuse_report(t, event),
+            Event::Flow(_, _, _) => self.refuse_report(t, event),
+            Event::HangUp(_, _, _) => self.refuse_report(t, event),
         }
     }
 
@@ -93,20 +93,16 @@ impl SiteParts {
         }
     }
 
-    /// Why a till is refused what dispensers report: that it is signed on and the numbers are
-    /// looked at first.
-    fn refuse_report(&self, t: TillNo, event: &Event) -> Refusal
+    /// A till is refused what dispensers report: that it is signed on and the numbers are looked at
+    /// first.
+    fn refuse_report(&self, t: TillNo, event: &Event) -> Result<Ready, Refusal>
         requires reported { is_none (reported_by event.now) ≡ false }
         requires signs { signing (site_of self.now) (Till t) event.now
             ≡ unless (is_signed_on (site_of self.now) t) NotSignedOn }
-        ensures { may_ask (site_of self.now) (Till t) event.now ≡ Some result }
+        ensures { Checks (site_of self.now) (Till t) event.now result }
     {
-        if let Err(refusal) = self.check_signed_on(t) {
-            return refusal;
-        }
-        match self.check_named(event) {
-            Err(refusal) => refusal,
-            Ok(()) => Refusal::NotYourPoint,
-        }
+        self.check_signed_on(t)?;
+        self.check_named(event)?;
+        Err(Refusal::NotYourPoint)
     }
 }

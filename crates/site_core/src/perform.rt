@@ -19,7 +19,8 @@ use site_base::{Answer, FpNo, Millilitres, NozzleNo, TillNo};
 use till_claims::Claims;
 
 impl SiteParts {
-    /// Does what has passed its checks, and answers it.
+    /// Does what has passed its checks, and answers it. What an event needs of its own stands in a
+    /// function of its own, since a function pays at its entry for what each of its arms needs.
     #[inline(always)]
     pub(crate) fn perform(&mut self, ready: &Ready) -> Answer
         requires { MayDo self.old ready.now }
@@ -29,19 +30,11 @@ impl SiteParts {
             Ready::Tell(answer) => return *answer,
             Ready::SignOn(t) => self.signed_on.insert(*t),
             Ready::SignOff(t) => self.leave(*t),
-            Ready::Command { point, event } => {
-                self.points.perform(point, *event);
-            }
-            Ready::Take { point, event, till } => {
-                self.points.perform(point, *event);
-                self.claims.take(point.number, *till);
-            }
-            Ready::GiveBack(point) => {
-                self.points.perform(point, PointEvent::Unassign);
-                self.claims.free(point.number);
-            }
+            Ready::Command { point, event } => self.command(point, event),
+            Ready::Take { point, event, till } => self.take(point, event, *till),
+            Ready::GiveBack(point) => self.end_hold(point),
             Ready::Terminate(point) => return self.terminate(point),
-            Ready::Lift { point, event } => return answer_to(&self.points.perform(point, *event)),
+            Ready::Lift { point, event } => return self.lift(point, event),
             Ready::Flow {
                 point,
                 nozzle,
@@ -59,10 +52,7 @@ impl SiteParts {
                 point,
                 nozzle,
                 reading,
-            } => {
-                self.points.perform(point, PointEvent::ReplaceMeter);
-                self.meters.replace(point.number, *nozzle, *reading);
-            }
+            } => self.replace_meter(point, *nozzle, *reading),
             Ready::Ask {
                 sale,
                 request,
@@ -71,7 +61,7 @@ impl SiteParts {
             Ready::SetPrice(q, price) => {
                 self.prices.set(*q, *price);
             }
-            Ready::CloseShift => return Answer::ShiftClosed(self.accounts.close()),
+            Ready::CloseShift => return self.close_shift(),
         }
         Answer::Done
     }
@@ -87,6 +77,32 @@ impl SiteParts {
         self.signed_on.remove(t);
     }
 
+    /// The point does this, and nothing else changes.
+    fn command(&mut self, point: &FoundPoint, event: &PointEvent)
+        requires { MayDo self.old (Ready.Command point.now event.now) }
+        ensures { Does self.old (Ready.Command point.now event.now) self.new Answer.Done }
+    {
+        self.points.perform(point, *event);
+    }
+
+    /// The point does this, and the till takes its hold.
+    fn take(&mut self, point: &FoundPoint, event: &PointEvent, till: TillNo)
+        requires { MayDo self.old (Ready.Take point.now event.now till) }
+        ensures { Does self.old (Ready.Take point.now event.now till) self.new Answer.Done }
+    {
+        self.points.perform(point, *event);
+        self.claims.take(point.number, till);
+    }
+
+    /// The hold of the point ends.
+    fn end_hold(&mut self, point: &FoundPoint)
+        requires { MayDo self.old (Ready.GiveBack point.now) }
+        ensures { Does self.old (Ready.GiveBack point.now) self.new Answer.Done }
+    {
+        self.points.perform(point, PointEvent::Unassign);
+        self.claims.free(point.number);
+    }
+
     /// The release of the point is taken back, and its hold ends; or its fuelling is ending.
     fn terminate(&mut self, point: &FoundPoint) -> Answer
         requires { MayDo self.old (Ready.Terminate point.now) }
@@ -95,6 +111,14 @@ impl SiteParts {
         let step = self.points.perform(point, PointEvent::Terminate);
         give_back(&mut self.claims, point.number, &step);
         answer_to(&step)
+    }
+
+    /// A nozzle is taken out.
+    fn lift(&mut self, point: &FoundPoint, event: &PointEvent) -> Answer
+        requires { MayDo self.old (Ready.Lift point.now event.now) }
+        ensures { Does self.old (Ready.Lift point.now event.now) self.new result }
+    {
+        answer_to(&self.points.perform(point, *event))
     }
 
     /// Fuel has flowed.
@@ -144,6 +168,23 @@ impl SiteParts {
         let answer = self.end(point.number, 0, &step);
         self.claims.free(point.number);
         answer
+    }
+
+    /// The meter of the nozzle is replaced.
+    fn replace_meter(&mut self, point: &FoundPoint, nozzle: NozzleNo, reading: Millilitres)
+        requires { MayDo self.old (Ready.ReplaceMeter point.now nozzle reading) }
+        ensures { Does self.old (Ready.ReplaceMeter point.now nozzle reading) self.new Answer.Done }
+    {
+        self.points.perform(point, PointEvent::ReplaceMeter);
+        self.meters.replace(point.number, nozzle, reading);
+    }
+
+    /// The open shift is closed.
+    fn close_shift(&mut self) -> Answer
+        requires { MayDo self.old Ready.CloseShift }
+        ensures { Does self.old Ready.CloseShift self.new result }
+    {
+        Answer::ShiftClosed(self.accounts.close())
     }
 }
 
