@@ -73,16 +73,44 @@ impl SiteBook {
         ensures told_full { is_full self.old ≡ true → IsErrOf result NoRow.BookFull }
         ensures err { OnErr result (self.new ≡ self.old) }
     {
+        let place = self.rows.len() as u64;
+        let mut row = Row {
+            actor,
+            event,
+            reply: Ok(Answer::Done),
+        };
+        self.answer(&mut row)?;
+        Ok(Placed {
+            place,
+            reply: row.reply,
+        })
+    }
+
+    /// The same of the actor and the event of this row, which is added with the step's reply in
+    /// place of its own. Where no row is made it stays as it is.
+    #[inline(always)]
+    pub fn answer(&mut self, row: &mut Row) -> Result<(), NoRow>
+        ensures added { OnOk result (self.new ≡ with_row_of self.old row.old.actor row.old.event) }
+        ensures answered { OnOk result (row.new ≡ record row.old {
+          reply = book_reply self.old row.old.actor row.old.event;
+        }) }
+        ensures growth { OnOk result (growth_in_reply row.new.reply ≤ GROWTH_LIMIT) }
+        ensures room { OnOk result (is_full self.old ≡ false) }
+        ensures full { IsErrOf result NoRow.BookFull → is_full self.old ≡ true }
+        ensures told_full { is_full self.old ≡ true → IsErrOf result NoRow.BookFull }
+        ensures err { OnErr result (self.new ≡ self.old) }
+        ensures kept { OnErr result (row.new ≡ row.old) }
+    {
         if self.rows.len() >= self.config.rows() as usize {
             return Err(NoRow::BookFull);
         }
         // What can fail comes first: the rows of this event and of each sign-off, then the room of
         // the step.
         self.rows.reserve(self.on + 2)?;
-        self.site.prepare(actor, &event)?;
-        let placed = add_row(&mut self.site, &mut self.rows, &actor, &event);
-        self.on = tills_with(&sign_change(&actor, &event, &placed.reply), self.on);
-        Ok(placed)
+        self.site.prepare(row.actor, &row.event)?;
+        add_row(&mut self.site, &mut self.rows, row);
+        self.on = tills_with(&sign_change(&row.actor, &row.event, &row.reply), self.on);
+        Ok(())
     }
 
     /// Signs off a till, as one row, on a full book too. None where the till isn't signed on, and
@@ -137,36 +165,27 @@ impl SiteBook {
     }
 }
 
-/// Takes the written step, and adds its row. Room for both was made; it takes no memory.
+/// Takes the written step of the row's actor and event, and adds the row with the step's reply. Room
+/// for both was made; it takes no memory.
 #[inline(always)]
-fn add_row(site: &mut Site, rows: &mut Rows, actor: &Actor, event: &Event) -> Placed
-    requires step { HasRoom site.old.room event.now }
-    requires row { 0 < rows.old.room }
-    ensures step { Steps site.old.site actor.now event.now site.new.site result.reply }
-    ensures rows { rows.new.rows ≡ rows.old.rows
-        ++ record { actor = actor.now; event = event.now; reply = result.reply } ∷ [] }
+fn add_row(site: &mut Site, rows: &mut Rows, row: &mut Row)
+    requires step { HasRoom site.old.room row.old.event }
+    requires place { 0 < rows.old.room }
+    ensures actor { row.new.actor ≡ row.old.actor }
+    ensures event { row.new.event ≡ row.old.event }
+    ensures step { Steps site.old.site row.new.actor row.new.event site.new.site row.new.reply }
+    ensures rows { rows.new.rows ≡ rows.old.rows ++ row.new ∷ [] }
     ensures room { rows.new.room + 1 ≡ rows.old.room }
-    ensures place { result.place ≡ length rows.old.rows }
-    ensures range { InRange event.now }
-    ensures till { IsTillActor actor.now }
+    ensures range { InRange row.new.event }
+    ensures till { IsTillActor row.new.actor }
 {
     // The ranges of the numbers that the event and its actor carry.
-    let _ = event.reading();
-    if let Actor::Till(t) = actor {
+    let _ = row.event.reading();
+    if let Actor::Till(t) = &row.actor {
         let _ = t.get();
     }
-    let place = rows.len() as u64;
-    let reply = &site.step(*actor, *event);
-    let row = &Row {
-        actor: *actor,
-        event: *event,
-        reply: *reply,
-    };
+    row.reply = site.step(row.actor, row.event);
     rows.push(row);
-    Placed {
-        place,
-        reply: row.reply,
-    }
 }
 
 /// Signs off a till that is signed on, and adds the row. Room for it was made; it takes no memory.
