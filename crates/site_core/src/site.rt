@@ -74,6 +74,7 @@ impl Site {
 
     /// Makes the room that this event needs, so that its step takes no memory. The site stays, and
     /// so does all room that was made before. After `NoMemory` nothing has changed.
+    #[inline(always)]
     pub fn prepare(&mut self, actor: Actor, event: &Event) -> Result<(), NoMemory>
         ensures site { self.new.site ≡ self.old.site }
         ensures room { OnOk result (HasRoom self.new.room event.now) }

@@ -50,6 +50,7 @@ impl SiteParts {
     }
 
     /// Makes the room that the event needs.
+    #[inline(always)]
     pub fn prepare(&mut self, event: &Event) -> Result<(), NoMemory>
         ensures site { site_of self.new ≡ site_of self.old }
         ensures room { OnOk result (HasRoom (room_of self.new) event.now) }
@@ -74,9 +75,9 @@ impl SiteParts {
         ensures steps { Steps (site_of self.old) actor event.now (site_of self.new) result }
         ensures room { room_of self.new ≡ room_left event.now result (room_of self.old) }
     {
-        match self.check(actor, event) {
-            Ok(ready) => Ok(self.perform(&ready)),
-            Err(refusal) => Err(refusal),
+        match &self.check(actor, event) {
+            Ok(ready) => Ok(self.perform(ready)),
+            Err(refusal) => Err(*refusal),
         }
     }
 
