@@ -7,7 +7,7 @@ use Rattle.std.proofs.Common.{Fits, w8, Result}
 use Rattle.std.proofs.Math.Nat.{mod-eq_of_lt}
 use Rattle.std.proofs.lemmas.Bool.{and_parts, cases_lt, eqb-true, ltb-true}
 use Rattle.std.proofs.lemmas.List.{append-nil, drop_all, get_or_append_left, get_or-map, length-map}
-use Rattle.std.proofs.lemmas.Simd.{get_or-chunk, length-chunk, none_from_empty_mask}
+use Rattle.std.proofs.lemmas.Simd.{get_or-chunk, length-chunk, map-map, none_from_empty_mask}
 use Rattle.std.proofs.lemmas.Simd.{get_or-put_chunk_at, get_or-put_chunk_below}
 use lib.Lanes.{chunk}
 use Rattle.std.specs.Simd.Lanes.{mask_l, put_chunk}
@@ -21,14 +21,14 @@ use Rattle.forecourt_engines.proofs.LaneLemmas.{at_below}
 
 -- what isn't another octet is a digit of this value
 abbrev reads : ℕ → Bool
-reads c = is_other c
+reads c = is_other (digit_value c)
     || ((unwrap_or (hex_digit_value c) 99 == digit_value c) && nat_lt (digit_value c) 16)
 
 from_value : (o : Option ℕ) (d : ℕ) → d < 16 → unwrap_or o 99 ≡ d → o ≡ Some d
 from_value (Some v) d lt e = ap Some e
 from_value None d lt e = absurd (omega arith)
 
-is_digit : (c : ℕ) → c < 256 → is_other c ≡ false
+is_digit : (c : ℕ) → c < 256 → is_other (digit_value c) ≡ false
     → (hex_digit_value c ≡ Some (digit_value c)) × (digit_value c < 16)
 is_digit c lt none =
     let test : reads c ≡ true = at_below reads 256 c refl lt in
@@ -63,14 +63,16 @@ lane text at k fits lt =
 
 pub lanes_read : (text values : List ℕ) (at m : ℕ) → at + 16 ≤ length text
     → ((k : ℕ) → Fits w8 (get_or text k 0)) → values ≡ map digit_value (chunk at 16 text)
-    → m ≡ mask_l (map is_other (chunk at 16 text)) → m ≡ 0 → (k : ℕ) → k < 8
+    → m ≡ mask_l (map is_other values) → m ≡ 0 → (k : ℕ) → k < 8
     → pair_value (get_or text (at + 2 * k) 0) (get_or text (at + 2 * k + 1) 0) (at + 2 * k)
     ≡ Ok ((get_or (values ++ values) (2 * k) 0 * 16 % 256
     + get_or (values ++ values) (2 * k + 1) 0) % 256)
 lanes_read text values at m fits octets is mask none k lt =
-    let empty = sym mask ∙ none in
-    let other : (j : ℕ) → at ≤ j → j < at + 16 → is_other (get_or text j 0) ≡ false =
-    none_from_empty_mask is_other text at 16 0 fits empty in
+    let empty : mask_l (map (λ c. is_other (digit_value c)) (chunk at 16 text)) ≡ 0 =
+    ap mask_l (sym (map-map is_other digit_value (chunk at 16 text)))
+    ∙ ap (λ (xs : List ℕ). mask_l (map is_other xs)) (sym is) ∙ sym mask ∙ none in
+    let other : (j : ℕ) → at ≤ j → j < at + 16 → is_other (digit_value (get_or text j 0)) ≡ false =
+    none_from_empty_mask (λ c. is_other (digit_value c)) text at 16 0 fits empty in
     let high = is_digit (get_or text (at + 2 * k) 0) (octets (at + 2 * k)).fits
     (other (at + 2 * k) (omega arith) (omega arith)) in
     let low = is_digit (get_or text (at + 2 * k + 1) 0) (octets (at + 2 * k + 1)).fits

@@ -1,7 +1,7 @@
 //! Messages answered over a book.
 
-ghost use Rattle.std.specs.Prelude.{◌≡◌, ◌≤◌, ◌+◌, ◌++◌, ◌∷◌, [], ◌*◌, length, replicate};
-ghost use Rattle.std.specs.Prelude.{OnOk};
+ghost use Rattle.std.specs.Prelude.{◌≡◌, ◌≤◌, ◌<◌, ◌+◌, ◌++◌, ◌∷◌, [], ◌*◌, ◌^◌, length};
+ghost use Rattle.std.specs.Prelude.{OnOk, replicate};
 ghost use Rattle.hex.specs.Hex.{encode_lower};
 ghost use Rattle.forecourt_engines.specs.Answers.{line_of, change_line, lines_for, after_message};
 ghost use Rattle.forecourt_engines.specs.Answers.{answers_to, after_messages};
@@ -12,11 +12,15 @@ ghost use Rattle.app_message.specs.declared.sizes.TheConstants.{HEADER, LONGEST_
 use crate::plain_digits::{LANES, write_digits};
 use app_message::{Message, SpelledMessage};
 use device_map::{change_of, refusal_in, reply_in, request_in};
-use site_base::{NoMemory, NoRow, Reply, Row};
+use site_base::{Answer, NoMemory, NoRow, Reply, Row};
 use site_book::SiteBook;
 use std::alloc::Global;
 use std::marker::Model;
 use std::mem;
+
+/// As many as most lines have octets: to append all of them, and to cut off what is too much, is
+/// cheaper than to append just so many as are needed.
+const LINE_FEEDS: [u8; 128] = [b'\n'; 128];
 
 /// What answers messages: a book, and whether the changes of its rows are told too. Beside that it
 /// has the room of the last answer, which serves the next one.
@@ -80,23 +84,22 @@ impl Answerer {
             ++ lines_for self.old message.now) }
         ensures state { OnOk result (self.new ≡ after_message self.old message.now) }
     {
-        let (actor, event) = &match request_in(message) {
+        let (actor, event) = match request_in(message) {
             Err(fault) => return self.refuse(message, fault.number(), out),
             Ok(request) => request,
         };
-        let placed = match self.book.apply(*actor, *event) {
-            Ok(placed) => placed,
+        let mut row = Row {
+            actor,
+            event,
+            reply: Ok(Answer::Done),
+        };
+        match self.book.answer(&mut row) {
+            Ok(()) => {}
             Err(NoRow::BookFull) => return self.refuse(message, NoRow::BookFull.number(), out),
             Err(NoRow::NoMemory) => return Err(NoMemory),
-        };
-        let reply = &placed.reply;
-        self.tell_reply(message, reply, out)?;
+        }
+        self.tell_reply(message, &row.reply, out)?;
         if self.changes {
-            let row = Row {
-                actor: *actor,
-                event: *event,
-                reply: *reply,
-            };
             return put_change(self.alloc, &row, out);
         }
         Ok(())
@@ -179,8 +182,24 @@ fn put_spelling(out: &mut Vec<u8>, head: &[u8], body: &[u8]) -> Result<(), NoMem
         ≡ out.old.items ++ (encode_lower (head.now ++ body.now) ++ 10 ∷ [])) }
 {
     let size = out.len();
-    out.resize(size + 2 * (head.len() + body.len()) + 1, b'\n')?;
+    put_line_feeds(out, 2 * (head.len() + body.len()) + 1)?;
     spell(head, body, &mut out[size..]);
+    Ok(())
+}
+
+/// Appends so many line feeds. It takes one growth at most.
+#[inline(always)]
+fn put_line_feeds(out: &mut Vec<u8>, count: usize) -> Result<(), NoMemory>
+    requires { length out.old.items + count < 2 ^ 64 }
+    ensures { OnOk result (out.new.items ≡ out.old.items ++ replicate count 10) }
+{
+    let size = out.len();
+    if count > LINE_FEEDS.len() {
+        out.resize(size + count, b'\n')?;
+    } else {
+        out.extend_from_slice(&LINE_FEEDS)?;
+        out.truncate(size + count);
+    }
     Ok(())
 }
 

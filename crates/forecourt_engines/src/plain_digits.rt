@@ -5,13 +5,16 @@ ghost use Rattle.std.specs.Prelude.{◌≡◌, ◌≤◌, ◌+◌, ◌*◌, ℕ,
 ghost use Rattle.std.specs.Simd.Lanes.{mask_l};
 ghost use Rattle.hex.specs.Hex.{decode_of, encode_lower};
 ghost use Rattle.forecourt_engines.specs.declared.plain_digits.TheConstants.{LANES};
-ghost use Rattle.forecourt_engines.specs.SideBySide.{IsRead, IsWritten, digit_value, high_digit};
-ghost use Rattle.forecourt_engines.specs.SideBySide.{is_other, low_digit};
+ghost use Rattle.forecourt_engines.specs.SideBySide.{IsRead, IsWritten, digit_of, digit_value};
+ghost use Rattle.forecourt_engines.specs.SideBySide.{high_value, is_other, low_value};
 
 use std::simd::prelude::*;
 
 /// The octets that are read or written side by side.
 pub const LANES: usize = 8;
+
+/// The lanes of two vectors in turn, as they stand in both of them joined.
+const IN_TURN: [usize; 16] = [0, 8, 1, 9, 2, 10, 3, 11, 4, 12, 5, 13, 6, 14, 7, 15];
 
 /// Whether the text is plain digits; if so, their octets take the place, else it means nothing.
 pub fn read_digits(text: &[u8], place: &mut [u8]) -> bool
@@ -37,37 +40,35 @@ fn read_eight(text: &[u8], at: usize, place: &mut [u8]) -> bool
     ensures { result ≡ true → (n : ℕ) → at ≤ n → IsRead text.now place.old n
         → IsRead text.now place.new (at + LANES) }
 {
-    let digits = u8x16::from_slice(&text[2 * at..]);
-    if others_in(digits) != 0 {
+    let values = values_in(u8x16::from_slice(&text[2 * at..]));
+    if others_in(values) != 0 {
         return false;
     }
-    let values = values_in(digits);
     let (high, low) = values.deinterleave(values);
     let octets = high * u8x16::splat(16) + low;
     octets.extract::<0, LANES>().copy_to_slice(&mut place[at..]);
     true
 }
 
-/// A bit for each octet that is no digit.
+/// A bit for each number that is no digit's value.
 #[inline(always)]
-fn others_in(octets: u8x16) -> u64
-    ensures { result ≡ mask_l (map is_other octets) }
+fn others_in(values: u8x16) -> u64
+    ensures { result ≡ mask_l (map is_other values) }
 {
-    let number = octets - u8x16::splat(b'0');
-    let letter = (octets | u8x16::splat(0x20)) - u8x16::splat(b'a');
-    let others = number.simd_ge(u8x16::splat(10)) & letter.simd_ge(u8x16::splat(6));
-    others.to_bitmask()
+    values.simd_gt(u8x16::splat(15)).to_bitmask()
 }
 
-/// The value of each octet that is a digit.
+/// The value of each octet that is a digit, and of each other one a number above 15: counted from
+/// 9 downwards, and from `a` upwards, no other one comes to less.
 #[inline(always)]
 fn values_in(octets: u8x16) -> u8x16
     ensures { result ≡ map digit_value octets }
 {
-    let number = octets - u8x16::splat(b'0');
-    let letter = (octets | u8x16::splat(0x20)) - u8x16::splat(b'a');
-    let is_number = number.simd_lt(u8x16::splat(10));
-    is_number.select(number, letter + u8x16::splat(10))
+    let below_nine = u8x16::splat(b'9') - octets;
+    let number = (below_nine.simd_min(u8x16::splat(249)) + u8x16::splat(6)) ^ u8x16::splat(15);
+    let above_a = (octets | u8x16::splat(0x20)) - u8x16::splat(b'a');
+    let letter = above_a.simd_min(u8x16::splat(245)) + u8x16::splat(10);
+    number.simd_min(letter)
 }
 
 /// Writes octets as lower case digits, where there is just the place for them.
@@ -93,27 +94,31 @@ fn write_eight(octets: &[u8], at: usize, place: &mut [u8])
         → IsWritten octets.now place.new (at + LANES) }
 {
     let loaded = u8x8::from_slice(&octets[at..]);
-    let (front, back) = high_digits(loaded).interleave(low_digits(loaded));
-    front.copy_to_slice(&mut place[2 * at..]);
-    back.copy_to_slice(&mut place[2 * at + LANES..]);
+    let values = high_values(loaded).shuffle(low_values(loaded), IN_TURN);
+    digits_of(values).copy_to_slice(&mut place[2 * at..]);
 }
 
-/// The first digit of each octet.
+/// The value of the first digit of each octet.
 #[inline(always)]
-fn high_digits(octets: u8x8) -> u8x8
-    ensures { result ≡ map high_digit octets }
+fn high_values(octets: u8x8) -> u8x8
+    ensures { result ≡ map high_value octets }
 {
-    let number = octets >> u8x8::splat(4);
-    let is_letter = number.simd_ge(u8x8::splat(10));
-    number + u8x8::splat(b'0') + is_letter.select(u8x8::splat(39), u8x8::splat(0))
+    octets >> u8x8::splat(4)
 }
 
-/// The second digit of each octet.
+/// The value of the second digit of each octet.
 #[inline(always)]
-fn low_digits(octets: u8x8) -> u8x8
-    ensures { result ≡ map low_digit octets }
+fn low_values(octets: u8x8) -> u8x8
+    ensures { result ≡ map low_value octets }
 {
-    let number = octets & u8x8::splat(15);
-    let is_letter = number.simd_ge(u8x8::splat(10));
-    number + u8x8::splat(b'0') + is_letter.select(u8x8::splat(39), u8x8::splat(0))
+    octets & u8x8::splat(15)
+}
+
+/// The digit of each value.
+#[inline(always)]
+fn digits_of(values: u8x16) -> u8x16
+    ensures { result ≡ map digit_of values }
+{
+    let is_letter = values.simd_gt(u8x16::splat(9));
+    values + u8x16::splat(b'0') + is_letter.select(u8x16::splat(39), u8x16::splat(0))
 }
