@@ -165,8 +165,8 @@ impl SiteBook {
     }
 }
 
-/// Takes the written step of the row's actor and event, and adds the row with the step's reply. Room
-/// for both was made; it takes no memory.
+/// Takes the written step of the row's actor and event, and adds the row with the step's reply.
+/// Room for both was made; it takes no memory.
 #[inline(always)]
 fn add_row(site: &mut Site, rows: &mut Rows, row: &mut Row)
     requires step { HasRoom site.old.room row.old.event }

@@ -44,8 +44,8 @@ invariant_of-self-2 c =
     )
 
 -- a row of these parts
-row_is : (row : Row) (actor : Actor) (event : Event) (reply : Result Answer Refusal) → row.actor ≡ actor
-    → row.event ≡ event → row.reply ≡ reply
+row_is : (row : Row) (actor : Actor) (event : Event) (reply : Result Answer Refusal)
+    → row.actor ≡ actor → row.event ≡ event → row.reply ≡ reply
     → row ≡ record { actor = actor; event = event; reply = reply }
 row_is row actor event reply a e r = rw (sym a, sym e, sym r) refl
 
