@@ -133,8 +133,9 @@ impl Connections {
         }
     }
 
-    /// Where a dispenser is told of a row of this round, peers that are owed octets are sent them at
-    /// its end, but for those whose connections take none for now. Whoever spoke is sent them anyway.
+    /// Where a dispenser is told of a row of this round, peers that are owed octets are sent them
+    /// at its end, but for those whose connections take none for now. Whoever spoke is sent them
+    /// anyway.
     pub(crate) fn make_owed_due(&mut self)
         ensures { self.new.station ≡ self.old.station }
     {
