@@ -1,7 +1,7 @@
 -- The way to each event, and the message that goes it: the kind of message, the database, the
 -- command and what it carries.
 use Rattle.std.specs.Prelude.{ℕ, ◌+◌, ◌*◌, ◌/◌, ◌%◌, List, [], ◌∷◌, ◌++◌, Option, Some, None}
-use Rattle.std.specs.Prelude.{Bool, false}
+use Rattle.std.specs.Prelude.{Bool, true, false}
 use Rattle.site_base.specs.declared.limits.TheConstants.{TILLS, POINTS}
 use Rattle.site_base.specs.Ranges.{is_between}
 use Rattle.std.specs.Int.{w32, to_be_bytes}
@@ -143,3 +143,10 @@ may_send (Till t) kinds.Read = is_between 1 TILLS t
 may_send (Till t) kinds.Write = is_between 1 TILLS t
 may_send (Dispenser d) kinds.Report = is_between 1 POINTS d
 may_send actor kind = false
+
+-- a till reads and writes, a dispenser reports: an actor sends messages of this kind
+abbrev pub sends : Actor → Kind → Bool
+sends (Till t) kinds.Read = true
+sends (Till t) kinds.Write = true
+sends (Dispenser d) kinds.Report = true
+sends actor kind = false

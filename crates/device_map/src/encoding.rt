@@ -6,6 +6,7 @@ ghost use Rattle.app_message.specs.Telegram.{telegram};
 ghost use Rattle.device_map.specs.Laws.{Asks, is_own};
 ghost use Rattle.device_map.specs.Nodes.{site_node};
 ghost use Rattle.device_map.specs.Ways.{address_of, content_items, items_of, may_send, node_of};
+ghost use Rattle.device_map.specs.Ways.{sends, way_to};
 
 use crate::address::Database;
 use crate::item_writing::{put_command, put_eight, put_four, put_octet};
@@ -26,6 +27,8 @@ pub fn encode_request(
 ) -> Result<Option<Message>, NoMemory>
     ensures found { IfOk result (λ found. IfSome found (λ m. Asks token actor event m)) }
     ensures other { IfOk result (λ found. IfNone found (is_own actor event ≡ false)) }
+    ensures kind { IfOk result (λ found. IfNone found
+        (sends actor (way_to event).kind ≡ false)) }
 {
     let way = Way::to(event);
     if !may_send(&actor, way.kind) {
@@ -39,7 +42,8 @@ pub fn encode_request(
 
 /// Does the actor send messages of this kind? A till sends reads and writes, a dispenser reports.
 fn may_send(actor: &Actor, kind: Kind) -> bool
-    ensures { result ≡ may_send actor.now kind }
+    ensures range { result ≡ may_send actor.now kind }
+    ensures kind { result ≡ sends actor.now kind }
 {
     match actor {
         Actor::Till(till) => {

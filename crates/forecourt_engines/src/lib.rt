@@ -28,6 +28,7 @@ mod stream;
 mod trace;
 pub mod words;
 
+pub use answers::put_line;
 pub use fault::{ReplayFault, TextFault};
 pub use laws::{
     a_last_line_says, a_line_asks_for_one_thing, a_line_is_spelled_in_one_way, a_line_says,
