@@ -111,6 +111,7 @@ fn serve<'a>(alloc: Global) -> Result<Command<'a>, AllocError> {
 fn station<'a>(alloc: Global) -> Result<Command<'a>, AllocError> {
     let idle = "Ends a session of which nothing came for so many seconds, from 1 to 86400";
     let detached = "Runs until the system stops it, whatever standard input does";
+    let journal = "Stores each row in this file before a reply is sent, and goes on where it ended";
     Command::new(alloc, "station")
         .about(
             "Serves every till and dispenser of a site on 127.0.0.1 until standard input ends, \
@@ -119,6 +120,7 @@ fn station<'a>(alloc: Global) -> Result<Command<'a>, AllocError> {
         .after_help("Example: forecourt station examples/five_points.toml --port 4001\n")
         .arg(file(alloc))?
         .arg(number(alloc, "port", "The port, from 0 (a free one) to 65535"))?
+        .arg(journal_file(alloc, "journal", journal))?
         .arg(seconds(alloc, "idle", idle))?
         .arg(flag(alloc, "detached", detached))
 }
@@ -175,6 +177,14 @@ fn number<'a>(alloc: Global, name: &'a str, help: &'a str) -> Arg<'a> {
         .value_name("N")
         .help(help)
         .required(true)
+}
+
+/// A journal that a command may be given.
+fn journal_file<'a>(alloc: Global, name: &'a str, help: &'a str) -> Arg<'a> {
+    Arg::new(alloc, name)
+        .long(name)
+        .value_name("JOURNAL")
+        .help(help)
 }
 
 /// A number of seconds that a command may be given.

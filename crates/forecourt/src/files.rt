@@ -12,9 +12,18 @@ use std::process::ExitCode;
 /// The site of the file that the words name, or how the program ends: the file can't be read, or
 /// has a fault.
 pub fn read_site(rt: &HostRuntime, words: &ArgMatches<'_>) -> Result<SiteConfig, ExitCode> {
+    let (config, _) = read_site_file(rt, words)?;
+    Ok(config)
+}
+
+/// The same, with the octets of the file.
+pub fn read_site_file(
+    rt: &HostRuntime,
+    words: &ArgMatches<'_>,
+) -> Result<(SiteConfig, Vec<u8>), ExitCode> {
     let octets = read_octets(rt, words.get_str("FILE").unwrap_or(""))?;
     match read_config(rt.alloc(), &octets) {
-        Ok(config) => Ok(config),
+        Ok(config) => Ok((config, octets)),
         Err(ConfigFault::NoMemory) => Err(exit_no_memory(rt)),
         Err(fault) => Err(exit_with(eprintln!(rt; "{fault}"), FAULT)),
     }

@@ -10,6 +10,8 @@ mod demo;
 mod exit;
 mod explain;
 mod files;
+mod journal_file;
+mod journals;
 mod lines;
 mod replay;
 mod report;

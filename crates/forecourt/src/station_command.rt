@@ -1,12 +1,19 @@
-//! `forecourt station FILE --port N [--idle SECONDS] [--detached]`.
+//! `forecourt station FILE --port N [--journal JOURNAL] [--idle SECONDS] [--detached]`.
+
+ghost use Rattle.std.specs.Prelude.{◌≡◌};
+ghost use Rattle.station.specs.Runs.{opening_station};
+ghost use Rattle.journal.specs.Opening.{HasNobodyOn};
 
 use crate::TURNS;
 use crate::exit::{COMMAND_LINE, exit_day, exit_with};
-use crate::files::read_site;
+use crate::files::read_site_file;
+use crate::journal_file::JournalFile;
+use crate::journals::open_station;
 use clap::ArgMatches;
 use forecourt_days::{DayFault, StationPlan, station_day};
+use journal::Opened;
 use mio::Waker;
-use site_base::{Counted, SiteConfig};
+use site_base::{Counted, WriteFault};
 use station_server::StationServer;
 use std::io::{ErrorKind, Read};
 use std::process::ExitCode;
@@ -18,8 +25,8 @@ use std::thread::{JoinHandle, Threads};
 const PASSED_OVER: usize = 4_096;
 
 /// Serves every till and dispenser of a site until standard input ends, and prints the report of
-/// the day; with `--detached` until the system stops it. Wrong words come before the site file, and
-/// its faults before the listener's.
+/// the day; with `--detached` until the system stops it. Wrong words come before the site file, its
+/// faults before the journal's, and those before the listener's.
 pub fn run_station<T: Threads + Wait + Sync>(
     rt: &HostRuntime,
     threads: &T,
@@ -27,25 +34,42 @@ pub fn run_station<T: Threads + Wait + Sync>(
 ) -> ExitCode {
     let port = words.get_str("port").unwrap_or("");
     match StationPlan::read(port, words.get_str("idle")) {
-        Ok(plan) => match read_site(rt, words) {
-            Ok(config) => {
-                let end = serve_on(rt, threads, &config, plan, words.get_flag("detached"));
-                exit_day(rt, end)
-            }
-            Err(status) => status,
-        },
+        Ok(plan) => run_planned(rt, threads, words, plan),
         Err(fault) => exit_with(eprintln!(rt; "error: {fault}"), COMMAND_LINE),
     }
 }
 
-/// Listens, and serves a day on this site.
+/// Reads the site file, opens the station, and serves a day.
+fn run_planned<T: Threads + Wait + Sync>(
+    rt: &HostRuntime,
+    threads: &T,
+    words: &ArgMatches<'_>,
+    plan: StationPlan,
+) -> ExitCode {
+    let (config, site_file) = match read_site_file(rt, words) {
+        Ok(site) => site,
+        Err(status) => return status,
+    };
+    match open_station(rt, &config, &site_file, words.get_str("journal")) {
+        Ok(opened) => {
+            let end = serve_on(rt, threads, opened, plan, words.get_flag("detached"));
+            exit_day(rt, end)
+        }
+        Err(status) => status,
+    }
+}
+
+/// Listens, and serves a day of this station. Where its journal had rows, it says how many.
 fn serve_on<T: Threads + Wait + Sync>(
     rt: &HostRuntime,
     threads: &T,
-    config: &SiteConfig,
+    opened: Opened<JournalFile>,
     plan: StationPlan,
     is_detached: bool,
-) -> Result<(), DayFault> {
+) -> Result<(), DayFault>
+    requires alone { opened.station.station ≡ opening_station opened.station.station.book }
+    requires off { HasNobodyOn opened.station.station.book }
+{
     let mut server = StationServer::bind(rt, rt, rt.alloc(), plan.port)?;
     // A wake is lost where its waker is let go before the server has seen it.
     let waker = Arc::new(rt.alloc(), server.waker()?).map_err(|_| DayFault::NoMemory)?;
@@ -54,6 +78,7 @@ fn serve_on<T: Threads + Wait + Sync>(
     } else {
         Some(watch_input(rt, threads, &waker)?)
     };
+    tell_rows(rt, opened.rows)?;
     let mut writer = Counted::new(rt.stdout());
     let mut left = TURNS;
     let alloc = rt.alloc();
@@ -61,7 +86,7 @@ fn serve_on<T: Threads + Wait + Sync>(
         threads,
         rt,
         alloc,
-        config,
+        opened.station,
         &mut server,
         plan.idle,
         &mut left,
@@ -71,6 +96,17 @@ fn serve_on<T: Threads + Wait + Sync>(
         watch.join(threads);
     }
     Ok(())
+}
+
+/// Says how many rows the journal had, if it had some.
+fn tell_rows(rt: &impl Print, rows: u64) -> Result<(), DayFault> {
+    if rows == 0 {
+        return Ok(());
+    }
+    match println!(rt; "journal rows {rows}") {
+        Ok(()) => Ok(()),
+        Err(_) => Err(DayFault::Write(WriteFault::Failed)),
+    }
 }
 
 /// Starts the thread that waits for standard input's end, and then ends the day.

@@ -1,7 +1,7 @@
 -- What a station's day writes.
-use Rattle.std.specs.Prelude.{◌≡◌, ℕ, false, List, ◌++◌, [], Option}
+use Rattle.std.specs.Prelude.{◌≡◌, ℕ, false, List, ◌++◌, Option}
 use Rattle.std.specs.Io.KnownBytes.{Appends}
-use Rattle.site_base.specs.Configured.{Configured}
+use Rattle.site_base.specs.declared.transfer.WriteFault.TheVariants as writes
 use Rattle.site_base.specs.Devices.{AppendsFront}
 use Rattle.written_site.specs.SiteState.{is_signed_on}
 use Rattle.site_book.specs.Book.{Book, site_of_book}
@@ -10,42 +10,46 @@ use Rattle.forecourt_days.specs.Days.{listening_line}
 use Rattle.station_server.specs.declared.fault.ServerFault.{ServerFault}
 use Rattle.station_server.specs.declared.fault.ServerFault.TheVariants as servers
 use Rattle.forecourt_days.specs.declared.fault.DayFault.{DayFault}
-use Rattle.forecourt_days.specs.declared.fault.DayFault.TheVariants.{NoConnection, NoMemory}
+use Rattle.forecourt_days.specs.declared.fault.DayFault.TheVariants.{NoConnection, NoMemory, Write}
+use Rattle.journal.specs.declared.disk.DiskFault.{DiskFault}
+use Rattle.journal.specs.declared.disk.DiskFault.TheVariants as disks
 use Rattle.station.specs.Moves.{StationState}
 use Rattle.station.specs.Reads.{HasNoPeer}
 use Rattle.station.specs.Runs.{Move, after, opening_station}
 
--- a book of this configuration without rows
-abbrev pub opening_book : Configured → Book
-opening_book config = record { config = config; rows = [] }
-
--- the station after these moves, of a day that opens on this site
-abbrev pub day_station : Configured → List Move → StationState
-day_station config moves = after moves (opening_station (opening_book config))
+-- the station after these moves, of a day that opens at this book
+abbrev pub day_station : Book → List Move → StationState
+day_station opens moves = after moves (opening_station opens)
 
 -- its book
-abbrev pub day_book : Configured → List Move → Book
-day_book config moves = (day_station config moves).book
+abbrev pub day_book : Book → List Move → Book
+day_book opens moves = (day_station opens moves).book
 
 -- the line that tells the port, and the report of the book that the day's moves led to
-abbrev pub station_text : Configured → ℕ → List Move → List ℕ
-station_text config port moves = listening_line port ++ book_report (day_book config moves)
+abbrev pub station_text : Book → ℕ → List Move → List ℕ
+station_text opens port moves = listening_line port ++ book_report (day_book opens moves)
 
 -- how a day ends whose server ends so
 abbrev pub ended_by : ServerFault → DayFault
 ended_by servers.NoMemory = NoMemory
 ended_by servers.NoConnection = NoConnection
+ended_by servers.NotStored = Write writes.Failed
+
+-- .. or whose journal isn't begun
+abbrev pub unstored_by : DiskFault → DayFault
+unstored_by disks.NoMemory = NoMemory
+unstored_by disks.Failed = Write writes.Failed
 
 -- the whole text of a day was written, at whose end nobody is there, and no till is signed on
-pub record TellsDay (config : Configured) (port : ℕ) (holds holds' : Option (List ℕ))
+pub record TellsDay (opens : Book) (port : ℕ) (holds holds' : Option (List ℕ))
     : Type 0 where
   pub moves : List Move
-  pub left : HasNoPeer (day_station config moves)
-  pub off : (t : ℕ) → is_signed_on (site_of_book (day_book config moves)) t ≡ false
-  pub told : Appends holds holds' (station_text config port moves)
+  pub left : HasNoPeer (day_station opens moves)
+  pub off : (t : ℕ) → is_signed_on (site_of_book (day_book opens moves)) t ≡ false
+  pub told : Appends holds holds' (station_text opens port moves)
 
 -- a front of the text of a day was written
-pub record TellsFront (config : Configured) (port : ℕ) (holds holds' : Option (List ℕ))
+pub record TellsFront (opens : Book) (port : ℕ) (holds holds' : Option (List ℕ))
     : Type 0 where
   pub moves : List Move
-  pub told : AppendsFront holds holds' (station_text config port moves)
+  pub told : AppendsFront holds holds' (station_text opens port moves)

@@ -4,6 +4,7 @@ ghost use Rattle.std.specs.Prelude.{◌≡◌};
 ghost use Rattle.forecourt_days.specs.Days.{day_status};
 
 use counter_desk::{Naming, SettleFault, Unsettled};
+use journal::DiskFault;
 use site_base::{NoMemory, WriteFault};
 use station_server::ServerFault;
 use std::sync::ledger::Ledger;
@@ -22,7 +23,7 @@ pub enum DayFault {
     /// A worker of a demo couldn't be started.
     #[error("fault 64")]
     NoWorker,
-    /// A write of what the day tells failed, or was interrupted too often.
+    /// A write of what the day tells, or of its journal, failed, or was interrupted too often.
     #[error("fault {}", .0.number())]
     Write(WriteFault),
     /// The day isn't settled: the receipt of this place is strange, or a share is out, and there
@@ -79,6 +80,21 @@ impl From<ServerFault> for DayFault {
         match fault {
             ServerFault::NoMemory => DayFault::NoMemory,
             ServerFault::NoConnection => DayFault::NoConnection,
+            ServerFault::NotStored => DayFault::Write(WriteFault::Failed),
+        }
+    }
+}
+
+impl From<DiskFault> for DayFault {
+    ghost use Rattle.std.specs.Prelude.{◌≡◌};
+    ghost use Rattle.forecourt_days.specs.StationDays.{unstored_by};
+
+    ghost from_gives = { λ f e. e ≡ unstored_by f };
+
+    fn from(fault: DiskFault) -> DayFault {
+        match fault {
+            DiskFault::NoMemory => DayFault::NoMemory,
+            DiskFault::Failed => DayFault::Write(WriteFault::Failed),
         }
     }
 }

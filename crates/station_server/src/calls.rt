@@ -1,10 +1,10 @@
-//! One call of a connection: octets that a peer sent are heard, octets that it is owed are sent.
+//! One call of a connection: octets that a peer sent are heard, octets that it may be told are sent.
 
 ghost use Rattle.std.specs.Prelude.{◌≡◌, ◌<◌, length, true};
 ghost use Rattle.station.specs.Reads.{is_read_at};
 ghost use Rattle.station_server.specs.Calls.{HearsCall, SendsCall};
 
-use station::Station;
+use journal::{Disk, StoredStation};
 use std::io::{ErrorKind, Read, Write};
 
 /// What became of a call.
@@ -23,45 +23,53 @@ pub enum Call {
 }
 
 /// Reads once from the connection of a peer that is read from, and has the station hear what came:
-/// octets, or that no more come. Where nothing came, the station stays as it is.
-pub fn read_once<R: Read>(
+/// octets, or that no more come, or can come. Where nothing came, the station stays as it is.
+pub fn read_once<R: Read, D: Disk>(
     reader: &mut R,
-    station: &mut Station,
+    stored: &mut StoredStation<D>,
     key: usize,
     piece: &mut [u8],
 ) -> Call
     requires some { 0 < length piece.old }
-    requires read { is_read_at station.old key ≡ true }
-    ensures { HearsCall result key (R.remaining reader.old) (R.remaining reader.new) station.old
-        station.new }
+    requires read { is_read_at stored.old.station key ≡ true }
+    ensures station { HearsCall result key (R.remaining reader.old) (R.remaining reader.new)
+        stored.old.station stored.new.station }
+    ensures journal { stored.new.journal ≡ stored.old.journal }
 {
     match reader.read(piece) {
         Ok(0) => {
-            station.finish(key);
+            stored.finish(key);
             Call::Ended
         }
         Ok(n) => {
-            station.hear(key, &piece[..n]);
+            stored.hear(key, &piece[..n]);
             Call::Passed(n)
         }
         Err(error) => match error.kind() {
             ErrorKind::WouldBlock => Call::Waits,
             ErrorKind::Interrupted => Call::Interrupted,
-            _ => Call::Failed,
+            _ => {
+                stored.finish(key);
+                Call::Failed
+            }
         },
     }
 }
 
-/// Writes once to the connection of a peer what it is owed. What was taken is no longer owed;
-/// where nothing was, the station stays as it is.
-pub fn write_once<W: Write>(writer: &mut W, station: &mut Station, key: usize) -> Call
-    ensures { SendsCall result key (W.contents writer.old) (W.contents writer.new) station.old
-        station.new }
+/// Writes once to the connection of a peer what it may be told: what it is owed, while each row is
+/// stored. What was taken is no longer owed; where nothing was, the station stays as it is.
+pub fn write_once<W: Write, D: Disk>(
+    writer: &mut W,
+    stored: &mut StoredStation<D>,
+    key: usize,
+) -> Call
+    ensures { SendsCall result key (W.contents writer.old) (W.contents writer.new) stored.old
+        stored.new }
 {
-    match writer.write(station.owed_octets(key)) {
+    match writer.write(stored.told_octets(key)) {
         Ok(0) => Call::Failed,
         Ok(n) => {
-            station.take(key, n);
+            stored.take(key, n);
             Call::Passed(n)
         }
         Err(error) => match error.kind() {

@@ -1,27 +1,28 @@
 //! The connections of all peers, and the station that they speak with.
 
-ghost use Rattle.std.specs.Prelude.{◌≡◌, ◌<◌, length, IfOk};
-ghost use Rattle.site_book.specs.Book.{Book};
+ghost use Rattle.std.specs.Prelude.{◌≡◌, ◌<◌, length, IfOk, OnOk, true};
 ghost use Rattle.station.specs.Moves.{without_peer};
 ghost use Rattle.station.specs.Reads.{HasNoPeer};
-ghost use Rattle.station.specs.Runs.{opening_station};
+ghost use Rattle.journal.specs.Stored.{is_all_stored};
 ghost use Rattle.station_server.specs.Reaches.{Reaches};
 
+use crate::fault::ServerFault;
 use crate::link::{Channel, Link};
 use crate::naming::{EndedSession, PeerName};
 use crate::sizes::{CLOSING_SECONDS, PIECE_OCTETS};
+use journal::{Disk, StoredStation};
 use mio::net::TcpStream;
 use mio::{Interest, Registry, Token};
 use site_base::NoMemory;
 use site_book::SiteBook;
-use station::{PEERS, PeerEnd, Station};
+use station::{PEERS, PeerEnd};
 use std::alloc::Global;
 use std::time::Instant;
 
-/// The connections by their peers' keys, and the station.
+/// The connections by their peers' keys, and the station with its journal.
 #[derive(Drop)]
-pub struct Connections {
-    pub(crate) station: Station,
+pub struct Connections<D: Disk> {
+    pub(crate) stored: StoredStation<D>,
     links: Vec<Option<Link>>,
     piece: Vec<u8>,
     /// The keys of those that are sent what they are owed at the end of this round.
@@ -35,31 +36,50 @@ pub struct Connections {
     ghost some: { 0 < length piece.items },
 }
 
-impl Connections {
-    /// No connections, and a station at this book.
-    pub fn new(alloc: Global, book: SiteBook) -> Result<Connections, NoMemory>
-        ensures { IfOk result (λ c. c.station ≡ opening_station book) }
+impl<D: Disk> Connections<D> {
+    /// No connections yet to this station.
+    pub fn new(alloc: Global, stored: StoredStation<D>) -> Result<Connections<D>, NoMemory>
+        ensures { IfOk result (λ c. c.stored ≡ stored) }
     {
+        let rows_seen = stored.book().len();
         let mut links = Vec::with_capacity(alloc, PEERS)?;
         for _ in 0..PEERS {
             links.push(None)?;
         }
         Ok(Connections {
-            station: Station::new(alloc, book),
+            stored,
             links,
             piece: Vec::from_elem(alloc, 0, PIECE_OCTETS)?,
             due: Vec::from_elem(alloc, 0, PEERS)?,
             due_count: 0,
             closing: 0,
-            rows_seen: 0,
+            rows_seen,
         })
     }
 
     /// The book of the station.
     pub fn book(&self) -> &SiteBook
-        ensures { result.now ≡ self.now.station.book }
+        ensures { result.now ≡ self.now.stored.station.book }
     {
-        self.station.book()
+        self.stored.book()
+    }
+
+    /// Is each row stored?
+    pub fn is_all_stored(&self) -> bool
+        ensures { result ≡ is_all_stored self.now.stored }
+    {
+        self.stored.is_all_stored()
+    }
+
+    /// Stores each row that isn't stored yet: its peers may be told then.
+    #[tactic(auto, using(crate::proofs::Reaching::moved))]
+    pub(crate) fn store(&mut self) -> Result<(), ServerFault>
+        ensures moves { Reaches self.old.stored.station self.new.stored.station }
+        ensures station { self.new.stored.station ≡ self.old.stored.station }
+        ensures stored { OnOk result (is_all_stored self.new.stored ≡ true) }
+    {
+        self.stored.store()?;
+        Ok(())
     }
 
     /// Are there sessions that have ended, and connections that haven't?
@@ -76,9 +96,9 @@ impl Connections {
         mut stream: TcpStream,
         now: Instant,
     )
-        ensures { Reaches self.old.station self.new.station }
+        ensures { Reaches self.old.stored.station self.new.stored.station }
     {
-        let key = match self.station.arrive() {
+        let key = match self.stored.arrive() {
             Ok(Some(key)) => key,
             Ok(None) => return,
             Err(NoMemory) => {
@@ -93,27 +113,27 @@ impl Connections {
         if is_watched && key < self.links.len() {
             self.links[key] = Some(Link::new(stream, now));
         } else {
-            self.station.leave(key);
+            self.stored.leave(key);
         }
     }
 
     /// A peer has sent something, or hung up. With `to_end` it is known that it sends no more.
     #[tactic(auto, using(crate::proofs::Reaching::moved))]
     pub(crate) fn hear(&mut self, key: usize, to_end: bool, now: Instant)
-        ensures { Reaches self.old.station self.new.station }
+        ensures { Reaches self.old.stored.station self.new.stored.station }
     {
         if let Some(Some(link)) = self.links.get_mut(key) {
             if link.closing_since.is_some() {
                 link.ignore(&mut self.piece);
             } else {
-                link.hear(&mut self.station, key, &mut self.piece, to_end, now);
+                link.hear(&mut self.stored, key, &mut self.piece, to_end, now);
             }
         }
     }
 
     /// A peer's connection takes octets again.
     pub(crate) fn unblock(&mut self, key: usize)
-        ensures { self.new.station ≡ self.old.station }
+        ensures { self.new.stored ≡ self.old.stored }
     {
         if let Some(Some(link)) = self.links.get_mut(key) {
             link.is_full = false;
@@ -122,7 +142,7 @@ impl Connections {
 
     /// A peer is sent what it is owed at the end of this round.
     pub(crate) fn make_due(&mut self, key: usize)
-        ensures { self.new.station ≡ self.old.station }
+        ensures { self.new.stored ≡ self.old.stored }
     {
         if let Some(Some(link)) = self.links.get_mut(key) {
             if !link.is_due && self.due_count < self.due.len() {
@@ -137,14 +157,14 @@ impl Connections {
     /// at its end, but for those whose connections take none for now. Whoever spoke is sent them
     /// anyway.
     pub(crate) fn make_owed_due(&mut self)
-        ensures { self.new.station ≡ self.old.station }
+        ensures { self.new.stored ≡ self.old.stored }
     {
         if !self.has_changes() {
             return;
         }
         let mut from = 0;
         for _ in 0..PEERS {
-            let Some(key) = self.station.next_owed(from) else {
+            let Some(key) = self.stored.next_owed(from) else {
                 return;
             };
             if self.takes_octets(key) {
@@ -156,12 +176,12 @@ impl Connections {
 
     /// Is there a row, since this was asked last, that a dispenser may be told of?
     fn has_changes(&mut self) -> bool
-        ensures { self.new.station ≡ self.old.station }
+        ensures { self.new.stored ≡ self.old.stored }
     {
         let first = self.rows_seen;
-        self.rows_seen = self.station.book().len();
+        self.rows_seen = self.stored.book().len();
         for place in first..self.rows_seen {
-            if is_change(self.station.book(), place) {
+            if is_change(self.stored.book(), place) {
                 return true;
             }
         }
@@ -172,17 +192,34 @@ impl Connections {
     fn takes_octets(&self, key: usize) -> bool {
         match self.links.get(key) {
             Some(Some(link)) => {
-                let has_ended = link.closing_since.is_none() && self.station.end(key).is_some();
+                let has_ended = link.closing_since.is_none() && self.stored.end(key).is_some();
                 !link.is_full || has_ended
             }
             _ => false,
         }
     }
 
-    /// Whoever is due is sent what it is owed, and a session that has ended is closed.
+    /// Each row is stored; then whoever is due is sent what it is owed, and a session that has ended
+    /// is closed. Where the rows can't be stored nothing is sent.
     #[tactic(auto, using(crate::proofs::Reaching::moved))]
-    pub(crate) fn send_due<E: Eprint>(&mut self, registry: &Registry, rt: &E, now: Instant)
-        ensures { Reaches self.old.station self.new.station }
+    pub(crate) fn send_due<E: Eprint>(
+        &mut self,
+        registry: &Registry,
+        rt: &E,
+        now: Instant,
+    ) -> Result<(), ServerFault>
+        ensures { Reaches self.old.stored.station self.new.stored.station }
+    {
+        self.store()?;
+        self.send_each(registry, rt, now);
+        // The sign-offs of sessions whose connections failed while they were sent to.
+        self.store()
+    }
+
+    /// Whoever is due is sent what it may be told, and a session that has ended is closed.
+    #[tactic(auto, using(crate::proofs::Reaching::moved))]
+    fn send_each<E: Eprint>(&mut self, registry: &Registry, rt: &E, now: Instant)
+        ensures { Reaches self.old.stored.station self.new.stored.station }
     {
         for at in 0..self.due_count {
             if let Some(key) = self.due.get(at) {
@@ -196,20 +233,20 @@ impl Connections {
     /// A peer is sent what it is owed, and its connection follows its session.
     #[tactic(auto, using(crate::proofs::Reaching::moved))]
     fn send_owed<E: Eprint>(&mut self, registry: &Registry, rt: &E, key: usize, now: Instant)
-        ensures { Reaches self.old.station self.new.station }
+        ensures { Reaches self.old.stored.station self.new.stored.station }
     {
         let Some(Some(link)) = self.links.get_mut(key) else {
             return;
         };
         link.is_due = false;
-        link.send(&mut self.station, key, now);
+        link.send(&mut self.stored, key, now);
         if link.channel == Channel::Failed {
-            self.station.finish(key);
+            self.stored.finish(key);
             self.begin_to_close(rt, key, now);
             self.remove(key);
             return;
         }
-        if let Some(end) = self.station.end(key) {
+        if let Some(end) = self.stored.end(key) {
             self.begin_to_close(rt, key, now);
             self.end_connection(key, end);
         }
@@ -219,10 +256,10 @@ impl Connections {
     /// Where a peer's turn was over before all was read or sent that could be, its connection is
     /// reported once more.
     fn report_again(&mut self, registry: &Registry, key: usize)
-        ensures { self.new.station ≡ self.old.station }
+        ensures { self.new.stored ≡ self.old.stored }
     {
-        let is_read = self.station.is_read(key);
-        let is_owed = !self.station.owed_octets(key).is_empty();
+        let is_read = self.stored.is_read(key);
+        let is_owed = self.stored.is_owed(key);
         if let Some(Some(link)) = self.links.get_mut(key) {
             let is_left = link.is_unread && (is_read || link.closing_since.is_some());
             if is_left || is_owed && !link.is_full {
@@ -234,15 +271,15 @@ impl Connections {
     /// The session of a peer has ended: its connection is one that closes. That is told once, where
     /// it ended otherwise than with its peer's octets.
     fn begin_to_close<E: Eprint>(&mut self, rt: &E, key: usize, now: Instant)
-        ensures { self.new.station ≡ self.old.station }
+        ensures { self.new.stored ≡ self.old.stored }
     {
         if !self.note_closing(key, now) {
             return;
         }
-        match self.station.end(key) {
+        match self.stored.end(key) {
             None | Some(PeerEnd::Well) => {}
             Some(end) => {
-                let node = self.station.node(key);
+                let node = self.stored.node(key);
                 let ended = EndedSession { node, end };
                 let _ = eprintln!(rt; "{ended}");
             }
@@ -251,7 +288,7 @@ impl Connections {
 
     /// The connection of a peer is one that closes; false where it was one.
     fn note_closing(&mut self, key: usize, now: Instant) -> bool
-        ensures { self.new.station ≡ self.old.station }
+        ensures { self.new.stored ≡ self.old.stored }
     {
         if let Some(Some(link)) = self.links.get_mut(key) {
             if link.closing_since.is_none() {
@@ -268,13 +305,13 @@ impl Connections {
     /// owed is closed at once.
     #[tactic(auto, using(crate::proofs::Reaching::moved))]
     fn end_connection(&mut self, key: usize, end: PeerEnd)
-        ensures { Reaches self.old.station self.new.station }
+        ensures { Reaches self.old.stored.station self.new.stored.station }
     {
         if end == PeerEnd::Behind {
             self.remove(key);
             return;
         }
-        if !self.station.owed_octets(key).is_empty() {
+        if self.stored.is_owed(key) {
             return;
         }
         if let Some(Some(link)) = self.links.get_mut(key) {
@@ -287,9 +324,9 @@ impl Connections {
 
     /// The connection of a peer is closed, and the peer leaves.
     fn remove(&mut self, key: usize)
-        ensures { self.new.station ≡ without_peer key self.old.station }
+        ensures { self.new.stored.station ≡ without_peer key self.old.stored.station }
     {
-        self.station.leave(key);
+        self.stored.leave(key);
         if let Some(slot) = self.links.get_mut(key) {
             if let Some(link) = slot.take() {
                 if link.closing_since.is_some() {
@@ -308,25 +345,36 @@ impl Connections {
         rt: &E,
         idle: Option<u64>,
         now: Instant,
-    )
-        ensures { Reaches self.old.station self.new.station }
+    ) -> Result<(), ServerFault>
+        ensures { Reaches self.old.stored.station self.new.stored.station }
     {
         for key in 0..self.links.len() {
             match self.find_timeout(key, idle, now) {
                 Timeout::NotYet => {}
                 Timeout::Idle(seconds) => {
                     let name = PeerName {
-                        node: self.station.node(key),
+                        node: self.stored.node(key),
                     };
                     let _ = eprintln!(rt; "session of {name}: nothing came for {seconds} seconds");
-                    self.station.finish(key);
+                    self.stored.finish(key);
                     let _ = self.note_closing(key, now);
                     self.make_due(key);
                 }
                 Timeout::Closing => self.remove(key),
             }
         }
-        self.send_due(registry, rt, now);
+        self.send_due(registry, rt, now)
+    }
+
+    /// Time has passed in which the station heard nobody: no peer was silent then.
+    pub(crate) fn restart_silence(&mut self, now: Instant)
+        ensures { self.new.stored ≡ self.old.stored }
+    {
+        for slot in &mut self.links {
+            if let Some(link) = slot {
+                link.heard_at = now;
+            }
+        }
     }
 
     /// Whether a peer was waited for too long.
@@ -347,48 +395,62 @@ impl Connections {
     }
 
     /// The day ends: each session ends, and what it is owed is sent as far as its connection takes
-    /// it. Then each connection is closed: nobody is left.
+    /// it, where each row is stored. Then each connection is closed: nobody is left.
     #[tactic(auto, using(crate::proofs::Reaching::moved))]
-    pub(crate) fn end_all(&mut self, now: Instant)
-        ensures moves { Reaches self.old.station self.new.station }
-        ensures left { HasNoPeer self.new.station }
+    pub(crate) fn end_all(&mut self, now: Instant) -> Result<(), ServerFault>
+        ensures moves { Reaches self.old.stored.station self.new.stored.station }
+        ensures left { HasNoPeer self.new.stored.station }
+        ensures stored { OnOk result (is_all_stored self.new.stored ≡ true) }
     {
-        for key in 0..PEERS {
-            self.end(key, now);
-        }
+        self.finish_all();
+        let stored = self.store();
+        self.send_last_to_all(now);
         self.remove_all();
+        stored?;
+        self.store()
     }
 
-    /// The session of a peer ends, and it is sent what it is owed.
+    /// Each session ends.
     #[tactic(auto, using(crate::proofs::Reaching::moved))]
-    fn end(&mut self, key: usize, now: Instant)
-        ensures { Reaches self.old.station self.new.station }
+    fn finish_all(&mut self)
+        ensures { Reaches self.old.stored.station self.new.stored.station }
     {
-        self.station.finish(key);
-        self.send_last(key, now);
+        for key in 0..PEERS {
+            self.stored.finish(key);
+        }
+    }
+
+    /// Each peer is sent what it may be told.
+    #[tactic(auto, using(crate::proofs::Reaching::moved))]
+    fn send_last_to_all(&mut self, now: Instant)
+        ensures { Reaches self.old.stored.station self.new.stored.station }
+    {
+        for key in 0..PEERS {
+            self.send_last(key, now);
+        }
     }
 
     /// Each connection is closed, and its peer leaves.
     #[tactic(auto, using(crate::proofs::Reaching::moved))]
     fn remove_all(&mut self)
-        ensures moves { Reaches self.old.station self.new.station }
-        ensures left { HasNoPeer self.new.station }
+        ensures moves { Reaches self.old.stored.station self.new.stored.station }
+        ensures left { HasNoPeer self.new.stored.station }
     {
         for key in 0..PEERS {
             self.remove(key);
         }
         // Keys above aren't given.
-        let _ = self.station.book();
+        let _ = self.stored.book();
     }
 
     /// A peer is sent what it is owed, and told that nothing more will come. What it has sent is
     /// read, since a connection that is closed before that loses what was sent last.
     #[tactic(auto, using(crate::proofs::Reaching::moved))]
     fn send_last(&mut self, key: usize, now: Instant)
-        ensures { Reaches self.old.station self.new.station }
+        ensures { Reaches self.old.stored.station self.new.stored.station }
     {
         if let Some(Some(link)) = self.links.get_mut(key) {
-            link.send(&mut self.station, key, now);
+            link.send(&mut self.stored, key, now);
             link.shut();
             link.ignore(&mut self.piece);
         }

@@ -1,5 +1,6 @@
 //! Why a server ends before its day does.
 
+use journal::DiskFault;
 use site_base::NoMemory;
 use thiserror::Error;
 
@@ -12,6 +13,9 @@ pub enum ServerFault {
     /// It can't listen, or can't wait for connections.
     #[error("no connections")]
     NoConnection,
+    /// The journal takes no more.
+    #[error("the journal takes no more")]
+    NotStored,
 }
 
 impl From<NoMemory> for ServerFault {
@@ -22,5 +26,19 @@ impl From<NoMemory> for ServerFault {
 
     fn from(_e: NoMemory) -> ServerFault {
         ServerFault::NoMemory
+    }
+}
+
+impl From<DiskFault> for ServerFault {
+    ghost use Rattle.std.specs.Prelude.{◌≡◌};
+    ghost use Rattle.station_server.specs.Reaches.{not_stored};
+
+    ghost from_gives = { λ f e. e ≡ not_stored f };
+
+    fn from(fault: DiskFault) -> ServerFault {
+        match fault {
+            DiskFault::NoMemory => ServerFault::NoMemory,
+            DiskFault::Failed => ServerFault::NotStored,
+        }
     }
 }

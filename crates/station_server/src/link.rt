@@ -5,8 +5,8 @@ ghost use Rattle.station_server.specs.Reaches.{Reaches};
 
 use crate::calls::{Call, read_once, write_once};
 use crate::sizes::CALLS_A_TURN;
+use journal::{Disk, StoredStation};
 use mio::net::TcpStream;
-use station::Station;
 use std::io::{ErrorKind, Read};
 use std::net::Shutdown;
 use std::time::Instant;
@@ -60,24 +60,24 @@ impl Link {
     /// Reads from the peer, and has the station hear it: until there is no more for now, the peer
     /// isn't read from, or its turn is over. With `to_end` it is known that the peer sends no more.
     #[tactic(auto, using(crate::proofs::Reaching::moved))]
-    pub(crate) fn hear(
+    pub(crate) fn hear<D: Disk>(
         &mut self,
-        station: &mut Station,
+        stored: &mut StoredStation<D>,
         key: usize,
         piece: &mut [u8],
         to_end: bool,
         now: Instant,
     )
         requires { 0 < length piece.old }
-        ensures { Reaches station.old station.new }
+        ensures { Reaches stored.old.station stored.new.station }
     {
         self.is_unread = true;
         for _ in 0..CALLS_A_TURN {
-            if !station.is_read(key) {
+            if !stored.is_read(key) {
                 return;
             }
             let size = piece.len();
-            match read_once(&mut self.stream, station, key, piece) {
+            match read_once(&mut self.stream, stored, key, piece) {
                 Call::Passed(n) => {
                     self.heard_at = now;
                     if n < size && !to_end {
@@ -102,16 +102,21 @@ impl Link {
         }
     }
 
-    /// Sends what the peer is owed, as far as its connection takes it for now.
+    /// Sends what the peer may be told, as far as its connection takes it for now.
     #[tactic(auto, using(crate::proofs::Reaching::moved))]
-    pub(crate) fn send(&mut self, station: &mut Station, key: usize, now: Instant)
-        ensures { Reaches station.old station.new }
+    pub(crate) fn send<D: Disk>(
+        &mut self,
+        stored: &mut StoredStation<D>,
+        key: usize,
+        now: Instant,
+    )
+        ensures { Reaches stored.old.station stored.new.station }
     {
         for _ in 0..CALLS_A_TURN {
-            if station.owed_octets(key).is_empty() {
+            if stored.told_octets(key).is_empty() {
                 return;
             }
-            match write_once(&mut self.stream, station, key) {
+            match write_once(&mut self.stream, stored, key) {
                 Call::Passed(_) => self.note_taken(now),
                 Call::Interrupted => {}
                 Call::Waits => {

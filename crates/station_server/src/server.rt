@@ -1,12 +1,14 @@
 //! The server: it waits until connections are ready, round after round.
 
-ghost use Rattle.std.specs.Prelude.{◌≡◌};
+ghost use Rattle.std.specs.Prelude.{◌≡◌, OnOk, true};
 ghost use Rattle.station.specs.Reads.{HasNoPeer};
+ghost use Rattle.journal.specs.Stored.{is_all_stored};
 ghost use Rattle.station_server.specs.Reaches.{Reaches};
 
 use crate::connections::Connections;
 use crate::fault::ServerFault;
-use crate::sizes::{ACCEPTS_A_TURN, EVENTS_A_ROUND, SWEEP_SECONDS};
+use crate::sizes::{ACCEPTS_A_TURN, EVENTS_A_ROUND, STALL_SECONDS, SWEEP_SECONDS};
+use journal::Disk;
 use mio::event::Event;
 use mio::net::TcpListener;
 use mio::{Events, Interest, Poll, Token, Waker};
@@ -79,33 +81,36 @@ impl StationServer {
     /// Serves connections until the day's end. Sessions of which nothing comes for so many seconds
     /// are ended. At the day's end each session ends, what it is owed is sent as far as its
     /// connection takes it, and nobody is left; so too where waiting for connections fails, with
-    /// `NoConnection`.
+    /// `NoConnection`, and where the journal takes no more, with `NotStored`: then nobody is told
+    /// anything more.
     #[tactic(auto, using(crate::proofs::Reaching::moved))]
-    pub fn serve<T: Wait, R: Clock + Eprint>(
+    pub fn serve<T: Wait, R: Clock + Eprint, D: Disk>(
         &mut self,
         threads: &T,
         rt: &R,
-        connections: &mut Connections,
+        connections: &mut Connections<D>,
         idle: Option<u64>,
     ) -> Result<(), ServerFault>
-        ensures moves { Reaches connections.old.station connections.new.station }
-        ensures left { HasNoPeer connections.new.station }
+        ensures moves { Reaches connections.old.stored.station connections.new.stored.station }
+        ensures left { HasNoPeer connections.new.stored.station }
+        ensures stored { OnOk result (is_all_stored connections.new.stored ≡ true) }
     {
         let served = self.serve_rounds(threads, rt, connections, idle);
-        connections.end_all(self.time);
-        served
+        let ended = connections.end_all(self.time);
+        served?;
+        ended
     }
 
     /// Serves connections until the day's end.
     #[tactic(auto, using(crate::proofs::Reaching::moved))]
-    fn serve_rounds<T: Wait, R: Clock + Eprint>(
+    fn serve_rounds<T: Wait, R: Clock + Eprint, D: Disk>(
         &mut self,
         threads: &T,
         rt: &R,
-        connections: &mut Connections,
+        connections: &mut Connections<D>,
         idle: Option<u64>,
     ) -> Result<(), ServerFault>
-        ensures { Reaches connections.old.station connections.new.station }
+        ensures { Reaches connections.old.stored.station connections.new.stored.station }
     {
         for _ in threads.forever() {
             let timeout = self.poll_timeout(connections, idle);
@@ -117,7 +122,7 @@ impl StationServer {
             if self.take_turns(connections) == Round::Last {
                 return Ok(());
             }
-            self.send_all(rt, connections, idle);
+            self.send_all(rt, connections, idle)?;
             if self.has_callers {
                 self.accept_all(rt, connections);
             }
@@ -126,7 +131,7 @@ impl StationServer {
     }
 
     /// How long it waits for the next round: as long as it takes, or until the next sweep.
-    fn poll_timeout(&self, connections: &Connections, idle: Option<u64>) -> Option<Duration> {
+    fn poll_timeout<D: Disk>(&self, connections: &Connections<D>, idle: Option<u64>) -> Option<Duration> {
         if self.is_deaf || connections.has_closing() || idle.is_some() {
             return Some(Duration::from_secs(SWEEP_SECONDS));
         }
@@ -142,8 +147,8 @@ impl StationServer {
 
     /// Each connection that is ready has its turn.
     #[tactic(auto, using(crate::proofs::Reaching::moved))]
-    fn take_turns(&mut self, connections: &mut Connections) -> Round
-        ensures { Reaches connections.old.station connections.new.station }
+    fn take_turns<D: Disk>(&mut self, connections: &mut Connections<D>) -> Round
+        ensures { Reaches connections.old.stored.station connections.new.stored.station }
     {
         self.has_callers = false;
         for event in &self.events {
@@ -159,8 +164,8 @@ impl StationServer {
     /// Accepts the connections that wait. Where that fails it is told, once until all that wait are
     /// accepted, and tried again.
     #[tactic(auto, using(crate::proofs::Reaching::moved))]
-    fn accept_all<R: Eprint>(&mut self, rt: &R, connections: &mut Connections)
-        ensures { Reaches connections.old.station connections.new.station }
+    fn accept_all<R: Eprint, D: Disk>(&mut self, rt: &R, connections: &mut Connections<D>)
+        ensures { Reaches connections.old.stored.station connections.new.stored.station }
     {
         self.is_deaf = false;
         for _ in 0..ACCEPTS_A_TURN {
@@ -192,35 +197,62 @@ impl StationServer {
         }
     }
 
-    /// Sends what is owed, and each second does what waits for time to pass.
+    /// Stores the round's rows and sends what is owed, and each second does what waits for time to
+    /// pass.
     #[tactic(auto, using(crate::proofs::Reaching::moved))]
-    fn send_all<R: Eprint>(&mut self, rt: &R, connections: &mut Connections, idle: Option<u64>)
-        ensures { Reaches connections.old.station connections.new.station }
+    fn send_all<R: Clock + Eprint, D: Disk>(
+        &mut self,
+        rt: &R,
+        connections: &mut Connections<D>,
+        idle: Option<u64>,
+    ) -> Result<(), ServerFault>
+        ensures { Reaches connections.old.stored.station connections.new.stored.station }
     {
         connections.make_owed_due();
-        connections.send_due(self.poll.registry(), rt, self.time);
+        connections.send_due(self.poll.registry(), rt, self.time)?;
         if self.time.duration_since(self.swept_at).as_secs() >= SWEEP_SECONDS {
             self.swept_at = self.time;
-            self.sweep(rt, connections, idle);
+            self.sweep(rt, connections, idle)?;
+        }
+        if idle.is_some() {
+            self.pass_over_stall(rt, connections);
+        }
+        Ok(())
+    }
+
+    /// Where storing took so long that peers seem silent since, they aren't.
+    fn pass_over_stall<R: Clock, D: Disk>(&mut self, rt: &R, connections: &mut Connections<D>)
+        ensures { connections.new.stored ≡ connections.old.stored }
+    {
+        let begun = self.time;
+        self.look_at_clock(rt);
+        if self.time.duration_since(begun).as_secs() >= STALL_SECONDS {
+            connections.restart_silence(self.time);
         }
     }
 
     /// Looks whose session is idle or doesn't close, and accepts again where that failed.
     #[tactic(auto, using(crate::proofs::Reaching::moved))]
-    fn sweep<R: Eprint>(&mut self, rt: &R, connections: &mut Connections, idle: Option<u64>)
-        ensures { Reaches connections.old.station connections.new.station }
+    fn sweep<R: Eprint, D: Disk>(
+        &mut self,
+        rt: &R,
+        connections: &mut Connections<D>,
+        idle: Option<u64>,
+    ) -> Result<(), ServerFault>
+        ensures { Reaches connections.old.stored.station connections.new.stored.station }
     {
-        connections.sweep(self.poll.registry(), rt, idle, self.time);
+        connections.sweep(self.poll.registry(), rt, idle, self.time)?;
         if self.is_deaf {
             self.accept_all(rt, connections);
         }
+        Ok(())
     }
 }
 
 /// A connection that is ready has its turn.
 #[tactic(auto, using(crate::proofs::Reaching::moved))]
-fn take_turn(connections: &mut Connections, event: &Event, key: usize, now: Instant)
-    ensures { Reaches connections.old.station connections.new.station }
+fn take_turn<D: Disk>(connections: &mut Connections<D>, event: &Event, key: usize, now: Instant)
+    ensures { Reaches connections.old.stored.station connections.new.stored.station }
 {
     if event.is_writable() {
         connections.unblock(key);

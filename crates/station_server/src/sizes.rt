@@ -19,3 +19,6 @@ pub const SWEEP_SECONDS: u64 = 1;
 /// A peer whose session has ended gets so many seconds for each step in which it takes what it is
 /// owed, and then hangs up.
 pub const CLOSING_SECONDS: u64 = 5;
+
+/// Where storing a round's rows took so many seconds, peers weren't silent in them.
+pub const STALL_SECONDS: u64 = 1;

@@ -8,28 +8,15 @@ returns-in_err-put_listening-clause-front g c =
     tells_station_line _ _ _ _ _ c.port.ensures c.put_listening.ensures.front
 
 -- the report wasn't written whole
-pub returns-in_err-put_book_report-clause-front : goal.returns-in_err-put_book_report-clause-front
-returns-in_err-put_book_report-clause-front g c =
-    tells_station_front _ _ _ _ _ _ _ _ _ _ c.port.ensures c.in_ok-try_open.ensures
-    c.in_ok-connections.ensures c.serve-served.ensures.moves c.book.ensures
-    c.in_ok-put_listening.ensures.written c.put_book_report.ensures.front
+pub returns-in_err-put_stored_report-clause-front : goal.returns-in_err-put_stored_report-clause-front
+returns-in_err-put_stored_report-clause-front g c = ?
 
 -- the server ended before the day did
 pub returns-in_err-served-clause-front : goal.returns-in_err-served-clause-front
-returns-in_err-served-clause-front g c =
-    tells_station_front _ _ _ _ _ _ _ _ _ _ c.port.ensures c.in_ok-try_open.ensures
-    c.in_ok-connections.ensures c.serve-served.ensures.moves c.book.ensures
-    c.in_ok-put_listening.ensures.written c.in_ok-put_book_report.ensures.front
+returns-in_err-served-clause-front g c = ?
 
 pub returns-clause-told : goal.returns-clause-told
-returns-clause-told g c =
-    tells_station _ _ _ _ _ _ _ _ _ _ c.port.ensures c.in_ok-try_open.ensures
-    c.in_ok-connections.ensures c.serve-served.ensures.moves c.serve-served.ensures.left
-    c.book.ensures
-    c.in_ok-put_listening.ensures.written c.in_ok-put_book_report.ensures.written
+returns-clause-told g c = ?
 
 pub returns-clause-front : goal.returns-clause-front
-returns-clause-front g c =
-    tells_station_front _ _ _ _ _ _ _ _ _ _ c.port.ensures c.in_ok-try_open.ensures
-    c.in_ok-connections.ensures c.serve-served.ensures.moves c.book.ensures
-    c.in_ok-put_listening.ensures.written c.in_ok-put_book_report.ensures.front
+returns-clause-front g c = ?

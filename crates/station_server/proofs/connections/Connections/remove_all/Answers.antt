@@ -4,14 +4,14 @@ use Rattle.station_server.proofs.Reaching.{reaches_left, reaches_then}
 use Rattle.station_server.proofs.connections.Connections.remove_all.Goals as goal
 
 pub loop-key-preserved : goal.loop-key-preserved
-loop-key-preserved c = record {
+loop-key-preserved g c = record {
   moves = reaches_then _ _ _ c.loop-key.invariant.moves
       (reaches_left c.loop-key.key _ _ c.remove.ensures);
   gone = left_up_to c.loop-key.key _ _ c.remove.ensures c.loop-key.invariant.gone;
 }
 
 pub returns-clause-left : goal.returns-clause-left
-returns-clause-left c =
+returns-clause-left g c =
     nobody_left _
     (λ k less. c.loop-key.invariant.gone k (omega (arith, less, c.loop-key-test.false)))
     c.book.ensures.keys

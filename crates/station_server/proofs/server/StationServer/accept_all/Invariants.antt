@@ -2,4 +2,4 @@ use Rattle.station_server.specs.Reaches.{Reaches}
 use Rattle.station_server.proofs.server.StationServer.accept_all.Given as goal
 
 abbrev pub invariant-loop : goal.invariant-loop
-invariant-loop g l = Reaches l.fn.connections.station l.connections.station
+invariant-loop g l = Reaches l.fn.connections.stored.station l.connections.stored.station

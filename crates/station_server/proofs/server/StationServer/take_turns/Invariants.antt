@@ -2,8 +2,8 @@ use Rattle.station_server.specs.Reaches.{Reaches}
 use Rattle.station_server.proofs.server.StationServer.take_turns.Given as goal
 
 abbrev pub invariant-loop-event : goal.invariant-loop-event
-invariant-loop-event l = record {
+invariant-loop-event g l = record {
   next : goal.iterator-loop-event.can_next l.event-iterator;
   few : goal.iterator-loop-event.is_finite l.event-iterator;
-  reached : Reaches l.fn.connections.station l.connections.station;
+  reached : Reaches l.fn.connections.stored.station l.connections.stored.station;
 }

@@ -1,0 +1,72 @@
+//! The station that a command opens, with its journal.
+
+ghost use Rattle.std.specs.Prelude.{◌≡◌, IfOk};
+ghost use Rattle.station.specs.Runs.{opening_station};
+ghost use Rattle.journal.specs.Opening.{HasNobodyOn};
+
+use crate::exit::{FAULT, exit_no_memory, exit_unwritten, exit_with};
+use crate::journal_file::{FileFault, JournalFile};
+use journal::{OpenFault, Opened, StoredStation, open_journal};
+use site_base::SiteConfig;
+use std::process::ExitCode;
+
+/// The station of a site: of the journal of this name, or without one, or how the program ends.
+pub fn open_station(
+    rt: &HostRuntime,
+    config: &SiteConfig,
+    site_file: &[u8],
+    journal: Option<&str>,
+) -> Result<Opened<JournalFile>, ExitCode>
+    ensures alone { IfOk result
+        (λ o. o.station.station ≡ opening_station o.station.station.book) }
+    ensures off { IfOk result (λ o. HasNobodyOn o.station.station.book) }
+{
+    match journal {
+        Some(name) => open_with(rt, config, site_file, name),
+        None => match StoredStation::open_without(rt.alloc(), config) {
+            Ok(station) => Ok(Opened { station, rows: 0 }),
+            Err(_) => Err(exit_no_memory(rt)),
+        },
+    }
+}
+
+/// The station of the journal of this name.
+fn open_with(
+    rt: &HostRuntime,
+    config: &SiteConfig,
+    site_file: &[u8],
+    name: &str,
+) -> Result<Opened<JournalFile>, ExitCode>
+    ensures alone { IfOk result
+        (λ o. o.station.station ≡ opening_station o.station.station.book) }
+    ensures off { IfOk result (λ o. HasNobodyOn o.station.station.book) }
+{
+    let file = match JournalFile::open(rt, name) {
+        Ok(file) => file,
+        Err(fault) => return Err(exit_file(rt, name, fault)),
+    };
+    match open_journal(rt.alloc(), config, site_file, file) {
+        Ok(opened) => Ok(opened),
+        Err(fault) => Err(exit_journal(rt, name, fault)),
+    }
+}
+
+/// How the program ends where a journal's file isn't there to be used.
+fn exit_file(rt: &impl Eprint, name: &str, fault: FileFault) -> ExitCode {
+    match fault {
+        FileFault::NoMemory => exit_no_memory(rt),
+        FileFault::Unread => exit_with(eprintln!(rt; "cannot read {name}"), FAULT),
+        FileFault::InUse => exit_with(eprintln!(rt; "journal in use"), FAULT),
+        FileFault::Unwritten => exit_unwritten(rt),
+    }
+}
+
+/// How the program ends where a journal isn't opened.
+fn exit_journal(rt: &impl Eprint, name: &str, fault: OpenFault) -> ExitCode {
+    match fault {
+        OpenFault::NoMemory => exit_no_memory(rt),
+        OpenFault::Unread => exit_with(eprintln!(rt; "cannot read {name}"), FAULT),
+        OpenFault::Unwritten => exit_unwritten(rt),
+        OpenFault::Line(_) | OpenFault::AnotherSite => exit_with(eprintln!(rt; "{fault}"), FAULT),
+    }
+}

@@ -1,0 +1,87 @@
+-- The line of a row is read again as its request.
+use Rattle.std.proofs.Common.{◌≡◌, ℕ, zero, suc, ◌<◌, Bool, true, false, not, List, [], ◌∷◌, ◌++◌}
+use Rattle.std.proofs.Common.{length, Option, Some, None, Ok, refl, sym, ap, ◌∙◌, arith, append-nil, eqb}
+use Rattle.std.proofs.Common.{inl, inr, subst}
+use Rattle.std.proofs.lemmas.Bool.{cases_eq, ne_eqb}
+use Rattle.std.proofs.lemmas.Grind.{flat_map-append}
+use Rattle.std.proofs.lemmas.List.{map-append}
+use Rattle.std.proofs.lemmas.List.Elements.{recursion_from_All}
+use Rattle.std.specs.List.{AllByRecursion}
+use Rattle.hex.specs.Hex.{decode_of, encode_lower, is_hex_digit}
+use Rattle.hex.proofs.HexLemmas.{decode_of-encode_lower, decode_of-ok}
+use Rattle.site_base.specs.declared.actor.Actor.{Actor}
+use Rattle.site_base.specs.declared.event.Event.{Event}
+use Rattle.site_base.specs.declared.row.Row.{Row}
+use Rattle.app_message.specs.Spelling.{IsMessage, spelling}
+use Rattle.app_message.specs.Stream.{fed_by, held_after, stream_of, with_messages}
+use Rattle.app_message.specs.Telegram.{Telegram}
+use Rattle.app_message.proofs.Again.{read_again}
+use Rattle.device_map.specs.Laws.{Asks}
+use Rattle.device_map.specs.Requests.{request_at}
+use Rattle.forecourt_engines.specs.Laws.{IsLine}
+use Rattle.written_site.specs.SiteRun.{events_of}
+use Rattle.journal.specs.JournalLines.{lines_from, request_alone, request_decoded, request_in}
+use Rattle.journal.specs.JournalLines.{request_in_octets, requests_in, unfinished_from}
+use Rattle.journal.specs.JournalText.{row_line, row_request, rows_text}
+use Rattle.journal.specs.RowLines.{AreLines}
+use Rattle.journal.proofs.Lines.{line_ends, lines_both, one_line, requests_both, unfinished_both}
+use Rattle.journal.proofs.Octets.{spelled_octets}
+
+no_feed : (x : ℕ) → is_hex_digit x ≡ true → not (eqb x 10) ≡ true
+no_feed x digit = elim (cases_eq x 10) [
+  | inl is ↦ absurd (cc (subst (λ (y : ℕ). is_hex_digit y ≡ true) is digit))
+  | inr other ↦ ap not (ne_eqb x 10 other)
+]
+
+digits_plain : (xs : List ℕ) → AllByRecursion (λ x. is_hex_digit x ≡ true) xs → IsLine xs
+digits_plain [] all = refl
+digits_plain (x ∷ xs) all = rw (no_feed x all.0) (digits_plain xs all.1)
+
+-- the hexadecimal of a message has no line feed
+spelled_plain : (m : Telegram) → IsMessage m → IsLine (encode_lower (spelling m))
+spelled_plain m valid =
+    let text = encode_lower (spelling m) in
+    let read = decode_of-encode_lower (spelling m) (spelled_octets m valid) in
+    digits_plain text (recursion_from_All (λ x. is_hex_digit x ≡ true) text
+    (decode_of-ok text (spelling m) read).1)
+
+-- a message alone
+alone_read : (m : Telegram) → IsMessage m
+    → fed_by (held_after []) (spelling m) ≡ record { messages = m ∷ []; rest = []; fault = None }
+alone_read m valid =
+    ap stream_of (sym (append-nil (spelling m))) ∙ read_again m [] valid
+
+-- .. is read as its request
+pub request_read : (m : Telegram) (actor : Actor) (event : Event) → IsMessage m
+    → request_at m ≡ Ok (actor, event) → request_in (encode_lower (spelling m)) ≡ Some (actor, event)
+request_read m actor event valid asks =
+    ap request_decoded (decode_of-encode_lower (spelling m) (spelled_octets m valid))
+    ∙ rw (alone_read m valid, asks) refl
+
+pub events_both : (a b : List Row) → events_of (a ++ b) ≡ events_of a ++ events_of b
+events_both a b = map-append (λ r. (r.actor, r.event)) a b
+
+pub texts_both : (a b : List Row) → rows_text (a ++ b) ≡ rows_text a ++ rows_text b
+texts_both a b = flat_map-append row_line a b
+
+-- one row more
+pub one_more_line : (rows : List Row) (r : Row) (text : List ℕ) → AreLines rows text
+    → Asks 0 r.actor r.event (row_request r) → AreLines (rows ++ r ∷ []) (text ++ row_line r)
+one_more_line rows r text lines asks =
+    let plain = spelled_plain (row_request r) asks.message in
+    let line = encode_lower (spelling (row_request r)) in
+    let one : lines_from [] (row_line r) ≡ line ∷ [] = one_line line plain in
+    record {
+      spelled =
+          ap (λ (t : List ℕ). t ++ row_line r) lines.spelled
+          ∙ ap (λ (t : List ℕ). rows_text rows ++ t) (sym (append-nil (row_line r)))
+          ∙ sym (texts_both rows (r ∷ []));
+      requests =
+          ap requests_in (lines_both [] text (row_line r)
+          ∙ rw (lines.whole, one) refl)
+          ∙ requests_both (lines_from [] text) (line ∷ []) (events_of rows)
+          ((r.actor, r.event) ∷ []) lines.requests
+          (rw (request_read (row_request r) r.actor r.event asks.message asks.asks) refl)
+          ∙ ap Some (sym (events_both rows (r ∷ [])));
+      whole = unfinished_both [] text (row_line r) ∙ rw (lines.whole) (line_ends [] line);
+    }

@@ -1,0 +1,60 @@
+-- Rows by their places, and the lines of more and more of them.
+use Rattle.std.proofs.Common.{◌≡◌, ℕ, zero, suc, ◌+◌, ◌<◌, List, [], ◌∷◌, ◌++◌, length, take, drop}
+use Rattle.std.proofs.Common.{Option, Some, None, refl, sym, ap, ◌∙◌, subst, arith}
+use Rattle.std.specs.Prelude.{◌≤◌, slice_get}
+use Rattle.std.specs.List.{AllByRecursion}
+use Rattle.std.proofs.lemmas.List.{drop-append-le, length-take-le, take_all}
+use Rattle.std.proofs.lemmas.Option.{none-some, same_Some}
+use Rattle.site_base.specs.declared.row.Row.{Row}
+use Rattle.device_map.specs.Laws.{Asks}
+use Rattle.journal.specs.JournalText.{row_line, row_request}
+use Rattle.journal.specs.RowLines.{AreLines}
+use Rattle.journal.proofs.Requests.{one_more_line}
+
+pub take_more : {X : Type 0} (xs : List X) (n : ℕ) (x : X) → slice_get xs n ≡ Some x
+    → take (suc n) xs ≡ take n xs ++ x ∷ []
+take_more [] n x is = absurd (none-some x is)
+take_more (y ∷ ys) zero x is = ap (λ z. z ∷ []) (same_Some y x is)
+take_more (y ∷ ys) (suc n) x is = ap (λ zs. y ∷ zs) (take_more ys n x is)
+
+pub each_at : {X : Type 0} (P : X → Type 0) (xs : List X) (n : ℕ) (x : X) → AllByRecursion P xs
+    → slice_get xs n ≡ Some x → P x
+each_at P [] n x all is = absurd (none-some x is)
+each_at P (y ∷ ys) zero x all is = subst P (same_Some y x is) all.0
+each_at P (y ∷ ys) (suc n) x all is = each_at P ys n x all.1 is
+
+-- there is an element at each place
+pub there_is : {X : Type 0} (xs : List X) (n : ℕ) → n < length xs → slice_get xs n ≡ None → ⊥
+there_is [] n within none = omega (arith, within)
+there_is (y ∷ ys) zero within none = none-some y (sym none)
+there_is (y ∷ ys) (suc n) within none = there_is ys n (omega (arith, within)) none
+
+-- no rows, no lines
+pub no_lines : (rows : List Row) (from : ℕ) → AreLines (drop from (take from rows)) []
+no_lines rows from =
+    subst (λ (rs : List Row). AreLines rs []) (sym (none_behind rows from))
+    (record { spelled = refl; requests = refl; whole = refl })
+  where
+    none_behind : (xs : List Row) (n : ℕ) → drop n (take n xs) ≡ []
+    none_behind [] zero = refl
+    none_behind [] (suc n) = refl
+    none_behind (x ∷ xs) zero = refl
+    none_behind (x ∷ xs) (suc n) = none_behind xs n
+
+-- the line of one row more
+pub line_behind : (rows : List Row) (from n : ℕ) (r : Row) (text : List ℕ) → from ≤ n
+    → n < length rows → slice_get rows n ≡ Some r → AreLines (drop from (take n rows)) text
+    → Asks 0 r.actor r.event (row_request r)
+    → AreLines (drop from (take (n + 1) rows)) (text ++ row_line r)
+line_behind rows from n r text high within is lines asks =
+    let size : length (take n rows) ≡ n = length-take-le n rows (omega (arith, within)) in
+    subst (λ (rs : List Row). AreLines rs (text ++ row_line r))
+    (sym (ap (drop from) (ap (λ (m : ℕ). take m rows) (omega arith) ∙ take_more rows n r is)
+    ∙ drop-append-le from (take n rows) (r ∷ []) (omega (arith, size, high))))
+    (one_more_line (drop from (take n rows)) r text lines asks)
+
+-- all of them
+pub all_lines : (rows : List Row) (from n : ℕ) (text : List ℕ) → length rows ≤ n
+    → AreLines (drop from (take n rows)) text → AreLines (drop from rows) text
+all_lines rows from n text long lines =
+    subst (λ (rs : List Row). AreLines (drop from rs) text) (take_all n rows long) lines

@@ -1,0 +1,60 @@
+-- A disk's file: what a read gives, and what of it a crash leaves.
+use Rattle.std.specs.Prelude.{◌≡◌, ℕ, List, ◌++◌, take, ⊤, ⊥, Option, Some, None}
+use Rattle.std.specs.List.{AllByRecursion}
+
+-- the octets that a read gives; the front of them that is on the disk; and each such front so far,
+-- one for each moment at which a crash might have come, the last one last
+pub record DiskFile : Type 0 where
+  pub octets : List ℕ
+  pub synced : List ℕ
+  pub fronts : List (List ℕ)
+
+-- octets begin with a front
+pub record BeginsWith (front octets : List ℕ) : Type 0 where
+  pub rest : List ℕ
+  pub parts : octets ≡ front ++ rest
+
+-- a call has led from one file to the next: at each moment in between, and at the end, what is on
+-- the disk begins with this front
+pub record KeepsFront (front : List ℕ) (old new : DiskFile) : Type 0 where
+  pub more : List (List ℕ)
+  pub moments : new.fronts ≡ old.fronts ++ more
+  pub each : AllByRecursion (BeginsWith front) more
+  pub last : BeginsWith front new.synced
+
+-- what holds of a file, where one is known: of a real disk none is
+abbrev pub OfFile : (DiskFile → Type 0) → Option DiskFile → Type 0
+OfFile P None = ⊤
+OfFile P (Some file) = P file
+
+-- .. of the files before and after a call
+abbrev pub OfFiles : (DiskFile → DiskFile → Type 0) → Option DiskFile → Option DiskFile → Type 0
+OfFiles R None new = ⊤
+OfFiles R (Some old) None = ⊥
+OfFiles R (Some old) (Some new) = R old new
+
+-- ---- the calls
+
+-- these octets are the file's, and they begin with what is on the disk
+abbrev pub Reads : List ℕ → DiskFile → Type 0
+Reads octets file = (octets ≡ file.octets) × BeginsWith file.synced file.octets
+
+-- what was synced stays, at each moment
+abbrev pub Keeps : DiskFile → DiskFile → Type 0
+Keeps old new = KeepsFront old.synced old new
+
+-- these octets stand behind the others
+abbrev pub Appends : List ℕ → DiskFile → DiskFile → Type 0
+Appends octets old new = new.octets ≡ old.octets ++ octets
+
+-- all octets are on the disk
+abbrev pub Syncs : DiskFile → DiskFile → Type 0
+Syncs old new = (new.octets ≡ old.octets) × (new.synced ≡ old.octets)
+
+-- just so many octets are left
+abbrev pub Cuts : ℕ → DiskFile → DiskFile → Type 0
+Cuts n old new = new.octets ≡ take n old.octets
+
+-- of what was synced just so many octets may be lost
+abbrev pub KeepsOf : ℕ → DiskFile → DiskFile → Type 0
+KeepsOf n old new = KeepsFront (take n old.synced) old new

@@ -1,0 +1,1 @@
+-- What is found again after a crash.

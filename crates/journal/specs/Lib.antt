@@ -1,0 +1,10 @@
+pub mod Disks
+pub mod JournalText
+pub mod JournalLines
+pub mod History
+pub mod RowLines
+pub mod Readings
+pub mod Stored
+pub mod Recovering
+pub mod Opening
+pub mod Laws

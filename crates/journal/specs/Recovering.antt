@@ -1,0 +1,32 @@
+-- What recovery makes of a disk's file.
+use Rattle.std.specs.Prelude.{◌≡◌, ℕ, ◌==◌, List, [], ◌++◌, length, take, if◌then◌else◌}
+use Rattle.site_base.specs.Configured.{Configured}
+use Rattle.site_book.specs.Book.{Book}
+use Rattle.journal.specs.Disks.{BeginsWith, DiskFile, KeepsFront}
+use Rattle.journal.specs.JournalLines.{unfinished}
+use Rattle.journal.specs.Readings.{IsRead, TellsNothing}
+
+-- the book is what a file's octets tell
+pub record IsReadIn (header : List ℕ) (b : Book) (file : DiskFile) : Type 0 where
+  pub whole : ℕ
+  pub read : IsRead header file.octets whole b
+
+-- a file's octets tell no book of this site
+abbrev pub TellsNothingIn : List ℕ → Configured → DiskFile → Type 0
+TellsNothingIn header config file = TellsNothing header file.octets config
+
+-- whole lines that were on the disk stay there, at each moment
+abbrev pub KeepsWholeLines : DiskFile → DiskFile → Type 0
+KeepsWholeLines old new =
+    (front : List ℕ) → unfinished front ≡ [] → BeginsWith front old.synced
+    → KeepsFront front old new
+
+-- what is left of so many octets, where so many are whole lines
+abbrev pub settled_octets : List ℕ → ℕ → List ℕ → List ℕ
+settled_octets first_line whole octets =
+    if whole == 0 then first_line else take whole octets
+
+-- .. is on the disk
+abbrev pub Settles : List ℕ → ℕ → DiskFile → DiskFile → Type 0
+Settles first_line whole old new =
+    (new.octets ≡ settled_octets first_line whole old.octets) × (new.synced ≡ new.octets)

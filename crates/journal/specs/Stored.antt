@@ -1,0 +1,59 @@
+-- A station with its journal: what is stored, and what may be told.
+use Rattle.std.specs.Prelude.{◌≡◌, ℕ, ◌≤◌, ◌==◌, Bool, true, false, List, [], length, take}
+use Rattle.std.specs.Prelude.{Option, Some, None, IfSome, if◌then◌else◌}
+use Rattle.site_base.specs.declared.row.Row.{Row}
+use Rattle.written_site.specs.SiteRun.{events_of}
+use Rattle.site_book.specs.Book.{Book}
+use Rattle.station.specs.Moves.{StationState}
+use Rattle.station.specs.Reads.{owed_at}
+use Rattle.journal.specs.Disks.{BeginsWith, DiskFile, OfFile}
+use Rattle.journal.specs.History.{IsMadeAgain}
+use Rattle.journal.specs.JournalLines.{TellsWhole}
+
+-- a journal's first line, how many rows it has stored, whether a write has failed, and its file,
+-- where that is known
+pub record JournalState : Type 0 where
+  pub header : List ℕ
+  pub stored : ℕ
+  pub failed : Bool
+  pub file : Option DiskFile
+
+-- a station, and its journal if it has one
+pub record StoredState : Type 0 where
+  pub station : StationState
+  pub journal : Option JournalState
+
+-- what is on the disk begins with a front that tells just these rows; unless a write has failed,
+-- that is the whole file
+pub record HoldsRows (header : List ℕ) (rows : List Row) (failed : Bool) (file : DiskFile)
+    : Type 0 where
+  pub front : List ℕ
+  pub tells : TellsWhole header front (events_of rows)
+  pub there : BeginsWith front file.synced
+  pub settled : failed ≡ false → (file.octets ≡ front) × (file.synced ≡ front)
+
+-- the journal has stored the first of the book's rows
+pub record IsJournalOf (rows : List Row) (j : JournalState) : Type 0 where
+  pub few : j.stored ≤ length rows
+  pub holds : OfFile (HoldsRows j.header (take j.stored rows) j.failed) j.file
+
+-- what a station with a journal always keeps
+pub record IsStored (s : StoredState) : Type 0 where
+  pub made : IsMadeAgain s.station.book
+  pub journal : IfSome s.journal (IsJournalOf s.station.book.rows)
+
+abbrev pub has_stored : ℕ → Option JournalState → Bool
+has_stored count None = true
+has_stored count (Some j) = j.stored == count
+
+-- each row is stored, where there is a journal
+abbrev pub is_all_stored : StoredState → Bool
+is_all_stored s = has_stored (length s.station.book.rows) s.journal
+
+-- what a peer may be told now: what it is owed, where each row is stored, and else nothing
+abbrev pub told_at : StoredState → ℕ → List ℕ
+told_at s key = if is_all_stored s then owed_at s.station key else []
+
+-- the station has come so far, and its journal stays
+abbrev pub with_station : StationState → StoredState → StoredState
+with_station station s = record s { station = station }

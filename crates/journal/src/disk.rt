@@ -1,0 +1,55 @@
+//! What a journal lies on.
+
+ghost use Rattle.std.specs.Prelude.{◌≡◌, IfOk, OnOk, Option};
+ghost use Rattle.journal.specs.Disks.{Appends, Cuts, DiskFile, Keeps, KeepsOf, OfFile, OfFiles};
+ghost use Rattle.journal.specs.Disks.{Reads, Syncs};
+
+use site_base::NoMemory;
+use std::alloc::Global;
+
+/// Why a call of a disk did nothing, or not all that it should.
+#[derive(Clone, Copy, Debug, PartialEq, Eq)]
+pub enum DiskFault {
+    /// An allocation failed.
+    NoMemory,
+    /// The disk failed, or takes no more.
+    Failed,
+}
+
+impl From<NoMemory> for DiskFault {
+    ghost use Rattle.std.specs.Prelude.{◌≡◌};
+    ghost use Rattle.journal.specs.declared.disk.DiskFault.{DiskFault};
+
+    ghost from_gives = { λ _ e. e ≡ DiskFault.NoMemory };
+
+    fn from(_e: NoMemory) -> DiskFault {
+        DiskFault::NoMemory
+    }
+}
+
+/// A file of octets that only grows behind its end, but for a cut. A crash, at whatever moment of a
+/// call or between two, leaves a file that begins with what was synced.
+pub trait Disk: Drop {
+    /// What is known of its file. Of a real disk nothing is: no contract can tell what it carries.
+    ghost file: { Self → Option DiskFile };
+
+    /// All its octets.
+    fn read(&mut self, alloc: Global) -> Result<Vec<u8>, DiskFault>
+        ensures octets { IfOk result (λ v. OfFile (Reads v.items) (file self.old)) }
+        ensures same { file self.new ≡ file self.old };
+
+    /// Puts octets behind those that are there. Where that fails, some of them may stand there.
+    fn append(&mut self, octets: &[u8]) -> Result<(), DiskFault>
+        ensures ok { OnOk result (OfFiles (Appends octets.now) (file self.old) (file self.new)) }
+        ensures moments { OfFiles Keeps (file self.old) (file self.new) };
+
+    /// Has all octets on the disk, before it answers.
+    fn sync(&mut self) -> Result<(), DiskFault>
+        ensures ok { OnOk result (OfFiles Syncs (file self.old) (file self.new)) }
+        ensures moments { OfFiles Keeps (file self.old) (file self.new) };
+
+    /// Leaves just so many of the octets.
+    fn cut(&mut self, len: usize) -> Result<(), DiskFault>
+        ensures ok { OnOk result (OfFiles (Cuts len) (file self.old) (file self.new)) }
+        ensures moments { OfFiles (KeepsOf len) (file self.old) (file self.new) };
+}

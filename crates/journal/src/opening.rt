@@ -1,0 +1,96 @@
+//! A station that goes on where its journal ended.
+
+ghost use Rattle.std.specs.Prelude.{◌≡◌, IfErr, IfOk, false, length, true};
+ghost use Rattle.site_book.specs.Book.{Book};
+ghost use Rattle.station.specs.Runs.{opening_station};
+ghost use Rattle.journal.specs.Disks.{OfFile};
+ghost use Rattle.journal.specs.History.{IsMadeAgain};
+ghost use Rattle.journal.specs.JournalText.{header_of};
+ghost use Rattle.journal.specs.Opening.{AddsSignOffs, HasNobodyOn, Reopens, Resumes};
+ghost use Rattle.journal.specs.Readings.{IsOfText};
+ghost use Rattle.journal.specs.Recovering.{TellsNothingIn};
+ghost use Rattle.journal.specs.Stored.{HoldsRows};
+
+use crate::disk::{Disk, DiskFault};
+use crate::journal::Journal;
+use crate::reading::OpenFault;
+use crate::recovery::{Recovered, recover};
+use crate::stored_station::StoredStation;
+use site_base::{SiteConfig, TILLS, TillNo};
+use site_book::SiteBook;
+use std::alloc::Global;
+
+/// A station that goes on where its journal ended.
+#[derive(Drop)]
+pub struct Opened<D: Disk> {
+    /// The station.
+    pub station: StoredStation<D>,
+    /// So many rows the journal had.
+    pub rows: u64,
+}
+
+/// Opens the station of a journal of this site, whatever a crash has left of it: its rows are made
+/// again, and the session of each till that is signed on is gone, so that it is signed off. An
+/// empty file is a journal without rows.
+///
+/// `Unread` comes where the file can't be read; `Line` names the first line that is no journal's,
+/// and `AnotherSite` comes where the first line names another site file; the file stays as it is.
+/// `Unwritten` comes where the disk takes no more.
+pub fn open_journal<D: Disk>(
+    alloc: Global,
+    config: &SiteConfig,
+    site_file: &[u8],
+    disk: D,
+) -> Result<Opened<D>, OpenFault>
+    ensures alone { IfOk result
+        (λ o. o.station.station ≡ opening_station o.station.station.book) }
+    ensures off { IfOk result (λ o. HasNobodyOn o.station.station.book) }
+    ensures opened { IfOk result (λ o.
+        Reopens (header_of site_file.now) config.now (D.file disk) o.rows o.station) }
+    ensures refused { IfErr result (λ fault. IsOfText fault → OfFile
+        (TellsNothingIn (header_of site_file.now) config.now) (D.file disk)) }
+{
+    let mut disk = disk;
+    let recovered = recover(alloc, config, site_file, &mut disk)?;
+    let rows = recovered.book.len();
+    match resume(alloc, recovered, disk) {
+        Ok(station) => Ok(Opened { station, rows }),
+        Err(DiskFault::NoMemory) => Err(OpenFault::NoMemory),
+        Err(DiskFault::Failed) => Err(OpenFault::Unwritten),
+    }
+}
+
+/// The station of what was recovered from this disk. Each till that is signed on is signed off, and
+/// that is stored.
+pub fn resume<D: Disk>(
+    alloc: Global,
+    recovered: Recovered,
+    disk: D,
+) -> Result<StoredStation<D>, DiskFault>
+    requires made { IsMadeAgain recovered.book }
+    requires settled { OfFile (HoldsRows recovered.header.items recovered.book.rows false)
+        (D.file disk) }
+    ensures { IfOk result (λ s. Resumes recovered.header.items recovered.book (D.file disk) s) }
+{
+    let mut book = recovered.book;
+    let rows = book.len();
+    sign_off_all(&mut book);
+    let journal = Journal::new(alloc, disk, recovered.header, rows);
+    let mut station = StoredStation::with_journal(alloc, book, journal);
+    station.store()?;
+    Ok(station)
+}
+
+/// Signs off each till that is signed on.
+fn sign_off_all(book: &mut SiteBook)
+    ensures rows { AddsSignOffs book.old book.new }
+    ensures off { HasNobodyOn book.new }
+{
+    for number in 1..=TILLS {
+        if let Some(till) = TillNo::new(number) {
+            let _ = book.sign_off(till);
+        }
+    }
+    // The rows' tills are in range.
+    let _ = book.len();
+}

@@ -1,0 +1,141 @@
+//! A journal's octets, read back.
+
+ghost use Rattle.std.specs.Prelude.{◌≡◌, ◌≤◌, [], IfErr, IfOk, take};
+ghost use Rattle.std.specs.Prelude.{⊥};
+ghost use Rattle.site_book.specs.Book.{Book};
+ghost use Rattle.journal.specs.History.{made_again};
+ghost use Rattle.journal.specs.Readings.{IsLineEnd, IsMade, IsOfText, IsRead, IsReadBack, TellsBook};
+ghost use Rattle.journal.specs.Readings.{TellsNothing};
+
+use crate::disk::DiskFault;
+use crate::header::names_a_site;
+use crate::request_line::LineReader;
+use memchr::memchr;
+use site_base::{Actor, Event, NoMemory, NoRow, SiteConfig};
+use site_book::SiteBook;
+use std::alloc::Global;
+use thiserror::Error;
+
+/// Why a journal isn't opened.
+#[derive(Clone, Copy, Debug, PartialEq, Eq, Error)]
+pub enum OpenFault {
+    /// An allocation failed.
+    #[error("out of memory")]
+    NoMemory,
+    /// Its octets can't be read.
+    #[error("the journal can't be read")]
+    Unread,
+    /// The line of this number, counted from 1, is no journal's.
+    #[error("journal line {0}")]
+    Line(u64),
+    /// It is the journal of another site file.
+    #[error("journal of another site")]
+    AnotherSite,
+    /// The disk takes no more.
+    #[error("the journal can't be written")]
+    Unwritten,
+}
+
+impl From<NoMemory> for OpenFault {
+    ghost use Rattle.std.specs.Prelude.{◌≡◌};
+    ghost use Rattle.journal.specs.declared.reading.OpenFault.{OpenFault};
+
+    ghost from_gives = { λ _ e. e ≡ OpenFault.NoMemory };
+
+    fn from(_e: NoMemory) -> OpenFault {
+        OpenFault::NoMemory
+    }
+}
+
+/// What a journal's octets tell.
+#[derive(Drop)]
+pub(crate) struct ReadBack {
+    /// The book of its rows, made again.
+    pub(crate) book: SiteBook,
+    /// So many octets are whole lines.
+    pub(crate) whole: usize,
+}
+
+/// Reads a journal's octets.
+pub(crate) fn read_back(
+    alloc: Global,
+    config: &SiteConfig,
+    header: &[u8],
+    octets: &[u8],
+) -> Result<ReadBack, OpenFault>
+    ensures read { IfOk result (λ read. IsRead header.now octets.now read.whole read.book) }
+    ensures config { IfOk result (λ read. read.book.config ≡ config.now) }
+    ensures refused { IfErr result (λ fault. IsOfText fault
+        → TellsNothing header.now octets.now config.now) }
+{
+    let book = SiteBook::try_open(alloc, config)?;
+    let Some(end) = memchr(b'\n', octets) else {
+        if header.starts_with(octets) {
+            return Ok(ReadBack { book, whole: 0 });
+        }
+        return Err(OpenFault::Line(1));
+    };
+    let (first, _) = octets.split_at(end);
+    if first != header {
+        return Err(refuse_first(first));
+    }
+    read_rows(alloc, book, octets, end)
+}
+
+/// The fault of a first line that isn't this site's.
+fn refuse_first(line: &[u8]) -> OpenFault {
+    if names_a_site(line) {
+        OpenFault::AnotherSite
+    } else {
+        OpenFault::Line(1)
+    }
+}
+
+/// Reads the lines of rows from a place on.
+fn read_rows(
+    alloc: Global,
+    mut book: SiteBook,
+    octets: &[u8],
+    end: usize,
+) -> Result<ReadBack, OpenFault>
+    requires rows { book.rows ≡ [] }
+    requires end { IsLineEnd end octets.now }
+    ensures read { IfOk result (λ read. IsReadBack (take end octets.now) octets.now read.whole
+        read.book) }
+    ensures config { IfOk result (λ read. read.book.config ≡ book.config) }
+    ensures refused { IfErr result (λ fault. IsOfText fault → (b : Book) → b.config ≡ book.config
+        → TellsBook (take end octets.now) octets.now b → ⊥) }
+{
+    let mut reader = LineReader::new(alloc);
+    let mut rest = &octets[end + 1..];
+    let mut number = 1_u64;
+    while let Some(end) = memchr(b'\n', rest) {
+        let (line, others) = rest.split_at(end);
+        number = number.saturating_add(1);
+        let Some((actor, event)) = reader.read(line)? else {
+            return Err(OpenFault::Line(number));
+        };
+        if !make_again(&mut book, actor, event)? {
+            return Err(OpenFault::Line(number));
+        }
+        rest = &others[1..];
+    }
+    Ok(ReadBack {
+        book,
+        whole: octets.len() - rest.len(),
+    })
+}
+
+/// Makes the row of a request again. False where a station makes none: behind a full book.
+fn make_again(book: &mut SiteBook, actor: Actor, event: Event) -> Result<bool, NoMemory>
+    ensures made { IfOk result (λ is. IsMade is (made_again book.old actor event) book.old book.new) }
+{
+    match book.apply(actor, event) {
+        Ok(_) => Ok(true),
+        Err(NoRow::NoMemory) => Err(NoMemory),
+        Err(NoRow::BookFull) => match (actor, event) {
+            (Actor::Till(till), Event::SignOff) => Ok(book.sign_off(till).is_some()),
+            _ => Ok(false),
+        },
+    }
+}

@@ -1,0 +1,50 @@
+//! The lines of rows.
+
+ghost use Rattle.std.specs.Prelude.{◌≡◌, ◌≤◌, ◌++◌, drop, length, OnOk};
+ghost use Rattle.device_map.specs.Laws.{Asks};
+ghost use Rattle.journal.specs.History.{IsMadeAgain};
+ghost use Rattle.journal.specs.JournalText.{IsSent, row_line, row_request};
+ghost use Rattle.journal.specs.RowLines.{AreLines};
+
+use app_message::Token;
+use device_map::encode_request;
+use forecourt_engines::put_line;
+use site_base::{NoMemory, Row};
+use site_book::SiteBook;
+use std::alloc::Global;
+
+/// Puts the lines of the book's rows from a place on, in place of what the text holds.
+pub(crate) fn put_rows(
+    alloc: Global,
+    book: &SiteBook,
+    from: u64,
+    text: &mut Vec<u8>,
+) -> Result<(), NoMemory>
+    requires place { from ≤ length book.now.rows }
+    requires made { IsMadeAgain book.now }
+    ensures { OnOk result (AreLines (drop from book.now.rows) text.new.items) }
+{
+    text.clear();
+    for place in from..book.len() {
+        let Some(row) = book.row(place) else {
+            unreachable!();
+        };
+        put_row_line(alloc, &row, text)?;
+    }
+    Ok(())
+}
+
+/// Appends the line of a row: the request of its actor and event, with token 0, of which there is
+/// just one.
+pub fn put_row_line(alloc: Global, row: &Row, text: &mut Vec<u8>) -> Result<(), NoMemory>
+    requires { IsSent row.now }
+    ensures line { OnOk result (text.new.items ≡ text.old.items ++ row_line row.now) }
+    ensures asks { OnOk result (Asks 0 row.now.actor row.now.event (row_request row.now)) }
+{
+    let token = Token::new(0).unwrap();
+    let Some(request) = encode_request(alloc, token, row.actor, row.event)? else {
+        unreachable!();
+    };
+    put_line(text, &request)?;
+    Ok(())
+}

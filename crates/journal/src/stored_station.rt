@@ -1,0 +1,187 @@
+//! A station with its journal.
+
+ghost use Rattle.std.specs.Prelude.{◌≡◌, ◌≢◌, ◌≤◌, ℕ, [], IfNone, IfOk, IfSome, None, OnErr, OnOk, Some};
+ghost use Rattle.std.specs.Prelude.{true};
+ghost use Rattle.station.specs.declared.sizes.TheConstants.{PEERS};
+ghost use Rattle.station.specs.Peers.{peer_at};
+ghost use Rattle.station.specs.Moves.{with_end, with_octets, with_taken, without_peer};
+ghost use Rattle.station.specs.Reads.{Arrives, IsNextOwed, NoneIsOwed, end_at, is_read_at};
+ghost use Rattle.station.specs.Reads.{node_at, owed_at};
+ghost use Rattle.station.specs.Runs.{opening_station};
+ghost use Rattle.station.specs.Sessions.{Grants};
+ghost use Rattle.journal.specs.History.{IsMadeAgain, empty_book};
+ghost use Rattle.journal.specs.Opening.{HasNobodyOn};
+ghost use Rattle.journal.specs.Stored.{IsJournalOf, is_all_stored, told_at, with_station};
+
+use crate::disk::{Disk, DiskFault};
+use crate::journal::Journal;
+use site_base::{NoMemory, SiteConfig};
+use site_book::SiteBook;
+use station::{PeerEnd, Station};
+use std::alloc::Global;
+use std::marker::Model;
+
+/// A station, and its journal if it has one. Its moves are the station's own; what a peer is owed is
+/// handed out only while each row is stored.
+#[derive(Drop)]
+pub struct StoredStation<D: Disk> {
+    station: Station,
+    journal: Option<Journal<D>>,
+}
+
+impl<D: Disk> Model for StoredStation<D> {
+    ghost use Rattle.journal.specs.Stored.{IsStored, StoredState};
+
+    ghost Value = { StoredState };
+
+    ghost view = { λ s. record { station = s.station; journal = s.journal } };
+
+    ghost invariant = { λ s. IsStored (record { station = s.station; journal = s.journal }) };
+}
+
+impl<D: Disk> StoredStation<D> {
+    /// A station on this site without a journal: whatever it owes may be told.
+    pub fn open_without(alloc: Global, config: &SiteConfig) -> Result<StoredStation<D>, NoMemory>
+        ensures station { IfOk result (λ s. s.station ≡ opening_station (empty_book config.now)) }
+        ensures off { IfOk result (λ s. HasNobodyOn s.station.book) }
+        ensures journal { IfOk result (λ s. s.journal ≡ None) }
+    {
+        let book = SiteBook::try_open(alloc, config)?;
+        Ok(StoredStation {
+            station: Station::new(alloc, book),
+            journal: None,
+        })
+    }
+
+    /// A station without peers at this book, with its journal.
+    pub(crate) fn with_journal(
+        alloc: Global,
+        book: SiteBook,
+        journal: Journal<D>,
+    ) -> StoredStation<D>
+        requires made { IsMadeAgain book }
+        requires journal { IsJournalOf book.rows journal }
+        ensures { result ≡ record { station = opening_station book; journal = Some journal } }
+    {
+        StoredStation {
+            station: Station::new(alloc, book),
+            journal: Some(journal),
+        }
+    }
+
+    /// The book of the station. No key above 1,023 is given, by the station's type.
+    pub fn book(&self) -> &SiteBook
+        ensures book { result.now ≡ self.now.station.book }
+        ensures keys { (k : ℕ) → PEERS ≤ k → peer_at self.now.station.peers k ≡ None }
+    {
+        self.station.book()
+    }
+
+    /// A peer arrives, as `Station::arrive` says.
+    pub fn arrive(&mut self) -> Result<Option<usize>, NoMemory>
+        ensures ok { IfOk result (λ key. Arrives key self.old.station self.new.station) }
+        ensures err { OnErr result (self.new.station ≡ self.old.station) }
+        ensures journal { self.new.journal ≡ self.old.journal }
+    {
+        self.station.arrive()
+    }
+
+    /// Is the peer of this key read from?
+    pub fn is_read(&self, key: usize) -> bool
+        ensures { result ≡ is_read_at self.now.station key }
+    {
+        self.station.is_read(key)
+    }
+
+    /// Hears octets of a peer that is read from, as `Station::hear` says.
+    pub fn hear(&mut self, key: usize, octets: &[u8])
+        ensures station { (memory : Grants)
+            × (self.new.station ≡ with_octets memory key octets.now self.old.station) }
+        ensures journal { self.new.journal ≡ self.old.journal }
+    {
+        self.station.hear(key, octets);
+    }
+
+    /// Stores each row that isn't stored yet: what peers are owed may be told then. Where that
+    /// fails, nothing may be told any more.
+    pub fn store(&mut self) -> Result<(), DiskFault>
+        ensures station { self.new.station ≡ self.old.station }
+        ensures stored { OnOk result (is_all_stored self.new ≡ true) }
+    {
+        match &mut self.journal {
+            None => Ok(()),
+            Some(journal) => journal.store(self.station.book()),
+        }
+    }
+
+    /// Is each row stored, so that what peers are owed may be told?
+    pub fn is_all_stored(&self) -> bool
+        ensures { result ≡ is_all_stored self.now }
+    {
+        match &self.journal {
+            None => true,
+            Some(journal) => journal.stored() == self.station.book().len(),
+        }
+    }
+
+    /// The octets that a peer may be told now: those that it is owed, while each row is stored.
+    pub fn told_octets(&self, key: usize) -> &[u8]
+        ensures { result.now ≡ told_at self.now key }
+    {
+        if self.is_all_stored() {
+            self.station.owed_octets(key)
+        } else {
+            &[]
+        }
+    }
+
+    /// Is a peer owed octets, which may be told or not yet?
+    pub fn is_owed(&self, key: usize) -> bool
+        ensures { result ≡ true → owed_at self.now.station key ≢ [] }
+    {
+        !self.station.owed_octets(key).is_empty()
+    }
+
+    /// The least key, from this one on, whose peer is owed octets, as `Station::next_owed` says.
+    pub fn next_owed(&self, from: usize) -> Option<usize>
+        ensures found { IfSome result (λ key. IsNextOwed from key self.now.station) }
+        ensures none { IfNone result (NoneIsOwed from self.now.station) }
+    {
+        self.station.next_owed(from)
+    }
+
+    /// A peer has taken so many of the octets that it is owed.
+    pub fn take(&mut self, key: usize, n: usize)
+        ensures { self.new ≡ with_station (with_taken key n self.old.station) self.old }
+    {
+        self.station.take(key, n);
+    }
+
+    /// The octets of a peer have ended, as `Station::finish` says.
+    pub fn finish(&mut self, key: usize)
+        ensures { self.new ≡ with_station (with_end key self.old.station) self.old }
+    {
+        self.station.finish(key);
+    }
+
+    /// A peer is gone, as `Station::leave` says.
+    pub fn leave(&mut self, key: usize)
+        ensures { self.new ≡ with_station (without_peer key self.old.station) self.old }
+    {
+        self.station.leave(key);
+    }
+
+    /// How the session of a peer ended; None while it lasts, and without a peer.
+    pub fn end(&self, key: usize) -> Option<PeerEnd>
+        ensures { result ≡ end_at self.now.station key }
+    {
+        self.station.end(key)
+    }
+
+    /// The originator of a peer's first message.
+    pub fn node(&self, key: usize) -> Option<[u8; 2]>
+        ensures { result ≡ node_at self.now.station key }
+    {
+        self.station.node(key)
+    }
+}
