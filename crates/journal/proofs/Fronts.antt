@@ -1,6 +1,6 @@
 -- Fronts of octets, and fronts that stay through calls.
-use Rattle.std.proofs.Common.{◌≡◌, ℕ, ◌-◌, List, [], ◌∷◌, ◌++◌, length, take, Option, Some, None, refl}
-use Rattle.std.proofs.Common.{sym, ap, ◌∙◌, append_assoc, append-nil, arith}
+use Rattle.std.proofs.Common.{◌≡◌, ℕ, ◌-◌, List, [], ◌∷◌, ◌++◌, length, take, drop, Option, Some, None, refl}
+use Rattle.std.proofs.Common.{sym, ap, ◌∙◌, append_assoc, append-nil, arith, subst}
 use Rattle.std.specs.Prelude.{◌≤◌}
 use Rattle.std.specs.List.{AllByRecursion}
 use Rattle.std.proofs.lemmas.List.{take-append-drop}
@@ -66,28 +66,37 @@ keeps_on f a b c one two =
     keeps_then f a b c one (keeps_less f b.synced b c one.last two)
 
 pub files_same : (a b : Option DiskFile) → b ≡ a → OfFiles Keeps a b
-files_same None b is = tt
-files_same (Some a) b is = rw is (keeps_none a.synced a (begins_all a.synced))
+files_same None b is = subst (λ (x : Option DiskFile). OfFiles Keeps None x) (sym is) tt
+files_same (Some a) b is =
+    subst (λ (x : Option DiskFile). OfFiles Keeps (Some a) x) (sym is)
+    (keeps_none a.synced a (begins_all a.synced))
 
-pub files_then : (a b c : Option DiskFile) → OfFiles Keeps a b → OfFiles Keeps b c → OfFiles Keeps a c
-files_then None b c one two = tt
-files_then (Some a) None c one two = absurd one
-files_then (Some a) (Some b) None one two = two
+pub files_then : (a b c : Option DiskFile) → OfFiles Keeps a b → OfFiles Keeps b c
+    → OfFiles Keeps a c
+files_then None None None one two = tt
 files_then (Some a) (Some b) (Some c) one two = keeps_on a.synced a b c one two
+files_then None None (Some c) one two = absurd two
+files_then None (Some b) c one two = absurd one
+files_then (Some a) None c one two = absurd one
+files_then (Some a) (Some b) None one two = absurd two
 
 -- the same of so many octets that stay
 pub cut_same : (n : ℕ) (a b : Option DiskFile) → b ≡ a → OfFiles (KeepsOf n) a b
-cut_same n None b is = tt
+cut_same n None b is = subst (λ (x : Option DiskFile). OfFiles (KeepsOf n) None x) (sym is) tt
 cut_same n (Some a) b is =
-    rw is (keeps_none (take n a.synced) a
-    (begins_with (take n a.synced) _ a.synced (sym (take-append-drop n a.synced))))
+    subst (λ (x : Option DiskFile). OfFiles (KeepsOf n) (Some a) x) (sym is)
+    (keeps_none (take n a.synced) a
+    (begins_with (take n a.synced) (drop n a.synced) a.synced
+    (sym (take-append-drop n a.synced))))
 
 pub cut_then : (n : ℕ) (a b c : Option DiskFile) → OfFiles (KeepsOf n) a b → OfFiles Keeps b c
     → OfFiles (KeepsOf n) a c
-cut_then n None b c one two = tt
-cut_then n (Some a) None c one two = absurd one
-cut_then n (Some a) (Some b) None one two = two
+cut_then n None None None one two = tt
 cut_then n (Some a) (Some b) (Some c) one two = keeps_on (take n a.synced) a b c one two
+cut_then n None None (Some c) one two = absurd two
+cut_then n None (Some b) c one two = absurd one
+cut_then n (Some a) None c one two = absurd one
+cut_then n (Some a) (Some b) None one two = absurd two
 
 -- a front no longer than what stays is a front of it
 pub front_of_cut : (n : ℕ) (f xs : List ℕ) → BeginsWith f xs → length f ≤ n

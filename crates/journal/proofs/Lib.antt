@@ -6,3 +6,9 @@ pub mod Rows
 pub mod Sent
 pub mod Made
 pub mod Moves
+pub mod Readings
+pub mod JournalLaws
+pub mod Storing
+pub mod Recovering
+pub mod Results
+pub mod SigningOff

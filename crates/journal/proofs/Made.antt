@@ -1,6 +1,6 @@
 -- Books whose rows are made again.
 use Rattle.std.proofs.Common.{◌≡◌, ℕ, Bool, true, false, List, [], ◌∷◌, ◌++◌, length, take, drop}
-use Rattle.std.proofs.Common.{Option, Some, None, refl, sym, ap, ◌∙◌, append_assoc, append-nil, arith}
+use Rattle.std.proofs.Common.{Option, Some, None, refl, sym, ap, ◌∙◌, append_assoc, append-nil, arith, subst}
 use Rattle.std.specs.Prelude.{◌≤◌, IfSome, if◌then◌else◌}
 use Rattle.std.specs.List.{AllByRecursion}
 use Rattle.std.proofs.lemmas.List.{length-append, take-append-le}
@@ -9,6 +9,7 @@ use Rattle.site_base.specs.declared.actor.Actor.TheVariants.{Till}
 use Rattle.site_base.specs.declared.event.Event.{Event}
 use Rattle.site_base.specs.declared.event.Event.TheVariants.{SignOff}
 use Rattle.site_base.specs.declared.row.Row.{Row}
+use Rattle.site_base.specs.Configured.{Configured}
 use Rattle.device_map.specs.Ways.{sends, way_to}
 use Rattle.written_site.specs.SiteRun.{events_of}
 use Rattle.written_site.specs.SiteState.{is_signed_on}
@@ -28,14 +29,16 @@ pub made_both : (b : Book) (es fs : List (Actor × Event))
     → all_made_again b (es ++ fs)
     ≡ and_then (all_made_again b es) (λ after. all_made_again after fs)
 made_both b [] fs = refl
-made_both b (e ∷ es) fs = by_first (made_again b e.0 e.1)
+made_both b (e ∷ es) fs = by_first (made_again b e.0 e.1) (λ after. made_both after es fs)
   where
     by_first : (o : Option Book)
+        → ((after : Book) → all_made_again after (es ++ fs)
+        ≡ and_then (all_made_again after es) (λ last. all_made_again last fs))
         → and_then o (λ after. all_made_again after (es ++ fs))
         ≡ and_then (and_then o (λ after. all_made_again after es))
         (λ after. all_made_again after fs)
-    by_first None = refl
-    by_first (Some after) = made_both after es fs
+    by_first None others = refl
+    by_first (Some after) others = others after
 
 -- a book has more rows, which a station makes again of their requests
 pub record Adds (old new : Book) : Type 0 where
@@ -61,12 +64,18 @@ adds_same old new is = record {
 pub adds_then : (a b c : Book) → Adds a b → Adds b c → Adds a c
 adds_then a b c one two = record {
   events = one.events ++ two.events;
-  made = made_both a one.events two.events ∙ rw (one.made) two.made;
+  made =
+      made_both a one.events two.events
+      ∙ ap (λ (o : Option Book). and_then o (λ after. all_made_again after two.events)) one.made
+      ∙ two.made;
   later = one.later ++ two.later;
   rows = two.rows ∙ ap (λ (rs : List Row). rs ++ two.later) one.rows
       ∙ append_assoc a.rows one.later two.later;
   same = two.same ∙ one.same;
-  asked = events_both one.later two.later ∙ rw (one.asked, two.asked) refl;
+  asked =
+      events_both one.later two.later
+      ∙ ap (λ (es : List (Actor × Event)). es ++ events_of two.later) one.asked
+      ∙ ap (λ (es : List (Actor × Event)). one.events ++ es) two.asked;
   sent = all_both IsSent one.later two.later one.sent two.sent;
 }
 
@@ -76,7 +85,7 @@ adds_made : (b : Book) (actor : Actor) (event : Event)
     → sends actor (way_to event).kind ≡ true → Adds b (with_row_of b actor event)
 adds_made b actor event made sent = record {
   events = (actor, event) ∷ [];
-  made = rw made refl;
+  made = ap (λ (o : Option Book). and_then o (λ after. Some after)) made;
   later = next_row b actor event ∷ [];
   rows = refl;
   same = refl;
@@ -86,7 +95,10 @@ adds_made b actor event made sent = record {
 
 pub adds_row : (b : Book) (actor : Actor) (event : Event) → is_full b ≡ false
     → sends actor (way_to event).kind ≡ true → Adds b (with_row_of b actor event)
-adds_row b actor event room sent = adds_made b actor event (rw room refl) sent
+adds_row b actor event room sent =
+    adds_made b actor event
+    (ap (λ (full : Bool). if full then beyond b actor event else Some (with_row_of b actor event))
+    room) sent
 
 -- a till that is signed on signs off, behind a full book too
 pub adds_sign_off : (b : Book) (t : ℕ) → is_signed_on (site_of_book b) t ≡ true
@@ -96,16 +108,22 @@ adds_sign_off b t on = adds_made b (Till t) SignOff (by_room (is_full b)) refl
     by_room : (full : Bool)
         → (if full then beyond b (Till t) SignOff else Some (with_row_of b (Till t) SignOff))
         ≡ Some (with_row_of b (Till t) SignOff)
-    by_room true = rw on refl
+    by_room true = ap (λ (is : Bool). sign_off_if is t b) on
     by_room false = refl
 
 -- what is made of it is made again
 pub made_with : (old new : Book) → IsMadeAgain old → Adds old new → IsMadeAgain new
 made_with old new is adds = record {
-  again = rw (adds.same, adds.rows, events_both old.rows adds.later, adds.asked)
-      (made_both (empty_book old.config) (events_of old.rows) adds.events
-      ∙ rw (is.again) adds.made);
-  sent = rw (adds.rows) (all_both IsSent old.rows adds.later is.sent adds.sent);
+  again =
+      ap (λ (c : Configured). all_made_again (empty_book c) (events_of new.rows)) adds.same
+      ∙ ap (λ (rs : List Row). all_made_again (empty_book old.config) (events_of rs)) adds.rows
+      ∙ ap (all_made_again (empty_book old.config)) (events_both old.rows adds.later
+      ∙ ap (λ (es : List (Actor × Event)). events_of old.rows ++ es) adds.asked)
+      ∙ made_both (empty_book old.config) (events_of old.rows) adds.events
+      ∙ ap (λ (o : Option Book). and_then o (λ after. all_made_again after adds.events)) is.again
+      ∙ adds.made;
+  sent = subst (AllByRecursion IsSent) (sym adds.rows)
+      (all_both IsSent old.rows adds.later is.sent adds.sent);
 }
 
 -- ---- the journal of a book with more rows
@@ -114,7 +132,9 @@ pub journal_stays : (rows later : List Row) (j : JournalState) → IsJournalOf r
     → IsJournalOf (rows ++ later) j
 journal_stays rows later j is = record {
   few = omega (arith, is.few, length-append rows later);
-  holds = rw (take-append-le j.stored rows later is.few) is.holds;
+  holds =
+      subst (λ (rs : List Row). OfFile (HoldsRows j.header rs j.failed) j.file)
+      (sym (take-append-le j.stored rows later is.few)) is.holds;
 }
 
 journals_stay : (rows later : List Row) (j : Option JournalState) → IfSome j (IsJournalOf rows)
@@ -126,5 +146,6 @@ pub stored_with : (s : StoredState) (new : StationState) → IsStored s
     → Adds s.station.book new.book → IsStored (with_station new s)
 stored_with s new is adds = record {
   made = made_with s.station.book new.book is.made adds;
-  journal = rw (adds.rows) (journals_stay s.station.book.rows adds.later s.journal is.journal);
+  journal = subst (λ (rows : List Row). IfSome s.journal (IsJournalOf rows)) (sym adds.rows)
+      (journals_stay s.station.book.rows adds.later s.journal is.journal);
 }

@@ -3,22 +3,30 @@ use Rattle.std.proofs.Common.{◌≡◌, ℕ, Bool, true, false, List, [], ◌�
 use Rattle.std.proofs.Common.{Ok, Err, refl, sym, ap, ◌∙◌, ◌++◌, append-nil}
 use Rattle.std.specs.Prelude.{is_none, if◌then◌else◌}
 use Rattle.site_base.specs.declared.actor.Actor.{Actor}
+use Rattle.site_base.specs.declared.actor.Actor.TheVariants.{Till}
 use Rattle.site_base.specs.declared.event.Event.{Event}
+use Rattle.site_base.specs.declared.event.Event.TheVariants.{SignOff}
+use Rattle.site_base.specs.declared.refusal.NoRow.TheVariants as norow
 use Rattle.site_base.specs.declared.row.Row.{Row}
 use Rattle.app_message.specs.declared.fault.StreamFault.{StreamFault}
 use Rattle.app_message.specs.Stream.{Stream, fed_by, held_part}
+use Rattle.app_message.specs.Spelling.{spelling}
 use Rattle.app_message.specs.Telegram.{Telegram}
 use Rattle.device_map.specs.declared.fault.MapFault.{MapFault}
+use Rattle.device_map.specs.Replies.{fault_message}
 use Rattle.device_map.specs.Requests.{request_at}
 use Rattle.device_map.specs.Ways.{sends, way_to}
 use Rattle.written_site.specs.SiteState.{is_signed_on}
-use Rattle.site_book.specs.Book.{Book, is_full, site_of_book}
+use Rattle.site_book.specs.Book.{Book, book_reply, is_full, site_of_book, with_row_of}
+use Rattle.till_session.specs.declared.fault.SessionFault.TheVariants as faults
+use Rattle.till_session.specs.declared.fault.TalkFault.TheVariants as talk
 use Rattle.till_session.specs.declared.talk.Meaning.{Meaning}
 use Rattle.till_session.specs.declared.talk.Meaning.TheVariants as meanings
 use Rattle.till_session.specs.Text.{as_meaning, is_another, meaning_at}
 use Rattle.station.specs.declared.peer_end.PeerEnd.{PeerEnd}
+use Rattle.station.specs.declared.peer_end.PeerEnd.TheVariants as ends
 use Rattle.station.specs.Moves.{StationState, finish_at, free, hear_from, with_end, with_octets}
-use Rattle.station.specs.Moves.{with_taken, without_peer, take_by}
+use Rattle.station.specs.Moves.{take_by, with_taken, with_turn, without_peer}
 use Rattle.station.specs.Peers.{peer_at}
 use Rattle.station.specs.Sessions.{Granted, Grants, Session, Turn, answer, answer_all, answer_meaning}
 use Rattle.station.specs.Sessions.{answer_so, finish, full_grant, hear, is_read, outcome_at}
@@ -29,13 +37,14 @@ use Rattle.journal.proofs.Sent.{request_sends}
 
 -- ---- one session
 
-adds_leaving : (on : Option ℕ) (b : Book) → Adds b (without_till on b)
+pub adds_leaving : (on : Option ℕ) (b : Book) → Adds b (without_till on b)
 adds_leaving None b = adds_same b b refl
 adds_leaving (Some t) b = by_test (is_signed_on (site_of_book b) t) refl
   where
-    by_test : (on : Bool) → is_signed_on (site_of_book b) t ≡ on → Adds b (without_till (Some t) b)
-    by_test true is = rw is (adds_sign_off b t is)
-    by_test false is = rw is (adds_same b b refl)
+    by_test : (on : Bool) → is_signed_on (site_of_book b) t ≡ on
+        → Adds b (if on then with_row_of b (Till t) SignOff else b)
+    by_test true is = adds_sign_off b t is
+    by_test false is = adds_same b b refl
 
 adds_told : (memory : Bool) (text : List ℕ) (t : Turn) → Adds t.book (tell memory text t).book
 adds_told true text t = adds_same t.book t.book refl
@@ -58,9 +67,10 @@ adds_outcome false b actor event sent = nothing_added b
 adds_outcome true b actor event sent = by_room (is_full b) refl
   where
     by_room : (full : Bool) → is_full b ≡ full
-        → Adds b (with_outcome actor event (outcome_at true b actor event) b)
-    by_room true is = rw is (nothing_added b)
-    by_room false is = rw is (adds_row b actor event is sent)
+        → Adds b (with_outcome actor event
+        (if full then Err norow.BookFull else Ok (book_reply b actor event)) b)
+    by_room true is = nothing_added b
+    by_room false is = adds_row b actor event is sent
 
 adds_answered : (g : Granted) (m : Telegram) (actor : Actor) (event : Event)
     (before : Option (List ℕ)) (t : Turn) → sends actor (way_to event).kind ≡ true
@@ -106,12 +116,15 @@ adds_answers (g ∷ gs) (m ∷ ms) t =
 adds_refused : (memory : Bool) (fault : Option StreamFault) (t : Turn)
     → Adds t.book (refuse_by memory fault t).book
 adds_refused memory None t = adds_same t.book t.book refl
-adds_refused memory (Some f) t = by_test (is_none t.session.end) refl
+adds_refused memory (Some f) t = by_test (is_none t.session.end)
   where
-    by_test : (lasts : Bool) → is_none t.session.end ≡ lasts
-        → Adds t.book (refuse_by memory (Some f) t).book
-    by_test true is = rw is (adds_last memory _ _ t)
-    by_test false is = rw is (adds_same t.book t.book refl)
+    by_test : (lasts : Bool)
+        → Adds t.book (if lasts
+        then tell_last memory (spelling (fault_message f)) (ends.Fault (faults.Talk
+        (talk.Stream f.fault))) t
+        else t).book
+    by_test true = adds_last memory (spelling (fault_message f)) _ t
+    by_test false = adds_same t.book t.book refl
 
 adds_taken : (g : Grants) (fed : Stream) (t : Turn) → Adds t.book (take_messages g fed t).book
 adds_taken g fed t =
@@ -133,11 +146,13 @@ adds_heard g piece t = by_memory g.piece
 heard_from : (g : Grants) (k : ℕ) (piece : List ℕ) (o : Option Session) (s : StationState)
     → Adds s.book (hear_from g k piece o s).book
 heard_from g k piece None s = adds_same s.book s.book refl
-heard_from g k piece (Some x) s = by_test (is_read x) refl
+heard_from g k piece (Some x) s = by_test (is_read x)
   where
-    by_test : (read : Bool) → is_read x ≡ read → Adds s.book (hear_from g k piece (Some x) s).book
-    by_test true is = rw is (adds_heard g piece (record { book = s.book; session = x }))
-    by_test false is = rw is (adds_same s.book s.book refl)
+    by_test : (read : Bool)
+        → Adds s.book (if read
+        then with_turn k (hear g piece (record { book = s.book; session = x })) s else s).book
+    by_test true = adds_heard g piece (record { book = s.book; session = x })
+    by_test false = adds_same s.book s.book refl
 
 pub adds_octets : (g : Grants) (k : ℕ) (piece : List ℕ) (s : StationState)
     → Adds s.book (with_octets g k piece s).book
@@ -145,11 +160,13 @@ adds_octets g k piece s = heard_from g k piece (peer_at s.peers k) s
 
 end_of_peer : (k : ℕ) (o : Option Session) (s : StationState) → Adds s.book (finish_at k o s).book
 end_of_peer k None s = adds_same s.book s.book refl
-end_of_peer k (Some x) s = by_test (is_none x.end) refl
+end_of_peer k (Some x) s = by_test (is_none x.end)
   where
-    by_test : (lasts : Bool) → is_none x.end ≡ lasts → Adds s.book (finish_at k (Some x) s).book
-    by_test true is = rw is (adds_leaving x.talk.on s.book)
-    by_test false is = rw is (adds_same s.book s.book refl)
+    by_test : (lasts : Bool)
+        → Adds s.book (if lasts
+        then with_turn k (finish (record { book = s.book; session = x })) s else s).book
+    by_test true = adds_leaving x.talk.on s.book
+    by_test false = adds_same s.book s.book refl
 
 pub adds_end : (k : ℕ) (s : StationState) → Adds s.book (with_end k s).book
 adds_end k s = end_of_peer k (peer_at s.peers k) s

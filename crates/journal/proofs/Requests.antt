@@ -13,7 +13,7 @@ use Rattle.site_base.specs.declared.actor.Actor.{Actor}
 use Rattle.site_base.specs.declared.event.Event.{Event}
 use Rattle.site_base.specs.declared.row.Row.{Row}
 use Rattle.app_message.specs.Spelling.{IsMessage, spelling}
-use Rattle.app_message.specs.Stream.{fed_by, held_after, stream_of, with_messages}
+use Rattle.app_message.specs.Stream.{fed_by, held_after, stream_of, walk}
 use Rattle.app_message.specs.Telegram.{Telegram}
 use Rattle.app_message.proofs.Again.{read_again}
 use Rattle.device_map.specs.Laws.{Asks}
@@ -48,6 +48,7 @@ spelled_plain m valid =
 -- a message alone
 alone_read : (m : Telegram) → IsMessage m
     → fed_by (held_after []) (spelling m) ≡ record { messages = m ∷ []; rest = []; fault = None }
+unfolding walk
 alone_read m valid =
     ap stream_of (sym (append-nil (spelling m))) ∙ read_again m [] valid
 
@@ -64,24 +65,38 @@ events_both a b = map-append (λ r. (r.actor, r.event)) a b
 pub texts_both : (a b : List Row) → rows_text (a ++ b) ≡ rows_text a ++ rows_text b
 texts_both a b = flat_map-append row_line a b
 
--- one row more
-pub one_more_line : (rows : List Row) (r : Row) (text : List ℕ) → AreLines rows text
-    → Asks 0 r.actor r.event (row_request r) → AreLines (rows ++ r ∷ []) (text ++ row_line r)
-one_more_line rows r text lines asks =
-    let plain = spelled_plain (row_request r) asks.message in
+-- the lines of some rows, and of more
+pub lines_of_both : (a b : List Row) (x y : List ℕ) → AreLines a x → AreLines b y
+    → AreLines (a ++ b) (x ++ y)
+lines_of_both a b x y first second = record {
+  spelled =
+      ap (λ (t : List ℕ). t ++ y) first.spelled
+      ∙ ap (λ (t : List ℕ). rows_text a ++ t) second.spelled ∙ sym (texts_both a b);
+  requests =
+      ap requests_in (lines_both [] x y
+      ∙ ap (λ (line : List ℕ). lines_from [] x ++ lines_from line y) first.whole)
+      ∙ requests_both (lines_from [] x) (lines_from [] y) (events_of a) (events_of b)
+      first.requests second.requests
+      ∙ ap Some (sym (events_both a b));
+  whole =
+      unfinished_both [] x y ∙ ap (λ (line : List ℕ). unfinished_from line y) first.whole
+      ∙ second.whole;
+}
+
+-- the line of a row
+pub line_of_row : (r : Row) → Asks 0 r.actor r.event (row_request r)
+    → AreLines (r ∷ []) (row_line r)
+line_of_row r asks =
     let line = encode_lower (spelling (row_request r)) in
-    let one : lines_from [] (row_line r) ≡ line ∷ [] = one_line line plain in
+    let one : lines_from [] (row_line r) ≡ line ∷ [] =
+    one_line line (spelled_plain (row_request r) asks.message) in
     record {
-      spelled =
-          ap (λ (t : List ℕ). t ++ row_line r) lines.spelled
-          ∙ ap (λ (t : List ℕ). rows_text rows ++ t) (sym (append-nil (row_line r)))
-          ∙ sym (texts_both rows (r ∷ []));
+      spelled = sym (append-nil (row_line r));
       requests =
-          ap requests_in (lines_both [] text (row_line r)
-          ∙ rw (lines.whole, one) refl)
-          ∙ requests_both (lines_from [] text) (line ∷ []) (events_of rows)
-          ((r.actor, r.event) ∷ []) lines.requests
-          (rw (request_read (row_request r) r.actor r.event asks.message asks.asks) refl)
-          ∙ ap Some (sym (events_both rows (r ∷ [])));
-      whole = unfinished_both [] text (row_line r) ∙ rw (lines.whole) (line_ends [] line);
+          ap requests_in one
+          ∙ rw (request_read (row_request r) r.actor r.event asks.message asks.asks) refl;
+      whole = line_ends [] line;
     }
+
+pub no_lines : AreLines [] []
+no_lines = record { spelled = refl; requests = refl; whole = refl }

@@ -9,7 +9,7 @@ use Rattle.site_base.specs.declared.row.Row.{Row}
 use Rattle.device_map.specs.Laws.{Asks}
 use Rattle.journal.specs.JournalText.{row_line, row_request}
 use Rattle.journal.specs.RowLines.{AreLines}
-use Rattle.journal.proofs.Requests.{one_more_line}
+use Rattle.journal.proofs.Requests.{line_of_row, lines_of_both, no_lines}
 
 pub take_more : {X : Type 0} (xs : List X) (n : ℕ) (x : X) → slice_get xs n ≡ Some x
     → take (suc n) xs ≡ take n xs ++ x ∷ []
@@ -30,10 +30,9 @@ there_is (y ∷ ys) zero within none = none-some y (sym none)
 there_is (y ∷ ys) (suc n) within none = there_is ys n (omega (arith, within)) none
 
 -- no rows, no lines
-pub no_lines : (rows : List Row) (from : ℕ) → AreLines (drop from (take from rows)) []
-no_lines rows from =
-    subst (λ (rs : List Row). AreLines rs []) (sym (none_behind rows from))
-    (record { spelled = refl; requests = refl; whole = refl })
+pub none_yet : (rows : List Row) (from : ℕ) → AreLines (drop from (take from rows)) []
+none_yet rows from =
+    subst (λ (rs : List Row). AreLines rs []) (sym (none_behind rows from)) no_lines
   where
     none_behind : (xs : List Row) (n : ℕ) → drop n (take n xs) ≡ []
     none_behind [] zero = refl
@@ -47,11 +46,12 @@ pub line_behind : (rows : List Row) (from n : ℕ) (r : Row) (text : List ℕ) �
     → Asks 0 r.actor r.event (row_request r)
     → AreLines (drop from (take (n + 1) rows)) (text ++ row_line r)
 line_behind rows from n r text high within is lines asks =
+    let next : n + 1 ≡ suc n = omega arith in
     let size : length (take n rows) ≡ n = length-take-le n rows (omega (arith, within)) in
     subst (λ (rs : List Row). AreLines rs (text ++ row_line r))
-    (sym (ap (drop from) (ap (λ (m : ℕ). take m rows) (omega arith) ∙ take_more rows n r is)
+    (sym (ap (drop from) (ap (λ (m : ℕ). take m rows) next ∙ take_more rows n r is)
     ∙ drop-append-le from (take n rows) (r ∷ []) (omega (arith, size, high))))
-    (one_more_line (drop from (take n rows)) r text lines asks)
+    (lines_of_both (drop from (take n rows)) (r ∷ []) text (row_line r) lines (line_of_row r asks))
 
 -- all of them
 pub all_lines : (rows : List Row) (from n : ℕ) (text : List ℕ) → length rows ≤ n

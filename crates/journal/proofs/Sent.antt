@@ -67,7 +67,7 @@ shape_goes kind (priced made) content items event all is =
     let mills = bind_ok (four_octets_in content) _ event ended.2 in
     subst (λ (e : Event). GoesBy kind e) (ok_is (made mills.0) event mills.2) (all mills.0)
 
-RowsGoBy : Kind → List Command → Type 0
+abbrev RowsGoBy : Kind → List Command → Type 0
 RowsGoBy kind rows = AllByRecursion (λ row. AllGoBy kind row.shape) rows
 
 commands_go : (kind : Kind) (d : Database) → RowsGoBy kind (commands kind d)

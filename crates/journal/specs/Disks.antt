@@ -1,5 +1,5 @@
 -- A disk's file: what a read gives, and what of it a crash leaves.
-use Rattle.std.specs.Prelude.{◌≡◌, ℕ, List, ◌++◌, take, ⊤, ⊥, Option, Some, None}
+use Rattle.std.specs.Prelude.{◌≡◌, ℕ, List, ◌++◌, take, ⊤, Option, Some, None}
 use Rattle.std.specs.List.{AllByRecursion}
 
 -- the octets that a read gives; the front of them that is on the disk; and each such front so far,
@@ -29,9 +29,9 @@ OfFile P (Some file) = P file
 
 -- .. of the files before and after a call
 abbrev pub OfFiles : (DiskFile → DiskFile → Type 0) → Option DiskFile → Option DiskFile → Type 0
-OfFiles R None new = ⊤
-OfFiles R (Some old) None = ⊥
+OfFiles R None None = ⊤
 OfFiles R (Some old) (Some new) = R old new
+OfFiles R old new = ⊥
 
 -- ---- the calls
 

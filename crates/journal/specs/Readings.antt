@@ -1,6 +1,6 @@
 -- What is read back of a journal's octets.
 use Rattle.std.specs.Prelude.{◌≡◌, ℕ, ◌≤◌, List, [], ◌∷◌, ◌++◌, ◌⊎◌, length, take, drop, Some}
-use Rattle.std.specs.Prelude.{◌+◌, ◌<◌, ◌==◌, ⊤, ⊥, Bool, true, false, not, Option, None}
+use Rattle.std.specs.Prelude.{◌+◌, ◌<◌, ◌==◌, ⊤, Bool, true, false, not, Option, None}
 use Rattle.std.specs.List.{list_all}
 use Rattle.site_base.specs.declared.actor.Actor.{Actor}
 use Rattle.site_base.specs.declared.event.Event.{Event}
@@ -18,10 +18,14 @@ pub record TellsBook (header octets : List ℕ) (b : Book) : Type 0 where
   pub tells : Tells header octets events
   pub made : all_made_again (empty_book b.config) events ≡ Some b
 
--- no line is whole yet: the octets are a beginning of the first line, and there is no row
-pub record IsBegun (header octets : List ℕ) (whole : ℕ) (b : Book) : Type 0 where
+-- no line is whole yet, and the octets are a beginning of the first line
+pub record IsUnended (header octets : List ℕ) : Type 0 where
   pub front : BeginsWith octets (header ++ 10 ∷ [])
-  pub unended : whole_lines octets ≡ []
+  pub none_ends : whole_lines octets ≡ []
+
+-- .. and there is no row
+pub record IsBegun (header octets : List ℕ) (whole : ℕ) (b : Book) : Type 0 where
+  pub first : IsUnended header octets
   pub none : whole ≡ 0
   pub rows : b.rows ≡ []
 
@@ -38,7 +42,7 @@ IsRead header octets whole b = IsBegun header octets whole b ⊎ IsReadBack head
 
 -- the octets are no beginning of a journal of this site, and tell no book of it
 pub record TellsNothing (header octets : List ℕ) (config : Configured) : Type 0 where
-  pub unbegun : BeginsWith octets (header ++ 10 ∷ []) → whole_lines octets ≡ [] → ⊥
+  pub unbegun : IsUnended header octets → ⊥
   pub untold : (b : Book) → b.config ≡ config → TellsBook header octets b → ⊥
 
 -- a fault of what the octets say

@@ -21,6 +21,11 @@ KeepsWholeLines old new =
     (front : List ℕ) → unfinished front ≡ [] → BeginsWith front old.synced
     → KeepsFront front old new
 
+-- behind no whole lines the first line is written, behind others nothing
+abbrev pub Begins : List ℕ → ℕ → DiskFile → DiskFile → Type 0
+Begins first_line whole old new =
+    new.octets ≡ (if whole == 0 then old.octets ++ first_line else old.octets)
+
 -- what is left of so many octets, where so many are whole lines
 abbrev pub settled_octets : List ℕ → ℕ → List ℕ → List ℕ
 settled_octets first_line whole octets =

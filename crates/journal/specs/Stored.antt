@@ -1,12 +1,12 @@
 -- A station with its journal: what is stored, and what may be told.
 use Rattle.std.specs.Prelude.{◌≡◌, ℕ, ◌≤◌, ◌==◌, Bool, true, false, List, [], length, take}
-use Rattle.std.specs.Prelude.{Option, Some, None, IfSome, if◌then◌else◌}
+use Rattle.std.specs.Prelude.{Option, Some, None, IfSome, if◌then◌else◌, ⊤}
 use Rattle.site_base.specs.declared.row.Row.{Row}
 use Rattle.written_site.specs.SiteRun.{events_of}
 use Rattle.site_book.specs.Book.{Book}
 use Rattle.station.specs.Moves.{StationState}
 use Rattle.station.specs.Reads.{owed_at}
-use Rattle.journal.specs.Disks.{BeginsWith, DiskFile, OfFile}
+use Rattle.journal.specs.Disks.{BeginsWith, DiskFile, Keeps, OfFile, OfFiles}
 use Rattle.journal.specs.History.{IsMadeAgain}
 use Rattle.journal.specs.JournalLines.{TellsWhole}
 
@@ -45,6 +45,12 @@ pub record IsStored (s : StoredState) : Type 0 where
 abbrev pub has_stored : ℕ → Option JournalState → Bool
 has_stored count None = true
 has_stored count (Some j) = j.stored == count
+
+-- a journal goes on: its first line stays, and so does what is on its disk, at each moment
+abbrev pub JournalGoesOn : Option JournalState → Option JournalState → Type 0
+JournalGoesOn None None = ⊤
+JournalGoesOn (Some a) (Some b) = (b.header ≡ a.header) × OfFiles Keeps a.file b.file
+JournalGoesOn a b = ⊥
 
 -- each row is stored, where there is a journal
 abbrev pub is_all_stored : StoredState → Bool

@@ -13,6 +13,7 @@
 mod disk;
 mod header;
 mod journal;
+mod laws;
 mod opening;
 mod reading;
 mod recovery;
@@ -22,6 +23,10 @@ mod stored_station;
 
 pub use disk::{Disk, DiskFault};
 pub use journal::Journal;
+pub use laws::{
+    beginnings_are_read, journals_tell_their_history, stations_are_made_again,
+    stored_rows_are_found_again,
+};
 pub use opening::{Opened, open_journal, resume};
 pub use reading::OpenFault;
 pub use recovery::{Recovered, recover};

@@ -1,7 +1,7 @@
 //! A station that goes on where its journal ended.
 
-ghost use Rattle.std.specs.Prelude.{◌≡◌, IfErr, IfOk, false, length, true};
-ghost use Rattle.site_book.specs.Book.{Book};
+ghost use Rattle.std.specs.Prelude.{◌≡◌, IfErr, IfOk, Some, false};
+ghost use Rattle.station.specs.Sessions.{without_till};
 ghost use Rattle.station.specs.Runs.{opening_station};
 ghost use Rattle.journal.specs.Disks.{OfFile};
 ghost use Rattle.journal.specs.History.{IsMadeAgain};
@@ -84,13 +84,22 @@ pub fn resume<D: Disk>(
 /// Signs off each till that is signed on.
 fn sign_off_all(book: &mut SiteBook)
     ensures rows { AddsSignOffs book.old book.new }
+    ensures made { IsMadeAgain book.old → IsMadeAgain book.new }
     ensures off { HasNobodyOn book.new }
 {
-    for number in 1..=TILLS {
-        if let Some(till) = TillNo::new(number) {
-            let _ = book.sign_off(till);
-        }
+    for number in 1..TILLS + 1 {
+        let Some(till) = TillNo::new(number) else {
+            unreachable!();
+        };
+        leave(book, till);
     }
     // The rows' tills are in range.
     let _ = book.len();
+}
+
+/// Signs off a till, if it is signed on.
+fn leave(book: &mut SiteBook, till: TillNo)
+    ensures { book.new ≡ without_till (Some till) book.old }
+{
+    let _ = book.sign_off(till);
 }

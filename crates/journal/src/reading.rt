@@ -1,11 +1,12 @@
 //! A journal's octets, read back.
 
-ghost use Rattle.std.specs.Prelude.{◌≡◌, ◌≤◌, [], IfErr, IfOk, take};
-ghost use Rattle.std.specs.Prelude.{⊥};
+ghost use Rattle.std.specs.Prelude.{◌≡◌, [], IfErr, IfNone, IfOk, IfSome, false, take, true};
+ghost use Rattle.site_base.specs.Configured.{Configured};
+ghost use Rattle.journal.specs.Disks.{BeginsWith};
 ghost use Rattle.site_book.specs.Book.{Book};
-ghost use Rattle.journal.specs.History.{made_again};
-ghost use Rattle.journal.specs.Readings.{IsLineEnd, IsMade, IsOfText, IsRead, IsReadBack, TellsBook};
-ghost use Rattle.journal.specs.Readings.{TellsNothing};
+ghost use Rattle.journal.specs.History.{beyond, made_again};
+ghost use Rattle.journal.specs.Readings.{IsLineEnd, IsMade, IsOfText, IsRead, IsReadBack, IsUnended};
+ghost use Rattle.journal.specs.Readings.{TellsBook, TellsNothing};
 
 use crate::disk::DiskFault;
 use crate::header::names_a_site;
@@ -68,18 +69,51 @@ pub(crate) fn read_back(
     ensures refused { IfErr result (λ fault. IsOfText fault
         → TellsNothing header.now octets.now config.now) }
 {
-    let book = SiteBook::try_open(alloc, config)?;
+    match find_first_line(header, octets)? {
+        None => Ok(ReadBack {
+            book: SiteBook::try_open(alloc, config)?,
+            whole: 0,
+        }),
+        Some(end) => read_rows(alloc, SiteBook::try_open(alloc, config)?, octets, end),
+    }
+}
+
+/// Where the first line ends, which is this one; None where none is whole and the octets are a
+/// beginning of it.
+fn find_first_line(header: &[u8], octets: &[u8]) -> Result<Option<usize>, OpenFault>
+    ensures unended { IfOk result (λ end. IfNone end (IsUnended header.now octets.now)) }
+    ensures ends { IfOk result (λ end. IfSome end (λ n. IsLineEnd n octets.now)) }
+    ensures header { IfOk result (λ end. IfSome end (λ n. take n octets.now ≡ header.now)) }
+    ensures refused { IfErr result (λ fault. IsOfText fault → (config : Configured)
+        → TellsNothing header.now octets.now config) }
+{
     let Some(end) = memchr(b'\n', octets) else {
-        if header.starts_with(octets) {
-            return Ok(ReadBack { book, whole: 0 });
+        if begins_with(header, octets) {
+            return Ok(None);
         }
         return Err(OpenFault::Line(1));
     };
     let (first, _) = octets.split_at(end);
-    if first != header {
-        return Err(refuse_first(first));
+    if is_same(first, header) {
+        return Ok(Some(end));
     }
-    read_rows(alloc, book, octets, end)
+    Err(refuse_first(first))
+}
+
+/// Are these the same octets?
+fn is_same(a: &[u8], b: &[u8]) -> bool
+    ensures yes { result ≡ true → a.now ≡ b.now }
+    ensures no { result ≡ false → a.now ≡ b.now → ⊥ }
+{
+    a == b
+}
+
+/// Do the octets begin with this front?
+fn begins_with(octets: &[u8], front: &[u8]) -> bool
+    ensures yes { result ≡ true → BeginsWith front.now octets.now }
+    ensures no { result ≡ false → BeginsWith front.now octets.now → ⊥ }
+{
+    front.len() <= octets.len() && is_same(front, &octets[..front.len()])
 }
 
 /// The fault of a first line that isn't this site's.
@@ -91,23 +125,23 @@ fn refuse_first(line: &[u8]) -> OpenFault {
     }
 }
 
-/// Reads the lines of rows from a place on.
+/// Reads the lines of rows behind the first line, which ends at this place.
 fn read_rows(
     alloc: Global,
     mut book: SiteBook,
     octets: &[u8],
-    end: usize,
+    first: usize,
 ) -> Result<ReadBack, OpenFault>
     requires rows { book.rows ≡ [] }
-    requires end { IsLineEnd end octets.now }
-    ensures read { IfOk result (λ read. IsReadBack (take end octets.now) octets.now read.whole
+    requires first { IsLineEnd first octets.now }
+    ensures read { IfOk result (λ read. IsReadBack (take first octets.now) octets.now read.whole
         read.book) }
     ensures config { IfOk result (λ read. read.book.config ≡ book.config) }
     ensures refused { IfErr result (λ fault. IsOfText fault → (b : Book) → b.config ≡ book.config
-        → TellsBook (take end octets.now) octets.now b → ⊥) }
+        → TellsBook (take first octets.now) octets.now b → ⊥) }
 {
     let mut reader = LineReader::new(alloc);
-    let mut rest = &octets[end + 1..];
+    let mut rest = &octets[first + 1..];
     let mut number = 1_u64;
     while let Some(end) = memchr(b'\n', rest) {
         let (line, others) = rest.split_at(end);
@@ -115,7 +149,7 @@ fn read_rows(
         let Some((actor, event)) = reader.read(line)? else {
             return Err(OpenFault::Line(number));
         };
-        if !make_again(&mut book, actor, event)? {
+        if !make_again(&mut book, &actor, &event)? {
             return Err(OpenFault::Line(number));
         }
         rest = &others[1..];
@@ -127,15 +161,26 @@ fn read_rows(
 }
 
 /// Makes the row of a request again. False where a station makes none: behind a full book.
-fn make_again(book: &mut SiteBook, actor: Actor, event: Event) -> Result<bool, NoMemory>
-    ensures made { IfOk result (λ is. IsMade is (made_again book.old actor event) book.old book.new) }
+fn make_again(book: &mut SiteBook, actor: &Actor, event: &Event) -> Result<bool, NoMemory>
+    ensures { IfOk result (λ is.
+        IsMade is (made_again book.old actor.now event.now) book.old book.new) }
 {
-    match book.apply(actor, event) {
+    match book.apply(*actor, *event) {
         Ok(_) => Ok(true),
         Err(NoRow::NoMemory) => Err(NoMemory),
-        Err(NoRow::BookFull) => match (actor, event) {
-            (Actor::Till(till), Event::SignOff) => Ok(book.sign_off(till).is_some()),
-            _ => Ok(false),
+        Err(NoRow::BookFull) => Ok(make_beyond(book, actor, event)),
+    }
+}
+
+/// The same behind a full book: a till that is signed on signs off.
+fn make_beyond(book: &mut SiteBook, actor: &Actor, event: &Event) -> bool
+    ensures { IsMade result (beyond book.old actor.now event.now) book.old book.new }
+{
+    match actor {
+        Actor::Till(till) => match event {
+            Event::SignOff => book.sign_off(*till).is_some(),
+            _ => false,
         },
+        Actor::Dispenser(_) => false,
     }
 }

@@ -1,11 +1,11 @@
 //! The book of a journal that a crash may have left.
 
 ghost use Rattle.std.specs.Prelude.{◌≡◌, ◌≤◌, ◌∷◌, ◌++◌, [], IfErr, IfOk, OnOk, false, length};
-ghost use Rattle.journal.specs.Disks.{KeepsOf, OfFile, OfFiles};
+ghost use Rattle.journal.specs.Disks.{Cuts, Keeps, KeepsOf, OfFile, OfFiles};
 ghost use Rattle.journal.specs.History.{IsMadeAgain};
 ghost use Rattle.journal.specs.JournalText.{header_of};
 ghost use Rattle.journal.specs.Readings.{IsOfText};
-ghost use Rattle.journal.specs.Recovering.{IsReadIn, KeepsWholeLines, Settles, TellsNothingIn};
+ghost use Rattle.journal.specs.Recovering.{Begins, IsReadIn, KeepsWholeLines, Settles, TellsNothingIn};
 ghost use Rattle.journal.specs.Stored.{HoldsRows};
 
 use crate::disk::{Disk, DiskFault};
@@ -61,7 +61,10 @@ pub fn recover<D: Disk>(
         Err(DiskFault::NoMemory) => return Err(OpenFault::NoMemory),
         Err(DiskFault::Failed) => return Err(OpenFault::Unread),
     };
-    let read = read_back(alloc, config, &header, &octets)?;
+    let read = match read_back(alloc, config, &header, &octets) {
+        Ok(read) => read,
+        Err(fault) => return Err(fault),
+    };
     let first_line = line_of(alloc, &header)?;
     match settle(disk, &first_line, octets.len(), read.whole) {
         Ok(()) => {}
@@ -96,11 +99,29 @@ fn settle<D: Disk>(
         (D.file disk.old) (D.file disk.new)) }
     ensures moments { OfFiles (KeepsOf whole) (D.file disk.old) (D.file disk.new) }
 {
-    if whole < len {
-        disk.cut(whole)?;
-    }
-    if whole == 0 {
-        disk.append(first_line)?;
-    }
+    cut_to(disk, len, whole)?;
+    begin(disk, first_line, whole)?;
     disk.sync()
+}
+
+/// Cuts so many octets down to the whole lines, where there are more.
+fn cut_to<D: Disk>(disk: &mut D, len: usize, whole: usize) -> Result<(), DiskFault>
+    requires len { OfFile (λ file. length file.octets ≡ len) (D.file disk.old) }
+    ensures ok { OnOk result (OfFiles (Cuts whole) (D.file disk.old) (D.file disk.new)) }
+    ensures moments { OfFiles (KeepsOf whole) (D.file disk.old) (D.file disk.new) }
+{
+    if whole < len { disk.cut(whole) } else { Ok(()) }
+}
+
+/// Begins a file without whole lines by its first line.
+fn begin<D: Disk>(disk: &mut D, first_line: &[u8], whole: usize) -> Result<(), DiskFault>
+    ensures ok { OnOk result
+        (OfFiles (Begins first_line.now whole) (D.file disk.old) (D.file disk.new)) }
+    ensures moments { OfFiles Keeps (D.file disk.old) (D.file disk.new) }
+{
+    if whole == 0 {
+        disk.append(first_line)
+    } else {
+        Ok(())
+    }
 }

@@ -11,7 +11,7 @@ ghost use Rattle.station.specs.Runs.{opening_station};
 ghost use Rattle.station.specs.Sessions.{Grants};
 ghost use Rattle.journal.specs.History.{IsMadeAgain, empty_book};
 ghost use Rattle.journal.specs.Opening.{HasNobodyOn};
-ghost use Rattle.journal.specs.Stored.{IsJournalOf, is_all_stored, told_at, with_station};
+ghost use Rattle.journal.specs.Stored.{IsJournalOf, JournalGoesOn, is_all_stored, told_at, with_station};
 
 use crate::disk::{Disk, DiskFault};
 use crate::journal::Journal;
@@ -107,6 +107,7 @@ impl<D: Disk> StoredStation<D> {
     pub fn store(&mut self) -> Result<(), DiskFault>
         ensures station { self.new.station ≡ self.old.station }
         ensures stored { OnOk result (is_all_stored self.new ≡ true) }
+        ensures journal { JournalGoesOn self.old.journal self.new.journal }
     {
         match &mut self.journal {
             None => Ok(()),

@@ -1,0 +1,263 @@
+-- What recovery makes of a file.
+use Rattle.std.proofs.Common.{◌≡◌, ℕ, ◌<◌, Bool, true, false, List, [], ◌∷◌, ◌++◌, length, take, drop}
+use Rattle.std.proofs.Common.{Option, Some, None, refl, sym, ap, ◌∙◌, append-nil, arith, subst, eqb}
+use Rattle.std.proofs.Common.{inl, inr, append_assoc}
+use Rattle.std.specs.List.{AllByRecursion}
+use Rattle.std.specs.Prelude.{◌≤◌, if◌then◌else◌}
+use Rattle.std.proofs.lemmas.Bool.{cases_lt, eqb-true}
+use Rattle.std.proofs.lemmas.List.{length-append, length-drop, take-append-drop, take-append-le, take_all}
+use Rattle.std.proofs.lemmas.List.{drop-append-le}
+use Rattle.site_base.specs.declared.actor.Actor.{Actor}
+use Rattle.site_base.specs.declared.event.Event.{Event}
+use Rattle.site_base.specs.declared.row.Row.{Row}
+use Rattle.site_base.specs.Configured.{Configured}
+use Rattle.written_site.specs.SiteRun.{events_of}
+use Rattle.site_book.specs.Book.{Book}
+use Rattle.forecourt_engines.specs.Laws.{IsLine}
+use Rattle.journal.specs.Disks.{BeginsWith, Cuts, DiskFile, Keeps, KeepsOf, OfFile, OfFiles, Reads}
+use Rattle.journal.specs.Disks.{Syncs}
+use Rattle.journal.specs.History.{IsMadeAgain, all_made_again, empty_book}
+use Rattle.journal.specs.JournalLines.{TellsWhole, lines_from, unfinished, unfinished_from}
+use Rattle.journal.specs.JournalLines.{whole_lines}
+use Rattle.journal.specs.JournalText.{IsSent}
+use Rattle.journal.specs.Readings.{IsBegun, IsRead, IsReadBack, TellsNothing}
+use Rattle.journal.specs.Recovering.{Begins, IsReadIn, KeepsWholeLines, Settles, TellsNothingIn}
+use Rattle.journal.specs.Recovering.{settled_octets}
+use Rattle.journal.specs.Stored.{HoldsRows}
+use Rattle.journal.proofs.Fronts.{begins_then, front_of_cut, keeps_less, keeps_none, keeps_on}
+use Rattle.journal.proofs.JournalLaws.{first_alone}
+use Rattle.journal.proofs.Lines.{lines_both, unfinished_both}
+use Rattle.journal.proofs.Readings.{made_of_lines, rows_again}
+
+-- ---- the calls, where a file is known
+
+-- nothing is cut where there is no more
+pub cut_none : (n len : ℕ) (a b : Option DiskFile) → OfFile (λ f. length f.octets ≡ len) a
+    → len ≤ n → b ≡ a → OfFiles (Cuts n) a b
+cut_none n len None b size enough is =
+    subst (λ (x : Option DiskFile). OfFiles (Cuts n) None x) (sym is) tt
+cut_none n len (Some a) b size enough is =
+    subst (λ (x : Option DiskFile). OfFiles (Cuts n) (Some a) x) (sym is)
+    (sym (take_all n a.octets (omega (arith, size, enough))))
+
+-- nothing is begun behind whole lines
+pub begun_none : (first_line : List ℕ) (n : ℕ) (a b : Option DiskFile) → eqb n 0 ≡ false → b ≡ a
+    → OfFiles (Begins first_line n) a b
+begun_none first_line n None b some is =
+    subst (λ (x : Option DiskFile). OfFiles (Begins first_line n) None x) (sym is) tt
+begun_none first_line n (Some a) b some is =
+    subst (λ (x : Option DiskFile). OfFiles (Begins first_line n) (Some a) x) (sym is)
+    (ap (λ (t : Bool). if t then a.octets ++ first_line else a.octets) (sym some))
+
+settled_by : (first_line : List ℕ) (n : ℕ) (a b c d : DiskFile) → Cuts n a b
+    → Begins first_line n b c → Syncs c d → Settles first_line n a d
+settled_by first_line n a b c d cut begins synced =
+    (synced.0 ∙ begins ∙ by_test (eqb n 0) refl, synced.1 ∙ sym synced.0)
+  where
+    by_test : (t : Bool) → eqb n 0 ≡ t
+        → (if t then b.octets ++ first_line else b.octets)
+        ≡ (if t then first_line else take n a.octets)
+    by_test true is =
+        ap (λ (xs : List ℕ). xs ++ first_line)
+        (cut ∙ ap (λ (m : ℕ). take m a.octets) (eqb-true n 0 is))
+    by_test false is = cut
+
+pub settled_then : (first_line : List ℕ) (n : ℕ) (a b c d : Option DiskFile)
+    → OfFiles (Cuts n) a b → OfFiles (Begins first_line n) b c → OfFiles Syncs c d
+    → OfFiles (Settles first_line n) a d
+settled_then first_line n None None None None cut begins synced = tt
+settled_then first_line n (Some a) (Some b) (Some c) (Some d) cut begins synced =
+    settled_by first_line n a b c d cut begins synced
+settled_then first_line n None None None (Some d) cut begins synced = absurd synced
+settled_then first_line n None None (Some c) d cut begins synced = absurd begins
+settled_then first_line n None (Some b) c d cut begins synced = absurd cut
+settled_then first_line n (Some a) None c d cut begins synced = absurd cut
+settled_then first_line n (Some a) (Some b) None d cut begins synced = absurd begins
+settled_then first_line n (Some a) (Some b) (Some c) None cut begins synced = absurd synced
+
+-- ---- the book
+
+-- what is read is made again
+pub read_made : (header octets : List ℕ) (whole : ℕ) (b : Book) → IsRead header octets whole b
+    → IsMadeAgain b
+read_made header octets whole b (inl begun) = record {
+  again =
+      ap (λ (rows : List Row). all_made_again (empty_book b.config) (events_of rows)) begun.rows
+      ∙ ap (λ (rows : List Row). Some (record b { rows = rows })) (sym begun.rows);
+  sent = subst (AllByRecursion IsSent) (sym begun.rows) tt;
+}
+read_made header octets whole b (inr back) =
+    made_of_lines b back.tells.tells.lines back.events back.tells.tells.requests back.made
+
+pub read_in : (header octets : List ℕ) (whole : ℕ) (b : Book) (file : Option DiskFile)
+    → OfFile (Reads octets) file → IsRead header octets whole b
+    → OfFile (IsReadIn header b) file
+read_in header octets whole b None reads is = tt
+read_in header octets whole b (Some f) reads is =
+    record {
+      whole = whole;
+      read = subst (λ (xs : List ℕ). IsRead header xs whole b) reads.0 is;
+    }
+
+pub tells_nothing_in : (header octets : List ℕ) (config : Configured) (file : Option DiskFile)
+    → OfFile (Reads octets) file → TellsNothing header octets config
+    → OfFile (TellsNothingIn header config) file
+tells_nothing_in header octets config None reads nothing = tt
+tells_nothing_in header octets config (Some f) reads nothing =
+    subst (λ (xs : List ℕ). TellsNothing header xs config) reads.0 nothing
+
+-- whole lines that tell a line are some octets
+some_lines : (header : List ℕ) (octets : List ℕ) (n : ℕ) (events : List (Actor × Event))
+    → TellsWhole header (take n octets) events → eqb n 0 ≡ false
+some_lines header octets n events tells = by_test (eqb n 0) refl
+  where
+    by_test : (t : Bool) → eqb n 0 ≡ t → t ≡ false
+    by_test false is = refl
+    by_test true is =
+        let none : [] ≡ header ∷ tells.tells.lines =
+        ap (λ (m : ℕ). whole_lines (take m octets)) (sym (eqb-true n 0 is)) ∙ tells.tells.first in
+        absurd (cc none)
+
+holds_read : (header octets : List ℕ) (whole : ℕ) (b : Book) (old new : DiskFile)
+    → IsLine header → octets ≡ old.octets → IsRead header octets whole b
+    → Settles (header ++ 10 ∷ []) whole old new → HoldsRows header b.rows false new
+holds_read header octets whole b old new plain same (inl begun) settled =
+    let left : settled_octets (header ++ 10 ∷ []) whole old.octets ≡ header ++ 10 ∷ [] =
+    ap (λ (n : ℕ). settled_octets (header ++ 10 ∷ []) n old.octets) begun.none in
+    record {
+      front = header ++ 10 ∷ [];
+      tells = subst (λ (rows : List Row). TellsWhole header (header ++ 10 ∷ []) (events_of rows))
+          (sym begun.rows) (first_alone header plain);
+      there = record {
+        rest = [];
+        parts = settled.1 ∙ settled.0 ∙ left ∙ sym (append-nil (header ++ 10 ∷ []));
+      };
+      settled = λ never. (settled.0 ∙ left, settled.1 ∙ settled.0 ∙ left);
+    }
+holds_read header octets whole b old new plain same (inr back) settled =
+    let some = some_lines header octets whole back.events back.tells in
+    let left : settled_octets (header ++ 10 ∷ []) whole old.octets ≡ take whole octets =
+    ap (λ (t : Bool). if t then header ++ 10 ∷ [] else take whole old.octets) some
+    ∙ ap (take whole) (sym same) in
+    let made = rows_again (empty_book b.config) b back.events back.made in
+    record {
+      front = take whole octets;
+      tells = subst (TellsWhole header (take whole octets))
+          (sym (ap events_of made.rows ∙ made.asked)) back.tells;
+      there = record {
+        rest = [];
+        parts = settled.1 ∙ settled.0 ∙ left ∙ sym (append-nil (take whole octets));
+      };
+      settled = λ never. (settled.0 ∙ left, settled.1 ∙ settled.0 ∙ left);
+    }
+
+pub holds_read_in : (header octets first_line : List ℕ) (whole : ℕ) (b : Book)
+    (old new : Option DiskFile) → IsLine header → first_line ≡ header ++ 10 ∷ []
+    → OfFile (Reads octets) old → IsRead header octets whole b
+    → OfFiles (Settles first_line whole) old new → OfFile (HoldsRows header b.rows false) new
+holds_read_in header octets first_line whole b None None plain line reads is settled = tt
+holds_read_in header octets first_line whole b (Some old) (Some new) plain line reads is settled =
+    holds_read header octets whole b old new plain reads.0 is
+    (subst (λ (xs : List ℕ). Settles xs whole old new) line settled)
+holds_read_in header octets first_line whole b None (Some new) plain line reads is settled =
+    absurd settled
+holds_read_in header octets first_line whole b (Some old) None plain line reads is settled =
+    absurd settled
+
+-- ---- whole lines that stay
+
+-- octets that end no line go on with the one that is begun
+unended : (line xs : List ℕ) → lines_from line xs ≡ [] → unfinished_from line xs ≡ line ++ xs
+unended line [] none = sym (append-nil line)
+unended line (x ∷ xs) none = by_test (eqb x 10) none (unended (line ++ x ∷ []) xs)
+  where
+    by_test : (t : Bool)
+        → (if t then line ∷ lines_from [] xs else lines_from (line ++ x ∷ []) xs) ≡ []
+        → (lines_from (line ++ x ∷ []) xs ≡ [] → unfinished_from (line ++ x ∷ []) xs
+        ≡ (line ++ x ∷ []) ++ xs)
+        → (if t then unfinished_from [] xs else unfinished_from (line ++ x ∷ []) xs)
+        ≡ line ++ x ∷ xs
+    by_test true ended on = absurd (cc ended)
+    by_test false more on = on more ∙ append_assoc line (x ∷ []) xs
+
+no_lines_left : (ls ms : List (List ℕ)) → ls ++ ms ≡ [] → ls ≡ []
+no_lines_left [] ms none = refl
+no_lines_left (l ∷ ls) ms none = absurd (cc none)
+
+-- a front of whole lines is within the whole lines
+short_front : (front octets : List ℕ) (whole : ℕ) → whole ≤ length octets
+    → unfinished (take whole octets) ≡ [] → whole_lines (drop whole octets) ≡ []
+    → BeginsWith front octets → unfinished front ≡ [] → length front ≤ whole
+short_front front octets whole few ended none begins closed =
+    elim (cases_lt whole (length front)) [
+      | inr short ↦ short
+      | inl longer ↦
+          let front_is : take whole octets ≡ take whole front =
+          ap (take whole) begins.parts
+          ∙ take-append-le whole front begins.rest (omega (arith, longer)) in
+          let rest_is : drop whole octets ≡ drop whole front ++ begins.rest =
+          ap (drop whole) begins.parts
+          ∙ drop-append-le whole front begins.rest (omega (arith, longer)) in
+          let quiet : whole_lines (drop whole front) ≡ [] =
+          no_lines_left (whole_lines (drop whole front)) _
+          (sym (lines_both [] (drop whole front) begins.rest) ∙ ap whole_lines (sym rest_is) ∙ none) in
+          let left : drop whole front ≡ [] =
+          sym (unended [] (drop whole front) quiet)
+          ∙ ap (λ (line : List ℕ). unfinished_from line (drop whole front))
+          (sym (ap unfinished (sym front_is) ∙ ended))
+          ∙ sym (unfinished_both [] (take whole front) (drop whole front))
+          ∙ ap unfinished (take-append-drop whole front) ∙ closed in
+          let size : length (drop whole front) ≡ 0 = ap length left in
+          absurd (omega (arith, longer, size, length-drop whole front))
+    ]
+
+lines_stay : (header octets : List ℕ) (whole : ℕ) (b : Book) (old new : DiskFile)
+    → Reads octets old → IsRead header octets whole b → KeepsOf whole old new
+    → KeepsWholeLines old new
+lines_stay header octets whole b old new reads is keeps front closed begins =
+    let here : BeginsWith front octets =
+    subst (BeginsWith front) (sym reads.0)
+    (begins_then front old.synced old.octets begins reads.1) in
+    keeps_less front (take whole old.synced) old new
+    (front_of_cut whole front old.synced begins (by_reading is here)) keeps
+  where
+    by_reading : IsRead header octets whole b → BeginsWith front octets → length front ≤ whole
+    by_reading (inl begun) here =
+        short_front front octets whole (omega (arith, begun.none))
+        (ap (λ (n : ℕ). unfinished (take n octets)) begun.none)
+        (ap (λ (n : ℕ). whole_lines (drop n octets)) begun.none ∙ begun.first.none_ends) here closed
+    by_reading (inr back) here =
+        short_front front octets whole back.few back.tells.whole back.behind here closed
+
+pub lines_stay_in : (header octets : List ℕ) (whole : ℕ) (b : Book) (old new : Option DiskFile)
+    → OfFile (Reads octets) old → IsRead header octets whole b → OfFiles (KeepsOf whole) old new
+    → OfFiles KeepsWholeLines old new
+lines_stay_in header octets whole b None None reads is keeps = tt
+lines_stay_in header octets whole b (Some old) (Some new) reads is keeps =
+    lines_stay header octets whole b old new reads is keeps
+lines_stay_in header octets whole b None (Some new) reads is keeps = absurd keeps
+lines_stay_in header octets whole b (Some old) None reads is keeps = absurd keeps
+
+-- where the file stays, so do its lines
+pub lines_same : (old new : Option DiskFile) → new ≡ old → OfFiles KeepsWholeLines old new
+lines_same None new is = subst (λ (x : Option DiskFile). OfFiles KeepsWholeLines None x) (sym is) tt
+lines_same (Some old) new is =
+    subst (λ (x : Option DiskFile). OfFiles KeepsWholeLines (Some old) x) (sym is)
+    (λ front closed begins. keeps_none front old begins)
+
+-- .. and through a call that keeps what is synced
+pub lines_then : (a b c : Option DiskFile) → OfFiles KeepsWholeLines a b → OfFiles Keeps b c
+    → OfFiles KeepsWholeLines a c
+lines_then None None None one two = tt
+lines_then (Some a) (Some b) (Some c) one two = λ front closed begins.
+    keeps_on front a b c (one front closed begins) two
+lines_then None None (Some c) one two = absurd two
+lines_then None (Some b) c one two = absurd one
+lines_then (Some a) None c one two = absurd one
+lines_then (Some a) (Some b) None one two = absurd two
+
+-- what was read is as long as the file
+pub size_of : (octets : List ℕ) (file : Option DiskFile) → OfFile (Reads octets) file
+    → OfFile (λ f. length f.octets ≡ length octets) file
+size_of octets None reads = tt
+size_of octets (Some f) reads = ap length (sym reads.0)

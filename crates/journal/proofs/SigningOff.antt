@@ -1,0 +1,155 @@
+-- Tills that are signed off, one after another.
+use Rattle.std.proofs.Common.{◌≡◌, ℕ, ◌+◌, ◌<◌, ◌==◌, Bool, true, false, List, [], ◌∷◌, ◌++◌, length, take}
+use Rattle.std.proofs.Common.{Option, Some, None, refl, sym, ap, ◌∙◌, append_assoc, append-nil, arith, subst}
+use Rattle.std.specs.Prelude.{◌≤◌, if◌then◌else◌, is_ok, unwrap_or}
+use Rattle.std.specs.Ordering.{nat_cmp}
+use Rattle.std.specs.FinSet as set
+use Rattle.std.specs.List.{AllByRecursion}
+use Rattle.std.proofs.lemmas.Bool.{cases_lt}
+use Rattle.std.proofs.lemmas.Bool.Decides.{nat_tests}
+use Rattle.std.proofs.lemmas.List.{length-append}
+use Rattle.std.proofs.Math.Seq.{take-append_seam}
+use Rattle.site_base.specs.declared.actor.Actor.TheVariants.{Till}
+use Rattle.site_base.specs.declared.event.Event.TheVariants.{SignOff}
+use Rattle.site_base.specs.declared.limits.TheConstants.{TILLS}
+use Rattle.site_base.specs.declared.row.Row.{Row}
+use Rattle.device_map.proofs.Results.{equal}
+use Rattle.written_site.specs.RowWords.{signing_of, signing_said}
+use Rattle.written_site.specs.SiteRun.{IsLegal, site_of_rows}
+use Rattle.written_site.specs.SiteState.{SiteState, is_signed_on, opening}
+use Rattle.written_site.specs.SiteStep.{site_after}
+use Rattle.written_site.proofs.Histories.{site_of_rows-push}
+use Rattle.written_site.proofs.SigningLaws.{signed_row}
+use Rattle.site_book.specs.Book.{AreActors, AreRowsInRange, Book, next_row, site_of_book, with_row_of}
+use Rattle.site_book.specs.SignedOn.{AreTills}
+use Rattle.site_book.proofs.SignedTills.{tills_row}
+use Rattle.station.specs.Moves.{StationState}
+use Rattle.station.specs.Runs.{opening_station}
+use Rattle.station.specs.Sessions.{without_till}
+use Rattle.station.proofs.Leaving.{signed_off}
+use Rattle.journal.specs.Disks.{DiskFile, Keeps, OfFile, OfFiles}
+use Rattle.journal.specs.Opening.{AddsSignOffs, HasNobodyOn, IsSignOff, Resumes}
+use Rattle.journal.specs.Stored.{HoldsRows, IsJournalOf, JournalGoesOn, JournalState, StoredState}
+use Rattle.journal.specs.Stored.{is_all_stored}
+use Rattle.journal.proofs.Fronts.{all_both}
+
+-- the sign-off of another till changes nothing of this one
+others_stay : (b : Book) (v u : ℕ) → (v == u) ≡ false
+    → is_signed_on (site_of_book (without_till (Some v) b)) u ≡ is_signed_on (site_of_book b) u
+others_stay b v u other = by_test (is_signed_on (site_of_book b) v)
+  where
+    unsaid : (ok before : Bool)
+        → unwrap_or (if ok then signing_said u (Till v) SignOff else None) before ≡ before
+    unsaid true before = rw other refl
+    unsaid false before = refl
+
+    by_test : (on : Bool)
+        → is_signed_on (site_of_book (if on then with_row_of b (Till v) SignOff else b)) u
+        ≡ is_signed_on (site_of_book b) u
+    by_test true =
+        ap (λ (s : SiteState). is_signed_on s u)
+        (site_of_rows-push (opening b.config) b.rows (next_row b (Till v) SignOff))
+        ∙ signed_row u (site_of_book b) (next_row b (Till v) SignOff) refl
+        ∙ unsaid (is_ok (next_row b (Till v) SignOff).reply) (is_signed_on (site_of_book b) u)
+    by_test false = refl
+
+pub adds_none : (b : Book) → AddsSignOffs b b
+adds_none b = record { same = refl; more = []; rows = sym (append-nil b.rows); offs = tt }
+
+pub adds_one : (a b : Book) (t : ℕ) → AddsSignOffs a b → AddsSignOffs a (without_till (Some t) b)
+adds_one a b t adds = by_test (is_signed_on (site_of_book b) t)
+  where
+    by_test : (on : Bool) → AddsSignOffs a (if on then with_row_of b (Till t) SignOff else b)
+    by_test true = record {
+      same = adds.same;
+      more = adds.more ++ next_row b (Till t) SignOff ∷ [];
+      rows = ap (λ (rs : List Row). rs ++ next_row b (Till t) SignOff ∷ []) adds.rows
+          ∙ append_assoc a.rows adds.more (next_row b (Till t) SignOff ∷ []);
+      offs = all_both IsSignOff adds.more (next_row b (Till t) SignOff ∷ []) adds.offs
+          (record { till = t; actor = refl; event = refl }, tt);
+    }
+    by_test false = adds
+
+-- the tills below a number are off, and then this one too
+pub one_more_off : (b : Book) (n : ℕ)
+    → ((t : ℕ) → 1 ≤ t → t < n → is_signed_on (site_of_book b) t ≡ false)
+    → (t : ℕ) → 1 ≤ t → t < n + 1
+    → is_signed_on (site_of_book (without_till (Some n) b)) t ≡ false
+one_more_off b n off t least less = by_test (n == t) refl
+  where
+    by_test : (is : Bool) → (n == t) ≡ is
+        → is_signed_on (site_of_book (without_till (Some n) b)) t ≡ false
+    by_test true is =
+        subst (λ (u : ℕ). is_signed_on (site_of_book (without_till (Some n) b)) u ≡ false)
+        (equal n t is) (signed_off b n)
+    by_test false is = others_stay b n t is ∙ off t least (grind (arith, nat_tests))
+
+-- ---- no other till is signed on
+
+tills_after : (s : SiteState) (rows : List Row) → IsLegal s rows → AreActors rows → AreTills s
+    → AreTills (site_of_rows s rows)
+tills_after s [] legal actors tills = tills
+tills_after s (r ∷ rs) legal actors tills =
+    tills_after (site_after s r.actor r.event) rs legal.1 actors.1
+    (tills_row s r legal.0 actors.0 tills)
+
+pub nobody_on : (b : Book) → IsLegal (opening b.config) b.rows → AreRowsInRange b.rows
+    → ((t : ℕ) → 1 ≤ t → t < TILLS + 1 → is_signed_on (site_of_book b) t ≡ false)
+    → HasNobodyOn b
+nobody_on b legal ranges off t = by_test (is_signed_on (site_of_book b) t) refl
+  where
+    none : AreTills (opening b.config)
+    none u is =
+        let never : false ≡ true = sym (set.contains-empty nat_cmp u) ∙ is in
+        absurd (cc never)
+
+    by_test : (on : Bool) → is_signed_on (site_of_book b) t ≡ on
+        → is_signed_on (site_of_book b) t ≡ false
+    by_test false is = is
+    by_test true is =
+        let there = tills_after (opening b.config) b.rows legal ranges.actors none t is in
+        off t there.0 (omega (arith, there.1))
+
+-- ---- the journal of what was recovered
+
+pub journal_begun : (header : List ℕ) (recovered b : Book) (file : Option DiskFile) (stored : ℕ)
+    → OfFile (HoldsRows header recovered.rows false) file → stored ≡ length recovered.rows
+    → AddsSignOffs recovered b
+    → IsJournalOf b.rows (record { header = header; stored = stored; failed = false; file = file })
+journal_begun header recovered b file stored holds size adds =
+    let front : take stored b.rows ≡ recovered.rows =
+    ap (take stored) adds.rows
+    ∙ ap (λ (n : ℕ). take n (recovered.rows ++ adds.more)) size
+    ∙ take-append_seam recovered.rows adds.more in
+    let all : length b.rows ≡ length recovered.rows + length adds.more =
+    ap length adds.rows ∙ length-append recovered.rows adds.more in
+    record {
+      few = omega (arith, size, all);
+      holds = subst (λ (rs : List Row). OfFile (HoldsRows header rs false) file) (sym front) holds;
+    }
+
+-- what goes on from a journal is one
+goes_on : (header : List ℕ) (file : Option DiskFile) (stored : ℕ) (j : Option JournalState)
+    → JournalGoesOn (Some (record { header = header; stored = stored; failed = false; file = file }))
+    j → (k : JournalState) × (j ≡ Some k) × (k.header ≡ header) × OfFiles Keeps file k.file
+goes_on header file stored (Some k) on = (k, refl, on.0, on.1)
+goes_on header file stored None on = absurd on
+
+pub resumes : (header : List ℕ) (recovered b : Book) (file : Option DiskFile) (stored : ℕ)
+    (s : StoredState) → AddsSignOffs recovered b → HasNobodyOn b → s.station ≡ opening_station b
+    → is_all_stored s ≡ true
+    → JournalGoesOn (Some (record { header = header; stored = stored; failed = false; file = file }))
+    s.journal → Resumes header recovered file s
+resumes header recovered b file stored s adds off station all on =
+    let book : s.station.book ≡ b = ap (λ (x : StationState). x.book) station in
+    let kept = goes_on header file stored s.journal on in
+    record {
+      alone = station ∙ ap opening_station (sym book);
+      rows = subst (AddsSignOffs recovered) (sym book) adds;
+      off = subst HasNobodyOn (sym book) off;
+      stored = all;
+      journal = kept.0;
+      there = kept.1;
+      named = kept.2;
+      moments = kept.3;
+    }

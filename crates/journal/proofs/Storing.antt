@@ -1,0 +1,105 @@
+-- What storing rows makes of a journal's file.
+use Rattle.std.proofs.Common.{◌≡◌, ℕ, ◌<◌, true, false, List, [], ◌∷◌, ◌++◌, length, take, drop, Option}
+use Rattle.std.proofs.Common.{Some, None, refl, sym, ap, ◌∙◌, append_assoc, append-nil, arith, subst}
+use Rattle.std.specs.Prelude.{◌≤◌, Bool}
+use Rattle.std.proofs.lemmas.List.{take-append-drop, take_all}
+use Rattle.site_base.specs.declared.actor.Actor.{Actor}
+use Rattle.site_base.specs.declared.event.Event.{Event}
+use Rattle.site_base.specs.declared.row.Row.{Row}
+use Rattle.written_site.specs.SiteRun.{events_of}
+use Rattle.journal.specs.Disks.{Appends, DiskFile, Keeps, OfFile, OfFiles, Syncs}
+use Rattle.journal.specs.JournalLines.{TellsWhole, requests_in, unfinished_from, whole_lines}
+use Rattle.journal.specs.RowLines.{AreLines}
+use Rattle.journal.specs.Stored.{HoldsRows, IsJournalOf, JournalState}
+use Rattle.journal.proofs.Fronts.{begins_all, begins_then}
+use Rattle.journal.proofs.Lines.{requests_both, unfinished_both}
+use Rattle.journal.proofs.Readings.{lines_behind}
+use Rattle.journal.proofs.Requests.{events_both}
+
+-- a front that tells rows, with the lines of more rows behind it
+pub tells_more : (header front text : List ℕ) (rows more : List Row)
+    → TellsWhole header front (events_of rows) → AreLines more text
+    → TellsWhole header (front ++ text) (events_of (rows ++ more))
+tells_more header front text rows more tells lines = record {
+  tells = record {
+    lines = tells.tells.lines ++ whole_lines text;
+    first = lines_behind header front text (front ++ text) (events_of rows) tells refl;
+    requests =
+        requests_both tells.tells.lines (whole_lines text) (events_of rows) (events_of more)
+        tells.tells.requests lines.requests
+        ∙ ap (λ (es : List (Actor × Event)). Some es) (sym (events_both rows more));
+  };
+  whole =
+      unfinished_both [] front text
+      ∙ ap (λ (line : List ℕ). unfinished_from line text) tells.whole ∙ lines.whole;
+}
+
+-- what is on the disk stays, where a write may have failed
+failed_holds : (header : List ℕ) (rows : List Row) (failed : Bool) (a b : DiskFile)
+    → HoldsRows header rows failed a → Keeps a b → HoldsRows header rows true b
+failed_holds header rows failed a b holds keeps = record {
+  front = holds.front;
+  tells = holds.tells;
+  there = begins_then holds.front a.synced b.synced holds.there keeps.last;
+  settled = λ never. absurd (let no : true ≡ false = never in cc);
+}
+
+failed_file : (header : List ℕ) (rows : List Row) (failed : Bool) (a b : Option DiskFile)
+    → OfFile (HoldsRows header rows failed) a → OfFiles Keeps a b
+    → OfFile (HoldsRows header rows true) b
+failed_file header rows failed None None holds keeps = tt
+failed_file header rows failed (Some a) (Some b) holds keeps =
+    failed_holds header rows failed a b holds keeps
+failed_file header rows failed None (Some b) holds keeps = absurd keeps
+failed_file header rows failed (Some a) None holds keeps = absurd keeps
+
+-- a journal of which a write may have failed
+pub journal_failed : (rows : List Row) (j : JournalState) (b : Option DiskFile)
+    → IsJournalOf rows j → OfFiles Keeps j.file b
+    → IsJournalOf rows (record j { failed = true; file = b })
+journal_failed rows j b is keeps = record {
+  few = is.few;
+  holds = failed_file j.header (take j.stored rows) j.failed j.file b is.holds keeps;
+}
+
+-- rows were written behind others, and synced
+stored_holds : (header text : List ℕ) (rows more : List Row) (a b c : DiskFile)
+    → HoldsRows header rows false a → AreLines more text → Appends text a b → Syncs b c
+    → HoldsRows header (rows ++ more) false c
+stored_holds header text rows more a b c holds lines wrote synced =
+    let settled = holds.settled refl in
+    let octets : b.octets ≡ holds.front ++ text =
+    wrote ∙ ap (λ (xs : List ℕ). xs ++ text) settled.0 in
+    record {
+      front = holds.front ++ text;
+      tells = tells_more header holds.front text rows more holds.tells lines;
+      there = record { rest = []; parts = synced.1 ∙ octets ∙ sym (append-nil (holds.front ++ text)) };
+      settled = λ never. (synced.0 ∙ octets, synced.1 ∙ octets);
+    }
+
+stored_file : (header text : List ℕ) (rows more : List Row) (a b c : Option DiskFile)
+    → OfFile (HoldsRows header rows false) a → AreLines more text → OfFiles (Appends text) a b
+    → OfFiles Syncs b c → OfFile (HoldsRows header (rows ++ more) false) c
+stored_file header text rows more None None None holds lines wrote synced = tt
+stored_file header text rows more (Some a) (Some b) (Some c) holds lines wrote synced =
+    stored_holds header text rows more a b c holds lines wrote synced
+stored_file header text rows more None None (Some c) holds lines wrote synced = absurd synced
+stored_file header text rows more None (Some b) c holds lines wrote synced = absurd wrote
+stored_file header text rows more (Some a) None c holds lines wrote synced = absurd wrote
+stored_file header text rows more (Some a) (Some b) None holds lines wrote synced = absurd synced
+
+-- a journal that has stored all rows
+pub journal_stored : (rows : List Row) (j : JournalState) (text : List ℕ) (b c : Option DiskFile)
+    (count : ℕ) → IsJournalOf rows j → j.failed ≡ false → AreLines (drop j.stored rows) text
+    → OfFiles (Appends text) j.file b → OfFiles Syncs b c → count ≡ length rows
+    → IsJournalOf rows (record { header = j.header; stored = count; failed = false; file = c })
+journal_stored rows j text b c count is whole lines wrote synced all =
+    let holds = subst (λ (failed : Bool). OfFile (HoldsRows j.header (take j.stored rows) failed) j.file)
+    whole is.holds in
+    let file = stored_file j.header text (take j.stored rows) (drop j.stored rows) j.file b c holds
+    lines wrote synced in
+    record {
+      few = omega (arith, all);
+      holds = subst (λ (rs : List Row). OfFile (HoldsRows j.header rs false) c)
+          (take-append-drop j.stored rows ∙ sym (take_all count rows (omega (arith, all)))) file;
+    }

@@ -1,0 +1,16 @@
+use Rattle.std.proofs.Common.{◌≡◌, ◌<◌, ℕ, false}
+use Rattle.std.specs.Prelude.{◌≤◌}
+use Rattle.written_site.specs.SiteState.{is_signed_on}
+use Rattle.site_book.specs.Book.{site_of_book}
+use Rattle.journal.specs.History.{IsMadeAgain}
+use Rattle.journal.specs.Opening.{AddsSignOffs}
+use Rattle.journal.proofs.opening.sign_off_all.Given as goal
+
+-- the tills below this one are signed off
+abbrev pub invariant-loop-number : goal.invariant-loop-number
+invariant-loop-number l = record {
+  least : 1 ≤ l.number;
+  rows : AddsSignOffs l.fn.book l.book;
+  made : IsMadeAgain l.fn.book → IsMadeAgain l.book;
+  off : (t : ℕ) → 1 ≤ t → t < l.number → is_signed_on (site_of_book l.book) t ≡ false;
+}

@@ -1,0 +1,86 @@
+use Rattle.std.proofs.Common.{◌≡◌, ◌∙◌, ◌-◌, Bool, ℕ, List, Some, None, ap, arith, drop, length, subst}
+use Rattle.std.proofs.Common.{◌+◌, refl, suc, sym, take}
+use Rattle.std.proofs.lemmas.List.{length-drop, take_all}
+use Rattle.forecourt_engines.proofs.Bytes.{absent, behind_byte, found}
+use Rattle.site_book.specs.Book.{Book}
+use Rattle.journal.specs.History.{made_again}
+use Rattle.journal.specs.JournalLines.{request_in}
+use Rattle.journal.specs.Readings.{IsMade}
+use Rattle.journal.proofs.Readings.{begins_reading, no_request, no_row, reads_all, reads_line, row_again}
+use Rattle.journal.proofs.reading.read_rows.Goals as goal
+
+-- what stands from a place on
+from_place : (n : ℕ) (xs : List ℕ) → take (length xs - n) (drop n xs) ≡ drop n xs
+from_place n xs = take_all (length xs - n) (drop n xs) (omega (arith, length-drop n xs))
+
+pub loop-end-init : goal.loop-end-init
+loop-end-init c =
+    let octets = c.args.octets.now in
+    rw (from_place (c.args.first + 1) octets) (record {
+      reads = begins_reading c.args.first octets c.args.book c.requires.first c.requires.rows;
+      few = omega (arith, length-drop (c.args.first + 1) octets);
+      same = refl;
+    })
+
+pub loop-end-preserved : goal.loop-end-preserved
+loop-end-preserved c =
+    let octets = c.args.octets.now in
+    let rest = c.loop-end.rest.now in
+    let at = found 10 rest c.in-Some.end c.in-Some.ensures in
+    let others = behind_byte rest c.in-Some.end at.within in
+    let actor = c.in-Some-2.actor in
+    let event = c.in-Some-2.event in
+    let asked : request_in (take c.in-Some.end rest) ≡ Some (actor, event) =
+    ap request_in (sym c.split_at.ensures.front) ∙ sym c.in_ok-actor.ensures ∙ c.in-Some-2.is in
+    let made = subst (λ (is : Bool).
+    IsMade is (made_again c.loop-end.book actor event) c.loop-end.book c.make_again.new.book)
+    c.if-not-branch.false c.in_ok-make_again.ensures in
+    rw (c.split_at.ensures.back, others) (record {
+      reads = reads_line (take c.args.first octets) octets rest (take c.in-Some.end rest)
+          (drop (suc c.in-Some.end) rest) c.loop-end.book c.make_again.new.book actor event
+          c.loop-end.invariant.reads at.parts at.before asked made;
+      few = omega (arith, c.loop-end.invariant.few, length-drop (suc c.in-Some.end) rest);
+      same =
+          ap (λ (b : Book). b.config)
+          (row_again c.loop-end.book c.make_again.new.book actor event made)
+          ∙ c.loop-end.invariant.same;
+    })
+
+-- a line that is no request
+pub returns-in_default-2-clause-refused : goal.returns-in_default-2-clause-refused
+returns-in_default-2-clause-refused c = λ of_text b same told.
+    let octets = c.args.octets.now in
+    let rest = c.loop-end.rest.now in
+    let at = found 10 rest c.in-Some.end c.in-Some.ensures in
+    let none : request_in (take c.in-Some.end rest) ≡ None =
+    ap request_in (sym c.split_at.ensures.front) ∙ sym c.in_ok-actor.ensures ∙ c.in_default-2.is in
+    no_request (take c.args.first octets) octets rest (take c.in-Some.end rest)
+    (drop (suc c.in-Some.end) rest) c.loop-end.book b c.loop-end.invariant.reads at.parts
+    at.before none told
+
+-- one whose row no station makes
+pub returns-then-not-branch-clause-refused : goal.returns-then-not-branch-clause-refused
+returns-then-not-branch-clause-refused c = λ of_text b same told.
+    let octets = c.args.octets.now in
+    let rest = c.loop-end.rest.now in
+    let at = found 10 rest c.in-Some.end c.in-Some.ensures in
+    let actor = c.in-Some-2.actor in
+    let event = c.in-Some-2.event in
+    let asked : request_in (take c.in-Some.end rest) ≡ Some (actor, event) =
+    ap request_in (sym c.split_at.ensures.front) ∙ sym c.in_ok-actor.ensures ∙ c.in-Some-2.is in
+    let made = subst (λ (is : Bool).
+    IsMade is (made_again c.loop-end.book actor event) c.loop-end.book c.make_again.new.book)
+    c.if-not-branch.true c.in_ok-make_again.ensures in
+    no_row (take c.args.first octets) octets rest (take c.in-Some.end rest)
+    (drop (suc c.in-Some.end) rest) c.loop-end.book b actor event c.loop-end.invariant.reads
+    at.parts at.before asked made.0 (same ∙ sym c.loop-end.invariant.same) told
+
+pub returns-clause-read : goal.returns-clause-read
+returns-clause-read c =
+    let octets = c.args.octets.now in
+    reads_all (take c.args.first octets) octets c.loop-end.rest.now c.loop-end.book _
+    c.loop-end.invariant.reads (absent 10 c.loop-end.rest.now c.in_default.ensures)
+    (omega (arith, c.loop-end.invariant.few))
+
+pub returns-clause-config : goal.returns-clause-config
+returns-clause-config c = c.loop-end.invariant.same
