@@ -12,3 +12,4 @@ pub mod Storing
 pub mod Recovering
 pub mod Results
 pub mod SigningOff
+pub mod Reopening

@@ -1,7 +1,7 @@
 -- Tills that are signed off, one after another.
 use Rattle.std.proofs.Common.{◌≡◌, ℕ, ◌+◌, ◌<◌, ◌==◌, Bool, true, false, List, [], ◌∷◌, ◌++◌, length, take}
 use Rattle.std.proofs.Common.{Option, Some, None, refl, sym, ap, ◌∙◌, append_assoc, append-nil, arith, subst}
-use Rattle.std.specs.Prelude.{◌≤◌, if◌then◌else◌, is_ok, unwrap_or}
+use Rattle.std.specs.Prelude.{◌≤◌, OnSome, if◌then◌else◌, is_ok, is_some, unwrap_or}
 use Rattle.std.specs.Ordering.{nat_cmp}
 use Rattle.std.specs.FinSet as set
 use Rattle.std.specs.List.{AllByRecursion}
@@ -13,6 +13,7 @@ use Rattle.site_base.specs.declared.actor.Actor.TheVariants.{Till}
 use Rattle.site_base.specs.declared.event.Event.TheVariants.{SignOff}
 use Rattle.site_base.specs.declared.limits.TheConstants.{TILLS}
 use Rattle.site_base.specs.declared.row.Row.{Row}
+use Rattle.site_base.specs.Configured.{Configured}
 use Rattle.device_map.proofs.Results.{equal}
 use Rattle.written_site.specs.RowWords.{signing_of, signing_said}
 use Rattle.written_site.specs.SiteRun.{IsLegal, site_of_rows}
@@ -28,6 +29,7 @@ use Rattle.station.specs.Runs.{opening_station}
 use Rattle.station.specs.Sessions.{without_till}
 use Rattle.station.proofs.Leaving.{signed_off}
 use Rattle.journal.specs.Disks.{DiskFile, Keeps, OfFile, OfFiles}
+use Rattle.journal.specs.History.{empty_book}
 use Rattle.journal.specs.Opening.{AddsSignOffs, HasNobodyOn, IsSignOff, Resumes}
 use Rattle.journal.specs.Stored.{HoldsRows, IsJournalOf, JournalGoesOn, JournalState, StoredState}
 use Rattle.journal.specs.Stored.{is_all_stored}
@@ -110,6 +112,10 @@ nobody_on b legal ranges off t = by_test (is_signed_on (site_of_book b) t) refl
         let there = tills_after (opening b.config) b.rows legal ranges.actors none t is in
         off t there.0 (omega (arith, there.1))
 
+-- nor is one before the first row
+pub nobody_yet : (config : Configured) → HasNobodyOn (empty_book config)
+nobody_yet config = λ t. set.contains-empty nat_cmp t
+
 -- ---- the journal of what was recovered
 
 pub journal_begun : (header : List ℕ) (recovered b : Book) (file : Option DiskFile) (stored : ℕ)
@@ -153,3 +159,15 @@ resumes header recovered b file stored s adds off station all on =
       named = kept.2;
       moments = kept.3;
     }
+
+-- ---- one till
+
+-- what the sign-off of a till answers says whether it was signed on
+pub left_by : {X : Type 0} (b new : Book) (t : ℕ) (r : Option X)
+    → OnSome r (new ≡ with_row_of b (Till t) SignOff)
+    → is_some r ≡ is_signed_on (site_of_book b) t → (is_some r ≡ false → new ≡ b)
+    → new ≡ without_till (Some t) b
+left_by b new t (Some placed) row on none =
+    row ∙ ap (λ (is : Bool). if is then with_row_of b (Till t) SignOff else b) on
+left_by b new t None row on none =
+    none refl ∙ ap (λ (is : Bool). if is then with_row_of b (Till t) SignOff else b) on

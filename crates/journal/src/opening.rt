@@ -51,7 +51,10 @@ pub fn open_journal<D: Disk>(
         (TellsNothingIn (header_of site_file.now) config.now) (D.file disk)) }
 {
     let mut disk = disk;
-    let recovered = recover(alloc, config, site_file, &mut disk)?;
+    let recovered = match recover(alloc, config, site_file, &mut disk) {
+        Ok(recovered) => recovered,
+        Err(fault) => return Err(fault),
+    };
     let rows = recovered.book.len();
     match resume(alloc, recovered, disk) {
         Ok(station) => Ok(Opened { station, rows }),

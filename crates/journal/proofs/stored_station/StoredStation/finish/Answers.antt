@@ -1,0 +1,13 @@
+use Rattle.std.proofs.Common.{subst, sym}
+use Rattle.station.specs.Moves.{StationState}
+use Rattle.journal.proofs.Made.{Adds, stored_with}
+use Rattle.journal.proofs.Moves.{adds_end}
+use Rattle.journal.proofs.stored_station.StoredStation.finish.Goals as goal
+
+pub invariant_of-self : goal.invariant_of-self
+invariant_of-self g c =
+    let station = c.self.inside.station in
+    stored_with (record { station = station; journal = c.self.inside.journal }) c.finish.new.self
+    c.self.invariant
+    (subst (λ (t : StationState). Adds station.book t.book) (sym c.finish.ensures)
+    (adds_end c.args.key station))
