@@ -6,6 +6,7 @@ use Rattle.station.specs.Reads.{Arrives as GetsKey}
 use Rattle.station.specs.Runs.{Arrives, Finishes, Leaves, Move, Says, Takes, after, after_move}
 use Rattle.station.specs.Runs.{arrive}
 use Rattle.station.specs.Sessions.{Grants}
+use Rattle.journal.specs.Stored.{StoredState, with_station}
 use Rattle.station_server.specs.declared.calls.Call.{Call}
 use Rattle.station_server.specs.declared.calls.Call.TheVariants.{Ended, Failed, Interrupted}
 use Rattle.station_server.specs.declared.calls.Call.TheVariants.{Passed, Waits}
@@ -61,15 +62,32 @@ reaches_read (Passed n) k left left' s t hears =
 reaches_read Ended k left left' s t hears = reaches_end k s t hears.1
 reaches_read Interrupted k left left' s t hears = reaches_same s t hears.1
 reaches_read Waits k left left' s t hears = reaches_same s t hears.1
-reaches_read Failed k left left' s t hears = reaches_same s t hears.1
+reaches_read Failed k left left' s t hears = reaches_end k s t hears.1
 
-pub reaches_written : (call : Call) (k : ℕ) (got got' : Option (List ℕ)) (s t : StationState)
-    → SendsCall call k got got' s t → Reaches s t
-reaches_written (Passed n) k got got' s t sends = reaches_taken k n s t sends.1
+-- ---- of a station with its journal
+
+-- it stays
+pub reaches_kept : (s t : StoredState) → t ≡ s → Reaches s.station t.station
+reaches_kept s t same = reaches_same s.station t.station (ap (λ (x : StoredState). x.station) same)
+
+pub reaches_finished : (k : ℕ) (s t : StoredState) → t ≡ with_station (with_end k s.station) s
+    → Reaches s.station t.station
+reaches_finished k s t end =
+    reaches_end k s.station t.station (ap (λ (x : StoredState). x.station) end)
+
+pub reaches_gone : (k : ℕ) (s t : StoredState) → t ≡ with_station (without_peer k s.station) s
+    → Reaches s.station t.station
+reaches_gone k s t left =
+    reaches_left k s.station t.station (ap (λ (x : StoredState). x.station) left)
+
+pub reaches_written : (call : Call) (k : ℕ) (got got' : Option (List ℕ)) (s t : StoredState)
+    → SendsCall call k got got' s t → Reaches s.station t.station
+reaches_written (Passed n) k got got' s t sends =
+    reaches_taken k n s.station t.station (ap (λ (x : StoredState). x.station) sends.1)
 reaches_written Ended k got got' s t sends = absurd sends
-reaches_written Interrupted k got got' s t sends = reaches_same s t sends.1
-reaches_written Waits k got got' s t sends = reaches_same s t sends.1
-reaches_written Failed k got got' s t sends = reaches_same s t sends.1
+reaches_written Interrupted k got got' s t sends = reaches_kept s t sends.1
+reaches_written Waits k got got' s t sends = reaches_kept s t sends.1
+reaches_written Failed k got got' s t sends = reaches_kept s t sends.1
 
 -- ---- what a round is made of
 
@@ -81,4 +99,7 @@ pub ruleset moved = (
   reaches_arrival,
   reaches_read,
   reaches_written,
+  reaches_kept,
+  reaches_finished,
+  reaches_gone,
 )

@@ -104,12 +104,7 @@ impl Link {
 
     /// Sends what the peer may be told, as far as its connection takes it for now.
     #[tactic(auto, using(crate::proofs::Reaching::moved))]
-    pub(crate) fn send<D: Disk>(
-        &mut self,
-        stored: &mut StoredStation<D>,
-        key: usize,
-        now: Instant,
-    )
+    pub(crate) fn send<D: Disk>(&mut self, stored: &mut StoredStation<D>, key: usize, now: Instant)
         ensures { Reaches stored.old.station stored.new.station }
     {
         for _ in 0..CALLS_A_TURN {

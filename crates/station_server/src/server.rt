@@ -131,7 +131,11 @@ impl StationServer {
     }
 
     /// How long it waits for the next round: as long as it takes, or until the next sweep.
-    fn poll_timeout<D: Disk>(&self, connections: &Connections<D>, idle: Option<u64>) -> Option<Duration> {
+    fn poll_timeout<D: Disk>(
+        &self,
+        connections: &Connections<D>,
+        idle: Option<u64>,
+    ) -> Option<Duration> {
         if self.is_deaf || connections.has_closing() || idle.is_some() {
             return Some(Duration::from_secs(SWEEP_SECONDS));
         }
@@ -210,20 +214,40 @@ impl StationServer {
     {
         connections.make_owed_due();
         connections.send_due(self.poll.registry(), rt, self.time)?;
-        if self.time.duration_since(self.swept_at).as_secs() >= SWEEP_SECONDS {
-            self.swept_at = self.time;
-            self.sweep(rt, connections, idle)?;
-        }
-        if idle.is_some() {
-            self.pass_over_stall(rt, connections);
-        }
+        self.sweep_if_due(rt, connections, idle)?;
+        self.pass_over_stall(rt, connections, idle);
         Ok(())
     }
 
+    /// Sweeps, where it is time to.
+    #[tactic(auto, using(crate::proofs::Reaching::moved))]
+    fn sweep_if_due<R: Eprint, D: Disk>(
+        &mut self,
+        rt: &R,
+        connections: &mut Connections<D>,
+        idle: Option<u64>,
+    ) -> Result<(), ServerFault>
+        ensures { Reaches connections.old.stored.station connections.new.stored.station }
+    {
+        if self.time.duration_since(self.swept_at).as_secs() < SWEEP_SECONDS {
+            return Ok(());
+        }
+        self.swept_at = self.time;
+        self.sweep(rt, connections, idle)
+    }
+
     /// Where storing took so long that peers seem silent since, they aren't.
-    fn pass_over_stall<R: Clock, D: Disk>(&mut self, rt: &R, connections: &mut Connections<D>)
+    fn pass_over_stall<R: Clock, D: Disk>(
+        &mut self,
+        rt: &R,
+        connections: &mut Connections<D>,
+        idle: Option<u64>,
+    )
         ensures { connections.new.stored ≡ connections.old.stored }
     {
+        if idle.is_none() {
+            return;
+        }
         let begun = self.time;
         self.look_at_clock(rt);
         if self.time.duration_since(begun).as_secs() >= STALL_SECONDS {

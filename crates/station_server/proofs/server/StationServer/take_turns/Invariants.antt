@@ -3,7 +3,7 @@ use Rattle.station_server.proofs.server.StationServer.take_turns.Given as goal
 
 abbrev pub invariant-loop-event : goal.invariant-loop-event
 invariant-loop-event g l = record {
-  next : goal.iterator-loop-event.can_next l.event-iterator;
-  few : goal.iterator-loop-event.is_finite l.event-iterator;
+  next : (goal.iterator-loop-event g).can_next l.event-iterator;
+  few : (goal.iterator-loop-event g).is_finite l.event-iterator;
   reached : Reaches l.fn.connections.stored.station l.connections.stored.station;
 }
