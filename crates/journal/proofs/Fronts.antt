@@ -1,11 +1,12 @@
 -- Fronts of octets, and fronts that stay through calls.
-use Rattle.std.proofs.Common.{◌≡◌, ℕ, ◌-◌, List, [], ◌∷◌, ◌++◌, length, take, drop, Option, Some, None, refl}
+use Rattle.std.proofs.Common.{◌≡◌, ℕ, ◌-◌, List, [], ◌∷◌, ◌++◌, length, take, drop, Option, Some}
+use Rattle.std.proofs.Common.{None}
 use Rattle.std.proofs.Common.{sym, ap, ◌∙◌, append_assoc, append-nil, arith, subst}
 use Rattle.std.specs.Prelude.{◌≤◌}
 use Rattle.std.specs.List.{AllByRecursion}
 use Rattle.std.proofs.lemmas.List.{take-append-drop}
 use Rattle.std.proofs.Math.Seq.{take-append-add}
-use Rattle.journal.specs.Disks.{BeginsWith, DiskFile, Keeps, KeepsFront, KeepsOf, OfFile, OfFiles}
+use Rattle.journal.specs.Disks.{BeginsWith, DiskFile, Keeps, KeepsFront, KeepsOf, OfFiles}
 
 pub begins_all : (xs : List ℕ) → BeginsWith xs xs
 begins_all xs = record { rest = []; parts = sym (append-nil xs) }

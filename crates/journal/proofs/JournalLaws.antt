@@ -1,9 +1,10 @@
 -- The laws of a journal.
-use Rattle.std.proofs.Common.{◌≡◌, ℕ, zero, suc, ◌<◌, Bool, true, false, List, [], ◌∷◌, ◌++◌, length, take, drop}
+use Rattle.std.proofs.Common.{◌≡◌, ℕ, zero, suc, Bool, true, false, List, [], ◌∷◌, ◌++◌, length}
+use Rattle.std.proofs.Common.{take, drop}
 use Rattle.std.proofs.Common.{Option, Some, None, refl, sym, ap, ◌∙◌, append_assoc, append-nil}
 use Rattle.std.proofs.Common.{arith, inl, inr, subst, not, eqb}
-use Rattle.std.specs.Prelude.{◌≤◌, ◌&&◌}
-use Rattle.std.specs.List.{AllByRecursion, list_all}
+use Rattle.std.specs.Prelude.{◌&&◌}
+use Rattle.std.specs.List.{list_all}
 use Rattle.std.proofs.lemmas.Bool.{cases_lt}
 use Rattle.std.proofs.lemmas.List.{length-append, take-append-drop, take-append-le, take_all}
 use Rattle.std.proofs.lemmas.Option.{none-some}
@@ -11,7 +12,6 @@ use Rattle.site_base.specs.declared.actor.Actor.{Actor}
 use Rattle.site_base.specs.declared.event.Event.{Event}
 use Rattle.site_base.specs.declared.row.Row.{Row}
 use Rattle.site_base.specs.Configured.{Configured}
-use Rattle.device_map.specs.Laws.{Asks}
 use Rattle.forecourt_engines.specs.Laws.{IsLine}
 use Rattle.written_site.specs.SiteRun.{events_of}
 use Rattle.site_book.specs.Book.{Book}
@@ -20,15 +20,14 @@ use Rattle.station.specs.Peers.{peer_at}
 use Rattle.station.specs.Runs.{Arrives, Finishes, Leaves, Move, Says, Takes, after, after_move}
 use Rattle.station.specs.Runs.{arrive, opening_station}
 use Rattle.station.specs.Sessions.{Session}
-use Rattle.journal.specs.Disks.{BeginsWith}
 use Rattle.journal.specs.History.{IsMadeAgain, all_made_again, and_then, empty_book}
-use Rattle.journal.specs.JournalLines.{Tells, TellsWhole, requests_in, unfinished_from, whole_lines}
-use Rattle.journal.specs.JournalText.{journal_text, row_line, row_request, rows_text}
-use Rattle.journal.specs.Laws.{BeginningsAreRead, CanBeSpelled, HasRowsOf, JournalsTellTheirHistory}
+use Rattle.journal.specs.JournalLines.{TellsWhole, requests_in, whole_lines}
+use Rattle.journal.specs.JournalText.{row_line, rows_text}
+use Rattle.journal.specs.Laws.{BeginningsAreRead, CanBeSpelled, JournalsTellTheirHistory}
 use Rattle.journal.specs.Laws.{StationsAreMadeAgain, StoredRowsAreFoundAgain}
-use Rattle.journal.specs.Readings.{IsRead, IsReadBack, TellsBook, TellsNothing}
+use Rattle.journal.specs.Readings.{IsReadBack, TellsBook, TellsNothing}
 use Rattle.journal.specs.RowLines.{AreLines}
-use Rattle.journal.proofs.Lines.{all_unfinished, line_ends, lines_both, none_ends, one_line}
+use Rattle.journal.proofs.Lines.{line_ends, lines_both, none_ends, one_line}
 use Rattle.journal.proofs.Lines.{requests_apart, requests_both, requests_front}
 use Rattle.journal.proofs.Made.{Adds, adds_same, adds_then, made_both, made_with}
 use Rattle.journal.proofs.Moves.{adds_end, adds_left, adds_nothing, adds_octets}
@@ -82,10 +81,12 @@ led_on told b es fs events same made parts all =
 
 pub stored_rows_are_found_again : StoredRowsAreFoundAgain
 stored_rows_are_found_again header front file told b whole made same tells begins (inl begun) =
-    let lines = lines_behind header front begins.rest file (events_of told.rows) tells begins.parts in
+    let lines =
+    lines_behind header front begins.rest file (events_of told.rows) tells begins.parts in
     absurd (nil_cons header _ (sym begun.first.none_ends ∙ lines))
 stored_rows_are_found_again header front file told b whole made same tells begins (inr back) =
-    let lines = lines_behind header front begins.rest file (events_of told.rows) tells begins.parts in
+    let lines =
+    lines_behind header front begins.rest file (events_of told.rows) tells begins.parts in
     let tail = same_tail header header back.tells.tells.lines _
     (sym (lines_read header file whole b back) ∙ lines) in
     let apart = requests_apart tells.tells.lines (whole_lines begins.rest) (events_of told.rows)
@@ -104,7 +105,8 @@ all_spelled (r ∷ rows) spelled =
     (all_spelled rows spelled.1)
 
 -- a first line alone
-abbrev pub first_alone : (header : List ℕ) → IsLine header → TellsWhole header (header ++ 10 ∷ []) []
+abbrev pub first_alone : (header : List ℕ) → IsLine header
+    → TellsWhole header (header ++ 10 ∷ []) []
 first_alone header plain = record {
   tells = record { lines = []; first = one_line header plain; requests = refl };
   whole = line_ends [] header;

@@ -1,7 +1,8 @@
 -- Books whose rows are made again.
-use Rattle.std.proofs.Common.{◌≡◌, ℕ, Bool, true, false, List, [], ◌∷◌, ◌++◌, length, take, drop}
-use Rattle.std.proofs.Common.{Option, Some, None, refl, sym, ap, ◌∙◌, append_assoc, append-nil, arith, subst}
-use Rattle.std.specs.Prelude.{◌≤◌, IfSome, if◌then◌else◌}
+use Rattle.std.proofs.Common.{◌≡◌, ℕ, Bool, true, false, List, [], ◌∷◌, ◌++◌}
+use Rattle.std.proofs.Common.{Option, Some, None, refl, sym, ap, ◌∙◌, append_assoc, append-nil}
+use Rattle.std.proofs.Common.{arith, subst}
+use Rattle.std.specs.Prelude.{IfSome, if◌then◌else◌}
 use Rattle.std.specs.List.{AllByRecursion}
 use Rattle.std.proofs.lemmas.List.{length-append, take-append-le}
 use Rattle.site_base.specs.declared.actor.Actor.{Actor}
@@ -15,7 +16,7 @@ use Rattle.written_site.specs.SiteRun.{events_of}
 use Rattle.written_site.specs.SiteState.{is_signed_on}
 use Rattle.site_book.specs.Book.{Book, is_full, next_row, site_of_book, with_row_of}
 use Rattle.station.specs.Moves.{StationState}
-use Rattle.journal.specs.Disks.{DiskFile, OfFile}
+use Rattle.journal.specs.Disks.{OfFile}
 use Rattle.journal.specs.History.{IsMadeAgain, all_made_again, and_then, beyond, empty_book}
 use Rattle.journal.specs.History.{made_again, sign_off_if}
 use Rattle.journal.specs.JournalText.{IsSent}

@@ -1,6 +1,6 @@
 -- What a station's moves add to its book can be made again.
 use Rattle.std.proofs.Common.{◌≡◌, ℕ, Bool, true, false, List, [], ◌∷◌, Option, Some, None, Result}
-use Rattle.std.proofs.Common.{Ok, Err, refl, sym, ap, ◌∙◌, ◌++◌, append-nil}
+use Rattle.std.proofs.Common.{Ok, Err, refl, ap, ◌++◌, append-nil}
 use Rattle.std.specs.Prelude.{is_none, if◌then◌else◌}
 use Rattle.site_base.specs.declared.actor.Actor.{Actor}
 use Rattle.site_base.specs.declared.actor.Actor.TheVariants.{Till}
@@ -20,7 +20,6 @@ use Rattle.written_site.specs.SiteState.{is_signed_on}
 use Rattle.site_book.specs.Book.{Book, book_reply, is_full, site_of_book, with_row_of}
 use Rattle.till_session.specs.declared.fault.SessionFault.TheVariants as faults
 use Rattle.till_session.specs.declared.fault.TalkFault.TheVariants as talk
-use Rattle.till_session.specs.declared.talk.Meaning.{Meaning}
 use Rattle.till_session.specs.declared.talk.Meaning.TheVariants as meanings
 use Rattle.till_session.specs.Text.{as_meaning, is_another, meaning_at}
 use Rattle.station.specs.declared.peer_end.PeerEnd.{PeerEnd}
@@ -28,7 +27,8 @@ use Rattle.station.specs.declared.peer_end.PeerEnd.TheVariants as ends
 use Rattle.station.specs.Moves.{StationState, finish_at, free, hear_from, with_end, with_octets}
 use Rattle.station.specs.Moves.{take_by, with_taken, with_turn, without_peer}
 use Rattle.station.specs.Peers.{peer_at}
-use Rattle.station.specs.Sessions.{Granted, Grants, Session, Turn, answer, answer_all, answer_meaning}
+use Rattle.station.specs.Sessions.{Granted, Grants, Session, Turn, answer, answer_all}
+use Rattle.station.specs.Sessions.{answer_meaning}
 use Rattle.station.specs.Sessions.{answer_so, finish, full_grant, hear, is_read, outcome_at}
 use Rattle.station.specs.Sessions.{refuse_by, serve, take_messages, tell, tell_last, with_outcome}
 use Rattle.station.specs.Sessions.{end_session, no_memory, without_till}
@@ -74,7 +74,8 @@ adds_outcome true b actor event sent = by_room (is_full b) refl
 
 adds_answered : (g : Granted) (m : Telegram) (actor : Actor) (event : Event)
     (before : Option (List ℕ)) (t : Turn) → sends actor (way_to event).kind ≡ true
-    → Adds t.book (answer_so g.text m actor event (outcome_at g.row t.book actor event) before t).book
+    → Adds t.book
+    (answer_so g.text m actor event (outcome_at g.row t.book actor event) before t).book
 adds_answered g m actor event before t sent =
     adds_then t.book _ _ (adds_outcome g.row t.book actor event sent)
     (adds_told g.text _ _)

@@ -25,7 +25,8 @@ both_octets [] b first second = second
 both_octets (x ∷ a) b first second =
     one_more_octet x (a ++ b) (first zero) (both_octets a b (λ i. first (suc i)) second)
 
-items_octets : (low : ℕ) (items : List Entry) → Rises low items → AreOctets (flat_map item_text items)
+items_octets : (low : ℕ) (items : List Entry) → Rises low items
+    → AreOctets (flat_map item_text items)
 items_octets low [] rise = no_octets
 items_octets low (e ∷ es) rise =
     let entry = rise.1 in

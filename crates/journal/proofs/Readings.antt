@@ -1,10 +1,11 @@
 -- A journal's octets, read line after line.
-use Rattle.std.proofs.Common.{◌≡◌, ℕ, zero, suc, ◌+◌, ◌-◌, ◌<◌, Bool, true, false, List, [], ◌∷◌, ◌++◌}
-use Rattle.std.proofs.Common.{length, take, drop, Option, Some, None, Result, Ok, Err, refl, sym, ap}
+use Rattle.std.proofs.Common.{◌≡◌, ℕ, ◌+◌, Bool, true, false, List, [], ◌∷◌, ◌++◌}
+use Rattle.std.proofs.Common.{length, take, drop, Option, Some, None, Result, Ok, Err, refl, sym}
+use Rattle.std.proofs.Common.{ap}
 use Rattle.std.proofs.Common.{◌∙◌, subst, append_assoc, append-nil, arith, eqb, not}
-use Rattle.std.specs.Prelude.{◌≤◌, ◌&&◌, if◌then◌else◌}
+use Rattle.std.specs.Prelude.{◌&&◌, if◌then◌else◌}
 use Rattle.std.specs.List.{AllByRecursion, list_all}
-use Rattle.std.proofs.lemmas.List.{length-append, take-append-drop}
+use Rattle.std.proofs.lemmas.List.{length-append}
 use Rattle.std.proofs.lemmas.Option.{none-some, same_Some}
 use Rattle.std.proofs.Math.Seq.{drop-append_seam, take-append_seam}
 use Rattle.hex.specs.Hex.{decode_of}
@@ -28,15 +29,15 @@ use Rattle.site_book.specs.Book.{Book, is_full, next_row, site_of_book, with_row
 use Rattle.journal.specs.Disks.{BeginsWith}
 use Rattle.journal.specs.History.{IsMadeAgain, all_made_again, and_then, beyond, empty_book}
 use Rattle.journal.specs.History.{made_again, sign_off_if}
-use Rattle.journal.specs.JournalLines.{Tells, TellsWhole, lines_from, request_alone, request_decoded}
+use Rattle.journal.specs.JournalLines.{Tells, TellsWhole, lines_from, request_alone}
+use Rattle.journal.specs.JournalLines.{request_decoded}
 use Rattle.journal.specs.JournalLines.{request_in, request_meant, requests_in, unfinished_from}
 use Rattle.journal.specs.JournalLines.{whole_lines, with_request}
 use Rattle.journal.specs.JournalText.{IsSent}
 use Rattle.journal.specs.Readings.{IsLineEnd, IsReadBack, TellsBook, TellsNothing}
-use Rattle.journal.proofs.Lines.{IsLed, led, line_ends, lines_both, none_ends, one_line}
+use Rattle.journal.proofs.Lines.{led, line_ends, lines_both, none_ends, one_line}
 use Rattle.journal.proofs.Lines.{requests_apart, requests_both, unfinished_both}
 use Rattle.journal.proofs.Made.{made_both}
-use Rattle.journal.proofs.Requests.{events_both}
 use Rattle.journal.proofs.Sent.{request_sends}
 
 -- ---- rows that are made again
@@ -130,7 +131,8 @@ lines_send (line ∷ lines) events is =
       lines_send lines l.others l.are_others,
     )
 
-rows_sent : (rows : List Row) → AllByRecursion SendsOne (events_of rows) → AllByRecursion IsSent rows
+rows_sent : (rows : List Row) → AllByRecursion SendsOne (events_of rows)
+    → AllByRecursion IsSent rows
 rows_sent [] all = tt
 rows_sent (r ∷ rows) all = (all.0, rows_sent rows all.1)
 
@@ -222,7 +224,9 @@ reads_line header octets rest line others b after actor event r parts plain is m
               r.tells.tells.requests
               (ap (λ (o : Option (Actor × Event)). with_request o (Some [])) is);
         };
-        whole = unfinished_both [] r.done (line ++ 10 ∷ []) ∙ line_ends (unfinished_from [] r.done) line;
+        whole =
+            unfinished_both [] r.done (line ++ 10 ∷ [])
+            ∙ line_ends (unfinished_from [] r.done) line;
       };
       made =
           made_both (empty_book after.config) r.events ((actor, event) ∷ [])

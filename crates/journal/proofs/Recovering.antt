@@ -1,11 +1,11 @@
 -- What recovery makes of a file.
-use Rattle.std.proofs.Common.{◌≡◌, ℕ, ◌<◌, Bool, true, false, List, [], ◌∷◌, ◌++◌, length, take, drop}
+use Rattle.std.proofs.Common.{◌≡◌, ℕ, Bool, true, false, List, [], ◌∷◌, ◌++◌, length, take, drop}
 use Rattle.std.proofs.Common.{Option, Some, None, refl, sym, ap, ◌∙◌, append-nil, arith, subst, eqb}
 use Rattle.std.proofs.Common.{inl, inr, append_assoc}
 use Rattle.std.specs.List.{AllByRecursion}
 use Rattle.std.specs.Prelude.{◌≤◌, if◌then◌else◌}
 use Rattle.std.proofs.lemmas.Bool.{cases_lt, eqb-true}
-use Rattle.std.proofs.lemmas.List.{length-append, length-drop, take-append-drop, take-append-le, take_all}
+use Rattle.std.proofs.lemmas.List.{length-drop, take-append-drop, take-append-le, take_all}
 use Rattle.std.proofs.lemmas.List.{drop-append-le}
 use Rattle.site_base.specs.declared.actor.Actor.{Actor}
 use Rattle.site_base.specs.declared.event.Event.{Event}
@@ -20,7 +20,7 @@ use Rattle.journal.specs.History.{IsMadeAgain, all_made_again, empty_book}
 use Rattle.journal.specs.JournalLines.{TellsWhole, lines_from, unfinished, unfinished_from}
 use Rattle.journal.specs.JournalLines.{whole_lines}
 use Rattle.journal.specs.JournalText.{IsSent}
-use Rattle.journal.specs.Readings.{IsBegun, IsRead, IsReadBack, TellsNothing}
+use Rattle.journal.specs.Readings.{IsRead, TellsNothing}
 use Rattle.journal.specs.Recovering.{Begins, IsReadIn, KeepsWholeLines, Settles, TellsNothingIn}
 use Rattle.journal.specs.Recovering.{settled_octets}
 use Rattle.journal.specs.Stored.{HoldsRows}
@@ -200,7 +200,8 @@ short_front front octets whole few ended none begins closed =
           ∙ drop-append-le whole front begins.rest (omega (arith, longer)) in
           let quiet : whole_lines (drop whole front) ≡ [] =
           no_lines_left (whole_lines (drop whole front)) _
-          (sym (lines_both [] (drop whole front) begins.rest) ∙ ap whole_lines (sym rest_is) ∙ none) in
+          (sym (lines_both [] (drop whole front) begins.rest) ∙ ap whole_lines (sym rest_is)
+          ∙ none) in
           let left : drop whole front ≡ [] =
           sym (unended [] (drop whole front) quiet)
           ∙ ap (λ (line : List ℕ). unfinished_from line (drop whole front))

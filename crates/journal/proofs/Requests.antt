@@ -1,13 +1,13 @@
 -- The line of a row is read again as its request.
-use Rattle.std.proofs.Common.{◌≡◌, ℕ, zero, suc, ◌<◌, Bool, true, false, not, List, [], ◌∷◌, ◌++◌}
-use Rattle.std.proofs.Common.{length, Option, Some, None, Ok, refl, sym, ap, ◌∙◌, arith, append-nil, eqb}
+use Rattle.std.proofs.Common.{◌≡◌, ℕ, true, not, List, [], ◌∷◌, ◌++◌}
+use Rattle.std.proofs.Common.{Some, None, Ok, refl, sym, ap, ◌∙◌, append-nil, eqb}
 use Rattle.std.proofs.Common.{inl, inr, subst}
 use Rattle.std.proofs.lemmas.Bool.{cases_eq, ne_eqb}
 use Rattle.std.proofs.lemmas.Grind.{flat_map-append}
 use Rattle.std.proofs.lemmas.List.{map-append}
 use Rattle.std.proofs.lemmas.List.Elements.{recursion_from_All}
 use Rattle.std.specs.List.{AllByRecursion}
-use Rattle.hex.specs.Hex.{decode_of, encode_lower, is_hex_digit}
+use Rattle.hex.specs.Hex.{encode_lower, is_hex_digit}
 use Rattle.hex.proofs.HexLemmas.{decode_of-encode_lower, decode_of-ok}
 use Rattle.site_base.specs.declared.actor.Actor.{Actor}
 use Rattle.site_base.specs.declared.event.Event.{Event}
@@ -20,8 +20,8 @@ use Rattle.device_map.specs.Laws.{Asks}
 use Rattle.device_map.specs.Requests.{request_at}
 use Rattle.forecourt_engines.specs.Laws.{IsLine}
 use Rattle.written_site.specs.SiteRun.{events_of}
-use Rattle.journal.specs.JournalLines.{lines_from, request_alone, request_decoded, request_in}
-use Rattle.journal.specs.JournalLines.{request_in_octets, requests_in, unfinished_from}
+use Rattle.journal.specs.JournalLines.{lines_from, request_decoded, request_in}
+use Rattle.journal.specs.JournalLines.{requests_in, unfinished_from}
 use Rattle.journal.specs.JournalText.{row_line, row_request, rows_text}
 use Rattle.journal.specs.RowLines.{AreLines}
 use Rattle.journal.proofs.Lines.{line_ends, lines_both, one_line, requests_both, unfinished_both}
@@ -54,7 +54,8 @@ alone_read m valid =
 
 -- .. is read as its request
 pub request_read : (m : Telegram) (actor : Actor) (event : Event) → IsMessage m
-    → request_at m ≡ Ok (actor, event) → request_in (encode_lower (spelling m)) ≡ Some (actor, event)
+    → request_at m ≡ Ok (actor, event)
+    → request_in (encode_lower (spelling m)) ≡ Some (actor, event)
 request_read m actor event valid asks =
     ap request_decoded (decode_of-encode_lower (spelling m) (spelled_octets m valid))
     ∙ rw (alone_read m valid, asks) refl

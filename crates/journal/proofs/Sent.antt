@@ -18,9 +18,10 @@ use Rattle.device_map.specs.declared.fault.MapFault.TheVariants.{BadNumber, BadO
 use Rattle.device_map.specs.Addresses.{database_at}
 use Rattle.device_map.specs.Commands.{Command, Shape, bare, commands, limited, metered, of_sale}
 use Rattle.device_map.specs.Commands.{prepaid, priced, reading_of}
-use Rattle.device_map.specs.Further.{four_octets_in, items_end, meter_in, money_in, preset_in, sale_in}
+use Rattle.device_map.specs.Further.{four_octets_in, items_end, meter_in, money_in, preset_in}
+use Rattle.device_map.specs.Further.{sale_in}
 use Rattle.device_map.specs.Nodes.{actor_at, dispenser_at, for_us, is_request, till_at}
-use Rattle.device_map.specs.Requests.{command_in, event_at, event_by, plain_event, read_by}
+use Rattle.device_map.specs.Requests.{command_in, event_at, event_by, plain_event}
 use Rattle.device_map.specs.Requests.{request_at, shape_of, some_known}
 use Rattle.device_map.specs.Ways.{sends, way_to}
 use Rattle.device_map.proofs.Results.{bind_ok, first_that, ok_is, passed, went}

@@ -1,11 +1,11 @@
 -- Tills that are signed off, one after another.
-use Rattle.std.proofs.Common.{◌≡◌, ℕ, ◌+◌, ◌<◌, ◌==◌, Bool, true, false, List, [], ◌∷◌, ◌++◌, length, take}
-use Rattle.std.proofs.Common.{Option, Some, None, refl, sym, ap, ◌∙◌, append_assoc, append-nil, arith, subst}
+use Rattle.std.proofs.Common.{◌≡◌, ℕ, ◌+◌, ◌<◌, ◌==◌, Bool, true, false, List, [], ◌∷◌, ◌++◌}
+use Rattle.std.proofs.Common.{length, take}
+use Rattle.std.proofs.Common.{Option, Some, None, refl, sym, ap, ◌∙◌, append_assoc, append-nil}
+use Rattle.std.proofs.Common.{arith, subst}
 use Rattle.std.specs.Prelude.{◌≤◌, OnSome, if◌then◌else◌, is_ok, is_some, unwrap_or}
 use Rattle.std.specs.Ordering.{nat_cmp}
 use Rattle.std.specs.FinSet as set
-use Rattle.std.specs.List.{AllByRecursion}
-use Rattle.std.proofs.lemmas.Bool.{cases_lt}
 use Rattle.std.proofs.lemmas.Bool.Decides.{nat_tests}
 use Rattle.std.proofs.lemmas.List.{length-append}
 use Rattle.std.proofs.Math.Seq.{take-append_seam}
@@ -15,13 +15,14 @@ use Rattle.site_base.specs.declared.limits.TheConstants.{TILLS}
 use Rattle.site_base.specs.declared.row.Row.{Row}
 use Rattle.site_base.specs.Configured.{Configured}
 use Rattle.device_map.proofs.Results.{equal}
-use Rattle.written_site.specs.RowWords.{signing_of, signing_said}
+use Rattle.written_site.specs.RowWords.{signing_said}
 use Rattle.written_site.specs.SiteRun.{IsLegal, site_of_rows}
 use Rattle.written_site.specs.SiteState.{SiteState, is_signed_on, opening}
 use Rattle.written_site.specs.SiteStep.{site_after}
 use Rattle.written_site.proofs.Histories.{site_of_rows-push}
 use Rattle.written_site.proofs.SigningLaws.{signed_row}
-use Rattle.site_book.specs.Book.{AreActors, AreRowsInRange, Book, next_row, site_of_book, with_row_of}
+use Rattle.site_book.specs.Book.{AreActors, AreRowsInRange, Book, next_row, site_of_book}
+use Rattle.site_book.specs.Book.{with_row_of}
 use Rattle.site_book.specs.SignedOn.{AreTills}
 use Rattle.site_book.proofs.SignedTills.{tills_row}
 use Rattle.station.specs.Moves.{StationState}
@@ -136,7 +137,8 @@ journal_begun header recovered b file stored holds size adds =
 
 -- what goes on from a journal is one
 goes_on : (header : List ℕ) (file : Option DiskFile) (stored : ℕ) (j : Option JournalState)
-    → JournalGoesOn (Some (record { header = header; stored = stored; failed = false; file = file }))
+    → JournalGoesOn
+    (Some (record { header = header; stored = stored; failed = false; file = file }))
     j → (k : JournalState) × (j ≡ Some k) × (k.header ≡ header) × OfFiles Keeps file k.file
 goes_on header file stored (Some k) on = (k, refl, on.0, on.1)
 goes_on header file stored None on = absurd on
@@ -144,7 +146,8 @@ goes_on header file stored None on = absurd on
 pub resumes : (header : List ℕ) (recovered b : Book) (file : Option DiskFile) (stored : ℕ)
     (s : StoredState) → AddsSignOffs recovered b → HasNobodyOn b → s.station ≡ opening_station b
     → is_all_stored s ≡ true
-    → JournalGoesOn (Some (record { header = header; stored = stored; failed = false; file = file }))
+    → JournalGoesOn
+    (Some (record { header = header; stored = stored; failed = false; file = file }))
     s.journal → Resumes header recovered file s
 resumes header recovered b file stored s adds off station all on =
     let book : s.station.book ≡ b = ap (λ (x : StationState). x.book) station in

@@ -1,17 +1,17 @@
 -- What storing rows makes of a journal's file.
-use Rattle.std.proofs.Common.{◌≡◌, ℕ, ◌<◌, true, false, List, [], ◌∷◌, ◌++◌, length, take, drop, Option}
-use Rattle.std.proofs.Common.{Some, None, refl, sym, ap, ◌∙◌, append_assoc, append-nil, arith, subst}
-use Rattle.std.specs.Prelude.{◌≤◌, Bool}
+use Rattle.std.proofs.Common.{◌≡◌, ℕ, true, false, List, [], ◌++◌, length, take, drop, Option}
+use Rattle.std.proofs.Common.{Some, None, refl, sym, ap, ◌∙◌, append-nil, arith, subst}
+use Rattle.std.specs.Prelude.{Bool}
 use Rattle.std.proofs.lemmas.List.{take-append-drop, take_all}
 use Rattle.site_base.specs.declared.actor.Actor.{Actor}
 use Rattle.site_base.specs.declared.event.Event.{Event}
 use Rattle.site_base.specs.declared.row.Row.{Row}
 use Rattle.written_site.specs.SiteRun.{events_of}
 use Rattle.journal.specs.Disks.{Appends, DiskFile, Keeps, OfFile, OfFiles, Syncs}
-use Rattle.journal.specs.JournalLines.{TellsWhole, requests_in, unfinished_from, whole_lines}
+use Rattle.journal.specs.JournalLines.{TellsWhole, unfinished_from, whole_lines}
 use Rattle.journal.specs.RowLines.{AreLines}
 use Rattle.journal.specs.Stored.{HoldsRows, IsJournalOf, JournalState}
-use Rattle.journal.proofs.Fronts.{begins_all, begins_then}
+use Rattle.journal.proofs.Fronts.{begins_then}
 use Rattle.journal.proofs.Lines.{requests_both, unfinished_both}
 use Rattle.journal.proofs.Readings.{lines_behind}
 use Rattle.journal.proofs.Requests.{events_both}
@@ -73,7 +73,10 @@ stored_holds header text rows more a b c holds lines wrote synced =
     record {
       front = holds.front ++ text;
       tells = tells_more header holds.front text rows more holds.tells lines;
-      there = record { rest = []; parts = synced.1 ∙ octets ∙ sym (append-nil (holds.front ++ text)) };
+      there = record {
+        rest = [];
+        parts = synced.1 ∙ octets ∙ sym (append-nil (holds.front ++ text));
+      };
       settled = λ never. (synced.0 ∙ octets, synced.1 ∙ octets);
     }
 
@@ -94,7 +97,8 @@ pub journal_stored : (rows : List Row) (j : JournalState) (text : List ℕ) (b c
     → OfFiles (Appends text) j.file b → OfFiles Syncs b c → count ≡ length rows
     → IsJournalOf rows (record { header = j.header; stored = count; failed = false; file = c })
 journal_stored rows j text b c count is whole lines wrote synced all =
-    let holds = subst (λ (failed : Bool). OfFile (HoldsRows j.header (take j.stored rows) failed) j.file)
+    let holds =
+    subst (λ (failed : Bool). OfFile (HoldsRows j.header (take j.stored rows) failed) j.file)
     whole is.holds in
     let file = stored_file j.header text (take j.stored rows) (drop j.stored rows) j.file b c holds
     lines wrote synced in

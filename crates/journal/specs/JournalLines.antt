@@ -6,7 +6,7 @@ use Rattle.hex.specs.declared.error.FromHexError.{FromHexError}
 use Rattle.site_base.specs.declared.actor.Actor.{Actor}
 use Rattle.site_base.specs.declared.event.Event.{Event}
 use Rattle.app_message.specs.declared.fault.StreamFault.{StreamFault}
-use Rattle.app_message.specs.Stream.{Stream, fed_by, held_after}
+use Rattle.app_message.specs.Stream.{fed_by, held_after}
 use Rattle.app_message.specs.Telegram.{Telegram}
 use Rattle.device_map.specs.declared.fault.MapFault.{MapFault}
 use Rattle.device_map.specs.Requests.{request_at}

@@ -1,17 +1,16 @@
 -- What holds of every journal: what is found again after a crash, and what its text tells.
-use Rattle.std.specs.Prelude.{◌≡◌, ℕ, ◌≤◌, List, [], ◌∷◌, ◌++◌, length, take}
+use Rattle.std.specs.Prelude.{◌≡◌, ℕ, List, [], ◌∷◌, ◌++◌, take}
 use Rattle.std.specs.List.{AllByRecursion}
 use Rattle.site_base.specs.declared.row.Row.{Row}
 use Rattle.device_map.specs.Laws.{Asks}
 use Rattle.forecourt_engines.specs.Laws.{IsLine}
-use Rattle.forecourt_engines.specs.Text.{book_of, start}
 use Rattle.written_site.specs.SiteRun.{events_of}
 use Rattle.site_book.specs.Book.{Book}
 use Rattle.station.specs.Runs.{Move, after, opening_station}
 use Rattle.journal.specs.Disks.{BeginsWith}
-use Rattle.journal.specs.History.{IsMadeAgain, empty_book}
+use Rattle.journal.specs.History.{IsMadeAgain}
 use Rattle.journal.specs.JournalLines.{TellsWhole}
-use Rattle.journal.specs.JournalText.{header_of, journal_text, row_request}
+use Rattle.journal.specs.JournalText.{journal_text, row_request}
 use Rattle.journal.specs.Readings.{IsRead, TellsBook, TellsNothing}
 use Rattle.journal.specs.RowLines.{AreLines}
 
@@ -20,8 +19,9 @@ pub record HasRowsOf (told b : Book) : Type 0 where
   pub more : List Row
   pub rows : b.rows ≡ told.rows ++ more
 
--- Each row that is on the disk is found again: of any file that begins with a front that tells these
--- rows, whatever stands behind it, only a book is read that begins with them, replies included.
+-- Each row that is on the disk is found again: of any file that begins with a front that tells
+-- these rows, whatever stands behind it, only a book is read that begins with them, replies
+-- included.
 abbrev pub StoredRowsAreFoundAgain : Type 0
 StoredRowsAreFoundAgain = (header front file : List ℕ) (told b : Book) (whole : ℕ)
     → IsMadeAgain told → b.config ≡ told.config

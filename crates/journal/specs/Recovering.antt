@@ -1,5 +1,5 @@
 -- What recovery makes of a disk's file.
-use Rattle.std.specs.Prelude.{◌≡◌, ℕ, ◌==◌, List, [], ◌++◌, length, take, if◌then◌else◌}
+use Rattle.std.specs.Prelude.{◌≡◌, ℕ, ◌==◌, List, [], ◌++◌, take, if◌then◌else◌}
 use Rattle.site_base.specs.Configured.{Configured}
 use Rattle.site_book.specs.Book.{Book}
 use Rattle.journal.specs.Disks.{BeginsWith, DiskFile, KeepsFront}

@@ -3,7 +3,6 @@ use Rattle.std.specs.Prelude.{◌≡◌, ℕ, ◌≤◌, ◌==◌, Bool, true, f
 use Rattle.std.specs.Prelude.{Option, Some, None, IfSome, if◌then◌else◌, ⊤}
 use Rattle.site_base.specs.declared.row.Row.{Row}
 use Rattle.written_site.specs.SiteRun.{events_of}
-use Rattle.site_book.specs.Book.{Book}
 use Rattle.station.specs.Moves.{StationState}
 use Rattle.station.specs.Reads.{owed_at}
 use Rattle.journal.specs.Disks.{BeginsWith, DiskFile, Keeps, OfFile, OfFiles}

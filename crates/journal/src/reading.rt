@@ -5,7 +5,8 @@ ghost use Rattle.site_base.specs.Configured.{Configured};
 ghost use Rattle.journal.specs.Disks.{BeginsWith};
 ghost use Rattle.site_book.specs.Book.{Book};
 ghost use Rattle.journal.specs.History.{beyond, made_again};
-ghost use Rattle.journal.specs.Readings.{IsLineEnd, IsMade, IsOfText, IsRead, IsReadBack, IsUnended};
+ghost use Rattle.journal.specs.Readings.{IsLineEnd, IsMade, IsOfText, IsRead, IsReadBack};
+ghost use Rattle.journal.specs.Readings.{IsUnended};
 ghost use Rattle.journal.specs.Readings.{TellsBook, TellsNothing};
 
 use crate::disk::DiskFault;

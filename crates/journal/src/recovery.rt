@@ -5,7 +5,8 @@ ghost use Rattle.journal.specs.Disks.{Cuts, Keeps, KeepsOf, OfFile, OfFiles};
 ghost use Rattle.journal.specs.History.{IsMadeAgain};
 ghost use Rattle.journal.specs.JournalText.{header_of};
 ghost use Rattle.journal.specs.Readings.{IsOfText};
-ghost use Rattle.journal.specs.Recovering.{Begins, IsReadIn, KeepsWholeLines, Settles, TellsNothingIn};
+ghost use Rattle.journal.specs.Recovering.{Begins, IsReadIn, KeepsWholeLines, Settles};
+ghost use Rattle.journal.specs.Recovering.{TellsNothingIn};
 ghost use Rattle.journal.specs.Stored.{HoldsRows};
 
 use crate::disk::{Disk, DiskFault};
@@ -24,9 +25,9 @@ pub struct Recovered {
     pub book: SiteBook,
 }
 
-/// Recovers a journal of this site from a disk's file, whatever a crash has left there. An unfinished
-/// last line, of which nobody was told, is cut off; a file that isn't begun yet gets its first line.
-/// Then all of it is synced.
+/// Recovers a journal of this site from a disk's file, whatever a crash has left there. An
+/// unfinished last line, of which nobody was told, is cut off; a file that isn't begun yet gets its
+/// first line. Then all of it is synced.
 ///
 /// `Unread` comes where the file can't be read; `Line` names the first line that is no journal's,
 /// and `AnotherSite` comes where the first line names another site file: the file stays as it is.

@@ -1,6 +1,7 @@
 //! A station with its journal.
 
-ghost use Rattle.std.specs.Prelude.{◌≡◌, ◌≢◌, ◌≤◌, ℕ, [], IfNone, IfOk, IfSome, None, OnErr, OnOk, Some};
+ghost use Rattle.std.specs.Prelude.{◌≡◌, ◌≢◌, ◌≤◌, ℕ, [], IfNone, IfOk, IfSome, None, OnErr, OnOk};
+ghost use Rattle.std.specs.Prelude.{Some};
 ghost use Rattle.std.specs.Prelude.{true};
 ghost use Rattle.station.specs.declared.sizes.TheConstants.{PEERS};
 ghost use Rattle.station.specs.Peers.{peer_at};
@@ -11,7 +12,8 @@ ghost use Rattle.station.specs.Runs.{opening_station};
 ghost use Rattle.station.specs.Sessions.{Grants};
 ghost use Rattle.journal.specs.History.{IsMadeAgain, empty_book};
 ghost use Rattle.journal.specs.Opening.{HasNobodyOn};
-ghost use Rattle.journal.specs.Stored.{IsJournalOf, JournalGoesOn, is_all_stored, told_at, with_station};
+ghost use Rattle.journal.specs.Stored.{IsJournalOf, JournalGoesOn, is_all_stored, told_at};
+ghost use Rattle.journal.specs.Stored.{with_station};
 
 use crate::disk::{Disk, DiskFault};
 use crate::journal::Journal;
@@ -21,8 +23,8 @@ use station::{PeerEnd, Station};
 use std::alloc::Global;
 use std::marker::Model;
 
-/// A station, and its journal if it has one. Its moves are the station's own; what a peer is owed is
-/// handed out only while each row is stored.
+/// A station, and its journal if it has one. Its moves are the station's own; what a peer is owed
+/// is handed out only while each row is stored.
 #[derive(Drop)]
 pub struct StoredStation<D: Disk> {
     station: Station,

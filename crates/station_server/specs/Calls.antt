@@ -26,8 +26,8 @@ HearsCall Ended key left left' s s' = IsAtEnd left' × (s' ≡ with_end key s)
 HearsCall Failed key left left' s s' = Keeps left left' × (s' ≡ with_end key s)
 HearsCall call key left left' s s' = Keeps left left' × (s' ≡ s)
 
--- a write: the peer got the front of what it may be told, and is owed the rest; else it got nothing,
--- and nothing is changed
+-- a write: the peer got the front of what it may be told, and is owed the rest; else it got
+-- nothing, and nothing is changed
 abbrev pub SendsCall : Call → ℕ → Option (List ℕ) → Option (List ℕ) → StoredState → StoredState
     → Type 0
 SendsCall (Passed n) key got got' s s' =

@@ -1,4 +1,5 @@
-//! One call of a connection: octets that a peer sent are heard, octets that it may be told are sent.
+//! One call of a connection: octets that a peer sent are heard, octets that it may be told are
+//! sent.
 
 ghost use Rattle.std.specs.Prelude.{◌≡◌, ◌<◌, length, true};
 ghost use Rattle.station.specs.Reads.{is_read_at};

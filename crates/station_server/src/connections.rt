@@ -199,8 +199,8 @@ impl<D: Disk> Connections<D> {
         }
     }
 
-    /// Each row is stored; then whoever is due is sent what it is owed, and a session that has ended
-    /// is closed. Where the rows can't be stored nothing is sent.
+    /// Each row is stored; then whoever is due is sent what it is owed, and a session that has
+    /// ended is closed. Where the rows can't be stored nothing is sent.
     #[tactic(auto, using(crate::proofs::Reaching::moved))]
     pub(crate) fn send_due<E: Eprint>(
         &mut self,

@@ -1,4 +1,5 @@
-use Rattle.std.proofs.Common.{◌∷◌, [], ◌++◌, ◌+◌, ◌∙◌, ◌≡◌, ℕ, ap, append_assoc, arith, drop, suc, sym, take}
+use Rattle.std.proofs.Common.{◌∷◌, [], ◌++◌, ◌+◌, ◌∙◌, ◌≡◌, ℕ, ap, append_assoc, arith, drop, suc}
+use Rattle.std.proofs.Common.{take}
 use Rattle.forecourt_engines.proofs.Bytes.{absent, found}
 use Rattle.journal.proofs.Lines.{none_ends}
 use Rattle.journal.proofs.Readings.{another_line, longer_too, nothing_begun}

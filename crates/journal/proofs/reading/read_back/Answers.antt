@@ -5,7 +5,8 @@ use Rattle.journal.proofs.Readings.{rows_refused}
 use Rattle.journal.proofs.Results.{if_err_then}
 use Rattle.journal.proofs.reading.read_back.Goals as goal
 
-pub returns-in_ok-try_open-in-Some-clause-refused : goal.returns-in_ok-try_open-in-Some-clause-refused
+pub returns-in_ok-try_open-in-Some-clause-refused :
+    goal.returns-in_ok-try_open-in-Some-clause-refused
 returns-in_ok-try_open-in-Some-clause-refused c =
     let header = c.args.header.now in
     let octets = c.args.octets.now in

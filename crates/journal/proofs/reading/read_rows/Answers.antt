@@ -1,4 +1,5 @@
-use Rattle.std.proofs.Common.{◌≡◌, ◌∙◌, ◌-◌, Bool, ℕ, List, Some, None, ap, arith, drop, length, subst}
+use Rattle.std.proofs.Common.{◌≡◌, ◌∙◌, ◌-◌, Bool, ℕ, List, Some, None, ap, arith, drop, length}
+use Rattle.std.proofs.Common.{subst}
 use Rattle.std.proofs.Common.{◌+◌, refl, suc, sym, take}
 use Rattle.std.proofs.lemmas.List.{length-drop, take_all}
 use Rattle.forecourt_engines.proofs.Bytes.{absent, behind_byte, found}
@@ -6,7 +7,8 @@ use Rattle.site_book.specs.Book.{Book}
 use Rattle.journal.specs.History.{made_again}
 use Rattle.journal.specs.JournalLines.{request_in}
 use Rattle.journal.specs.Readings.{IsMade}
-use Rattle.journal.proofs.Readings.{begins_reading, no_request, no_row, reads_all, reads_line, row_again}
+use Rattle.journal.proofs.Readings.{begins_reading, no_request, no_row, reads_all, reads_line}
+use Rattle.journal.proofs.Readings.{row_again}
 use Rattle.journal.proofs.reading.read_rows.Goals as goal
 
 -- what stands from a place on

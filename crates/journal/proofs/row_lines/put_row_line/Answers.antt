@@ -1,4 +1,4 @@
-use Rattle.std.proofs.Common.{◌≡◌, ◌++◌, ◌∙◌, ap, rules, subst}
+use Rattle.std.proofs.Common.{◌++◌, ◌∙◌, ap, rules, subst}
 use Rattle.device_map.specs.Laws.{Asks}
 use Rattle.device_map.proofs.OneRequest.{alone}
 use Rattle.forecourt_engines.specs.Answers.{line_of}
@@ -9,7 +9,8 @@ returns-clause-line c =
     let row = c.args.row.now in
     let asks : Asks 0 row.actor row.event c.in-Some.request = search rules in
     c.in_ok-put_line.ensures
-    ∙ ap (λ m. c.args.text.now.items ++ line_of m) (alone 0 row.actor row.event c.in-Some.request asks)
+    ∙ ap (λ m. c.args.text.now.items ++ line_of m)
+    (alone 0 row.actor row.event c.in-Some.request asks)
 
 pub returns-clause-asks : goal.returns-clause-asks
 returns-clause-asks c =

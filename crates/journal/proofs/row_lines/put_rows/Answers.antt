@@ -7,12 +7,14 @@ use Rattle.journal.proofs.row_lines.put_rows.Goals as goal
 
 pub put_row_line-requires : goal.put_row_line-requires
 put_row_line-requires c =
-    let there : slice_get c.args.book.now.rows c.loop-place.place ≡ Some c.in-Some.row = search rules in
+    let there : slice_get c.args.book.now.rows c.loop-place.place ≡ Some c.in-Some.row =
+    search rules in
     each_at IsSent c.args.book.now.rows c.loop-place.place c.in-Some.row c.requires.made.sent there
 
 pub loop-place-preserved : goal.loop-place-preserved
 loop-place-preserved c =
-    let there : slice_get c.args.book.now.rows c.loop-place.place ≡ Some c.in-Some.row = search rules in
+    let there : slice_get c.args.book.now.rows c.loop-place.place ≡ Some c.in-Some.row =
+    search rules in
     record {
       high = omega (arith, c.loop-place.invariant.high);
       lines =

@@ -1,4 +1,4 @@
-use Rattle.std.proofs.Common.{◌≡◌, subst, sym, false}
+use Rattle.std.proofs.Common.{subst, sym}
 use Rattle.journal.specs.Disks.{Keeps, OfFiles}
 use Rattle.journal.specs.Stored.{IsJournalOf, JournalState}
 use Rattle.journal.proofs.Fronts.{files_then}

@@ -1,5 +1,4 @@
 use Rattle.std.proofs.Common.{subst, sym}
-use Rattle.site_book.specs.Book.{Book}
 use Rattle.station.specs.Moves.{StationState}
 use Rattle.journal.specs.Opening.{HasNobodyOn}
 use Rattle.journal.proofs.SigningOff.{nobody_yet}
