@@ -37,6 +37,7 @@ test:
 	scripts/test-program $(PROGRAM)
 	scripts/test-server $(PROGRAM)
 	scripts/test-station $(PROGRAM)
+	scripts/test-journal $(PROGRAM)
 	scripts/test-demos $(PROGRAM)
 	scripts/test-tables $(TABLES)
 	scripts/test-faults
