@@ -6,6 +6,7 @@ import hashlib
 import typing
 
 from running import run
+from serving import Failed
 from station import (
     ACKNOWLEDGE, DISPENSER, NOTICE, OPEN, PREPAY, RELEASE, RESULT, SIGN_OFF, SUSPEND, TERMINATE,
     TEST_RELEASE, TILL, WRITE, decode,
@@ -83,7 +84,7 @@ def read_journal(program, site, text):
     requests = [bytes.fromhex(line.decode()) for line in text.splitlines()[1:]]
     end = run(program, "replay", site, "--changes", given=text)
     if (end.status, end.err) != (0, ""):
-        raise ValueError(f"the journal isn't replayed: status {end.status}, {end.err}")
+        raise Failed(f"the journal isn't replayed: status {end.status}, {end.err}")
     rows = []
     for line in end.out.splitlines():
         told = bytes.fromhex(line.decode())
@@ -92,7 +93,7 @@ def read_journal(program, site, text):
         else:
             rows.append(Row(requests[len(rows)], told, None))
     if len(rows) != len(requests):
-        raise ValueError(f"{len(requests)} rows have {len(rows)} replies")
+        raise Failed(f"{len(requests)} rows have {len(rows)} replies")
     return rows
 
 
@@ -148,7 +149,7 @@ class Told:
             return []
         items = read_items(self.rows[place].reply)
         if items[RESULT][0] != WRONG_STATE:
-            raise ValueError(f"an Online is refused otherwise: {self.rows[place].reply.hex()}")
+            raise Failed(f"an Online is refused otherwise: {self.rows[place].reply.hex()}")
         state = int.from_bytes(items[DETAIL], "big")
         wanted = [(OPEN,)] if 3 <= state <= 9 else []
         wanted += [RELEASES] if 5 <= state <= 9 else []
