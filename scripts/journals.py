@@ -218,12 +218,15 @@ class Told:
         return None
 
 
-def find_untold(rows, node, came):
-    """The first message that this node, whose one session began the day, can't have been told by
-    these rows; None where there is none. Where no memory was there for a row, none is told of."""
+def find_untold(rows, node, came, begin=0):
+    """The first message that this node, whose one session has all its rows from this place on,
+    can't have been told by these rows; None where there is none. Where no memory was there for a
+    row, none is told of: a dispenser whose first request has none may be told any change."""
     told = Told(rows)
-    own = [place for place in told.own.get(node, [])]
-    wanted = told.stream(node, own, len(rows))
+    own = told.places(node, begin, len(rows))
+    wanted = told.stream(node, own, len(rows)) or [
+        notice for _, notice in told.notices(node, begin, len(rows))
+    ]
     got = [one for one in split_messages(came) if tells_of_a_row(one)]
     for one, other in zip(got, [*wanted, *[None] * len(got)]):
         if one != other:
