@@ -18,7 +18,7 @@ help:
 	@echo 'make bench    messages a second, memory, and their growth with the input; calls a second of'
 	@echo '              tills that collide; what a message costs with 5 and 64 points and with up to'
 	@echo '              100,000 sales, a row of a book of a million, and a request of a server and of'
-	@echo '              a station beside an echo'
+	@echo '              a station beside an echo; with a journal beside Redis, and a start on one'
 
 run:
 	@cd crates/forecourt && rt try < stdin
@@ -51,4 +51,5 @@ bench: build
 	@scripts/bench-book $(PROGRAM)
 	@scripts/bench-server $(PROGRAM)
 	@scripts/bench-station $(PROGRAM)
+	@scripts/bench-station --journal $(PROGRAM)
 	@scripts/instructions $(PROGRAM)

@@ -155,7 +155,7 @@ class Told:
         wanted += [RELEASES] if 5 <= state <= 9 else []
         wanted += [(SUSPEND, TERMINATE)] if state in (7, 9) else []
         before = [notice for _, notice in reversed(self.notices(node, 0, place))]
-        return [next(one for one in before if one[10] in kinds) for kinds in wanted]
+        return [next((one for one in before if one[10] in kinds), b"") for kinds in wanted]
 
     def stream(self, node, places, end):
         """What a session is told whose rows are at these places, and which has ended before the
