@@ -54,7 +54,7 @@ static void prepare(const char *kind, int number, struct client *c)
 {
     c->stream = connect_here();
     if (strcmp(kind, "sets") == 0) {
-        size = sprintf((char *)request, "SET client:%03d 0101020100000002012\r\n", number);
+        size = sprintf((char *)request, "SET client:%03d 01010201000000020121\r\n", number);
         due = sprintf((char *)reply, "+OK\r\n");
         return;
     }
