@@ -18,7 +18,7 @@ help:
 	@echo 'make bench    messages a second, memory, and their growth with the input; calls a second of'
 	@echo '              tills that collide; what a message costs with 5 and 64 points and with up to'
 	@echo '              100,000 sales, a row of a book of a million, and a request of a server and of'
-	@echo '              a station beside an echo'
+	@echo '              a station beside an echo; with a journal beside Redis, and a start on one'
 
 run:
 	@cd crates/forecourt && rt try < stdin
@@ -37,6 +37,7 @@ test:
 	scripts/test-program $(PROGRAM)
 	scripts/test-server $(PROGRAM)
 	scripts/test-station $(PROGRAM)
+	scripts/test-journal $(PROGRAM)
 	scripts/test-demos $(PROGRAM)
 	scripts/test-tables $(TABLES)
 	scripts/test-faults
@@ -50,4 +51,5 @@ bench: build
 	@scripts/bench-book $(PROGRAM)
 	@scripts/bench-server $(PROGRAM)
 	@scripts/bench-station $(PROGRAM)
+	@scripts/bench-station --journal $(PROGRAM)
 	@scripts/instructions $(PROGRAM)

@@ -3,6 +3,7 @@
  *   bench-station reads PORT CLIENTS REQUESTS     tills that read a fuelling point
  *   bench-station echo PORT CLIENTS REQUESTS      the same octets, to a server that sends them back
  *   bench-station ping PORT CLIENTS REQUESTS      PING, to Redis
+ *   bench-station sets PORT CLIENTS REQUESTS      SET of a value as long as a request, to Redis
  *   bench-station notices PORT 64 REQUESTS        a till that releases the points of 64 dispensers
  *
  * Each client has one request outstanding; each reply is looked at. Printed are requests a second
@@ -52,6 +53,11 @@ static const char *SIGNED_ON = "02 01 01 01 00 E1 00 08 01 01 01 01 00 03 01 00"
 static void prepare(const char *kind, int number, struct client *c)
 {
     c->stream = connect_here();
+    if (strcmp(kind, "sets") == 0) {
+        size = sprintf((char *)request, "SET client:%03d 01010201000000020121\r\n", number);
+        due = sprintf((char *)reply, "+OK\r\n");
+        return;
+    }
     if (strcmp(kind, "ping") == 0) {
         size = sprintf((char *)request, "PING\r\n");
         due = sprintf((char *)reply, "+PONG\r\n");
@@ -163,7 +169,7 @@ int main(int count, char **words)
 {
     program = "bench-station";
     if (count != 5)
-        fail("reads|echo|ping|notices PORT CLIENTS REQUESTS");
+        fail("reads|echo|ping|sets|notices PORT CLIENTS REQUESTS");
     const char *kind = words[1];
     port = atoi(words[2]);
     int clients = atoi(words[3]), requests = atoi(words[4]);

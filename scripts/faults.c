@@ -6,6 +6,12 @@
  *   FAIL_WRITE=K       the Kth write to standard output fails
  *   SHORT_WRITE=M      a write to standard output takes at most M octets
  *   TAKE_ALL=M         standard output takes M octets in all, and then none
+ *   FAIL_JOURNAL_WRITE=K   the Kth write to a file other than standard output fails
+ *   SHORT_JOURNAL_WRITE=M  such a write takes at most M octets
+ *   FAIL_SYNC=K        the Kth fdatasync or fsync fails, and what came to its file behind the last
+ *                      one is lost, as where the power fails
+ *   FAIL_CUT=K         the Kth file that is to be cut isn't
+ *   FAIL_LOCK=K        the Kth file that is to be locked isn't
  *   FAIL_RECEIVE=K     the Kth read of a socket fails
  *   FAIL_SEND=K        the Kth write to a socket fails
  *   BLOCK_SEND=K       the Kth write to a socket would block
@@ -19,8 +25,8 @@
  *   FAIL_THREAD=K      the Kth thread isn't started
  *   FAIL_THREADS=K     no thread is started from the Kth on
  *   START_TOGETHER=N   the first N threads that are started, 16 at most, run once all of them are
- *   INTERRUPT=1        every second read, of any file or socket, and every second write, to
- *                      standard output or a socket, is interrupted
+ *   INTERRUPT=1        every second read, of any file or socket, every second write, to standard
+ *                      output, a file or a socket, and every second fdatasync is interrupted
  *   MET=FILE           is made when a call met its fault
  */
 #define _GNU_SOURCE
@@ -30,6 +36,7 @@
 #include <pthread.h>
 #include <stdlib.h>
 #include <sys/socket.h>
+#include <sys/stat.h>
 #include <sys/syscall.h>
 #include <unistd.h>
 
@@ -62,7 +69,9 @@ static int fails(const char *name, long *calls)
 }
 
 static long allocations, reads, file_reads, writes, taken, received, sent, blocked;
+static long file_writes, syncs, synced, cuts, locks;
 static int read_before, file_read_before, written_before, received_before, sent_before;
+static int file_written_before, synced_before;
 
 /* Is this the allocation that fails? The system says so, too. */
 static int fails_to_allocate(void)
@@ -135,8 +144,33 @@ ssize_t read(int file, void *to, size_t size)
     return syscall(SYS_read, file, to, size);
 }
 
+/* So many octets a file has; -1 of what is none on a disk. */
+static long size_of(int file)
+{
+    struct stat status;
+    return fstat(file, &status) == 0 && S_ISREG(status.st_mode) ? (long)status.st_size : -1;
+}
+
+/* Does this write to a file fail? If not, so many octets it takes at most. */
+static int fails_to_store(size_t *size)
+{
+    if (interrupts(&file_written_before))
+        return 1;
+    if (fails("FAIL_JOURNAL_WRITE", &file_writes)) {
+        errno = ENOSPC;
+        return 1;
+    }
+    if (number("SHORT_JOURNAL_WRITE") && *size > (size_t)number("SHORT_JOURNAL_WRITE")) {
+        *size = number("SHORT_JOURNAL_WRITE");
+        note_met();
+    }
+    return 0;
+}
+
 ssize_t write(int file, const void *text, size_t size)
 {
+    if (file != 1 && file != 2 && size_of(file) >= 0 && fails_to_store(&size))
+        return -1;
     if (file == 1) {
         if (interrupts(&written_before))
             return -1;
@@ -160,6 +194,60 @@ ssize_t write(int file, const void *text, size_t size)
         }
     }
     return syscall(SYS_write, file, text, size);
+}
+
+/* Does this fdatasync or fsync fail? The system may have kept nothing behind the one before it. */
+static int fails_to_sync(int file)
+{
+    if (interrupts(&synced_before))
+        return 1;
+    if (fails("FAIL_SYNC", &syncs)) {
+        if (size_of(file) > synced)
+            (void)!syscall(SYS_ftruncate, file, synced);
+        errno = EIO;
+        return 1;
+    }
+    return 0;
+}
+
+static int sync_by(long call, int file)
+{
+    if (fails_to_sync(file))
+        return -1;
+    int done = syscall(call, file);
+    if (done == 0 && size_of(file) >= 0)
+        synced = size_of(file);
+    return done;
+}
+
+int fdatasync(int file)
+{
+    return sync_by(SYS_fdatasync, file);
+}
+
+int fsync(int file)
+{
+    return sync_by(SYS_fsync, file);
+}
+
+int ftruncate(int file, off_t size)
+{
+    if (fails("FAIL_CUT", &cuts)) {
+        errno = EIO;
+        return -1;
+    }
+    if (size < synced)
+        synced = size;
+    return syscall(SYS_ftruncate, file, size);
+}
+
+int flock(int file, int how)
+{
+    if (fails("FAIL_LOCK", &locks)) {
+        errno = ENOLCK;
+        return -1;
+    }
+    return syscall(SYS_flock, file, how);
 }
 
 ssize_t recv(int socket, void *to, size_t size, int flags)

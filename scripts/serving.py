@@ -3,6 +3,7 @@
 import contextlib
 import fcntl
 import pathlib
+import re
 import select
 import socket
 import struct
@@ -48,10 +49,10 @@ def wait_until(what, is_so):
 
 
 class Day:
-    """A program that serves."""
+    """A program that serves; its journal had so many rows, if it has one."""
 
-    def __init__(self, process, port):
-        self.process, self.port = process, port
+    def __init__(self, process, port, rows=0):
+        self.process, self.port, self.rows = process, port, rows
 
     def connect(self):
         return connect(self.port)
@@ -108,16 +109,20 @@ class Day:
 
 @contextlib.contextmanager
 def start_day(command, **how):
-    """A program that says where it listens, and is gone behind the block."""
-    pipe = subprocess.PIPE
+    """A program that says where it listens, with a journal how many rows that had before, and is
+    gone behind the block."""
+    pipe, rows = subprocess.PIPE, None
     process = subprocess.Popen(command, stdout=pipe, stderr=pipe, bufsize=0, **how)
     try:
         line = process.stdout.readline().decode()
+        if "--journal" in command:
+            rows = re.fullmatch(r"journal rows ([1-9]\d*)\n", line)
+            line = process.stdout.readline().decode() if rows else line
         if not line.startswith("listening 127.0.0.1:") or not line.endswith("\n"):
             raise Failed(
                 f"the first line is '{line}', standard error '{process.stderr.read().decode()}'"
             )
-        yield Day(process, int(line.split(":")[1]))
+        yield Day(process, int(line.split(":")[1]), int(rows.group(1)) if rows else 0)
     finally:
         if process.poll() is None:
             process.kill()
