@@ -25,8 +25,11 @@ pub enum FileFault {
 }
 
 impl JournalFile {
-    /// Opens the file of this name, and locks it; where there is none it is made.
+    /// Opens the file of this name, and locks it; where there is none it is made. Its folder knows it
+    /// for good, also where an earlier start ended before it did.
     pub fn open(rt: &HostRuntime, name: &str) -> Result<JournalFile, FileFault> {
+        // First of all, since a folder that can't be opened gets no file.
+        let folder = open_folder(rt, name)?;
         let file = match fs::metadata(rt, name) {
             Ok(found) if found.is_file() => open_file(rt, name)?,
             Ok(_) => return Err(FileFault::Unread),
@@ -34,29 +37,31 @@ impl JournalFile {
             Err(error) => return Err(fault_of(&error)),
         };
         match file.try_lock() {
+            Ok(()) => {}
+            Err(TryLockError::WouldBlock) => return Err(FileFault::InUse),
+            Err(TryLockError::Error(error)) => return Err(fault_of(&error)),
+        }
+        match folder.sync_all() {
             Ok(()) => Ok(JournalFile { file }),
-            Err(TryLockError::WouldBlock) => Err(FileFault::InUse),
-            Err(TryLockError::Error(error)) => Err(fault_of(&error)),
+            Err(_) => Err(FileFault::Unwritten),
         }
     }
 }
 
-/// Makes the file of this name, and has its folder know it for good. A link to a file that isn't
-/// there is refused.
+/// The folder of the file of this name.
+fn open_folder(rt: &HostRuntime, name: &str) -> Result<File, FileFault> {
+    match OpenOptions::new().read(true).open(rt, folder_of(name)) {
+        Ok(folder) => Ok(folder),
+        Err(error) => Err(fault_of(&error)),
+    }
+}
+
+/// Makes the file of this name. A link to a file that isn't there is refused.
 fn make_file(rt: &HostRuntime, name: &str) -> Result<File, FileFault> {
     if fs::symlink_metadata(rt, name).is_ok() {
         return Err(FileFault::Unread);
     }
-    // First of all, since a folder that can't be opened gets no file.
-    let folder = match OpenOptions::new().read(true).open(rt, folder_of(name)) {
-        Ok(folder) => folder,
-        Err(error) => return Err(fault_of(&error)),
-    };
-    let file = open_file(rt, name)?;
-    match folder.sync_all() {
-        Ok(()) => Ok(file),
-        Err(_) => Err(FileFault::Unwritten),
-    }
+    open_file(rt, name)
 }
 
 /// Opens the file of this name for reads and for writes at its end. Its descriptor is none of the
