@@ -101,6 +101,7 @@ class Peer(threading.Thread):
             if number not in self.runs.killed:
                 self.runs.complain(f"{self.node}: run {number} ended a session: {why!r}")
         self.peer.close()
+        self.peer = None
 
     def ask(self, *requests):
         """Sends requests at once, and returns the items of their replies."""
@@ -134,8 +135,9 @@ class Peer(threading.Thread):
         return octets
 
     def take_rest(self):
+        """What is still to come of a session that the peer hasn't closed."""
         with contextlib.suppress(Ended):
-            while True:
+            while self.peer:
                 self.take()
 
     def leave(self):
