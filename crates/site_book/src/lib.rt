@@ -10,6 +10,7 @@ mod draws;
 mod figures;
 mod named_sale;
 mod sales;
+mod site_reads;
 mod tills;
 
 pub use audit::audit_rows;

@@ -1,0 +1,35 @@
+//! What a reader of the book may ask of its site beside points, sales and totals.
+
+ghost use Rattle.std.specs.Prelude.{◌≡◌};
+ghost use Rattle.site_core.specs.Accounts.{shift_row};
+ghost use Rattle.written_site.specs.SiteState.{is_signed_on, open_shift};
+ghost use Rattle.site_book.specs.Book.{site_of_book};
+
+use crate::book::SiteBook;
+use shift_ledger::ShiftRow;
+use site_base::{ShiftNo, TillNo};
+
+impl SiteBook {
+    /// Is this till signed on?
+    pub fn is_signed_on(&self, t: TillNo) -> bool
+        ensures { result ≡ is_signed_on (site_of_book self.now) t }
+    {
+        self.site.signed_on(t)
+    }
+
+    /// The number of the open shift.
+    pub fn open_shift(&self) -> ShiftNo
+        ensures { result ≡ open_shift (site_of_book self.now) }
+    {
+        self.site.open_shift()
+    }
+
+    /// The figures of a shift, the open one's too: of each till its clears and their cents, of each
+    /// product the millilitres that were cleared and those that tests drew. None for shifts to
+    /// come.
+    pub fn shift(&self, n: ShiftNo) -> Option<ShiftRow>
+        ensures { result ≡ shift_row n (site_of_book self.now).sales (site_of_book self.now).drawn }
+    {
+        self.site.shift(n)
+    }
+}

@@ -1,0 +1,89 @@
+-- No number of a site or of a report is a float.
+use Rattle.std.proofs.Common.{◌≡◌, ℕ, Bool, false, List, [], ◌∷◌, ◌++◌, Option, Some, None, map}
+use Rattle.std.proofs.Common.{refl}
+use Rattle.std.specs.Prelude.{flat_map}
+use Rattle.serde_json.specs.Data.{Data}
+use Rattle.serde_json.specs.View.{items_of}
+use Rattle.serde_json.specs.Written.{has_float, items_have_float}
+use Rattle.site_base.specs.declared.config.PointEntry.{PointEntry}
+use Rattle.site_base.specs.declared.config.ProductEntry.{ProductEntry}
+use Rattle.site_base.specs.declared.totals.Totals.{Totals}
+use Rattle.site_base.specs.declared.view.PointView.{PointView}
+use Rattle.site_base.specs.declared.view.ProductView.{ProductView}
+use Rattle.transaction_buffer.specs.Sales.{till_of}
+use Rattle.written_site.specs.ShiftFigures.{product_totals, tills}
+use Rattle.written_site.specs.SiteState.{SiteState, view_point}
+use Rattle.site_book.specs.declared.named_sale.NamedSale.{NamedSale}
+use Rattle.site_book.specs.Book.{Book, site_of_book}
+use Rattle.site_json.specs.Figures.{figure_if}
+use Rattle.site_json.specs.Points.{cents_so_far, fuelling_data, point_data, points_data}
+use Rattle.site_json.specs.Points.{preset_cents, preset_millilitres, product_out}
+use Rattle.site_json.specs.Products.{products_data}
+use Rattle.site_json.specs.ReportData.{cleared_data, report_data}
+use Rattle.site_json.specs.SiteData.{site_data}
+use Rattle.site_json.specs.Tills.{till_data}
+use Rattle.site_json.specs.Transactions.{transaction_data}
+
+no_float_if : (o : Option ℕ) → has_float (figure_if o) ≡ false
+no_float_if None = refl
+no_float_if (Some n) = refl
+
+no_float_mapped : {A : Type 0} (f : A → Data) (xs : List A) → ((x : A) → has_float (f x) ≡ false)
+    → items_have_float (items_of (map f xs)) ≡ false
+no_float_mapped f [] none = refl
+no_float_mapped f (x ∷ xs) none = rw (none x) (no_float_mapped f xs none)
+
+no_float_fuelling : (v : PointView) → has_float (fuelling_data v) ≡ false
+no_float_fuelling v =
+    rw (
+      no_float_if (cents_so_far v),
+      no_float_if v.prepaid,
+      no_float_if (preset_cents v.preset),
+      no_float_if (preset_millilitres v.preset),
+    ) refl
+
+no_float_point : (e : PointEntry) (v : PointView) → has_float (point_data e v) ≡ false
+no_float_point e v =
+    rw (
+      no_float_fuelling v,
+      no_float_if v.holder,
+      no_float_if v.out,
+      no_float_if (product_out e.nozzles v.out),
+    ) refl
+
+no_float_points : (s : SiteState) (es : List PointEntry)
+    → items_have_float (items_of (points_data s es)) ≡ false
+no_float_points s [] = refl
+no_float_points s (e ∷ es) = by (view_point s e.number) refl (no_float_points s es)
+  where
+    by : (o : Option PointView) → view_point s e.number ≡ o
+        → items_have_float (items_of (points_data s es)) ≡ false
+        → items_have_float (items_of (points_data s (e ∷ es))) ≡ false
+    by None is rest = rw is rest
+    by (Some v) is rest = rw is (rw (no_float_point e v) rest)
+
+no_float_products : (ps : List ProductEntry) (vs : List ProductView)
+    → items_have_float (items_of (products_data ps vs)) ≡ false
+no_float_products [] vs = refl
+no_float_products (p ∷ ps) [] = refl
+no_float_products (p ∷ ps) (v ∷ vs) = no_float_products ps vs
+
+no_float_transaction : (x : NamedSale) → has_float (transaction_data x) ≡ false
+no_float_transaction x =
+    rw (no_float_if x.sale.prepaid, no_float_if (till_of x.sale.standing)) refl
+
+pub no_float_site : (b : Book) (unpaid : List NamedSale) (connections : ℕ)
+    → has_float (site_data b unpaid connections) ≡ false
+no_float_site b unpaid connections =
+    let s : SiteState = site_of_book b in
+    rw (
+      no_float_points s b.config.points,
+      no_float_products b.config.products (product_totals s),
+      no_float_mapped (till_data s) tills (λ t. refl),
+      no_float_mapped transaction_data unpaid no_float_transaction,
+    ) refl
+
+pub no_float_report : (ps : List ProductEntry) (t : Totals) (shares : ℕ)
+    → has_float (report_data ps t shares) ≡ false
+no_float_report ps t shares =
+    rw (no_float_products ps t.products, no_float_mapped cleared_data t.tills (λ x. refl)) refl

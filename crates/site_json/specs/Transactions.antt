@@ -1,0 +1,32 @@
+-- A transaction as JSON. Members stand in the order of their names.
+use Rattle.std.specs.Prelude.{ℕ, List, codes, map}
+use Rattle.serde_json.specs.Data.{Data, string, object, member, no_members}
+use Rattle.site_base.specs.declared.state.Status.{Status}
+use Rattle.site_base.specs.declared.state.Status.TheVariants.{Payable, Locked, Cleared}
+use Rattle.transaction_buffer.specs.Sales.{status_of, till_of}
+use Rattle.site_book.specs.declared.named_sale.NamedSale.{NamedSale}
+use Rattle.site_json.specs.Figures.{figure, figure_if}
+
+-- the name of a status
+abbrev pub status_word : Status → List ℕ
+status_word Payable = codes "payable"
+status_word Locked = codes "locked"
+status_word Cleared = codes "cleared"
+
+abbrev pub transaction_data : NamedSale → Data
+transaction_data x =
+    object
+    (member (codes "cents") (figure x.sale.cents)
+    (member (codes "millilitres") (figure x.sale.volume)
+    (member (codes "mills") (figure x.sale.price)
+    (member (codes "number") (figure x.number)
+    (member (codes "point") (figure x.point)
+    (member (codes "prepaid") (figure_if x.sale.prepaid)
+    (member (codes "product") (figure x.sale.product)
+    (member (codes "shift") (figure x.shift)
+    (member (codes "status") (string (status_word (status_of x.sale.standing)))
+    (member (codes "till") (figure_if (till_of x.sale.standing))
+    no_members))))))))))
+
+abbrev pub transactions_data : List NamedSale → List Data
+transactions_data sales = map transaction_data sales

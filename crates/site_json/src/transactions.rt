@@ -1,0 +1,69 @@
+//! Transactions as JSON.
+
+ghost use Rattle.std.specs.Prelude.{◌≡◌, map, IfOk};
+ghost use Rattle.serde_json.specs.View.{view};
+ghost use Rattle.transaction_buffer.specs.Sales.{status_of, till_of};
+ghost use Rattle.site_json.specs.Transactions.{status_word, transaction_data, transactions_data};
+
+use crate::figures::{figure_if, widen};
+use serde_json::{Value, json};
+use site_base::NoMemory;
+use site_book::NamedSale;
+use std::alloc::{AllocError, Global};
+use transaction_buffer::Standing;
+
+/// These transactions, in their order.
+pub fn transaction_values(alloc: Global, sales: &[NamedSale]) -> Result<Vec<Value>, NoMemory>
+    ensures { IfOk result (λ values.
+        map view values.items ≡ transactions_data sales.now) }
+{
+    let mut values = Vec::new(alloc);
+    for sale in sales {
+        values.push(transaction_value(alloc, sale)?)?;
+    }
+    Ok(values)
+}
+
+/// A transaction.
+fn transaction_value(alloc: Global, sold: &NamedSale) -> Result<Value, AllocError>
+    ensures { IfOk result (λ value. view value ≡ transaction_data sold.now) }
+{
+    let sale = &sold.sale;
+    let standing = sale.standing;
+    let prepaid = figure_if(widen(sale.prepaid));
+    let till = figure_if(till_of(&standing));
+    json!(in alloc; {
+        "shift": sold.shift.get(),
+        "point": sold.point.get(),
+        "number": sold.number.get(),
+        "product": sale.product.get(),
+        "millilitres": sale.volume.get(),
+        "mills": sale.price.get(),
+        "cents": sale.cents.get(),
+        "prepaid": prepaid,
+        "status": status_word(&standing),
+        "till": till
+    })
+}
+
+/// The name of a status.
+fn status_word(standing: &Standing) -> &'static str
+    ensures { result.now ≡ status_word (status_of standing.now) }
+{
+    match standing {
+        Standing::Payable => "payable",
+        Standing::LockedBy(_) => "locked",
+        Standing::ClearedBy(_, _) => "cleared",
+    }
+}
+
+/// The number of the till that has locked or cleared it.
+fn till_of(standing: &Standing) -> Option<u64>
+    ensures { result ≡ till_of standing.now }
+{
+    match standing {
+        Standing::Payable => None,
+        Standing::LockedBy(till) => Some(u64::from(till.get())),
+        Standing::ClearedBy(till, _) => Some(u64::from(till.get())),
+    }
+}

@@ -1,0 +1,105 @@
+//! The site as JSON.
+
+ghost use Rattle.std.specs.Prelude.{◌≡◌, IfOk, string_bytes};
+ghost use Rattle.serde_json.specs.View.{view};
+ghost use Rattle.serde_json.specs.Written.{compact_text};
+ghost use Rattle.site_book.specs.Book.{site_of_book};
+ghost use Rattle.written_site.specs.ShiftFigures.{product_totals};
+ghost use Rattle.site_json.specs.Figures.{listed};
+ghost use Rattle.site_json.specs.Points.{points_data};
+ghost use Rattle.site_json.specs.Products.{products_data};
+ghost use Rattle.site_json.specs.SiteData.{site_data, whole_data};
+
+use crate::points::point_values;
+use crate::products::product_values;
+use crate::tills::till_values;
+use crate::transactions::transaction_values;
+use serde_json::{Value, json};
+use site_base::NoMemory;
+use site_book::{NamedSale, SiteBook};
+use std::alloc::{AllocError, Global};
+
+/// The site of a book: its points, its products with the figures of a read, its tills with their
+/// clears in the open shift, that shift, how many rows there are and may be; with these
+/// transactions, which the caller has found unpaid, and so many connections.
+pub fn site_value(
+    alloc: Global,
+    book: &SiteBook,
+    unpaid: &[NamedSale],
+    connections: usize,
+) -> Result<Value, NoMemory>
+    ensures { IfOk result (λ value. view value ≡ site_data book.now unpaid.now connections) }
+{
+    let points = points_value(alloc, book)?;
+    let products = products_value(alloc, book)?;
+    let tills = Value::Array(till_values(alloc, book)?);
+    let transactions = Value::Array(transaction_values(alloc, unpaid)?);
+    Ok(whole_value(
+        alloc,
+        book,
+        connections,
+        points,
+        products,
+        tills,
+        transactions,
+    )?)
+}
+
+/// The same as a text.
+pub fn site_text(
+    alloc: Global,
+    book: &SiteBook,
+    unpaid: &[NamedSale],
+    connections: usize,
+) -> Result<String, NoMemory>
+    ensures { IfOk result (λ text.
+        string_bytes text ≡ compact_text (site_data book.now unpaid.now connections)) }
+{
+    Ok(site_value(alloc, book, unpaid, connections)?.to_string(alloc)?)
+}
+
+/// The book's figures, with so many connections, and with these lists of what stands at its site.
+fn whole_value(
+    alloc: Global,
+    book: &SiteBook,
+    connections: usize,
+    points: Value,
+    products: Value,
+    tills: Value,
+    transactions: Value,
+) -> Result<Value, AllocError>
+    ensures { IfOk result (λ value. view value ≡ whole_data book.now connections
+        (view points) (view products) (view tills) (view transactions)) }
+{
+    let limit = book.config().rows();
+    let rows = book.len();
+    let shift = book.open_shift().get();
+    json!(in alloc; {
+        "connections": connections,
+        "limit": limit,
+        "points": points,
+        "products": products,
+        "rows": rows,
+        "shift": shift,
+        "tills": tills,
+        "transactions": transactions
+    })
+}
+
+/// The configured points, in their order.
+fn points_value(alloc: Global, book: &SiteBook) -> Result<Value, NoMemory>
+    ensures { IfOk result (λ value. view value
+        ≡ listed (points_data (site_of_book book.now) book.now.config.points)) }
+{
+    Ok(Value::Array(point_values(alloc, book, book.config().points())?))
+}
+
+/// The products with the figures of a read, in configured order.
+fn products_value(alloc: Global, book: &SiteBook) -> Result<Value, NoMemory>
+    ensures { IfOk result (λ value. view value ≡ listed
+        (products_data book.now.config.products (product_totals (site_of_book book.now)))) }
+{
+    let totals = book.totals(alloc)?;
+    let products = book.config().products();
+    Ok(Value::Array(product_values(alloc, products, totals.products.as_slice())?))
+}

@@ -1,0 +1,2 @@
+pub mod PageAnswers
+pub mod Connections

@@ -1,0 +1,49 @@
+-- What the page answers.
+use Rattle.std.specs.Prelude.{◌≡◌, ◌≢◌, ◌⊎◌, ℕ, List, [], ◌∷◌, codes}
+use Rattle.http.specs.declared.request.Request.{Request}
+use Rattle.http.specs.Request.{head_of}
+use Rattle.http1.specs.Fields.{Header}
+use Rattle.http_uri.specs.Uri.{uri_path}
+use Rattle.http_server.specs.declared.response.Response.{Response}
+use Rattle.http_server.specs.Response.{IsResponse}
+use Rattle.site_page.specs.declared.html.TheConstants.{PAGE}
+use Rattle.site_page.specs.declared.policy.TheConstants.{POLICY}
+
+-- the fields of an answer with the page: its type, what it may do, and that it isn't kept
+abbrev pub page_fields : List Header
+page_fields =
+    (codes "content-type", codes "text/html; charset=utf-8")
+    ∷ (codes "content-security-policy", POLICY.now)
+    ∷ (codes "cache-control", codes "no-store")
+    ∷ (codes "x-content-type-options", codes "nosniff") ∷ []
+
+-- the fields of an answer with the site
+abbrev pub site_fields : List Header
+site_fields =
+    (codes "content-type", codes "application/json")
+    ∷ (codes "cache-control", codes "no-store")
+    ∷ (codes "x-content-type-options", codes "nosniff") ∷ []
+
+-- which methods are answered
+abbrev pub methods_fields : List Header
+methods_fields = (codes "allow", codes "GET, HEAD") ∷ []
+
+-- it is a GET or a HEAD
+abbrev pub IsRead : Request (List ℕ) → Type 0
+IsRead r = ((head_of r).method ≡ codes "GET") ⊎ ((head_of r).method ≡ codes "HEAD")
+
+abbrev pub path_of : Request (List ℕ) → List ℕ
+path_of r = uri_path (head_of r).uri
+
+-- The page answers the request: / with the page, /site.json with this JSON; any other path isn't
+-- there, and no method is answered but GET and HEAD. Whether there is a body to HEAD is the
+-- connection's.
+pub record IsPageAnswer (json : List ℕ) (request : Request (List ℕ)) (response : Response)
+    : Type 0 where
+  pub page : IsRead request → path_of request ≡ codes "/"
+      → IsResponse 200 page_fields PAGE.now response
+  pub site : IsRead request → path_of request ≡ codes "/site.json"
+      → IsResponse 200 site_fields json response
+  pub nothing : IsRead request → path_of request ≢ codes "/" → path_of request ≢ codes "/site.json"
+      → IsResponse 404 [] [] response
+  pub refused : (IsRead request → ⊥) → IsResponse 405 methods_fields [] response

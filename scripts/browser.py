@@ -1,0 +1,120 @@
+"""A headless Chromium that is driven over two pipes, for the scripts beside this file."""
+
+import base64
+import contextlib
+import json
+import os
+import select
+import shutil
+import subprocess
+import tempfile
+import time
+
+from serving import WAIT, Failed
+
+NAMES = ("chromium", "chromium-browser", "google-chrome")
+FLAGS = (
+    "--headless", "--no-sandbox", "--disable-gpu", "--hide-scrollbars", "--no-first-run",
+    "--remote-debugging-pipe",
+)  # fmt: skip
+
+
+def find_browser():
+    """The path of a Chromium; None where there is none."""
+    return next(filter(None, map(shutil.which, NAMES)), None)
+
+
+class Browser:
+    """A browser with one page. Commands and events are JSON, each ended by an octet 0."""
+
+    def __init__(self, process, asked, told):
+        self.process, self.asked, self.told = process, asked, told
+        self.number, self.rest, self.session = 0, b"", None
+        self.complaints = []
+        target = self.call("Target.createTarget", url="about:blank")["targetId"]
+        self.session = self.call("Target.attachToTarget", targetId=target, flatten=True)[
+            "sessionId"
+        ]
+        for domain in ("Page", "Runtime", "Log"):
+            self.call(f"{domain}.enable")
+
+    def call(self, method, **words):
+        """What a command is answered."""
+        self.number += 1
+        command = {"id": self.number, "method": method, "params": words}
+        if self.session:
+            command["sessionId"] = self.session
+        os.write(self.asked, json.dumps(command).encode() + b"\0")
+        end = time.monotonic() + WAIT
+        while True:
+            message = self.receive(end)
+            if message.get("id") == self.number:
+                if "error" in message:
+                    raise Failed(f"{method}: {message['error']}")
+                return message["result"]
+            if message.get("method") in ("Runtime.exceptionThrown", "Log.entryAdded"):
+                self.complaints.append(json.dumps(message["params"]))
+
+    def receive(self, end):
+        """The next message, until this moment."""
+        while b"\0" not in self.rest:
+            if not select.select([self.told], [], [], max(0, end - time.monotonic()))[0]:
+                raise Failed(f"no answer of the browser within {WAIT} seconds")
+            piece = os.read(self.told, 1 << 20)
+            if not piece:
+                raise Failed("the browser has ended")
+            self.rest += piece
+        message, self.rest = self.rest.split(b"\0", 1)
+        return json.loads(message)
+
+    def open(self, url, width, height, dark=False):
+        """Opens a page in a window of this size."""
+        self.resize(width, height)
+        scheme = {"name": "prefers-color-scheme", "value": "dark" if dark else "light"}
+        self.call("Emulation.setEmulatedMedia", features=[scheme])
+        self.call("Page.navigate", url=url)
+
+    def resize(self, width, height):
+        self.call(
+            "Emulation.setDeviceMetricsOverride",
+            width=width, height=height, deviceScaleFactor=1, mobile=False,
+        )  # fmt: skip
+
+    def evaluate(self, script):
+        """The value of a JavaScript expression in the page."""
+        answer = self.call("Runtime.evaluate", expression=script, returnByValue=True)
+        if "exceptionDetails" in answer:
+            raise Failed(f"{script}: {answer['exceptionDetails']}")
+        return answer["result"].get("value")
+
+    def picture(self, path):
+        """Writes what the page shows, as PNG."""
+        path.write_bytes(base64.b64decode(self.call("Page.captureScreenshot")["data"]))
+
+
+@contextlib.contextmanager
+def start_browser():
+    """A browser with a profile of its own, both gone behind the block."""
+    asked, told = os.pipe(), os.pipe()
+
+    def place():
+        """The browser reads at 3 and writes at 4."""
+        ends = os.dup(asked[0]), os.dup(told[1])
+        os.dup2(ends[0], 3)
+        os.dup2(ends[1], 4)
+
+    with tempfile.TemporaryDirectory(ignore_cleanup_errors=True) as profile:
+        process = subprocess.Popen(
+            [find_browser(), *FLAGS, f"--user-data-dir={profile}"],
+            stdin=subprocess.DEVNULL, stdout=subprocess.DEVNULL, stderr=subprocess.DEVNULL,
+            preexec_fn=place, close_fds=False,
+        )  # fmt: skip
+        try:
+            os.close(asked[0])
+            os.close(told[1])
+            yield Browser(process, asked[1], told[0])
+        finally:
+            process.kill()
+            process.wait()
+            os.close(asked[1])
+            os.close(told[0])
