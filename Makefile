@@ -11,14 +11,15 @@ help:
 	@echo 'make build    proves and builds the program: $(PROGRAM)'
 	@echo 'make check    proves every crate, lowest first'
 	@echo 'make smoke    builds without proof, and runs every test of programs: not the gate'
-	@echo 'make test     the gate: every proof that isn't kept, the mutants of the gate, every'
+	@echo 'make test     the gate: every proof that is not kept, the mutants of the gate, every'
 	@echo '              test, and the built programs on their tables and cases, with'
 	@echo '              allocations and devices that fail'
 	@echo 'make audit    the mutants of the audit, of every crate or of CRATES="a b"'
 	@echo 'make bench    messages a second, memory, and their growth with the input; calls a second of'
 	@echo '              tills that collide; what a message costs with 5 and 64 points and with up to'
 	@echo '              100,000 sales, a row of a book of a million, and a request of a server and of'
-	@echo '              a station beside an echo; with a journal beside Redis, and a start on one'
+	@echo '              a station beside an echo; with a journal beside Redis, and a start on one;'
+	@echo '              tills beside a page that is looked at'
 
 run:
 	@cd crates/forecourt && rt try < stdin
@@ -38,6 +39,7 @@ test:
 	scripts/test-server $(PROGRAM)
 	scripts/test-station $(PROGRAM)
 	scripts/test-journal $(PROGRAM)
+	scripts/test-page $(PROGRAM)
 	scripts/test-demos $(PROGRAM)
 	scripts/test-tables $(TABLES)
 	scripts/test-faults
@@ -52,4 +54,5 @@ bench: build
 	@scripts/bench-server $(PROGRAM)
 	@scripts/bench-station $(PROGRAM)
 	@scripts/bench-station --journal $(PROGRAM)
+	@scripts/bench-station --page $(PROGRAM)
 	@scripts/instructions $(PROGRAM)

@@ -2,6 +2,7 @@
 
 import base64
 import contextlib
+import fcntl
 import json
 import os
 import select
@@ -10,12 +11,13 @@ import subprocess
 import tempfile
 import time
 
+from pictures import shrink
 from serving import WAIT, Failed
 
 NAMES = ("chromium", "chromium-browser", "google-chrome")
 FLAGS = (
-    "--headless", "--no-sandbox", "--disable-gpu", "--hide-scrollbars", "--no-first-run",
-    "--remote-debugging-pipe",
+    "--headless", "--no-sandbox", "--disable-gpu", "--disable-dev-shm-usage", "--hide-scrollbars",
+    "--no-first-run", "--remote-debugging-pipe",
 )  # fmt: skip
 
 
@@ -89,29 +91,25 @@ class Browser:
 
     def picture(self, path):
         """Writes what the page shows, as PNG."""
-        path.write_bytes(base64.b64decode(self.call("Page.captureScreenshot")["data"]))
+        path.write_bytes(shrink(base64.b64decode(self.call("Page.captureScreenshot")["data"])))
 
 
 @contextlib.contextmanager
 def start_browser():
     """A browser with a profile of its own, both gone behind the block."""
     asked, told = os.pipe(), os.pipe()
-
-    def place():
-        """The browser reads at 3 and writes at 4."""
-        ends = os.dup(asked[0]), os.dup(told[1])
-        os.dup2(ends[0], 3)
-        os.dup2(ends[1], 4)
-
+    # The browser reads at 3 and writes at 4: its ends are moved out of the way of these.
+    ends = [fcntl.fcntl(end, fcntl.F_DUPFD_CLOEXEC, 10) for end in (asked[0], told[1])]
+    place = f'exec "$@" 3<&{ends[0]} 4>&{ends[1]}'
     with tempfile.TemporaryDirectory(ignore_cleanup_errors=True) as profile:
         process = subprocess.Popen(
-            [find_browser(), *FLAGS, f"--user-data-dir={profile}"],
+            ["bash", "-c", place, "bash", find_browser(), *FLAGS, f"--user-data-dir={profile}"],
             stdin=subprocess.DEVNULL, stdout=subprocess.DEVNULL, stderr=subprocess.DEVNULL,
-            preexec_fn=place, close_fds=False,
+            pass_fds=ends,
         )  # fmt: skip
         try:
-            os.close(asked[0])
-            os.close(told[1])
+            for end in (asked[0], told[1], *ends):
+                os.close(end)
             yield Browser(process, asked[1], told[0])
         finally:
             process.kill()

@@ -10,8 +10,8 @@
  *   SHORT_JOURNAL_WRITE=M  such a write takes at most M octets
  *   FAIL_SYNC=K        the Kth fdatasync or fsync fails, and what came to its file behind the last
  *                      one is lost, as where the power fails
- *   FAIL_CUT=K         the Kth file that is to be cut isn't
  *   FAIL_LOCK=K        the Kth file that is to be locked isn't
+ *   FAIL_RENAME=K      the Kth file that is to be named anew isn't
  *   FAIL_RECEIVE=K     the Kth read of a socket fails
  *   FAIL_SEND=K        the Kth write to a socket fails
  *   BLOCK_SEND=K       the Kth write to a socket would block
@@ -69,7 +69,7 @@ static int fails(const char *name, long *calls)
 }
 
 static long allocations, reads, file_reads, writes, taken, received, sent, blocked;
-static long file_writes, syncs, synced, cuts, locks;
+static long file_writes, syncs, synced, locks, renames;
 static int read_before, file_read_before, written_before, received_before, sent_before;
 static int file_written_before, synced_before;
 
@@ -230,17 +230,6 @@ int fsync(int file)
     return sync_by(SYS_fsync, file);
 }
 
-int ftruncate(int file, off_t size)
-{
-    if (fails("FAIL_CUT", &cuts)) {
-        errno = EIO;
-        return -1;
-    }
-    if (size < synced)
-        synced = size;
-    return syscall(SYS_ftruncate, file, size);
-}
-
 int flock(int file, int how)
 {
     if (fails("FAIL_LOCK", &locks)) {
@@ -248,6 +237,15 @@ int flock(int file, int how)
         return -1;
     }
     return syscall(SYS_flock, file, how);
+}
+
+int rename(const char *old, const char *new)
+{
+    if (fails("FAIL_RENAME", &renames)) {
+        errno = EIO;
+        return -1;
+    }
+    return syscall(SYS_rename, old, new);
 }
 
 ssize_t recv(int socket, void *to, size_t size, int flags)

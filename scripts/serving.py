@@ -1,5 +1,6 @@
 """What tests of the program over real sockets share: a day that runs, and how tests are run."""
 
+import concurrent.futures
 import contextlib
 import fcntl
 import pathlib
@@ -18,7 +19,7 @@ from station import connect, read_point, receive_all
 WAIT = 60  # seconds, for what comes at once if all is well
 LOOK = 0.01  # seconds between two looks at what is waited for
 LOOKS = 10  # at what stays the same, so that it will stay so
-TESTS = []
+TESTS, BESIDE = [], []
 
 
 class Failed(Exception):
@@ -27,6 +28,12 @@ class Failed(Exception):
 
 def test(function):
     TESTS.append(function)
+    return function
+
+
+def test_beside(function):
+    """A test that waits for most of its time: it runs beside the others."""
+    BESIDE.append(function)
     return function
 
 
@@ -154,12 +161,19 @@ def send_until(peer, closing, till=1):
 def run_tests(subject, place):
     """Runs each test, with a folder that is removed behind them."""
     checks = Checks(subject)
-    with place:
+
+    def count(one, call):
+        try:
+            call()
+            checks.passed += 1
+        except (Failed, OSError, subprocess.TimeoutExpired) as why:
+            checks.failed += 1
+            print(f"{subject} test '{one.__name__}': {type(why).__name__} {why}", flush=True)
+
+    with place, concurrent.futures.ThreadPoolExecutor(len(BESIDE) or 1) as pool:
+        beside = [(one, pool.submit(one)) for one in BESIDE]
         for one in TESTS:
-            try:
-                one()
-                checks.passed += 1
-            except (Failed, OSError, subprocess.TimeoutExpired) as why:
-                checks.failed += 1
-                print(f"{subject} test '{one.__name__}': {type(why).__name__} {why}", flush=True)
+            count(one, one)
+        for one, end in beside:
+            count(one, end.result)
     checks.finish()

@@ -77,7 +77,8 @@ fn report<'a>(alloc: Global) -> Result<Command<'a>, AllocError> {
             alloc,
             "human",
             "Prints litres and money in columns, for people",
-        ))
+        ))?
+        .arg(flag(alloc, "json", "Prints one object of JSON"))
 }
 
 fn sales<'a>(alloc: Global) -> Result<Command<'a>, AllocError> {
@@ -112,6 +113,7 @@ fn station<'a>(alloc: Global) -> Result<Command<'a>, AllocError> {
     let idle = "Ends a session of which nothing came for so many seconds, from 1 to 86400";
     let detached = "Runs until the system stops it, whatever standard input does";
     let journal = "Stores each row in this file before a reply is sent, and goes on where it ended";
+    let page = "Serves a page that shows the site, on this port, from 0 (a free one) to 65535";
     Command::new(alloc, "station")
         .about(
             "Serves every till and dispenser of a site on 127.0.0.1 until standard input ends, \
@@ -121,8 +123,10 @@ fn station<'a>(alloc: Global) -> Result<Command<'a>, AllocError> {
         .arg(file(alloc))?
         .arg(number(alloc, "port", "The port, from 0 (a free one) to 65535"))?
         .arg(journal_file(alloc, "journal", journal))?
+        .arg(page_port(alloc, "page", page))?
         .arg(seconds(alloc, "idle", idle))?
-        .arg(flag(alloc, "detached", detached))
+        .arg(flag(alloc, "detached", detached))?
+        .arg(flag(alloc, "json", "Prints the report as one object of JSON"))
 }
 
 fn demo<'a>(alloc: Global) -> Result<Command<'a>, AllocError> {
@@ -185,6 +189,11 @@ fn journal_file<'a>(alloc: Global, name: &'a str, help: &'a str) -> Arg<'a> {
         .long(name)
         .value_name("JOURNAL")
         .help(help)
+}
+
+/// The port of a page, which a command may be given.
+fn page_port<'a>(alloc: Global, name: &'a str, help: &'a str) -> Arg<'a> {
+    Arg::new(alloc, name).long(name).value_name("N").help(help)
 }
 
 /// A number of seconds that a command may be given.

@@ -1,14 +1,30 @@
 //! The file of a journal.
 
+use crate::journal_copy::put_copy;
 use journal::{Disk, DiskFault};
-use std::alloc::Global;
-use std::fs::{self, File, OpenOptions, TryLockError};
+use std::alloc::{AllocError, Global};
+use std::fs::{self, File, Metadata, OpenOptions, TryLockError};
 use std::io::{self, ErrorKind, Read, Seek, SeekFrom, Write};
+use std::mem;
+use std::os::unix::fs::{MetadataExt, OpenOptionsExt};
+use std::path::PathBuf;
+
+/// What a new journal's file lets whom do: its owner reads and writes it, and nobody else.
+const OWNER_ALONE: u32 = 0o600;
+
+/// The standard streams that are written to.
+const OUTPUTS: [&str; 2] = ["/dev/stdout", "/dev/stderr"];
 
 /// A journal's file, which this process has locked.
 #[derive(Drop)]
-pub struct JournalFile {
+pub struct JournalFile<'a> {
+    rt: &'a HostRuntime,
+    /// Where it lies.
+    path: PathBuf,
     file: File,
+    /// The file whose copy it is. Its lock is kept too: another start may have opened it before the
+    /// copy took its place.
+    earlier: Option<File>,
 }
 
 /// Why a journal's file isn't there to be used.
@@ -18,67 +34,115 @@ pub enum FileFault {
     NoMemory,
     /// It can't be opened, or is no file.
     Unread,
-    /// Another process has it.
+    /// Another process has it, or it is where this one prints.
     InUse,
     /// It can't be made for good.
     Unwritten,
 }
 
-impl JournalFile {
-    /// Opens the file of this name, and locks it; where there is none it is made. Its folder knows it
-    /// for good, also where an earlier start ended before it did.
-    pub fn open(rt: &HostRuntime, name: &str) -> Result<JournalFile, FileFault> {
+impl From<AllocError> for FileFault {
+    fn from(_e: AllocError) -> FileFault {
+        FileFault::NoMemory
+    }
+}
+
+impl<'a> JournalFile<'a> {
+    /// Opens the file of this name, and locks it; where there is none it is made. Its folder knows
+    /// it for good, also where an earlier start ended before it did.
+    pub fn open(rt: &'a HostRuntime, name: &str) -> Result<JournalFile<'a>, FileFault> {
+        let path = resolve(rt, name)?;
         // First of all, since a folder that can't be opened gets no file.
-        let folder = open_folder(rt, name)?;
-        let file = match fs::metadata(rt, name) {
-            Ok(found) if found.is_file() => open_file(rt, name)?,
-            Ok(_) => return Err(FileFault::Unread),
-            Err(error) if error.kind() == ErrorKind::NotFound => make_file(rt, name)?,
+        let folder = match open_folder(rt, path.as_str()) {
+            Ok(folder) => folder,
             Err(error) => return Err(fault_of(&error)),
         };
-        match file.try_lock() {
-            Ok(()) => {}
-            Err(TryLockError::WouldBlock) => return Err(FileFault::InUse),
-            Err(TryLockError::Error(error)) => return Err(fault_of(&error)),
+        let file = open_or_make(rt, path.as_str())?;
+        lock(&file)?;
+        if !is_at(rt, path.as_str(), &file) || is_printed_to(rt, &file) {
+            return Err(FileFault::InUse);
         }
         match folder.sync_all() {
-            Ok(()) => Ok(JournalFile { file }),
+            Ok(()) => Ok(JournalFile {
+                rt,
+                path,
+                file,
+                earlier: None,
+            }),
             Err(_) => Err(FileFault::Unwritten),
         }
     }
 }
 
-/// The folder of the file of this name.
-fn open_folder(rt: &HostRuntime, name: &str) -> Result<File, FileFault> {
-    match OpenOptions::new().read(true).open(rt, folder_of(name)) {
-        Ok(folder) => Ok(folder),
-        Err(error) => Err(fault_of(&error)),
-    }
-}
-
-/// Makes the file of this name. A link to a file that isn't there is refused.
-fn make_file(rt: &HostRuntime, name: &str) -> Result<File, FileFault> {
-    if fs::symlink_metadata(rt, name).is_ok() {
-        return Err(FileFault::Unread);
-    }
-    open_file(rt, name)
-}
-
-/// Opens the file of this name for reads and for writes at its end. Its descriptor is none of the
-/// standard streams', even where they are closed.
-fn open_file(rt: &HostRuntime, name: &str) -> Result<File, FileFault> {
-    let opened = OpenOptions::new()
-        .read(true)
-        .append(true)
-        .create(true)
-        .open(rt, name);
-    match opened {
-        Ok(file) => match file.try_clone() {
-            Ok(second) => Ok(second),
+/// Where the file of this name lies, or will: a link to one is followed.
+fn resolve(rt: &HostRuntime, name: &str) -> Result<PathBuf, FileFault> {
+    match fs::symlink_metadata(rt, name) {
+        Ok(found) if found.is_symlink() => match fs::canonicalize(rt, name) {
+            Ok(path) => Ok(path),
             Err(error) => Err(fault_of(&error)),
         },
+        _ => Ok(PathBuf::from_str(rt.alloc(), name)?),
+    }
+}
+
+/// The folder of the file of this name.
+pub fn open_folder(rt: &HostRuntime, name: &str) -> io::Result<File> {
+    OpenOptions::new().read(true).open(rt, folder_of(name))
+}
+
+/// Opens the file of this name, or makes it.
+fn open_or_make(rt: &HostRuntime, name: &str) -> Result<File, FileFault> {
+    match fs::metadata(rt, name) {
+        Ok(found) if !found.is_file() => Err(FileFault::Unread),
+        Err(error) if error.kind() != ErrorKind::NotFound => Err(fault_of(&error)),
+        _ => open_file(rt, name),
+    }
+}
+
+/// Opens the file of this name; where there is none it is made.
+fn open_file(rt: &HostRuntime, name: &str) -> Result<File, FileFault> {
+    match open_by(rt, OpenOptions::new().create(true), name) {
+        Ok(file) => Ok(file),
         Err(error) => Err(fault_of(&error)),
     }
+}
+
+/// Opens a file so, for reads and for writes at its end. Its descriptor is none of the standard
+/// streams', even where they are closed.
+pub fn open_by(rt: &HostRuntime, options: &mut OpenOptions, name: &str) -> io::Result<File> {
+    options.read(true).append(true).mode(OWNER_ALONE);
+    options.open(rt, name)?.try_clone()
+}
+
+/// Locks a file for this process.
+fn lock(file: &File) -> Result<(), FileFault> {
+    match file.try_lock() {
+        Ok(()) => Ok(()),
+        Err(TryLockError::WouldBlock) => Err(FileFault::InUse),
+        Err(TryLockError::Error(error)) => Err(fault_of(&error)),
+    }
+}
+
+/// Is it this file that has the name? A start just before may have put another one in its place.
+fn is_at(rt: &HostRuntime, name: &str, file: &File) -> bool {
+    match (fs::metadata(rt, name), file.metadata()) {
+        (Ok(there), Ok(here)) => is_same(&there, &here),
+        _ => false,
+    }
+}
+
+/// Does this process print to the file?
+fn is_printed_to(rt: &HostRuntime, file: &File) -> bool {
+    for name in OUTPUTS {
+        if is_at(rt, name, file) {
+            return true;
+        }
+    }
+    false
+}
+
+/// Are these of one file?
+fn is_same(one: &Metadata, other: &Metadata) -> bool {
+    one.dev() == other.dev() && one.ino() == other.ino()
 }
 
 /// The folder of a file of this name.
@@ -99,7 +163,7 @@ fn fault_of(error: &io::Error) -> FileFault {
     }
 }
 
-impl Disk for JournalFile {
+impl<'a> Disk for JournalFile<'a> {
     ghost use Rattle.std.specs.Prelude.{None};
 
     // No contract can tell what a file carries.
@@ -131,9 +195,13 @@ impl Disk for JournalFile {
         }
     }
 
-    fn cut(&mut self, len: usize) -> Result<(), DiskFault> {
-        match self.file.set_len(len as u64) {
-            Ok(()) => Ok(()),
+    /// A copy with these octets takes the file's place, and is on the disk before it does.
+    fn renew(&mut self, octets: &[u8]) -> Result<(), DiskFault> {
+        match put_copy(self.rt, &self.file, self.path.as_str(), octets) {
+            Ok(copy) => {
+                self.earlier = Some(mem::replace(&mut self.file, copy));
+                Ok(())
+            }
             Err(error) => Err(disk_fault_of(&error)),
         }
     }

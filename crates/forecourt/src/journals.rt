@@ -1,6 +1,6 @@
 //! The station that a command opens, with its journal.
 
-ghost use Rattle.std.specs.Prelude.{◌≡◌, IfOk};
+ghost use Rattle.std.specs.Prelude.{◌≡◌, IfOk, is_some, true};
 ghost use Rattle.station.specs.Runs.{opening_station};
 ghost use Rattle.journal.specs.Opening.{HasNobodyOn};
 
@@ -11,15 +11,16 @@ use site_base::SiteConfig;
 use std::process::ExitCode;
 
 /// The station of a site: of the journal of this name, or without one, or how the program ends.
-pub fn open_station(
-    rt: &HostRuntime,
+pub fn open_station<'a>(
+    rt: &'a HostRuntime,
     config: &SiteConfig,
     site_file: &[u8],
     journal: Option<&str>,
-) -> Result<Opened<JournalFile>, ExitCode>
+) -> Result<Opened<JournalFile<'a>>, ExitCode>
     ensures alone { IfOk result
         (λ o. o.station.station ≡ opening_station o.station.station.book) }
     ensures off { IfOk result (λ o. HasNobodyOn o.station.station.book) }
+    ensures journal { IfOk result (λ o. is_some o.station.journal ≡ is_some journal.entry) }
 {
     match journal {
         Some(name) => open_with(rt, config, site_file, name),
@@ -31,15 +32,16 @@ pub fn open_station(
 }
 
 /// The station of the journal of this name.
-fn open_with(
-    rt: &HostRuntime,
+fn open_with<'a>(
+    rt: &'a HostRuntime,
     config: &SiteConfig,
     site_file: &[u8],
     name: &str,
-) -> Result<Opened<JournalFile>, ExitCode>
+) -> Result<Opened<JournalFile<'a>>, ExitCode>
     ensures alone { IfOk result
         (λ o. o.station.station ≡ opening_station o.station.station.book) }
     ensures off { IfOk result (λ o. HasNobodyOn o.station.station.book) }
+    ensures journal { IfOk result (λ o. is_some o.station.journal ≡ true) }
 {
     let file = match JournalFile::open(rt, name) {
         Ok(file) => file,

@@ -10,6 +10,7 @@ mod demo;
 mod exit;
 mod explain;
 mod files;
+mod journal_copy;
 mod journal_file;
 mod journals;
 mod lines;

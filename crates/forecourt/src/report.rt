@@ -1,9 +1,10 @@
-//! `forecourt report FILE`.
+//! `forecourt report FILE [--human | --json]`.
 
 use crate::TURNS;
 use crate::exit::{exit_no_memory, exit_replay};
 use crate::files::read_site;
 use clap::ArgMatches;
+use forecourt_days::json_report_of_book;
 use forecourt_engines::replay::{ReplayEnd, replay};
 use forecourt_engines::reporting::replay_to_report;
 use forecourt_engines::{ReplayFault, SiteBook};
@@ -13,10 +14,11 @@ use std::io;
 use std::process::ExitCode;
 
 /// Replays standard input on the site of a file, and prints the report of its rows, with `--human`
-/// for people.
+/// for people, with `--json` for programs.
 pub fn run_report(rt: &HostRuntime, words: &ArgMatches<'_>) -> ExitCode {
     match read_site(rt, words) {
-        Ok(config) if words.get_flag("human") => report_for_people(rt, &config),
+        Ok(config) if words.get_flag("human") => report_after(rt, &config, people_text),
+        Ok(config) if words.get_flag("json") => report_after(rt, &config, json_text),
         Ok(config) => report_on(rt, &config),
         Err(status) => status,
     }
@@ -30,8 +32,13 @@ fn report_on(rt: &HostRuntime, config: &SiteConfig) -> ExitCode {
     exit_replay(rt, end.err())
 }
 
-/// The same, with the figures of the book's audit for people.
-fn report_for_people(rt: &HostRuntime, config: &SiteConfig) -> ExitCode {
+/// Replays standard input on this site, and prints this text of its book where the text of the
+/// answers ended.
+fn report_after(
+    rt: &HostRuntime,
+    config: &SiteConfig,
+    text_of: fn(&HostRuntime, &SiteBook) -> Result<Vec<u8>, NoMemory>,
+) -> ExitCode {
     let ReplayEnd { fault, book } = replay_silently(rt, config);
     let Some(book) = book else {
         return exit_replay(rt, fault);
@@ -39,25 +46,32 @@ fn report_for_people(rt: &HostRuntime, config: &SiteConfig) -> ExitCode {
     if !ends_its_text(&fault) {
         return exit_replay(rt, fault);
     }
-    match print_for_people(rt, config, &book) {
-        Ok(None) => exit_replay(rt, fault),
-        Ok(fault) => exit_replay(rt, fault),
+    match text_of(rt, &book) {
+        Ok(text) => match print_text(rt, &text) {
+            None => exit_replay(rt, fault),
+            fault => exit_replay(rt, fault),
+        },
         Err(NoMemory) => exit_no_memory(rt),
     }
 }
 
-/// Prints the figures of a book; the fault of its write, if it fails.
-fn print_for_people(
-    rt: &HostRuntime,
-    config: &SiteConfig,
-    book: &SiteBook,
-) -> Result<Option<ReplayFault>, NoMemory> {
+/// The figures of a book's audit for people.
+fn people_text(rt: &HostRuntime, book: &SiteBook) -> Result<Vec<u8>, NoMemory> {
     let totals = book.audit(rt.alloc())?;
-    let text = totals_text(rt.alloc(), config.products(), &totals)?;
+    totals_text(rt.alloc(), book.config().products(), &totals)
+}
+
+/// The same as JSON.
+fn json_text(rt: &HostRuntime, book: &SiteBook) -> Result<Vec<u8>, NoMemory> {
+    Ok(json_report_of_book(rt.alloc(), book)?.into_bytes())
+}
+
+/// Prints a text; the fault of its write, if it fails.
+fn print_text(rt: &HostRuntime, text: &[u8]) -> Option<ReplayFault> {
     let (mut writer, mut turns) = (Counted::new(rt.stdout()), TURNS);
-    match write_whole(&mut writer, &text, &mut turns) {
-        Ok(()) => Ok(None),
-        Err(fault) => Ok(Some(ReplayFault::Write(fault))),
+    match write_whole(&mut writer, text, &mut turns) {
+        Ok(()) => None,
+        Err(fault) => Some(ReplayFault::Write(fault)),
     }
 }
 

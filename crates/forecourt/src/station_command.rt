@@ -1,4 +1,5 @@
-//! `forecourt station FILE --port N [--journal JOURNAL] [--idle SECONDS] [--detached]`.
+//! `forecourt station FILE --port N [--journal JOURNAL] [--page N] [--idle SECONDS] [--detached]
+//! [--json]`.
 
 ghost use Rattle.std.specs.Prelude.{◌≡◌};
 ghost use Rattle.station.specs.Runs.{opening_station};
@@ -10,7 +11,7 @@ use crate::files::read_site_file;
 use crate::journal_file::JournalFile;
 use crate::journals::open_station;
 use clap::ArgMatches;
-use forecourt_days::{DayFault, StationPlan, station_day};
+use forecourt_days::{DayFault, ReportForm, StationPlan, station_day};
 use journal::Opened;
 use mio::Waker;
 use site_base::{Counted, WriteFault};
@@ -33,7 +34,7 @@ pub fn run_station<T: Threads + Wait + Sync>(
     words: &ArgMatches<'_>,
 ) -> ExitCode {
     let port = words.get_str("port").unwrap_or("");
-    match StationPlan::read(port, words.get_str("idle")) {
+    match StationPlan::read(port, words.get_str("page"), words.get_str("idle")) {
         Ok(plan) => run_planned(rt, threads, words, plan),
         Err(fault) => exit_with(eprintln!(rt; "error: {fault}"), COMMAND_LINE),
     }
@@ -52,7 +53,8 @@ fn run_planned<T: Threads + Wait + Sync>(
     };
     match open_station(rt, &config, &site_file, words.get_str("journal")) {
         Ok(opened) => {
-            let end = serve_on(rt, threads, opened, plan, words.get_flag("detached"));
+            let form = report_form(words);
+            let end = serve_on(rt, threads, opened, plan, form, words.get_flag("detached"));
             exit_day(rt, end)
         }
         Err(status) => status,
@@ -63,14 +65,15 @@ fn run_planned<T: Threads + Wait + Sync>(
 fn serve_on<T: Threads + Wait + Sync>(
     rt: &HostRuntime,
     threads: &T,
-    opened: Opened<JournalFile>,
+    opened: Opened<JournalFile<'_>>,
     plan: StationPlan,
+    form: ReportForm,
     is_detached: bool,
 ) -> Result<(), DayFault>
     requires alone { opened.station.station ≡ opening_station opened.station.station.book }
     requires off { HasNobodyOn opened.station.station.book }
 {
-    let mut server = StationServer::bind(rt, rt, rt.alloc(), plan.port)?;
+    let mut server = listen(rt, plan)?;
     // A wake is lost where its waker is let go before the server has seen it.
     let waker = Arc::new(rt.alloc(), server.waker()?).map_err(|_| DayFault::NoMemory)?;
     let watch = if is_detached {
@@ -89,6 +92,7 @@ fn serve_on<T: Threads + Wait + Sync>(
         opened.station,
         &mut server,
         plan.idle,
+        form,
         &mut left,
         &mut writer,
     )?;
@@ -96,6 +100,24 @@ fn serve_on<T: Threads + Wait + Sync>(
         watch.join(threads);
     }
     Ok(())
+}
+
+/// Listens for peers, and for those who look at the page, if there is one.
+fn listen(rt: &HostRuntime, plan: StationPlan) -> Result<StationServer, DayFault> {
+    let mut server = StationServer::bind(rt, rt, rt.alloc(), plan.port)?;
+    if let Some(port) = plan.page {
+        server.bind_page(rt, rt, port)?;
+    }
+    Ok(server)
+}
+
+/// How the day's report is written.
+fn report_form(words: &ArgMatches<'_>) -> ReportForm {
+    if words.get_flag("json") {
+        ReportForm::Json
+    } else {
+        ReportForm::Text
+    }
 }
 
 /// Says how many rows the journal had, if it had some.

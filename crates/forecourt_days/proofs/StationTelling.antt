@@ -3,18 +3,19 @@ use Rattle.std.proofs.Common.{◌≡◌, ℕ, Bool, true, false, List, [], Optio
 use Rattle.std.proofs.Common.{ap, subst, ◌∙◌}
 use Rattle.std.specs.Io.KnownBytes.{Appends}
 use Rattle.site_base.specs.Devices.{AppendsFront}
-use Rattle.site_base.proofs.KnownBytes.{Appends-front, Appends-then, AppendsFront-longer}
+use Rattle.site_base.proofs.KnownBytes.{Appends-front, Appends-none, Appends-then}
+use Rattle.site_base.proofs.KnownBytes.{AppendsFront-longer}
 use Rattle.written_site.specs.SiteState.{is_signed_on}
 use Rattle.site_book.specs.Book.{Book, site_of_book}
-use Rattle.forecourt_engines.specs.Report.{book_report}
 use Rattle.station.specs.Moves.{StationState}
 use Rattle.station.specs.Reads.{HasNoPeer}
 use Rattle.station.specs.Runs.{Move, after, opening_station}
 use Rattle.station.proofs.TillSessions.{tills_have}
 use Rattle.journal.specs.Opening.{HasNobodyOn}
 use Rattle.station_server.specs.Reaches.{Reaches}
-use Rattle.forecourt_days.specs.Days.{listening_line}
+use Rattle.forecourt_days.specs.declared.plan.ReportForm.{ReportForm}
 use Rattle.forecourt_days.specs.StationDays.{TellsDay, TellsFront, day_book, day_station}
+use Rattle.forecourt_days.specs.StationDays.{places_text, report_in, station_text}
 
 -- what a station comes to that was opened at this book
 reached_station : (opens : Book) (s t : StationState) → s ≡ opening_station opens
@@ -43,40 +44,64 @@ nobody_signed opens moves off left t =
 
 -- where it listens was written, and then the report
 pub tells_station : (opens : Book) (u v w : Option (List ℕ)) (said port : ℕ)
-    (x : Book) (s t : StationState) → said ≡ port → s ≡ opening_station opens
+    (page_said page : Option ℕ) (form : ReportForm) (x : Book) (s t : StationState)
+    → said ≡ port → page_said ≡ page → s ≡ opening_station opens
     → HasNobodyOn opens
-    → Reaches s t → HasNoPeer t → x ≡ t.book → Appends u v (listening_line said)
-    → Appends v w (book_report x) → TellsDay opens port u w
-tells_station opens u v w said port x s t same begins off r left is line report = record {
-  moves = r.moves;
-  left = subst HasNoPeer (reached_station opens s t begins r) left;
-  off = nobody_signed opens r.moves off
-      (subst HasNoPeer (reached_station opens s t begins r) left);
-  told = Appends-then u v w (listening_line port) (book_report (day_book opens r.moves))
-      (subst (λ (n : ℕ). Appends u v (listening_line n)) same line)
-      (subst (λ (y : Book). Appends v w (book_report y))
-      (reached_book opens x s t begins r is) report);
-}
+    → Reaches s t → HasNoPeer t → x ≡ t.book → Appends u v (places_text said page_said)
+    → Appends v w (report_in form x) → TellsDay opens port page form u w
+tells_station opens u v w said port page_said page form x s t same also begins off r left is line
+    report =
+    record {
+      moves = r.moves;
+      left = subst HasNoPeer (reached_station opens s t begins r) left;
+      off = nobody_signed opens r.moves off
+          (subst HasNoPeer (reached_station opens s t begins r) left);
+      told = Appends-then u v w (places_text port page) (report_in form (day_book opens r.moves))
+          (subst (λ (o : Option ℕ). Appends u v (places_text port o)) also
+          (subst (λ (n : ℕ). Appends u v (places_text n page_said)) same line))
+          (subst (λ (y : Book). Appends v w (report_in form y))
+          (reached_book opens x s t begins r is) report);
+    }
 
 -- .. and then a front of it
 pub tells_station_front : (opens : Book) (u v w : Option (List ℕ)) (said port : ℕ)
-    (x : Book) (s t : StationState) → said ≡ port → s ≡ opening_station opens
-    → Reaches s t → x ≡ t.book → Appends u v (listening_line said)
-    → AppendsFront v w (book_report x)
-    → TellsFront opens port u w
-tells_station_front opens u v w said port x s t same begins r is line report = record {
-  moves = r.moves;
-  told = Appends-front u v w (listening_line port) (book_report (day_book opens r.moves))
-      (subst (λ (n : ℕ). Appends u v (listening_line n)) same line)
-      (subst (λ (y : Book). AppendsFront v w (book_report y))
-      (reached_book opens x s t begins r is) report);
+    (page_said page : Option ℕ) (form : ReportForm) (x : Book) (s t : StationState)
+    → said ≡ port → page_said ≡ page → s ≡ opening_station opens
+    → Reaches s t → x ≡ t.book → Appends u v (places_text said page_said)
+    → AppendsFront v w (report_in form x)
+    → TellsFront opens port page form u w
+tells_station_front opens u v w said port page_said page form x s t same also begins r is line
+    report =
+    record {
+      moves = r.moves;
+      told = Appends-front u v w (places_text port page) (report_in form (day_book opens r.moves))
+          (subst (λ (o : Option ℕ). Appends u v (places_text port o)) also
+          (subst (λ (n : ℕ). Appends u v (places_text n page_said)) same line))
+          (subst (λ (y : Book). AppendsFront v w (report_in form y))
+          (reached_book opens x s t begins r is) report);
+    }
+
+-- a front of the lines
+pub tells_station_line : (opens : Book) (u v : Option (List ℕ)) (said port : ℕ)
+    (page_said page : Option ℕ) (form : ReportForm)
+    → said ≡ port → page_said ≡ page → AppendsFront u v (places_text said page_said)
+    → TellsFront opens port page form u v
+tells_station_line opens u v said port page_said page form same also line = record {
+  moves = [];
+  told = AppendsFront-longer u v (places_text port page) (report_in form (day_book opens []))
+      (subst (λ (o : Option ℕ). AppendsFront u v (places_text port o)) also
+      (subst (λ (n : ℕ). AppendsFront u v (places_text n page_said)) same line));
 }
 
--- a front of the line
-pub tells_station_line : (opens : Book) (u v : Option (List ℕ)) (said port : ℕ)
-    → said ≡ port → AppendsFront u v (listening_line said) → TellsFront opens port u v
-tells_station_line opens u v said port same line = record {
+-- nothing yet
+pub tells_station_nothing : (opens : Book) (u : Option (List ℕ)) (port : ℕ) (page : Option ℕ)
+    (form : ReportForm) → TellsFront opens port page form u u
+tells_station_nothing opens u port page form = record {
   moves = [];
-  told = AppendsFront-longer u v (listening_line port) (book_report (day_book opens []))
-      (subst (λ (n : ℕ). AppendsFront u v (listening_line n)) same line);
+  told = record {
+    front = [];
+    rest = station_text opens port page form [];
+    parts = refl;
+    written = Appends-none u;
+  };
 }

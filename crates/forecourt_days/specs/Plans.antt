@@ -4,8 +4,8 @@ use Rattle.std.specs.Str.Parse.{IsNumeral, digits_value}
 use Rattle.counter_desk.specs.declared.crews.TheConstants.{WORKERS}
 use Rattle.till_session.specs.declared.server.TheConstants.{SESSIONS}
 use Rattle.forecourt_days.specs.declared.options.OptionFault.{OptionFault}
-use Rattle.forecourt_days.specs.declared.options.OptionFault.TheVariants.{Idle, Port, Sessions}
-use Rattle.forecourt_days.specs.declared.options.OptionFault.TheVariants.{Workers}
+use Rattle.forecourt_days.specs.declared.options.OptionFault.TheVariants.{Idle, Page, Port}
+use Rattle.forecourt_days.specs.declared.options.OptionFault.TheVariants.{Sessions, Workers}
 use Rattle.forecourt_days.specs.declared.plan.ServerPlan.{ServerPlan}
 use Rattle.forecourt_days.specs.declared.plan.StationPlan.{StationPlan}
 use Rattle.forecourt_days.specs.declared.plan.TheConstants.{IDLE_SECONDS}
@@ -42,7 +42,7 @@ IsFirstFault port workers sessions Workers =
 IsFirstFault port workers sessions Sessions =
     ((n : ℕ) × TellsPort port n) × ((n : ℕ) × TellsWorkers workers n)
     × ((n : ℕ) → ¬ TellsSessions sessions n)
-IsFirstFault port workers sessions Idle = ⊥
+IsFirstFault port workers sessions fault = ⊥
 
 -- ---- a station
 
@@ -52,13 +52,23 @@ TellsIdle None None = ⊤
 TellsIdle (Some word) (Some n) = TellsNumber 1 IDLE_SECONDS word n
 TellsIdle word n = ⊥
 
+-- the page's port; without a word there is no page
+abbrev pub TellsPage : Option (List ℕ) → Option ℕ → Type 0
+TellsPage None None = ⊤
+TellsPage (Some word) (Some n) = TellsPort word n
+TellsPage word n = ⊥
+
 -- each of the words tells its part of the plan
-abbrev pub TellsStationPlan : List ℕ → Option (List ℕ) → StationPlan → Type 0
-TellsStationPlan port idle plan = TellsPort port plan.port × TellsIdle idle plan.idle
+abbrev pub TellsStationPlan : List ℕ → Option (List ℕ) → Option (List ℕ) → StationPlan → Type 0
+TellsStationPlan port page idle plan =
+    TellsPort port plan.port × TellsPage page plan.page × TellsIdle idle plan.idle
 
 -- the first word that tells no number in its range
-abbrev pub IsFirstStationFault : List ℕ → Option (List ℕ) → OptionFault → Type 0
-IsFirstStationFault port idle Port = (n : ℕ) → ¬ TellsPort port n
-IsFirstStationFault port idle Idle =
-    ((n : ℕ) × TellsPort port n) × ((n : Option ℕ) → ¬ TellsIdle idle n)
-IsFirstStationFault port idle fault = ⊥
+abbrev pub IsFirstStationFault : List ℕ → Option (List ℕ) → Option (List ℕ) → OptionFault → Type 0
+IsFirstStationFault port page idle Port = (n : ℕ) → ¬ TellsPort port n
+IsFirstStationFault port page idle Page =
+    ((n : ℕ) × TellsPort port n) × ((n : Option ℕ) → ¬ TellsPage page n)
+IsFirstStationFault port page idle Idle =
+    ((n : ℕ) × TellsPort port n) × ((n : Option ℕ) × TellsPage page n)
+    × ((n : Option ℕ) → ¬ TellsIdle idle n)
+IsFirstStationFault port page idle fault = ⊥

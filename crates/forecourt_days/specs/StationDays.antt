@@ -1,18 +1,20 @@
 -- What a station's day writes.
-use Rattle.std.specs.Prelude.{◌≡◌, ℕ, false, List, ◌++◌, Option}
+use Rattle.std.specs.Prelude.{◌≡◌, ℕ, false, List, [], ◌∷◌, ◌++◌, Option, Some, None, codes, decimal}
+use Rattle.serde_json.specs.Written.{compact_text}
 use Rattle.std.specs.Io.KnownBytes.{Appends}
 use Rattle.site_base.specs.declared.transfer.WriteFault.TheVariants as writes
 use Rattle.site_base.specs.Devices.{AppendsFront}
 use Rattle.written_site.specs.SiteState.{is_signed_on}
 use Rattle.site_book.specs.Book.{Book, site_of_book}
 use Rattle.forecourt_engines.specs.Report.{book_report}
+use Rattle.site_json.specs.ReportData.{book_report_data}
 use Rattle.forecourt_days.specs.Days.{listening_line}
 use Rattle.station_server.specs.declared.fault.ServerFault.{ServerFault}
 use Rattle.station_server.specs.declared.fault.ServerFault.TheVariants as servers
 use Rattle.forecourt_days.specs.declared.fault.DayFault.{DayFault}
 use Rattle.forecourt_days.specs.declared.fault.DayFault.TheVariants.{NoConnection, NoMemory, Write}
-use Rattle.journal.specs.declared.disk.DiskFault.{DiskFault}
-use Rattle.journal.specs.declared.disk.DiskFault.TheVariants as disks
+use Rattle.forecourt_days.specs.declared.plan.ReportForm.{ReportForm}
+use Rattle.forecourt_days.specs.declared.plan.ReportForm.TheVariants.{Json, Text}
 use Rattle.station.specs.Moves.{StationState}
 use Rattle.station.specs.Reads.{HasNoPeer}
 use Rattle.station.specs.Runs.{Move, after, opening_station}
@@ -25,9 +27,24 @@ day_station opens moves = after moves (opening_station opens)
 abbrev pub day_book : Book → List Move → Book
 day_book opens moves = (day_station opens moves).book
 
--- the line that tells the port, and the report of the book that the day's moves led to
-abbrev pub station_text : Book → ℕ → List Move → List ℕ
-station_text opens port moves = listening_line port ++ book_report (day_book opens moves)
+-- where its page is
+abbrev pub page_line : ℕ → List ℕ
+page_line page = codes "page http://127.0.0.1:" ++ decimal page ++ codes "/\n"
+
+-- where it listens, and where its page is, if it has one
+abbrev pub places_text : ℕ → Option ℕ → List ℕ
+places_text port None = listening_line port
+places_text port (Some page) = listening_line port ++ page_line page
+
+-- the report of a book, as text or as JSON
+abbrev pub report_in : ReportForm → Book → List ℕ
+report_in Text b = book_report b
+report_in Json b = compact_text (book_report_data b) ++ 10 ∷ []
+
+-- where it listens, and the report of the book that the day's moves led to
+abbrev pub station_text : Book → ℕ → Option ℕ → ReportForm → List Move → List ℕ
+station_text opens port page form moves =
+    places_text port page ++ report_in form (day_book opens moves)
 
 -- how a day ends whose server ends so
 abbrev pub ended_by : ServerFault → DayFault
@@ -35,21 +52,16 @@ ended_by servers.NoMemory = NoMemory
 ended_by servers.NoConnection = NoConnection
 ended_by servers.NotStored = Write writes.Failed
 
--- .. or whose journal isn't begun
-abbrev pub unstored_by : DiskFault → DayFault
-unstored_by disks.NoMemory = NoMemory
-unstored_by disks.Failed = Write writes.Failed
-
 -- the whole text of a day was written, at whose end nobody is there, and no till is signed on
-pub record TellsDay (opens : Book) (port : ℕ) (holds holds' : Option (List ℕ))
-    : Type 0 where
+pub record TellsDay (opens : Book) (port : ℕ) (page : Option ℕ) (form : ReportForm)
+    (holds holds' : Option (List ℕ)) : Type 0 where
   pub moves : List Move
   pub left : HasNoPeer (day_station opens moves)
   pub off : (t : ℕ) → is_signed_on (site_of_book (day_book opens moves)) t ≡ false
-  pub told : Appends holds holds' (station_text opens port moves)
+  pub told : Appends holds holds' (station_text opens port page form moves)
 
 -- a front of the text of a day was written
-pub record TellsFront (opens : Book) (port : ℕ) (holds holds' : Option (List ℕ))
-    : Type 0 where
+pub record TellsFront (opens : Book) (port : ℕ) (page : Option ℕ) (form : ReportForm)
+    (holds holds' : Option (List ℕ)) : Type 0 where
   pub moves : List Move
-  pub told : AppendsFront holds holds' (station_text opens port moves)
+  pub told : AppendsFront holds holds' (station_text opens port page form moves)

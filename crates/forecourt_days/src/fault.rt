@@ -4,7 +4,6 @@ ghost use Rattle.std.specs.Prelude.{◌≡◌};
 ghost use Rattle.forecourt_days.specs.Days.{day_status};
 
 use counter_desk::{Naming, SettleFault, Unsettled};
-use journal::DiskFault;
 use site_base::{NoMemory, WriteFault};
 use station_server::ServerFault;
 use std::sync::ledger::Ledger;
@@ -81,20 +80,6 @@ impl From<ServerFault> for DayFault {
             ServerFault::NoMemory => DayFault::NoMemory,
             ServerFault::NoConnection => DayFault::NoConnection,
             ServerFault::NotStored => DayFault::Write(WriteFault::Failed),
-        }
-    }
-}
-
-impl From<DiskFault> for DayFault {
-    ghost use Rattle.std.specs.Prelude.{◌≡◌};
-    ghost use Rattle.forecourt_days.specs.StationDays.{unstored_by};
-
-    ghost from_gives = { λ f e. e ≡ unstored_by f };
-
-    fn from(fault: DiskFault) -> DayFault {
-        match fault {
-            DiskFault::NoMemory => DayFault::NoMemory,
-            DiskFault::Failed => DayFault::Write(WriteFault::Failed),
         }
     }
 }

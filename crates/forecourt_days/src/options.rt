@@ -1,7 +1,8 @@
 //! The plans of a server and of a station, from the words of a command line.
 
 ghost use Rattle.std.specs.Prelude.{ℕ, Option, ◌≡◌, IfOk, IfErr, IfSome, IfNone, option_map};
-ghost use Rattle.forecourt_days.specs.Plans.{TellsIdle, TellsNumber, TellsPlan, TellsStationPlan};
+ghost use Rattle.forecourt_days.specs.Plans.{TellsIdle, TellsNumber, TellsPage, TellsPlan};
+ghost use Rattle.forecourt_days.specs.Plans.{TellsStationPlan};
 ghost use Rattle.forecourt_days.specs.Plans.{IsFirstFault, IsFirstStationFault};
 
 use crate::plan::{IDLE_SECONDS, ServerPlan, StationPlan};
@@ -21,6 +22,9 @@ pub enum OptionFault {
     /// The sessions.
     #[error("--sessions is a decimal number from 1 to {max}", max = SESSIONS)]
     Sessions,
+    /// The page's port.
+    #[error("--page is a decimal number from 0 to {max}", max = u16::MAX)]
+    Page,
     /// The seconds of a silent session.
     #[error("--idle is a decimal number from 1 to {max}", max = IDLE_SECONDS)]
     Idle,
@@ -48,20 +52,42 @@ impl ServerPlan {
 
 impl StationPlan {
     /// The plan that these words tell, or the first of them that isn't a decimal number in its
-    /// range: the port from 0 (a free one) to 65535, the seconds, where there is a word of them,
-    /// from 1 to 86,400. A sign is no digit.
-    pub fn read(port: &str, idle: Option<&str>) -> Result<StationPlan, OptionFault>
-        ensures plan { IfOk result (λ plan.
-            TellsStationPlan port.now (option_map (λ w. w.now) idle.entry) plan) }
-        ensures first { IfErr result (λ fault.
-            IsFirstStationFault port.now (option_map (λ w. w.now) idle.entry) fault) }
+    /// range: the port from 0 (a free one) to 65535, that of the page too, where there is a word of
+    /// it, the seconds, where there is a word of them, from 1 to 86,400. A sign is no digit.
+    pub fn read(
+        port: &str,
+        page: Option<&str>,
+        idle: Option<&str>,
+    ) -> Result<StationPlan, OptionFault>
+        ensures plan { IfOk result (λ plan. TellsStationPlan port.now
+            (option_map (λ w. w.now) page.entry) (option_map (λ w. w.now) idle.entry) plan) }
+        ensures first { IfErr result (λ fault. IsFirstStationFault port.now
+            (option_map (λ w. w.now) page.entry) (option_map (λ w. w.now) idle.entry) fault) }
     {
         let port = number_in(port, 0, u64::from(u16::MAX)).ok_or(OptionFault::Port)?;
+        let page = read_page(page)?;
         let idle = read_idle(idle)?;
         Ok(StationPlan {
             port: port as u16,
+            page,
             idle,
         })
+    }
+}
+
+/// The port that a word tells, where there is one.
+fn read_page(page: Option<&str>) -> Result<Option<u16>, OptionFault>
+    ensures told { IfOk result (λ n. TellsPage (option_map (λ w. w.now) page.entry) n) }
+    ensures other { IfErr result (λ fault.
+        (fault ≡ OptionFault.Page)
+        × ((n : Option ℕ) → ¬ TellsPage (option_map (λ w. w.now) page.entry) n)) }
+{
+    match page {
+        None => Ok(None),
+        Some(word) => match number_in(word, 0, u64::from(u16::MAX)) {
+            Some(port) => Ok(Some(port as u16)),
+            None => Err(OptionFault::Page),
+        },
     }
 }
 

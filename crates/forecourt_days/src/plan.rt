@@ -26,11 +26,22 @@ pub struct ServerPlan {
 /// A session of which nothing comes for so many seconds can be ended, at most.
 pub const IDLE_SECONDS: u64 = 86_400;
 
-/// The port on which a station listens, and how long a peer may be silent.
+/// The ports on which a station listens, and how long a peer may be silent.
 #[derive(Clone, Copy, Debug, PartialEq, Eq)]
 pub struct StationPlan {
     /// The port, 0 for a free one.
     pub port: u16,
+    /// The page's port, 0 for a free one; without a number there is no page.
+    pub page: Option<u16>,
     /// A session of which nothing comes for so many seconds ends; without a number none does.
     pub idle: Option<u64>,
+}
+
+/// How a day's report is written.
+#[derive(Clone, Copy, Debug, PartialEq, Eq)]
+pub enum ReportForm {
+    /// A line for each figure.
+    Text,
+    /// One object of JSON, on one line.
+    Json,
 }

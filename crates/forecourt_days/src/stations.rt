@@ -1,20 +1,21 @@
 //! A day of a station.
 
-ghost use Rattle.std.specs.Prelude.{◌≡◌, OnOk, true};
+ghost use Rattle.std.specs.Prelude.{◌≡◌, IfOk, OnOk, false, string_bytes, true};
 ghost use Rattle.site_base.specs.Counted.{device_of};
 ghost use Rattle.std.specs.Io.KnownBytes.{Appends};
 ghost use Rattle.site_base.specs.Devices.{AppendsFront};
-ghost use Rattle.forecourt_engines.specs.Report.{book_report};
+ghost use Rattle.forecourt_days.specs.declared.plan.ReportForm.{ReportForm};
 ghost use Rattle.journal.specs.Opening.{HasNobodyOn};
 ghost use Rattle.journal.specs.Stored.{is_all_stored};
 ghost use Rattle.station.specs.Runs.{opening_station};
-ghost use Rattle.forecourt_days.specs.StationDays.{TellsDay, TellsFront};
+ghost use Rattle.forecourt_days.specs.StationDays.{TellsDay, TellsFront, report_in};
 
 use crate::fault::DayFault;
-use crate::writing::put_listening;
+use crate::plan::ReportForm;
+use crate::writing::put_places;
 use forecourt_engines::reporting::report_of_book;
 use journal::{Disk, StoredStation};
-use site_base::{Counted, write_whole};
+use site_base::{Counted, NoMemory, write_whole};
 use site_book::SiteBook;
 use station_server::{Connections, StationServer};
 use std::alloc::Global;
@@ -23,8 +24,9 @@ use std::sync::Wait;
 use std::time::Clock;
 
 /// A day of a station that was opened at this book, with its journal if it has one, and whose
-/// server listens already: it writes where, serves until the day's end, ends the sessions that are
-/// left, so that nobody is there, and writes the report of its book, by the book's audit. Sessions
+/// server listens already: it writes where, and where its page is, serves until the day's end, ends
+/// the sessions that are left, so that nobody is there, and writes the report of its book in this
+/// form, by the book's audit. Sessions
 /// of which nothing comes for so many seconds are ended. Where waiting for connections fails the
 /// day ends so, with `NoConnection` behind the report; where the journal takes no more it ends with
 /// `Write`, without a report, since that would tell of rows that aren't stored. However it ends,
@@ -36,20 +38,21 @@ pub fn station_day<W: Write, T: Wait, R: Clock + Eprint, D: Disk>(
     stored: StoredStation<D>,
     server: &mut StationServer,
     idle: Option<u64>,
+    form: ReportForm,
     turns: &mut u64,
     writer: &mut Counted<W>,
 ) -> Result<(), DayFault>
     requires alone { stored.station ≡ opening_station stored.station.book }
     requires off { HasNobodyOn stored.station.book }
-    ensures told { OnOk result (TellsDay stored.station.book server.old.port
-        (W.contents (device_of writer.old)) (W.contents (device_of writer.new))) }
-    ensures front { TellsFront stored.station.book server.old.port
+    ensures told { OnOk result (TellsDay stored.station.book server.old.port server.old.page_port
+        form (W.contents (device_of writer.old)) (W.contents (device_of writer.new))) }
+    ensures front { TellsFront stored.station.book server.old.port server.old.page_port form
         (W.contents (device_of writer.old)) (W.contents (device_of writer.new)) }
 {
     let mut connections = Connections::new(alloc, stored)?;
-    put_listening(alloc, server.port(), writer, turns)?;
+    put_places(alloc, server.port(), server.page_port(), writer, turns)?;
     let served = server.serve(threads, rt, &mut connections, idle);
-    put_stored_report(alloc, &connections, writer, turns)?;
+    put_stored_report(alloc, &connections, form, writer, turns)?;
     served?;
     Ok(())
 }
@@ -58,17 +61,19 @@ pub fn station_day<W: Write, T: Wait, R: Clock + Eprint, D: Disk>(
 fn put_stored_report<W: Write, D: Disk>(
     alloc: Global,
     connections: &Connections<D>,
+    form: ReportForm,
     writer: &mut Counted<W>,
     turns: &mut u64,
 ) -> Result<(), DayFault>
     ensures written { is_all_stored connections.now.stored ≡ true → OnOk result
         (Appends (W.contents (device_of writer.old)) (W.contents (device_of writer.new))
-        (book_report connections.now.stored.station.book)) }
+        (report_in form connections.now.stored.station.book)) }
     ensures front { AppendsFront (W.contents (device_of writer.old))
-        (W.contents (device_of writer.new)) (book_report connections.now.stored.station.book) }
+        (W.contents (device_of writer.new)) (report_in form connections.now.stored.station.book) }
+    ensures untold { is_all_stored connections.now.stored ≡ false → writer.new ≡ writer.old }
 {
     if connections.is_all_stored() {
-        put_book_report(alloc, connections.book(), writer, turns)
+        put_book_report(alloc, connections.book(), form, writer, turns)
     } else {
         Ok(())
     }
@@ -78,15 +83,36 @@ fn put_stored_report<W: Write, D: Disk>(
 fn put_book_report<W: Write>(
     alloc: Global,
     book: &SiteBook,
+    form: ReportForm,
     writer: &mut Counted<W>,
     turns: &mut u64,
 ) -> Result<(), DayFault>
     ensures written { OnOk result (Appends (W.contents (device_of writer.old))
-        (W.contents (device_of writer.new)) (book_report book.now)) }
+        (W.contents (device_of writer.new)) (report_in form book.now)) }
     ensures front { AppendsFront (W.contents (device_of writer.old))
-        (W.contents (device_of writer.new)) (book_report book.now) }
+        (W.contents (device_of writer.new)) (report_in form book.now) }
 {
-    let text = report_of_book(alloc, book.config(), book)?;
+    let text = report_text(alloc, book, form)?;
     write_whole(writer, text.as_str().as_bytes(), turns)?;
     Ok(())
+}
+
+/// The report of a book, by its audit.
+fn report_text(alloc: Global, book: &SiteBook, form: ReportForm) -> Result<String, NoMemory>
+    ensures { IfOk result (λ text. string_bytes text ≡ report_in form book.now) }
+{
+    match form {
+        ReportForm::Text => report_of_book(alloc, book.config(), book),
+        ReportForm::Json => json_report_of_book(alloc, book),
+    }
+}
+
+/// The report of a book as JSON, by its audit: one object, on one line.
+pub fn json_report_of_book(alloc: Global, book: &SiteBook) -> Result<String, NoMemory>
+    ensures { IfOk result (λ text. string_bytes text ≡ report_in ReportForm.Json book.now) }
+{
+    let totals = book.audit(alloc)?;
+    let mut text = site_json::report_text(alloc, book.config().products(), &totals, 0)?;
+    text.push('\n')?;
+    Ok(text)
 }

@@ -7,6 +7,7 @@ ghost use Rattle.site_base.specs.Counted.{device_of, failures_of};
 ghost use Rattle.site_base.specs.Devices.{AppendsFront, one_more};
 ghost use Rattle.forecourt_engines.specs.Report.{report_text};
 ghost use Rattle.forecourt_days.specs.Days.{listening_line};
+ghost use Rattle.forecourt_days.specs.StationDays.{page_line, places_text};
 
 use crate::fault::DayFault;
 use counter_desk::Settled;
@@ -38,6 +39,45 @@ pub fn put_listening<W: Write>(
     let line = line_of(alloc, port)?;
     write_whole(writer, line.as_str().as_bytes(), turns)?;
     Ok(())
+}
+
+/// Writes where a station listens, and where its page is, if it has one. However it ends, a front
+/// of these lines is written.
+pub(crate) fn put_places<W: Write>(
+    alloc: Global,
+    port: u16,
+    page: Option<u16>,
+    writer: &mut Counted<W>,
+    turns: &mut u64,
+) -> Result<(), DayFault>
+    ensures written { OnOk result (Appends (W.contents (device_of writer.old))
+        (W.contents (device_of writer.new)) (places_text port page)) }
+    ensures front { AppendsFront (W.contents (device_of writer.old))
+        (W.contents (device_of writer.new)) (places_text port page) }
+{
+    let lines = places_of(alloc, port, page)?;
+    write_whole(writer, lines.as_str().as_bytes(), turns)?;
+    Ok(())
+}
+
+/// The lines that tell where a station listens, and where its page is.
+fn places_of(alloc: Global, port: u16, page: Option<u16>) -> Result<String, NoMemory>
+    ensures { IfOk result (λ text. string_bytes text ≡ places_text port page) }
+{
+    let mut lines = line_of(alloc, port)?;
+    let Some(page) = page else {
+        return Ok(lines);
+    };
+    let line = page_line_of(alloc, page)?;
+    lines.push_str(line.as_str())?;
+    Ok(lines)
+}
+
+/// The line that tells where a station's page is.
+fn page_line_of(alloc: Global, page: u16) -> Result<String, NoMemory>
+    ensures { IfOk result (λ line. string_bytes line ≡ page_line page) }
+{
+    Ok(format!(in alloc; "page http://127.0.0.1:{page}/\n")?)
 }
 
 /// The line that tells where the server listens.

@@ -1,12 +1,11 @@
 -- Fronts of octets, and fronts that stay through calls.
-use Rattle.std.proofs.Common.{◌≡◌, ℕ, ◌-◌, List, [], ◌∷◌, ◌++◌, length, take, drop, Option, Some}
+use Rattle.std.proofs.Common.{◌≡◌, ℕ, ◌-◌, List, [], ◌∷◌, ◌++◌, length, take, Option, Some}
 use Rattle.std.proofs.Common.{None}
 use Rattle.std.proofs.Common.{sym, ap, ◌∙◌, append_assoc, append-nil, arith, subst}
 use Rattle.std.specs.Prelude.{◌≤◌}
 use Rattle.std.specs.List.{AllByRecursion}
-use Rattle.std.proofs.lemmas.List.{take-append-drop}
 use Rattle.std.proofs.Math.Seq.{take-append-add}
-use Rattle.journal.specs.Disks.{BeginsWith, DiskFile, Keeps, KeepsFront, KeepsOf, OfFiles}
+use Rattle.journal.specs.Disks.{BeginsWith, DiskFile, Keeps, KeepsFront, OfFiles}
 
 pub begins_all : (xs : List ℕ) → BeginsWith xs xs
 begins_all xs = record { rest = []; parts = sym (append-nil xs) }
@@ -80,24 +79,6 @@ files_then None None (Some c) one two = absurd two
 files_then None (Some b) c one two = absurd one
 files_then (Some a) None c one two = absurd one
 files_then (Some a) (Some b) None one two = absurd two
-
--- the same of so many octets that stay
-pub cut_same : (n : ℕ) (a b : Option DiskFile) → b ≡ a → OfFiles (KeepsOf n) a b
-cut_same n None b is = subst (λ (x : Option DiskFile). OfFiles (KeepsOf n) None x) (sym is) tt
-cut_same n (Some a) b is =
-    subst (λ (x : Option DiskFile). OfFiles (KeepsOf n) (Some a) x) (sym is)
-    (keeps_none (take n a.synced) a
-    (begins_with (take n a.synced) (drop n a.synced) a.synced
-    (sym (take-append-drop n a.synced))))
-
-pub cut_then : (n : ℕ) (a b c : Option DiskFile) → OfFiles (KeepsOf n) a b → OfFiles Keeps b c
-    → OfFiles (KeepsOf n) a c
-cut_then n None None None one two = tt
-cut_then n (Some a) (Some b) (Some c) one two = keeps_on (take n a.synced) a b c one two
-cut_then n None None (Some c) one two = absurd two
-cut_then n None (Some b) c one two = absurd one
-cut_then n (Some a) None c one two = absurd one
-cut_then n (Some a) (Some b) None one two = absurd two
 
 -- a front no longer than what stays is a front of it
 pub front_of_cut : (n : ℕ) (f xs : List ℕ) → BeginsWith f xs → length f ≤ n

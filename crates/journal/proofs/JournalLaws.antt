@@ -47,7 +47,7 @@ move_adds (Takes k n) s = adds_nothing k n s
 move_adds (Finishes k) s = adds_end k s
 move_adds (Leaves k) s = adds_left k s
 
-moves_add : (ms : List Move) (s : StationState) → Adds s.book (after ms s).book
+pub moves_add : (ms : List Move) (s : StationState) → Adds s.book (after ms s).book
 moves_add [] s = adds_same s.book s.book refl
 moves_add (m ∷ ms) s =
     adds_then s.book (after_move m s).book _ (move_adds m s) (moves_add ms (after_move m s))

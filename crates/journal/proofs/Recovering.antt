@@ -5,8 +5,8 @@ use Rattle.std.proofs.Common.{inl, inr, append_assoc}
 use Rattle.std.specs.List.{AllByRecursion}
 use Rattle.std.specs.Prelude.{◌≤◌, if◌then◌else◌}
 use Rattle.std.proofs.lemmas.Bool.{cases_lt, eqb-true}
-use Rattle.std.proofs.lemmas.List.{length-drop, take-append-drop, take-append-le, take_all}
-use Rattle.std.proofs.lemmas.List.{drop-append-le}
+use Rattle.std.proofs.lemmas.List.{length-drop, take-append-drop, take-append-le}
+use Rattle.std.proofs.lemmas.List.{drop-append-le, nil_from_length}
 use Rattle.site_base.specs.declared.actor.Actor.{Actor}
 use Rattle.site_base.specs.declared.event.Event.{Event}
 use Rattle.site_base.specs.declared.row.Row.{Row}
@@ -14,66 +14,38 @@ use Rattle.site_base.specs.Configured.{Configured}
 use Rattle.written_site.specs.SiteRun.{events_of}
 use Rattle.site_book.specs.Book.{Book}
 use Rattle.forecourt_engines.specs.Laws.{IsLine}
-use Rattle.journal.specs.Disks.{BeginsWith, Cuts, DiskFile, Keeps, KeepsOf, OfFile, OfFiles, Reads}
-use Rattle.journal.specs.Disks.{Syncs}
+use Rattle.journal.specs.Disks.{BeginsWith, BeginsWithEither, DiskFile, Keeps, KeepsEither, OfFile}
+use Rattle.journal.specs.Disks.{OfFiles, Reads, Renews}
 use Rattle.journal.specs.History.{IsMadeAgain, all_made_again, empty_book}
 use Rattle.journal.specs.JournalLines.{TellsWhole, lines_from, unfinished, unfinished_from}
 use Rattle.journal.specs.JournalLines.{whole_lines}
 use Rattle.journal.specs.JournalText.{IsSent}
 use Rattle.journal.specs.Readings.{IsRead, TellsNothing}
-use Rattle.journal.specs.Recovering.{Begins, IsReadIn, KeepsWholeLines, Settles, TellsNothingIn}
+use Rattle.journal.specs.Recovering.{IsReadIn, KeepsWholeLines, Settles, TellsNothingIn}
 use Rattle.journal.specs.Recovering.{settled_octets}
 use Rattle.journal.specs.Stored.{HoldsRows}
-use Rattle.journal.proofs.Fronts.{begins_then, front_of_cut, keeps_less, keeps_none, keeps_on}
+use Rattle.journal.proofs.Fronts.{all_each, begins_then, front_of_cut, keeps_none, keeps_on}
 use Rattle.journal.proofs.JournalLaws.{first_alone}
 use Rattle.journal.proofs.Lines.{lines_both, unfinished_both}
 use Rattle.journal.proofs.Readings.{made_of_lines, rows_again}
 
--- ---- the calls, where a file is known
+-- ---- what takes the file's place
 
--- nothing is cut where there is no more
-pub cut_none : (n len : ℕ) (a b : Option DiskFile) → OfFile (λ f. length f.octets ≡ len) a
-    → len ≤ n → b ≡ a → OfFiles (Cuts n) a b
-cut_none n len None b size enough is =
-    subst (λ (x : Option DiskFile). OfFiles (Cuts n) None x) (sym is) tt
-cut_none n len (Some a) b size enough is =
-    subst (λ (x : Option DiskFile). OfFiles (Cuts n) (Some a) x) (sym is)
-    (sym (take_all n a.octets (omega (arith, size, enough))))
+renewed_by : (first_line octets left : List ℕ) (n : ℕ) (a b : DiskFile) → Reads octets a
+    → left ≡ settled_octets first_line n octets → Renews left a b → Settles first_line n a b
+renewed_by first_line octets left n a b reads is renewed =
+    let same : left ≡ settled_octets first_line n a.octets =
+    is ∙ ap (settled_octets first_line n) reads.0 in
+    (renewed.0 ∙ same, renewed.1 ∙ sym renewed.0, renewed.2)
 
--- nothing is begun behind whole lines
-pub begun_none : (first_line : List ℕ) (n : ℕ) (a b : Option DiskFile) → eqb n 0 ≡ false → b ≡ a
-    → OfFiles (Begins first_line n) a b
-begun_none first_line n None b some is =
-    subst (λ (x : Option DiskFile). OfFiles (Begins first_line n) None x) (sym is) tt
-begun_none first_line n (Some a) b some is =
-    subst (λ (x : Option DiskFile). OfFiles (Begins first_line n) (Some a) x) (sym is)
-    (ap (λ (t : Bool). if t then a.octets ++ first_line else a.octets) (sym some))
-
-settled_by : (first_line : List ℕ) (n : ℕ) (a b c d : DiskFile) → Cuts n a b
-    → Begins first_line n b c → Syncs c d → Settles first_line n a d
-settled_by first_line n a b c d cut begins synced =
-    (synced.0 ∙ begins ∙ by_test (eqb n 0) refl, synced.1 ∙ sym synced.0)
-  where
-    by_test : (t : Bool) → eqb n 0 ≡ t
-        → (if t then b.octets ++ first_line else b.octets)
-        ≡ (if t then first_line else take n a.octets)
-    by_test true is =
-        ap (λ (xs : List ℕ). xs ++ first_line)
-        (cut ∙ ap (λ (m : ℕ). take m a.octets) (eqb-true n 0 is))
-    by_test false is = cut
-
-pub settled_then : (first_line : List ℕ) (n : ℕ) (a b c d : Option DiskFile)
-    → OfFiles (Cuts n) a b → OfFiles (Begins first_line n) b c → OfFiles Syncs c d
-    → OfFiles (Settles first_line n) a d
-settled_then first_line n None None None None cut begins synced = tt
-settled_then first_line n (Some a) (Some b) (Some c) (Some d) cut begins synced =
-    settled_by first_line n a b c d cut begins synced
-settled_then first_line n None None None (Some d) cut begins synced = absurd synced
-settled_then first_line n None None (Some c) d cut begins synced = absurd begins
-settled_then first_line n None (Some b) c d cut begins synced = absurd cut
-settled_then first_line n (Some a) None c d cut begins synced = absurd cut
-settled_then first_line n (Some a) (Some b) None d cut begins synced = absurd begins
-settled_then first_line n (Some a) (Some b) (Some c) None cut begins synced = absurd synced
+pub renewed_file : (first_line octets left : List ℕ) (n : ℕ) (a b : Option DiskFile)
+    → OfFile (Reads octets) a → left ≡ settled_octets first_line n octets
+    → OfFiles (Renews left) a b → OfFiles (Settles first_line n) a b
+renewed_file first_line octets left n None None reads is renewed = tt
+renewed_file first_line octets left n (Some a) (Some b) reads is renewed =
+    renewed_by first_line octets left n a b reads is renewed
+renewed_file first_line octets left n None (Some b) reads is renewed = absurd renewed
+renewed_file first_line octets left n (Some a) None reads is renewed = absurd renewed
 
 -- ---- the book
 
@@ -132,7 +104,7 @@ holds_read header octets whole b old new plain same (inl begun) settled =
         rest = [];
         parts = settled.1 ∙ settled.0 ∙ left ∙ sym (append-nil (header ++ 10 ∷ []));
       };
-      settled = λ never. (settled.0 ∙ left, settled.1 ∙ settled.0 ∙ left);
+      settled = λ never. (settled.0 ∙ left, settled.1 ∙ settled.0 ∙ left, settled.2);
     }
 holds_read header octets whole b old new plain same (inr back) settled =
     let some = some_lines header octets whole back.events back.tells in
@@ -148,7 +120,7 @@ holds_read header octets whole b old new plain same (inr back) settled =
         rest = [];
         parts = settled.1 ∙ settled.0 ∙ left ∙ sym (append-nil (take whole octets));
       };
-      settled = λ never. (settled.0 ∙ left, settled.1 ∙ settled.0 ∙ left);
+      settled = λ never. (settled.0 ∙ left, settled.1 ∙ settled.0 ∙ left, settled.2);
     }
 
 pub holds_read_in : (header octets first_line : List ℕ) (whole : ℕ) (b : Book)
@@ -212,32 +184,59 @@ short_front front octets whole few ended none begins closed =
           absurd (omega (arith, longer, size, length-drop whole front))
     ]
 
-lines_stay : (header octets : List ℕ) (whole : ℕ) (b : Book) (old new : DiskFile)
-    → Reads octets old → IsRead header octets whole b → KeepsOf whole old new
-    → KeepsWholeLines old new
-lines_stay header octets whole b old new reads is keeps front closed begins =
-    let here : BeginsWith front octets =
-    subst (BeginsWith front) (sym reads.0)
-    (begins_then front old.synced old.octets begins reads.1) in
-    keeps_less front (take whole old.synced) old new
-    (front_of_cut whole front old.synced begins (by_reading is here)) keeps
-  where
-    by_reading : IsRead header octets whole b → BeginsWith front octets → length front ≤ whole
-    by_reading (inl begun) here =
-        short_front front octets whole (omega (arith, begun.none))
-        (ap (λ (n : ℕ). unfinished (take n octets)) begun.none)
-        (ap (λ (n : ℕ). whole_lines (drop n octets)) begun.none ∙ begun.first.none_ends) here closed
-    by_reading (inr back) here =
-        short_front front octets whole back.few back.tells.whole back.behind here closed
+-- .. so it is one of what takes the file's place
+front_settled : (header first_line octets front : List ℕ) (whole : ℕ) (b : Book)
+    → IsRead header octets whole b → BeginsWith front octets → unfinished front ≡ []
+    → BeginsWith front (settled_octets first_line whole octets)
+front_settled header first_line octets front whole b (inl begun) here closed =
+    let short = short_front front octets whole (omega (arith, begun.none))
+    (ap (λ (n : ℕ). unfinished (take n octets)) begun.none)
+    (ap (λ (n : ℕ). whole_lines (drop n octets)) begun.none ∙ begun.first.none_ends) here closed in
+    let none : front ≡ [] = nil_from_length front (omega (arith, short, begun.none)) in
+    subst (λ (xs : List ℕ). BeginsWith xs (settled_octets first_line whole octets)) (sym none)
+    (record { rest = settled_octets first_line whole octets; parts = refl })
+front_settled header first_line octets front whole b (inr back) here closed =
+    let short = short_front front octets whole back.few back.tells.whole back.behind here closed in
+    let left : settled_octets first_line whole octets ≡ take whole octets =
+    ap (λ (t : Bool). if t then first_line else take whole octets)
+    (some_lines header octets whole back.events back.tells) in
+    subst (BeginsWith front) (sym left) (front_of_cut whole front octets here short)
 
-pub lines_stay_in : (header octets : List ℕ) (whole : ℕ) (b : Book) (old new : Option DiskFile)
-    → OfFile (Reads octets) old → IsRead header octets whole b → OfFiles (KeepsOf whole) old new
+lines_stay : (header first_line octets left : List ℕ) (whole : ℕ) (b : Book) (old new : DiskFile)
+    → Reads octets old → IsRead header octets whole b
+    → left ≡ settled_octets first_line whole octets → KeepsEither left old new
+    → KeepsWholeLines old new
+lines_stay header first_line octets left whole b old new reads is settled keeps front closed begins =
+    record {
+      more = keeps.more;
+      moments = keeps.moments;
+      each = all_each (BeginsWithEither old.synced left) (BeginsWith front) by_either keeps.more
+          keeps.each;
+      last = by_either new.synced keeps.last;
+    }
+  where
+    here : BeginsWith front octets
+    here = subst (BeginsWith front) (sym reads.0)
+        (begins_then front old.synced old.octets begins reads.1)
+
+    by_either : (x : List ℕ) → BeginsWithEither old.synced left x → BeginsWith front x
+    by_either x (inl old_front) = begins_then front old.synced x begins old_front
+    by_either x (inr new_front) =
+        begins_then front left x
+        (subst (BeginsWith front) (sym settled)
+        (front_settled header first_line octets front whole b is here closed)) new_front
+
+pub lines_stay_in : (header first_line octets left : List ℕ) (whole : ℕ) (b : Book)
+    (old new : Option DiskFile) → OfFile (Reads octets) old → IsRead header octets whole b
+    → left ≡ settled_octets first_line whole octets → OfFiles (KeepsEither left) old new
     → OfFiles KeepsWholeLines old new
-lines_stay_in header octets whole b None None reads is keeps = tt
-lines_stay_in header octets whole b (Some old) (Some new) reads is keeps =
-    lines_stay header octets whole b old new reads is keeps
-lines_stay_in header octets whole b None (Some new) reads is keeps = absurd keeps
-lines_stay_in header octets whole b (Some old) None reads is keeps = absurd keeps
+lines_stay_in header first_line octets left whole b None None reads is settled keeps = tt
+lines_stay_in header first_line octets left whole b (Some old) (Some new) reads is settled keeps =
+    lines_stay header first_line octets left whole b old new reads is settled keeps
+lines_stay_in header first_line octets left whole b None (Some new) reads is settled keeps =
+    absurd keeps
+lines_stay_in header first_line octets left whole b (Some old) None reads is settled keeps =
+    absurd keeps
 
 -- where the file stays, so do its lines
 pub lines_same : (old new : Option DiskFile) → new ≡ old → OfFiles KeepsWholeLines old new
@@ -257,8 +256,8 @@ lines_then None (Some b) c one two = absurd one
 lines_then (Some a) None c one two = absurd one
 lines_then (Some a) (Some b) None one two = absurd two
 
--- what was read is as long as the file
-pub size_of : (octets : List ℕ) (file : Option DiskFile) → OfFile (Reads octets) file
-    → OfFile (λ f. length f.octets ≡ length octets) file
-size_of octets None reads = tt
-size_of octets (Some f) reads = ap length (sym reads.0)
+-- what is read is within the octets
+pub few_read : (header octets : List ℕ) (whole : ℕ) (b : Book) → IsRead header octets whole b
+    → whole ≤ length octets
+few_read header octets whole b (inl begun) = omega (arith, begun.none)
+few_read header octets whole b (inr back) = back.few

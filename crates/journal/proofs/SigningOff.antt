@@ -1,7 +1,8 @@
 -- Tills that are signed off, one after another.
-use Rattle.std.proofs.Common.{◌≡◌, ℕ, ◌+◌, ◌<◌, ◌==◌, Bool, true, false, List, [], ◌∷◌, ◌++◌}
+use Rattle.std.proofs.Common.{◌≡◌, ℕ, zero, suc, ◌+◌, ◌-◌, ◌<◌, ◌==◌, Bool, true, false, List, []}
+use Rattle.std.proofs.Common.{◌∷◌, ◌++◌}
 use Rattle.std.proofs.Common.{length, take}
-use Rattle.std.proofs.Common.{Option, Some, None, refl, sym, ap, ◌∙◌, append_assoc, append-nil}
+use Rattle.std.proofs.Common.{Option, Some, None, refl, sym, ap, ◌∙◌}
 use Rattle.std.proofs.Common.{arith, subst}
 use Rattle.std.specs.Prelude.{◌≤◌, OnSome, if◌then◌else◌, is_ok, is_some, unwrap_or}
 use Rattle.std.specs.Ordering.{nat_cmp}
@@ -31,10 +32,11 @@ use Rattle.station.specs.Sessions.{without_till}
 use Rattle.station.proofs.Leaving.{signed_off}
 use Rattle.journal.specs.Disks.{DiskFile, Keeps, OfFile, OfFiles}
 use Rattle.journal.specs.History.{empty_book}
-use Rattle.journal.specs.Opening.{AddsSignOffs, HasNobodyOn, IsSignOff, Resumes}
+use Rattle.journal.specs.Opening.{HasNobodyOn, Resumes, all_off, tills_off}
 use Rattle.journal.specs.Stored.{HoldsRows, IsJournalOf, JournalGoesOn, JournalState, StoredState}
 use Rattle.journal.specs.Stored.{is_all_stored}
-use Rattle.journal.proofs.Fronts.{all_both}
+use Rattle.journal.proofs.Made.{Adds, adds_same, adds_then}
+use Rattle.journal.proofs.Moves.{adds_leaving}
 
 -- the sign-off of another till changes nothing of this one
 others_stay : (b : Book) (v u : ℕ) → (v == u) ≡ false
@@ -56,22 +58,22 @@ others_stay b v u other = by_test (is_signed_on (site_of_book b) v)
         ∙ unsaid (is_ok (next_row b (Till v) SignOff).reply) (is_signed_on (site_of_book b) u)
     by_test false = refl
 
-pub adds_none : (b : Book) → AddsSignOffs b b
-adds_none b = record { same = refl; more = []; rows = sym (append-nil b.rows); offs = tt }
+-- sign-offs only add rows
+pub off_adds : (n : ℕ) (b : Book) → Adds b (tills_off n b)
+off_adds zero b = adds_same b b refl
+off_adds (suc n) b =
+    adds_then b (tills_off n b) (tills_off (suc n) b) (off_adds n b)
+    (adds_leaving (Some (suc n)) (tills_off n b))
 
-pub adds_one : (a b : Book) (t : ℕ) → AddsSignOffs a b → AddsSignOffs a (without_till (Some t) b)
-adds_one a b t adds = by_test (is_signed_on (site_of_book b) t)
-  where
-    by_test : (on : Bool) → AddsSignOffs a (if on then with_row_of b (Till t) SignOff else b)
-    by_test true = record {
-      same = adds.same;
-      more = adds.more ++ next_row b (Till t) SignOff ∷ [];
-      rows = ap (λ (rs : List Row). rs ++ next_row b (Till t) SignOff ∷ []) adds.rows
-          ∙ append_assoc a.rows adds.more (next_row b (Till t) SignOff ∷ []);
-      offs = all_both IsSignOff adds.more (next_row b (Till t) SignOff ∷ []) adds.offs
-          (record { till = t; actor = refl; event = refl }, tt);
-    }
-    by_test false = adds
+-- one till more
+pub one_more : (n : ℕ) (a b : Book) → b ≡ tills_off (n - 1) a → 1 ≤ n
+    → without_till (Some n) b ≡ tills_off (n + 1 - 1) a
+one_more zero a b is least = absurd (omega (arith, least))
+one_more (suc n) a b is least =
+    let before : suc n - 1 ≡ n = omega arith in
+    let after : suc n ≡ suc n + 1 - 1 = omega arith in
+    ap (without_till (Some (suc n))) (is ∙ ap (λ (k : ℕ). tills_off k a) before)
+    ∙ ap (λ (k : ℕ). tills_off k a) after
 
 -- the tills below a number are off, and then this one too
 pub one_more_off : (b : Book) (n : ℕ)
@@ -121,15 +123,16 @@ nobody_yet config = λ t. set.contains-empty nat_cmp t
 
 pub journal_begun : (header : List ℕ) (recovered b : Book) (file : Option DiskFile) (stored : ℕ)
     → OfFile (HoldsRows header recovered.rows false) file → stored ≡ length recovered.rows
-    → AddsSignOffs recovered b
+    → b ≡ all_off recovered
     → IsJournalOf b.rows (record { header = header; stored = stored; failed = false; file = file })
-journal_begun header recovered b file stored holds size adds =
+journal_begun header recovered b file stored holds size off =
+    let adds = subst (Adds recovered) (sym off) (off_adds TILLS recovered) in
     let front : take stored b.rows ≡ recovered.rows =
     ap (take stored) adds.rows
-    ∙ ap (λ (n : ℕ). take n (recovered.rows ++ adds.more)) size
-    ∙ take-append_seam recovered.rows adds.more in
-    let all : length b.rows ≡ length recovered.rows + length adds.more =
-    ap length adds.rows ∙ length-append recovered.rows adds.more in
+    ∙ ap (λ (n : ℕ). take n (recovered.rows ++ adds.later)) size
+    ∙ take-append_seam recovered.rows adds.later in
+    let all : length b.rows ≡ length recovered.rows + length adds.later =
+    ap length adds.rows ∙ length-append recovered.rows adds.later in
     record {
       few = omega (arith, size, all);
       holds = subst (λ (rs : List Row). OfFile (HoldsRows header rs false) file) (sym front) holds;
@@ -144,17 +147,17 @@ goes_on header file stored (Some k) on = (k, refl, on.0, on.1)
 goes_on header file stored None on = absurd on
 
 pub resumes : (header : List ℕ) (recovered b : Book) (file : Option DiskFile) (stored : ℕ)
-    (s : StoredState) → AddsSignOffs recovered b → HasNobodyOn b → s.station ≡ opening_station b
+    (s : StoredState) → b ≡ all_off recovered → HasNobodyOn b → s.station ≡ opening_station b
     → is_all_stored s ≡ true
     → JournalGoesOn
     (Some (record { header = header; stored = stored; failed = false; file = file }))
     s.journal → Resumes header recovered file s
-resumes header recovered b file stored s adds off station all on =
+resumes header recovered b file stored s signed off station all on =
     let book : s.station.book ≡ b = ap (λ (x : StationState). x.book) station in
     let kept = goes_on header file stored s.journal on in
     record {
       alone = station ∙ ap opening_station (sym book);
-      rows = subst (AddsSignOffs recovered) (sym book) adds;
+      rows = book ∙ signed;
       off = subst HasNobodyOn (sym book) off;
       stored = all;
       journal = kept.0;

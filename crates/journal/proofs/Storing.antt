@@ -3,14 +3,16 @@ use Rattle.std.proofs.Common.{◌≡◌, ℕ, true, false, List, [], ◌++◌, l
 use Rattle.std.proofs.Common.{Some, None, refl, sym, ap, ◌∙◌, append-nil, arith, subst}
 use Rattle.std.specs.Prelude.{Bool}
 use Rattle.std.proofs.lemmas.List.{take-append-drop, take_all}
+use Rattle.std.proofs.Math.Seq.{drop-length}
 use Rattle.site_base.specs.declared.actor.Actor.{Actor}
 use Rattle.site_base.specs.declared.event.Event.{Event}
 use Rattle.site_base.specs.declared.row.Row.{Row}
 use Rattle.written_site.specs.SiteRun.{events_of}
-use Rattle.journal.specs.Disks.{Appends, DiskFile, Keeps, OfFile, OfFiles, Syncs}
+use Rattle.journal.specs.Disks.{Appends, DiskFile, Grows, Keeps, OfFile, OfFiles, Syncs}
 use Rattle.journal.specs.JournalLines.{TellsWhole, unfinished_from, whole_lines}
+use Rattle.journal.specs.JournalText.{rows_text}
 use Rattle.journal.specs.RowLines.{AreLines}
-use Rattle.journal.specs.Stored.{HoldsRows, IsJournalOf, JournalState}
+use Rattle.journal.specs.Stored.{GrowsByLines, HoldsRows, IsJournalOf, JournalState}
 use Rattle.journal.proofs.Fronts.{begins_then}
 use Rattle.journal.proofs.Lines.{requests_both, unfinished_both}
 use Rattle.journal.proofs.Readings.{lines_behind}
@@ -33,6 +35,44 @@ tells_more header front text rows more tells lines = record {
       unfinished_both [] front text
       ∙ ap (λ (line : List ℕ). unfinished_from line text) tells.whole ∙ lines.whole;
 }
+
+-- ---- the lines that are written
+
+grown : (xs ys : List ℕ) (a b c : DiskFile) → xs ≡ ys → Appends xs a b → Syncs b c → Grows ys a c
+grown xs ys a b c is wrote synced =
+    synced.0 ∙ wrote.0 ∙ ap (λ (zs : List ℕ). a.octets ++ zs) is
+
+grown_file : (xs ys : List ℕ) (a b c : Option DiskFile) → xs ≡ ys → OfFiles (Appends xs) a b
+    → OfFiles Syncs b c → OfFiles (Grows ys) a c
+grown_file xs ys None None None is wrote synced = tt
+grown_file xs ys (Some a) (Some b) (Some c) is wrote synced = grown xs ys a b c is wrote synced
+grown_file xs ys None None (Some c) is wrote synced = absurd synced
+grown_file xs ys None (Some b) c is wrote synced = absurd wrote
+grown_file xs ys (Some a) None c is wrote synced = absurd wrote
+grown_file xs ys (Some a) (Some b) None is wrote synced = absurd synced
+
+-- the rows that weren't stored were written and synced
+pub lines_written : (rows : List Row) (j k : JournalState) (text : List ℕ) (b : Option DiskFile)
+    → AreLines (drop j.stored rows) text → OfFiles (Appends text) j.file b
+    → OfFiles Syncs b k.file → GrowsByLines rows j k
+lines_written rows j k text b lines wrote synced =
+    grown_file text (rows_text (drop j.stored rows)) j.file b k.file lines.spelled wrote synced
+
+-- .. or there are none
+grown_none : (xs : List ℕ) (a : Option DiskFile) → xs ≡ [] → OfFiles (Grows xs) a a
+grown_none xs None is = tt
+grown_none xs (Some a) is =
+    sym (append-nil a.octets) ∙ ap (λ (zs : List ℕ). a.octets ++ zs) (sym is)
+
+pub lines_none : (rows : List Row) (j k : JournalState) → j.stored ≡ length rows → k ≡ j
+    → GrowsByLines rows j k
+lines_none rows j k all is =
+    let none : drop j.stored rows ≡ [] =
+    ap (λ (n : ℕ). drop n rows) all ∙ drop-length rows in
+    subst (λ (x : JournalState). GrowsByLines rows j x) (sym is)
+    (grown_none (rows_text (drop j.stored rows)) j.file (ap rows_text none))
+
+-- ---- what it holds
 
 -- what is on the disk stays, where a write may have failed
 failed_holds : (header : List ℕ) (rows : List Row) (failed : Bool) (a b : DiskFile)
@@ -69,15 +109,17 @@ stored_holds : (header text : List ℕ) (rows more : List Row) (a b c : DiskFile
 stored_holds header text rows more a b c holds lines wrote synced =
     let settled = holds.settled refl in
     let octets : b.octets ≡ holds.front ++ text =
-    wrote ∙ ap (λ (xs : List ℕ). xs ++ text) settled.0 in
+    wrote.0 ∙ ap (λ (xs : List ℕ). xs ++ text) settled.0 in
+    let sound : b.sound ≡ true = wrote.1 ∙ settled.2 in
+    let all : c.synced ≡ b.octets = synced.2 sound in
     record {
       front = holds.front ++ text;
       tells = tells_more header holds.front text rows more holds.tells lines;
       there = record {
         rest = [];
-        parts = synced.1 ∙ octets ∙ sym (append-nil (holds.front ++ text));
+        parts = all ∙ octets ∙ sym (append-nil (holds.front ++ text));
       };
-      settled = λ never. (synced.0 ∙ octets, synced.1 ∙ octets);
+      settled = λ never. (synced.0 ∙ octets, all ∙ octets, synced.1 ∙ sound);
     }
 
 stored_file : (header text : List ℕ) (rows more : List Row) (a b c : Option DiskFile)

@@ -1,13 +1,16 @@
 -- A disk's file: what a read gives, and what of it a crash leaves.
-use Rattle.std.specs.Prelude.{◌≡◌, ℕ, List, ◌++◌, take, ⊤, Option, Some, None}
+use Rattle.std.specs.Prelude.{◌≡◌, ℕ, Bool, true, List, ◌++◌, ◌⊎◌, ⊤, Option, Some, None}
 use Rattle.std.specs.List.{AllByRecursion}
 
--- the octets that a read gives; the front of them that is on the disk; and each such front so far,
--- one for each moment at which a crash might have come, the last one last
+-- the octets that a read gives; the front of them that is on the disk; each such front so far, one
+-- for each moment at which a crash might have come, the last one last; and whether no flush of it
+-- has failed since it was made. Once one has, the system may show octets that the disk doesn't have,
+-- and answer the next flush well: whoever opens a file can't know
 pub record DiskFile : Type 0 where
   pub octets : List ℕ
   pub synced : List ℕ
   pub fronts : List (List ℕ)
+  pub sound : Bool
 
 -- octets begin with a front
 pub record BeginsWith (front octets : List ℕ) : Type 0 where
@@ -44,17 +47,30 @@ abbrev pub Keeps : DiskFile → DiskFile → Type 0
 Keeps old new = KeepsFront old.synced old new
 
 -- these octets stand behind the others
+abbrev pub Grows : List ℕ → DiskFile → DiskFile → Type 0
+Grows octets old new = new.octets ≡ old.octets ++ octets
+
+-- .. and no flush was made
 abbrev pub Appends : List ℕ → DiskFile → DiskFile → Type 0
-Appends octets old new = new.octets ≡ old.octets ++ octets
+Appends octets old new = Grows octets old new × (new.sound ≡ old.sound)
 
--- all octets are on the disk
+-- all octets are on the disk, unless a flush has failed before
 abbrev pub Syncs : DiskFile → DiskFile → Type 0
-Syncs old new = (new.octets ≡ old.octets) × (new.synced ≡ old.octets)
+Syncs old new =
+    (new.octets ≡ old.octets) × (new.sound ≡ old.sound)
+    × (old.sound ≡ true → new.synced ≡ old.octets)
 
--- just so many octets are left
-abbrev pub Cuts : ℕ → DiskFile → DiskFile → Type 0
-Cuts n old new = new.octets ≡ take n old.octets
+-- these octets are the file's, on the disk, whatever has failed before
+abbrev pub Renews : List ℕ → DiskFile → DiskFile → Type 0
+Renews octets old new = (new.octets ≡ octets) × (new.synced ≡ octets) × (new.sound ≡ true)
 
--- of what was synced just so many octets may be lost
-abbrev pub KeepsOf : ℕ → DiskFile → DiskFile → Type 0
-KeepsOf n old new = KeepsFront (take n old.synced) old new
+-- what is on the disk begins with what was there, or with these octets
+abbrev pub BeginsWithEither : List ℕ → List ℕ → List ℕ → Type 0
+BeginsWithEither old octets front = BeginsWith old front ⊎ BeginsWith octets front
+
+-- .. so it is at each moment of a call, and at the end
+pub record KeepsEither (octets : List ℕ) (old new : DiskFile) : Type 0 where
+  pub more : List (List ℕ)
+  pub moments : new.fronts ≡ old.fronts ++ more
+  pub each : AllByRecursion (BeginsWithEither old.synced octets) more
+  pub last : BeginsWithEither old.synced octets new.synced

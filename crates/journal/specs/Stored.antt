@@ -1,13 +1,14 @@
 -- A station with its journal: what is stored, and what may be told.
-use Rattle.std.specs.Prelude.{◌≡◌, ℕ, ◌≤◌, ◌==◌, Bool, true, false, List, [], length, take}
+use Rattle.std.specs.Prelude.{◌≡◌, ℕ, ◌≤◌, ◌==◌, Bool, true, false, List, [], length, take, drop}
 use Rattle.std.specs.Prelude.{Option, Some, None, IfSome, if◌then◌else◌, ⊤}
 use Rattle.site_base.specs.declared.row.Row.{Row}
 use Rattle.written_site.specs.SiteRun.{events_of}
 use Rattle.station.specs.Moves.{StationState}
 use Rattle.station.specs.Reads.{owed_at}
-use Rattle.journal.specs.Disks.{BeginsWith, DiskFile, Keeps, OfFile, OfFiles}
+use Rattle.journal.specs.Disks.{BeginsWith, DiskFile, Grows, Keeps, OfFile, OfFiles}
 use Rattle.journal.specs.History.{IsMadeAgain}
 use Rattle.journal.specs.JournalLines.{TellsWhole}
+use Rattle.journal.specs.JournalText.{rows_text}
 
 -- a journal's first line, how many rows it has stored, whether a write has failed, and its file,
 -- where that is known
@@ -23,13 +24,14 @@ pub record StoredState : Type 0 where
   pub journal : Option JournalState
 
 -- what is on the disk begins with a front that tells just these rows; unless a write has failed,
--- that is the whole file
+-- that is the whole file, no flush of which has failed
 pub record HoldsRows (header : List ℕ) (rows : List Row) (failed : Bool) (file : DiskFile)
     : Type 0 where
   pub front : List ℕ
   pub tells : TellsWhole header front (events_of rows)
   pub there : BeginsWith front file.synced
-  pub settled : failed ≡ false → (file.octets ≡ front) × (file.synced ≡ front)
+  pub settled :
+      failed ≡ false → (file.octets ≡ front) × (file.synced ≡ front) × (file.sound ≡ true)
 
 -- the journal has stored the first of the book's rows
 pub record IsJournalOf (rows : List Row) (j : JournalState) : Type 0 where
@@ -50,6 +52,15 @@ abbrev pub JournalGoesOn : Option JournalState → Option JournalState → Type 
 JournalGoesOn None None = ⊤
 JournalGoesOn (Some a) (Some b) = (b.header ≡ a.header) × OfFiles Keeps a.file b.file
 JournalGoesOn a b = ⊥
+
+-- behind what the journal's file had stand the lines of the rows that it hadn't stored
+abbrev pub GrowsByLines : List Row → JournalState → JournalState → Type 0
+GrowsByLines rows a b = OfFiles (Grows (rows_text (drop a.stored rows))) a.file b.file
+
+abbrev pub WritesLines : List Row → Option JournalState → Option JournalState → Type 0
+WritesLines rows None None = ⊤
+WritesLines rows (Some a) (Some b) = GrowsByLines rows a b
+WritesLines rows a b = ⊥
 
 -- each row is stored, where there is a journal
 abbrev pub is_all_stored : StoredState → Bool

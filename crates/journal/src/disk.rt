@@ -1,8 +1,8 @@
 //! What a journal lies on.
 
 ghost use Rattle.std.specs.Prelude.{◌≡◌, IfOk, OnOk, Option};
-ghost use Rattle.journal.specs.Disks.{Appends, Cuts, DiskFile, Keeps, KeepsOf, OfFile, OfFiles};
-ghost use Rattle.journal.specs.Disks.{Reads, Syncs};
+ghost use Rattle.journal.specs.Disks.{Appends, DiskFile, Keeps, KeepsEither, OfFile, OfFiles};
+ghost use Rattle.journal.specs.Disks.{Reads, Renews, Syncs};
 
 use site_base::NoMemory;
 use std::alloc::Global;
@@ -27,8 +27,8 @@ impl From<NoMemory> for DiskFault {
     }
 }
 
-/// A file of octets that only grows behind its end, but for a cut. A crash, at whatever moment of a
-/// call or between two, leaves a file that begins with what was synced.
+/// A file of octets that only grows behind its end, until others take their place. A crash, at
+/// whatever moment of a call or between two, leaves a file that begins with what was synced.
 pub trait Disk: Drop {
     /// What is known of its file. Of a real disk nothing is: no contract can tell what it carries.
     ghost file: { Self → Option DiskFile };
@@ -43,13 +43,15 @@ pub trait Disk: Drop {
         ensures ok { OnOk result (OfFiles (Appends octets.now) (file self.old) (file self.new)) }
         ensures moments { OfFiles Keeps (file self.old) (file self.new) };
 
-    /// Has all octets on the disk, before it answers.
+    /// Has all octets on the disk, before it answers; but not where a flush of the file has failed
+    /// before, at whoever had it then.
     fn sync(&mut self) -> Result<(), DiskFault>
         ensures ok { OnOk result (OfFiles Syncs (file self.old) (file self.new)) }
         ensures moments { OfFiles Keeps (file self.old) (file self.new) };
 
-    /// Leaves just so many of the octets.
-    fn cut(&mut self, len: usize) -> Result<(), DiskFault>
-        ensures ok { OnOk result (OfFiles (Cuts len) (file self.old) (file self.new)) }
-        ensures moments { OfFiles (KeepsOf len) (file self.old) (file self.new) };
+    /// Puts these octets in place of the file's, on the disk before it answers, whatever flush has
+    /// failed before. A crash leaves what was synced, or these.
+    fn renew(&mut self, octets: &[u8]) -> Result<(), DiskFault>
+        ensures ok { OnOk result (OfFiles (Renews octets.now) (file self.old) (file self.new)) }
+        ensures moments { OfFiles (KeepsEither octets.now) (file self.old) (file self.new) };
 }

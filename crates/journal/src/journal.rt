@@ -3,7 +3,7 @@
 ghost use Rattle.std.specs.Prelude.{◌≡◌, false, length, OnOk};
 ghost use Rattle.journal.specs.Disks.{Keeps, OfFiles};
 ghost use Rattle.journal.specs.History.{IsMadeAgain};
-ghost use Rattle.journal.specs.Stored.{IsJournalOf};
+ghost use Rattle.journal.specs.Stored.{GrowsByLines, IsJournalOf};
 
 use crate::disk::{Disk, DiskFault};
 use crate::row_lines::put_rows;
@@ -72,6 +72,7 @@ impl<D: Disk> Journal<D> {
         ensures stored { OnOk result (self.new.stored ≡ length book.now.rows) }
         ensures journal { IsJournalOf book.now.rows self.new }
         ensures header { self.new.header ≡ self.old.header }
+        ensures lines { OnOk result (GrowsByLines book.now.rows self.old self.new) }
         ensures moments { OfFiles Keeps self.old.file self.new.file }
     {
         if self.has_failed {

@@ -6,7 +6,7 @@ ghost use Rattle.station.specs.Runs.{opening_station};
 ghost use Rattle.journal.specs.Disks.{OfFile};
 ghost use Rattle.journal.specs.History.{IsMadeAgain};
 ghost use Rattle.journal.specs.JournalText.{header_of};
-ghost use Rattle.journal.specs.Opening.{AddsSignOffs, HasNobodyOn, Reopens, Resumes};
+ghost use Rattle.journal.specs.Opening.{HasNobodyOn, Reopens, Resumes, all_off};
 ghost use Rattle.journal.specs.Readings.{IsOfText};
 ghost use Rattle.journal.specs.Recovering.{TellsNothingIn};
 ghost use Rattle.journal.specs.Stored.{HoldsRows};
@@ -86,7 +86,7 @@ pub fn resume<D: Disk>(
 
 /// Signs off each till that is signed on.
 fn sign_off_all(book: &mut SiteBook)
-    ensures rows { AddsSignOffs book.old book.new }
+    ensures rows { book.new ≡ all_off book.old }
     ensures made { IsMadeAgain book.old → IsMadeAgain book.new }
     ensures off { HasNobodyOn book.new }
 {

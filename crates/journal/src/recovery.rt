@@ -1,12 +1,12 @@
 //! The book of a journal that a crash may have left.
 
 ghost use Rattle.std.specs.Prelude.{◌≡◌, ◌≤◌, ◌∷◌, ◌++◌, [], IfErr, IfOk, OnOk, false, length};
-ghost use Rattle.journal.specs.Disks.{Cuts, Keeps, KeepsOf, OfFile, OfFiles};
+ghost use Rattle.journal.specs.Disks.{OfFile, OfFiles};
 ghost use Rattle.journal.specs.History.{IsMadeAgain};
 ghost use Rattle.journal.specs.JournalText.{header_of};
 ghost use Rattle.journal.specs.Readings.{IsOfText};
-ghost use Rattle.journal.specs.Recovering.{Begins, IsReadIn, KeepsWholeLines, Settles};
-ghost use Rattle.journal.specs.Recovering.{TellsNothingIn};
+ghost use Rattle.journal.specs.Recovering.{IsReadIn, KeepsWholeLines, TellsNothingIn};
+ghost use Rattle.journal.specs.Recovering.{settled_octets};
 ghost use Rattle.journal.specs.Stored.{HoldsRows};
 
 use crate::disk::{Disk, DiskFault};
@@ -25,9 +25,10 @@ pub struct Recovered {
     pub book: SiteBook,
 }
 
-/// Recovers a journal of this site from a disk's file, whatever a crash has left there. An
-/// unfinished last line, of which nobody was told, is cut off; a file that isn't begun yet gets its
-/// first line. Then all of it is synced.
+/// Recovers a journal of this site from a disk's file, whatever a crash has left there. What was
+/// read of it takes its place, written to the disk anew, since the disk may not have what a read
+/// gives, where a flush had failed: without an unfinished last line, of which nobody was told, and
+/// of a file that isn't begun yet its first line.
 ///
 /// `Unread` comes where the file can't be read; `Line` names the first line that is no journal's,
 /// and `AnotherSite` comes where the first line names another site file: the file stays as it is.
@@ -67,7 +68,7 @@ pub fn recover<D: Disk>(
         Err(fault) => return Err(fault),
     };
     let first_line = line_of(alloc, &header)?;
-    match settle(disk, &first_line, octets.len(), read.whole) {
+    match disk.renew(whole_lines(&first_line, &octets, read.whole)) {
         Ok(()) => {}
         Err(DiskFault::NoMemory) => return Err(OpenFault::NoMemory),
         Err(DiskFault::Failed) => return Err(OpenFault::Unwritten),
@@ -87,42 +88,14 @@ fn line_of(alloc: Global, line: &[u8]) -> Result<Vec<u8>, NoMemory>
     Ok(whole)
 }
 
-/// Leaves so many of the file's octets, or its first line where that is none, on the disk.
-fn settle<D: Disk>(
-    disk: &mut D,
-    first_line: &[u8],
-    len: usize,
-    whole: usize,
-) -> Result<(), DiskFault>
-    requires len { OfFile (λ file. length file.octets ≡ len) (D.file disk.old) }
-    requires few { whole ≤ len }
-    ensures ok { OnOk result (OfFiles (Settles first_line.now whole)
-        (D.file disk.old) (D.file disk.new)) }
-    ensures moments { OfFiles (KeepsOf whole) (D.file disk.old) (D.file disk.new) }
-{
-    cut_to(disk, len, whole)?;
-    begin(disk, first_line, whole)?;
-    disk.sync()
-}
-
-/// Cuts so many octets down to the whole lines, where there are more.
-fn cut_to<D: Disk>(disk: &mut D, len: usize, whole: usize) -> Result<(), DiskFault>
-    requires len { OfFile (λ file. length file.octets ≡ len) (D.file disk.old) }
-    ensures ok { OnOk result (OfFiles (Cuts whole) (D.file disk.old) (D.file disk.new)) }
-    ensures moments { OfFiles (KeepsOf whole) (D.file disk.old) (D.file disk.new) }
-{
-    if whole < len { disk.cut(whole) } else { Ok(()) }
-}
-
-/// Begins a file without whole lines by its first line.
-fn begin<D: Disk>(disk: &mut D, first_line: &[u8], whole: usize) -> Result<(), DiskFault>
-    ensures ok { OnOk result
-        (OfFiles (Begins first_line.now whole) (D.file disk.old) (D.file disk.new)) }
-    ensures moments { OfFiles Keeps (D.file disk.old) (D.file disk.new) }
+/// The first of these octets, so many of which are whole lines; where there is none, the first line.
+fn whole_lines<'a>(first_line: &'a [u8], octets: &'a [u8], whole: usize) -> &'a [u8]
+    requires { whole ≤ length octets.now }
+    ensures { result.now ≡ settled_octets first_line.now whole octets.now }
 {
     if whole == 0 {
-        disk.append(first_line)
+        first_line
     } else {
-        Ok(())
+        &octets[..whole]
     }
 }

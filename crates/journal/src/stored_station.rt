@@ -1,8 +1,7 @@
 //! A station with its journal.
 
-ghost use Rattle.std.specs.Prelude.{◌≡◌, ◌≢◌, ◌≤◌, ℕ, [], IfNone, IfOk, IfSome, None, OnErr, OnOk};
-ghost use Rattle.std.specs.Prelude.{Some};
-ghost use Rattle.std.specs.Prelude.{true};
+ghost use Rattle.std.specs.Prelude.{◌≡◌, ◌==◌, ◌≤◌, ℕ, IfNone, IfOk, IfSome, None, OnErr, OnOk, Some};
+ghost use Rattle.std.specs.Prelude.{length, not, true};
 ghost use Rattle.station.specs.declared.sizes.TheConstants.{PEERS};
 ghost use Rattle.station.specs.Peers.{peer_at};
 ghost use Rattle.station.specs.Moves.{with_end, with_octets, with_taken, without_peer};
@@ -13,7 +12,7 @@ ghost use Rattle.station.specs.Sessions.{Grants};
 ghost use Rattle.journal.specs.History.{IsMadeAgain, empty_book};
 ghost use Rattle.journal.specs.Opening.{HasNobodyOn};
 ghost use Rattle.journal.specs.Stored.{IsJournalOf, JournalGoesOn, is_all_stored, told_at};
-ghost use Rattle.journal.specs.Stored.{with_station};
+ghost use Rattle.journal.specs.Stored.{WritesLines, with_station};
 
 use crate::disk::{Disk, DiskFault};
 use crate::journal::Journal;
@@ -110,6 +109,8 @@ impl<D: Disk> StoredStation<D> {
         ensures station { self.new.station ≡ self.old.station }
         ensures stored { OnOk result (is_all_stored self.new ≡ true) }
         ensures journal { JournalGoesOn self.old.journal self.new.journal }
+        ensures lines { OnOk result
+            (WritesLines self.old.station.book.rows self.old.journal self.new.journal) }
     {
         match &mut self.journal {
             None => Ok(()),
@@ -140,7 +141,7 @@ impl<D: Disk> StoredStation<D> {
 
     /// Is a peer owed octets, which may be told or not yet?
     pub fn is_owed(&self, key: usize) -> bool
-        ensures { result ≡ true → owed_at self.now.station key ≢ [] }
+        ensures { result ≡ not (length (owed_at self.now.station key) == 0) }
     {
         !self.station.owed_octets(key).is_empty()
     }

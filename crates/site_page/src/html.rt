@@ -29,51 +29,70 @@ font-variant-numeric:tabular-nums}
 header{display:flex;flex-wrap:wrap;gap:0 1.2em;align-items:baseline}
 h1,h2{font-size:1em;margin:0}
 #state{font-weight:700}
-.lost #state{color:var(--bad)}
-.lost main,.lost footer{opacity:.8}
+.lost #state{background:var(--bad);color:var(--on);border-radius:3px;padding:0 .4em}
+.lost main,.lost footer{opacity:.85}
 main{display:grid;grid-template-columns:repeat(var(--cols,4),minmax(0,1fr));
 grid-auto-rows:minmax(0,1fr);gap:3px;min-height:0}
 article{min-width:0;min-height:0;overflow:hidden;background:var(--card);
 border:1px solid var(--edge);
 border-left:5px solid var(--c);border-radius:3px;padding:1px 4px}
 p{margin:0;white-space:nowrap;overflow:hidden;text-overflow:ellipsis}
-.row{display:flex;gap:4px;align-items:baseline;white-space:nowrap}
+.row{display:flex;gap:.4em;align-items:baseline;white-space:nowrap}
 .row h2{font-size:1.15em}
 .chip{background:var(--c);color:var(--on);border-radius:3px;padding:0 4px;font-weight:600}
 .who{color:var(--dim);margin-left:auto}
-.dim{color:var(--dim)}
+.dim,.marks{color:var(--dim)}
 .sum{font-weight:700}
-.due{display:flex;gap:5px;background:var(--due);border-radius:2px;padding:0 2px}
-.due .name,.due .flowed{min-width:0;overflow:hidden;text-overflow:ellipsis}
-.due .name{flex-shrink:.1}
+.row span,.due span,.title span{flex:none}
+.row .flowed,.due .flowed,.due .name,.title .name{flex:0 1 auto;min-width:0;overflow:hidden;
+text-overflow:ellipsis}
+.row .flowed,.due .flowed{flex-shrink:1000000}
+.due{display:flex;gap:.4em;background:var(--due);border-radius:2px;padding:0 2px}
 .due .by{margin-left:auto}
-.flowed::after{content:' l'}
-.many main{font-size:12.5px;line-height:1.1}
-.many article{padding:0 3px}
-.many .marks p{line-height:1.2}
+.due .flowed::after{content:' l'}
+.many main{font-size:12px;line-height:1.08}
+.many article{border-left-width:4px;padding:0 2px}
+.many .head{line-height:1.1}
 .many .chip{font-size:11px;letter-spacing:-.03em;padding:0 3px}
-.many .due{font-size:11px;letter-spacing:-.03em;gap:3px;line-height:1.18;padding:0 1px}
-.many .flowed::after{content:''}
-.few main{font-size:19px;grid-auto-rows:minmax(0,9.5em)}
+.many .run{letter-spacing:-.02em}
+.many .due{font-size:11px;letter-spacing:-.03em;gap:3px;line-height:1.14;padding:0 1px}
+.many .due .flowed::after{content:''}
+.few header{font-size:16px}
+.few main{font-size:19px;grid-auto-rows:minmax(0,12em)}
 .few article{padding:6px 10px}
+.few .run .flowed,.few .run .sum{font-size:1.2em}
+.some header{font-size:15px}
+.some main{font-size:16px}
 footer{display:grid;gap:3px;min-height:0}
 #products{display:grid;grid-template-columns:repeat(auto-fit,minmax(9em,1fr));gap:3px}
 #products section,#tills span{background:var(--card);border:1px solid var(--edge);border-radius:3px;
 padding:0 4px;min-width:0;overflow:hidden;white-space:nowrap;font-size:12px}
 .bar{display:flex;height:6px;margin:2px 0;background:var(--edge);border-radius:2px;overflow:hidden}
 .bar i{flex:0 1 0;min-width:0}
+.title{display:flex;gap:.6em}
 .parts{display:flex;flex-wrap:wrap;gap:0 .8em;font-size:10.5px;line-height:1.1;
 letter-spacing:-.02em}
+.parts span{text-decoration-line:underline;text-decoration-thickness:2px;text-underline-offset:1px;
+text-decoration-skip-ink:none}
 #tills{display:grid;grid-template-columns:repeat(auto-fill,minmax(150px,1fr));gap:1px 3px}
 #tills span{font-size:11.5px;line-height:1.15;text-overflow:ellipsis;letter-spacing:-.02em}
 .few #products section,.few #tills span{font-size:15px;padding:2px 8px}.few .parts{font-size:14px}
+.few #products{grid-template-columns:repeat(auto-fit,minmax(18em,1fr))}
 .few #tills{grid-template-columns:repeat(auto-fill,minmax(16em,1fr))}
-@media (max-width:700px){html,body{height:auto}body{display:block;font-size:16px}
-main{display:block}article{margin:4px 0;padding:5px 8px}header{position:sticky;top:0;
-background:var(--bg);padding:4px 0}footer{margin-top:8px}#products,#tills{grid-template-columns:1fr}
+@media (max-width:1100px),(max-height:640px){html,body{height:auto}body{display:block}
+header{position:sticky;top:0;background:var(--bg);padding:4px 0}
+main{grid-template-columns:repeat(auto-fill,minmax(16.5em,1fr));grid-auto-rows:auto}
+.many main{grid-template-columns:repeat(auto-fill,minmax(13em,1fr))}
+.few main{grid-auto-rows:auto}footer{margin-top:8px}
+#products{grid-template-columns:repeat(auto-fill,minmax(11em,1fr))}}
+@media (max-width:700px){body{font-size:16px}
+main{display:block}article,.many article{margin:4px 0;padding:5px 8px}
+#products,#tills,.few #products,.few #tills{grid-template-columns:1fr}
 #products section,#tills span{font-size:15px}.parts{font-size:14px}
-.many main,.few main,.many .due,.many .chip{font-size:16px;letter-spacing:0}
-.many article{padding:5px 8px}}
+.many main,.few main,.many .due,.many .chip{font-size:16px;letter-spacing:0;line-height:1.2}
+.many .due{gap:.4em}.many .due .flowed::after{content:' l'}}
+@media (min-width:1600px) and (min-height:1000px){.many main{font-size:15px}
+.many .chip,.many .due{font-size:14px}}
 </style>
 </head>
 <body>
@@ -93,11 +112,18 @@ const at = id => document.getElementById(id);
 const money = cents => (cents / 100).toFixed(2);
 const litres = (millilitres, digits) => (millilitres / 1000).toFixed(digits);
 const mills = price => (price / 1000).toFixed(3);
+const colour = part => 'var(--p' + (PARTS.indexOf(part) + 1) + ')';
 const clock = time => time.toTimeString().slice(0, 8);
 
 function put(node, text) {
   if (node.textContent !== text) node.textContent = text;
   node.hidden = text === '';
+}
+
+// A text that may be cut off is told by its title, too.
+function putLong(node, text) {
+  put(node, text);
+  node.title = text;
 }
 
 // As many children of this kind as there are values, each filled by its value.
@@ -129,7 +155,10 @@ function showSale(line, sale) {
   put(part(line, 'span', 'name'), sale.shift + '/' + sale.number);
   put(part(line, 'span', 'flowed'), litres(sale.millilitres, 2));
   put(part(line, 'span', 'sum'), money(sale.cents));
-  put(part(line, 'span', 'by'), sale.status === 'locked' ? 'till ' + sale.till : sale.status);
+  const by = sale.status === 'locked' ? 'till ' + sale.till : sale.status;
+  put(part(line, 'span', 'by'), by);
+  line.title = 'shift ' + sale.shift + ', number ' + sale.number + ': ' +
+    litres(sale.millilitres, 2) + ' l for ' + money(sale.cents) + ', ' + by;
 }
 
 function showPoint(tile, point, names, sales) {
@@ -141,38 +170,46 @@ function showPoint(tile, point, names, sales) {
   const name = point.product === null ? '' : names.get(point.product) || 'product ' + point.product;
   const nozzle = point.nozzle === null ? '' : point.nozzle + ' ' + name;
   const fuelling = point.fuelling;
-  const words = [fuelling.test ? 'test' : '', fuelling.ending ? 'ending' : '', preset(fuelling),
-    nozzle];
-  put(part(marks, 'p', 'dim'), words.filter(word => word !== '').join(', '));
-  put(part(run, 'span', 'sum'), fuelling.cents === null ? '' :
-    litres(fuelling.millilitres, 2) + ' l  ' + money(fuelling.cents));
+  const words = [fuelling.test ? 'test' : '', fuelling.ending ? 'ending' : '', nozzle];
+  putLong(part(marks, 'p', 'limit'), preset(fuelling));
+  putLong(part(marks, 'p', 'out'), words.filter(word => word !== '').join(', '));
+  const flows = fuelling.cents !== null;
+  put(part(run, 'span', 'flowed'), flows ? litres(fuelling.millilitres, 2) + ' l' : '');
+  put(part(run, 'span', 'sum'), flows ? money(fuelling.cents) : '');
   put(part(run, 'span', 'who'), point.holder === null ? '' : 'till ' + point.holder);
   fill(dues, 'p', sales, showSale);
 }
 
 function showProduct(box, product) {
-  put(part(box, 'p', 'title'), product.number + ' ' + product.name + '  ' + mills(product.mills));
+  const title = part(box, 'p', 'title');
+  putLong(part(title, 'span', 'name'), product.number + ' ' + product.name);
+  put(part(title, 'span', 'price'), mills(product.mills));
   put(part(box, 'p', 'dim'), 'metered ' + litres(product.metered, 3) + ' l');
   fill(part(box, 'div', 'bar'), 'i', PARTS, (bar, name) => {
     bar.style.flexGrow = product[name];
-    bar.style.background = 'var(--p' + (PARTS.indexOf(name) + 1) + ')';
+    bar.style.background = colour(name);
   });
-  const words = PARTS.map(name => name + ' ' + litres(product[name], 1));
-  fill(part(box, 'div', 'parts'), 'span', words, put);
+  fill(part(box, 'div', 'parts'), 'span', PARTS, (word, name) => {
+    word.style.textDecorationColor = colour(name);
+    put(word, name + ' ' + litres(product[name], 1));
+  });
 }
 
 function showTill(line, till) {
   put(line, 'till ' + till.number + (till['signed on'] ? ' on, ' : ' off, ') + till.clears +
     ' for ' + money(till.cents));
+  line.title = 'cleared in this shift: ' + till.clears + ' for ' + money(till.cents);
 }
 
 function show(site) {
   const names = new Map(site.products.map(product => [product.number, product.name]));
   const count = site.points.length;
   const points = at('points');
-  points.style.setProperty('--cols', count > 30 ? 8 : count > 12 ? 6 : count > 6 ? 4 : 3);
-  document.body.classList.toggle('many', count > 30);
-  document.body.classList.toggle('few', count <= 12);
+  const columns = count > 42 ? 8 : count > 20 ? 6 : count > 12 ? 5 : count > 6 ? 4 : 3;
+  points.style.setProperty('--cols', columns);
+  document.body.classList.toggle('many', columns === 8);
+  document.body.classList.toggle('some', columns === 5);
+  document.body.classList.toggle('few', columns < 5);
   fill(points, 'article', site.points, (tile, point) => showPoint(tile, point, names,
     site.transactions.filter(sale => sale.point === point.number)));
   fill(at('products'), 'section', site.products, showProduct);

@@ -5,6 +5,6 @@
 pub const POLICY: &str = concat!(
     "default-src 'none'; base-uri 'none'; form-action 'none'; frame-ancestors 'none'; ",
     "connect-src 'self'; ",
-    "style-src 'sha256-sVuZ12/NorK5SwUzuD3E/syMlvV5PBsYIYrAccszGKs='; ",
-    "script-src 'sha256-DpGXsj8CM5WN6gWK0JEPrSdn6fItWfajonQzpDMg7Ds='",
+    "style-src 'sha256-33Yay0cbrQwu1TZwBaJsKYBPMgO5dgfhjLanTIfB+Js='; ",
+    "script-src 'sha256-zIl4l1Ibk44xjW4a0K1gZZtjiKuApT6wYsRFE8hvhb4='",
 );

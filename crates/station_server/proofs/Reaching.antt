@@ -1,5 +1,6 @@
 -- Moves of a station, one after another.
 use Rattle.std.proofs.Common.{◌≡◌, ℕ, List, [], ◌∷◌, ◌++◌, Option, Some, None, refl, sym, ap, ◌∙◌}
+use Rattle.std.proofs.Common.{subst}
 use Rattle.station.specs.Moves.{StationState, with_end, with_octets, with_taken}
 use Rattle.station.specs.Moves.{without_peer}
 use Rattle.station.specs.Reads.{Arrives as GetsKey}
@@ -7,6 +8,10 @@ use Rattle.station.specs.Runs.{Arrives, Finishes, Leaves, Move, Says, Takes, aft
 use Rattle.station.specs.Runs.{arrive}
 use Rattle.station.specs.Sessions.{Grants}
 use Rattle.journal.specs.Stored.{StoredState, with_station}
+use Rattle.journal.proofs.JournalLaws.{moves_add}
+use Rattle.journal.proofs.Made.{Adds}
+use Rattle.unpaid_sales.specs.Unpaid.{GoesBy, Kept}
+use Rattle.unpaid_sales.proofs.Growing.{goes_on}
 use Rattle.station_server.specs.declared.calls.Call.{Call}
 use Rattle.station_server.specs.declared.calls.Call.TheVariants.{Ended, Failed, Interrupted}
 use Rattle.station_server.specs.declared.calls.Call.TheVariants.{Passed, Waits}
@@ -88,6 +93,16 @@ reaches_written Ended k got got' s t sends = absurd sends
 reaches_written Interrupted k got got' s t sends = reaches_kept s t sends.1
 reaches_written Waits k got got' s t sends = reaches_kept s t sends.1
 reaches_written Failed k got got' s t sends = reaches_kept s t sends.1
+
+-- ---- the book
+
+-- moves only add rows, so what goes by the book still does
+pub goes_further : (kept : Kept) (s t : StationState) → Reaches s t → GoesBy kept s.book
+    → GoesBy kept t.book
+goes_further kept s t r goes =
+    let adds : Adds s.book t.book =
+    subst (λ (u : StationState). Adds s.book u.book) (sym r.lead) (moves_add r.moves s) in
+    goes_on kept s.book t.book adds.later adds.same adds.rows goes
 
 -- ---- what a round is made of
 

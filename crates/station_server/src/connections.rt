@@ -64,6 +64,11 @@ impl<D: Disk> Connections<D> {
         self.stored.book()
     }
 
+    /// How many connections there are.
+    pub(crate) fn count(&self) -> usize {
+        self.links.iter().filter(|link| link.is_some()).count()
+    }
+
     /// Is each row stored?
     pub fn is_all_stored(&self) -> bool
         ensures { result ≡ is_all_stored self.now.stored }

@@ -12,6 +12,9 @@ mod connections;
 mod fault;
 mod link;
 mod naming;
+mod page_link;
+mod pages;
+mod piece;
 mod server;
 mod sizes;
 

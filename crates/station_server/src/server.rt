@@ -1,50 +1,58 @@
 //! The server: it waits until connections are ready, round after round.
 
 ghost use Rattle.std.specs.Prelude.{◌≡◌, OnOk, true};
+ghost use Rattle.unpaid_sales.specs.Unpaid.{GoesBy};
 ghost use Rattle.station.specs.Reads.{HasNoPeer};
 ghost use Rattle.journal.specs.Stored.{is_all_stored};
 ghost use Rattle.station_server.specs.Reaches.{Reaches};
 
 use crate::connections::Connections;
 use crate::fault::ServerFault;
-use crate::sizes::{ACCEPTS_A_TURN, EVENTS_A_ROUND, STALL_SECONDS, SWEEP_SECONDS};
+use crate::pages::Pages;
+use crate::sizes::{
+    ACCEPTS_A_TURN, EVENTS_A_ROUND, ROUNDS_BEFORE_A_SWEEP, STALL_SECONDS, SWEEP_SECONDS,
+};
 use journal::Disk;
 use mio::event::Event;
 use mio::net::TcpListener;
 use mio::{Events, Interest, Poll, Token, Waker};
+use station::PEERS;
 use std::alloc::Global;
+use std::hash::RandomState;
 use std::io::{self, ErrorKind};
 use std::net::{Ipv4Addr, Net, SocketAddr, SocketAddrV4};
+use std::random::RandomSource;
 use std::sync::Wait;
 use std::time::{Clock, Duration, Instant};
+use unpaid_sales::UnpaidSales;
 
 /// What a new connection is reported under.
 const LISTENER: Token = Token(usize::MAX);
 /// What the day's end is reported under.
 const WAKER: Token = Token(usize::MAX - 1);
+/// What a new connection of the page is reported under.
+const PAGE_LISTENER: Token = Token(usize::MAX - 2);
 
-/// A listener on 127.0.0.1, and what waits for its connections.
+/// A listener on 127.0.0.1, one of the page if there is one, and what waits for their connections.
 #[derive(Drop)]
 pub struct StationServer {
+    alloc: Global,
     poll: Poll,
     events: Events,
     listener: TcpListener,
     port: u16,
+    pages: Option<Pages>,
+    page_port: Option<u16>,
     /// Connections wait to be accepted.
     has_callers: bool,
     /// Accepting failed: it is tried again.
     is_deaf: bool,
     /// That was told, and since then not all that waited were accepted.
     has_told: bool,
+    /// The day's end has come.
+    has_ended: bool,
     swept_at: Instant,
     time: Instant,
-}
-
-/// How a round ends.
-#[derive(Clone, Copy, Debug, PartialEq, Eq)]
-enum Round {
-    Next,
-    Last,
 }
 
 impl StationServer {
@@ -60,8 +68,26 @@ impl StationServer {
             Ok(events) => events,
             Err(_) => return Err(ServerFault::NoMemory),
         };
-        match listen(net, clock, events, port) {
+        match listen(net, clock, alloc, events, port) {
             Ok(server) => Ok(server),
+            Err(_) => Err(ServerFault::NoConnection),
+        }
+    }
+
+    /// Listens for those who look at the page, too: on this port of 127.0.0.1, on a free one where
+    /// it is 0. `NoConnection` where that can't be.
+    pub fn bind_page<N: Net, R: RandomSource>(
+        &mut self,
+        net: &N,
+        rt: &R,
+        port: u16,
+    ) -> Result<(), ServerFault> {
+        match listen_for_page(net, rt, &self.poll, port) {
+            Ok((listener, port, keys)) => {
+                self.pages = Some(Pages::new(self.alloc, keys, listener)?);
+                self.page_port = Some(port);
+                Ok(())
+            }
             Err(_) => Err(ServerFault::NoConnection),
         }
     }
@@ -71,6 +97,13 @@ impl StationServer {
         ensures { result ≡ self.now.port }
     {
         self.port
+    }
+
+    /// The port of the page, if there is one.
+    pub fn page_port(&self) -> Option<u16>
+        ensures { result ≡ self.now.page_port }
+    {
+        self.page_port
     }
 
     /// What ends the day, from another thread.
@@ -95,39 +128,100 @@ impl StationServer {
         ensures left { HasNoPeer connections.new.stored.station }
         ensures stored { OnOk result (is_all_stored connections.new.stored ≡ true) }
     {
-        let served = self.serve_rounds(threads, rt, connections, idle);
+        let mut unpaid = UnpaidSales::new(self.alloc);
+        let served = self.serve_rounds(threads, rt, connections, &mut unpaid, idle);
         let ended = connections.end_all(self.time);
         served?;
         ended
     }
 
-    /// Serves connections until the day's end.
+    /// Serves connections until the day's end. The page tells of the sales that are kept as unpaid.
     #[tactic(auto, using(crate::proofs::Reaching::moved))]
     fn serve_rounds<T: Wait, R: Clock + Eprint, D: Disk>(
         &mut self,
         threads: &T,
         rt: &R,
         connections: &mut Connections<D>,
+        unpaid: &mut UnpaidSales,
         idle: Option<u64>,
     ) -> Result<(), ServerFault>
+        requires { GoesBy unpaid.old connections.old.stored.station.book }
         ensures { Reaches connections.old.stored.station connections.new.stored.station }
     {
         for _ in threads.forever() {
             let timeout = self.poll_timeout(connections, idle);
-            match self.poll.poll(&mut self.events, timeout) {
-                Ok(()) => {}
-                Err(_) => return Err(ServerFault::NoConnection),
-            }
-            self.look_at_clock(rt);
-            if self.take_turns(connections) == Round::Last {
+            self.hear_round(rt, connections, timeout)?;
+            self.hear_before_sweep(rt, connections, idle)?;
+            if self.has_ended {
                 return Ok(());
             }
             self.send_all(rt, connections, idle)?;
+            self.serve_page(connections, unpaid);
             if self.has_callers {
                 self.accept_all(rt, connections);
             }
         }
         Ok(())
+    }
+
+    /// Waits until connections are ready, but no longer than this, and each of them has its turn.
+    #[tactic(auto, using(crate::proofs::Reaching::moved))]
+    fn hear_round<C: Clock, D: Disk>(
+        &mut self,
+        rt: &C,
+        connections: &mut Connections<D>,
+        timeout: Option<Duration>,
+    ) -> Result<(), ServerFault>
+        ensures { Reaches connections.old.stored.station connections.new.stored.station }
+    {
+        match self.poll.poll(&mut self.events, timeout) {
+            Ok(()) => {
+                self.look_at_clock(rt);
+                self.take_turns(connections);
+                Ok(())
+            }
+            Err(_) => Err(ServerFault::NoConnection),
+        }
+    }
+
+    /// Where idle sessions are about to be ended, first of all whoever has sent something is heard:
+    /// the wait may have been interrupted, or more are ready than a round looks at.
+    #[tactic(auto, using(crate::proofs::Reaching::moved))]
+    fn hear_before_sweep<C: Clock, D: Disk>(
+        &mut self,
+        rt: &C,
+        connections: &mut Connections<D>,
+        idle: Option<u64>,
+    ) -> Result<(), ServerFault>
+        ensures { Reaches connections.old.stored.station connections.new.stored.station }
+    {
+        if idle.is_none() || !self.is_sweep_due() {
+            return Ok(());
+        }
+        for _ in 0..ROUNDS_BEFORE_A_SWEEP {
+            self.hear_round(rt, connections, Some(Duration::from_secs(0)))?;
+            if self.events.is_empty() {
+                return Ok(());
+            }
+        }
+        Ok(())
+    }
+
+    /// The connections of the page that are ready have their turn.
+    fn serve_page<D: Disk>(&mut self, connections: &Connections<D>, unpaid: &mut UnpaidSales)
+        ensures { GoesBy unpaid.old connections.now.stored.station.book
+            → GoesBy unpaid.new connections.now.stored.station.book }
+    {
+        if let Some(pages) = &mut self.pages {
+            let count = connections.count();
+            pages.serve(
+                self.poll.registry(),
+                connections.book(),
+                unpaid,
+                count,
+                self.time,
+            );
+        }
     }
 
     /// How long it waits for the next round: as long as it takes, or until the next sweep.
@@ -136,7 +230,8 @@ impl StationServer {
         connections: &Connections<D>,
         idle: Option<u64>,
     ) -> Option<Duration> {
-        if self.is_deaf || connections.has_closing() || idle.is_some() {
+        let is_page_busy = self.pages.as_ref().is_some_and(|pages| pages.is_busy());
+        if self.is_deaf || connections.has_closing() || idle.is_some() || is_page_busy {
             return Some(Duration::from_secs(SWEEP_SECONDS));
         }
         None
@@ -149,20 +244,23 @@ impl StationServer {
         }
     }
 
-    /// Each connection that is ready has its turn.
+    /// Each connection that is ready has its turn. One of the page has it behind those.
     #[tactic(auto, using(crate::proofs::Reaching::moved))]
-    fn take_turns<D: Disk>(&mut self, connections: &mut Connections<D>) -> Round
+    fn take_turns<D: Disk>(&mut self, connections: &mut Connections<D>)
         ensures { Reaches connections.old.stored.station connections.new.stored.station }
     {
-        self.has_callers = false;
         for event in &self.events {
             match event.token() {
-                WAKER => return Round::Last,
+                WAKER => self.has_ended = true,
                 LISTENER => self.has_callers = true,
-                Token(key) => take_turn(connections, event, key, self.time),
+                Token(key) if key < PEERS => take_turn(connections, event, key, self.time),
+                token => {
+                    if let Some(pages) = &mut self.pages {
+                        note_page(pages, token);
+                    }
+                }
             }
         }
-        Round::Next
     }
 
     /// Accepts the connections that wait. Where that fails it is told, once until all that wait are
@@ -172,6 +270,7 @@ impl StationServer {
         ensures { Reaches connections.old.stored.station connections.new.stored.station }
     {
         self.is_deaf = false;
+        self.has_callers = false;
         for _ in 0..ACCEPTS_A_TURN {
             match self.listener.accept() {
                 Ok((stream, _)) => connections.welcome(self.poll.registry(), rt, stream, self.time),
@@ -229,11 +328,16 @@ impl StationServer {
     ) -> Result<(), ServerFault>
         ensures { Reaches connections.old.stored.station connections.new.stored.station }
     {
-        if self.time.duration_since(self.swept_at).as_secs() < SWEEP_SECONDS {
+        if !self.is_sweep_due() {
             return Ok(());
         }
         self.swept_at = self.time;
         self.sweep(rt, connections, idle)
+    }
+
+    /// Is it time to sweep?
+    fn is_sweep_due(&self) -> bool {
+        self.time.duration_since(self.swept_at).as_secs() >= SWEEP_SECONDS
     }
 
     /// Where storing took so long that peers seem silent since, they aren't.
@@ -265,11 +369,19 @@ impl StationServer {
     ) -> Result<(), ServerFault>
         ensures { Reaches connections.old.stored.station connections.new.stored.station }
     {
+        self.sweep_page();
         connections.sweep(self.poll.registry(), rt, idle, self.time)?;
         if self.is_deaf {
             self.accept_all(rt, connections);
         }
         Ok(())
+    }
+
+    /// The same of the page.
+    fn sweep_page(&mut self) {
+        if let Some(pages) = &mut self.pages {
+            pages.sweep(self.poll.registry(), self.time);
+        }
     }
 }
 
@@ -288,28 +400,64 @@ fn take_turn<D: Disk>(connections: &mut Connections<D>, event: &Event, key: usiz
     connections.make_due(key);
 }
 
-/// A listener on 127.0.0.1 that is watched.
-fn listen<N: Net, C: Clock>(
+/// Who looks at the page is ready, or waits to be accepted.
+fn note_page(pages: &mut Pages, token: Token) {
+    match token {
+        PAGE_LISTENER => pages.has_callers = true,
+        Token(key) => pages.make_due(key),
+    }
+}
+
+/// A listener on 127.0.0.1 that is watched under this token, and its port.
+fn watch_port<N: Net>(
     net: &N,
-    clock: &C,
-    events: Events,
+    poll: &Poll,
     port: u16,
-) -> io::Result<StationServer> {
+    token: Token,
+) -> io::Result<(TcpListener, u16)> {
     let here = SocketAddr::V4(SocketAddrV4::new(Ipv4Addr::LOCALHOST, port));
-    let poll = Poll::new(net)?;
     let mut listener = TcpListener::bind(net, here)?;
     let port = listener.local_addr()?.port();
     poll.registry()
-        .register(&mut listener, LISTENER, Interest::READABLE)?;
+        .register(&mut listener, token, Interest::READABLE)?;
+    Ok((listener, port))
+}
+
+/// The page's listener, its port, and the keys of its connections.
+fn listen_for_page<N: Net, R: RandomSource>(
+    net: &N,
+    rt: &R,
+    poll: &Poll,
+    port: u16,
+) -> io::Result<(TcpListener, u16, RandomState)> {
+    let keys = RandomState::new(rt)?;
+    let (listener, port) = watch_port(net, poll, port, PAGE_LISTENER)?;
+    Ok((listener, port, keys))
+}
+
+/// A server whose listener is watched.
+fn listen<N: Net, C: Clock>(
+    net: &N,
+    clock: &C,
+    alloc: Global,
+    events: Events,
+    port: u16,
+) -> io::Result<StationServer> {
+    let poll = Poll::new(net)?;
+    let (listener, port) = watch_port(net, &poll, port, LISTENER)?;
     let now = Instant::now(clock)?;
     Ok(StationServer {
+        alloc,
         poll,
         events,
         listener,
         port,
+        pages: None,
+        page_port: None,
         has_callers: false,
         is_deaf: false,
         has_told: false,
+        has_ended: false,
         swept_at: now,
         time: now,
     })

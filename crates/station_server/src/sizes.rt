@@ -22,3 +22,12 @@ pub const CLOSING_SECONDS: u64 = 5;
 
 /// Where storing a round's rows took so many seconds, peers weren't silent in them.
 pub const STALL_SECONDS: u64 = 1;
+
+/// So many connections of the page there are at once, at most.
+pub const PAGE_CONNECTIONS: usize = 64;
+
+/// A peer of the page has so many seconds, behind an answer, to ask anew and take the next one.
+pub const PAGE_SECONDS: u64 = 10;
+
+/// So many rounds are heard, at most, before a sweep.
+pub const ROUNDS_BEFORE_A_SWEEP: usize = 16;

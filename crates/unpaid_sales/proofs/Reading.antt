@@ -1,9 +1,9 @@
 -- The unpaid transactions of a book, row after row.
 use Rattle.std.proofs.Common.{◌≡◌, ℕ, ◌+◌, ◌≤◌, Bool, true, false, List, [], ◌∷◌, ◌++◌, take}
 use Rattle.std.proofs.Common.{length, slice_get, Option, Some, None, refl, sym, ap, ◌∙◌, append-nil}
-use Rattle.std.proofs.Common.{◌<◌, ◌⊎◌, inl, inr, get_or, arith}
+use Rattle.std.proofs.Common.{◌<◌, ◌⊎◌, inl, inr, get_or, is_some, subst, arith}
 use Rattle.std.specs.Prelude.{filter, filter_map, option_and_then, option_map}
-use Rattle.std.specs.List.{cons_option}
+use Rattle.std.specs.List.{AllByRecursion, cons_option}
 use Rattle.std.proofs.lemmas.List.{take-append-drop, take_more}
 use Rattle.std.proofs.lemmas.List.Elements.{filter-append, filter_map-append}
 use Rattle.std.proofs.lemmas.Option.{slice_get_cases, slice_get_within, get_or_from_slice_get}
@@ -14,15 +14,16 @@ use Rattle.transaction_buffer.specs.Sales.{Key, Sale, sale_of}
 use Rattle.written_site.specs.Histories.{Moment, moments_of}
 use Rattle.written_site.specs.RowWords.{open_after}
 use Rattle.written_site.specs.SaleWords.{key_sold, number_sold}
-use Rattle.written_site.specs.SiteRun.{site_of_rows}
+use Rattle.written_site.specs.SiteRun.{site_of_rows, IsLegal}
 use Rattle.written_site.specs.SiteState.{SiteState, opening}
 use Rattle.written_site.proofs.SlotRows.{moment_at}
 use Rattle.site_book.specs.declared.named_sale.NamedSale.{NamedSale}
 use Rattle.site_book.specs.Book.{Book, site_of_book}
 use Rattle.site_book.specs.BookSales.{sale_made, sale_named, with_name}
+use Rattle.site_book.proofs.BookDraws.{legal_take}
 use Rattle.site_book.proofs.BookSales.{moment_there, moments_over}
-use Rattle.unpaid_sales.specs.Unpaid.{GoesBy, Kept, as_they_stand, is_due, name_of, unpaid_before}
-use Rattle.unpaid_sales.specs.Unpaid.{unpaid_sales}
+use Rattle.unpaid_sales.specs.Unpaid.{GoesBy, IsOfSite, Kept, as_they_stand, is_due, name_of}
+use Rattle.unpaid_sales.specs.Unpaid.{unpaid_before, unpaid_sales}
 
 -- ---- a transaction as it stands
 
@@ -72,6 +73,42 @@ sold_stands s (Some k) = by (sale_named s k) refl
         → as_they_stand s (cons_option o []) ≡ cons_option o []
     by None is = refl
     by (Some y) is = rw (stands s k y is) refl
+
+-- the site has those that are found there
+found_of_site : (s : SiteState) (xs : List NamedSale)
+    → AllByRecursion (IsOfSite s) (filter is_due (as_they_stand s xs))
+found_of_site s [] = tt
+found_of_site s (x ∷ xs) = by (sale_named s (name_of x)) refl (found_of_site s xs)
+  where
+    due : (y : NamedSale) (b : Bool) → is_due y ≡ b → IsOfSite s y
+        → AllByRecursion (IsOfSite s) (filter is_due (as_they_stand s xs))
+        → AllByRecursion (IsOfSite s) (filter is_due (y ∷ as_they_stand s xs))
+    due y true d there rest = rw d (there, rest)
+    due y false d there rest = rw d rest
+
+    by : (o : Option NamedSale) → sale_named s (name_of x) ≡ o
+        → AllByRecursion (IsOfSite s) (filter is_due (as_they_stand s xs))
+        → AllByRecursion (IsOfSite s) (filter is_due (cons_option o (as_they_stand s xs)))
+    by None is rest = rest
+    by (Some y) is rest =
+        due y (is_due y) refl
+        (ap (λ (o : Option NamedSale). is_some o) (stands s (name_of x) y is)) rest
+
+-- so it has what a row sold
+sold_of_site : (s : SiteState) (sold : Option Key)
+    → AllByRecursion (IsOfSite s) (cons_option (option_and_then (sale_named s) sold) [])
+sold_of_site s None = tt
+sold_of_site s (Some k) = by (sale_named s k) refl
+  where
+    by : (o : Option NamedSale) → sale_named s k ≡ o
+        → AllByRecursion (IsOfSite s) (cons_option o [])
+    by None is = tt
+    by (Some y) is = (ap (λ (o : Option NamedSale). is_some o) (stands s k y is), tt)
+
+all_append : {X : Type 0} (P : X → Type 0) (xs ys : List X) → AllByRecursion P xs
+    → AllByRecursion P ys → AllByRecursion P (xs ++ ys)
+all_append P [] ys first second = second
+all_append P (x ∷ xs) ys first second = (first.0, all_append P xs ys first.1 second)
 
 -- ---- one row more
 
@@ -136,7 +173,7 @@ all_before b i over =
 
 -- what is kept goes by the book with one row more read
 pub row_kept : (b : Book) (kept : Kept) (r : Row) (sold : Option NamedSale) (next : ℕ)
-    → slice_get b.rows kept.place ≡ Some r
+    → slice_get b.rows kept.place ≡ Some r → IsLegal (opening b.config) b.rows
     → ((earlier : List Row) → kept.shift ≡ open_after earlier → sold
     ≡ option_and_then (sale_named (site_of_book b))
     (key_sold earlier (point_named r.event) (number_sold r.reply)))
@@ -148,9 +185,17 @@ pub row_kept : (b : Book) (kept : Kept) (r : Row) (sold : Option NamedSale) (nex
       shift = next;
       sales = kept.sales ++ cons_option sold [];
     }) b
-row_kept b kept r sold next found is opens goes = record {
+row_kept b kept r sold next found legal is opens goes = record {
   within = omega (arith, slice_get_within b.rows kept.place r found);
+  legal = legal_take (kept.place + 1) (opening b.config) b.rows legal;
   shift = opens goes.shift;
+  there = subst
+      (λ (o : Option NamedSale).
+      AllByRecursion (IsOfSite (site_of_book b)) (kept.sales ++ cons_option o []))
+      (sym (is (take kept.place b.rows) goes.shift))
+      (all_append (IsOfSite (site_of_book b)) kept.sales
+      (cons_option (option_and_then (sale_named (site_of_book b)) (key_at b kept.place r)) [])
+      goes.there (sold_of_site (site_of_book b) (key_at b kept.place r)));
   unpaid = row_read b kept.sales kept.place r sold found
       (is (take kept.place b.rows) goes.shift) goes.unpaid;
 }
@@ -177,7 +222,9 @@ all_read b kept due over is goes =
       is ∙ goes.unpaid ∙ all_before b kept.place over,
       record {
         within = goes.within;
+        legal = goes.legal;
         shift = goes.shift;
+        there = subst (AllByRecursion (IsOfSite s)) (sym is) (found_of_site s kept.sales);
         unpaid = ap (filter is_due) (same ∙ is)
             ∙ twice (as_they_stand s kept.sales) ∙ goes.unpaid;
       },

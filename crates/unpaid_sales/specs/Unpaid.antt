@@ -1,9 +1,11 @@
 -- The unpaid transactions of a book, as they are found row by row.
-use Rattle.std.specs.Prelude.{◌≡◌, ◌≤◌, ℕ, Bool, List, length, take, filter, filter_map}
+use Rattle.std.specs.Prelude.{◌≡◌, ◌≤◌, ℕ, Bool, List, length, take, filter, filter_map, IsSome}
+use Rattle.std.specs.List.{AllByRecursion}
 use Rattle.transaction_buffer.specs.Sales.{Key, is_unpaid, key}
 use Rattle.written_site.specs.Histories.{moments_of}
 use Rattle.written_site.specs.RowWords.{open_after}
-use Rattle.written_site.specs.SiteState.{SiteState}
+use Rattle.written_site.specs.SiteRun.{IsLegal}
+use Rattle.written_site.specs.SiteState.{SiteState, opening}
 use Rattle.site_book.specs.declared.named_sale.NamedSale.{NamedSale}
 use Rattle.site_book.specs.Book.{Book, site_of_book}
 use Rattle.site_book.specs.BookSales.{book_sales, sale_made, sale_named}
@@ -35,10 +37,17 @@ name_of x = key x.shift x.point x.number
 abbrev pub as_they_stand : SiteState → List NamedSale → List NamedSale
 as_they_stand s sales = filter_map (λ x. sale_named s (name_of x)) sales
 
--- What is kept goes by this book: so many of its rows are read, that shift is open after them, and
--- of what they sold just the transactions that are kept may be unpaid.
+-- the site has a transaction of its name
+abbrev pub IsOfSite : SiteState → NamedSale → Type 0
+IsOfSite s x = IsSome (sale_named s (name_of x))
+
+-- What is kept goes by this book: so many of its rows are read, they are a legal history, and that
+-- shift is open after them. The site has each transaction that is kept, and of what these rows sold
+-- just the transactions that are kept may be unpaid.
 pub record GoesBy (kept : Kept) (b : Book) : Type 0 where
   pub within : kept.place ≤ length b.rows
+  pub legal : IsLegal (opening b.config) (take kept.place b.rows)
   pub shift : kept.shift ≡ open_after (take kept.place b.rows)
+  pub there : AllByRecursion (IsOfSite (site_of_book b)) kept.sales
   pub unpaid : filter is_due (as_they_stand (site_of_book b) kept.sales)
       ≡ unpaid_before kept.place b

@@ -1,18 +1,20 @@
-use Rattle.std.proofs.Common.{◌≡◌, ℕ, Some, arith, false, rules, subst, sym}
+use Rattle.std.proofs.Common.{◌≡◌, ◌∙◌, ◌-◌, ℕ, Some, ap, arith, false, refl, rules, subst, sym}
+use Rattle.site_base.specs.declared.limits.TheConstants.{TILLS}
 use Rattle.written_site.specs.SiteState.{is_signed_on}
 use Rattle.site_book.specs.Book.{Book, site_of_book}
 use Rattle.station.specs.Sessions.{without_till}
 use Rattle.journal.specs.History.{IsMadeAgain}
-use Rattle.journal.specs.Opening.{AddsSignOffs}
+use Rattle.journal.specs.Opening.{tills_off}
 use Rattle.journal.proofs.Made.{made_with}
 use Rattle.journal.proofs.Moves.{adds_leaving}
-use Rattle.journal.proofs.SigningOff.{adds_none, adds_one, nobody_on, one_more_off}
+use Rattle.journal.proofs.SigningOff.{nobody_on, one_more, one_more_off}
 use Rattle.journal.proofs.opening.sign_off_all.Goals as goal
 
 pub loop-number-init : goal.loop-number-init
 loop-number-init c = record {
   least = omega arith;
-  rows = adds_none c.args.book.now;
+  most = omega arith;
+  rows = refl;
   made = λ was. was;
   off = λ t least less. absurd (omega (arith, least, less));
 }
@@ -26,8 +28,10 @@ loop-number-preserved c =
     c.leave.ensures in
     record {
       least = omega (arith, c.loop-number.invariant.least);
-      rows = subst (AddsSignOffs c.args.book.now) (sym left)
-          (adds_one c.args.book.now book number c.loop-number.invariant.rows);
+      most = omega (arith, c.loop-number-test.true);
+      rows = left
+          ∙ one_more number c.args.book.now book c.loop-number.invariant.rows
+          c.loop-number.invariant.least;
       made = λ was. subst IsMadeAgain (sym left)
           (made_with book (without_till (Some number) book) (c.loop-number.invariant.made was)
           (adds_leaving (Some number) book));
@@ -35,6 +39,13 @@ loop-number-preserved c =
           subst (λ (b : Book). is_signed_on (site_of_book b) t ≡ false) (sym left)
           (one_more_off book number c.loop-number.invariant.off t least less);
     }
+
+pub returns-clause-rows : goal.returns-clause-rows
+returns-clause-rows c =
+    c.loop-number.invariant.rows
+    ∙ ap (λ (n : ℕ). tills_off n c.args.book.now)
+    (let all : c.loop-number.number - 1 ≡ TILLS =
+    omega (arith, c.loop-number.invariant.most, c.loop-number-test.false) in all)
 
 pub returns-clause-off : goal.returns-clause-off
 returns-clause-off c =

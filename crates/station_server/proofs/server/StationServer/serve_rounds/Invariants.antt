@@ -1,5 +1,9 @@
+use Rattle.unpaid_sales.specs.Unpaid.{GoesBy}
 use Rattle.station_server.specs.Reaches.{Reaches}
 use Rattle.station_server.proofs.server.StationServer.serve_rounds.Given as goal
 
 abbrev pub invariant-loop : goal.invariant-loop
-invariant-loop g l = Reaches l.fn.connections.stored.station l.connections.stored.station
+invariant-loop g l = record {
+  reached : Reaches l.fn.connections.stored.station l.connections.stored.station;
+  kept : GoesBy l.unpaid l.connections.stored.station.book;
+}

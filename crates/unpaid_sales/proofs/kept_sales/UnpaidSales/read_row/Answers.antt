@@ -16,5 +16,5 @@ returns-clause-kept c = λ goes.
     (sym c.in_ok-push_if.ensures.ok)
     (row_kept b kept c.args.row.now c.sale_made.result next
     (ap (λ (k : Kept). slice_get b.rows k.place) c.self.view_is ∙ c.requires)
-    c.sale_made.ensures c.shift_after-self-inside.ensures
+    c.len.ensures.legal c.sale_made.ensures c.shift_after-self-inside.ensures
     (subst (λ (k : Kept). GoesBy k b) (sym c.self.view_is) goes))

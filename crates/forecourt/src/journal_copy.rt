@@ -1,0 +1,68 @@
+//! A copy of a journal's file, which takes its place.
+
+use crate::journal_file::{open_by, open_folder};
+use std::fs::{self, File, OpenOptions, TryLockError};
+use std::io::{self, ErrorKind, Write};
+use std::os::unix::fs::{MetadataExt, fchown};
+use std::path::PathBuf;
+
+/// What stands behind a journal's name in that of its copy.
+const COPY_EXTENSION: &str = "starting";
+
+/// Puts a copy with these octets in a file's place. It is locked, and has the file's owner and
+/// leave; all of it is on the disk before it takes the name, and its folder knows that for good.
+pub fn put_copy(rt: &HostRuntime, file: &File, name: &str, octets: &[u8]) -> io::Result<File> {
+    let folder = open_folder(rt, name)?;
+    let copy_name = PathBuf::from_str(rt.alloc(), name)?.with_added_extension(
+        rt.alloc(),
+        COPY_EXTENSION,
+    )?;
+    remove_left(rt, copy_name.as_str())?;
+    let copy = open_by(rt, OpenOptions::new().create_new(true), copy_name.as_str())?;
+    match fill_copy(file, &copy, octets).and_then(|()| fs::rename(rt, &copy_name, name)) {
+        Ok(()) => {}
+        Err(error) => {
+            let _ = fs::remove_file(rt, &copy_name);
+            return Err(error);
+        }
+    }
+    folder.sync_all()?;
+    Ok(copy)
+}
+
+/// Removes the copy that a start has left which ended before it was in place. What is no file, or
+/// is locked by somebody, is no such copy.
+fn remove_left(rt: &HostRuntime, copy_name: &str) -> io::Result<()> {
+    match fs::symlink_metadata(rt, copy_name) {
+        Ok(found) if found.is_file() => {
+            let left = File::open(rt, copy_name)?;
+            lock_file(&left)?;
+            fs::remove_file(rt, copy_name)
+        }
+        Ok(_) => Err(io::Error::from(ErrorKind::AlreadyExists)),
+        Err(error) if error.kind() == ErrorKind::NotFound => Ok(()),
+        Err(error) => Err(error),
+    }
+}
+
+/// Locks a copy, and puts the octets into it, with the file's owner, where that may be, and its
+/// leave.
+fn fill_copy(file: &File, copy: &File, octets: &[u8]) -> io::Result<()> {
+    lock_file(copy)?;
+    let mut writer = copy;
+    writer.write_all(octets)?;
+    let found = file.metadata()?;
+    let _ = fchown(copy, None, Some(found.gid()));
+    let _ = fchown(copy, Some(found.uid()), None);
+    copy.set_permissions(found.permissions())?;
+    copy.sync_all()
+}
+
+/// Locks a file that nobody else has.
+fn lock_file(file: &File) -> io::Result<()> {
+    match file.try_lock() {
+        Ok(()) => Ok(()),
+        Err(TryLockError::WouldBlock) => Err(io::Error::from(ErrorKind::WouldBlock)),
+        Err(TryLockError::Error(error)) => Err(error),
+    }
+}

@@ -1,0 +1,210 @@
+//! The page's listener, and its connections.
+
+ghost use Rattle.std.specs.Prelude.{◌≡◌, IfOk};
+ghost use Rattle.serde_json.specs.Written.{compact_text};
+ghost use Rattle.site_json.specs.SiteData.{site_data};
+ghost use Rattle.unpaid_sales.specs.Unpaid.{GoesBy, unpaid_sales};
+
+use crate::page_link::{PageLink, Progress};
+use crate::sizes::{ACCEPTS_A_TURN, PAGE_CONNECTIONS};
+use mio::net::{TcpListener, TcpStream};
+use mio::{Interest, Registry, Token};
+use site_base::NoMemory;
+use site_book::SiteBook;
+use site_page::Page;
+use station::PEERS;
+use std::alloc::Global;
+use std::hash::RandomState;
+use std::io::ErrorKind;
+use std::time::Instant;
+use unpaid_sales::UnpaidSales;
+
+/// The page's listener, and its connections by their places. They are lent the book, and can't
+/// change it.
+#[derive(Drop)]
+pub(crate) struct Pages {
+    alloc: Global,
+    keys: RandomState,
+    listener: TcpListener,
+    links: Vec<Option<PageLink>>,
+    /// Connections may wait to be accepted.
+    pub(crate) has_callers: bool,
+    /// A connection has a turn in this round.
+    is_due: bool,
+}
+
+impl Pages {
+    /// No connections yet.
+    pub(crate) fn new(
+        alloc: Global,
+        keys: RandomState,
+        listener: TcpListener,
+    ) -> Result<Pages, NoMemory> {
+        let mut links = Vec::with_capacity(alloc, PAGE_CONNECTIONS)?;
+        for _ in 0..PAGE_CONNECTIONS {
+            links.push(None)?;
+        }
+        Ok(Pages {
+            alloc,
+            keys,
+            listener,
+            links,
+            has_callers: false,
+            is_due: false,
+        })
+    }
+
+    /// Is there a connection that may be late, or one that waits to be accepted?
+    pub(crate) fn is_busy(&self) -> bool {
+        self.has_callers || self.links.iter().any(|link| link.is_some())
+    }
+
+    /// The connection of this key is ready.
+    pub(crate) fn make_due(&mut self, key: usize) {
+        if let Some(place) = key.checked_sub(PEERS) {
+            if let Some(Some(link)) = self.links.get_mut(place) {
+                link.is_due = true;
+                self.is_due = true;
+            }
+        }
+    }
+
+    /// Each connection that is ready has its turn, and those that wait are accepted. `connections`
+    /// is how many peers the station has.
+    pub(crate) fn serve(
+        &mut self,
+        registry: &Registry,
+        book: &SiteBook,
+        unpaid: &mut UnpaidSales,
+        connections: usize,
+        now: Instant,
+    )
+        ensures { GoesBy unpaid.old book.now → GoesBy unpaid.new book.now }
+    {
+        if self.has_callers {
+            self.accept_all(registry, now);
+        }
+        if !self.is_due {
+            return;
+        }
+        self.is_due = false;
+        match page_of(self.alloc, book, unpaid, connections) {
+            Ok(page) => self.take_turns(registry, &page, now),
+            Err(NoMemory) => self.close_due(),
+        }
+    }
+
+    /// Each connection that is ready has its turn with this page.
+    fn take_turns(&mut self, registry: &Registry, page: &Page, now: Instant) {
+        for place in 0..self.links.len() {
+            self.take_turn(registry, page, place, now);
+        }
+    }
+
+    /// The connection at this place has its turn, if it is ready. Where that is over before it
+    /// waits for its peer, it is reported once more.
+    fn take_turn(&mut self, registry: &Registry, page: &Page, place: usize, now: Instant) {
+        let Some(Some(link)) = self.links.get_mut(place) else {
+            return;
+        };
+        if !link.is_due {
+            return;
+        }
+        link.is_due = false;
+        match link.take_turn(page, now) {
+            Ok(Progress::Waits) => {}
+            Ok(Progress::GoesOn) => {
+                let _ = registry.reregister(&mut link.stream, token_of(place), both_ways());
+            }
+            Ok(Progress::Over) | Err(NoMemory) => self.close(place),
+        }
+    }
+
+    /// Where memory is wanting, whoever asks is sent away.
+    fn close_due(&mut self) {
+        for slot in &mut self.links {
+            if slot.as_ref().is_some_and(|link| link.is_due) {
+                let _ = slot.take();
+            }
+        }
+    }
+
+    /// Closes the connection at this place.
+    fn close(&mut self, place: usize) {
+        if let Some(slot) = self.links.get_mut(place) {
+            let _ = slot.take();
+        }
+    }
+
+    /// Closes the connections whose peers were waited for too long, and accepts again where that
+    /// failed.
+    pub(crate) fn sweep(&mut self, registry: &Registry, now: Instant) {
+        for slot in &mut self.links {
+            if slot.as_ref().is_some_and(|link| link.is_late(now)) {
+                let _ = slot.take();
+            }
+        }
+        if self.has_callers {
+            self.accept_all(registry, now);
+        }
+    }
+
+    /// Accepts the connections that wait; where that fails it is tried again.
+    fn accept_all(&mut self, registry: &Registry, now: Instant) {
+        for _ in 0..ACCEPTS_A_TURN {
+            match self.listener.accept() {
+                Ok((stream, _)) => self.welcome(registry, stream, now),
+                Err(error) => match error.kind() {
+                    ErrorKind::Interrupted | ErrorKind::ConnectionAborted => {}
+                    kind => {
+                        self.has_callers = kind != ErrorKind::WouldBlock;
+                        return;
+                    }
+                },
+            }
+        }
+    }
+
+    /// A peer has come. Where 64 are there, or memory is wanting, its connection is closed.
+    fn welcome(&mut self, registry: &Registry, mut stream: TcpStream, now: Instant) {
+        let Some(place) = self.links.iter().position(|link| link.is_none()) else {
+            return;
+        };
+        let _ = stream.set_nodelay(true);
+        let is_watched = registry
+            .register(&mut stream, token_of(place), both_ways())
+            .is_ok();
+        if !is_watched || place >= self.links.len() {
+            return;
+        }
+        if let Ok(link) = PageLink::new(self.alloc, self.keys, stream, now) {
+            self.links[place] = Some(link);
+            self.is_due = true;
+        }
+    }
+}
+
+/// The page of a book, with so many connections. The sales that go by the book still do.
+fn page_of(
+    alloc: Global,
+    book: &SiteBook,
+    unpaid: &mut UnpaidSales,
+    connections: usize,
+) -> Result<Page, NoMemory>
+    ensures page { IfOk result (λ page. GoesBy unpaid.old book.now → page.site
+        ≡ compact_text (site_data book.now (unpaid_sales book.now) connections)) }
+    ensures kept { GoesBy unpaid.old book.now → GoesBy unpaid.new book.now }
+{
+    unpaid.read(alloc, book)?;
+    Page::of_book(alloc, book, unpaid.as_slice(), connections)
+}
+
+/// What the connection at this place is reported under.
+fn token_of(place: usize) -> Token {
+    Token(PEERS.saturating_add(place))
+}
+
+/// The interest of a connection: it is read from, and written to.
+fn both_ways() -> Interest {
+    Interest::READABLE | Interest::WRITABLE
+}
