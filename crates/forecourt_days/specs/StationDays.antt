@@ -1,5 +1,6 @@
 -- What a station's day writes.
-use Rattle.std.specs.Prelude.{◌≡◌, ℕ, false, List, [], ◌∷◌, ◌++◌, Option, Some, None, codes, decimal}
+use Rattle.std.specs.Prelude.{◌≡◌, ℕ, false, List, [], ◌∷◌, ◌++◌, Option, Some, None}
+use Rattle.std.specs.Prelude.{codes, decimal}
 use Rattle.serde_json.specs.Written.{compact_text}
 use Rattle.std.specs.Io.KnownBytes.{Appends}
 use Rattle.site_base.specs.declared.transfer.WriteFault.TheVariants as writes

@@ -206,7 +206,8 @@ lines_stay : (header first_line octets left : List ℕ) (whole : ℕ) (b : Book)
     → Reads octets old → IsRead header octets whole b
     → left ≡ settled_octets first_line whole octets → KeepsEither left old new
     → KeepsWholeLines old new
-lines_stay header first_line octets left whole b old new reads is settled keeps front closed begins =
+lines_stay header first_line octets left whole b old new reads is settled keeps front closed
+    begins =
     record {
       more = keeps.more;
       moments = keeps.moments;

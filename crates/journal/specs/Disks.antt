@@ -4,8 +4,8 @@ use Rattle.std.specs.List.{AllByRecursion}
 
 -- the octets that a read gives; the front of them that is on the disk; each such front so far, one
 -- for each moment at which a crash might have come, the last one last; and whether no flush of it
--- has failed since it was made. Once one has, the system may show octets that the disk doesn't have,
--- and answer the next flush well: whoever opens a file can't know
+-- has failed since it was made. Once one has, the system may show octets that the disk doesn't
+-- have, and answer the next flush well: whoever opens a file can't know
 pub record DiskFile : Type 0 where
   pub octets : List ℕ
   pub synced : List ℕ

@@ -88,7 +88,8 @@ fn line_of(alloc: Global, line: &[u8]) -> Result<Vec<u8>, NoMemory>
     Ok(whole)
 }
 
-/// The first of these octets, so many of which are whole lines; where there is none, the first line.
+/// The first of these octets, so many of which are whole lines; where there is none, the first
+/// line.
 fn whole_lines<'a>(first_line: &'a [u8], octets: &'a [u8], whole: usize) -> &'a [u8]
     requires { whole ≤ length octets.now }
     ensures { result.now ≡ settled_octets first_line.now whole octets.now }

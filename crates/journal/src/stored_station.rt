@@ -1,7 +1,7 @@
 //! A station with its journal.
 
-ghost use Rattle.std.specs.Prelude.{◌≡◌, ◌==◌, ◌≤◌, ℕ, IfNone, IfOk, IfSome, None, OnErr, OnOk, Some};
-ghost use Rattle.std.specs.Prelude.{length, not, true};
+ghost use Rattle.std.specs.Prelude.{◌≡◌, ◌==◌, ◌≤◌, ℕ, IfNone, IfOk, IfSome, None, OnErr, OnOk};
+ghost use Rattle.std.specs.Prelude.{Some, length, not, true};
 ghost use Rattle.station.specs.declared.sizes.TheConstants.{PEERS};
 ghost use Rattle.station.specs.Peers.{peer_at};
 ghost use Rattle.station.specs.Moves.{with_end, with_octets, with_taken, without_peer};

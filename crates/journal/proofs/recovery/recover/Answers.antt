@@ -3,7 +3,8 @@ use Rattle.journal.specs.Disks.{DiskFile, KeepsEither, OfFile, OfFiles, Renews}
 use Rattle.journal.specs.Recovering.{IsReadIn}
 use Rattle.forecourt_engines.specs.Laws.{IsLine}
 use Rattle.journal.proofs.Octets.{header_plain}
-use Rattle.journal.proofs.Recovering.{holds_read_in, lines_stay_in, read_in, read_made, renewed_file}
+use Rattle.journal.proofs.Recovering.{holds_read_in, lines_stay_in, read_in, read_made}
+use Rattle.journal.proofs.Recovering.{renewed_file}
 use Rattle.journal.proofs.recovery.recover.Goals as goal
 
 pub returns-clause-made : goal.returns-clause-made
