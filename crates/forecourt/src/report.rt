@@ -17,8 +17,8 @@ use std::process::ExitCode;
 /// for people, with `--json` for programs.
 pub fn run_report(rt: &HostRuntime, words: &ArgMatches<'_>) -> ExitCode {
     match read_site(rt, words) {
-        Ok(config) if words.get_flag("human") => report_after(rt, &config, people_text),
-        Ok(config) if words.get_flag("json") => report_after(rt, &config, json_text),
+        Ok(config) if words.get_flag("human") => report_after(rt, &config, BookText::People),
+        Ok(config) if words.get_flag("json") => report_after(rt, &config, BookText::Json),
         Ok(config) => report_on(rt, &config),
         Err(status) => status,
     }
@@ -32,13 +32,18 @@ fn report_on(rt: &HostRuntime, config: &SiteConfig) -> ExitCode {
     exit_replay(rt, end.err())
 }
 
+/// What is printed of a book.
+#[derive(Clone, Copy, Debug)]
+enum BookText {
+    /// Its figures in columns.
+    People,
+    /// One object of JSON.
+    Json,
+}
+
 /// Replays standard input on this site, and prints this text of its book where the text of the
 /// answers ended.
-fn report_after(
-    rt: &HostRuntime,
-    config: &SiteConfig,
-    text_of: fn(&HostRuntime, &SiteBook) -> Result<Vec<u8>, NoMemory>,
-) -> ExitCode {
+fn report_after(rt: &HostRuntime, config: &SiteConfig, wanted: BookText) -> ExitCode {
     let ReplayEnd { fault, book } = replay_silently(rt, config);
     let Some(book) = book else {
         return exit_replay(rt, fault);
@@ -46,7 +51,7 @@ fn report_after(
     if !ends_its_text(&fault) {
         return exit_replay(rt, fault);
     }
-    match text_of(rt, &book) {
+    match text_of(rt, &book, wanted) {
         Ok(text) => match print_text(rt, &text) {
             None => exit_replay(rt, fault),
             fault => exit_replay(rt, fault),
@@ -55,15 +60,15 @@ fn report_after(
     }
 }
 
-/// The figures of a book's audit for people.
-fn people_text(rt: &HostRuntime, book: &SiteBook) -> Result<Vec<u8>, NoMemory> {
-    let totals = book.audit(rt.alloc())?;
-    totals_text(rt.alloc(), book.config().products(), &totals)
-}
-
-/// The same as JSON.
-fn json_text(rt: &HostRuntime, book: &SiteBook) -> Result<Vec<u8>, NoMemory> {
-    Ok(json_report_of_book(rt.alloc(), book)?.into_bytes())
+/// This text of a book, by its audit.
+fn text_of(rt: &HostRuntime, book: &SiteBook, wanted: BookText) -> Result<Vec<u8>, NoMemory> {
+    match wanted {
+        BookText::People => {
+            let totals = book.audit(rt.alloc())?;
+            totals_text(rt.alloc(), book.config().products(), &totals)
+        }
+        BookText::Json => Ok(json_report_of_book(rt.alloc(), book)?.into_bytes()),
+    }
 }
 
 /// Prints a text; the fault of its write, if it fails.
