@@ -27,8 +27,10 @@ class Till:
         body = bytes([len(address)]) + address + b"".join(bytes([item, 0]) for item in items)
         head = bytes([1, 1]) + self.node + bytes([0, kind << 5 | self.token])
         self.site.sendall(head + len(body).to_bytes(2, "big") + body)
-        length = int.from_bytes(self.replies.read(8)[6:], "big")
-        body = self.replies.read(length)
+        head = self.replies.read(8)
+        body = self.replies.read(int.from_bytes(head[6:], "big"))
+        if len(head) < 8 or not body:
+            sys.exit("the site has closed the connection")
         rest, told = body[1 + body[0] :], {}
         while rest:
             told[rest[0]] = int.from_bytes(rest[2 : 2 + rest[1]], "big")

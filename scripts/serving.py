@@ -3,6 +3,7 @@
 import concurrent.futures
 import contextlib
 import fcntl
+import os
 import pathlib
 import re
 import select
@@ -50,6 +51,18 @@ def wait_until(what, is_so):
         if time.monotonic() > end:
             raise Failed(f"not within {WAIT} seconds: {what}")
         time.sleep(LOOK)
+
+
+def list_addresses(process):
+    """The addresses of a process's sockets in the system's tables, each with its state."""
+    own = {os.readlink(file) for file in pathlib.Path(f"/proc/{process.pid}/fd").iterdir()}
+    bound = []
+    for table in ("tcp", "tcp6", "udp", "udp6"):
+        with contextlib.suppress(FileNotFoundError):
+            lines = pathlib.Path(f"/proc/net/{table}").read_text().splitlines()
+            rows = [line.split() for line in lines[1:]]
+            bound += [(row[1], row[3]) for row in rows if f"socket:[{row[9]}]" in own]
+    return bound
 
 
 # ---- the program

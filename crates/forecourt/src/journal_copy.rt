@@ -1,6 +1,6 @@
 //! A copy of a journal's file, which takes its place.
 
-use crate::journal_file::{open_by, open_folder};
+use crate::journal_file::open_by;
 use std::fs::{self, File, OpenOptions, TryLockError};
 use std::io::{self, ErrorKind, Write};
 use std::os::unix::fs::{MetadataExt, fchown};
@@ -10,9 +10,8 @@ use std::path::PathBuf;
 const COPY_EXTENSION: &str = "starting";
 
 /// Puts a copy with these octets in a file's place. It is locked, and has the file's owner and
-/// leave; all of it is on the disk before it takes the name, and its folder knows that for good.
+/// leave; all of it is on the disk before it takes the name.
 pub fn put_copy(rt: &HostRuntime, file: &File, name: &str, octets: &[u8]) -> io::Result<File> {
-    let folder = open_folder(rt, name)?;
     let copy_name = PathBuf::from_str(rt.alloc(), name)?.with_added_extension(
         rt.alloc(),
         COPY_EXTENSION,
@@ -26,7 +25,6 @@ pub fn put_copy(rt: &HostRuntime, file: &File, name: &str, octets: &[u8]) -> io:
             return Err(error);
         }
     }
-    folder.sync_all()?;
     Ok(copy)
 }
 
@@ -36,7 +34,7 @@ fn remove_left(rt: &HostRuntime, copy_name: &str) -> io::Result<()> {
     match fs::symlink_metadata(rt, copy_name) {
         Ok(found) if found.is_file() => {
             let left = File::open(rt, copy_name)?;
-            lock_file(&left)?;
+            lock(&left)?;
             fs::remove_file(rt, copy_name)
         }
         Ok(_) => Err(io::Error::from(ErrorKind::AlreadyExists)),
@@ -48,7 +46,7 @@ fn remove_left(rt: &HostRuntime, copy_name: &str) -> io::Result<()> {
 /// Locks a copy, and puts the octets into it, with the file's owner, where that may be, and its
 /// leave.
 fn fill_copy(file: &File, copy: &File, octets: &[u8]) -> io::Result<()> {
-    lock_file(copy)?;
+    lock(copy)?;
     let mut writer = copy;
     writer.write_all(octets)?;
     let found = file.metadata()?;
@@ -58,8 +56,8 @@ fn fill_copy(file: &File, copy: &File, octets: &[u8]) -> io::Result<()> {
     copy.sync_all()
 }
 
-/// Locks a file that nobody else has.
-fn lock_file(file: &File) -> io::Result<()> {
+/// Locks a file for this process; `WouldBlock` where another has it.
+pub fn lock(file: &File) -> io::Result<()> {
     match file.try_lock() {
         Ok(()) => Ok(()),
         Err(TryLockError::WouldBlock) => Err(io::Error::from(ErrorKind::WouldBlock)),

@@ -1,9 +1,9 @@
 //! The file of a journal.
 
-use crate::journal_copy::put_copy;
+use crate::journal_copy::{lock, put_copy};
 use journal::{Disk, DiskFault};
 use std::alloc::{AllocError, Global};
-use std::fs::{self, File, Metadata, OpenOptions, TryLockError};
+use std::fs::{self, File, Metadata, OpenOptions};
 use std::io::{self, ErrorKind, Read, Seek, SeekFrom, Write};
 use std::mem;
 use std::os::unix::fs::{MetadataExt, OpenOptionsExt};
@@ -57,7 +57,11 @@ impl<'a> JournalFile<'a> {
             Err(error) => return Err(fault_of(&error)),
         };
         let file = open_or_make(rt, path.as_str())?;
-        lock(&file)?;
+        match lock(&file) {
+            Ok(()) => {}
+            Err(error) if error.kind() == ErrorKind::WouldBlock => return Err(FileFault::InUse),
+            Err(error) => return Err(fault_of(&error)),
+        }
         if !is_at(rt, path.as_str(), &file) || is_printed_to(rt, &file) {
             return Err(FileFault::InUse);
         }
@@ -85,8 +89,13 @@ fn resolve(rt: &HostRuntime, name: &str) -> Result<PathBuf, FileFault> {
 }
 
 /// The folder of the file of this name.
-pub fn open_folder(rt: &HostRuntime, name: &str) -> io::Result<File> {
+fn open_folder(rt: &HostRuntime, name: &str) -> io::Result<File> {
     OpenOptions::new().read(true).open(rt, folder_of(name))
+}
+
+/// Has the folder of the file of this name on the disk.
+fn flush_folder(rt: &HostRuntime, name: &str) -> io::Result<()> {
+    open_folder(rt, name)?.sync_all()
 }
 
 /// Opens the file of this name, or makes it.
@@ -111,15 +120,6 @@ fn open_file(rt: &HostRuntime, name: &str) -> Result<File, FileFault> {
 pub fn open_by(rt: &HostRuntime, options: &mut OpenOptions, name: &str) -> io::Result<File> {
     options.read(true).append(true).mode(OWNER_ALONE);
     options.open(rt, name)?.try_clone()
-}
-
-/// Locks a file for this process.
-fn lock(file: &File) -> Result<(), FileFault> {
-    match file.try_lock() {
-        Ok(()) => Ok(()),
-        Err(TryLockError::WouldBlock) => Err(FileFault::InUse),
-        Err(TryLockError::Error(error)) => Err(fault_of(&error)),
-    }
 }
 
 /// Is it this file that has the name? A start just before may have put another one in its place.
@@ -198,10 +198,11 @@ impl<'a> Disk for JournalFile<'a> {
     /// A copy with these octets takes the file's place, and is on the disk before it does.
     fn renew(&mut self, octets: &[u8]) -> Result<(), DiskFault> {
         match put_copy(self.rt, &self.file, self.path.as_str(), octets) {
-            Ok(copy) => {
-                self.earlier = Some(mem::replace(&mut self.file, copy));
-                Ok(())
-            }
+            Ok(copy) => self.earlier = Some(mem::replace(&mut self.file, copy)),
+            Err(error) => return Err(disk_fault_of(&error)),
+        }
+        match flush_folder(self.rt, self.path.as_str()) {
+            Ok(()) => Ok(()),
             Err(error) => Err(disk_fault_of(&error)),
         }
     }

@@ -38,7 +38,8 @@ OfFiles R old new = ⊥
 
 -- ---- the calls
 
--- these octets are the file's, and they begin with what is on the disk
+-- these octets are the file's, and they begin with what is on the disk. Of a file whose flush has
+-- failed a later read may give others: nobody may read twice
 abbrev pub Reads : List ℕ → DiskFile → Type 0
 Reads octets file = (octets ≡ file.octets) × BeginsWith file.synced file.octets
 
@@ -50,7 +51,7 @@ Keeps old new = KeepsFront old.synced old new
 abbrev pub Grows : List ℕ → DiskFile → DiskFile → Type 0
 Grows octets old new = new.octets ≡ old.octets ++ octets
 
--- .. and no flush was made
+-- .. and no flush has failed since
 abbrev pub Appends : List ℕ → DiskFile → DiskFile → Type 0
 Appends octets old new = Grows octets old new × (new.sound ≡ old.sound)
 

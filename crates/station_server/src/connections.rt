@@ -213,7 +213,8 @@ impl<D: Disk> Connections<D> {
         rt: &E,
         now: Instant,
     ) -> Result<(), ServerFault>
-        ensures { Reaches self.old.stored.station self.new.stored.station }
+        ensures moves { Reaches self.old.stored.station self.new.stored.station }
+        ensures stored { OnOk result (is_all_stored self.new.stored ≡ true) }
     {
         self.store()?;
         self.send_each(registry, rt, now);
@@ -351,7 +352,8 @@ impl<D: Disk> Connections<D> {
         idle: Option<u64>,
         now: Instant,
     ) -> Result<(), ServerFault>
-        ensures { Reaches self.old.stored.station self.new.stored.station }
+        ensures moves { Reaches self.old.stored.station self.new.stored.station }
+        ensures stored { OnOk result (is_all_stored self.new.stored ≡ true) }
     {
         for key in 0..self.links.len() {
             match self.find_timeout(key, idle, now) {
@@ -471,7 +473,7 @@ fn is_change(book: &SiteBook, place: u64) -> bool {
 }
 
 /// The interest of a connection: it is read from, and written to.
-fn both_ways() -> Interest {
+pub(crate) fn both_ways() -> Interest {
     Interest::READABLE | Interest::WRITABLE
 }
 

@@ -5,10 +5,11 @@ ghost use Rattle.serde_json.specs.Written.{compact_text};
 ghost use Rattle.site_json.specs.SiteData.{site_data};
 ghost use Rattle.unpaid_sales.specs.Unpaid.{GoesBy, unpaid_sales};
 
+use crate::connections::both_ways;
 use crate::page_link::{PageLink, Progress};
 use crate::sizes::{ACCEPTS_A_TURN, PAGE_CONNECTIONS};
 use mio::net::{TcpListener, TcpStream};
-use mio::{Interest, Registry, Token};
+use mio::{Registry, Token};
 use site_base::NoMemory;
 use site_book::SiteBook;
 use site_page::Page;
@@ -69,8 +70,8 @@ impl Pages {
         }
     }
 
-    /// Each connection that is ready has its turn, and those that wait are accepted. `connections`
-    /// is how many peers the station has.
+    /// Those that wait are accepted, each connection that is ready has its turn, and those whose
+    /// peers were waited for too long are closed. `connections` is how many peers the station has.
     pub(crate) fn serve(
         &mut self,
         registry: &Registry,
@@ -84,6 +85,21 @@ impl Pages {
         if self.has_callers {
             self.accept_all(registry, now);
         }
+        self.answer_due(registry, book, unpaid, connections, now);
+        self.close_late(now);
+    }
+
+    /// Each connection that is ready has its turn with the page of the book.
+    fn answer_due(
+        &mut self,
+        registry: &Registry,
+        book: &SiteBook,
+        unpaid: &mut UnpaidSales,
+        connections: usize,
+        now: Instant,
+    )
+        ensures { GoesBy unpaid.old book.now → GoesBy unpaid.new book.now }
+    {
         if !self.is_due {
             return;
         }
@@ -136,16 +152,12 @@ impl Pages {
         }
     }
 
-    /// Closes the connections whose peers were waited for too long, and accepts again where that
-    /// failed.
-    pub(crate) fn sweep(&mut self, registry: &Registry, now: Instant) {
+    /// Closes the connections whose peers were waited for too long.
+    fn close_late(&mut self, now: Instant) {
         for slot in &mut self.links {
             if slot.as_ref().is_some_and(|link| link.is_late(now)) {
                 let _ = slot.take();
             }
-        }
-        if self.has_callers {
-            self.accept_all(registry, now);
         }
     }
 
@@ -202,9 +214,4 @@ fn page_of(
 /// What the connection at this place is reported under.
 fn token_of(place: usize) -> Token {
     Token(PEERS.saturating_add(place))
-}
-
-/// The interest of a connection: it is read from, and written to.
-fn both_ways() -> Interest {
-    Interest::READABLE | Interest::WRITABLE
 }

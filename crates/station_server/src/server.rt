@@ -207,8 +207,10 @@ impl StationServer {
         Ok(())
     }
 
-    /// The connections of the page that are ready have their turn.
+    /// The connections of the page that are ready have their turn. Each row is stored: so it tells
+    /// of no other.
     fn serve_page<D: Disk>(&mut self, connections: &Connections<D>, unpaid: &mut UnpaidSales)
+        requires { is_all_stored connections.now.stored ≡ true }
         ensures { GoesBy unpaid.old connections.now.stored.station.book
             → GoesBy unpaid.new connections.now.stored.station.book }
     {
@@ -301,7 +303,7 @@ impl StationServer {
     }
 
     /// Stores the round's rows and sends what is owed, and each second does what waits for time to
-    /// pass.
+    /// pass. Then each row is stored.
     #[tactic(auto, using(crate::proofs::Reaching::moved))]
     fn send_all<R: Clock + Eprint, D: Disk>(
         &mut self,
@@ -309,7 +311,8 @@ impl StationServer {
         connections: &mut Connections<D>,
         idle: Option<u64>,
     ) -> Result<(), ServerFault>
-        ensures { Reaches connections.old.stored.station connections.new.stored.station }
+        ensures moves { Reaches connections.old.stored.station connections.new.stored.station }
+        ensures stored { OnOk result (is_all_stored connections.new.stored ≡ true) }
     {
         connections.make_owed_due();
         connections.send_due(self.poll.registry(), rt, self.time)?;
@@ -326,13 +329,26 @@ impl StationServer {
         connections: &mut Connections<D>,
         idle: Option<u64>,
     ) -> Result<(), ServerFault>
-        ensures { Reaches connections.old.stored.station connections.new.stored.station }
+        requires { is_all_stored connections.old.stored ≡ true }
+        ensures moves { Reaches connections.old.stored.station connections.new.stored.station }
+        ensures stored { OnOk result (is_all_stored connections.new.stored ≡ true) }
     {
         if !self.is_sweep_due() {
             return Ok(());
         }
         self.swept_at = self.time;
-        self.sweep(rt, connections, idle)
+        self.accept_if_deaf(rt, connections);
+        connections.sweep(self.poll.registry(), rt, idle, self.time)
+    }
+
+    /// Accepts again, where that failed.
+    #[tactic(auto, using(crate::proofs::Reaching::moved))]
+    fn accept_if_deaf<R: Eprint, D: Disk>(&mut self, rt: &R, connections: &mut Connections<D>)
+        ensures { Reaches connections.old.stored.station connections.new.stored.station }
+    {
+        if self.is_deaf {
+            self.accept_all(rt, connections);
+        }
     }
 
     /// Is it time to sweep?
@@ -356,31 +372,6 @@ impl StationServer {
         self.look_at_clock(rt);
         if self.time.duration_since(begun).as_secs() >= STALL_SECONDS {
             connections.restart_silence(self.time);
-        }
-    }
-
-    /// Looks whose session is idle or doesn't close, and accepts again where that failed.
-    #[tactic(auto, using(crate::proofs::Reaching::moved))]
-    fn sweep<R: Eprint, D: Disk>(
-        &mut self,
-        rt: &R,
-        connections: &mut Connections<D>,
-        idle: Option<u64>,
-    ) -> Result<(), ServerFault>
-        ensures { Reaches connections.old.stored.station connections.new.stored.station }
-    {
-        self.sweep_page();
-        connections.sweep(self.poll.registry(), rt, idle, self.time)?;
-        if self.is_deaf {
-            self.accept_all(rt, connections);
-        }
-        Ok(())
-    }
-
-    /// The same of the page.
-    fn sweep_page(&mut self) {
-        if let Some(pages) = &mut self.pages {
-            pages.sweep(self.poll.registry(), self.time);
         }
     }
 }

@@ -15,13 +15,13 @@ pub returns-in_err-send_all : goal.returns-in_err-send_all
 returns-in_err-send_all g c =
     reaches_then _ _ _ c.loop.invariant.reached
     (reaches_then _ _ _ c.hear_round.ensures
-    (reaches_then _ _ _ c.hear_before_sweep.ensures c.send_all.ensures))
+    (reaches_then _ _ _ c.hear_before_sweep.ensures c.send_all.ensures.moves))
 
 -- connections were accepted at the round's end
 pub loop-preserved-then-self-2 : goal.loop-preserved-then-self-2
 loop-preserved-then-self-2 g c =
     let round = reaches_then _ _ _ c.hear_round.ensures
-    (reaches_then _ _ _ c.hear_before_sweep.ensures c.send_all.ensures) in
+    (reaches_then _ _ _ c.hear_before_sweep.ensures c.send_all.ensures.moves) in
     let shown = c.serve_page.ensures (goes_further _ _ _ round c.loop.invariant.kept) in
     record {
       reached = reaches_then _ _ _ c.loop.invariant.reached
@@ -32,7 +32,7 @@ loop-preserved-then-self-2 g c =
 pub loop-preserved : goal.loop-preserved
 loop-preserved g c =
     let round = reaches_then _ _ _ c.hear_round.ensures
-    (reaches_then _ _ _ c.hear_before_sweep.ensures c.send_all.ensures) in
+    (reaches_then _ _ _ c.hear_before_sweep.ensures c.send_all.ensures.moves) in
     record {
       reached = reaches_then _ _ _ c.loop.invariant.reached round;
       kept = c.serve_page.ensures (goes_further _ _ _ round c.loop.invariant.kept);
