@@ -1,6 +1,6 @@
 //! A copy of a journal's file, which takes its place.
 
-use crate::journal_file::open_by;
+use crate::journal_file::{is_at, open_by};
 use std::fs::{self, File, OpenOptions, TryLockError};
 use std::io::{self, ErrorKind, Write};
 use std::os::unix::fs::{MetadataExt, fchown};
@@ -18,29 +18,54 @@ pub fn put_copy(rt: &HostRuntime, file: &File, name: &str, octets: &[u8]) -> io:
     )?;
     remove_left(rt, copy_name.as_str())?;
     let copy = open_by(rt, OpenOptions::new().create_new(true), copy_name.as_str())?;
-    match fill_copy(file, &copy, octets).and_then(|()| fs::rename(rt, &copy_name, name)) {
-        Ok(()) => {}
+    match fill_copy(file, &copy, octets).and_then(|()| take_place(
+        rt,
+        file,
+        name,
+        copy_name.as_str(),
+    )) {
+        Ok(()) => Ok(copy),
         Err(error) => {
-            let _ = fs::remove_file(rt, &copy_name);
-            return Err(error);
+            if is_at(rt, copy_name.as_str(), &copy) {
+                let _ = fs::remove_file(rt, &copy_name);
+            }
+            Err(error)
         }
     }
-    Ok(copy)
 }
 
 /// Removes the copy that a start has left which ended before it was in place. What is no file, or
 /// is locked by somebody, is no such copy.
 fn remove_left(rt: &HostRuntime, copy_name: &str) -> io::Result<()> {
     match fs::symlink_metadata(rt, copy_name) {
-        Ok(found) if found.is_file() => {
-            let left = File::open(rt, copy_name)?;
+        Ok(found) if found.is_file() => {}
+        Ok(_) => return Err(io::Error::from(ErrorKind::AlreadyExists)),
+        Err(error) if error.kind() == ErrorKind::NotFound => return Ok(()),
+        Err(error) => return Err(error),
+    }
+    match File::open(rt, copy_name) {
+        Ok(left) => {
             lock(&left)?;
+            if !is_at(rt, copy_name, &left) {
+                return Err(io::Error::from(ErrorKind::WouldBlock));
+            }
             fs::remove_file(rt, copy_name)
         }
-        Ok(_) => Err(io::Error::from(ErrorKind::AlreadyExists)),
-        Err(error) if error.kind() == ErrorKind::NotFound => Ok(()),
+        // That of another user, who started here before.
+        Err(error) if error.kind() == ErrorKind::PermissionDenied => {
+            fs::remove_file(rt, copy_name)
+        }
         Err(error) => Err(error),
     }
+}
+
+/// Gives the copy the file's name, while it is the file's: a journal that was moved away meanwhile
+/// stays where it is, and what has its name then is another's.
+fn take_place(rt: &HostRuntime, file: &File, name: &str, copy_name: &str) -> io::Result<()> {
+    if !is_at(rt, name, file) {
+        return Err(io::Error::from(ErrorKind::NotFound));
+    }
+    fs::rename(rt, copy_name, name)
 }
 
 /// Locks a copy, and puts the octets into it, with the file's owner, where that may be, and its

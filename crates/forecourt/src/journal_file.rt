@@ -25,6 +25,10 @@ pub struct JournalFile<'a> {
     /// The file whose copy it is. Its lock is kept too: another start may have opened it before the
     /// copy took its place.
     earlier: Option<File>,
+    /// So many octets it has.
+    len: u64,
+    /// So many of them were flushed.
+    flushed: u64,
 }
 
 /// Why a journal's file isn't there to be used.
@@ -71,8 +75,18 @@ impl<'a> JournalFile<'a> {
                 path,
                 file,
                 earlier: None,
+                len: 0,
+                flushed: 0,
             }),
             Err(_) => Err(FileFault::Unwritten),
+        }
+    }
+
+    /// Cuts off what wasn't flushed, where that may be, since nobody is told of it. The system may
+    /// have kept some of it and not what stands before.
+    fn cut_unflushed(&mut self) {
+        if self.earlier.is_some() {
+            let _ = self.file.set_len(self.flushed);
         }
     }
 }
@@ -123,7 +137,7 @@ pub fn open_by(rt: &HostRuntime, options: &mut OpenOptions, name: &str) -> io::R
 }
 
 /// Is it this file that has the name? A start just before may have put another one in its place.
-fn is_at(rt: &HostRuntime, name: &str, file: &File) -> bool {
+pub fn is_at(rt: &HostRuntime, name: &str, file: &File) -> bool {
     match (fs::metadata(rt, name), file.metadata()) {
         (Ok(there), Ok(here)) => is_same(&there, &here),
         _ => false,
@@ -183,15 +197,27 @@ impl<'a> Disk for JournalFile<'a> {
 
     fn append(&mut self, octets: &[u8]) -> Result<(), DiskFault> {
         match self.file.write_all(octets) {
-            Ok(()) => Ok(()),
-            Err(error) => Err(disk_fault_of(&error)),
+            Ok(()) => {
+                self.len = self.len.saturating_add(octets.len() as u64);
+                Ok(())
+            }
+            Err(error) => {
+                self.cut_unflushed();
+                Err(disk_fault_of(&error))
+            }
         }
     }
 
     fn sync(&mut self) -> Result<(), DiskFault> {
         match self.file.sync_data() {
-            Ok(()) => Ok(()),
-            Err(error) => Err(disk_fault_of(&error)),
+            Ok(()) => {
+                self.flushed = self.len;
+                Ok(())
+            }
+            Err(error) => {
+                self.cut_unflushed();
+                Err(disk_fault_of(&error))
+            }
         }
     }
 
@@ -201,6 +227,8 @@ impl<'a> Disk for JournalFile<'a> {
             Ok(copy) => self.earlier = Some(mem::replace(&mut self.file, copy)),
             Err(error) => return Err(disk_fault_of(&error)),
         }
+        self.len = octets.len() as u64;
+        self.flushed = self.len;
         match flush_folder(self.rt, self.path.as_str()) {
             Ok(()) => Ok(()),
             Err(error) => Err(disk_fault_of(&error)),
