@@ -10,6 +10,8 @@
  *   SHORT_JOURNAL_WRITE=M  such a write takes at most M octets
  *   FAIL_SYNC=K        the Kth fdatasync or fsync fails, and what came to its file behind the last
  *                      one is lost, as where the power fails
+ *   MOVE_AT_SYNC=K     at the Kth, somebody moves the file `journal` to `moved`, and puts another one
+ *                      in its place
  *   FAIL_LOCK=K        the Kth file that is to be locked isn't
  *   FAIL_RENAME=K      the Kth file that is to be named anew isn't
  *   FAIL_RECEIVE=K     the Kth read of a socket fails
@@ -69,7 +71,7 @@ static int fails(const char *name, long *calls)
 }
 
 static long allocations, reads, file_reads, writes, taken, received, sent, blocked;
-static long file_writes, syncs, synced, locks, renames;
+static long file_writes, syncs, synced, moves, locks, renames;
 static int read_before, file_read_before, written_before, received_before, sent_before;
 static int file_written_before, synced_before;
 
@@ -201,6 +203,10 @@ static int fails_to_sync(int file)
 {
     if (interrupts(&synced_before))
         return 1;
+    if (fails("MOVE_AT_SYNC", &moves)) {
+        (void)!syscall(SYS_rename, "journal", "moved");
+        close(open("journal", O_CREAT | O_WRONLY | O_EXCL, 0600));
+    }
     if (fails("FAIL_SYNC", &syncs)) {
         if (size_of(file) > synced)
             (void)!syscall(SYS_ftruncate, file, synced);
