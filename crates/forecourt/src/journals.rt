@@ -1,8 +1,10 @@
 //! The station that a command opens, with its journal.
 
-ghost use Rattle.std.specs.Prelude.{◌≡◌, IfOk, is_some, true};
+ghost use Rattle.std.specs.Prelude.{◌≡◌, IfNone, IfOk, IfSome, None, is_some, true};
 ghost use Rattle.station.specs.Runs.{opening_station};
-ghost use Rattle.journal.specs.Opening.{HasNobodyOn};
+ghost use Rattle.journal.specs.History.{empty_book};
+ghost use Rattle.journal.specs.JournalText.{header_of};
+ghost use Rattle.journal.specs.Opening.{HasNobodyOn, Reopens};
 
 use crate::exit::{FAULT, exit_no_memory, exit_unwritten, exit_with};
 use crate::journal_file::{FileFault, JournalFile};
@@ -21,6 +23,10 @@ pub fn open_station<'a>(
         (λ o. o.station.station ≡ opening_station o.station.station.book) }
     ensures off { IfOk result (λ o. HasNobodyOn o.station.station.book) }
     ensures journal { IfOk result (λ o. is_some o.station.journal ≡ is_some journal.entry) }
+    ensures opened { IfSome journal.entry (λ _. IfOk result (λ o.
+        Reopens (header_of site_file.now) config.now None o.rows o.station)) }
+    ensures without { IfNone journal.entry (IfOk result (λ o. (o.rows ≡ 0)
+        × (o.station.station.book ≡ empty_book config.now))) }
 {
     match journal {
         Some(name) => open_with(rt, config, site_file, name),
@@ -42,6 +48,8 @@ fn open_with<'a>(
         (λ o. o.station.station ≡ opening_station o.station.station.book) }
     ensures off { IfOk result (λ o. HasNobodyOn o.station.station.book) }
     ensures journal { IfOk result (λ o. is_some o.station.journal ≡ true) }
+    ensures opened { IfOk result (λ o.
+        Reopens (header_of site_file.now) config.now None o.rows o.station) }
 {
     let file = match JournalFile::open(rt, name) {
         Ok(file) => file,
@@ -49,7 +57,7 @@ fn open_with<'a>(
     };
     match open_journal(rt.alloc(), config, site_file, file) {
         Ok(opened) => Ok(opened),
-        Err(fault) => Err(exit_journal(rt, name, fault)),
+        Err(unopened) => Err(exit_journal(rt, name, unopened.fault)),
     }
 }
 

@@ -3,9 +3,9 @@ use Rattle.std.proofs.Common.{◌≡◌, ℕ, zero, suc, Bool, true, false, List
 use Rattle.std.proofs.Common.{take, drop}
 use Rattle.std.proofs.Common.{Option, Some, None, refl, sym, ap, ◌∙◌, append_assoc, append-nil}
 use Rattle.std.proofs.Common.{arith, inl, inr, subst, not, eqb}
-use Rattle.std.specs.Prelude.{◌&&◌}
+use Rattle.std.specs.Prelude.{◌&&◌, ◌==◌, IfSome, if◌then◌else◌}
 use Rattle.std.specs.List.{list_all}
-use Rattle.std.proofs.lemmas.Bool.{cases_lt}
+use Rattle.std.proofs.lemmas.Bool.{cases_lt, eqb-true}
 use Rattle.std.proofs.lemmas.List.{length-append, take-append-drop, take-append-le, take_all}
 use Rattle.std.proofs.lemmas.Option.{none-some}
 use Rattle.site_base.specs.declared.actor.Actor.{Actor}
@@ -17,16 +17,22 @@ use Rattle.written_site.specs.SiteRun.{events_of}
 use Rattle.site_book.specs.Book.{Book}
 use Rattle.station.specs.Moves.{StationState}
 use Rattle.station.specs.Peers.{peer_at}
+use Rattle.station.specs.Reads.{owed_at}
 use Rattle.station.specs.Runs.{Arrives, Finishes, Leaves, Move, Says, Takes, after, after_move}
 use Rattle.station.specs.Runs.{arrive, opening_station}
 use Rattle.station.specs.Sessions.{Session}
 use Rattle.journal.specs.History.{IsMadeAgain, all_made_again, and_then, empty_book}
 use Rattle.journal.specs.JournalLines.{TellsWhole, requests_in, whole_lines}
-use Rattle.journal.specs.JournalText.{row_line, rows_text}
-use Rattle.journal.specs.Laws.{BeginningsAreRead, CanBeSpelled, JournalsTellTheirHistory}
+use Rattle.journal.specs.JournalText.{CanBeSpelled, row_line, rows_text}
+use Rattle.journal.specs.Disks.{DiskFile, OfFile}
+use Rattle.journal.specs.Laws.{BeginningsAreRead, JournalsTellTheirHistory}
 use Rattle.journal.specs.Laws.{StationsAreMadeAgain, StoredRowsAreFoundAgain}
+use Rattle.journal.specs.Laws.{ToldRowsAreFoundAgain}
 use Rattle.journal.specs.Readings.{IsReadBack, TellsBook, TellsNothing}
 use Rattle.journal.specs.RowLines.{AreLines}
+use Rattle.journal.specs.Stored.{HoldsRows, IsJournalOf, JournalState, StoredState, has_stored}
+use Rattle.journal.specs.Stored.{is_all_stored, told_at}
+use Rattle.journal.proofs.Fronts.{begins_then}
 use Rattle.journal.proofs.Lines.{line_ends, lines_both, none_ends, one_line}
 use Rattle.journal.proofs.Lines.{requests_apart, requests_both, requests_front}
 use Rattle.journal.proofs.Made.{Adds, adds_same, adds_then, made_both, made_with}
@@ -95,6 +101,35 @@ stored_rows_are_found_again header front file told b whole made same tells begin
     back.made in
     let rows = rows_again told b apart.0 on in
     record { more = rows.more; rows = rows.rows }
+
+-- ---- what is told
+
+-- where something may be told, each row is stored
+told_stored : (s : StoredState) (key : ℕ) → (told_at s key ≡ [] → ⊥) → is_all_stored s ≡ true
+told_stored s key some = by_test (is_all_stored s) some
+  where
+    by_test : (t : Bool) → ((if t then owed_at s.station key else []) ≡ [] → ⊥) → t ≡ true
+    by_test true some = refl
+    by_test false some = absurd (some refl)
+
+holds_all : (rows : List Row) (j : JournalState) (f : DiskFile) → IsJournalOf rows j
+    → (j.stored == length rows) ≡ true → j.file ≡ Some f → HoldsRows j.header rows j.failed f
+holds_all rows j f is all there =
+    let whole : take j.stored rows ≡ rows =
+    take_all j.stored rows (let size = eqb-true j.stored (length rows) all in omega (arith, size)) in
+    subst (λ (rs : List Row). HoldsRows j.header rs j.failed f) whole
+    (subst (OfFile (HoldsRows j.header (take j.stored rows) j.failed)) there is.holds)
+
+pub told_rows_are_found_again : ToldRowsAreFoundAgain
+told_rows_are_found_again s j f key file b whole stored has there some begins same read =
+    let rows = s.station.book.rows in
+    let is : IsJournalOf rows j =
+    subst (λ (o : Option JournalState). IfSome o (IsJournalOf rows)) has stored.journal in
+    let all : has_stored (length rows) (Some j) ≡ true =
+    ap (has_stored (length rows)) (sym has) ∙ told_stored s key some in
+    let holds = holds_all rows j f is all there in
+    stored_rows_are_found_again j.header holds.front file s.station.book b whole stored.made same
+    holds.tells (begins_then holds.front f.synced file holds.there begins) read
 
 -- ---- a journal's text tells its history
 

@@ -19,7 +19,7 @@ use Rattle.station.specs.Moves.{StationState}
 use Rattle.journal.specs.Disks.{OfFile}
 use Rattle.journal.specs.History.{IsMadeAgain, all_made_again, and_then, beyond, empty_book}
 use Rattle.journal.specs.History.{made_again, sign_off_if}
-use Rattle.journal.specs.JournalText.{IsSent}
+use Rattle.journal.specs.JournalText.{CanBeSpelled, IsSent}
 use Rattle.journal.specs.Stored.{HoldsRows, IsJournalOf, IsStored, JournalState, StoredState}
 use Rattle.journal.specs.Stored.{with_station}
 use Rattle.journal.proofs.Fronts.{all_both}
@@ -133,6 +133,7 @@ pub journal_stays : (rows later : List Row) (j : JournalState) → IsJournalOf r
     → IsJournalOf (rows ++ later) j
 journal_stays rows later j is = record {
   few = omega (arith, is.few, length-append rows later);
+  spelled = subst CanBeSpelled (sym (take-append-le j.stored rows later is.few)) is.spelled;
   holds =
       subst (λ (rs : List Row). OfFile (HoldsRows j.header rs j.failed) j.file)
       (sym (take-append-le j.stored rows later is.few)) is.holds;

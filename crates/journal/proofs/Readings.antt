@@ -2,7 +2,7 @@
 use Rattle.std.proofs.Common.{◌≡◌, ℕ, ◌+◌, Bool, true, false, List, [], ◌∷◌, ◌++◌}
 use Rattle.std.proofs.Common.{length, take, drop, Option, Some, None, Result, Ok, Err, refl, sym}
 use Rattle.std.proofs.Common.{ap}
-use Rattle.std.proofs.Common.{◌∙◌, subst, append_assoc, append-nil, arith, eqb, not}
+use Rattle.std.proofs.Common.{◌∙◌, subst, append_assoc, append-nil, arith, eqb, not, inl, inr}
 use Rattle.std.specs.Prelude.{◌&&◌, if◌then◌else◌}
 use Rattle.std.specs.List.{AllByRecursion, list_all}
 use Rattle.std.proofs.lemmas.List.{length-append}
@@ -26,14 +26,17 @@ use Rattle.forecourt_engines.specs.Laws.{IsLine}
 use Rattle.written_site.specs.SiteRun.{events_of}
 use Rattle.written_site.specs.SiteState.{is_signed_on}
 use Rattle.site_book.specs.Book.{Book, is_full, next_row, site_of_book, with_row_of}
+use Rattle.journal.specs.declared.reading.OpenFault.{OpenFault}
+use Rattle.journal.specs.declared.reading.OpenFault.TheVariants.{AnotherSite, Line}
 use Rattle.journal.specs.Disks.{BeginsWith}
+use Rattle.journal.specs.Faults.{IsAnother, IsWrongRow, Names, first_fault, made_of_line}
 use Rattle.journal.specs.History.{IsMadeAgain, all_made_again, and_then, beyond, empty_book}
 use Rattle.journal.specs.History.{made_again, sign_off_if}
 use Rattle.journal.specs.JournalLines.{Tells, TellsWhole, lines_from, request_alone}
 use Rattle.journal.specs.JournalLines.{request_decoded}
 use Rattle.journal.specs.JournalLines.{request_in, request_meant, requests_in, unfinished_from}
 use Rattle.journal.specs.JournalLines.{whole_lines, with_request}
-use Rattle.journal.specs.JournalText.{IsSent}
+use Rattle.journal.specs.JournalText.{IsSent, names_a_site}
 use Rattle.journal.specs.Readings.{IsLineEnd, IsReadBack, TellsBook, TellsNothing}
 use Rattle.journal.proofs.Lines.{led, line_ends, lines_both, none_ends, one_line}
 use Rattle.journal.proofs.Lines.{requests_apart, requests_both, unfinished_both}
@@ -151,19 +154,20 @@ made_of_lines b lines events requests made =
 
 -- ---- line after line
 
--- so far the octets are whole lines that tell the book; this is left of them
-pub record ReadsOn (header octets rest : List ℕ) (b : Book) : Type 0 where
+-- so far the octets are so many whole lines, which tell the book; this is left of them
+pub record ReadsOn (header octets rest : List ℕ) (b : Book) (number : ℕ) : Type 0 where
   pub done : List ℕ
   pub events : List (Actor × Event)
   pub parts : octets ≡ done ++ rest
   pub tells : TellsWhole header done events
   pub made : all_made_again (empty_book b.config) events ≡ Some b
+  pub count : number ≡ length tells.tells.lines + 1
 
 no_rows : (b : Book) → b.rows ≡ [] → empty_book b.config ≡ b
 no_rows b none = ap (λ (rows : List Row). record b { rows = rows }) (sym none)
 
 pub begins_reading : (end : ℕ) (octets : List ℕ) (b : Book) → IsLineEnd end octets → b.rows ≡ []
-    → ReadsOn (take end octets) octets (drop (end + 1) octets) b
+    → ReadsOn (take end octets) octets (drop (end + 1) octets) b 1
 begins_reading end octets b line none = record {
   done = take end octets ++ 10 ∷ [];
   events = [];
@@ -177,6 +181,7 @@ begins_reading end octets b line none = record {
     whole = line_ends [] (take end octets);
   };
   made = ap Some (no_rows b none);
+  count = refl;
 }
 
 -- the lines of a front that tells requests, and of what stands behind it
@@ -188,9 +193,10 @@ lines_behind header front rest octets events t parts =
     ∙ ap (λ (line : List ℕ). whole_lines front ++ lines_from line rest) t.whole
     ∙ ap (λ (ls : List (List ℕ)). ls ++ whole_lines rest) t.tells.first
 
-lines_on : (header octets rest : List ℕ) (b : Book) → (r : ReadsOn header octets rest b)
+lines_on : (header octets rest : List ℕ) (b : Book) (number : ℕ)
+    → (r : ReadsOn header octets rest b number)
     → whole_lines octets ≡ header ∷ r.tells.tells.lines ++ whole_lines rest
-lines_on header octets rest b r = lines_behind header r.done rest octets r.events r.tells r.parts
+lines_on header octets rest b number r = lines_behind header r.done rest octets r.events r.tells r.parts
 
 pub lines_in_parts : (rest line others : List ℕ) → rest ≡ (line ++ 10 ∷ []) ++ others → IsLine line
     → whole_lines rest ≡ line ∷ whole_lines others
@@ -202,10 +208,11 @@ lines_in_parts rest line others parts plain =
 
 -- one line more
 pub reads_line : (header octets rest line others : List ℕ) (b after : Book) (actor : Actor)
-    (event : Event) → ReadsOn header octets rest b → rest ≡ (line ++ 10 ∷ []) ++ others
-    → IsLine line → request_in line ≡ Some (actor, event)
-    → made_again b actor event ≡ Some after → ReadsOn header octets others after
-reads_line header octets rest line others b after actor event r parts plain is made =
+    (event : Event) (number : ℕ) → ReadsOn header octets rest b number
+    → rest ≡ (line ++ 10 ∷ []) ++ others → IsLine line
+    → request_in line ≡ Some (actor, event) → made_again b actor event ≡ Some after
+    → ReadsOn header octets others after (number + 1)
+reads_line header octets rest line others b after actor event number r parts plain is made =
     let same = ap (λ (x : Book). x.config) (row_again b after actor event made) in
     record {
       done = r.done ++ (line ++ 10 ∷ []);
@@ -235,13 +242,14 @@ reads_line header octets rest line others b after actor event r parts plain is m
           ∙ ap (λ (o : Option Book). and_then o (λ x. all_made_again x ((actor, event) ∷ [])))
           r.made
           ∙ ap (λ (o : Option Book). and_then o (λ x. Some x)) made;
+      count = omega (arith, r.count, length-append r.tells.tells.lines (line ∷ []));
     }
 
 -- no line is left
-pub reads_all : (header octets rest : List ℕ) (b : Book) (whole : ℕ)
-    → ReadsOn header octets rest b → IsLine rest → whole + length rest ≡ length octets
-    → IsReadBack header octets whole b
-reads_all header octets rest b whole r plain size =
+pub reads_all : (header octets rest : List ℕ) (b : Book) (number whole : ℕ)
+    → ReadsOn header octets rest b number → IsLine rest
+    → whole + length rest ≡ length octets → IsReadBack header octets whole b
+reads_all header octets rest b number whole r plain size =
     let total : length octets ≡ length r.done + length rest =
     ap length r.parts ∙ length-append r.done rest in
     let here : whole ≡ length r.done = omega (arith, size, total) in
@@ -269,13 +277,13 @@ same_tail x y xs ys is = ap tail is
     tail (z ∷ zs) = zs
 
 -- what a whole file's requests are, where its first lines and the next one are these
-next_request : (header octets rest line others : List ℕ) (b : Book)
-    (events : List (Actor × Event)) (r : ReadsOn header octets rest b)
+next_request : (header octets rest line others : List ℕ) (b : Book) (number : ℕ)
+    (events : List (Actor × Event)) (r : ReadsOn header octets rest b number)
     → rest ≡ (line ++ 10 ∷ []) ++ others → IsLine line → (t : Tells header octets events)
     → (fs : List (Actor × Event)) × (requests_in (line ∷ whole_lines others) ≡ Some fs)
     × (events ≡ r.events ++ fs)
-next_request header octets rest line others b events r parts plain t =
-    let lines = lines_on header octets rest b r in
+next_request header octets rest line others b number events r parts plain t =
+    let lines = lines_on header octets rest b number r in
     let next = lines_in_parts rest line others parts plain in
     let tail : t.lines ≡ r.tells.tells.lines ++ line ∷ whole_lines others =
     same_tail header header t.lines _ (sym t.first ∙ lines
@@ -284,21 +292,24 @@ next_request header octets rest line others b events r parts plain t =
     r.tells.tells.requests (ap requests_in (sym tail) ∙ t.requests)
 
 -- where a line is no request, the file tells no book
-pub no_request : (header octets rest line others : List ℕ) (b told : Book)
-    → ReadsOn header octets rest b → rest ≡ (line ++ 10 ∷ []) ++ others → IsLine line
+pub no_request : (header octets rest line others : List ℕ) (b told : Book) (number : ℕ)
+    → ReadsOn header octets rest b number → rest ≡ (line ++ 10 ∷ []) ++ others → IsLine line
     → request_in line ≡ None → TellsBook header octets told → ⊥
-no_request header octets rest line others b told r parts plain none t =
-    let next = next_request header octets rest line others b t.events r parts plain t.tells in
+no_request header octets rest line others b told number r parts plain none t =
+    let next = next_request header octets rest line others b number t.events r parts plain
+    t.tells in
     let l = led (request_in line) (requests_in (whole_lines others)) next.0 next.1 in
     none-some l.first (sym none ∙ l.is_first)
 
 -- .. nor where its row isn't made again
 pub no_row : (header octets rest line others : List ℕ) (b told : Book) (actor : Actor)
-    (event : Event) → ReadsOn header octets rest b → rest ≡ (line ++ 10 ∷ []) ++ others
-    → IsLine line → request_in line ≡ Some (actor, event) → made_again b actor event ≡ None
+    (event : Event) (number : ℕ) → ReadsOn header octets rest b number
+    → rest ≡ (line ++ 10 ∷ []) ++ others → IsLine line
+    → request_in line ≡ Some (actor, event) → made_again b actor event ≡ None
     → told.config ≡ b.config → TellsBook header octets told → ⊥
-no_row header octets rest line others b told actor event r parts plain is none same t =
-    let next = next_request header octets rest line others b t.events r parts plain t.tells in
+no_row header octets rest line others b told actor event number r parts plain is none same t =
+    let next = next_request header octets rest line others b number t.events r parts plain
+    t.tells in
     let l = led (request_in line) (requests_in (whole_lines others)) next.0 next.1 in
     let first : l.first ≡ (actor, event) = same_Some l.first (actor, event) (sym l.is_first ∙ is) in
     let events : t.events ≡ r.events ++ (actor, event) ∷ l.others =
@@ -310,6 +321,27 @@ no_row header octets rest line others b told actor event r parts plain is none s
     ∙ ap (λ (o : Option Book). and_then o (λ x. all_made_again x l.others)) none)
     ∙ ap (all_made_again (empty_book b.config)) (sym events)
     ∙ ap (λ (c : Configured). all_made_again (empty_book c) t.events) (sym same) ∙ t.made)
+
+-- .. and it is the one that is named
+pub wrong_row : (header octets rest line others : List ℕ) (b : Book) (number : ℕ)
+    (config : Configured) → ReadsOn header octets rest b number
+    → rest ≡ (line ++ 10 ∷ []) ++ others → IsLine line → made_of_line b line ≡ None
+    → b.config ≡ config → IsWrongRow header octets config (number + 1)
+wrong_row header octets rest line others b number config r parts plain none same = record {
+  before = r.tells.tells.lines;
+  line = line;
+  others = whole_lines others;
+  lines =
+      lines_on header octets rest b number r
+      ∙ ap (λ (ls : List (List ℕ)). header ∷ r.tells.tells.lines ++ ls)
+      (lines_in_parts rest line others parts plain);
+  place = omega (arith, r.count);
+  events = r.events;
+  requests = r.tells.tells.requests;
+  book = b;
+  made = ap (λ (c : Configured). all_made_again (empty_book c) r.events) (sym same) ∙ r.made;
+  none = none;
+}
 
 -- ---- the first line
 
@@ -385,6 +417,28 @@ another_line header octets first others config parts plain other =
       untold = λ b same told.
           other (same_head first header _ _ (sym lines ∙ told.tells.first));
     }
+
+-- .. that one is named
+pub another_named : (header octets first others : List ℕ) (config : Configured) (fault : OpenFault)
+    → octets ≡ (first ++ 10 ∷ []) ++ others → IsLine first → (first ≡ header → ⊥)
+    → fault ≡ first_fault first
+    → Names header octets config fault
+another_named header octets first others config fault parts plain other is =
+    subst (Names header octets config) (sym is) (by_test (names_a_site first) refl)
+  where
+    another : (t : Bool) → names_a_site first ≡ t → IsAnother t header octets
+    another t named = record {
+      first = first;
+      others = whole_lines others;
+      lines = lines_in_parts octets first others parts plain;
+      other = other;
+      named = named;
+    }
+
+    by_test : (t : Bool) → names_a_site first ≡ t
+        → Names header octets config (if t then AnotherSite else Line 1)
+    by_test true named = another true named
+    by_test false named = inl (refl, inr (another false named))
 
 -- where the rows aren't told
 pub rows_refused : (header octets : List ℕ) (end : ℕ) (config : Configured)

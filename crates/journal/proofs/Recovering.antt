@@ -15,13 +15,15 @@ use Rattle.written_site.specs.SiteRun.{events_of}
 use Rattle.site_book.specs.Book.{Book}
 use Rattle.forecourt_engines.specs.Laws.{IsLine}
 use Rattle.journal.specs.Disks.{BeginsWith, BeginsWithEither, DiskFile, Keeps, KeepsEither, OfFile}
-use Rattle.journal.specs.Disks.{OfFiles, Reads, Renews}
+use Rattle.journal.specs.Disks.{OfFiles, Reads, Renews, IsUntouched}
+use Rattle.journal.specs.declared.reading.OpenFault.{OpenFault}
+use Rattle.journal.specs.Faults.{Names, NamesIn}
 use Rattle.journal.specs.History.{IsMadeAgain, all_made_again, empty_book}
 use Rattle.journal.specs.JournalLines.{TellsWhole, lines_from, unfinished, unfinished_from}
 use Rattle.journal.specs.JournalLines.{whole_lines}
 use Rattle.journal.specs.JournalText.{IsSent}
 use Rattle.journal.specs.Readings.{IsRead, TellsNothing}
-use Rattle.journal.specs.Recovering.{IsReadIn, KeepsWholeLines, Settles, TellsNothingIn}
+use Rattle.journal.specs.Recovering.{IsReadIn, KeepsWholeLines, TellsNothingIn}
 use Rattle.journal.specs.Recovering.{settled_octets}
 use Rattle.journal.specs.Stored.{HoldsRows}
 use Rattle.journal.proofs.Fronts.{all_each, begins_then, front_of_cut, keeps_none, keeps_on}
@@ -30,6 +32,12 @@ use Rattle.journal.proofs.Lines.{lines_both, unfinished_both}
 use Rattle.journal.proofs.Readings.{made_of_lines, rows_again}
 
 -- ---- what takes the file's place
+
+-- what is left of the octets is on the disk, in a file no flush of which has failed
+abbrev pub Settles : List ℕ → ℕ → DiskFile → DiskFile → Type 0
+Settles first_line whole old new =
+    (new.octets ≡ settled_octets first_line whole old.octets) × (new.synced ≡ new.octets)
+    × (new.sound ≡ true)
 
 renewed_by : (first_line octets left : List ℕ) (n : ℕ) (a b : DiskFile) → Reads octets a
     → left ≡ settled_octets first_line n octets → Renews left a b → Settles first_line n a b
@@ -46,6 +54,16 @@ renewed_file first_line octets left n (Some a) (Some b) reads is renewed =
     renewed_by first_line octets left n a b reads is renewed
 renewed_file first_line octets left n None (Some b) reads is renewed = absurd renewed
 renewed_file first_line octets left n (Some a) None reads is renewed = absurd renewed
+
+-- .. also behind a read
+pub renewed_then : (left : List ℕ) (a b c : Option DiskFile) → OfFiles IsUntouched a b
+    → OfFiles (Renews left) b c → OfFiles (Renews left) a c
+renewed_then left None None None stays renewed = tt
+renewed_then left (Some a) (Some b) (Some c) stays renewed = renewed
+renewed_then left None None (Some c) stays renewed = absurd renewed
+renewed_then left None (Some b) c stays renewed = absurd stays
+renewed_then left (Some a) None c stays renewed = absurd stays
+renewed_then left (Some a) (Some b) None stays renewed = absurd renewed
 
 -- ---- the book
 
@@ -77,6 +95,13 @@ pub tells_nothing_in : (header octets : List ℕ) (config : Configured) (file : 
 tells_nothing_in header octets config None reads nothing = tt
 tells_nothing_in header octets config (Some f) reads nothing =
     subst (λ (xs : List ℕ). TellsNothing header xs config) reads.0 nothing
+
+pub names_in : (header octets : List ℕ) (config : Configured) (fault : OpenFault)
+    (file : Option DiskFile) → OfFile (Reads octets) file → Names header octets config fault
+    → OfFile (NamesIn header config fault) file
+names_in header octets config fault None reads names = tt
+names_in header octets config fault (Some f) reads names =
+    subst (λ (xs : List ℕ). Names header xs config fault) reads.0 names
 
 -- whole lines that tell a line are some octets
 some_lines : (header : List ℕ) (octets : List ℕ) (n : ℕ) (events : List (Actor × Event))
@@ -227,24 +252,51 @@ lines_stay header first_line octets left whole b old new reads is settled keeps 
         (subst (BeginsWith front) (sym settled)
         (front_settled header first_line octets front whole b is here closed)) new_front
 
-pub lines_stay_in : (header first_line octets left : List ℕ) (whole : ℕ) (b : Book)
-    (old new : Option DiskFile) → OfFile (Reads octets) old → IsRead header octets whole b
-    → left ≡ settled_octets first_line whole octets → OfFiles (KeepsEither left) old new
-    → OfFiles KeepsWholeLines old new
-lines_stay_in header first_line octets left whole b None None reads is settled keeps = tt
-lines_stay_in header first_line octets left whole b (Some old) (Some new) reads is settled keeps =
-    lines_stay header first_line octets left whole b old new reads is settled keeps
-lines_stay_in header first_line octets left whole b None (Some new) reads is settled keeps =
-    absurd keeps
-lines_stay_in header first_line octets left whole b (Some old) None reads is settled keeps =
-    absurd keeps
+either_then : (left : List ℕ) (a b c : DiskFile) → IsUntouched a b → KeepsEither left b c
+    → KeepsEither left a c
+either_then left a b c stays keeps = record {
+  more = keeps.more;
+  moments = keeps.moments ∙ ap (λ (fs : List (List ℕ)). fs ++ keeps.more) stays.moments;
+  each = subst (λ (xs : List ℕ). AllByRecursion (BeginsWithEither xs left) keeps.more)
+      stays.synced keeps.each;
+  last = subst (λ (xs : List ℕ). BeginsWithEither xs left c.synced) stays.synced keeps.last;
+}
 
--- where the file stays, so do its lines
-pub lines_same : (old new : Option DiskFile) → new ≡ old → OfFiles KeepsWholeLines old new
-lines_same None new is = subst (λ (x : Option DiskFile). OfFiles KeepsWholeLines None x) (sym is) tt
-lines_same (Some old) new is =
-    subst (λ (x : Option DiskFile). OfFiles KeepsWholeLines (Some old) x) (sym is)
-    (λ front closed begins. keeps_none front old begins)
+-- .. where the file is read, and then these octets take its place
+pub lines_stay_in : (header first_line octets left : List ℕ) (whole : ℕ) (b : Book)
+    (old read new : Option DiskFile) → OfFile (Reads octets) old → OfFiles IsUntouched old read
+    → IsRead header octets whole b → left ≡ settled_octets first_line whole octets
+    → OfFiles (KeepsEither left) read new → OfFiles KeepsWholeLines old new
+lines_stay_in header first_line octets left whole b None None None reads stays is settled keeps = tt
+lines_stay_in header first_line octets left whole b (Some old) (Some read) (Some new) reads stays
+    is settled keeps =
+    lines_stay header first_line octets left whole b old new reads is settled
+    (either_then left old read new stays keeps)
+lines_stay_in header first_line octets left whole b None None (Some new) reads stays is settled
+    keeps = absurd keeps
+lines_stay_in header first_line octets left whole b None (Some read) new reads stays is settled
+    keeps = absurd stays
+lines_stay_in header first_line octets left whole b (Some old) None new reads stays is settled
+    keeps = absurd stays
+lines_stay_in header first_line octets left whole b (Some old) (Some read) None reads stays is
+    settled keeps = absurd keeps
+
+-- a file to which nothing is done keeps its lines
+pub lines_same : (file : Option DiskFile) → OfFiles KeepsWholeLines file file
+lines_same None = tt
+lines_same (Some file) = λ front closed begins. keeps_none front file begins
+
+pub lines_read : (old new : Option DiskFile) → OfFiles IsUntouched old new
+    → OfFiles KeepsWholeLines old new
+lines_read None None stays = tt
+lines_read (Some old) (Some new) stays = λ front closed begins. record {
+  more = [];
+  moments = stays.moments ∙ sym (append-nil old.fronts);
+  each = tt;
+  last = subst (BeginsWith front) (sym stays.synced) begins;
+}
+lines_read None (Some new) stays = absurd stays
+lines_read (Some old) None stays = absurd stays
 
 -- .. and through a call that keeps what is synced
 pub lines_then : (a b c : Option DiskFile) → OfFiles KeepsWholeLines a b → OfFiles Keeps b c

@@ -38,7 +38,7 @@ digits_plain [] all = refl
 digits_plain (x ∷ xs) all = rw (no_feed x all.0) (digits_plain xs all.1)
 
 -- the hexadecimal of a message has no line feed
-spelled_plain : (m : Telegram) → IsMessage m → IsLine (encode_lower (spelling m))
+pub spelled_plain : (m : Telegram) → IsMessage m → IsLine (encode_lower (spelling m))
 spelled_plain m valid =
     let text = encode_lower (spelling m) in
     let read = decode_of-encode_lower (spelling m) (spelled_octets m valid) in
@@ -46,7 +46,7 @@ spelled_plain m valid =
     (decode_of-ok text (spelling m) read).1)
 
 -- a message alone
-alone_read : (m : Telegram) → IsMessage m
+pub alone_read : (m : Telegram) → IsMessage m
     → fed_by (held_after []) (spelling m) ≡ record { messages = m ∷ []; rest = []; fault = None }
 unfolding walk
 alone_read m valid =

@@ -7,8 +7,9 @@ use Rattle.std.proofs.lemmas.List.{drop-append-le, length-take-le, take_all}
 use Rattle.std.proofs.lemmas.Option.{none-some, same_Some}
 use Rattle.site_base.specs.declared.row.Row.{Row}
 use Rattle.device_map.specs.Laws.{Asks}
-use Rattle.journal.specs.JournalText.{row_line, row_request}
+use Rattle.journal.specs.JournalText.{CanBeSpelled, row_line, row_request}
 use Rattle.journal.specs.RowLines.{AreLines}
+use Rattle.journal.proofs.Fronts.{all_both}
 use Rattle.journal.proofs.Requests.{line_of_row, lines_of_both, no_lines}
 
 pub take_more : {X : Type 0} (xs : List X) (n : ℕ) (x : X) → slice_get xs n ≡ Some x
@@ -29,16 +30,28 @@ there_is [] n within none = omega (arith, within)
 there_is (y ∷ ys) zero within none = none-some y (sym none)
 there_is (y ∷ ys) (suc n) within none = there_is ys n (omega (arith, within)) none
 
+none_behind : (xs : List Row) (n : ℕ) → drop n (take n xs) ≡ []
+none_behind [] zero = refl
+none_behind [] (suc n) = refl
+none_behind (x ∷ xs) zero = refl
+none_behind (x ∷ xs) (suc n) = none_behind xs n
+
 -- no rows, no lines
 pub none_yet : (rows : List Row) (from : ℕ) → AreLines (drop from (take from rows)) []
 none_yet rows from =
     subst (λ (rs : List Row). AreLines rs []) (sym (none_behind rows from)) no_lines
-  where
-    none_behind : (xs : List Row) (n : ℕ) → drop n (take n xs) ≡ []
-    none_behind [] zero = refl
-    none_behind [] (suc n) = refl
-    none_behind (x ∷ xs) zero = refl
-    none_behind (x ∷ xs) (suc n) = none_behind xs n
+
+pub none_spelled : (rows : List Row) (from : ℕ) → CanBeSpelled (drop from (take from rows))
+none_spelled rows from = subst CanBeSpelled (sym (none_behind rows from)) tt
+
+one_behind : (rows : List Row) (from n : ℕ) (r : Row) → from ≤ n → n < length rows
+    → slice_get rows n ≡ Some r
+    → drop from (take (n + 1) rows) ≡ drop from (take n rows) ++ r ∷ []
+one_behind rows from n r high within is =
+    let next : n + 1 ≡ suc n = omega arith in
+    let size : length (take n rows) ≡ n = length-take-le n rows (omega (arith, within)) in
+    ap (drop from) (ap (λ (m : ℕ). take m rows) next ∙ take_more rows n r is)
+    ∙ drop-append-le from (take n rows) (r ∷ []) (omega (arith, size, high))
 
 -- the line of one row more
 pub line_behind : (rows : List Row) (from n : ℕ) (r : Row) (text : List ℕ) → from ≤ n
@@ -46,15 +59,25 @@ pub line_behind : (rows : List Row) (from n : ℕ) (r : Row) (text : List ℕ) �
     → Asks 0 r.actor r.event (row_request r)
     → AreLines (drop from (take (n + 1) rows)) (text ++ row_line r)
 line_behind rows from n r text high within is lines asks =
-    let next : n + 1 ≡ suc n = omega arith in
-    let size : length (take n rows) ≡ n = length-take-le n rows (omega (arith, within)) in
     subst (λ (rs : List Row). AreLines rs (text ++ row_line r))
-    (sym (ap (drop from) (ap (λ (m : ℕ). take m rows) next ∙ take_more rows n r is)
-    ∙ drop-append-le from (take n rows) (r ∷ []) (omega (arith, size, high))))
+    (sym (one_behind rows from n r high within is))
     (lines_of_both (drop from (take n rows)) (r ∷ []) text (row_line r) lines (line_of_row r asks))
+
+pub spelled_behind : (rows : List Row) (from n : ℕ) (r : Row) → from ≤ n → n < length rows
+    → slice_get rows n ≡ Some r → CanBeSpelled (drop from (take n rows))
+    → Asks 0 r.actor r.event (row_request r) → CanBeSpelled (drop from (take (n + 1) rows))
+spelled_behind rows from n r high within is spelled asks =
+    subst CanBeSpelled (sym (one_behind rows from n r high within is))
+    (all_both (λ (x : Row). Asks 0 x.actor x.event (row_request x)) (drop from (take n rows))
+    (r ∷ []) spelled (asks, tt))
 
 -- all of them
 pub all_lines : (rows : List Row) (from n : ℕ) (text : List ℕ) → length rows ≤ n
     → AreLines (drop from (take n rows)) text → AreLines (drop from rows) text
 all_lines rows from n text long lines =
     subst (λ (rs : List Row). AreLines (drop from rs) text) (take_all n rows long) lines
+
+pub all_spelled : (rows : List Row) (from n : ℕ) → length rows ≤ n
+    → CanBeSpelled (drop from (take n rows)) → CanBeSpelled (drop from rows)
+all_spelled rows from n long spelled =
+    subst (λ (rs : List Row). CanBeSpelled (drop from rs)) (take_all n rows long) spelled

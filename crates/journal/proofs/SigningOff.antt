@@ -1,12 +1,13 @@
 -- Tills that are signed off, one after another.
 use Rattle.std.proofs.Common.{◌≡◌, ℕ, zero, suc, ◌+◌, ◌-◌, ◌<◌, ◌==◌, Bool, true, false, List, []}
 use Rattle.std.proofs.Common.{◌∷◌, ◌++◌}
-use Rattle.std.proofs.Common.{length, take}
+use Rattle.std.proofs.Common.{drop, length, take}
 use Rattle.std.proofs.Common.{Option, Some, None, refl, sym, ap, ◌∙◌}
 use Rattle.std.proofs.Common.{arith, subst}
 use Rattle.std.specs.Prelude.{◌≤◌, OnSome, if◌then◌else◌, is_ok, is_some, unwrap_or}
 use Rattle.std.specs.Ordering.{nat_cmp}
 use Rattle.std.specs.FinSet as set
+use Rattle.std.proofs.lemmas.Bool.{eq-eqb}
 use Rattle.std.proofs.lemmas.Bool.Decides.{nat_tests}
 use Rattle.std.proofs.lemmas.List.{length-append}
 use Rattle.std.proofs.Math.Seq.{take-append_seam}
@@ -26,15 +27,14 @@ use Rattle.site_book.specs.Book.{AreActors, AreRowsInRange, Book, next_row, site
 use Rattle.site_book.specs.Book.{with_row_of}
 use Rattle.site_book.specs.SignedOn.{AreTills}
 use Rattle.site_book.proofs.SignedTills.{tills_row}
-use Rattle.station.specs.Moves.{StationState}
 use Rattle.station.specs.Runs.{opening_station}
 use Rattle.station.specs.Sessions.{without_till}
 use Rattle.station.proofs.Leaving.{signed_off}
-use Rattle.journal.specs.Disks.{DiskFile, Keeps, OfFile, OfFiles}
+use Rattle.journal.specs.Disks.{DiskFile, Grows, Keeps, OfFile, OfFiles}
 use Rattle.journal.specs.History.{empty_book}
 use Rattle.journal.specs.Opening.{HasNobodyOn, Resumes, all_off, tills_off}
-use Rattle.journal.specs.Stored.{HoldsRows, IsJournalOf, JournalGoesOn, JournalState, StoredState}
-use Rattle.journal.specs.Stored.{is_all_stored}
+use Rattle.journal.specs.JournalText.{CanBeSpelled, rows_text}
+use Rattle.journal.specs.Stored.{HoldsRows, IsJournalOf, JournalState, StoredState}
 use Rattle.journal.proofs.Made.{Adds, adds_same, adds_then}
 use Rattle.journal.proofs.Moves.{adds_leaving}
 
@@ -122,10 +122,10 @@ nobody_yet config = λ t. set.contains-empty nat_cmp t
 -- ---- the journal of what was recovered
 
 pub journal_begun : (header : List ℕ) (recovered b : Book) (file : Option DiskFile) (stored : ℕ)
-    → OfFile (HoldsRows header recovered.rows false) file → stored ≡ length recovered.rows
-    → b ≡ all_off recovered
+    → OfFile (HoldsRows header recovered.rows false) file → CanBeSpelled recovered.rows
+    → stored ≡ length recovered.rows → b ≡ all_off recovered
     → IsJournalOf b.rows (record { header = header; stored = stored; failed = false; file = file })
-journal_begun header recovered b file stored holds size off =
+journal_begun header recovered b file stored holds spelled size off =
     let adds = subst (Adds recovered) (sym off) (off_adds TILLS recovered) in
     let front : take stored b.rows ≡ recovered.rows =
     ap (take stored) adds.rows
@@ -135,36 +135,28 @@ journal_begun header recovered b file stored holds size off =
     ap length adds.rows ∙ length-append recovered.rows adds.later in
     record {
       few = omega (arith, size, all);
+      spelled = subst CanBeSpelled (sym front) spelled;
       holds = subst (λ (rs : List Row). OfFile (HoldsRows header rs false) file) (sym front) holds;
     }
 
--- what goes on from a journal is one
-goes_on : (header : List ℕ) (file : Option DiskFile) (stored : ℕ) (j : Option JournalState)
-    → JournalGoesOn
-    (Some (record { header = header; stored = stored; failed = false; file = file }))
-    j → (k : JournalState) × (j ≡ Some k) × (k.header ≡ header) × OfFiles Keeps file k.file
-goes_on header file stored (Some k) on = (k, refl, on.0, on.1)
-goes_on header file stored None on = absurd on
-
-pub resumes : (header : List ℕ) (recovered b : Book) (file : Option DiskFile) (stored : ℕ)
-    (s : StoredState) → b ≡ all_off recovered → HasNobodyOn b → s.station ≡ opening_station b
-    → is_all_stored s ≡ true
-    → JournalGoesOn
-    (Some (record { header = header; stored = stored; failed = false; file = file }))
-    s.journal → Resumes header recovered file s
-resumes header recovered b file stored s signed off station all on =
-    let book : s.station.book ≡ b = ap (λ (x : StationState). x.book) station in
-    let kept = goes_on header file stored s.journal on in
-    record {
-      alone = station ∙ ap opening_station (sym book);
-      rows = book ∙ signed;
-      off = subst HasNobodyOn (sym book) off;
-      stored = all;
-      journal = kept.0;
-      there = kept.1;
-      named = kept.2;
-      moments = kept.3;
-    }
+-- a station that begins with it, each row of which is stored
+pub resumes : (header : List ℕ) (recovered b : Book) (file : Option DiskFile) (j : JournalState)
+    (s : StoredState) → s ≡ record { station = opening_station b; journal = Some j }
+    → b ≡ all_off recovered → HasNobodyOn b → j.stored ≡ length b.rows → j.header ≡ header
+    → OfFiles (Grows (rows_text (drop (length recovered.rows) b.rows))) file j.file
+    → OfFiles Keeps file j.file → Resumes header recovered file s
+resumes header recovered b file j s is signed off all named lines keeps =
+    subst (Resumes header recovered file) (sym is) (record {
+      alone = refl;
+      rows = signed;
+      off = off;
+      stored = eq-eqb j.stored (length b.rows) all;
+      journal = j;
+      there = refl;
+      named = named;
+      lines = lines;
+      moments = keeps;
+    })
 
 -- ---- one till
 

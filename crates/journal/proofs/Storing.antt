@@ -7,13 +7,14 @@ use Rattle.std.proofs.Math.Seq.{drop-length}
 use Rattle.site_base.specs.declared.actor.Actor.{Actor}
 use Rattle.site_base.specs.declared.event.Event.{Event}
 use Rattle.site_base.specs.declared.row.Row.{Row}
+use Rattle.device_map.specs.Laws.{Asks}
 use Rattle.written_site.specs.SiteRun.{events_of}
 use Rattle.journal.specs.Disks.{Appends, DiskFile, Grows, Keeps, OfFile, OfFiles, Syncs}
 use Rattle.journal.specs.JournalLines.{TellsWhole, unfinished_from, whole_lines}
-use Rattle.journal.specs.JournalText.{rows_text}
+use Rattle.journal.specs.JournalText.{CanBeSpelled, row_request, rows_text}
 use Rattle.journal.specs.RowLines.{AreLines}
 use Rattle.journal.specs.Stored.{GrowsByLines, HoldsRows, IsJournalOf, JournalState}
-use Rattle.journal.proofs.Fronts.{begins_then}
+use Rattle.journal.proofs.Fronts.{all_both, begins_then}
 use Rattle.journal.proofs.Lines.{requests_both, unfinished_both}
 use Rattle.journal.proofs.Readings.{lines_behind}
 use Rattle.journal.proofs.Requests.{events_both}
@@ -99,6 +100,7 @@ pub journal_failed : (rows : List Row) (j : JournalState) (b : Option DiskFile)
     → IsJournalOf rows (record j { failed = true; file = b })
 journal_failed rows j b is keeps = record {
   few = is.few;
+  spelled = is.spelled;
   holds = failed_file j.header (take j.stored rows) j.failed j.file b is.holds keeps;
 }
 
@@ -136,16 +138,21 @@ stored_file header text rows more (Some a) (Some b) None holds lines wrote synce
 -- a journal that has stored all rows
 pub journal_stored : (rows : List Row) (j : JournalState) (text : List ℕ) (b c : Option DiskFile)
     (count : ℕ) → IsJournalOf rows j → j.failed ≡ false → AreLines (drop j.stored rows) text
-    → OfFiles (Appends text) j.file b → OfFiles Syncs b c → count ≡ length rows
+    → CanBeSpelled (drop j.stored rows) → OfFiles (Appends text) j.file b → OfFiles Syncs b c
+    → count ≡ length rows
     → IsJournalOf rows (record { header = j.header; stored = count; failed = false; file = c })
-journal_stored rows j text b c count is whole lines wrote synced all =
+journal_stored rows j text b c count is whole lines spelled wrote synced all =
     let holds =
     subst (λ (failed : Bool). OfFile (HoldsRows j.header (take j.stored rows) failed) j.file)
     whole is.holds in
     let file = stored_file j.header text (take j.stored rows) (drop j.stored rows) j.file b c holds
     lines wrote synced in
+    let same : take j.stored rows ++ drop j.stored rows ≡ take count rows =
+    take-append-drop j.stored rows ∙ sym (take_all count rows (omega (arith, all))) in
     record {
       few = omega (arith, all);
-      holds = subst (λ (rs : List Row). OfFile (HoldsRows j.header rs false) c)
-          (take-append-drop j.stored rows ∙ sym (take_all count rows (omega (arith, all)))) file;
+      spelled = subst CanBeSpelled same
+          (all_both (λ (r : Row). Asks 0 r.actor r.event (row_request r)) (take j.stored rows)
+          (drop j.stored rows) is.spelled spelled);
+      holds = subst (λ (rs : List Row). OfFile (HoldsRows j.header rs false) c) same file;
     }

@@ -38,10 +38,17 @@ OfFiles R old new = ⊥
 
 -- ---- the calls
 
--- these octets are the file's, and they begin with what is on the disk. Of a file whose flush has
--- failed a later read may give others: nobody may read twice
+-- these octets are the file's, and they begin with what is on the disk
 abbrev pub Reads : List ℕ → DiskFile → Type 0
 Reads octets file = (octets ≡ file.octets) × BeginsWith file.synced file.octets
+
+-- nothing is done to the file: what is on the disk is what was, without a moment in between. The
+-- next read gives the same octets, but not where a flush has failed: there it may give others
+pub record IsUntouched (old new : DiskFile) : Type 0 where
+  pub synced : new.synced ≡ old.synced
+  pub moments : new.fronts ≡ old.fronts
+  pub sound : new.sound ≡ old.sound
+  pub octets : old.sound ≡ true → new.octets ≡ old.octets
 
 -- what was synced stays, at each moment
 abbrev pub Keeps : DiskFile → DiskFile → Type 0
@@ -51,7 +58,7 @@ Keeps old new = KeepsFront old.synced old new
 abbrev pub Grows : List ℕ → DiskFile → DiskFile → Type 0
 Grows octets old new = new.octets ≡ old.octets ++ octets
 
--- .. and no flush has failed since
+-- .. and no flush has failed meanwhile
 abbrev pub Appends : List ℕ → DiskFile → DiskFile → Type 0
 Appends octets old new = Grows octets old new × (new.sound ≡ old.sound)
 

@@ -1,10 +1,12 @@
 -- The text of a journal: its first line, and a line for each row.
-use Rattle.std.specs.Prelude.{◌≡◌, ℕ, true, List, [], ◌∷◌, ◌++◌, codes}
-use Rattle.std.specs.List.{flat_map}
+use Rattle.std.specs.Prelude.{◌≡◌, ◌==◌, ◌+◌, ◌&&◌, ℕ, Bool, true, List, [], ◌∷◌, ◌++◌, codes}
+use Rattle.std.specs.Prelude.{length}
+use Rattle.std.specs.List.{AllByRecursion, flat_map, starts_with}
 use Rattle.hex.specs.Hex.{encode_lower}
 use Rattle.sha2.specs.Sha256.{sha256}
 use Rattle.site_base.specs.declared.row.Row.{Row}
 use Rattle.app_message.specs.Telegram.{Telegram}
+use Rattle.device_map.specs.Laws.{Asks}
 use Rattle.device_map.specs.Ways.{request_by, sends, way_to}
 use Rattle.forecourt_engines.specs.Answers.{line_of}
 
@@ -16,6 +18,12 @@ title = codes "# witsomar journal of site "
 -- SHA-256
 abbrev pub header_of : List ℕ → List ℕ
 header_of site_file = title ++ encode_lower (sha256 site_file)
+
+-- a line begins with the title and is as long as a journal's first line, whatever its last 64 octets
+-- are
+abbrev pub names_a_site : List ℕ → Bool
+names_a_site line =
+    (length line == length title + 64) && starts_with (λ a b. a == b) line title
 
 -- the request of a row's actor and event, with token 0
 abbrev pub row_request : Row → Telegram
@@ -36,3 +44,7 @@ journal_text header rows = (header ++ 10 ∷ []) ++ rows_text rows
 -- the row's actor sends such requests: a till doesn't report, and a dispenser does nothing else
 abbrev pub IsSent : Row → Type 0
 IsSent r = sends r.actor (way_to r.event).kind ≡ true
+
+-- each row's request is a message that can be spelled, and asks for its actor's event
+abbrev pub CanBeSpelled : List Row → Type 0
+CanBeSpelled rows = AllByRecursion (λ r. Asks 0 r.actor r.event (row_request r)) rows

@@ -1,18 +1,22 @@
 -- What holds of every journal: what is found again after a crash, and what its text tells.
-use Rattle.std.specs.Prelude.{◌≡◌, ℕ, List, [], ◌∷◌, ◌++◌, take}
+use Rattle.std.specs.Prelude.{◌≡◌, ◌≤◌, ℕ, Bool, true, List, [], ◌∷◌, ◌++◌, length, take, Some, None}
 use Rattle.std.specs.List.{AllByRecursion}
+use Rattle.site_base.specs.declared.actor.Actor.TheVariants.{Till}
+use Rattle.site_base.specs.declared.event.Event.TheVariants.{SignOff}
 use Rattle.site_base.specs.declared.row.Row.{Row}
-use Rattle.device_map.specs.Laws.{Asks}
 use Rattle.forecourt_engines.specs.Laws.{IsLine}
-use Rattle.written_site.specs.SiteRun.{events_of}
-use Rattle.site_book.specs.Book.{Book}
+use Rattle.forecourt_engines.specs.Text.{State, book_of, fault_of, start}
+use Rattle.written_site.specs.SiteRun.{IsLegal, events_of}
+use Rattle.written_site.specs.SiteState.{is_signed_on, opening}
+use Rattle.site_book.specs.Book.{Book, site_of_book, with_row_of}
 use Rattle.station.specs.Runs.{Move, after, opening_station}
-use Rattle.journal.specs.Disks.{BeginsWith}
-use Rattle.journal.specs.History.{IsMadeAgain}
+use Rattle.journal.specs.Disks.{BeginsWith, DiskFile}
+use Rattle.journal.specs.History.{IsMadeAgain, empty_book}
 use Rattle.journal.specs.JournalLines.{TellsWhole}
-use Rattle.journal.specs.JournalText.{journal_text, row_request}
+use Rattle.journal.specs.JournalText.{CanBeSpelled, IsSent, header_of, journal_text}
 use Rattle.journal.specs.Readings.{IsRead, TellsBook, TellsNothing}
 use Rattle.journal.specs.RowLines.{AreLines}
+use Rattle.journal.specs.Stored.{IsStored, JournalState, StoredState, told_at}
 
 -- a book has the rows of another one, and maybe more behind them
 pub record HasRowsOf (told b : Book) : Type 0 where
@@ -28,9 +32,14 @@ StoredRowsAreFoundAgain = (header front file : List ℕ) (told b : Book) (whole 
     → TellsWhole header front (events_of told.rows) → BeginsWith front file
     → IsRead header file whole b → HasRowsOf told b
 
--- each row's request can be spelled
-abbrev pub CanBeSpelled : List Row → Type 0
-CanBeSpelled rows = AllByRecursion (λ r. Asks 0 r.actor r.event (row_request r)) rows
+-- What is told is found again. While a peer may be told something, each row of the station is on the
+-- disk. Whatever a crash then leaves, of it only a book is read that begins with these rows.
+abbrev pub ToldRowsAreFoundAgain : Type 0
+ToldRowsAreFoundAgain = (s : StoredState) (j : JournalState) (f : DiskFile) (key : ℕ)
+    (file : List ℕ) (b : Book) (whole : ℕ)
+    → IsStored s → s.journal ≡ Some j → j.file ≡ Some f → (told_at s key ≡ [] → ⊥)
+    → BeginsWith f.synced file → b.config ≡ s.station.book.config
+    → IsRead j.header file whole b → HasRowsOf s.station.book b
 
 -- A beginning of what a journal writes is never refused: a beginning of its first line, and a front
 -- that tells a station's rows, with a beginning of the lines of more rows of it behind.
@@ -47,6 +56,34 @@ pub record BeginningsAreRead : Type 0 where
 abbrev pub JournalsTellTheirHistory : Type 0
 JournalsTellTheirHistory = (header : List ℕ) (b : Book) → IsLine header → IsMadeAgain b
     → CanBeSpelled b.rows → TellsBook header (journal_text header b.rows) b
+
+-- the book with the first of its rows, at most as many as the configuration allows
+abbrev pub within_limit : Book → Book
+within_limit b = record b { rows = take b.config.rows b.rows }
+
+-- a replay of the text, from this state on, ends without a fault, at this book
+pub record IsReplayedTo (b : Book) (st : State) (text : List ℕ) : Type 0 where
+  pub fault : fault_of st text ≡ None
+  pub book : book_of st text ≡ b
+
+-- The journal is the history for a replay, too: it reads the text of a station's rows without a
+-- fault, and makes its book, replies included, up to the row that fills it. Behind that a replay
+-- makes none, where a station signs off the tills that are signed on.
+abbrev pub JournalsAreReplayed : Type 0
+JournalsAreReplayed = (site_file : List ℕ) (b : Book) (changes : Bool) → IsMadeAgain b
+    → CanBeSpelled b.rows
+    → IsReplayedTo (within_limit b)
+    (start (record { book = empty_book b.config; changes = changes }))
+    (journal_text (header_of site_file) b.rows)
+
+-- A legal history of no more rows than the configuration allows, each of them one that its actor
+-- sends, can be made again of its requests; and behind one that can, the sign-off of a till that is
+-- signed on.
+pub record HistoriesAreMadeAgain : Type 0 where
+  pub within : (b : Book) → IsLegal (opening b.config) b.rows → length b.rows ≤ b.config.rows
+      → AllByRecursion IsSent b.rows → IsMadeAgain b
+  pub beyond : (b : Book) (t : ℕ) → IsMadeAgain b → is_signed_on (site_of_book b) t ≡ true
+      → IsMadeAgain (with_row_of b (Till t) SignOff)
 
 -- Whatever moves come, a station's rows can be made again of their requests.
 abbrev pub StationsAreMadeAgain : Type 0

@@ -4,6 +4,7 @@ pub mod JournalLines
 pub mod History
 pub mod RowLines
 pub mod Readings
+pub mod Faults
 pub mod Stored
 pub mod Recovering
 pub mod Opening

@@ -1,12 +1,13 @@
 -- A station that goes on where its journal ended.
-use Rattle.std.specs.Prelude.{◌≡◌, ℕ, zero, suc, true, false, List, length, Option, Some}
+use Rattle.std.specs.Prelude.{◌≡◌, ℕ, zero, suc, true, false, List, drop, length, Option, Some}
 use Rattle.site_base.specs.declared.limits.TheConstants.{TILLS}
 use Rattle.site_base.specs.Configured.{Configured}
 use Rattle.written_site.specs.SiteState.{is_signed_on}
 use Rattle.site_book.specs.Book.{Book, site_of_book}
 use Rattle.station.specs.Runs.{opening_station}
 use Rattle.station.specs.Sessions.{without_till}
-use Rattle.journal.specs.Disks.{DiskFile, Keeps, OfFile, OfFiles}
+use Rattle.journal.specs.Disks.{DiskFile, Grows, Keeps, OfFile, OfFiles}
+use Rattle.journal.specs.JournalText.{rows_text}
 use Rattle.journal.specs.Recovering.{IsReadIn, KeepsWholeLines}
 use Rattle.journal.specs.Stored.{JournalState, StoredState, is_all_stored}
 
@@ -14,7 +15,7 @@ use Rattle.journal.specs.Stored.{JournalState, StoredState, is_all_stored}
 abbrev pub HasNobodyOn : Book → Type 0
 HasNobodyOn b = (t : ℕ) → is_signed_on (site_of_book b) t ≡ false
 
--- a book behind whose rows each of the first tills that is signed on has signed off, in order
+-- a book behind whose rows of the first tills each that is signed on has signed off, in order
 abbrev pub tills_off : ℕ → Book → Book
 tills_off zero b = b
 tills_off (suc n) b = without_till (Some (suc n)) (tills_off n b)
@@ -24,7 +25,7 @@ abbrev pub all_off : Book → Book
 all_off b = tills_off TILLS b
 
 -- a station without peers, at the recovered book with the sign-offs of those that are signed on
--- behind it; each row is stored in the journal, which goes on from this file
+-- behind it; each row is stored in the journal, which goes on from this file by their lines
 pub record Resumes (header : List ℕ) (recovered : Book) (file : Option DiskFile) (s : StoredState)
     : Type 0 where
   pub alone : s.station ≡ opening_station s.station.book
@@ -34,6 +35,8 @@ pub record Resumes (header : List ℕ) (recovered : Book) (file : Option DiskFil
   pub journal : JournalState
   pub there : s.journal ≡ Some journal
   pub named : journal.header ≡ header
+  pub lines : OfFiles (Grows (rows_text (drop (length recovered.rows) s.station.book.rows))) file
+      journal.file
   pub moments : OfFiles Keeps file journal.file
 
 -- .. of a file from which this book is read: so many rows, and the sign-offs behind them. Whole

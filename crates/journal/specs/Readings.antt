@@ -7,7 +7,7 @@ use Rattle.site_base.specs.declared.event.Event.{Event}
 use Rattle.site_base.specs.Configured.{Configured}
 use Rattle.site_book.specs.Book.{Book}
 use Rattle.journal.specs.declared.reading.OpenFault.{OpenFault}
-use Rattle.journal.specs.declared.reading.OpenFault.TheVariants.{AnotherSite, Line}
+use Rattle.journal.specs.declared.reading.OpenFault.TheVariants.{AnotherSite, Line, Unread}
 use Rattle.journal.specs.Disks.{BeginsWith}
 use Rattle.journal.specs.History.{all_made_again, empty_book}
 use Rattle.journal.specs.JournalLines.{Tells, TellsWhole, whole_lines}
@@ -29,7 +29,8 @@ pub record IsBegun (header octets : List ℕ) (whole : ℕ) (b : Book) : Type 0 
   pub none : whole ≡ 0
   pub rows : b.rows ≡ []
 
--- so many of the octets are whole lines, which tell this book; an unfinished one stands behind them
+-- so many of the octets are whole lines, which tell this book; at most an unfinished one stands
+-- behind them
 pub record IsReadBack (header octets : List ℕ) (whole : ℕ) (b : Book) : Type 0 where
   pub events : List (Actor × Event)
   pub few : whole ≤ length octets
@@ -50,6 +51,11 @@ abbrev pub IsOfText : OpenFault → Type 0
 IsOfText (Line n) = ⊤
 IsOfText AnotherSite = ⊤
 IsOfText fault = ⊥
+
+-- a fault of a start that does nothing to the file: it can't be read, or is no journal of this site
+abbrev pub IsRefusal : OpenFault → Type 0
+IsRefusal Unread = ⊤
+IsRefusal fault = IsOfText fault
 
 -- a row was made again, or none was, and the book is as before
 abbrev pub IsMade : Bool → Option Book → Book → Book → Type 0

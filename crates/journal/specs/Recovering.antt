@@ -1,5 +1,5 @@
 -- What recovery makes of a disk's file.
-use Rattle.std.specs.Prelude.{◌≡◌, ℕ, ◌==◌, true, List, [], take, if◌then◌else◌}
+use Rattle.std.specs.Prelude.{◌≡◌, ℕ, ◌==◌, List, [], take, if◌then◌else◌}
 use Rattle.site_base.specs.Configured.{Configured}
 use Rattle.site_book.specs.Book.{Book}
 use Rattle.journal.specs.Disks.{BeginsWith, DiskFile, KeepsFront}
@@ -21,13 +21,8 @@ KeepsWholeLines old new =
     (front : List ℕ) → unfinished front ≡ [] → BeginsWith front old.synced
     → KeepsFront front old new
 
--- what is left of so many octets, where so many are whole lines
+-- what is left of octets of which so many are whole lines: these, or the first line where there are
+-- none
 abbrev pub settled_octets : List ℕ → ℕ → List ℕ → List ℕ
 settled_octets first_line whole octets =
     if whole == 0 then first_line else take whole octets
-
--- .. is on the disk, in a file no flush of which has failed
-abbrev pub Settles : List ℕ → ℕ → DiskFile → DiskFile → Type 0
-Settles first_line whole old new =
-    (new.octets ≡ settled_octets first_line whole old.octets) × (new.synced ≡ new.octets)
-    × (new.sound ≡ true)

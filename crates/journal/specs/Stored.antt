@@ -8,10 +8,10 @@ use Rattle.station.specs.Reads.{owed_at}
 use Rattle.journal.specs.Disks.{BeginsWith, DiskFile, Grows, Keeps, OfFile, OfFiles}
 use Rattle.journal.specs.History.{IsMadeAgain}
 use Rattle.journal.specs.JournalLines.{TellsWhole}
-use Rattle.journal.specs.JournalText.{rows_text}
+use Rattle.journal.specs.JournalText.{CanBeSpelled, rows_text}
 
--- a journal's first line, how many rows it has stored, whether a write has failed, and its file,
--- where that is known
+-- a journal's first line, how many rows it has stored, whether a write or a flush has failed, and
+-- its file, where that is known
 pub record JournalState : Type 0 where
   pub header : List ℕ
   pub stored : ℕ
@@ -33,9 +33,10 @@ pub record HoldsRows (header : List ℕ) (rows : List Row) (failed : Bool) (file
   pub settled :
       failed ≡ false → (file.octets ≡ front) × (file.synced ≡ front) × (file.sound ≡ true)
 
--- the journal has stored the first of the book's rows
+-- the journal has stored the first of the book's rows, and each of these can be spelled
 pub record IsJournalOf (rows : List Row) (j : JournalState) : Type 0 where
   pub few : j.stored ≤ length rows
+  pub spelled : CanBeSpelled (take j.stored rows)
   pub holds : OfFile (HoldsRows j.header (take j.stored rows) j.failed) j.file
 
 -- what a station with a journal always keeps

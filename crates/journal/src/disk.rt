@@ -2,7 +2,7 @@
 
 ghost use Rattle.std.specs.Prelude.{◌≡◌, IfOk, OnOk, Option};
 ghost use Rattle.journal.specs.Disks.{Appends, DiskFile, Keeps, KeepsEither, OfFile, OfFiles};
-ghost use Rattle.journal.specs.Disks.{Reads, Renews, Syncs};
+ghost use Rattle.journal.specs.Disks.{Reads, Renews, IsUntouched, Syncs};
 
 use site_base::NoMemory;
 use std::alloc::Global;
@@ -27,18 +27,20 @@ impl From<NoMemory> for DiskFault {
     }
 }
 
-/// A file of octets that only grows behind its end, until others take their place. A crash, at
-/// whatever moment of a call or between two, leaves a file that begins with what was synced.
+/// A file of octets. They grow behind their end, or others take their place; a crash, at whatever
+/// moment of a call or between two, leaves a file that begins with what was synced.
 pub trait Disk: Drop {
     /// What is known of its file. Of a real disk nothing is: no contract can tell what it carries.
     ghost file: { Self → Option DiskFile };
 
-    /// All its octets.
+    /// All its octets. Where a flush has failed, at whoever had it then, the next read may give
+    /// others.
     fn read(&mut self, alloc: Global) -> Result<Vec<u8>, DiskFault>
         ensures octets { IfOk result (λ v. OfFile (Reads v.items) (file self.old)) }
-        ensures same { file self.new ≡ file self.old };
+        ensures stays { OfFiles IsUntouched (file self.old) (file self.new) };
 
-    /// Puts octets behind those that are there. Where that fails, some of them may stand there.
+    /// Puts octets behind those that are there. Where that fails, nothing is said of what stands
+    /// behind those that were synced.
     fn append(&mut self, octets: &[u8]) -> Result<(), DiskFault>
         ensures ok { OnOk result (OfFiles (Appends octets.now) (file self.old) (file self.new)) }
         ensures moments { OfFiles Keeps (file self.old) (file self.new) };

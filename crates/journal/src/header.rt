@@ -1,7 +1,7 @@
 //! The first line of a journal.
 
 ghost use Rattle.std.specs.Prelude.{◌≡◌, IfOk};
-ghost use Rattle.journal.specs.JournalText.{header_of, title};
+ghost use Rattle.journal.specs.JournalText.{header_of, names_a_site, title};
 
 use sha2::{Digest, Sha256};
 use site_base::NoMemory;
@@ -25,6 +25,8 @@ pub(crate) fn header_of(alloc: Global, site_file: &[u8]) -> Result<Vec<u8>, NoMe
 }
 
 /// Does a line name a site file, as a journal's first line does?
-pub(crate) fn names_a_site(line: &[u8]) -> bool {
+pub(crate) fn names_a_site(line: &[u8]) -> bool
+    ensures { result ≡ names_a_site line.now }
+{
     line.len() == TITLE.len() + DIGEST_DIGITS && line.starts_with(TITLE)
 }

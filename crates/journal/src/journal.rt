@@ -57,6 +57,13 @@ impl<D: Disk> Journal<D> {
         }
     }
 
+    /// The disk that it lies on.
+    pub(crate) fn into_disk(self) -> D
+        ensures { D.file result ≡ self.file }
+    {
+        self.disk
+    }
+
     /// So many rows are stored.
     pub(crate) fn stored(&self) -> u64
         ensures { result ≡ self.now.stored }
@@ -65,7 +72,8 @@ impl<D: Disk> Journal<D> {
     }
 
     /// Stores the rows of the book that aren't stored yet: they are written behind the others by
-    /// one call, and synced by another. Where that fails the journal takes no more.
+    /// one call, and synced by another. Where the disk fails the journal takes no more; where there
+    /// is no memory for the lines nothing is written, and it may be asked again.
     pub(crate) fn store(&mut self, book: &SiteBook) -> Result<(), DiskFault>
         requires journal { IsJournalOf book.now.rows self.old }
         requires made { IsMadeAgain book.now }

@@ -1,12 +1,21 @@
 //! The laws of a journal. Each is a function whose contract is the law.
 
-ghost use Rattle.journal.specs.Laws.{BeginningsAreRead, JournalsTellTheirHistory};
+ghost use Rattle.journal.specs.Laws.{BeginningsAreRead, HistoriesAreMadeAgain};
+ghost use Rattle.journal.specs.Laws.{JournalsAreReplayed};
+ghost use Rattle.journal.specs.Laws.{JournalsTellTheirHistory};
 ghost use Rattle.journal.specs.Laws.{StationsAreMadeAgain, StoredRowsAreFoundAgain};
+ghost use Rattle.journal.specs.Laws.{ToldRowsAreFoundAgain};
 
 /// Of a file that begins with what is on the disk only a book is read that begins with the rows
 /// stored there.
 pub fn stored_rows_are_found_again()
     ensures { StoredRowsAreFoundAgain }
+{}
+
+/// While a peer may be told something, each row of the station will be found again, whatever a
+/// crash then leaves.
+pub fn told_rows_are_found_again()
+    ensures { ToldRowsAreFoundAgain }
 {}
 
 /// A beginning of what a journal writes is never refused.
@@ -17,6 +26,16 @@ pub fn beginnings_are_read()
 /// A journal's text tells just the history that it was written of.
 pub fn journals_tell_their_history()
     ensures { JournalsTellTheirHistory }
+{}
+
+/// A replay of a journal's text makes that history, too, up to the row that fills the book.
+pub fn journals_are_replayed()
+    ensures { JournalsAreReplayed }
+{}
+
+/// A legal history can be made again of its requests.
+pub fn histories_are_made_again()
+    ensures { HistoriesAreMadeAgain }
 {}
 
 /// A station's rows can be made again of their requests.

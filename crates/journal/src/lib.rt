@@ -4,7 +4,7 @@
 //! each row, its request (`specs/JournalText.antt`). A `StoredStation` is a station with its
 //! journal. It hands out what a peer is owed only while each row is stored, so that no octet tells
 //! of a row that a crash could lose (`specs/Stored.antt`). `open_journal` makes the station again
-//! of a file that a crash may have left (`specs/Readings.antt`).
+//! of a file that a crash may have left (`specs/Opening.antt`, `Faults.antt`).
 //!
 //! A `Disk` is what a journal lies on: `specs/Disks.antt` says what its calls do to its file, at
 //! each moment. The laws (`specs/Laws.antt`) say what is found again.
@@ -24,10 +24,11 @@ mod stored_station;
 pub use disk::{Disk, DiskFault};
 pub use journal::Journal;
 pub use laws::{
-    beginnings_are_read, journals_tell_their_history, stations_are_made_again,
-    stored_rows_are_found_again,
+    beginnings_are_read, histories_are_made_again, journals_are_replayed,
+    journals_tell_their_history, stations_are_made_again, stored_rows_are_found_again,
+    told_rows_are_found_again,
 };
-pub use opening::{Opened, open_journal, resume};
+pub use opening::{Opened, Unopened, open_journal, resume};
 pub use reading::OpenFault;
 pub use recovery::{Recovered, recover};
 pub use stored_station::StoredStation;

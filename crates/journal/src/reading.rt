@@ -4,6 +4,7 @@ ghost use Rattle.std.specs.Prelude.{◌≡◌, [], IfErr, IfNone, IfOk, IfSome, 
 ghost use Rattle.site_base.specs.Configured.{Configured};
 ghost use Rattle.journal.specs.Disks.{BeginsWith};
 ghost use Rattle.site_book.specs.Book.{Book};
+ghost use Rattle.journal.specs.Faults.{Names, first_fault};
 ghost use Rattle.journal.specs.History.{beyond, made_again};
 ghost use Rattle.journal.specs.Readings.{IsLineEnd, IsMade, IsOfText, IsRead, IsReadBack};
 ghost use Rattle.journal.specs.Readings.{IsUnended};
@@ -69,6 +70,7 @@ pub(crate) fn read_back(
     ensures config { IfOk result (λ read. read.book.config ≡ config.now) }
     ensures refused { IfErr result (λ fault. IsOfText fault
         → TellsNothing header.now octets.now config.now) }
+    ensures named { IfErr result (Names header.now octets.now config.now) }
 {
     match find_first_line(header, octets)? {
         None => Ok(ReadBack {
@@ -87,6 +89,8 @@ fn find_first_line(header: &[u8], octets: &[u8]) -> Result<Option<usize>, OpenFa
     ensures header { IfOk result (λ end. IfSome end (λ n. take n octets.now ≡ header.now)) }
     ensures refused { IfErr result (λ fault. IsOfText fault → (config : Configured)
         → TellsNothing header.now octets.now config) }
+    ensures named { IfErr result (λ fault. (config : Configured)
+        → Names header.now octets.now config fault) }
 {
     let Some(end) = memchr(b'\n', octets) else {
         if begins_with(header, octets) {
@@ -118,7 +122,9 @@ fn begins_with(octets: &[u8], front: &[u8]) -> bool
 }
 
 /// The fault of a first line that isn't this site's.
-fn refuse_first(line: &[u8]) -> OpenFault {
+fn refuse_first(line: &[u8]) -> OpenFault
+    ensures { result ≡ first_fault line.now }
+{
     if names_a_site(line) {
         OpenFault::AnotherSite
     } else {
@@ -140,13 +146,14 @@ fn read_rows(
     ensures config { IfOk result (λ read. read.book.config ≡ book.config) }
     ensures refused { IfErr result (λ fault. IsOfText fault → (b : Book) → b.config ≡ book.config
         → TellsBook (take first octets.now) octets.now b → ⊥) }
+    ensures named { IfErr result (Names (take first octets.now) octets.now book.config) }
 {
     let mut reader = LineReader::new(alloc);
     let mut rest = &octets[first + 1..];
     let mut number = 1_u64;
     while let Some(end) = memchr(b'\n', rest) {
         let (line, others) = rest.split_at(end);
-        number = number.saturating_add(1);
+        number += 1;
         let Some((actor, event)) = reader.read(line)? else {
             return Err(OpenFault::Line(number));
         };

@@ -1,10 +1,11 @@
 //! The book of a journal that a crash may have left.
 
 ghost use Rattle.std.specs.Prelude.{◌≡◌, ◌≤◌, ◌∷◌, ◌++◌, [], IfErr, IfOk, OnOk, false, length};
-ghost use Rattle.journal.specs.Disks.{OfFile, OfFiles};
+ghost use Rattle.journal.specs.Disks.{OfFile, OfFiles, IsUntouched};
+ghost use Rattle.journal.specs.Faults.{NamesIn};
 ghost use Rattle.journal.specs.History.{IsMadeAgain};
-ghost use Rattle.journal.specs.JournalText.{header_of};
-ghost use Rattle.journal.specs.Readings.{IsOfText};
+ghost use Rattle.journal.specs.JournalText.{CanBeSpelled, header_of};
+ghost use Rattle.journal.specs.Readings.{IsOfText, IsRefusal};
 ghost use Rattle.journal.specs.Recovering.{IsReadIn, KeepsWholeLines, TellsNothingIn};
 ghost use Rattle.journal.specs.Recovering.{settled_octets};
 ghost use Rattle.journal.specs.Stored.{HoldsRows};
@@ -30,8 +31,8 @@ pub struct Recovered {
 /// gives, where a flush had failed: without an unfinished last line, of which nobody was told, and
 /// of a file that isn't begun yet its first line.
 ///
-/// `Unread` comes where the file can't be read; `Line` names the first line that is no journal's,
-/// and `AnotherSite` comes where the first line names another site file: the file stays as it is.
+/// `Unread` comes where the file can't be read, `AnotherSite` where its first line names another
+/// site file, and `Line` names the first line that is no journal's: these leave the file as it is.
 /// `Unwritten` comes where the disk takes no more.
 pub fn recover<D: Disk>(
     alloc: Global,
@@ -42,6 +43,7 @@ pub fn recover<D: Disk>(
     ensures header { IfOk result (λ r. r.header.items ≡ header_of site_file.now) }
     ensures config { IfOk result (λ r. r.book.config ≡ config.now) }
     ensures made { IfOk result (λ r. IsMadeAgain r.book) }
+    ensures spelled { IfOk result (λ r. CanBeSpelled r.book.rows) }
 
     // The book is what the octets tell, and the file tells it, on the disk.
     ensures read { IfOk result (λ r.
@@ -49,10 +51,14 @@ pub fn recover<D: Disk>(
     ensures settled { IfOk result (λ r. OfFile
         (HoldsRows r.header.items r.book.rows false) (D.file disk.new)) }
 
-    // A refused file tells no book of this site, and stays.
+    // A refused file tells no book of this site, and the fault names its first wrong line. Nothing
+    // is done to it, nor to one that can't be read.
     ensures refused { IfErr result (λ fault. IsOfText fault → OfFile
         (TellsNothingIn (header_of site_file.now) config.now) (D.file disk.old)) }
-    ensures stays { IfErr result (λ fault. IsOfText fault → D.file disk.new ≡ D.file disk.old) }
+    ensures named { IfErr result (λ fault. IsOfText fault → OfFile
+        (NamesIn (header_of site_file.now) config.now fault) (D.file disk.old)) }
+    ensures stays { IfErr result (λ fault. IsRefusal fault → OfFiles
+        IsUntouched (D.file disk.old) (D.file disk.new)) }
 
     // A crash at any moment leaves a file with the whole lines that were on the disk.
     ensures moments { OfFiles KeepsWholeLines (D.file disk.old) (D.file disk.new) }

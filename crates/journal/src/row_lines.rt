@@ -3,7 +3,7 @@
 ghost use Rattle.std.specs.Prelude.{◌≡◌, ◌≤◌, ◌++◌, drop, length, OnOk};
 ghost use Rattle.device_map.specs.Laws.{Asks};
 ghost use Rattle.journal.specs.History.{IsMadeAgain};
-ghost use Rattle.journal.specs.JournalText.{IsSent, row_line, row_request};
+ghost use Rattle.journal.specs.JournalText.{CanBeSpelled, IsSent, row_line, row_request};
 ghost use Rattle.journal.specs.RowLines.{AreLines};
 
 use app_message::Token;
@@ -22,7 +22,8 @@ pub(crate) fn put_rows(
 ) -> Result<(), NoMemory>
     requires place { from ≤ length book.now.rows }
     requires made { IsMadeAgain book.now }
-    ensures { OnOk result (AreLines (drop from book.now.rows) text.new.items) }
+    ensures lines { OnOk result (AreLines (drop from book.now.rows) text.new.items) }
+    ensures spelled { OnOk result (CanBeSpelled (drop from book.now.rows)) }
 {
     text.clear();
     for place in from..book.len() {

@@ -104,7 +104,8 @@ impl<D: Disk> StoredStation<D> {
     }
 
     /// Stores each row that isn't stored yet: what peers are owed may be told then. Where that
-    /// fails, nothing may be told any more.
+    /// fails, nothing may be told until a later store succeeds; behind a disk that has failed none
+    /// does.
     pub fn store(&mut self) -> Result<(), DiskFault>
         ensures station { self.new.station ≡ self.old.station }
         ensures stored { OnOk result (is_all_stored self.new ≡ true) }

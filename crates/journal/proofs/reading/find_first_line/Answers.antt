@@ -1,8 +1,8 @@
 use Rattle.std.proofs.Common.{◌∷◌, [], ◌++◌, ◌+◌, ◌∙◌, ◌≡◌, ℕ, ap, append_assoc, arith, drop, suc}
-use Rattle.std.proofs.Common.{take}
+use Rattle.std.proofs.Common.{inl, refl, take}
 use Rattle.forecourt_engines.proofs.Bytes.{absent, found}
 use Rattle.journal.proofs.Lines.{none_ends}
-use Rattle.journal.proofs.Readings.{another_line, longer_too, nothing_begun}
+use Rattle.journal.proofs.Readings.{another_line, another_named, longer_too, nothing_begun}
 use Rattle.journal.proofs.reading.find_first_line.Goals as goal
 
 pub returns-then-begins_with-clause-unended : goal.returns-then-begins_with-clause-unended
@@ -17,6 +17,18 @@ returns-in_default-clause-refused c = λ of_text config.
     nothing_begun c.args.header.now c.args.octets.now config
     (absent 10 c.args.octets.now c.in_default.ensures)
     (c.begins_with.ensures.no c.if-begins_with.false)
+
+pub returns-in_default-clause-named : goal.returns-in_default-clause-named
+returns-in_default-clause-named c = λ config. inl (
+  refl,
+  inl (record {
+    none_ends = none_ends [] c.args.octets.now (absent 10 c.args.octets.now c.in_default.ensures);
+    other =
+        (nothing_begun c.args.header.now c.args.octets.now config
+        (absent 10 c.args.octets.now c.in_default.ensures)
+        (c.begins_with.ensures.no c.if-begins_with.false)).unbegun;
+  }),
+)
 
 pub returns-then-is_same-clause-ends : goal.returns-then-is_same-clause-ends
 returns-then-is_same-clause-ends c =
@@ -38,3 +50,12 @@ returns-clause-refused c = λ of_text config.
     another_line c.args.header.now octets (take c.in-Some.end octets)
     (drop (suc c.in-Some.end) octets) config at.parts at.before
     (λ is. c.is_same.ensures.no c.if-is_same.false (c.split_at.ensures.front ∙ is))
+
+pub returns-clause-named : goal.returns-clause-named
+returns-clause-named c = λ config.
+    let octets = c.args.octets.now in
+    let at = found 10 octets c.in-Some.end c.in-Some.ensures in
+    another_named c.args.header.now octets (take c.in-Some.end octets)
+    (drop (suc c.in-Some.end) octets) config _ at.parts at.before
+    (λ is. c.is_same.ensures.no c.if-is_same.false (c.split_at.ensures.front ∙ is))
+    (rw (← c.split_at.ensures.front) c.refuse_first.ensures)

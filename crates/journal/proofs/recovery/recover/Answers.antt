@@ -1,14 +1,38 @@
-use Rattle.std.proofs.Common.{◌≡◌, ◌∙◌, ◌++◌, ◌∷◌, [], ℕ, List, Option, ap, sym, subst}
-use Rattle.journal.specs.Disks.{DiskFile, KeepsEither, OfFile, OfFiles, Renews}
-use Rattle.journal.specs.Recovering.{IsReadIn}
+use Rattle.std.proofs.Common.{◌≡◌, ◌∙◌, ◌++◌, ◌∷◌, [], ℕ, List, ap, sym, subst}
+use Rattle.journal.specs.Disks.{OfFile}
+use Rattle.journal.specs.Faults.{NamesIn}
+use Rattle.journal.specs.Recovering.{IsReadIn, TellsNothingIn}
 use Rattle.forecourt_engines.specs.Laws.{IsLine}
 use Rattle.journal.proofs.Octets.{header_plain}
-use Rattle.journal.proofs.Recovering.{holds_read_in, lines_stay_in, read_in, read_made}
-use Rattle.journal.proofs.Recovering.{renewed_file}
+use Rattle.journal.proofs.Recovering.{holds_read_in, lines_stay_in, names_in, read_in, read_made}
+use Rattle.journal.proofs.Recovering.{renewed_file, renewed_then, tells_nothing_in}
+use Rattle.journal.proofs.Spelled.{read_spelled}
 use Rattle.journal.proofs.recovery.recover.Goals as goal
 
 pub returns-clause-made : goal.returns-clause-made
 returns-clause-made g c = read_made _ _ _ _ c.in-Ok-read_back.ensures.read
+
+pub returns-in-Err-clause-refused : goal.returns-in-Err-clause-refused
+returns-in-Err-clause-refused g c = λ of_text.
+    let nothing =
+    rw (c.deref.ensures.value, c.deref-2.ensures.value) at c.in-Err.ensures.refused in
+    subst (λ (h : List ℕ).
+    OfFile (TellsNothingIn h c.args.config.now) (g.D.Disk.file c.args.disk.now))
+    c.in_ok-header.ensures
+    (tells_nothing_in c.in_ok-header.header.items c.in-Ok.octets.items c.args.config.now
+    (g.D.Disk.file c.args.disk.now) c.in-Ok.ensures.octets (nothing of_text))
+
+pub returns-in-Err-clause-named : goal.returns-in-Err-clause-named
+returns-in-Err-clause-named g c = λ of_text.
+    let named = rw (c.deref.ensures.value, c.deref-2.ensures.value) at c.in-Err.ensures.named in
+    subst (λ (h : List ℕ).
+    OfFile (NamesIn h c.args.config.now c.in-Err.fault) (g.D.Disk.file c.args.disk.now))
+    c.in_ok-header.ensures
+    (names_in c.in_ok-header.header.items c.in-Ok.octets.items c.args.config.now c.in-Err.fault
+    (g.D.Disk.file c.args.disk.now) c.in-Ok.ensures.octets named)
+
+pub returns-clause-spelled : goal.returns-clause-spelled
+returns-clause-spelled g c = read_spelled _ _ _ _ c.in-Ok-read_back.ensures.read
 
 pub returns-clause-read : goal.returns-clause-read
 returns-clause-read g c =
@@ -28,10 +52,8 @@ returns-in-Err-NoMemory-renew-clause-moments g c =
     let left =
     rw (c.deref-4.ensures.value, c.deref-5.ensures.value) at c.whole_lines.ensures in
     lines_stay_in _ _ _ c.whole_lines.result.now c.in-Ok-read_back.read.whole
-    c.in-Ok-read_back.read.book _ _ c.in-Ok.ensures.octets is left
-    (subst (λ (f : Option DiskFile).
-    OfFiles (KeepsEither c.whole_lines.result.now) f (g.D.Disk.file c.renew.new.self))
-    c.read.ensures.same c.renew.ensures.moments)
+    c.in-Ok-read_back.read.book _ _ _ c.in-Ok.ensures.octets c.read.ensures.stays is left
+    c.renew.ensures.moments
 
 pub returns-in-Err-Failed-renew-clause-moments :
     goal.returns-in-Err-Failed-renew-clause-moments
@@ -41,10 +63,8 @@ returns-in-Err-Failed-renew-clause-moments g c =
     let left =
     rw (c.deref-4.ensures.value, c.deref-5.ensures.value) at c.whole_lines.ensures in
     lines_stay_in _ _ _ c.whole_lines.result.now c.in-Ok-read_back.read.whole
-    c.in-Ok-read_back.read.book _ _ c.in-Ok.ensures.octets is left
-    (subst (λ (f : Option DiskFile).
-    OfFiles (KeepsEither c.whole_lines.result.now) f (g.D.Disk.file c.renew.new.self))
-    c.read.ensures.same c.renew.ensures.moments)
+    c.in-Ok-read_back.read.book _ _ _ c.in-Ok.ensures.octets c.read.ensures.stays is left
+    c.renew.ensures.moments
 
 pub returns-clause-moments : goal.returns-clause-moments
 returns-clause-moments g c =
@@ -53,10 +73,8 @@ returns-clause-moments g c =
     let left =
     rw (c.deref-4.ensures.value, c.deref-5.ensures.value) at c.whole_lines.ensures in
     lines_stay_in _ _ _ c.whole_lines.result.now c.in-Ok-read_back.read.whole
-    c.in-Ok-read_back.read.book _ _ c.in-Ok.ensures.octets is left
-    (subst (λ (f : Option DiskFile).
-    OfFiles (KeepsEither c.whole_lines.result.now) f (g.D.Disk.file c.renew.new.self))
-    c.read.ensures.same c.renew.ensures.moments)
+    c.in-Ok-read_back.read.book _ _ _ c.in-Ok.ensures.octets c.read.ensures.stays is left
+    c.renew.ensures.moments
 
 pub returns-clause-settled : goal.returns-clause-settled
 returns-clause-settled g c =
@@ -76,6 +94,6 @@ returns-clause-settled g c =
     (renewed_file c.in_ok-first_line.first_line.items c.in-Ok.octets.items
     c.whole_lines.result.now c.in-Ok-read_back.read.whole (g.D.Disk.file c.args.disk.now)
     (g.D.Disk.file c.renew.new.self) c.in-Ok.ensures.octets left
-    (subst (λ (f : Option DiskFile).
-    OfFiles (Renews c.whole_lines.result.now) f (g.D.Disk.file c.renew.new.self))
-    c.read.ensures.same c.in-Ok-renew.ensures.ok))
+    (renewed_then c.whole_lines.result.now (g.D.Disk.file c.args.disk.now)
+    (g.D.Disk.file c.read.new.self) (g.D.Disk.file c.renew.new.self) c.read.ensures.stays
+    c.in-Ok-renew.ensures.ok))

@@ -1,5 +1,6 @@
 use Rattle.std.proofs.Common.{drop, take}
 use Rattle.std.specs.Prelude.{◌≤◌}
+use Rattle.journal.specs.JournalText.{CanBeSpelled}
 use Rattle.journal.specs.RowLines.{AreLines}
 use Rattle.journal.proofs.row_lines.put_rows.Given as goal
 
@@ -8,4 +9,5 @@ abbrev pub invariant-loop-place : goal.invariant-loop-place
 invariant-loop-place l = record {
   high : l.from ≤ l.place;
   lines : AreLines (drop l.from (take l.place l.book.rows)) l.text.items;
+  spelled : CanBeSpelled (drop l.from (take l.place l.book.rows));
 }

@@ -26,7 +26,7 @@ pub returns-clause-journal : goal.returns-clause-journal
 returns-clause-journal g c =
     journal_stored c.args.book.now.rows _ _ _ _ c.len-count.result
     (subst (IsJournalOf c.args.book.now.rows) (sym c.self.view_is) c.requires.journal)
-    c.if-self.false c.in_ok-put_rows.ensures
+    c.if-self.false c.in_ok-put_rows.ensures.lines c.in_ok-put_rows.ensures.spelled
     (rw (sym c.deref.ensures.value) c.in_ok-append.ensures.ok) c.in_ok-sync.ensures.ok
     c.len-count.ensures.rows
 

@@ -1,0 +1,106 @@
+-- A request that was read can be spelled.
+use Rattle.std.proofs.Common.{◌≡◌, ℕ, List, [], ◌∷◌, Option, Some, None, Result, Ok, Err, refl, sym}
+use Rattle.std.proofs.Common.{ap, ◌∙◌, arith, inl, inr, subst}
+use Rattle.std.specs.List.{AllByRecursion}
+use Rattle.std.proofs.lemmas.Option.{none-some, same_Some}
+use Rattle.hex.specs.Hex.{decode_of}
+use Rattle.hex.specs.declared.error.FromHexError.{FromHexError}
+use Rattle.hex.proofs.HexLemmas.{decode_of-ok}
+use Rattle.site_base.specs.declared.actor.Actor.{Actor}
+use Rattle.site_base.specs.declared.event.Event.{Event}
+use Rattle.site_base.specs.declared.row.Row.{Row}
+use Rattle.app_message.specs.declared.fault.StreamFault.{StreamFault}
+use Rattle.app_message.specs.Spelling.{IsMessage}
+use Rattle.app_message.specs.Stream.{stream_of, walk}
+use Rattle.app_message.specs.Telegram.{Telegram}
+use Rattle.app_message.proofs.SpelledStreams.{octets_are_spelled}
+use Rattle.device_map.specs.declared.fault.MapFault.{MapFault}
+use Rattle.device_map.specs.Laws.{Asks}
+use Rattle.device_map.specs.Requests.{request_at}
+use Rattle.device_map.specs.Ways.{request_by, way_to}
+use Rattle.device_map.proofs.OneRequest.{alone}
+use Rattle.written_site.specs.SiteRun.{events_of}
+use Rattle.site_book.specs.Book.{Book}
+use Rattle.journal.specs.History.{empty_book}
+use Rattle.journal.specs.JournalLines.{request_alone, request_decoded, request_in, request_meant}
+use Rattle.journal.specs.JournalLines.{requests_in}
+use Rattle.journal.specs.JournalText.{CanBeSpelled}
+use Rattle.journal.specs.Readings.{IsRead}
+use Rattle.journal.proofs.Lines.{led}
+use Rattle.journal.proofs.Readings.{rows_again}
+
+-- the request, with token 0, can be spelled
+abbrev IsSpelled : Actor × Event → Type 0
+IsSpelled e = Asks 0 e.0 e.1 (request_by 0 e.0 (way_to e.1))
+
+-- whatever token it was told with
+told_again : (m : Telegram) (actor : Actor) (event : Event) → IsMessage m
+    → request_at m ≡ Ok (actor, event) → IsSpelled (actor, event)
+unfolding request_at
+told_again m actor event valid is =
+    let told : Telegram = record m { token = 0 } in
+    let asks : Asks 0 actor event told = record {
+      message = record {
+        head = record {
+          to_size = valid.head.to_size;
+          to_octets = valid.head.to_octets;
+          from_size = valid.head.from_size;
+          from_octets = valid.head.from_octets;
+          in_range = omega arith;
+        };
+        address_least = valid.address_least;
+        address_most = valid.address_most;
+        address_octets = valid.address_octets;
+        items = valid.items;
+        least = valid.least;
+        most = valid.most;
+      };
+      told = refl;
+      asks = is;
+    } in
+    subst (λ (x : Telegram). Asks 0 actor event x) (alone 0 actor event told asks) asks
+
+meant_spelled : (m : Telegram) (r : Result (Actor × Event) MapFault) (e : Actor × Event)
+    → IsMessage m → request_at m ≡ r → request_meant r ≡ Some e → IsSpelled e
+meant_spelled m (Ok request) e valid at is =
+    subst IsSpelled (same_Some request e is) (told_again m request.0 request.1 valid at)
+meant_spelled m (Err f) e valid at is = absurd (none-some e is)
+
+alone_spelled : (ms : List Telegram) (rest : List ℕ) (fault : Option StreamFault)
+    (e : Actor × Event) → AllByRecursion IsMessage ms → request_alone ms rest fault ≡ Some e
+    → IsSpelled e
+alone_spelled (m ∷ []) [] None e valid is = meant_spelled m (request_at m) e valid.0 refl is
+alone_spelled ms rest fault e valid is = absurd (none-some e is)
+
+line_spelled : (line : List ℕ) (r : Result (List ℕ) FromHexError) (e : Actor × Event)
+    → decode_of line ≡ r → request_decoded r ≡ Some e → IsSpelled e
+unfolding walk
+line_spelled line (Ok octets) e decoded is =
+    let s = stream_of octets in
+    alone_spelled s.messages s.rest s.fault e
+    (octets_are_spelled octets (decode_of-ok line octets decoded).3).valid is
+line_spelled line (Err f) e decoded is = absurd (none-some e is)
+
+lines_spelled : (lines : List (List ℕ)) (events : List (Actor × Event))
+    → requests_in lines ≡ Some events → AllByRecursion IsSpelled events
+lines_spelled [] events is = subst (AllByRecursion IsSpelled) (same_Some [] events is) tt
+lines_spelled (line ∷ lines) events is =
+    let l = led (request_in line) (requests_in lines) events is in
+    subst (AllByRecursion IsSpelled) (sym l.whole) (
+      line_spelled line (decode_of line) l.first refl l.is_first,
+      lines_spelled lines l.others l.are_others,
+    )
+
+rows_spelled : (rows : List Row) → AllByRecursion IsSpelled (events_of rows) → CanBeSpelled rows
+rows_spelled [] all = tt
+rows_spelled (r ∷ rows) all = (all.0, rows_spelled rows all.1)
+
+-- so can each row of a book that was read
+pub read_spelled : (header octets : List ℕ) (whole : ℕ) (b : Book) → IsRead header octets whole b
+    → CanBeSpelled b.rows
+read_spelled header octets whole b (inl begun) = subst CanBeSpelled (sym begun.rows) tt
+read_spelled header octets whole b (inr back) =
+    let again = rows_again (empty_book b.config) b back.events back.made in
+    let asked : events_of b.rows ≡ back.events = ap events_of again.rows ∙ again.asked in
+    rows_spelled b.rows (subst (AllByRecursion IsSpelled) (sym asked)
+    (lines_spelled back.tells.tells.lines back.events back.tells.tells.requests))
