@@ -12,6 +12,7 @@
  *                      one is lost, as where the power fails
  *   MOVE_AT_SYNC=K     at the Kth, somebody moves the file `journal` to `moved`, and puts another one
  *                      in its place
+ *   SWAP_AT_SYNC=K     at the Kth, somebody puts another file in the place of `journal.starting`
  *   FAIL_LOCK=K        the Kth file that is to be locked isn't
  *   FAIL_RENAME=K      the Kth file that is to be named anew isn't
  *   FAIL_RECEIVE=K     the Kth read of a socket fails
@@ -71,7 +72,7 @@ static int fails(const char *name, long *calls)
 }
 
 static long allocations, reads, file_reads, writes, taken, received, sent, blocked;
-static long file_writes, syncs, synced, moves, locks, renames;
+static long file_writes, syncs, synced, moves, swaps, locks, renames;
 static int read_before, file_read_before, written_before, received_before, sent_before;
 static int file_written_before, synced_before;
 
@@ -206,6 +207,10 @@ static int fails_to_sync(int file)
     if (fails("MOVE_AT_SYNC", &moves)) {
         (void)!syscall(SYS_rename, "journal", "moved");
         close(open("journal", O_CREAT | O_WRONLY | O_EXCL, 0600));
+    }
+    if (fails("SWAP_AT_SYNC", &swaps)) {
+        (void)!syscall(SYS_unlink, "journal.starting");
+        close(open("journal.starting", O_CREAT | O_WRONLY | O_EXCL, 0600));
     }
     if (fails("FAIL_SYNC", &syncs)) {
         if (size_of(file) > synced)

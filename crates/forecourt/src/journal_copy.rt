@@ -9,6 +9,11 @@ use std::path::PathBuf;
 /// What stands behind a journal's name in that of its copy.
 const COPY_EXTENSION: &str = "starting";
 
+/// May a start's copy have this name? No journal does: a start of another one might remove it.
+pub fn is_copy_name(name: &str) -> bool {
+    name.rsplit_once('.').is_some_and(|(_, extension)| extension == COPY_EXTENSION)
+}
+
 /// Puts a copy with these octets in a file's place. It is locked, and has the file's owner and
 /// leave; all of it is on the disk before it takes the name.
 pub fn put_copy(rt: &HostRuntime, file: &File, name: &str, octets: &[u8]) -> io::Result<File> {
@@ -22,6 +27,7 @@ pub fn put_copy(rt: &HostRuntime, file: &File, name: &str, octets: &[u8]) -> io:
         rt,
         file,
         name,
+        &copy,
         copy_name.as_str(),
     )) {
         Ok(()) => Ok(copy),
@@ -59,13 +65,22 @@ fn remove_left(rt: &HostRuntime, copy_name: &str) -> io::Result<()> {
     }
 }
 
-/// Gives the copy the file's name, while it is the file's: a journal that was moved away meanwhile
-/// stays where it is, and what has its name then is another's.
-fn take_place(rt: &HostRuntime, file: &File, name: &str, copy_name: &str) -> io::Result<()> {
-    if !is_at(rt, name, file) {
-        return Err(io::Error::from(ErrorKind::NotFound));
+/// Gives the copy the file's name, while each has its own: a journal that was moved away meanwhile
+/// stays where it is, and what has its name then, or the copy's, is another's.
+fn take_place(
+    rt: &HostRuntime,
+    file: &File,
+    name: &str,
+    copy: &File,
+    copy_name: &str,
+) -> io::Result<()> {
+    if is_at(rt, name, file) && is_at(rt, copy_name, copy) {
+        fs::rename(rt, copy_name, name)?;
+        if is_at(rt, name, copy) {
+            return Ok(());
+        }
     }
-    fs::rename(rt, copy_name, name)
+    Err(io::Error::from(ErrorKind::NotFound))
 }
 
 /// Locks a copy, and puts the octets into it, with the file's owner, where that may be, and its

@@ -1,6 +1,6 @@
 //! The file of a journal.
 
-use crate::journal_copy::{lock, put_copy};
+use crate::journal_copy::{is_copy_name, lock, put_copy};
 use journal::{Disk, DiskFault};
 use std::alloc::{AllocError, Global};
 use std::fs::{self, File, Metadata, OpenOptions};
@@ -12,8 +12,9 @@ use std::path::PathBuf;
 /// What a new journal's file lets whom do: its owner reads and writes it, and nobody else.
 const OWNER_ALONE: u32 = 0o600;
 
-/// The standard streams that are written to.
-const OUTPUTS: [&str; 2] = ["/dev/stdout", "/dev/stderr"];
+/// Where this process prints, and where it tells its faults.
+const OUTPUT: &str = "/dev/stdout";
+const ERRORS: &str = "/dev/stderr";
 
 /// A journal's file, which this process has locked.
 #[derive(Drop)]
@@ -36,10 +37,12 @@ pub struct JournalFile<'a> {
 pub enum FileFault {
     /// An allocation failed.
     NoMemory,
-    /// It can't be opened, or is no file.
+    /// It can't be opened, or is no file, or has the name of a start's copy.
     Unread,
     /// Another process has it, or it is where this one prints.
     InUse,
+    /// It is where this process tells its faults, so that this one isn't told.
+    Untold,
     /// It can't be made for good.
     Unwritten,
 }
@@ -55,18 +58,24 @@ impl<'a> JournalFile<'a> {
     /// it for good, also where an earlier start ended before it did.
     pub fn open(rt: &'a HostRuntime, name: &str) -> Result<JournalFile<'a>, FileFault> {
         let path = resolve(rt, name)?;
+        if is_copy_name(path.as_str()) {
+            return Err(FileFault::Unread);
+        }
         // First of all, since a folder that can't be opened gets no file.
         let folder = match open_folder(rt, path.as_str()) {
             Ok(folder) => folder,
             Err(error) => return Err(fault_of(&error)),
         };
         let file = open_or_make(rt, path.as_str())?;
+        if is_written_by(rt, ERRORS, &file) {
+            return Err(FileFault::Untold);
+        }
         match lock(&file) {
             Ok(()) => {}
             Err(error) if error.kind() == ErrorKind::WouldBlock => return Err(FileFault::InUse),
             Err(error) => return Err(fault_of(&error)),
         }
-        if !is_at(rt, path.as_str(), &file) || is_printed_to(rt, &file) {
+        if !is_at(rt, path.as_str(), &file) || is_written_by(rt, OUTPUT, &file) {
             return Err(FileFault::InUse);
         }
         match folder.sync_all() {
@@ -87,6 +96,14 @@ impl<'a> JournalFile<'a> {
     fn cut_unflushed(&mut self) {
         if self.earlier.is_some() {
             let _ = self.file.set_len(self.flushed);
+        }
+    }
+
+    /// Has the file so many octets?
+    fn has_len(&self, len: usize) -> bool {
+        match self.file.metadata() {
+            Ok(found) => found.len() == len as u64,
+            Err(_) => false,
         }
     }
 }
@@ -136,27 +153,23 @@ pub fn open_by(rt: &HostRuntime, options: &mut OpenOptions, name: &str) -> io::R
     options.open(rt, name)?.try_clone()
 }
 
-/// Is it this file that has the name? A start just before may have put another one in its place.
+/// Is it this file that has the name, itself and not by a link? A start just before may have put
+/// another one in its place.
 pub fn is_at(rt: &HostRuntime, name: &str, file: &File) -> bool {
-    match (fs::metadata(rt, name), file.metadata()) {
-        (Ok(there), Ok(here)) => is_same(&there, &here),
+    is_of(fs::symlink_metadata(rt, name), file)
+}
+
+/// Does this stream of the process go to the file?
+fn is_written_by(rt: &HostRuntime, stream: &str, file: &File) -> bool {
+    is_of(fs::metadata(rt, stream), file)
+}
+
+/// Is this what is found of the file?
+fn is_of(found: io::Result<Metadata>, file: &File) -> bool {
+    match (found, file.metadata()) {
+        (Ok(there), Ok(here)) => there.dev() == here.dev() && there.ino() == here.ino(),
         _ => false,
     }
-}
-
-/// Does this process print to the file?
-fn is_printed_to(rt: &HostRuntime, file: &File) -> bool {
-    for name in OUTPUTS {
-        if is_at(rt, name, file) {
-            return true;
-        }
-    }
-    false
-}
-
-/// Are these of one file?
-fn is_same(one: &Metadata, other: &Metadata) -> bool {
-    one.dev() == other.dev() && one.ino() == other.ino()
 }
 
 /// The folder of a file of this name.
@@ -190,7 +203,8 @@ impl<'a> Disk for JournalFile<'a> {
             Err(error) => return Err(disk_fault_of(&error)),
         }
         match self.file.read_to_end(&mut octets) {
-            Ok(_) => Ok(octets),
+            Ok(_) if self.has_len(octets.len()) => Ok(octets),
+            Ok(_) => Err(DiskFault::Failed),
             Err(error) => Err(disk_fault_of(&error)),
         }
     }

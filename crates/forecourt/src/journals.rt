@@ -67,6 +67,7 @@ fn exit_file(rt: &impl Eprint, name: &str, fault: FileFault) -> ExitCode {
         FileFault::NoMemory => exit_no_memory(rt),
         FileFault::Unread => exit_with(eprintln!(rt; "cannot read {name}"), FAULT),
         FileFault::InUse => exit_with(eprintln!(rt; "journal in use"), FAULT),
+        FileFault::Untold => ExitCode::from(FAULT),
         FileFault::Unwritten => exit_unwritten(rt),
     }
 }
