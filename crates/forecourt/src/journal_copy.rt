@@ -11,7 +11,8 @@ const COPY_EXTENSION: &str = "starting";
 
 /// May a start's copy have this name? No journal does: a start of another one might remove it.
 pub fn is_copy_name(name: &str) -> bool {
-    name.rsplit_once('.').is_some_and(|(_, extension)| extension == COPY_EXTENSION)
+    name.rsplit_once('.')
+        .is_some_and(|(_, extension)| extension == COPY_EXTENSION)
 }
 
 /// Puts a copy with these octets in a file's place. It is locked, and has the file's owner and

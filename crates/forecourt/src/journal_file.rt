@@ -14,6 +14,7 @@ const OWNER_ALONE: u32 = 0o600;
 
 /// Where this process prints, and where it tells its faults.
 const OUTPUT: &str = "/dev/stdout";
+
 const ERRORS: &str = "/dev/stderr";
 
 /// A journal's file, which this process has locked.
