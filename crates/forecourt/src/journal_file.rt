@@ -12,9 +12,10 @@ use std::path::PathBuf;
 /// What a new journal's file lets whom do: its owner reads and writes it, and nobody else.
 const OWNER_ALONE: u32 = 0o600;
 
-/// Where this process prints, and where it tells its faults.
+/// Where this process prints.
 const OUTPUT: &str = "/dev/stdout";
 
+/// Where it tells its faults.
 const ERRORS: &str = "/dev/stderr";
 
 /// A journal's file, which this process has locked.
