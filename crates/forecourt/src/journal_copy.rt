@@ -11,8 +11,9 @@ const COPY_EXTENSION: &str = "starting";
 
 /// May a start's copy have this name? No journal does: a start of another one might remove it.
 pub fn is_copy_name(name: &str) -> bool {
-    name.rsplit_once('.')
-        .is_some_and(|(_, extension)| extension == COPY_EXTENSION)
+    name.rsplit_once('.').is_some_and(|(_, extension)| extension.eq_ignore_ascii_case(
+        COPY_EXTENSION,
+    ))
 }
 
 /// Puts a copy with these octets in a file's place. It is locked, and has the file's owner and
@@ -31,7 +32,8 @@ pub fn put_copy(rt: &HostRuntime, file: &File, name: &str, octets: &[u8]) -> io:
         &copy,
         copy_name.as_str(),
     )) {
-        Ok(()) => Ok(copy),
+        Ok(()) if is_at(rt, name, &copy) => Ok(copy),
+        Ok(()) => Err(io::Error::from(ErrorKind::NotFound)),
         Err(error) => {
             if is_at(rt, copy_name.as_str(), &copy) {
                 let _ = fs::remove_file(rt, &copy_name);
@@ -76,10 +78,7 @@ fn take_place(
     copy_name: &str,
 ) -> io::Result<()> {
     if is_at(rt, name, file) && is_at(rt, copy_name, copy) {
-        fs::rename(rt, copy_name, name)?;
-        if is_at(rt, name, copy) {
-            return Ok(());
-        }
+        return fs::rename(rt, copy_name, name);
     }
     Err(io::Error::from(ErrorKind::NotFound))
 }

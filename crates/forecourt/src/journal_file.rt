@@ -101,6 +101,15 @@ impl<'a> JournalFile<'a> {
         }
     }
 
+    /// Has all octets on the disk. A file system that stops because of a failure may answer a flush
+    /// well that it didn't make, but it takes no change then: so one is asked for that changes
+    /// nothing.
+    fn flush(&self) -> io::Result<()> {
+        self.file.sync_data()?;
+        let found = self.file.metadata()?;
+        self.file.set_len(found.len())
+    }
+
     /// Has the file so many octets?
     fn has_len(&self, len: usize) -> bool {
         match self.file.metadata() {
@@ -225,7 +234,7 @@ impl<'a> Disk for JournalFile<'a> {
     }
 
     fn sync(&mut self) -> Result<(), DiskFault> {
-        match self.file.sync_data() {
+        match self.flush() {
             Ok(()) => {
                 self.flushed = self.len;
                 Ok(())
