@@ -10,7 +10,10 @@
  *   SHORT_JOURNAL_WRITE=M  such a write takes at most M octets
  *   FAIL_SYNC=K        the Kth fdatasync or fsync fails, and what came to its file behind the last
  *                      one is lost, as where the power fails
- *   MOVE_AT_SYNC=K     at the Kth, somebody moves the file `journal` to `moved`, and puts another one
+ *   STOP_AT_SYNC=K     at the Kth fdatasync the file system stops: what came to the file behind the one
+ *                      before is lost, though the call says that all is well, and from then on no
+ *                      file is given another length
+ *   MOVE_AT_SYNC=K     at the Kth fdatasync or fsync, somebody moves the file `journal` to `moved`, and puts another one
  *                      in its place
  *   SWAP_AT_SYNC=K     at the Kth, somebody puts another file in the place of `journal.starting`
  *   FAIL_LOCK=K        the Kth file that is to be locked isn't
@@ -72,7 +75,8 @@ static int fails(const char *name, long *calls)
 }
 
 static long allocations, reads, file_reads, writes, taken, received, sent, blocked;
-static long file_writes, syncs, synced, moves, swaps, locks, renames;
+static long file_writes, syncs, synced, stops, moves, swaps, locks, renames;
+static int has_stopped;
 static int read_before, file_read_before, written_before, received_before, sent_before;
 static int file_written_before, synced_before;
 
@@ -233,7 +237,26 @@ static int sync_by(long call, int file)
 
 int fdatasync(int file)
 {
+    if (fails("STOP_AT_SYNC", &stops)) {
+        has_stopped = 1;
+        (void)!syscall(SYS_ftruncate, file, synced);
+        return 0;
+    }
     return sync_by(SYS_fdatasync, file);
+}
+
+int ftruncate(int file, off_t size)
+{
+    if (has_stopped) {
+        errno = EROFS;
+        return -1;
+    }
+    return syscall(SYS_ftruncate, file, size);
+}
+
+int ftruncate64(int file, off64_t size)
+{
+    return ftruncate(file, size);
 }
 
 int fsync(int file)
