@@ -10,11 +10,11 @@
  *   SHORT_JOURNAL_WRITE=M  such a write takes at most M octets
  *   FAIL_SYNC=K        the Kth fdatasync or fsync fails, and what came to its file behind the last
  *                      one is lost, as where the power fails
- *   STOP_AT_SYNC=K     at the Kth fdatasync the file system stops: what came to the file behind the one
- *                      before is lost, though the call says that all is well, and from then on no
- *                      file is given another length
- *   MOVE_AT_SYNC=K     at the Kth fdatasync or fsync, somebody moves the file `journal` to `moved`, and puts another one
- *                      in its place
+ *   STOP_AT_SYNC=K     at the Kth fdatasync the file system stops: what came to the file behind the
+ *                      one before is lost, though the call says that all is well, and from then on
+ *                      no file is given another length
+ *   MOVE_AT_SYNC=K     at the Kth fdatasync or fsync, somebody moves the file `journal` to `moved`,
+ *                      and puts another one in its place
  *   SWAP_AT_SYNC=K     at the Kth, somebody puts another file in the place of `journal.starting`
  *   FAIL_LOCK=K        the Kth file that is to be locked isn't
  *   FAIL_RENAME=K      the Kth file that is to be named anew isn't
