@@ -6,7 +6,7 @@ use Rattle.site_base.specs.declared.limits.TheConstants.{GREATEST_CENTS, GROWTH_
 use Rattle.site_base.specs.declared.row.Placed.{Placed}
 use Rattle.site_base.specs.declared.row.Row.{Row}
 use Rattle.site_base.specs.Configured.{Configured}
-use Rattle.site_base.specs.History.{RowList}
+use Rattle.site_book.specs.RowLists.{RowList}
 use Rattle.site_base.specs.Events.{cents_in_reply, growth_in_reply}
 use Rattle.written_site.specs.RowWords.{total}
 use Rattle.written_site.specs.SiteRun.{IsLegal}

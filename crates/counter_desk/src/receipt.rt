@@ -8,9 +8,9 @@ ghost use Rattle.site_base.specs.Events.{cents_in_reply, growth_in_reply};
 ghost use Rattle.counter_desk.specs.Receipts.{cents_receipted, growth_receipted, receipt_at};
 ghost use Rattle.counter_desk.specs.Receipts.{receipted_row};
 
-use site_base::{
-    Actor, Answer, Event, NoMemory, Reply, Row, Rows, cents_in_reply, growth_in_reply,
-};
+use site_base::{Actor, Answer, Event, NoMemory, Reply, Row, cents_in_reply, growth_in_reply};
+
+use site_book::Rows;
 use std::alloc::Global;
 use std::marker::Model;
 

@@ -5,7 +5,8 @@ use crate::lines::read_line;
 use clap::ArgMatches;
 use forecourt_engines::explain::{explain, fault_name};
 use forecourt_engines::{Explained, NumberMeaning, ReplayFault, TextFault, Trace};
-use site_base::{NoMemory, ReadFault};
+use devices::ReadFault;
+use site_base::NoMemory;
 use std::io::BufReader;
 use std::process::ExitCode;
 

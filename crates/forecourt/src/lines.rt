@@ -2,7 +2,7 @@
 
 use crate::exit::{exit_no_memory, exit_replay};
 use forecourt_engines::{LINE_OCTETS, ReplayFault};
-use site_base::ReadFault;
+use devices::ReadFault;
 use std::io::{BufRead, ErrorKind, Read};
 use std::process::ExitCode;
 

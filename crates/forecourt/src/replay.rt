@@ -6,7 +6,8 @@ use crate::files::read_site;
 use clap::ArgMatches;
 use forecourt_engines::known_site;
 use forecourt_engines::replay::replay;
-use site_base::{Counted, SiteConfig};
+use devices::Counted;
+use site_base::SiteConfig;
 use std::process::ExitCode;
 
 /// Answers standard input on the site of a file.

@@ -9,7 +9,8 @@ use forecourt_engines::replay::{ReplayEnd, replay};
 use forecourt_engines::reporting::replay_to_report;
 use forecourt_engines::{ReplayFault, SiteBook};
 use sales_table::totals_text;
-use site_base::{Counted, NoMemory, SiteConfig, write_whole};
+use devices::{Counted, write_whole};
+use site_base::{NoMemory, SiteConfig};
 use std::io;
 use std::process::ExitCode;
 

@@ -7,7 +7,8 @@ use crate::report::{ends_its_text, replay_silently};
 use clap::ArgMatches;
 use forecourt_engines::ReplayFault;
 use sales_table::{Form, TableFault, write_draws, write_sales};
-use site_base::{Counted, SiteConfig};
+use devices::Counted;
+use site_base::SiteConfig;
 use std::process::ExitCode;
 
 /// Which table is printed, and in which form.

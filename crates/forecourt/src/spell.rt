@@ -6,7 +6,7 @@ use crate::exit::{FAULT, exit_no_memory, exit_replay, exit_unwritten, exit_with}
 use crate::lines::read_line;
 use forecourt_engines::words::{LineFault, Token, WordFault, spell_line};
 use forecourt_engines::{LINE_OCTETS, ReplayFault, TextFault};
-use site_base::{Counted, ReadFault, write_whole};
+use devices::{Counted, ReadFault, write_whole};
 use std::io::BufReader;
 use std::process::ExitCode;
 

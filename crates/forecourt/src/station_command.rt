@@ -14,7 +14,7 @@ use clap::ArgMatches;
 use forecourt_days::{DayFault, ReportForm, StationPlan, station_day};
 use journal::Opened;
 use mio::Waker;
-use site_base::{Counted, WriteFault};
+use devices::{Counted, WriteFault};
 use station_server::StationServer;
 use std::io::{ErrorKind, Read};
 use std::process::ExitCode;

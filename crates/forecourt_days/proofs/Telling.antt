@@ -4,8 +4,8 @@ use Rattle.std.specs.Io.KnownBytes.{Appends}
 use Rattle.site_base.specs.declared.actor.Actor.{Actor}
 use Rattle.site_base.specs.declared.event.Event.{Event}
 use Rattle.site_base.specs.Configured.{Configured}
-use Rattle.site_base.specs.Devices.{AppendsFront}
-use Rattle.site_base.proofs.KnownBytes.{Appends-then, Appends-front}
+use Rattle.devices.specs.Devices.{AppendsFront}
+use Rattle.devices.proofs.KnownBytes.{Appends-then, Appends-front}
 use Rattle.counter_desk.specs.declared.settlement.Settled.{Settled}
 use Rattle.forecourt_engines.specs.Report.{report_text}
 use Rattle.forecourt_days.specs.declared.demos.DemoEnd.{DemoEnd}

@@ -3,8 +3,8 @@ use Rattle.std.specs.Prelude.{◌≡◌, ◌⊎◌, ℕ, List, ◌++◌, codes, 
 use Rattle.std.specs.Io.KnownBytes.{Appends}
 use Rattle.std.specs.Result.{IsErrOf}
 use Rattle.site_base.specs.Configured.{Configured}
-use Rattle.site_base.specs.declared.transfer.WriteFault.TheVariants as writes
-use Rattle.site_base.specs.Devices.{AppendsFront, one_more}
+use Rattle.devices.specs.declared.transfer.WriteFault.TheVariants as writes
+use Rattle.devices.specs.Devices.{AppendsFront, one_more}
 use Rattle.counter_desk.specs.declared.receipt.Receipt.{Receipt}
 use Rattle.counter_desk.specs.declared.settlement.Settled.{Settled}
 use Rattle.counter_desk.specs.declared.settlement.SettleFault.{SettleFault}

@@ -4,7 +4,7 @@ use Rattle.std.specs.Io.KnownBytes.{Appends}
 use Rattle.site_base.specs.declared.actor.Actor.{Actor}
 use Rattle.site_base.specs.declared.event.Event.{Event}
 use Rattle.site_base.specs.Configured.{Configured}
-use Rattle.site_base.specs.Devices.{AppendsFront}
+use Rattle.devices.specs.Devices.{AppendsFront}
 use Rattle.counter_desk.specs.declared.receipt.Receipt.{Receipt}
 use Rattle.counter_desk.specs.Settlement.{Settles}
 use Rattle.counter_desk.specs.Work.{Works}

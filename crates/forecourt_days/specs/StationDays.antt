@@ -3,8 +3,8 @@ use Rattle.std.specs.Prelude.{◌≡◌, ℕ, false, List, [], ◌∷◌, ◌++�
 use Rattle.std.specs.Prelude.{codes, decimal}
 use Rattle.serde_json.specs.Written.{compact_text}
 use Rattle.std.specs.Io.KnownBytes.{Appends}
-use Rattle.site_base.specs.declared.transfer.WriteFault.TheVariants as writes
-use Rattle.site_base.specs.Devices.{AppendsFront}
+use Rattle.devices.specs.declared.transfer.WriteFault.TheVariants as writes
+use Rattle.devices.specs.Devices.{AppendsFront}
 use Rattle.written_site.specs.SiteState.{is_signed_on}
 use Rattle.site_book.specs.Book.{Book, site_of_book}
 use Rattle.forecourt_engines.specs.Report.{book_report}

@@ -1,7 +1,8 @@
 //! A till's client over a socket.
 
 use app_message::{Decoder, Messages, encode};
-use site_base::{Counted, NoMemory, PIECE_OCTETS, read_piece, write_whole};
+use devices::{Counted, PIECE_OCTETS, read_piece, write_whole};
+use site_base::NoMemory;
 use std::alloc::Global;
 use std::net::TcpStream;
 

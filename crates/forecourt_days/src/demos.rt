@@ -3,8 +3,8 @@
 ghost use Rattle.std.specs.Prelude.{◌≡◌, ◌^◌, IfOk, OnOk};
 ghost use Rattle.std.specs.Io.KnownBytes.{Appends};
 ghost use Rattle.std.specs.Result.{IsErrOf};
-ghost use Rattle.site_base.specs.Counted.{device_of, failures_of};
-ghost use Rattle.site_base.specs.Devices.{one_more};
+ghost use Rattle.devices.specs.Counted.{device_of, failures_of};
+ghost use Rattle.devices.specs.Devices.{one_more};
 ghost use Rattle.forecourt_engines.specs.Report.{report_text};
 ghost use Rattle.forecourt_days.specs.Demos.{IsSettledDemo, TellsReportFront};
 
@@ -16,7 +16,8 @@ use crate::server::PARTS;
 use crate::writing::put_report;
 use counter_desk::{Desk, ListEnd, Naming, OpenGate, Root, Settled, settle_all, work};
 use demo_script::DemoScript;
-use site_base::{Counted, SiteConfig, WriteFault};
+use devices::{Counted, WriteFault};
+use site_base::SiteConfig;
 use std::alloc::Global;
 use std::io::Write;
 use std::marker::Brand;

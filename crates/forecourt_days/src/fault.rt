@@ -4,7 +4,8 @@ ghost use Rattle.std.specs.Prelude.{◌≡◌};
 ghost use Rattle.forecourt_days.specs.Days.{day_status};
 
 use counter_desk::{Naming, SettleFault, Unsettled};
-use site_base::{NoMemory, WriteFault};
+use devices::WriteFault;
+use site_base::NoMemory;
 use station_server::ServerFault;
 use std::sync::ledger::Ledger;
 use thiserror::Error;

@@ -1,7 +1,7 @@
 //! A day of a server.
 
 ghost use Rattle.std.specs.Prelude.{◌≡◌, ◌^◌};
-ghost use Rattle.site_base.specs.Counted.{device_of, failures_of};
+ghost use Rattle.devices.specs.Counted.{device_of, failures_of};
 ghost use Rattle.forecourt_days.specs.Days.{ServesDay};
 
 use crate::fault::DayFault;
@@ -9,7 +9,8 @@ use crate::listener::Loopback;
 use crate::plan::ServerPlan;
 use crate::writing::{put_listening, put_report};
 use counter_desk::{Desk, Naming, OpenGate, Settled, settle_all};
-use site_base::{Counted, SiteConfig};
+use devices::Counted;
+use site_base::SiteConfig;
 use std::alloc::Global;
 use std::io::Write;
 use std::marker::Brand;

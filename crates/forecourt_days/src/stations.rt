@@ -1,9 +1,9 @@
 //! A day of a station.
 
 ghost use Rattle.std.specs.Prelude.{◌≡◌, IfOk, OnOk, false, string_bytes, true};
-ghost use Rattle.site_base.specs.Counted.{device_of};
+ghost use Rattle.devices.specs.Counted.{device_of};
 ghost use Rattle.std.specs.Io.KnownBytes.{Appends};
-ghost use Rattle.site_base.specs.Devices.{AppendsFront};
+ghost use Rattle.devices.specs.Devices.{AppendsFront};
 ghost use Rattle.forecourt_days.specs.declared.plan.ReportForm.{ReportForm};
 ghost use Rattle.journal.specs.Opening.{HasNobodyOn};
 ghost use Rattle.journal.specs.Stored.{is_all_stored};
@@ -15,7 +15,8 @@ use crate::plan::ReportForm;
 use crate::writing::put_places;
 use forecourt_engines::reporting::report_of_book;
 use journal::{Disk, StoredStation};
-use site_base::{Counted, NoMemory, write_whole};
+use devices::{Counted, write_whole};
+use site_base::NoMemory;
 use site_book::SiteBook;
 use station_server::{Connections, StationServer};
 use std::alloc::Global;

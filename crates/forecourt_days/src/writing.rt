@@ -3,8 +3,8 @@
 ghost use Rattle.std.specs.Prelude.{◌≡◌, ◌≤◌, ◌++◌, length, string_bytes, IfOk, OnOk};
 ghost use Rattle.std.specs.Result.{IsErrOf};
 ghost use Rattle.std.specs.Io.KnownBytes.{Appends};
-ghost use Rattle.site_base.specs.Counted.{device_of, failures_of};
-ghost use Rattle.site_base.specs.Devices.{AppendsFront, one_more};
+ghost use Rattle.devices.specs.Counted.{device_of, failures_of};
+ghost use Rattle.devices.specs.Devices.{AppendsFront, one_more};
 ghost use Rattle.forecourt_engines.specs.Report.{report_text};
 ghost use Rattle.forecourt_days.specs.Days.{listening_line};
 ghost use Rattle.forecourt_days.specs.StationDays.{page_line, places_text};
@@ -12,7 +12,8 @@ ghost use Rattle.forecourt_days.specs.StationDays.{page_line, places_text};
 use crate::fault::DayFault;
 use counter_desk::Settled;
 use forecourt_engines::report::report;
-use site_base::{Counted, NoMemory, SiteConfig, WriteFault, write_whole};
+use devices::{Counted, WriteFault, write_whole};
+use site_base::{NoMemory, SiteConfig};
 use std::alloc::Global;
 use std::io::Write;
 

@@ -3,8 +3,8 @@ use Rattle.std.proofs.Common.{◌≡◌, ℕ, Bool, true, false, List, [], ◌�
 use Rattle.std.proofs.Common.{Result, Ok, Err, refl, ap, subst, ◌∙◌, ◌==◌, nat_le, length}
 use Rattle.std.proofs.Common.{arith, if◌then◌else◌}
 use Rattle.std.specs.Io.KnownBytes.{Appends}
-use Rattle.site_base.specs.Devices.{AppendsFront}
-use Rattle.site_base.proofs.KnownBytes.{Consumes-none}
+use Rattle.devices.specs.Devices.{AppendsFront}
+use Rattle.devices.proofs.KnownBytes.{Consumes-none}
 use Rattle.hex.specs.Hex.{decode_of}
 use Rattle.hex.specs.declared.error.FromHexError.{FromHexError}
 use Rattle.app_message.specs.Stream.{Held, fed_by}

@@ -4,14 +4,14 @@ use Rattle.std.proofs.Common.{[], ◌∷◌, ◌++◌, Option, Some, None, is_so
 use Rattle.std.proofs.Common.{ap, ◌∙◌, subst, append_assoc, append-nil}
 use Rattle.std.specs.Io.KnownBytes.{Appends, Consumes, IsAtEnd}
 use Rattle.std.proofs.lemmas.List.{length-take-le}
-use Rattle.site_base.specs.Devices.{AppendsFront}
-use Rattle.site_base.proofs.KnownBytes.{known, Appends-then, Appends-none, Appends-front}
-use Rattle.site_base.proofs.KnownBytes.{AppendsFront-whole, AppendsFront-longer}
-use Rattle.site_base.proofs.KnownBytes.{Consumes-none, Consumes-then}
+use Rattle.devices.specs.Devices.{AppendsFront}
+use Rattle.devices.proofs.KnownBytes.{known, Appends-then, Appends-none, Appends-front}
+use Rattle.devices.proofs.KnownBytes.{AppendsFront-whole, AppendsFront-longer}
+use Rattle.devices.proofs.KnownBytes.{Consumes-none, Consumes-then}
 use Rattle.forecourt_engines.specs.declared.fault.TextFault.{TextFault}
 use Rattle.forecourt_engines.specs.declared.fault.ReplayFault.{ReplayFault}
 use Rattle.forecourt_engines.specs.declared.fault.ReplayFault.TheVariants as faults
-use Rattle.site_base.specs.declared.limits.TheConstants.{PIECE_OCTETS}
+use Rattle.devices.specs.declared.transfer.TheConstants.{PIECE_OCTETS}
 use Rattle.site_book.specs.Book.{Book}
 use Rattle.forecourt_engines.specs.Text.{State, next, octet_text, after, text_from, end_input, ends}
 use Rattle.forecourt_engines.specs.Text.{last_text, last_says, last_fault, fault_at_end, text_of}

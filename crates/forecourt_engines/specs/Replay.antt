@@ -2,11 +2,11 @@
 use Rattle.std.specs.Prelude.{◌≡◌, ℕ, ◌≤◌, ◌*◌, length, Bool, true, false, ◌⊎◌, List, Option, Some}
 use Rattle.std.specs.Prelude.{None, is_some, Result, Ok, Err}
 use Rattle.std.specs.Io.KnownBytes.{Appends, Consumes, IsAtEnd}
-use Rattle.site_base.specs.Devices.{AppendsFront}
+use Rattle.devices.specs.Devices.{AppendsFront}
 use Rattle.forecourt_engines.specs.declared.fault.TextFault.{TextFault}
 use Rattle.forecourt_engines.specs.declared.fault.ReplayFault.{ReplayFault}
 use Rattle.forecourt_engines.specs.declared.fault.ReplayFault.TheVariants as faults
-use Rattle.site_base.specs.declared.limits.TheConstants.{PIECE_OCTETS}
+use Rattle.devices.specs.declared.transfer.TheConstants.{PIECE_OCTETS}
 use Rattle.site_book.specs.Book.{Book}
 use Rattle.forecourt_engines.specs.Text.{State, after, text_of, fault_of, book_of}
 

@@ -2,10 +2,10 @@
 use Rattle.std.specs.Prelude.{◌≡◌, ℕ, ◌≤◌, ◌*◌, length, false, List, [], Option}
 use Rattle.std.specs.Io.KnownBytes.{Appends, Consumes}
 use Rattle.site_base.specs.Configured.{Configured}
-use Rattle.site_base.specs.Devices.{AppendsFront}
+use Rattle.devices.specs.Devices.{AppendsFront}
 use Rattle.site_book.specs.Book.{Book}
 use Rattle.forecourt_engines.specs.declared.fault.ReplayFault.{ReplayFault}
-use Rattle.site_base.specs.declared.limits.TheConstants.{PIECE_OCTETS}
+use Rattle.devices.specs.declared.transfer.TheConstants.{PIECE_OCTETS}
 use Rattle.forecourt_engines.specs.Replay.{is_early, as_fault, StopsThere}
 use Rattle.forecourt_engines.specs.Report.{book_report}
 use Rattle.forecourt_engines.specs.Text.{State, start, fault_of, book_of}

@@ -4,7 +4,8 @@ ghost use Rattle.std.specs.Prelude.{◌≡◌};
 ghost use Rattle.forecourt_engines.specs.Ends.{exit_status};
 
 use app_message::GrammarFault;
-use site_base::{NoMemory, ReadFault, WriteFault};
+use devices::{ReadFault, WriteFault};
+use site_base::NoMemory;
 use thiserror::Error;
 
 /// What the text of a replay ends with. Lines are counted from 1.

@@ -3,15 +3,16 @@
 ghost use Rattle.std.specs.Prelude.{◌≡◌, ◌≤◌, ◌⊎◌, [], Some, None, true, IfErr, IfOk, OnOk};
 ghost use Rattle.std.specs.Result.{IsErrOf};
 ghost use Rattle.std.specs.Io.KnownBytes.{IsAtEnd};
-ghost use Rattle.site_base.specs.Counted.{device_of, failures_of};
-ghost use Rattle.site_base.specs.Devices.{Rose};
+ghost use Rattle.devices.specs.Counted.{device_of, failures_of};
+ghost use Rattle.devices.specs.Devices.{Rose};
 ghost use Rattle.forecourt_engines.specs.Text.{start};
 ghost use Rattle.forecourt_engines.specs.Replay.{Replayed, ended_with, is_unwritten};
 
 use crate::engine::Engine;
 use crate::fault::{ReplayFault, TextFault};
 use crate::sink::TextSink;
-use site_base::{Counted, PIECE_OCTETS, ReadFault, SiteConfig, WriteFault, read_piece};
+use devices::{Counted, PIECE_OCTETS, ReadFault, WriteFault, read_piece};
+use site_base::SiteConfig;
 use site_book::SiteBook;
 use std::alloc::Global;
 use std::io::{Read, Write};

@@ -4,10 +4,10 @@
 ghost use Rattle.std.specs.Prelude.{◌≡◌, ◌⊎◌, Some, None, string_bytes, IfOk, OnOk};
 ghost use Rattle.std.specs.Result.{IsErrOf, result_err};
 ghost use Rattle.std.specs.Io.KnownBytes.{IsAtEnd, Keeps};
-ghost use Rattle.site_base.specs.Counted.{device_of, failures_of};
-ghost use Rattle.site_base.specs.Devices.{Rose};
+ghost use Rattle.devices.specs.Counted.{device_of, failures_of};
+ghost use Rattle.devices.specs.Devices.{Rose};
 ghost use Rattle.forecourt_engines.specs.Replay.{as_fault};
-ghost use Rattle.site_base.specs.declared.transfer.ReadFault.{ReadFault};
+ghost use Rattle.devices.specs.declared.transfer.ReadFault.{ReadFault};
 ghost use Rattle.forecourt_engines.specs.Report.{book_report};
 ghost use Rattle.forecourt_engines.specs.Reporting.{Reported, WritesReport};
 
@@ -16,7 +16,8 @@ use crate::fault::{ReplayFault, TextFault};
 use crate::replay::run;
 use crate::report::report;
 use crate::sink::NoText;
-use site_base::{Counted, NoMemory, ReadFault, SiteConfig, WriteFault, write_whole};
+use devices::{Counted, ReadFault, WriteFault, write_whole};
+use site_base::{NoMemory, SiteConfig};
 use site_book::SiteBook;
 use std::alloc::Global;
 use std::io::{Read, Write};

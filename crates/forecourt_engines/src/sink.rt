@@ -3,10 +3,10 @@
 ghost use Rattle.std.specs.Prelude.{◌≡◌, ◌≤◌, true, false, Bool, ℕ, List, Option, None, IsOk, OnOk};
 ghost use Rattle.std.specs.Result.{IsErrOf};
 ghost use Rattle.std.specs.Io.KnownBytes.{Appends};
-ghost use Rattle.site_base.specs.Counted.{device_of, failures_of};
-ghost use Rattle.site_base.specs.Devices.{one_more, AppendsFront};
+ghost use Rattle.devices.specs.Counted.{device_of, failures_of};
+ghost use Rattle.devices.specs.Devices.{one_more, AppendsFront};
 
-use site_base::{Counted, WriteFault, write_whole};
+use devices::{Counted, WriteFault, write_whole};
 use std::io::Write;
 
 /// Takes the text of a replay, piece after piece.

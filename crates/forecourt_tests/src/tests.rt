@@ -1,6 +1,7 @@
 //! What no clause says.
 
 mod base;
+mod claims;
 mod days;
 mod files;
 mod replays;

@@ -1,9 +1,11 @@
 pub mod Events
-pub mod Whole
-pub mod Hands
 pub mod Growths
-pub mod Starts
+pub mod Hands
+pub mod Index
 pub mod Lifts
+pub mod Members
+pub mod Starts
 pub mod Suspension
 pub mod TestDraws
+pub mod Whole
 pub mod WorkedPoints

@@ -1,8 +1,9 @@
-pub mod Table
-pub mod KeptPoints
-pub mod Whole
-pub mod PointChecks
-pub mod Step
 pub mod Fields
 pub mod History
+pub mod Holds
+pub mod KeptPoints
 pub mod Laws
+pub mod PointChecks
+pub mod Step
+pub mod Table
+pub mod Whole

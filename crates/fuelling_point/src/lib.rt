@@ -1,8 +1,10 @@
 //! One fuelling point: the machine of its nine states. It takes what tills and its dispenser do in
 //! turn, refuses what the point table doesn't list, and keeps what a fuelling needs until it ends.
-//! It takes no memory.
+//! It takes no memory. Beside it stand the holds of a site: which till holds which point, at most one
+//! till a point, taken and given back without memory.
 #![tactic(auto)]
 
+mod claims;
 mod delivery;
 mod event;
 mod laws;
@@ -10,6 +12,7 @@ mod point;
 mod step;
 mod table;
 
+pub use claims::Claims;
 pub use event::PointEvent;
 pub use laws::{
     kept_from_the_start, nothing_is_never_sold, sold_as_started, sold_at_the_end,

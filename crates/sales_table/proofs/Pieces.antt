@@ -2,9 +2,9 @@
 use Rattle.std.proofs.Common.{◌≡◌, ℕ, List, [], ◌∷◌, ◌++◌, Option, Some, None, flat_map, ap, refl}
 use Rattle.std.proofs.Common.{append-nil, append_assoc, subst, sym, ◌∙◌}
 use Rattle.std.specs.Io.KnownBytes.{Appends}
-use Rattle.site_base.specs.Devices.{AppendsFront}
-use Rattle.site_base.proofs.KnownBytes.{Appends-front, Appends-then, AppendsFront-longer}
-use Rattle.site_base.proofs.KnownBytes.{AppendsFront-so_far}
+use Rattle.devices.specs.Devices.{AppendsFront}
+use Rattle.devices.proofs.KnownBytes.{Appends-front, Appends-then, AppendsFront-longer}
+use Rattle.devices.proofs.KnownBytes.{AppendsFront-so_far}
 use Rattle.site_book.specs.Readings.{IsNext}
 
 pub cons_same : {A : Type 0} (x y : A) (xs ys : List A) → x ≡ y → xs ≡ ys

@@ -1,6 +1,8 @@
 //! Why a table wasn't written whole.
 
-use site_base::{NoMemory, WriteFault};
+use devices::WriteFault;
+
+use site_base::NoMemory;
 use thiserror::Error;
 
 /// Why a table wasn't written whole.

@@ -2,8 +2,8 @@
 
 ghost use Rattle.std.specs.Prelude.{◌≡◌, [], ◌++◌, IfOk, OnOk, codes, string_bytes};
 ghost use Rattle.std.specs.Io.KnownBytes.{Appends};
-ghost use Rattle.site_base.specs.Counted.{device_of};
-ghost use Rattle.site_base.specs.Devices.{AppendsFront};
+ghost use Rattle.devices.specs.Counted.{device_of};
+ghost use Rattle.devices.specs.Devices.{AppendsFront};
 ghost use Rattle.sales_table.specs.Tables.{draw_titles, sale_titles};
 ghost use Rattle.sales_table.specs.Texts.{draw_text, draws_text, head_text, sale_text, sales_text};
 
@@ -12,7 +12,8 @@ use crate::fault::TableFault;
 use crate::form::Form;
 use crate::json_line::{draw_object, sale_object};
 use crate::sale_lines::{sale_line, sale_titles};
-use site_base::{Counted, NoMemory, PIECE_OCTETS, ProductEntry, WriteFault, write_whole};
+use devices::{Counted, PIECE_OCTETS, WriteFault, write_whole};
+use site_base::{NoMemory, ProductEntry};
 use site_book::{Draw, NamedSale, SiteBook};
 use std::alloc::Global;
 use std::io::Write;

@@ -1,6 +1,4 @@
 pub mod Cells
-pub mod KeptRows
-pub mod KnownBytes
 pub mod Numbering
 pub mod Places
 pub mod PointSets

@@ -2,11 +2,7 @@ pub mod Amounts
 pub mod Cells
 pub mod Checks
 pub mod Configured
-pub mod Counted
-pub mod Devices
 pub mod Events
-pub mod History
-pub mod KeptRows
 pub mod Names
 pub mod Members
 pub mod PointSets
@@ -16,5 +12,4 @@ pub mod Refusals
 pub mod SignChanges
 pub mod States
 pub mod Table
-pub mod Transfer
 pub mod Words

@@ -6,9 +6,7 @@ mod actor;
 mod amounts;
 mod answer;
 mod config;
-mod counted;
 mod event;
-mod kept_row;
 mod limits;
 mod listing;
 mod memory;
@@ -18,13 +16,11 @@ mod prices;
 mod product_name;
 mod refusal;
 mod row;
-mod rows;
 mod sale;
 mod signing;
 mod state;
 mod table;
 mod totals;
-mod transfer;
 mod view;
 mod words;
 
@@ -32,11 +28,10 @@ pub use actor::Actor;
 pub use amounts::{Cents, Millilitres, Mills, amount_of, greatest_ml};
 pub use answer::Answer;
 pub use config::{NozzleEntry, PointEntry, ProductEntry, SiteConfig};
-pub use counted::Counted;
 pub use event::Event;
 pub use limits::{
     GREATEST_CENTS, GREATEST_PRESET, GREATEST_PRICE, GREATEST_READING, GREATEST_ROWS, GREATEST_SEQ,
-    GREATEST_SHIFT, GROWTH_LIMIT, NAME_OCTETS, NOZZLE_CELLS, NOZZLES, PIECE_OCTETS, POINT_CELLS,
+    GREATEST_SHIFT, GROWTH_LIMIT, NAME_OCTETS, NOZZLE_CELLS, NOZZLES, POINT_CELLS,
     POINTS, PRODUCT_CELLS, PRODUCTS, REPLACEMENT_LIMIT, TILL_CELLS, TILLS, UNPAID_LIMIT,
 };
 pub use listing::Listing;
@@ -47,12 +42,10 @@ pub use prices::PriceBook;
 pub use product_name::ProductName;
 pub use refusal::{NoRow, Refusal};
 pub use row::{Placed, Reply, Row, cents_in_reply, growth_in_reply};
-pub use rows::Rows;
 pub use sale::SaleId;
 pub use signing::{SignChange, sign_change};
 pub use state::{PointState, Preset, Status};
 pub use table::place_of;
 pub use totals::Totals;
-pub use transfer::{ReadFault, WriteFault, read_piece, write_whole};
 pub use view::{PointView, ProductView, SiteView, TransactionView};
 pub use words::{refusal_name, write_reply};

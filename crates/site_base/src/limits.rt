@@ -56,8 +56,5 @@ pub const GREATEST_SHIFT: u16 = 999;
 /// The most rows that a site file may allow.
 pub const GREATEST_ROWS: u32 = 1_000_000;
 
-/// The octets of one read, at most.
-pub const PIECE_OCTETS: usize = 4_096;
-
 /// The octets of a product's longest name.
 pub const NAME_OCTETS: usize = 20;

@@ -3,5 +3,8 @@ pub mod BookDraws
 pub mod BookSales
 pub mod Changes
 pub mod Figures
+pub mod KeptRows
 pub mod Readings
+pub mod RowLists
 pub mod SignedOn
+pub mod Unpaid

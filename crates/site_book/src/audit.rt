@@ -4,7 +4,9 @@ ghost use Rattle.std.specs.Prelude.{◌≡◌, ◌∷◌, [], IfOk, OnOk};
 ghost use Rattle.written_site.specs.SiteRun.{site_of_rows};
 ghost use Rattle.site_book.specs.Figures.{AreFiguresOf};
 
-use site_base::{NoMemory, Row, Rows, SiteConfig, Totals};
+use crate::rows::Rows;
+
+use site_base::{NoMemory, Row, SiteConfig, Totals};
 use site_core::Site;
 use std::alloc::Global;
 

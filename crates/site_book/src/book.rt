@@ -13,10 +13,11 @@ ghost use Rattle.site_book.specs.SignedOn.{IsTillActor};
 ghost use Rattle.site_book.specs.Book.{AreRowsInRange, book_reply, is_full, site_of_book};
 ghost use Rattle.site_book.specs.Book.{with_row_of};
 
+use crate::rows::Rows;
 use crate::tills::tills_with;
 use site_base::{
-    Actor, Answer, Event, FpNo, NoMemory, NoRow, Placed, PointView, Row, Rows, SignChange,
-    SiteConfig, TillNo, sign_change,
+    Actor, Answer, Event, FpNo, NoMemory, NoRow, Placed, PointView, Row, SignChange, SiteConfig,
+    TillNo, sign_change,
 };
 use site_core::Site;
 use std::alloc::Global;

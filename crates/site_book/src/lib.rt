@@ -1,5 +1,6 @@
 //! The book of a site: its history, row by row, with the site that the rows lead to. An auditor
-//! replays it and counts every figure anew; the counter desk holds it under its lock.
+//! replays it and counts every figure anew; the counter desk holds it under its lock. A list of rows
+//! keeps each in 64 octets, and the unpaid transactions are kept while the book goes on.
 #![tactic(auto)]
 
 mod audit;
@@ -8,14 +9,19 @@ mod changes;
 mod draw;
 mod draws;
 mod figures;
+mod kept_row;
 mod named_sale;
+mod rows;
 mod sales;
 mod site_reads;
 mod tills;
+mod unpaid_sales;
 
 pub use audit::audit_rows;
 pub use book::SiteBook;
 pub use draw::Draw;
 pub use draws::Draws;
 pub use named_sale::NamedSale;
+pub use rows::Rows;
 pub use sales::Sales;
+pub use unpaid_sales::UnpaidSales;

@@ -8,7 +8,7 @@ use Rattle.std.specs.FinMap as finite
 use Rattle.std.specs.FinMap.{FinMap, same_map, get-remove, get-retain_keys, nat_cmp-IsAntisymmetric}
 use Rattle.fuelling_point.specs.KeptPoints.{Facts}
 use Rattle.site_base.specs.Table.{row_of}
-use Rattle.till_claims.specs.Holds.{is_held_by}
+use Rattle.fuelling_point.specs.Holds.{is_held_by}
 use Rattle.written_site.specs.SiteState.{rests, facts_in, is_resting}
 use Rattle.written_site.specs.SiteStep.{ends_at_sign_off, holds_without}
 

@@ -17,7 +17,7 @@ use Rattle.fuelling_point.specs.declared.event.PointEvent.TheVariants as points
 use Rattle.meters.specs.Nozzles.{has_nozzle, reading_of, times_replaced, with_last, with_meter}
 use Rattle.meters.specs.Reports.{report_refusal}
 use Rattle.meters.specs.declared.report.Report.TheVariants.{Growing}
-use Rattle.till_claims.specs.Holds.{is_free_for}
+use Rattle.fuelling_point.specs.Holds.{is_free_for}
 use Rattle.transaction_buffer.specs.FoundSales.{IsPlaced, key_of}
 use Rattle.transaction_buffer.specs.Rooms.{room_at}
 use Rattle.transaction_buffer.specs.TransactionTable as transactions

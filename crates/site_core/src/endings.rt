@@ -17,7 +17,7 @@ use site_base::{
     Answer, FpNo, Millilitres, Mills, NozzleNo, ProductNo, Seq, Status, TillNo, TransactionView,
     amount_of,
 };
-use till_claims::Claims;
+use fuelling_point::Claims;
 
 impl SiteParts {
     /// Tells a step of the point, which took this growth. Where it ends a fuelling, its sale or its

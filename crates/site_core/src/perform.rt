@@ -16,7 +16,7 @@ use crate::ready::Ready;
 use crate::site_parts::SiteParts;
 use fuelling_point::PointEvent;
 use site_base::{Answer, FpNo, Millilitres, NozzleNo, TillNo};
-use till_claims::Claims;
+use fuelling_point::Claims;
 
 impl SiteParts {
     /// Does what has passed its checks, and answers it. What an event needs of its own stands in a

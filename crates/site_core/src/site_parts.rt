@@ -15,7 +15,7 @@ use crate::tills::Tills;
 use meters::Meters;
 use site_base::{Actor, Event, NoMemory, PriceBook, Reply, SiteConfig, TillNo};
 use std::alloc::Global;
-use till_claims::Claims;
+use fuelling_point::Claims;
 
 /// The points, their nozzles' meters, which till holds which point, the prices, the tills that are
 /// managers and those that are signed on, and the sales with the figures of the shifts.

@@ -9,7 +9,7 @@ use Rattle.site_base.specs.declared.actor.Actor.TheVariants.{Till}
 use Rattle.site_base.specs.declared.event.Event.{Event}
 use Rattle.site_base.specs.declared.event.Event.TheVariants.{SignOff}
 use Rattle.site_base.specs.declared.refusal.NoRow.TheVariants as norow
-use Rattle.site_base.specs.Devices.{one_more}
+use Rattle.devices.specs.Devices.{one_more}
 use Rattle.app_message.specs.declared.fault.StreamFault.{StreamFault}
 use Rattle.app_message.specs.Spelling.{spelling}
 use Rattle.app_message.specs.Stream.{Held, Stream, fed_by, held_part, held_after}

@@ -10,8 +10,8 @@ use Rattle.station.specs.Sessions.{Grants}
 use Rattle.journal.specs.Stored.{StoredState, with_station}
 use Rattle.journal.proofs.JournalLaws.{moves_add}
 use Rattle.journal.proofs.Made.{Adds}
-use Rattle.unpaid_sales.specs.Unpaid.{GoesBy, Kept}
-use Rattle.unpaid_sales.proofs.Growing.{goes_on}
+use Rattle.site_book.specs.Unpaid.{GoesBy, Kept}
+use Rattle.site_book.proofs.Growing.{goes_on}
 use Rattle.station_server.specs.declared.calls.Call.{Call}
 use Rattle.station_server.specs.declared.calls.Call.TheVariants.{Ended, Failed, Interrupted}
 use Rattle.station_server.specs.declared.calls.Call.TheVariants.{Passed, Waits}

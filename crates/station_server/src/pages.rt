@@ -3,7 +3,7 @@
 ghost use Rattle.std.specs.Prelude.{◌≡◌, IfOk};
 ghost use Rattle.serde_json.specs.Written.{compact_text};
 ghost use Rattle.site_json.specs.SiteData.{site_data};
-ghost use Rattle.unpaid_sales.specs.Unpaid.{GoesBy, unpaid_sales};
+ghost use Rattle.site_book.specs.Unpaid.{GoesBy, unpaid_sales};
 
 use crate::connections::both_ways;
 use crate::page_link::{PageLink, Progress};
@@ -18,7 +18,7 @@ use std::alloc::Global;
 use std::hash::RandomState;
 use std::io::ErrorKind;
 use std::time::Instant;
-use unpaid_sales::UnpaidSales;
+use site_book::UnpaidSales;
 
 /// The page's listener, and its connections by their places. They are lent the book, and can't
 /// change it.

@@ -1,7 +1,7 @@
 //! The server: it waits until connections are ready, round after round.
 
 ghost use Rattle.std.specs.Prelude.{◌≡◌, OnOk, true};
-ghost use Rattle.unpaid_sales.specs.Unpaid.{GoesBy};
+ghost use Rattle.site_book.specs.Unpaid.{GoesBy};
 ghost use Rattle.station.specs.Reads.{HasNoPeer};
 ghost use Rattle.journal.specs.Stored.{is_all_stored};
 ghost use Rattle.station_server.specs.Reaches.{Reaches};
@@ -24,7 +24,7 @@ use std::net::{Ipv4Addr, Net, SocketAddr, SocketAddrV4};
 use std::random::RandomSource;
 use std::sync::Wait;
 use std::time::{Clock, Duration, Instant};
-use unpaid_sales::UnpaidSales;
+use site_book::UnpaidSales;
 
 /// What a new connection is reported under.
 const LISTENER: Token = Token(usize::MAX);

@@ -9,10 +9,10 @@ use Rattle.std.specs.Io.KnownBytes.{Appends, Consumes, Keeps}
 use Rattle.site_base.specs.declared.actor.Actor.{Actor}
 use Rattle.site_base.specs.declared.event.Event.{Event}
 use Rattle.site_base.specs.declared.row.Row.{Row}
-use Rattle.site_base.specs.Devices.{AppendsFront}
-use Rattle.site_base.proofs.KnownBytes.{Appends-then, Appends-front, AppendsFront-so_far}
-use Rattle.site_base.proofs.KnownBytes.{AppendsFront-whole, Consumes-none, Consumes-then}
-use Rattle.site_base.proofs.KnownBytes.{Consumes-kept}
+use Rattle.devices.specs.Devices.{AppendsFront}
+use Rattle.devices.proofs.KnownBytes.{Appends-then, Appends-front, AppendsFront-so_far}
+use Rattle.devices.proofs.KnownBytes.{AppendsFront-whole, Consumes-none, Consumes-then}
+use Rattle.devices.proofs.KnownBytes.{Consumes-kept}
 use Rattle.app_message.specs.declared.fault.StreamFault.{StreamFault}
 use Rattle.app_message.specs.Spelling.{spelling}
 use Rattle.app_message.specs.Stream.{Held, Stream, fed_by, held_part, held_after, stream_of, walk}
@@ -24,7 +24,7 @@ use Rattle.till_session.specs.declared.fault.SessionFault.{SessionFault}
 use Rattle.till_session.specs.declared.fault.SessionFault.TheVariants as faults
 use Rattle.till_session.specs.declared.fault.TalkFault.{TalkFault}
 use Rattle.till_session.specs.declared.fault.TalkFault.TheVariants.{OriginatorChanged}
-use Rattle.site_base.specs.declared.limits.TheConstants.{PIECE_OCTETS}
+use Rattle.devices.specs.declared.transfer.TheConstants.{PIECE_OCTETS}
 use Rattle.till_session.specs.Counters.{Asked, outcome_given, request_asked}
 use Rattle.till_session.specs.Course.{EndsStream, GoesOn, IsCut, IsOver, TalkState, Talked}
 use Rattle.till_session.specs.Course.{ends_talk, opening_talk}

@@ -10,8 +10,8 @@ use Rattle.std.proofs.lemmas.List.{map-append, take_more}
 use Rattle.site_base.specs.declared.actor.Actor.{Actor}
 use Rattle.site_base.specs.declared.event.Event.{Event}
 use Rattle.site_base.specs.declared.row.Row.{Row}
-use Rattle.site_base.specs.Devices.{AppendsFront, greatest_count, one_more}
-use Rattle.site_base.proofs.KnownBytes.{Appends-then, Appends-none}
+use Rattle.devices.specs.Devices.{AppendsFront, greatest_count, one_more}
+use Rattle.devices.proofs.KnownBytes.{Appends-then, Appends-none}
 use Rattle.app_message.specs.Telegram.{Telegram}
 use Rattle.device_map.specs.declared.fault.MapFault.{MapFault}
 use Rattle.device_map.specs.Faults.{map_number}

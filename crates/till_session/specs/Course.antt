@@ -6,7 +6,7 @@ use Rattle.site_base.specs.declared.actor.Actor.{Actor}
 use Rattle.site_base.specs.declared.actor.Actor.TheVariants.{Till, Dispenser}
 use Rattle.site_base.specs.declared.event.Event.{Event}
 use Rattle.site_base.specs.declared.row.Row.{Row}
-use Rattle.site_base.specs.Devices.{one_more, AppendsFront}
+use Rattle.devices.specs.Devices.{one_more, AppendsFront}
 use Rattle.app_message.specs.declared.fault.StreamFault.{StreamFault}
 use Rattle.app_message.specs.Spelling.{spelling}
 use Rattle.app_message.specs.Telegram.{Telegram}

@@ -3,8 +3,8 @@ use Rattle.std.specs.Prelude.{◌≡◌, ℕ, ◌*◌, ◌≤◌, Bool, true, fa
 use Rattle.std.specs.Prelude.{min, Option, Some, None, IfSome, is_some}
 use Rattle.std.specs.Io.KnownBytes.{Appends, Consumes}
 use Rattle.site_base.specs.declared.row.Row.{Row}
-use Rattle.site_base.specs.Devices.{AppendsFront, greatest_count}
-use Rattle.site_base.specs.Transfer.{read_fault_number, write_fault_number}
+use Rattle.devices.specs.Devices.{AppendsFront, greatest_count}
+use Rattle.devices.specs.Transfer.{read_fault_number, write_fault_number}
 use Rattle.app_message.specs.Numbers.{grammar_number}
 use Rattle.app_message.specs.Stream.{stream_of}
 use Rattle.till_session.specs.declared.fault.SessionFault.{SessionFault}
@@ -12,7 +12,7 @@ use Rattle.till_session.specs.declared.fault.SessionFault.TheVariants as faults
 use Rattle.till_session.specs.declared.fault.TalkFault.{TalkFault}
 use Rattle.till_session.specs.declared.fault.TalkFault.TheVariants as talk
 use Rattle.till_session.specs.declared.session.SessionEnd.{SessionEnd}
-use Rattle.site_base.specs.declared.limits.TheConstants.{PIECE_OCTETS}
+use Rattle.devices.specs.declared.transfer.TheConstants.{PIECE_OCTETS}
 use Rattle.till_session.specs.Counters.{Asked, IsLeft, is_the_one, outcome_given, request_asked}
 use Rattle.till_session.specs.Counters.{rows_made, signed_on_after}
 use Rattle.till_session.specs.Course.{TalkState}

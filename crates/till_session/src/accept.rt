@@ -19,7 +19,7 @@ pub enum NoConnection {
 pub trait Accept {
     ghost use Rattle.std.specs.Prelude.{◌≡◌, ℕ, OnOk};
     ghost use Rattle.std.specs.Result.{IsErrOf};
-    ghost use Rattle.site_base.specs.Devices.{one_more};
+    ghost use Rattle.devices.specs.Devices.{one_more};
 
     /// What a connection's octets are read from.
     type Reader: Read + Send + Sync + Drop;

@@ -4,7 +4,8 @@ ghost use Rattle.std.specs.Prelude.{◌≡◌};
 ghost use Rattle.till_session.specs.Ends.{session_number, talk_number};
 
 use app_message::GrammarFault;
-use site_base::{NoMemory, ReadFault, WriteFault};
+use devices::{ReadFault, WriteFault};
+use site_base::NoMemory;
 use thiserror::Error;
 
 /// The number by which another originator than the session's is told that it is another.

@@ -3,8 +3,8 @@
 ghost use Rattle.std.specs.Prelude.{◌≡◌, ℕ, true, false, Some, None, is_some, IfSome, OnOk};
 ghost use Rattle.std.specs.Result.{IsErrOf, result_err};
 ghost use Rattle.std.specs.Io.KnownBytes.{IsAtEnd};
-ghost use Rattle.site_base.specs.Counted.{device_of, failures_of};
-ghost use Rattle.site_base.specs.Devices.{Rose};
+ghost use Rattle.devices.specs.Counted.{device_of, failures_of};
+ghost use Rattle.devices.specs.Devices.{Rose};
 ghost use Rattle.till_session.specs.Counters.{is_the_one};
 ghost use Rattle.till_session.specs.Course.{opening_talk};
 ghost use Rattle.till_session.specs.Ends.{as_session_fault, Conversed, IsClosed, Served};
@@ -14,7 +14,7 @@ use crate::counter::Counter;
 use crate::fault::{SessionFault, TalkFault};
 use crate::talk::Talk;
 use app_message::{Decoder, Messages};
-use site_base::{Counted, PIECE_OCTETS, ReadFault, WriteFault, read_piece};
+use devices::{Counted, PIECE_OCTETS, ReadFault, WriteFault, read_piece};
 use std::alloc::Global;
 use std::io::{Read, Write};
 

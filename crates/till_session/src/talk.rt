@@ -3,8 +3,8 @@
 ghost use Rattle.std.specs.Prelude.{◌≡◌, ◌≤◌, ◌++◌, ℕ, true, [], ◌∷◌, IfOk, OnOk, IfErr, IsErr};
 ghost use Rattle.std.specs.Result.{IsErrOf, result_err};
 ghost use Rattle.std.specs.Io.KnownBytes.{Appends};
-ghost use Rattle.site_base.specs.Counted.{device_of, failures_of};
-ghost use Rattle.site_base.specs.Devices.{AppendsFront, Rose, one_more};
+ghost use Rattle.devices.specs.Counted.{device_of, failures_of};
+ghost use Rattle.devices.specs.Devices.{AppendsFront, Rose, one_more};
 ghost use Rattle.app_message.specs.Spelling.{spelling};
 ghost use Rattle.device_map.specs.Replies.{fault_message};
 ghost use Rattle.till_session.specs.Counters.{owed_by, row_made, signed_by};
@@ -18,10 +18,8 @@ use crate::counter::Counter;
 use crate::fault::{ORIGINATOR_CHANGED, SessionFault, TalkFault};
 use app_message::{Message, StreamFault, encode_into};
 use device_map::{MapFault, refusal_in, reply_in, request_of, stream_refusal};
-use site_base::{
-    Actor, Counted, Event, NoMemory, NoRow, Reply, SignChange, TillNo, WriteFault, sign_change,
-    write_whole,
-};
+use devices::{Counted, WriteFault, write_whole};
+use site_base::{Actor, Event, NoMemory, NoRow, Reply, SignChange, TillNo, sign_change};
 use std::alloc::Global;
 use std::io::Write;
 use std::marker::Model;

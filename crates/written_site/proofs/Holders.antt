@@ -30,7 +30,7 @@ use Rattle.fuelling_point.specs.declared.step.PointStep.TheVariants.{NoSale, Sol
 use Rattle.fuelling_point.specs.Step as machine
 use Rattle.fuelling_point.specs.Table.{growth_in}
 use Rattle.site_base.specs.Table.{row_of}
-use Rattle.till_claims.specs.Holds.{is_held_by}
+use Rattle.fuelling_point.specs.Holds.{is_held_by}
 use Rattle.transaction_buffer.specs.Sales.{sale_of}
 use Rattle.written_site.specs.SiteState.{SiteState, opening, facts_of, holder_of, is_resting}
 use Rattle.written_site.specs.SiteState.{key_named, rests, view_sale, price_at_start}

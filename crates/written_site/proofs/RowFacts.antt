@@ -26,7 +26,7 @@ use Rattle.fuelling_point.specs.PointChecks.{refusal_of}
 use Rattle.fuelling_point.specs.Step.{step_of, after}
 use Rattle.fuelling_point.specs.Whole.{IsWhole, is_released}
 use Rattle.fuelling_point.proofs.Whole.{whole_accepted, stays_whole}
-use Rattle.till_claims.specs.Holds.{is_held_by}
+use Rattle.fuelling_point.specs.Holds.{is_held_by}
 use Rattle.site_base.specs.Table.{row_of}
 use Rattle.written_site.specs.SiteState.{SiteState, opening, facts_in, facts_of, holder_of}
 use Rattle.written_site.specs.SiteState.{is_signed_on, is_resting, open_shift}

@@ -30,7 +30,7 @@ use Rattle.fuelling_point.specs.declared.step.PointStep.TheVariants.{Stopped, En
 use Rattle.fuelling_point.specs.KeptPoints.{Facts, growth_of, point_view}
 use Rattle.fuelling_point.specs.Step as machine
 use Rattle.meters.specs.Nozzles.{Nozzle, with_last, with_meter}
-use Rattle.till_claims.specs.Holds.{is_held_by}
+use Rattle.fuelling_point.specs.Holds.{is_held_by}
 use Rattle.transaction_buffer.specs.declared.request.Request.TheVariants as requests
 use Rattle.transaction_buffer.specs.Sales.{Sale, Sales, sale_of, made_at, new_standing, with_new}
 use Rattle.transaction_buffer.specs.TransactionTable.{after_request, after_sign_off}

@@ -2,7 +2,7 @@
 
 use counter_desk::SettleFault;
 use forecourt_days::DayFault;
-use site_base::WriteFault;
+use devices::WriteFault;
 use std::test::Fail;
 
 #[test]

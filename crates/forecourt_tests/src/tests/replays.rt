@@ -3,7 +3,8 @@
 
 use forecourt_engines::replay::replay;
 use forecourt_engines::{ReplayFault, known_site};
-use site_base::{Counted, NoMemory, ReadFault, WriteFault};
+use devices::{Counted, ReadFault, WriteFault};
+use site_base::NoMemory;
 use std::alloc::Global;
 use std::io::{self, ErrorKind, Read, Write};
 use std::process::Abort;

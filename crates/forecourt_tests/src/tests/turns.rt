@@ -3,7 +3,7 @@
 use forecourt_engines::replay::replay;
 use forecourt_engines::reporting::replay_to_report;
 use forecourt_engines::{ReplayFault, known_site};
-use site_base::{Counted, ReadFault, WriteFault};
+use devices::{Counted, ReadFault, WriteFault};
 use std::alloc::Global;
 use std::io::{self, Write};
 use std::test::Fail;

@@ -1,5 +1,5 @@
 use Rattle.std.proofs.Common.{◌≡◌, ◌≤◌}
-use Rattle.site_base.specs.Counted.{device_of, failures_of}
+use Rattle.devices.specs.Counted.{device_of, failures_of}
 use Rattle.forecourt_engines.proofs.Running.{Running}
 use Rattle.forecourt_engines.proofs.replay.run.Given as goal
 

@@ -1,6 +1,6 @@
 //! Which calls of a device are made, counted and made again.
 
-use site_base::{Counted, ReadFault, WriteFault, read_piece, write_whole};
+use devices::{Counted, ReadFault, WriteFault, read_piece, write_whole};
 use std::alloc::Global;
 use std::io::{self, Read, Write};
 use std::test::Fail;

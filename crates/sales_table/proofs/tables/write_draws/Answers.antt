@@ -1,5 +1,5 @@
 use Rattle.std.proofs.Common.{◌++◌, Option, ap, subst, ◌∙◌}
-use Rattle.site_base.proofs.KnownBytes.{Appends-then}
+use Rattle.devices.proofs.KnownBytes.{Appends-then}
 use Rattle.site_book.specs.declared.draw.Draw.{Draw}
 use Rattle.site_book.specs.Readings.{IsNext}
 use Rattle.sales_table.specs.Texts.{draw_text, draws_text}

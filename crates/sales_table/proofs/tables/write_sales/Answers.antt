@@ -1,5 +1,5 @@
 use Rattle.std.proofs.Common.{◌++◌, ap, ◌∙◌}
-use Rattle.site_base.proofs.KnownBytes.{Appends-then}
+use Rattle.devices.proofs.KnownBytes.{Appends-then}
 use Rattle.sales_table.specs.Texts.{sale_text, sales_text}
 use Rattle.sales_table.proofs.Pieces.{front_at_end, front_within, piece_written}
 use Rattle.sales_table.proofs.tables.write_sales.Goals as goal

@@ -1,6 +1,6 @@
 use Rattle.std.proofs.Common.{◌≡◌, ℕ, ◌++◌, List, flat_map, length}
 use Rattle.std.specs.Io.KnownBytes.{Appends}
-use Rattle.site_base.specs.Counted.{device_of}
+use Rattle.devices.specs.Counted.{device_of}
 use Rattle.sales_table.specs.Texts.{sale_text, sales_text}
 use Rattle.sales_table.proofs.tables.write_sales.Given as goal
 

@@ -1,7 +1,7 @@
 use Rattle.std.proofs.Common.{◌∙◌, ℕ, Some, ap, arith, refl, rules, sym, take}
 use Rattle.std.proofs.lemmas.Result.{err_from_is_err_and}
 use Rattle.till_session.specs.declared.fault.SessionFault.{SessionFault}
-use Rattle.site_base.specs.declared.limits.TheConstants.{PIECE_OCTETS}
+use Rattle.devices.specs.declared.transfer.TheConstants.{PIECE_OCTETS}
 use Rattle.till_session.specs.Ends.{is_early}
 use Rattle.till_session.proofs.Conversing.{ends_faulty, ends_heard, ends_read, ends_unfed}
 use Rattle.till_session.proofs.Conversing.{ends_unread, goes_on, is_small, starts}

@@ -1,5 +1,5 @@
 use Rattle.std.proofs.Common.{◌≡◌, ◌≤◌}
-use Rattle.site_base.specs.Counted.{device_of, failures_of}
+use Rattle.devices.specs.Counted.{device_of, failures_of}
 use Rattle.till_session.proofs.Conversing.{Conversing}
 use Rattle.till_session.proofs.session.converse.Given as goal
 

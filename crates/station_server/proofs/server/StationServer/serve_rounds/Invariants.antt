@@ -1,4 +1,4 @@
-use Rattle.unpaid_sales.specs.Unpaid.{GoesBy}
+use Rattle.site_book.specs.Unpaid.{GoesBy}
 use Rattle.station_server.specs.Reaches.{Reaches}
 use Rattle.station_server.proofs.server.StationServer.serve_rounds.Given as goal
 

@@ -1,5 +1,5 @@
 use Rattle.std.proofs.Common.{◌≡◌, ◌≤◌, None, take}
-use Rattle.site_base.specs.Counted.{device_of, failures_of}
+use Rattle.devices.specs.Counted.{device_of, failures_of}
 use Rattle.till_session.specs.Course.{Talked}
 use Rattle.till_session.proofs.talk.Talk.hear.Given as goal
 

@@ -1,9 +1,0 @@
-use Rattle.std.proofs.Common.{◌≡◌, ◌++◌}
-use Rattle.till_claims.proofs.Members.{members}
-use Rattle.till_claims.proofs.claims.Claims.held_by.Given as goal
-
-abbrev pub invariant-loop-p : goal.invariant-loop-p
-invariant-loop-p l = l.points.items ++ members l.left ≡ members l.initial.left
-
-abbrev pub decreases-loop-p : goal.decreases-loop-p
-decreases-loop-p l = l.left
