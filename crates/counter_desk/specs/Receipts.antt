@@ -2,7 +2,8 @@
 use Rattle.std.specs.Prelude.{◌≡◌, ℕ, ◌*◌, ◌≤◌, List, [], ◌∷◌, length, Some, slice_get}
 use Rattle.site_base.specs.declared.actor.Actor.{Actor}
 use Rattle.site_base.specs.declared.event.Event.{Event}
-use Rattle.site_base.specs.declared.limits.TheConstants.{GREATEST_CENTS, GROWTH_LIMIT}
+use Rattle.site_base.specs.declared.amounts.TheConstants.{GROWTH_LIMIT}
+use Rattle.site_base.specs.declared.amounts.TheConstants.{GREATEST_CENTS}
 use Rattle.site_base.specs.declared.row.Placed.{Placed}
 use Rattle.site_base.specs.declared.row.Row.{Row}
 use Rattle.site_base.specs.Configured.{Configured}

@@ -3,7 +3,8 @@
 ghost use Rattle.std.specs.Prelude.{◌≡◌, ◌+◌, ◌-◌, ◌≤◌, [], ◌∷◌, ◌++◌, false, true, is_some};
 ghost use Rattle.std.specs.Prelude.{length, slice_get, slice_set, Ok, IfOk, IfSome, IsErrOf};
 ghost use Rattle.std.specs.Prelude.{IsTrue, ◌↔◌, OnErr, IfNone};
-ghost use Rattle.site_base.specs.declared.limits.TheConstants.{GREATEST_ROWS, TILLS};
+ghost use Rattle.site_base.specs.declared.limits.TheConstants.{TILLS};
+ghost use Rattle.site_base.specs.declared.config.TheConstants.{GREATEST_ROWS};
 ghost use Rattle.written_site.specs.SiteRun.{IsLegal};
 ghost use Rattle.written_site.specs.SiteState.{is_signed_on, opening, view_point};
 ghost use Rattle.written_site.specs.SiteStep.{reply_to};

@@ -2,7 +2,8 @@
 
 ghost use Rattle.std.specs.Prelude.{◌≡◌, ◌+◌, ◌≤◌, false, length, replicate, IfErr, IfNone, IfOk};
 ghost use Rattle.std.specs.Prelude.{IfSome, OnOk};
-ghost use Rattle.site_base.specs.declared.limits.TheConstants.{GREATEST_ROWS, TILLS};
+ghost use Rattle.site_base.specs.declared.limits.TheConstants.{TILLS};
+ghost use Rattle.site_base.specs.declared.config.TheConstants.{GREATEST_ROWS};
 ghost use Rattle.written_site.specs.RowWords.{total};
 ghost use Rattle.counter_desk.specs.Marks.{AreAllMarked, AreMarked, IsMarked, IsUnmarkable};
 ghost use Rattle.counter_desk.specs.Marks.{weigh_marks};

@@ -2,14 +2,15 @@
 
 ghost use Rattle.std.specs.Prelude.{◌≡◌, ◌+◌, ◌*◌, ◌<◌, ◌≤◌, ◌↔◌, [], ◌∷◌, ◌++◌, length, slice_get};
 ghost use Rattle.std.specs.Prelude.{IsTrue, OnOk};
-ghost use Rattle.site_base.specs.declared.limits.TheConstants.{GREATEST_CENTS, GREATEST_ROWS};
-ghost use Rattle.site_base.specs.declared.limits.TheConstants.{GROWTH_LIMIT, TILLS};
+ghost use Rattle.site_base.specs.declared.config.TheConstants.{GREATEST_ROWS};
+ghost use Rattle.site_base.specs.declared.amounts.TheConstants.{GREATEST_CENTS};
+ghost use Rattle.site_base.specs.declared.limits.TheConstants.{TILLS};
+ghost use Rattle.site_base.specs.declared.amounts.TheConstants.{GROWTH_LIMIT};
 ghost use Rattle.site_base.specs.Events.{cents_in_reply, growth_in_reply};
 ghost use Rattle.counter_desk.specs.Receipts.{cents_receipted, growth_receipted, receipt_at};
 ghost use Rattle.counter_desk.specs.Receipts.{receipted_row};
 
 use site_base::{Actor, Answer, Event, NoMemory, Reply, Row, cents_in_reply, growth_in_reply};
-
 use site_book::Rows;
 use std::alloc::Global;
 use std::marker::Model;

@@ -2,7 +2,8 @@
 
 ghost use Rattle.std.specs.Prelude.{◌≡◌, ◌+◌, ◌*◌, ◌^◌, ◌≤◌, [], ◌∷◌, ◌++◌, length, map, IfOk};
 ghost use Rattle.std.specs.Prelude.{OnErr, OnOk};
-ghost use Rattle.site_base.specs.declared.limits.TheConstants.{GREATEST_CENTS, GROWTH_LIMIT};
+ghost use Rattle.site_base.specs.declared.amounts.TheConstants.{GROWTH_LIMIT};
+ghost use Rattle.site_base.specs.declared.amounts.TheConstants.{GREATEST_CENTS};
 ghost use Rattle.written_site.specs.RowWords.{total};
 ghost use Rattle.counter_desk.specs.Shares.{nobody_owed};
 ghost use Rattle.counter_desk.specs.Roots.{calls_in};

@@ -2,7 +2,8 @@
 
 ghost use Rattle.std.specs.Prelude.{◌≡◌, ◌+◌, ◌-◌, ◌<◌, ◌≤◌, [], ◌∷◌, ◌++◌, length, false};
 ghost use Rattle.std.specs.Prelude.{slice_set, OnOk};
-ghost use Rattle.site_base.specs.declared.limits.TheConstants.{GREATEST_ROWS, GROWTH_LIMIT};
+ghost use Rattle.site_base.specs.declared.config.TheConstants.{GREATEST_ROWS};
+ghost use Rattle.site_base.specs.declared.amounts.TheConstants.{GROWTH_LIMIT};
 ghost use Rattle.site_base.specs.declared.limits.TheConstants.{TILL_CELLS, TILLS};
 ghost use Rattle.site_base.specs.Events.{growth_in_reply};
 ghost use Rattle.counter_desk.specs.Receipts.{cents_receipted, growth_receipted, receipt_at};

@@ -2,8 +2,9 @@
 use Rattle.std.specs.Prelude.{◌≡◌, ℕ, ◌<◌, ◌^◌, nat_lt, nat_le, Bool, true, false, ◌&&◌}
 use Rattle.std.specs.Prelude.{Option, Some, None, Ok}
 use Rattle.site_base.specs.declared.limits.TheConstants.{TILLS, POINTS, NOZZLES, PRODUCTS}
-use Rattle.site_base.specs.declared.limits.TheConstants.{GREATEST_READING, GREATEST_SHIFT}
-use Rattle.site_base.specs.declared.limits.TheConstants.{GREATEST_SEQ}
+use Rattle.site_base.specs.declared.numbers.TheConstants.{GREATEST_SHIFT}
+use Rattle.site_base.specs.declared.amounts.TheConstants.{GREATEST_READING}
+use Rattle.site_base.specs.declared.numbers.TheConstants.{GREATEST_SEQ}
 use Rattle.site_base.specs.declared.actor.Actor.{Actor}
 use Rattle.site_base.specs.declared.actor.Actor.TheVariants.{Till, Dispenser}
 use Rattle.site_base.specs.declared.event.Event.{Event}

@@ -2,7 +2,7 @@
 
 ghost use Rattle.std.specs.Prelude.{◌≡◌, ℕ, ◌+◌, ◌<◌, ◌≤◌, [], ◌∷◌, true, Some, IsTrue, IfOk};
 ghost use Rattle.std.specs.Prelude.{IfErr, OnErr, slice_get, slice_index_or};
-ghost use Rattle.site_base.specs.declared.limits.TheConstants.{GREATEST_READING};
+ghost use Rattle.site_base.specs.declared.amounts.TheConstants.{GREATEST_READING};
 ghost use Rattle.dispenser_sim.specs.declared.dispenser.TheConstants.{METERS};
 ghost use Rattle.dispenser_sim.specs.Reports.{is_reported, kept_after, meter_of, nozzles_of};
 ghost use Rattle.dispenser_sim.specs.Reports.{reading_of, refusals_told, sales_told, AreTaken};

@@ -1,7 +1,7 @@
 //! How much flows at a step that pumps.
 
 ghost use Rattle.std.specs.Prelude.{◌≡◌, ◌≤◌, IfSome, IfNone};
-ghost use Rattle.site_base.specs.declared.limits.TheConstants.{GREATEST_PRICE};
+ghost use Rattle.site_base.specs.declared.amounts.TheConstants.{GREATEST_PRICE};
 ghost use Rattle.site_base.specs.Amounts.{IsGreatestVolume};
 ghost use Rattle.dispenser_sim.specs.Flow.{is_under_way, IsFlow, IsFree, IsMost, IsRoom};
 ghost use Rattle.dispenser_sim.specs.Flow.{IsUnlimited};

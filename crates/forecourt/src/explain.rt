@@ -3,10 +3,10 @@
 use crate::exit::{COMMAND_LINE, exit_no_memory, exit_replay, exit_unwritten, exit_with};
 use crate::lines::read_line;
 use clap::ArgMatches;
-use forecourt_engines::explain::{explain, fault_name};
-use forecourt_engines::{Explained, NumberMeaning, ReplayFault, TextFault, Trace};
 use devices::ReadFault;
-use site_base::NoMemory;
+use forecourt_engines::explain::explain;
+use forecourt_engines::{Explained, ReplayFault, TextFault, Trace};
+use site_base::{NoMemory, NumberMeaning};
 use std::io::BufReader;
 use std::process::ExitCode;
 
@@ -88,7 +88,8 @@ fn print_line(rt: &HostRuntime, brought: Result<Explained, NoMemory>) -> Result<
 fn exit_stopped(rt: &HostRuntime, fault: TextFault) -> ExitCode {
     if let TextFault::Stream(grammar) = fault {
         let number = grammar.number();
-        if println!(rt; "{} {}", number, fault_name(number).unwrap_or("")).is_err() {
+        let name = NumberMeaning::of_no_reply(number).map_or("", |meaning| meaning.name());
+        if println!(rt; "{number} {name}").is_err() {
             return exit_unwritten(rt);
         }
     }

@@ -10,8 +10,10 @@ use Rattle.site_base.specs.declared.actor.Actor.{Actor}
 use Rattle.site_base.specs.declared.actor.Actor.TheVariants.{Till, Dispenser}
 use Rattle.site_base.specs.declared.event.Event.{Event}
 use Rattle.site_base.specs.declared.event.Event.TheVariants as events
-use Rattle.site_base.specs.declared.limits.TheConstants.{GREATEST_READING, GREATEST_SEQ}
-use Rattle.site_base.specs.declared.limits.TheConstants.{GREATEST_SHIFT, NOZZLES, POINTS}
+use Rattle.site_base.specs.declared.numbers.TheConstants.{GREATEST_SEQ}
+use Rattle.site_base.specs.declared.amounts.TheConstants.{GREATEST_READING}
+use Rattle.site_base.specs.declared.limits.TheConstants.{NOZZLES, POINTS}
+use Rattle.site_base.specs.declared.numbers.TheConstants.{GREATEST_SHIFT}
 use Rattle.site_base.specs.declared.limits.TheConstants.{PRODUCTS, TILLS}
 use Rattle.site_base.specs.declared.sale.SaleId.{SaleId}
 use Rattle.site_base.specs.declared.state.Preset.{Preset}

@@ -6,8 +6,10 @@ use Rattle.std.proofs.lemmas.Str.Parse.{digit_at}
 use Rattle.std.proofs.lemmas.Bool.{and_parts}
 use Rattle.std.proofs.lemmas.Bool.Decides.{nat_tests}
 use Rattle.std.specs.Int.{IsInRange}
-use Rattle.site_base.specs.declared.limits.TheConstants.{GREATEST_READING, GREATEST_SEQ}
-use Rattle.site_base.specs.declared.limits.TheConstants.{GREATEST_SHIFT, NOZZLES, POINTS}
+use Rattle.site_base.specs.declared.numbers.TheConstants.{GREATEST_SEQ}
+use Rattle.site_base.specs.declared.amounts.TheConstants.{GREATEST_READING}
+use Rattle.site_base.specs.declared.limits.TheConstants.{NOZZLES, POINTS}
+use Rattle.site_base.specs.declared.numbers.TheConstants.{GREATEST_SHIFT}
 use Rattle.site_base.specs.declared.sale.SaleId.{SaleId}
 use Rattle.site_base.specs.Ranges.{is_between}
 use Rattle.site_base.specs.Words.{id_word}

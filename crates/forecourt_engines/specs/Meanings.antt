@@ -1,9 +1,9 @@
 -- What messages mean, and where a trace of them stands.
-use Rattle.std.specs.Prelude.{◌≡◌, ◌||◌, ℕ, Bool, true, List, [], Some, Result, Ok, Err}
+use Rattle.std.specs.Prelude.{◌≡◌, ℕ, true, List, [], Some, Result, Ok, Err}
 use Rattle.std.specs.Prelude.{if◌then◌else◌}
 use Rattle.hex.specs.Hex.{decode_of}
 use Rattle.hex.specs.declared.error.FromHexError.{FromHexError}
-use Rattle.site_base.specs.Ranges.{is_between}
+use Rattle.site_base.specs.NumbersTold.{stands_alone}
 use Rattle.app_message.specs.Stream.{Held, fed_by}
 use Rattle.app_message.specs.Telegram.{Telegram}
 use Rattle.device_map.specs.Changes.{change_by}
@@ -12,16 +12,6 @@ use Rattle.device_map.specs.Requests.{request_at}
 use Rattle.forecourt_engines.specs.declared.explain.Meaning.{Meaning}
 use Rattle.forecourt_engines.specs.declared.explain.Meaning.TheVariants as meanings
 use Rattle.forecourt_engines.specs.Text.{is_skipped}
-
--- the numbers that stand in place of a reply: no row, faults of a stream, faults of the mapping
-abbrev pub stands_alone : ℕ → Bool
-stands_alone n = is_between 30 31 n || is_between 40 43 n || is_between 50 58 n
-
--- the numbers of refusals, and of faults of the book, of streams, requests, runs and site files
-abbrev pub has_meaning : ℕ → Bool
-has_meaning n =
-    is_between 1 25 n || is_between 30 31 n || is_between 40 44 n || is_between 50 65 n
-    || is_between 70 76 n
 
 -- a request asks for its event; what the site tells is spelled just so; of any other message the
 -- mapping's fault is told

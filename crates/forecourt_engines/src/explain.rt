@@ -1,11 +1,11 @@
 //! Messages in words, for people who read a trace.
 
-ghost use Rattle.std.specs.Prelude.{◌≡◌, IfOk, is_some};
-ghost use Rattle.forecourt_engines.specs.Meanings.{Means, stands_alone};
+ghost use Rattle.std.specs.Prelude.{◌≡◌, IfOk};
+ghost use Rattle.forecourt_engines.specs.Meanings.{Means};
 
 use app_message::{Message, Token};
 use device_map::{MapFault, decode_change, decode_number, decode_reply, request_of};
-use site_base::{Actor, Event, FpNo, NoMemory, Reply, TillNo, write_reply};
+use site_base::{Actor, Event, FpNo, NoMemory, NumberMeaning, Reply, TillNo, write_reply};
 use std::alloc::Global;
 use std::fmt;
 
@@ -66,8 +66,7 @@ fn meaning_of(alloc: Global, message: &Message) -> Result<Meaning, NoMemory>
         return Ok(Meaning::Told(reply));
     }
     if let Some(number) = decode_number(alloc, message)? {
-        // Of other numbers none stands alone.
-        if fault_name(number).is_some() {
+        if NumberMeaning::of_no_reply(number).is_some() {
             return Ok(Meaning::Numbered(number));
         }
     }
@@ -89,20 +88,21 @@ impl fmt::Display for Explanation {
             }
             Meaning::Numbered(number) => {
                 write!(f, "to {}, token {}: ", Node(self.to), self.token.get())?;
-                write!(f, "{} {}", number, fault_name(*number).unwrap_or(""))
+                write_number(f, *number)
             }
             Meaning::Changed(event) => write!(f, "to {}: {}", Node(self.to), event),
             Meaning::NotAsked(fault) => {
                 write!(f, "from {}, token {}: ", Node(self.from), self.token.get())?;
-                write!(
-                    f,
-                    "{} {}",
-                    fault.number(),
-                    fault_name(fault.number()).unwrap_or("")
-                )
+                write_number(f, fault.number())
             }
         }
     }
+}
+
+/// A number that stands in place of a reply, and its name: `30 BookFull`.
+fn write_number<W: fmt::Write>(f: &mut fmt::Formatter<W>, number: u8) -> fmt::Result {
+    let name = NumberMeaning::of_no_reply(number).map_or("", |meaning| meaning.name());
+    write!(f, "{number} {name}")
 }
 
 /// A node: `t1` is that of till 1, `d3` that of the dispenser of point 3, others as subnet and node
@@ -118,29 +118,5 @@ impl fmt::Display for Node {
             0x03 if FpNo::new(node).is_some() => write!(f, "d{node}"),
             _ => write!(f, "{subnet:02x} {node:02x}"),
         }
-    }
-}
-
-/// The name of a number that stands in place of a reply, if it is one.
-pub fn fault_name(number: u8) -> Option<&'static str>
-    ensures { is_some result ≡ stands_alone number }
-{
-    match number {
-        30 => Some("BookFull"),
-        31 => Some("NoMemory"),
-        40 => Some("BadCode"),
-        41 => Some("BadKind"),
-        42 => Some("BadLength"),
-        43 => Some("BadItem"),
-        50 => Some("NotForUs"),
-        51 => Some("BadOriginator"),
-        52 => Some("BadAddress"),
-        53 => Some("UnknownItem"),
-        54 => Some("ItemMissing"),
-        55 => Some("BadDecimal"),
-        56 => Some("BadNumber"),
-        57 => Some("OriginatorChanged"),
-        58 => Some("NotARequest"),
-        _ => None,
     }
 }

@@ -6,7 +6,6 @@
 //! text to lines and to one stream of messages. `replay_to_report` writes the report of the rows
 //! that `replay` would make, which `report` makes of their figures. `Trace` reads such
 //! lines and `explain` words each message; `words` reads such words back, and spells them.
-//! `NumberMeaning` says what a number means.
 #![tactic(auto)]
 
 mod answers;
@@ -16,7 +15,6 @@ mod fault;
 mod laws;
 pub mod line;
 pub mod number;
-mod numbers;
 mod plain_digits;
 pub mod replay;
 pub mod report;
@@ -35,7 +33,6 @@ pub use laws::{
     a_long_line_says, nothing_follows, one_stream_of_lines,
 };
 pub use line::LINE_OCTETS;
-pub use numbers::NumberMeaning;
 pub use site_book::SiteBook;
 pub use sites::{known_site, known_site_of};
 pub use sizes::Sizes;

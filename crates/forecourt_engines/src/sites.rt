@@ -1,7 +1,7 @@
 //! The site that the program knows by itself.
 
 ghost use Rattle.std.specs.Prelude.{◌≡◌, ◌≤◌, true, IfOk};
-ghost use Rattle.site_base.specs.declared.limits.TheConstants.{GREATEST_ROWS};
+ghost use Rattle.site_base.specs.declared.config.TheConstants.{GREATEST_ROWS};
 ghost use Rattle.site_base.specs.Names.{is_name};
 ghost use Rattle.forecourt_engines.specs.Sites.{known_site, known_site_of, known_points};
 ghost use Rattle.forecourt_engines.specs.Sites.{known_point};

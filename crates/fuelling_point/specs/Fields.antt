@@ -1,6 +1,6 @@
 -- The fields of a point: what they say of its delivery, and what is true of them.
 use Rattle.std.specs.Prelude.{◌≡◌, ℕ, ◌≤◌, Bool, Option, Some, None, is_some}
-use Rattle.site_base.specs.declared.limits.TheConstants.{GREATEST_READING}
+use Rattle.site_base.specs.declared.amounts.TheConstants.{GREATEST_READING}
 use Rattle.site_base.specs.declared.state.PointState.{PointState}
 use Rattle.site_base.specs.declared.state.PointState.TheVariants.{Started, SuspendedStarted}
 use Rattle.site_base.specs.declared.state.PointState.TheVariants.{Fuelling, SuspendedFuelling}

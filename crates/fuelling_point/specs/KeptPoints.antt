@@ -1,6 +1,6 @@
 -- What a fuelling point keeps, when it takes it, and when it forgets it.
 use Rattle.std.specs.Prelude.{ℕ, ◌+◌, ◌≤◌, Bool, true, false, Option, Some, None, if◌then◌else◌}
-use Rattle.site_base.specs.declared.limits.TheConstants.{GREATEST_READING}
+use Rattle.site_base.specs.declared.amounts.TheConstants.{GREATEST_READING}
 use Rattle.site_base.specs.declared.state.PointState.{PointState}
 use Rattle.site_base.specs.declared.state.PointState.TheVariants.{Inoperative, Idle, Calling}
 use Rattle.site_base.specs.declared.state.PointState.TheVariants.{Started, SuspendedStarted}

@@ -1,7 +1,7 @@
 //! What a fuelling under way keeps.
 
 ghost use Rattle.std.specs.Prelude.{◌≡◌, ◌+◌, ◌≤◌};
-ghost use Rattle.site_base.specs.declared.limits.TheConstants.{GREATEST_READING};
+ghost use Rattle.site_base.specs.declared.amounts.TheConstants.{GREATEST_READING};
 
 use site_base::{Millilitres, Mills};
 

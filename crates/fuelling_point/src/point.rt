@@ -2,7 +2,7 @@
 
 ghost use Rattle.std.specs.Prelude.{◌≡◌, ℕ, ◌≤◌, ◌+◌, true, false, None, Some, is_some, unwrap_or};
 ghost use Rattle.std.specs.Prelude.{MatchResult, OnOk, OnErr, IfOk, IfErr};
-ghost use Rattle.site_base.specs.declared.limits.TheConstants.{GREATEST_READING};
+ghost use Rattle.site_base.specs.declared.amounts.TheConstants.{GREATEST_READING};
 ghost use Rattle.site_base.specs.declared.state.PointState.TheVariants.{Closed, Started};
 ghost use Rattle.fuelling_point.specs.Table.{is_listed};
 ghost use Rattle.fuelling_point.specs.KeptPoints.{empty_point, point_view, FitsGrowth};

@@ -1,7 +1,8 @@
 -- Each nozzle stays within its bounds, so that a site can meter only so much.
 use Rattle.std.proofs.Common.{◌≡◌, ℕ, Bool, true, false, cond, ◌*◌, ◌<◌, ◌≤◌, List, [], ◌∷◌, ◌++◌}
 use Rattle.std.proofs.Common.{length, Some, refl, sym, ap, subst, ◌∙◌, ◌==◌, arith}
-use Rattle.site_base.specs.declared.limits.TheConstants.{GREATEST_READING, REPLACEMENT_LIMIT}
+use Rattle.meters.specs.declared.meter.TheConstants.{REPLACEMENT_LIMIT}
+use Rattle.site_base.specs.declared.amounts.TheConstants.{GREATEST_READING}
 use Rattle.meters.specs.Nozzles.{Nozzle, is_nozzle, nozzle_of, last_of, times_replaced, with_nozzle}
 use Rattle.meters.specs.Nozzles.{with_last, with_meter, read_at, replaced_at, IsMetered}
 use Rattle.meters.specs.Nozzles.{EachMetered, AreNozzles}

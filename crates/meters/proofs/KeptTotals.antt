@@ -7,8 +7,9 @@ use Rattle.std.proofs.lemmas.Bool.{cases_eq}
 use Rattle.std.proofs.lemmas.Bool.Decides.{nat_tests}
 use Rattle.std.proofs.lemmas.Grind.{get_or-set_at}
 use Rattle.std.proofs.lemmas.List.{get_or-set_other, get_or-replicate}
-use Rattle.site_base.specs.declared.limits.TheConstants.{GREATEST_READING, PRODUCT_CELLS}
-use Rattle.site_base.specs.declared.limits.TheConstants.{REPLACEMENT_LIMIT}
+use Rattle.site_base.specs.declared.limits.TheConstants.{PRODUCT_CELLS}
+use Rattle.site_base.specs.declared.amounts.TheConstants.{GREATEST_READING}
+use Rattle.meters.specs.declared.meter.TheConstants.{REPLACEMENT_LIMIT}
 use Rattle.site_base.specs.declared.config.PointEntry.{PointEntry}
 use Rattle.meters.specs.Nozzles.{Nozzle, nozzle_of, nozzles_of_points, with_last, with_meter}
 use Rattle.meters.specs.Nozzles.{with_nozzle, read_at, replaced_at, times_replaced, AreNozzles}

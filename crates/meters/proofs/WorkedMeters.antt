@@ -3,7 +3,8 @@
 use Rattle.std.proofs.Common.{◌≡◌, ℕ, zero, suc, ◌+◌, ◌*◌, List, [], ◌∷◌, map, Option, Some, None}
 use Rattle.std.proofs.Common.{Result, Ok, Err, refl}
 use Rattle.std.specs.List.{range_with_len}
-use Rattle.site_base.specs.declared.limits.TheConstants.{GROWTH_LIMIT, NOZZLES, POINTS}
+use Rattle.site_base.specs.declared.limits.TheConstants.{NOZZLES, POINTS}
+use Rattle.site_base.specs.declared.amounts.TheConstants.{GROWTH_LIMIT}
 use Rattle.site_base.specs.declared.refusal.Refusal.{Refusal}
 use Rattle.site_base.specs.declared.refusal.Refusal.TheVariants.{MeterGap, MeterBack, MeterJump}
 use Rattle.site_base.specs.declared.config.PointEntry.{PointEntry}

@@ -1,6 +1,7 @@
 -- What holds of the nozzles' meters by their definitions.
 use Rattle.std.specs.Prelude.{◌≡◌, ℕ, ◌+◌, ◌*◌, ◌<◌, ◌≤◌, List, Some, None, ◌==◌, if◌then◌else◌}
-use Rattle.site_base.specs.declared.limits.TheConstants.{GREATEST_READING, REPLACEMENT_LIMIT}
+use Rattle.meters.specs.declared.meter.TheConstants.{REPLACEMENT_LIMIT}
+use Rattle.site_base.specs.declared.amounts.TheConstants.{GREATEST_READING}
 use Rattle.site_base.specs.declared.refusal.Refusal.{Refusal}
 use Rattle.site_base.specs.Configured.{Configured}
 use Rattle.meters.specs.declared.report.Report.{Report}

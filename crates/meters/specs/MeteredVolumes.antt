@@ -1,7 +1,8 @@
 -- The millilitres that a site has metered.
 use Rattle.std.specs.Prelude.{ℕ, ◌+◌, ◌-◌, ◌*◌, List, [], ◌∷◌, ◌==◌, if◌then◌else◌}
-use Rattle.site_base.specs.declared.limits.TheConstants.{GREATEST_READING, NOZZLES, POINTS}
-use Rattle.site_base.specs.declared.limits.TheConstants.{REPLACEMENT_LIMIT}
+use Rattle.site_base.specs.declared.limits.TheConstants.{NOZZLES, POINTS}
+use Rattle.site_base.specs.declared.amounts.TheConstants.{GREATEST_READING}
+use Rattle.meters.specs.declared.meter.TheConstants.{REPLACEMENT_LIMIT}
 use Rattle.meters.specs.Nozzles.{Nozzle}
 
 -- the millilitres that a nozzle has metered since the site opened: those of its meter, and those of

@@ -2,8 +2,9 @@
 use Rattle.std.specs.Prelude.{ℕ, ◌+◌, ◌-◌, ◌*◌, ◌≤◌, Bool, List, [], ◌∷◌, ◌++◌, length, Option}
 use Rattle.std.specs.Prelude.{Some, None, option_map, is_some, unwrap_or, ◌&&◌, ◌==◌, if◌then◌else◌}
 use Rattle.site_base.specs.declared.config.NozzleEntry.{NozzleEntry}
-use Rattle.site_base.specs.declared.limits.TheConstants.{GREATEST_READING, NOZZLES, POINTS}
-use Rattle.site_base.specs.declared.limits.TheConstants.{REPLACEMENT_LIMIT}
+use Rattle.site_base.specs.declared.limits.TheConstants.{NOZZLES, POINTS}
+use Rattle.site_base.specs.declared.amounts.TheConstants.{GREATEST_READING}
+use Rattle.meters.specs.declared.meter.TheConstants.{REPLACEMENT_LIMIT}
 use Rattle.site_base.specs.declared.config.PointEntry.{PointEntry}
 use Rattle.site_base.specs.Configured.{Configured}
 

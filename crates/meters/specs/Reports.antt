@@ -1,7 +1,7 @@
 -- What a report of a meter may read.
 use Rattle.std.specs.Prelude.{ℕ, ◌+◌, ◌-◌, List, Option, Some, None, ◌==◌, nat_le, not}
 use Rattle.std.specs.Prelude.{if◌then◌else◌}
-use Rattle.site_base.specs.declared.limits.TheConstants.{GROWTH_LIMIT}
+use Rattle.site_base.specs.declared.amounts.TheConstants.{GROWTH_LIMIT}
 use Rattle.site_base.specs.declared.refusal.Refusal.{Refusal}
 use Rattle.site_base.specs.declared.refusal.Refusal.TheVariants.{MeterGap, MeterBack, MeterJump}
 use Rattle.meters.specs.Nozzles.{Nozzle, reading_of, with_last}

@@ -1,8 +1,10 @@
 //! The meter of one nozzle.
 
 ghost use Rattle.std.specs.Prelude.{◌≡◌, ◌<◌, ◌≤◌, None, Some, OnOk, IfOk, IfErr};
-ghost use Rattle.site_base.specs.declared.limits.TheConstants.{GREATEST_READING, NOZZLE_CELLS};
-ghost use Rattle.site_base.specs.declared.limits.TheConstants.{NOZZLES, POINTS, REPLACEMENT_LIMIT};
+ghost use Rattle.site_base.specs.declared.limits.TheConstants.{NOZZLE_CELLS};
+ghost use Rattle.site_base.specs.declared.amounts.TheConstants.{GREATEST_READING};
+ghost use Rattle.site_base.specs.declared.limits.TheConstants.{NOZZLES, POINTS};
+ghost use Rattle.meters.specs.declared.meter.TheConstants.{REPLACEMENT_LIMIT};
 ghost use Rattle.meters.specs.MeteredVolumes.{volume_metered, most_of_a_nozzle};
 ghost use Rattle.meters.specs.Nozzles.{opening_nozzle, read_at, replaced_at, IsMetered};
 ghost use Rattle.meters.specs.Places.{nozzle_cell};
@@ -12,6 +14,9 @@ use crate::place::cell_of;
 use crate::report::Report;
 use site_base::{FpNo, GROWTH_LIMIT, Millilitres, NozzleEntry, NozzleNo, ProductNo, Refusal};
 use std::marker::Model;
+
+/// How often a nozzle's meter may be replaced.
+pub const REPLACEMENT_LIMIT: u8 = 99;
 
 /// The meter of a nozzle, and what the nozzle's earlier meters have metered. Its last reading is
 /// never below the one that it began with.

@@ -2,7 +2,8 @@
 
 ghost use Rattle.std.specs.Prelude.{◌≡◌, ◌<◌, ◌≤◌, ◌+◌, ◌++◌, true, None, Some, OnOk, IfOk, IfErr};
 ghost use Rattle.std.specs.Prelude.{IfSome, is_some, length};
-ghost use Rattle.site_base.specs.declared.limits.TheConstants.{NOZZLES, REPLACEMENT_LIMIT};
+ghost use Rattle.site_base.specs.declared.limits.TheConstants.{NOZZLES};
+ghost use Rattle.meters.specs.declared.meter.TheConstants.{REPLACEMENT_LIMIT};
 ghost use Rattle.meters.specs.declared.report.Report.TheVariants.{Growing};
 ghost use Rattle.meters.specs.Nozzles.{opening_nozzles, nozzles_of_point, product_of, last_of};
 ghost use Rattle.meters.specs.Nozzles.{replacements_of, has_nozzle, reading_of, times_replaced};

@@ -1,6 +1,6 @@
 -- The shifts of a site.
 use Rattle.std.specs.Prelude.{ℕ, ◌+◌, List, [], ◌∷◌, ◌++◌, length, Option, Bool, ◌==◌}
-use Rattle.site_base.specs.declared.limits.TheConstants.{GREATEST_SHIFT}
+use Rattle.site_base.specs.declared.numbers.TheConstants.{GREATEST_SHIFT}
 use Rattle.shift_ledger.specs.declared.row.ShiftRow.{ShiftRow}
 use Rattle.site_base.specs.Members.{member}
 use Rattle.shift_ledger.specs.Figures.{adjusted_figure, empty_figures, with_clear, with_draw}

@@ -3,7 +3,7 @@
 ghost use Rattle.std.specs.Prelude.{◌≡◌, ◌-◌, ◌^◌, ◌<◌, ◌≤◌, true, false, length, OnOk, OnErr};
 ghost use Rattle.std.specs.Prelude.{IfOk, IfErr};
 ghost use Rattle.site_base.specs.declared.refusal.Refusal.TheVariants.{ShiftsSpent};
-ghost use Rattle.site_base.specs.declared.limits.TheConstants.{GREATEST_SHIFT};
+ghost use Rattle.site_base.specs.declared.numbers.TheConstants.{GREATEST_SHIFT};
 ghost use Rattle.shift_ledger.specs.Figures.{FitsClear, FitsDraw};
 ghost use Rattle.shift_ledger.specs.Shifts.{drawn_in_all, first_shift, open_number, is_last};
 ghost use Rattle.shift_ledger.specs.Shifts.{figures_of};
@@ -24,7 +24,7 @@ pub struct ShiftBook {
 
 impl Model for ShiftBook {
     ghost use Rattle.std.specs.Prelude.{◌-◌, ◌<◌, vec_len, vec_capacity, length};
-    ghost use Rattle.site_base.specs.declared.limits.TheConstants.{GREATEST_SHIFT};
+    ghost use Rattle.site_base.specs.declared.numbers.TheConstants.{GREATEST_SHIFT};
     ghost use Rattle.shift_ledger.specs.Shifts.{Book};
 
     ghost Value = { Book };

@@ -4,7 +4,7 @@ use Rattle.std.specs.Prelude.{◌&&◌}
 use Rattle.std.proofs.lemmas.Bool.{and_parts}
 use Rattle.std.proofs.lemmas.Bool.Decides.{nat_tests}
 use Rattle.std.proofs.Math.ListN.{set}
-use Rattle.site_base.specs.declared.limits.TheConstants.{GREATEST_PRICE}
+use Rattle.site_base.specs.declared.amounts.TheConstants.{GREATEST_PRICE}
 use Rattle.site_base.specs.Ranges.{is_between}
 use Rattle.site_base.specs.Prices.{are_in_range}
 

@@ -8,7 +8,8 @@ use Rattle.site_base.specs.Ranges.{is_between}
 use Rattle.site_base.specs.declared.config.PointEntry.{PointEntry}
 use Rattle.site_base.specs.declared.config.ProductEntry.{ProductEntry}
 use Rattle.site_base.specs.Configured.{Configured, is_site}
-use Rattle.site_base.specs.declared.limits.TheConstants.{POINTS, TILLS, GREATEST_SHIFT}
+use Rattle.site_base.specs.declared.limits.TheConstants.{POINTS, TILLS}
+use Rattle.site_base.specs.declared.numbers.TheConstants.{GREATEST_SHIFT}
 use Rattle.site_base.specs.declared.answer.Answer.TheVariants.{Flowed, Sold, Drawn}
 use Rattle.site_base.specs.declared.refusal.Refusal.TheVariants.{MeterSpent}
 use Rattle.site_base.specs.Events.{growth_in_reply, cents_in_reply}

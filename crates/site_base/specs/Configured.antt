@@ -5,7 +5,8 @@ use Rattle.std.specs.Str.{bytes_eq}
 use Rattle.site_base.specs.declared.config.NozzleEntry.{NozzleEntry}
 use Rattle.site_base.specs.declared.config.PointEntry.{PointEntry}
 use Rattle.site_base.specs.declared.config.ProductEntry.{ProductEntry}
-use Rattle.site_base.specs.declared.limits.TheConstants.{GREATEST_ROWS, NOZZLES, POINTS, PRODUCTS}
+use Rattle.site_base.specs.declared.limits.TheConstants.{NOZZLES, POINTS, PRODUCTS}
+use Rattle.site_base.specs.declared.config.TheConstants.{GREATEST_ROWS}
 use Rattle.site_base.specs.Names.{is_name}
 use Rattle.site_base.specs.Ranges.{is_between}
 

@@ -5,6 +5,7 @@ pub mod Configured
 pub mod Events
 pub mod Names
 pub mod Members
+pub mod NumbersTold
 pub mod PointSets
 pub mod Prices
 pub mod Ranges

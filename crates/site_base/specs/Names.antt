@@ -1,7 +1,7 @@
 -- The names of products.
 use Rattle.std.specs.Prelude.{ℕ, Bool, List, length, ◌&&◌, ◌||◌, ◌==◌}
 use Rattle.std.specs.List.{list_all}
-use Rattle.site_base.specs.declared.limits.TheConstants.{NAME_OCTETS}
+use Rattle.site_base.specs.declared.product_name.TheConstants.{NAME_OCTETS}
 use Rattle.site_base.specs.Ranges.{is_between}
 
 -- a to z, 0 to 9, or a hyphen

@@ -1,7 +1,7 @@
 -- Today's prices.
 use Rattle.std.specs.Prelude.{ℕ, Bool, List, map}
 use Rattle.std.specs.List.{list_all}
-use Rattle.site_base.specs.declared.limits.TheConstants.{GREATEST_PRICE}
+use Rattle.site_base.specs.declared.amounts.TheConstants.{GREATEST_PRICE}
 use Rattle.site_base.specs.Ranges.{is_between}
 use Rattle.site_base.specs.declared.config.ProductEntry.{ProductEntry}
 

@@ -3,8 +3,20 @@
 ghost use Rattle.std.specs.Prelude.{◌≡◌, ◌≤◌, ◌↔◌, IsSome, IfSome};
 ghost use Rattle.site_base.specs.Amounts.{amount, IsGreatestVolume};
 
-use crate::limits::{GREATEST_CENTS, GREATEST_PRICE, GREATEST_READING};
 use std::marker::Model;
+
+/// The greatest meter reading, in millilitres.
+pub const GREATEST_READING: u64 = 999_999_999_999;
+
+/// The greatest price, in mills per litre.
+pub const GREATEST_PRICE: u32 = 99_999;
+
+/// The greatest single amount, in cents. The greatest volume at the greatest price,
+/// 9,999,899,999,990 cents, is below it.
+pub const GREATEST_CENTS: u64 = 9_999_900_000_000;
+
+/// The greatest growth of a meter in one report, in millilitres.
+pub const GROWTH_LIMIT: u64 = 1_000_000;
 
 /// A meter reading, or the volume of one fuelling, in millilitres: from 0 to `GREATEST_READING`.
 #[derive(Clone, Copy, Debug, PartialEq, Eq)]
@@ -14,7 +26,7 @@ pub struct Millilitres {
 
 impl Model for Millilitres {
     ghost use Rattle.std.specs.Prelude.{ℕ, ◌≤◌};
-    ghost use Rattle.site_base.specs.declared.limits.TheConstants.{GREATEST_READING};
+    ghost use Rattle.site_base.specs.declared.amounts.TheConstants.{GREATEST_READING};
 
     ghost Value = { ℕ };
 
@@ -55,7 +67,7 @@ pub struct Mills {
 
 impl Model for Mills {
     ghost use Rattle.std.specs.Prelude.{ℕ, ◌≤◌};
-    ghost use Rattle.site_base.specs.declared.limits.TheConstants.{GREATEST_PRICE};
+    ghost use Rattle.site_base.specs.declared.amounts.TheConstants.{GREATEST_PRICE};
 
     ghost Value = { ℕ };
 
@@ -96,7 +108,7 @@ pub struct Cents {
 
 impl Model for Cents {
     ghost use Rattle.std.specs.Prelude.{ℕ, ◌≤◌};
-    ghost use Rattle.site_base.specs.declared.limits.TheConstants.{GREATEST_CENTS};
+    ghost use Rattle.site_base.specs.declared.amounts.TheConstants.{GREATEST_CENTS};
 
     ghost Value = { ℕ };
 

@@ -8,13 +8,16 @@ ghost use Rattle.site_base.specs.Names.{is_name};
 ghost use Rattle.site_base.specs.Ranges.{is_between};
 
 use crate::amounts::{Millilitres, Mills};
-use crate::limits::{GREATEST_ROWS, NOZZLES, POINTS, PRODUCTS};
+use crate::limits::{NOZZLES, POINTS, PRODUCTS};
 use crate::listing::Listing;
 use crate::memory::NoMemory;
 use crate::numbers::{FpNo, ProductNo, TillNo};
 use crate::product_name::ProductName;
 use std::alloc::Global;
 use std::marker::Model;
+
+/// The most rows that a site file may allow.
+pub const GREATEST_ROWS: u32 = 1_000_000;
 
 /// A product of the site.
 #[derive(Debug, Drop)]

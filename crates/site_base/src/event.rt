@@ -1,7 +1,7 @@
 //! What a till or a dispenser asks of the site.
 
 ghost use Rattle.std.specs.Prelude.{◌≡◌, ◌≤◌, IfSome};
-ghost use Rattle.site_base.specs.declared.limits.TheConstants.{GREATEST_READING};
+ghost use Rattle.site_base.specs.declared.amounts.TheConstants.{GREATEST_READING};
 ghost use Rattle.site_base.specs.Events.{point_named, nozzle_named, sale_named, product_named};
 ghost use Rattle.site_base.specs.Events.{reading_carried};
 ghost use Rattle.site_base.specs.Events.{reported_by, needs_free_point, needs_manager, has_change};

@@ -1,5 +1,5 @@
-//! The site's sizes and limits, each written once. Types, arrays, invariants and definitions take
-//! them from here, so that another site changes them in one place.
+//! How large a site may be. Types, arrays, invariants and definitions take the sizes from here, so
+//! that another site changes them in one place. Every other limit stands beside what it limits.
 
 /// Fuelling points of a site, numbered from 1.
 pub const POINTS: u8 = 64;
@@ -24,37 +24,3 @@ pub const TILLS: u8 = 32;
 
 /// Cells of an array that has one for each till.
 pub const TILL_CELLS: usize = TILLS as usize;
-
-/// Unpaid transactions (payable or locked) that a fuelling point may have.
-pub const UNPAID_LIMIT: u8 = 2;
-
-/// The greatest sequence number of a transaction at a fuelling point in one shift.
-pub const GREATEST_SEQ: u16 = 9_999;
-
-/// The greatest meter reading, in millilitres.
-pub const GREATEST_READING: u64 = 999_999_999_999;
-
-/// The greatest growth of a meter in one report, in millilitres.
-pub const GROWTH_LIMIT: u64 = 1_000_000;
-
-/// How often a nozzle's meter may be replaced.
-pub const REPLACEMENT_LIMIT: u8 = 99;
-
-/// The greatest price, in mills per litre.
-pub const GREATEST_PRICE: u32 = 99_999;
-
-/// The greatest preset volume (in millilitres), preset money or prepayment (in cents).
-pub const GREATEST_PRESET: u32 = 99_999_999;
-
-/// The greatest single amount, in cents. The greatest volume at the greatest price,
-/// 9,999,899,999,990 cents, is below it.
-pub const GREATEST_CENTS: u64 = 9_999_900_000_000;
-
-/// The greatest number of a shift.
-pub const GREATEST_SHIFT: u16 = 999;
-
-/// The most rows that a site file may allow.
-pub const GREATEST_ROWS: u32 = 1_000_000;
-
-/// The octets of a product's longest name.
-pub const NAME_OCTETS: usize = 20;

@@ -2,11 +2,14 @@
 
 ghost use Rattle.std.specs.Prelude.{◌≡◌, ℕ, ◌+◌, ◌<◌, ◌≤◌, ◌↔◌, IsSome, IfSome};
 
-use crate::limits::{
-    GREATEST_SEQ, GREATEST_SHIFT, NOZZLES, POINT_CELLS, POINTS, PRODUCT_CELLS, PRODUCTS,
-    TILL_CELLS, TILLS,
-};
+use crate::limits::{NOZZLES, POINT_CELLS, POINTS, PRODUCT_CELLS, PRODUCTS, TILL_CELLS, TILLS};
 use std::marker::Model;
+
+/// The greatest sequence number of a transaction at a fuelling point in one shift.
+pub const GREATEST_SEQ: u16 = 9_999;
+
+/// The greatest number of a shift.
+pub const GREATEST_SHIFT: u16 = 999;
 
 /// A number by which the rows of a table are found.
 pub trait Number: Copy {
@@ -260,7 +263,7 @@ pub struct Seq {
 
 impl Model for Seq {
     ghost use Rattle.std.specs.Prelude.{ℕ, ◌≤◌};
-    ghost use Rattle.site_base.specs.declared.limits.TheConstants.{GREATEST_SEQ};
+    ghost use Rattle.site_base.specs.declared.numbers.TheConstants.{GREATEST_SEQ};
 
     ghost Value = { ℕ };
 
@@ -301,7 +304,7 @@ pub struct ShiftNo {
 
 impl Model for ShiftNo {
     ghost use Rattle.std.specs.Prelude.{ℕ, ◌≤◌};
-    ghost use Rattle.site_base.specs.declared.limits.TheConstants.{GREATEST_SHIFT};
+    ghost use Rattle.site_base.specs.declared.numbers.TheConstants.{GREATEST_SHIFT};
 
     ghost Value = { ℕ };
 

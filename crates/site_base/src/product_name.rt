@@ -4,10 +4,12 @@ ghost use Rattle.std.specs.Prelude.{◌≡◌, true, is_some, IfOk, IfSome, stri
 ghost use Rattle.std.specs.List.{list_all};
 ghost use Rattle.site_base.specs.Names.{is_name, is_name_octet};
 
-use crate::limits::NAME_OCTETS;
 use crate::memory::NoMemory;
 use std::alloc::Global;
 use std::marker::Model;
+
+/// The octets of a product's longest name.
+pub const NAME_OCTETS: usize = 20;
 
 /// A product's name: 1 to `NAME_OCTETS` of a to z, 0 to 9 and hyphen, by its type. Contracts see
 /// its octets.

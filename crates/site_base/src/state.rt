@@ -3,6 +3,9 @@
 ghost use Rattle.std.specs.Prelude.{◌≡◌};
 ghost use Rattle.site_base.specs.States.{state_number, status_number};
 
+/// The greatest preset volume (in millilitres), preset money or prepayment (in cents).
+pub const GREATEST_PRESET: u32 = 99_999_999;
+
 /// The state of a fuelling point.
 #[derive(Clone, Copy, Debug, PartialEq, Eq)]
 pub enum PointState {

@@ -11,6 +11,7 @@ use crate::actor::Actor;
 use crate::amounts::Millilitres;
 use crate::answer::Answer;
 use crate::event::Event;
+use crate::number_meaning::NumberMeaning;
 use crate::numbers::{FpNo, NozzleNo};
 use crate::refusal::Refusal;
 use crate::row::{Reply, Row};
@@ -267,44 +268,13 @@ impl fmt::Display for Answer {
 impl fmt::Display for Refusal {
     fn fmt<W: fmt::Write>(&self, f: &mut fmt::Formatter<W>) -> fmt::Result {
         let number = self.number();
-        write!(f, "{number} {}", refusal_name(number).unwrap_or(""))?;
+        let name = NumberMeaning::of(number).map_or("", |meaning| meaning.name());
+        write!(f, "{number} {name}")?;
         match (self, self.detail()) {
             (Refusal::WrongState(state), _) => write!(f, "({state})"),
             (_, Some(detail)) => write!(f, "({detail})"),
             (_, None) => Ok(()),
         }
-    }
-}
-
-/// The name of the refusal of this number, 1 to 25; None for another number.
-pub fn refusal_name(number: u8) -> Option<&'static str> {
-    match number {
-        1 => Some("NotSignedOn"),
-        2 => Some("SignedOn"),
-        3 => Some("NoSuchPoint"),
-        4 => Some("NoSuchNozzle"),
-        5 => Some("NoSuchProduct"),
-        6 => Some("NoSuchTransaction"),
-        7 => Some("NotManager"),
-        8 => Some("BadPrice"),
-        9 => Some("BadPreset"),
-        10 => Some("WrongState"),
-        11 => Some("AssignedToOther"),
-        12 => Some("NotYours"),
-        13 => Some("NotYourPoint"),
-        14 => Some("WrongNozzle"),
-        15 => Some("BufferFull"),
-        16 => Some("SequenceSpent"),
-        17 => Some("MeterGap"),
-        18 => Some("MeterBack"),
-        19 => Some("MeterJump"),
-        20 => Some("LockedByOther"),
-        21 => Some("NotLocked"),
-        22 => Some("AlreadyCleared"),
-        23 => Some("Ending"),
-        24 => Some("ShiftsSpent"),
-        25 => Some("MeterSpent"),
-        _ => None,
     }
 }
 

@@ -5,7 +5,7 @@ use Rattle.std.proofs.Common.{if◌then◌else◌}
 use Rattle.std.specs.Prelude.{filter_map}
 use Rattle.std.specs.List.{cons_option}
 use Rattle.site_base.specs.declared.answer.Answer.TheVariants.{Drawn}
-use Rattle.site_base.specs.declared.limits.TheConstants.{GREATEST_READING}
+use Rattle.site_base.specs.declared.amounts.TheConstants.{GREATEST_READING}
 use Rattle.site_base.specs.declared.row.Row.{Row}
 use Rattle.site_base.specs.declared.view.PointView.{PointView}
 use Rattle.site_base.specs.Configured.{Configured}

@@ -5,7 +5,6 @@ ghost use Rattle.written_site.specs.SiteRun.{site_of_rows};
 ghost use Rattle.site_book.specs.Figures.{AreFiguresOf};
 
 use crate::rows::Rows;
-
 use site_base::{NoMemory, Row, SiteConfig, Totals};
 use site_core::Site;
 use std::alloc::Global;

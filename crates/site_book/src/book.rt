@@ -2,7 +2,9 @@
 
 ghost use Rattle.std.specs.Prelude.{◌≡◌, ◌+◌, ◌<◌, ◌≤◌, [], ◌∷◌, ◌++◌, length, slice_get, true};
 ghost use Rattle.std.specs.Prelude.{false, Ok, IfOk, IfSome, OnOk, OnErr, OnSome, IsErrOf, is_some};
-ghost use Rattle.site_base.specs.declared.limits.TheConstants.{GREATEST_ROWS, GROWTH_LIMIT, TILLS};
+ghost use Rattle.site_base.specs.declared.limits.TheConstants.{TILLS};
+ghost use Rattle.site_base.specs.declared.config.TheConstants.{GREATEST_ROWS};
+ghost use Rattle.site_base.specs.declared.amounts.TheConstants.{GROWTH_LIMIT};
 ghost use Rattle.site_base.specs.Events.{growth_in_reply};
 ghost use Rattle.site_core.specs.Views.{HasRoom};
 ghost use Rattle.written_site.specs.SiteRun.{IsLegal};

@@ -3,7 +3,7 @@
 ghost use Rattle.std.specs.Prelude.{◌≡◌, ◌+◌, ◌<◌, ◌≤◌, List, length, take, slice_get};
 ghost use Rattle.std.specs.Prelude.{option_and_then, Some};
 ghost use Rattle.std.specs.List.{cons_option};
-ghost use Rattle.site_base.specs.declared.limits.TheConstants.{GREATEST_SHIFT};
+ghost use Rattle.site_base.specs.declared.numbers.TheConstants.{GREATEST_SHIFT};
 ghost use Rattle.site_base.specs.declared.row.Row.{Row as RowFacts};
 ghost use Rattle.site_base.specs.Events.{point_named};
 ghost use Rattle.transaction_buffer.specs.Sales.{key, sale_of};

@@ -6,7 +6,7 @@ use Rattle.std.proofs.lemmas.Grind.{common_steps}
 use Rattle.site_base.specs.Checks.{unless}
 use Rattle.site_base.specs.declared.actor.Actor.TheVariants.{Dispenser}
 use Rattle.site_base.specs.declared.event.Event.TheVariants as events
-use Rattle.site_base.specs.declared.limits.TheConstants.{GREATEST_READING}
+use Rattle.site_base.specs.declared.amounts.TheConstants.{GREATEST_READING}
 use Rattle.site_base.specs.declared.refusal.Refusal.{Refusal}
 use Rattle.site_base.specs.declared.refusal.Refusal.TheVariants.{NotYourPoint}
 use Rattle.site_base.specs.Table.{with_row}

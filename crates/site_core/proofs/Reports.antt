@@ -10,7 +10,8 @@ use Rattle.site_base.specs.declared.actor.Actor.TheVariants.{Dispenser}
 use Rattle.site_base.specs.declared.answer.Answer.{Answer}
 use Rattle.site_base.specs.declared.event.Event.{Event}
 use Rattle.site_base.specs.declared.event.Event.TheVariants.{Offline, Flow, HangUp}
-use Rattle.site_base.specs.declared.limits.TheConstants.{GREATEST_READING, GREATEST_SEQ}
+use Rattle.site_base.specs.declared.numbers.TheConstants.{GREATEST_SEQ}
+use Rattle.site_base.specs.declared.amounts.TheConstants.{GREATEST_READING}
 use Rattle.fuelling_point.specs.declared.event.PointEvent.{PointEvent}
 use Rattle.fuelling_point.specs.declared.event.PointEvent.TheVariants as points
 use Rattle.fuelling_point.specs.declared.step.PointStep.{PointStep}

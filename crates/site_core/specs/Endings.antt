@@ -1,6 +1,6 @@
 -- What the end of a fuelling leaves: its sale, or its draw, from what the point tells of it.
 use Rattle.std.specs.Prelude.{◌≡◌, ℕ, ◌+◌, ◌^◌, ◌<◌, List, Option, unwrap_or, true, is_some}
-use Rattle.site_base.specs.declared.limits.TheConstants.{UNPAID_LIMIT}
+use Rattle.transaction_buffer.specs.declared.shelf.TheConstants.{UNPAID_LIMIT}
 use Rattle.site_base.specs.Amounts.{amount}
 use Rattle.fuelling_point.specs.declared.step.PointStep.{PointStep}
 use Rattle.fuelling_point.specs.declared.step.PointStep.TheVariants.{Sold, Drawn}

@@ -10,7 +10,8 @@ use Rattle.site_base.specs.declared.answer.Answer.{Answer}
 use Rattle.site_base.specs.declared.answer.Answer.TheVariants.{Done, ShiftClosed}
 use Rattle.site_base.specs.declared.event.Event.{Event}
 use Rattle.site_base.specs.declared.event.Event.TheVariants as events
-use Rattle.site_base.specs.declared.limits.TheConstants.{GREATEST_SHIFT, REPLACEMENT_LIMIT}
+use Rattle.meters.specs.declared.meter.TheConstants.{REPLACEMENT_LIMIT}
+use Rattle.site_base.specs.declared.numbers.TheConstants.{GREATEST_SHIFT}
 use Rattle.site_base.specs.declared.refusal.Refusal.{Refusal}
 use Rattle.site_base.specs.Table.{with_row}
 use Rattle.fuelling_point.specs.declared.event.PointEvent.TheVariants as points

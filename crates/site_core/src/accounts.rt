@@ -3,7 +3,8 @@
 ghost use Rattle.std.specs.Prelude.{◌≡◌, ℕ, ◌+◌, ◌-◌, ◌^◌, ◌<◌, ◌≤◌, ◌==◌, [], ◌∷◌, ◌++◌, None};
 ghost use Rattle.std.specs.Prelude.{Some, true, false, is_some, length, sum_by, OnOk, OnErr, IfErr};
 ghost use Rattle.std.specs.Prelude.{IfSome};
-ghost use Rattle.site_base.specs.declared.limits.TheConstants.{GREATEST_SHIFT, UNPAID_LIMIT};
+ghost use Rattle.transaction_buffer.specs.declared.shelf.TheConstants.{UNPAID_LIMIT};
+ghost use Rattle.site_base.specs.declared.numbers.TheConstants.{GREATEST_SHIFT};
 ghost use Rattle.site_base.specs.Members.{member};
 ghost use Rattle.transaction_buffer.specs.Figures.{figure_of};
 ghost use Rattle.transaction_buffer.specs.FoundSales.{IsPlaced, key_of};

@@ -1,7 +1,7 @@
 //! The checks of what a dispenser reports of its fuelling point.
 
 ghost use Rattle.std.specs.Prelude.{◌≡◌, ◌≤◌, true};
-ghost use Rattle.site_base.specs.declared.limits.TheConstants.{GREATEST_READING};
+ghost use Rattle.site_base.specs.declared.amounts.TheConstants.{GREATEST_READING};
 ghost use Rattle.site_base.specs.declared.actor.Actor.TheVariants.{Dispenser};
 ghost use Rattle.meters.specs.Nozzles.{has_nozzle};
 ghost use Rattle.written_site.specs.SiteChecks.{flow_since, put_back_at};

@@ -3,8 +3,9 @@
 
 ghost use Rattle.std.specs.Prelude.{◌≡◌, true, false, not, is_some, nat_lt, ◌==◌, None, Some, IfOk};
 ghost use Rattle.std.specs.Prelude.{OnOk};
-ghost use Rattle.site_base.specs.declared.limits.TheConstants.{GREATEST_PRICE, GREATEST_SHIFT};
-ghost use Rattle.site_base.specs.declared.limits.TheConstants.{REPLACEMENT_LIMIT};
+ghost use Rattle.site_base.specs.declared.numbers.TheConstants.{GREATEST_SHIFT};
+ghost use Rattle.site_base.specs.declared.amounts.TheConstants.{GREATEST_PRICE};
+ghost use Rattle.meters.specs.declared.meter.TheConstants.{REPLACEMENT_LIMIT};
 ghost use Rattle.site_base.specs.declared.refusal.Refusal.TheVariants.{BadPreset, BadPrice};
 ghost use Rattle.site_base.specs.declared.refusal.Refusal.TheVariants.{MeterSpent, NotManager};
 ghost use Rattle.site_base.specs.declared.refusal.Refusal.TheVariants.{NotSignedOn, NotYours};
@@ -25,11 +26,12 @@ ghost use Rattle.site_core.specs.SiteParts.{site_of};
 
 use crate::points::FoundPoint;
 use crate::site_parts::SiteParts;
+use meters::REPLACEMENT_LIMIT;
 use site_base::{
-    Event, FpNo, GREATEST_PRESET, GREATEST_SHIFT, Mills, NozzleNo, Preset, ProductNo,
-    REPLACEMENT_LIMIT, Refusal, SaleId, TillNo, UNPAID_LIMIT,
+    Event, FpNo, GREATEST_PRESET, GREATEST_SHIFT, Mills, NozzleNo, Preset, ProductNo, Refusal,
+    SaleId, TillNo,
 };
-use transaction_buffer::FoundSale;
+use transaction_buffer::{FoundSale, UNPAID_LIMIT};
 
 impl SiteParts {
     /// The till is signed on.

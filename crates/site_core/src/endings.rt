@@ -12,12 +12,11 @@ ghost use Rattle.meters.specs.Nozzles.{product_of};
 
 use crate::answers::answer_to;
 use crate::site_parts::SiteParts;
-use fuelling_point::PointStep;
+use fuelling_point::{Claims, PointStep};
 use site_base::{
     Answer, FpNo, Millilitres, Mills, NozzleNo, ProductNo, Seq, Status, TillNo, TransactionView,
     amount_of,
 };
-use fuelling_point::Claims;
 
 impl SiteParts {
     /// Tells a step of the point, which took this growth. Where it ends a fuelling, its sale or its

@@ -14,9 +14,8 @@ use crate::endings::give_back;
 use crate::points::{FoundPoint, Points};
 use crate::ready::Ready;
 use crate::site_parts::SiteParts;
-use fuelling_point::PointEvent;
+use fuelling_point::{Claims, PointEvent};
 use site_base::{Answer, FpNo, Millilitres, NozzleNo, TillNo};
-use fuelling_point::Claims;
 
 impl SiteParts {
     /// Does what has passed its checks, and answers it. What an event needs of its own stands in a

@@ -3,7 +3,8 @@
 
 ghost use Rattle.std.specs.Prelude.{◌≡◌, true, nat_le};
 ghost use Rattle.std.specs.List.{list_all};
-ghost use Rattle.site_base.specs.declared.limits.TheConstants.{GREATEST_READING, PRODUCTS};
+ghost use Rattle.site_base.specs.declared.limits.TheConstants.{PRODUCTS};
+ghost use Rattle.site_base.specs.declared.amounts.TheConstants.{GREATEST_READING};
 ghost use Rattle.site_base.specs.Ranges.{is_between};
 ghost use Rattle.site_base.specs.Prices.{prices_of, are_in_range};
 ghost use Rattle.written_site.specs.Sound.{IsFit};

@@ -12,10 +12,10 @@ ghost use Rattle.site_core.specs.Views.{HasRoom, room_left};
 use crate::accounts::Accounts;
 use crate::points::Points;
 use crate::tills::Tills;
+use fuelling_point::Claims;
 use meters::Meters;
 use site_base::{Actor, Event, NoMemory, PriceBook, Reply, SiteConfig, TillNo};
 use std::alloc::Global;
-use fuelling_point::Claims;
 
 /// The points, their nozzles' meters, which till holds which point, the prices, the tills that are
 /// managers and those that are signed on, and the sales with the figures of the shifts.

@@ -8,7 +8,9 @@ use Rattle.toml.specs.Data.{Data, string, integer, array, table, Items, no_items
 use Rattle.toml.specs.Data.{no_members, member}
 use Rattle.toml.specs.Parse.{parse_document}
 use Rattle.site_base.specs.declared.config.NozzleEntry.{NozzleEntry}
-use Rattle.site_base.specs.declared.limits.TheConstants.{GREATEST_PRICE, GREATEST_READING, POINTS}
+use Rattle.site_base.specs.declared.limits.TheConstants.{POINTS}
+use Rattle.site_base.specs.declared.amounts.TheConstants.{GREATEST_PRICE}
+use Rattle.site_base.specs.declared.amounts.TheConstants.{GREATEST_READING}
 use Rattle.site_base.specs.declared.limits.TheConstants.{PRODUCTS, TILLS}
 use Rattle.site_base.specs.Ranges.{is_between}
 use Rattle.site_base.specs.declared.config.PointEntry.{PointEntry}

@@ -8,8 +8,10 @@ use Rattle.toml.specs.Parse.{parse_document}
 use Rattle.toml.specs.Data.{Data, string, integer, array, table, Items, no_items, item, Members}
 use Rattle.toml.specs.Data.{no_members, member, get_member}
 use Rattle.site_base.specs.declared.config.NozzleEntry.{NozzleEntry}
-use Rattle.site_base.specs.declared.limits.TheConstants.{GREATEST_PRICE, GREATEST_READING}
-use Rattle.site_base.specs.declared.limits.TheConstants.{GREATEST_ROWS, NOZZLES, POINTS, PRODUCTS}
+use Rattle.site_base.specs.declared.amounts.TheConstants.{GREATEST_PRICE}
+use Rattle.site_base.specs.declared.amounts.TheConstants.{GREATEST_READING}
+use Rattle.site_base.specs.declared.limits.TheConstants.{NOZZLES, POINTS, PRODUCTS}
+use Rattle.site_base.specs.declared.config.TheConstants.{GREATEST_ROWS}
 use Rattle.site_base.specs.declared.limits.TheConstants.{TILLS}
 use Rattle.site_base.specs.Names.{is_name}
 use Rattle.site_base.specs.Ranges.{is_between}

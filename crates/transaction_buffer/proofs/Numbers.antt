@@ -2,7 +2,7 @@
 use Rattle.std.proofs.Common.{◌≡◌, ℕ, ◌+◌, ◌<◌, ◌≤◌, Bool, true, false, cond, nat_lt, Option, Some}
 use Rattle.std.proofs.Common.{None, IsSome, IfSome, ◌↔◌, refl, ap, ◌∙◌, arith}
 use Rattle.std.proofs.lemmas.Bool.Decides.{nat_tests}
-use Rattle.site_base.specs.declared.limits.TheConstants.{GREATEST_SEQ}
+use Rattle.site_base.specs.declared.numbers.TheConstants.{GREATEST_SEQ}
 use Rattle.transaction_buffer.specs.Sales.{next_after}
 
 pub next_is : (o : Option ℕ) (n made : ℕ) → n ≡ made + 1

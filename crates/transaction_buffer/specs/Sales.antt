@@ -5,7 +5,8 @@ use Rattle.std.specs.Prelude.{nat_lt, if◌then◌else◌}
 use Rattle.std.specs.Ordering.{nat_cmp}
 use Rattle.std.specs.FinMap as finite
 use Rattle.std.specs.FinMap.{FinMap}
-use Rattle.site_base.specs.declared.limits.TheConstants.{GREATEST_SEQ, GREATEST_SHIFT}
+use Rattle.site_base.specs.declared.numbers.TheConstants.{GREATEST_SHIFT}
+use Rattle.site_base.specs.declared.numbers.TheConstants.{GREATEST_SEQ}
 use Rattle.site_base.specs.declared.state.Status.{Status}
 use Rattle.site_base.specs.declared.state.Status.TheVariants as statuses
 use Rattle.site_base.specs.declared.view.TransactionView.{TransactionView}

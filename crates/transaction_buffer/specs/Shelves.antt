@@ -3,7 +3,9 @@
 use Rattle.std.specs.Prelude.{◌≡◌, ℕ, ◌+◌, ◌-◌, ◌<◌, ◌≤◌, List, [], ◌∷◌, length, map, Option}
 use Rattle.std.specs.Prelude.{option_map, Some, None, ◌==◌, if◌then◌else◌, slice_index_or}
 use Rattle.std.specs.FinMap as finite
-use Rattle.site_base.specs.declared.limits.TheConstants.{GREATEST_SEQ, GREATEST_SHIFT, UNPAID_LIMIT}
+use Rattle.transaction_buffer.specs.declared.shelf.TheConstants.{UNPAID_LIMIT}
+use Rattle.site_base.specs.declared.numbers.TheConstants.{GREATEST_SHIFT}
+use Rattle.site_base.specs.declared.numbers.TheConstants.{GREATEST_SEQ}
 use Rattle.site_base.specs.Cells.{entries_from}
 use Rattle.transaction_buffer.specs.declared.locked_points.Lockers.{Lockers}
 use Rattle.transaction_buffer.specs.declared.span.Span.{Span}

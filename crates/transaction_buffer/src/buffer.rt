@@ -2,7 +2,8 @@
 
 ghost use Rattle.std.specs.Prelude.{◌≡◌, ◌≢◌, ℕ, ◌+◌, ◌^◌, ◌<◌, ◌≤◌, true, Some, None, is_some};
 ghost use Rattle.std.specs.Prelude.{length, IfErr, IfSome, OnErr, OnOk};
-ghost use Rattle.site_base.specs.declared.limits.TheConstants.{POINT_CELLS, UNPAID_LIMIT};
+ghost use Rattle.site_base.specs.declared.limits.TheConstants.{POINT_CELLS};
+ghost use Rattle.transaction_buffer.specs.declared.shelf.TheConstants.{UNPAID_LIMIT};
 ghost use Rattle.transaction_buffer.specs.Sales.{key, no_sales, HasNoneLater, has_sale, sale_of};
 ghost use Rattle.transaction_buffer.specs.Sales.{next_number, unpaid_at, with_new, is_new};
 ghost use Rattle.transaction_buffer.specs.Sales.{new_sale, view_of_sale};

@@ -2,8 +2,9 @@
 
 ghost use Rattle.std.specs.Prelude.{◌≡◌, ℕ, ◌+◌, ◌-◌, ◌^◌, ◌<◌, ◌≤◌, [], ◌∷◌, ◌++◌, true, IfSome};
 ghost use Rattle.std.specs.Prelude.{length, map, OnErr, OnOk, slice_index_or, slice_set};
-ghost use Rattle.site_base.specs.declared.limits.TheConstants.{GREATEST_SEQ, GREATEST_SHIFT};
-ghost use Rattle.site_base.specs.declared.limits.TheConstants.{UNPAID_LIMIT};
+ghost use Rattle.site_base.specs.declared.numbers.TheConstants.{GREATEST_SHIFT};
+ghost use Rattle.site_base.specs.declared.numbers.TheConstants.{GREATEST_SEQ};
+ghost use Rattle.transaction_buffer.specs.declared.shelf.TheConstants.{UNPAID_LIMIT};
 ghost use Rattle.transaction_buffer.specs.Sales.{Sale, is_unpaid, made_in, next_after};
 ghost use Rattle.transaction_buffer.specs.Sales.{unpaid_among};
 ghost use Rattle.transaction_buffer.specs.Shelves.{NoneAfter, no_span, place_in, shifts_of};
@@ -26,6 +27,9 @@ use site_base::{GREATEST_SHIFT, NoMemory, Seq, ShiftNo, TillNo};
 use std::alloc::Global;
 use std::marker::Model;
 
+/// Unpaid transactions (payable or locked) that a fuelling point may have.
+pub const UNPAID_LIMIT: u8 = 2;
+
 /// The sales of a fuelling point in the order in which they were made. At most `UNPAID_LIMIT` of
 /// them are unpaid. A sale is found at its place, without a search.
 #[derive(Drop)]
@@ -39,7 +43,7 @@ pub struct Shelf {
 
 impl Model for Shelf {
     ghost use Rattle.std.specs.Prelude.{◌-◌, ◌==◌, if◌then◌else◌, vec_len, vec_capacity};
-    ghost use Rattle.site_base.specs.declared.limits.TheConstants.{GREATEST_SHIFT};
+    ghost use Rattle.site_base.specs.declared.numbers.TheConstants.{GREATEST_SHIFT};
     ghost use Rattle.transaction_buffer.specs.LockedSales.{lockers_at};
     ghost use Rattle.transaction_buffer.specs.Shelves.{Shelf as ShelfFacts, IsShelf};
 

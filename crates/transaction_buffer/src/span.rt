@@ -1,7 +1,7 @@
 //! Where the sales of a shift stand on a shelf.
 
 ghost use Rattle.std.specs.Prelude.{◌≡◌, ◌<◌};
-ghost use Rattle.site_base.specs.declared.limits.TheConstants.{GREATEST_SEQ};
+ghost use Rattle.site_base.specs.declared.numbers.TheConstants.{GREATEST_SEQ};
 
 /// Where the sales of a shift stand on a shelf: so many, from this place on.
 #[derive(Clone, Copy, Debug, PartialEq, Eq)]

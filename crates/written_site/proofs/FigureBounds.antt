@@ -7,7 +7,8 @@ use Rattle.std.proofs.Math.Nat.{div-le_of_le-mul, mul-le-mul_left}
 use Rattle.std.proofs.lemmas.Bool.Decides.{nat_tests}
 use Rattle.std.proofs.lemmas.List.Sums.{sum_by-cons}
 use Rattle.std.specs.List.{range_with_len, slice_get, sum_by}
-use Rattle.site_base.specs.declared.limits.TheConstants.{GREATEST_PRICE, PRODUCT_CELLS, TILLS}
+use Rattle.site_base.specs.declared.limits.TheConstants.{PRODUCT_CELLS, TILLS}
+use Rattle.site_base.specs.declared.amounts.TheConstants.{GREATEST_PRICE}
 use Rattle.site_base.specs.Amounts.{amount}
 use Rattle.site_base.specs.Members.{member}
 use Rattle.site_base.proofs.Numbering.{numbered_place, numbered_there}

@@ -7,7 +7,7 @@ use Rattle.site_base.specs.declared.event.Event.{Event}
 use Rattle.site_base.specs.declared.event.Event.TheVariants.{Terminate, Clear, ReadTransaction}
 use Rattle.site_base.specs.declared.event.Event.TheVariants.{ReadProduct, Lift, Offline, Flow}
 use Rattle.site_base.specs.declared.event.Event.TheVariants.{HangUp}
-use Rattle.site_base.specs.declared.limits.TheConstants.{GROWTH_LIMIT}
+use Rattle.site_base.specs.declared.amounts.TheConstants.{GROWTH_LIMIT}
 use Rattle.site_base.specs.declared.refusal.Refusal.TheVariants.{MeterGap, MeterBack, MeterJump}
 use Rattle.site_base.specs.declared.row.Row.{Row}
 use Rattle.site_base.specs.declared.view.TransactionView.{TransactionView}

@@ -12,7 +12,7 @@ use Rattle.site_base.specs.declared.event.Event.{Event}
 use Rattle.site_base.specs.declared.event.Event.TheVariants.{SignOff, Lock, Unlock, Clear}
 use Rattle.site_base.specs.declared.event.Event.TheVariants.{Terminate, ReadTransaction, Lift, Flow}
 use Rattle.site_base.specs.declared.event.Event.TheVariants.{Offline, HangUp}
-use Rattle.site_base.specs.declared.limits.TheConstants.{UNPAID_LIMIT}
+use Rattle.transaction_buffer.specs.declared.shelf.TheConstants.{UNPAID_LIMIT}
 use Rattle.site_base.specs.declared.row.Row.{Row}
 use Rattle.site_base.specs.Configured.{Configured}
 use Rattle.fuelling_point.specs.declared.event.PointEvent.{PointEvent}

@@ -10,7 +10,8 @@ use Rattle.std.proofs.lemmas.List.Folds.{list_all-append}
 use Rattle.std.specs.List.{list_all}
 use Rattle.site_base.specs.declared.event.Event.{Event}
 use Rattle.site_base.specs.declared.event.Event.TheVariants.{CloseShift, Offline, HangUp}
-use Rattle.site_base.specs.declared.limits.TheConstants.{GREATEST_SHIFT, PRODUCT_CELLS}
+use Rattle.site_base.specs.declared.limits.TheConstants.{PRODUCT_CELLS}
+use Rattle.site_base.specs.declared.numbers.TheConstants.{GREATEST_SHIFT}
 use Rattle.site_base.specs.declared.refusal.Refusal.TheVariants.{ShiftsSpent}
 use Rattle.site_base.specs.Checks.{unless}
 use Rattle.site_base.specs.Members.{member}

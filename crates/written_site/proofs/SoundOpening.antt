@@ -11,7 +11,9 @@ use Rattle.std.specs.Ordering.{nat_cmp}
 use Rattle.std.specs.Prelude.{nat_eq}
 use Rattle.std.specs.FinMap.{get-empty}
 use Rattle.site_base.specs.declared.config.NozzleEntry.{NozzleEntry}
-use Rattle.site_base.specs.declared.limits.TheConstants.{GREATEST_READING, GREATEST_ROWS, NOZZLES}
+use Rattle.site_base.specs.declared.limits.TheConstants.{NOZZLES}
+use Rattle.site_base.specs.declared.config.TheConstants.{GREATEST_ROWS}
+use Rattle.site_base.specs.declared.amounts.TheConstants.{GREATEST_READING}
 use Rattle.site_base.specs.declared.limits.TheConstants.{POINTS, PRODUCTS}
 use Rattle.site_base.specs.declared.state.PointState.TheVariants.{Closed}
 use Rattle.site_base.specs.Ranges.{is_between}

@@ -8,7 +8,8 @@ use Rattle.site_base.specs.declared.event.Event.TheVariants.{SignOn, SignOff, Re
 use Rattle.site_base.specs.declared.event.Event.TheVariants.{ReadPoint, Lock, Unlock, Clear}
 use Rattle.site_base.specs.declared.event.Event.TheVariants.{ReadTransaction, SetPrice, ReadProduct}
 use Rattle.site_base.specs.declared.event.Event.TheVariants.{CloseShift, ReadSite, Flow, HangUp}
-use Rattle.site_base.specs.declared.limits.TheConstants.{GREATEST_READING, REPLACEMENT_LIMIT}
+use Rattle.meters.specs.declared.meter.TheConstants.{REPLACEMENT_LIMIT}
+use Rattle.site_base.specs.declared.amounts.TheConstants.{GREATEST_READING}
 use Rattle.fuelling_point.specs.declared.event.PointEvent.{PointEvent}
 use Rattle.fuelling_point.specs.declared.event.PointEvent.TheVariants as points
 use Rattle.fuelling_point.specs.KeptPoints.{Facts, growth_of, is_under_way}

@@ -18,7 +18,7 @@ use Rattle.site_base.specs.declared.refusal.Refusal.{Refusal}
 use Rattle.transaction_buffer.specs.declared.request.Request.{Request}
 use Rattle.transaction_buffer.specs.declared.request.Request.TheVariants as requests
 use Rattle.transaction_buffer.specs.declared.standing.Standing.TheVariants.{Payable}
-use Rattle.site_base.specs.declared.limits.TheConstants.{UNPAID_LIMIT}
+use Rattle.transaction_buffer.specs.declared.shelf.TheConstants.{UNPAID_LIMIT}
 use Rattle.transaction_buffer.specs.Sales.{Key, Sale, Sales, made_at, unpaid_at, with_new}
 use Rattle.transaction_buffer.specs.Sales.{is_unpaid}
 use Rattle.transaction_buffer.specs.TransactionTable.{Line, line_for, sale_after}

@@ -11,7 +11,8 @@ use Rattle.site_base.specs.declared.actor.Actor.{Actor}
 use Rattle.site_base.specs.declared.actor.Actor.TheVariants.{Till, Dispenser}
 use Rattle.site_base.specs.declared.event.Event.{Event}
 use Rattle.site_base.specs.declared.event.Event.TheVariants.{Lock, Unlock, Clear, Flow, HangUp}
-use Rattle.site_base.specs.declared.limits.TheConstants.{GREATEST_READING, PRODUCT_CELLS}
+use Rattle.site_base.specs.declared.limits.TheConstants.{PRODUCT_CELLS}
+use Rattle.site_base.specs.declared.amounts.TheConstants.{GREATEST_READING}
 use Rattle.site_base.specs.Members.{member}
 use Rattle.site_base.specs.Table.{row_of}
 use Rattle.site_base.proofs.Numbering.{numbered_place, numbered_within}

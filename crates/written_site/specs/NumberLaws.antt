@@ -4,7 +4,8 @@ use Rattle.std.specs.Prelude.{◌≡◌, ℕ, ◌+◌, ◌<◌, ◌≤◌, Bool,
 use Rattle.std.specs.Prelude.{Option, Some, None, is_ok}
 use Rattle.site_base.specs.declared.event.Event.{Event}
 use Rattle.site_base.specs.declared.event.Event.TheVariants.{Clear}
-use Rattle.site_base.specs.declared.limits.TheConstants.{GREATEST_SEQ, UNPAID_LIMIT}
+use Rattle.transaction_buffer.specs.declared.shelf.TheConstants.{UNPAID_LIMIT}
+use Rattle.site_base.specs.declared.numbers.TheConstants.{GREATEST_SEQ}
 use Rattle.site_base.specs.declared.row.Row.{Row}
 use Rattle.site_base.specs.Configured.{Configured}
 use Rattle.transaction_buffer.specs.Sales.{Key, unpaid_at}

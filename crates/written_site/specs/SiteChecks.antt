@@ -11,9 +11,11 @@ use Rattle.site_base.specs.declared.event.Event.TheVariants.{ReplaceMeter, ReadP
 use Rattle.site_base.specs.declared.event.Event.TheVariants.{Clear, ReadTransaction, SetPrice}
 use Rattle.site_base.specs.declared.event.Event.TheVariants.{ReadProduct, CloseShift, ReadSite}
 use Rattle.site_base.specs.declared.event.Event.TheVariants.{Online, Offline, Lift, Flow, HangUp}
-use Rattle.site_base.specs.declared.limits.TheConstants.{GREATEST_PRESET, GREATEST_PRICE}
-use Rattle.site_base.specs.declared.limits.TheConstants.{GREATEST_SHIFT, REPLACEMENT_LIMIT}
-use Rattle.site_base.specs.declared.limits.TheConstants.{UNPAID_LIMIT}
+use Rattle.site_base.specs.declared.state.TheConstants.{GREATEST_PRESET}
+use Rattle.site_base.specs.declared.amounts.TheConstants.{GREATEST_PRICE}
+use Rattle.meters.specs.declared.meter.TheConstants.{REPLACEMENT_LIMIT}
+use Rattle.site_base.specs.declared.numbers.TheConstants.{GREATEST_SHIFT}
+use Rattle.transaction_buffer.specs.declared.shelf.TheConstants.{UNPAID_LIMIT}
 use Rattle.site_base.specs.declared.refusal.Refusal.{Refusal}
 use Rattle.site_base.specs.declared.refusal.Refusal.TheVariants.{NotSignedOn, SignedOn, NoSuchPoint}
 use Rattle.site_base.specs.declared.refusal.Refusal.TheVariants.{NoSuchNozzle, NoSuchProduct}

@@ -6,9 +6,12 @@ use Rattle.std.specs.List.{list_all}
 use Rattle.site_base.specs.declared.actor.Actor.{Actor}
 use Rattle.site_base.specs.declared.config.NozzleEntry.{NozzleEntry}
 use Rattle.site_base.specs.declared.event.Event.{Event}
-use Rattle.site_base.specs.declared.limits.TheConstants.{GREATEST_PRICE, GREATEST_READING}
-use Rattle.site_base.specs.declared.limits.TheConstants.{GREATEST_SEQ, GREATEST_SHIFT}
-use Rattle.site_base.specs.declared.limits.TheConstants.{PRODUCT_CELLS, PRODUCTS, UNPAID_LIMIT}
+use Rattle.site_base.specs.declared.amounts.TheConstants.{GREATEST_PRICE}
+use Rattle.site_base.specs.declared.amounts.TheConstants.{GREATEST_READING}
+use Rattle.site_base.specs.declared.numbers.TheConstants.{GREATEST_SHIFT}
+use Rattle.site_base.specs.declared.numbers.TheConstants.{GREATEST_SEQ}
+use Rattle.site_base.specs.declared.limits.TheConstants.{PRODUCT_CELLS, PRODUCTS}
+use Rattle.transaction_buffer.specs.declared.shelf.TheConstants.{UNPAID_LIMIT}
 use Rattle.site_base.specs.Amounts.{amount}
 use Rattle.site_base.specs.Ranges.{is_between}
 use Rattle.site_base.specs.declared.config.ProductEntry.{ProductEntry}

@@ -5,8 +5,9 @@ use Rattle.std.specs.Prelude.{Option, Some, None, is_some, unwrap_or}
 use Rattle.site_base.specs.declared.actor.Actor.{Actor}
 use Rattle.site_base.specs.declared.actor.Actor.TheVariants.{Till}
 use Rattle.site_base.specs.declared.event.Event.{Event}
-use Rattle.site_base.specs.declared.limits.TheConstants.{GREATEST_READING, PRODUCT_CELLS}
-use Rattle.site_base.specs.declared.limits.TheConstants.{UNPAID_LIMIT}
+use Rattle.site_base.specs.declared.limits.TheConstants.{PRODUCT_CELLS}
+use Rattle.site_base.specs.declared.amounts.TheConstants.{GREATEST_READING}
+use Rattle.transaction_buffer.specs.declared.shelf.TheConstants.{UNPAID_LIMIT}
 use Rattle.site_base.specs.declared.state.Status.{Status}
 use Rattle.site_base.specs.declared.state.Status.TheVariants as statuses
 use Rattle.site_base.specs.Members.{member}

@@ -1,8 +1,9 @@
 //! Words that are one number or a few.
 
 ghost use Rattle.std.specs.Prelude.{ℕ, IfNone, IfSome};
-ghost use Rattle.site_base.specs.declared.limits.TheConstants.{GREATEST_READING, GREATEST_SEQ};
-ghost use Rattle.site_base.specs.declared.limits.TheConstants.{GREATEST_SHIFT};
+ghost use Rattle.site_base.specs.declared.numbers.TheConstants.{GREATEST_SEQ};
+ghost use Rattle.site_base.specs.declared.amounts.TheConstants.{GREATEST_READING};
+ghost use Rattle.site_base.specs.declared.numbers.TheConstants.{GREATEST_SHIFT};
 ghost use Rattle.forecourt_engines.specs.declared.words.parts.TheConstants.{GREATEST_AMOUNT};
 ghost use Rattle.forecourt_engines.specs.declared.words.parts.TheConstants.{GREATEST_TOKEN};
 ghost use Rattle.site_base.specs.declared.limits.TheConstants.{NOZZLES, POINTS, PRODUCTS, TILLS};

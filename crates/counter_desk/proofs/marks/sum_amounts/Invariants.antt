@@ -1,5 +1,6 @@
 use Rattle.std.proofs.Common.{◌≡◌, ◌*◌, ◌≤◌, take}
-use Rattle.site_base.specs.declared.limits.TheConstants.{GREATEST_CENTS, GROWTH_LIMIT}
+use Rattle.site_base.specs.declared.amounts.TheConstants.{GROWTH_LIMIT}
+use Rattle.site_base.specs.declared.amounts.TheConstants.{GREATEST_CENTS}
 use Rattle.written_site.specs.RowWords.{total}
 use Rattle.counter_desk.specs.Receipts.{cents_receipted, growth_receipted}
 use Rattle.counter_desk.specs.Roots.{calls_in, lists_of}

@@ -1,6 +1,6 @@
 use Rattle.std.proofs.Common.{◌≡◌, true, nat_le, take}
 use Rattle.std.specs.List.{list_all}
-use Rattle.site_base.specs.declared.limits.TheConstants.{GREATEST_READING}
+use Rattle.site_base.specs.declared.amounts.TheConstants.{GREATEST_READING}
 use Rattle.site_core.proofs.ranges.nozzle_ranges.Given as goal
 
 abbrev pub invariant-loop-nozzle : goal.invariant-loop-nozzle

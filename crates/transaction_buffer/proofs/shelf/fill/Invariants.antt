@@ -1,5 +1,5 @@
 use Rattle.std.proofs.Common.{◌≡◌, ◌≤◌, ◌-◌, ℕ, get_or, length}
-use Rattle.site_base.specs.declared.limits.TheConstants.{GREATEST_SHIFT}
+use Rattle.site_base.specs.declared.numbers.TheConstants.{GREATEST_SHIFT}
 use Rattle.transaction_buffer.specs.Shelves.{no_span}
 use Rattle.transaction_buffer.proofs.shelf.fill.Given as goal
 

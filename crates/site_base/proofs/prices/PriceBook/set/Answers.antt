@@ -1,5 +1,5 @@
 use Rattle.std.proofs.Common.{◌≡◌, ℕ, ◌≤◌, List, false, is_some, sym, ap, subst, ◌∙◌}
-use Rattle.site_base.specs.declared.limits.TheConstants.{GREATEST_PRICE}
+use Rattle.site_base.specs.declared.amounts.TheConstants.{GREATEST_PRICE}
 use Rattle.site_base.specs.Table.{row_of}
 use Rattle.site_base.proofs.PriceRanges.{in_range-set}
 use Rattle.site_base.proofs.Places.{with_row_by-absent}

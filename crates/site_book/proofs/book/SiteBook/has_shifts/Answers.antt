@@ -1,5 +1,5 @@
 use Rattle.std.proofs.Common.{◌≤◌, subst}
-use Rattle.site_base.specs.declared.limits.TheConstants.{GREATEST_SHIFT}
+use Rattle.site_base.specs.declared.numbers.TheConstants.{GREATEST_SHIFT}
 use Rattle.written_site.specs.RowWords.{open_after}
 use Rattle.site_book.specs.Book.{Book}
 use Rattle.site_book.proofs.BookSales.{shifts_fit}

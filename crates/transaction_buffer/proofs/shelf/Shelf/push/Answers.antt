@@ -2,7 +2,7 @@ use Rattle.std.proofs.Common.{◌≡◌, ◌≤◌, ◌+◌, ◌-◌, ◌∷◌,
 use Rattle.std.proofs.Common.{if◌then◌else◌, vec_len, vec_capacity, sym, ap, subst, ◌∙◌, arith}
 use Rattle.std.proofs.Math.ListN.{set}
 use Rattle.std.proofs.lemmas.List.{length-map, length-set, get_or_default}
-use Rattle.site_base.specs.declared.limits.TheConstants.{GREATEST_SHIFT}
+use Rattle.site_base.specs.declared.numbers.TheConstants.{GREATEST_SHIFT}
 use Rattle.transaction_buffer.specs.declared.span.Span.{Span}
 use Rattle.transaction_buffer.specs.Sales.{Sale, unpaid_among}
 use Rattle.transaction_buffer.specs.Shelves.{AreSpans, shifts_of, no_span}
