@@ -101,11 +101,24 @@ answer_items (answers.SiteIs view) = site_items view
 
 -- an Answer where something was read, else an Ack
 abbrev pub answer_kind : Answer → Kind
+answer_kind answers.Done = kinds.Ack
+answer_kind answers.Calling = kinds.Ack
+answer_kind (answers.Start preset price) = kinds.Ack
+answer_kind (answers.Flowed growth) = kinds.Ack
+answer_kind answers.HungUp = kinds.Ack
+answer_kind answers.NoSale = kinds.Ack
+answer_kind (answers.Sold seq growth) = kinds.Ack
+answer_kind answers.Stopped = kinds.Ack
+answer_kind answers.Ending = kinds.Ack
+answer_kind answers.Locked = kinds.Ack
+answer_kind answers.Unlocked = kinds.Ack
+answer_kind (answers.Cleared cents) = kinds.Ack
+answer_kind (answers.ShiftClosed shift) = kinds.Ack
+answer_kind (answers.Drawn growth) = kinds.Ack
 answer_kind (answers.PointIs view) = kinds.Answer
 answer_kind (answers.TransactionIs view) = kinds.Answer
 answer_kind (answers.ProductIs view) = kinds.Answer
 answer_kind (answers.SiteIs view) = kinds.Answer
-answer_kind answer = kinds.Ack
 
 abbrev pub detail_items : Option ℕ → List Entry
 detail_items None = []

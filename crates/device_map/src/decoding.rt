@@ -3,6 +3,7 @@
 ghost use Rattle.std.specs.Prelude.{◌≡◌, IfOk, IfSome};
 ghost use Rattle.device_map.specs.Replies.{told_message, told_number};
 
+use crate::address::Database;
 use crate::decimal::Digits;
 use crate::ids;
 use crate::reply::{number_like, reply_like};
@@ -139,17 +140,12 @@ fn refusal_with_detail(told: u8, detail: u64) -> Option<Refusal> {
 
 /// What a read told, by the database that it read.
 fn view(message: &Message) -> Option<Answer> {
-    let address = message.address();
-    if address.len() > 1 {
-        return Some(Answer::TransactionIs(transaction(message)?));
+    match Database::at(message.address()).ok()? {
+        Database::Site => Some(Answer::SiteIs(site(message)?)),
+        Database::Point(_) => Some(Answer::PointIs(point(message)?)),
+        Database::Transaction(_, _) => Some(Answer::TransactionIs(transaction(message)?)),
+        Database::Product(_) => Some(Answer::ProductIs(product(message)?)),
     }
-    if address[0] == ids::SITE_ADDRESS {
-        return Some(Answer::SiteIs(site(message)?));
-    }
-    if address[0] > ids::PRODUCT_ADDRESS {
-        return Some(Answer::ProductIs(product(message)?));
-    }
-    Some(Answer::PointIs(point(message)?))
 }
 
 fn point(message: &Message) -> Option<PointView> {

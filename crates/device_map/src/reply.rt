@@ -3,7 +3,7 @@
 ghost use Rattle.std.specs.Prelude.{◌≡◌, ◌≤◌, [], length, unwrap_or, IfOk, OnOk};
 ghost use Rattle.app_message.specs.Telegram.{telegram};
 ghost use Rattle.app_message.specs.Bodies.{with_items};
-ghost use Rattle.device_map.specs.Replies.{preset_items, prepaid_items, point_items, test_items};
+ghost use Rattle.device_map.specs.Replies.{answer_kind, preset_items, prepaid_items, point_items, test_items};
 ghost use Rattle.device_map.specs.Replies.{standing_items};
 ghost use Rattle.device_map.specs.Replies.{transaction_items, product_items, site_items, outcome};
 ghost use Rattle.device_map.specs.Replies.{answer_items, refusal_items};
@@ -153,11 +153,22 @@ fn kind_of(reply: &Reply) -> Kind
     ensures { result ≡ reply_kind reply.now }
 {
     match reply {
-        Ok(Answer::PointIs(_)) => Kind::Answer,
-        Ok(Answer::TransactionIs(_)) => Kind::Answer,
-        Ok(Answer::ProductIs(_)) => Kind::Answer,
-        Ok(Answer::SiteIs(_)) => Kind::Answer,
-        _ => Kind::Ack,
+        Ok(answer) => answer_kind(answer),
+        Err(_) => Kind::Ack,
+    }
+}
+
+/// An Answer where something was read, else an Ack.
+fn answer_kind(answer: &Answer) -> Kind
+    ensures { result ≡ answer_kind answer.now }
+{
+    match answer {
+        Answer::Done | Answer::Calling | Answer::Start { .. } | Answer::Flowed(_) => Kind::Ack,
+        Answer::HungUp | Answer::NoSale | Answer::Sold { .. } | Answer::Stopped => Kind::Ack,
+        Answer::Ending | Answer::Locked | Answer::Unlocked | Answer::Cleared(_) => Kind::Ack,
+        Answer::ShiftClosed(_) | Answer::Drawn { .. } => Kind::Ack,
+        Answer::PointIs(_) | Answer::TransactionIs(_) => Kind::Answer,
+        Answer::ProductIs(_) | Answer::SiteIs(_) => Kind::Answer,
     }
 }
 

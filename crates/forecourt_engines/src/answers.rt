@@ -11,25 +11,25 @@ ghost use Rattle.app_message.specs.declared.sizes.TheConstants.{HEADER, LONGEST_
 
 use crate::plain_digits::{LANES, write_digits};
 use app_message::{Message, SpelledMessage};
-use device_map::{change_of, refusal_in, reply_in, request_in};
+use device_map::{change_of, request_in};
+use peer_talk::ReplyWriter;
 use site_base::{Answer, NoMemory, NoRow, Reply, Row};
 use site_book::SiteBook;
 use std::alloc::Global;
 use std::marker::Model;
-use std::mem;
 
 /// As many as most lines have octets: to append all of them, and to cut off what is too much, is
 /// cheaper than to append just so many as are needed.
 const LINE_FEEDS: [u8; 128] = [b'\n'; 128];
 
 /// What answers messages: a book, and whether the changes of its rows are told too. Beside that it
-/// has the room of the last answer, which serves the next one.
+/// has what writes the answers.
 #[derive(Drop)]
 pub struct Answerer {
     alloc: Global,
     book: SiteBook,
     changes: bool,
-    room: Vec<u8>,
+    writer: ReplyWriter,
 }
 
 impl Model for Answerer {
@@ -49,7 +49,7 @@ impl Answerer {
             alloc,
             book,
             changes,
-            room: Vec::new(alloc),
+            writer: ReplyWriter::new(alloc),
         }
     }
 
@@ -117,7 +117,7 @@ impl Answerer {
         ensures text { OnOk result (out.new.items ≡ out.old.items
             ++ line_of (reply_message message.now reply.now)) }
     {
-        let answer = reply_in(self.take_room(), message, reply)?;
+        let answer = self.writer.write_reply(message, reply)?;
         self.tell(answer, out)
     }
 
@@ -132,27 +132,19 @@ impl Answerer {
         ensures text { OnOk result (out.new.items ≡ out.old.items
             ++ line_of (number_message message.now number)) }
     {
-        let refusal = refusal_in(self.take_room(), message, number)?;
+        let refusal = self.writer.write_number(message, number)?;
         self.tell(refusal, out)
     }
 
-    /// Appends an answer as a line, and keeps its room.
+    /// Appends an answer as a line, and gives its buffer back.
     #[inline(always)]
     fn tell(&mut self, answer: Message, out: &mut Vec<u8>) -> Result<(), NoMemory>
         ensures same { self.new ≡ self.old }
         ensures text { OnOk result (out.new.items ≡ out.old.items ++ line_of answer) }
     {
         put_line(out, &answer)?;
-        self.room = answer.into_buffer();
+        self.writer.give_back(answer);
         Ok(())
-    }
-
-    /// The room for an answer.
-    #[inline(always)]
-    fn take_room(&mut self) -> Vec<u8>
-        ensures { self.new ≡ self.old }
-    {
-        mem::replace(&mut self.room, Vec::new(self.alloc))
     }
 }
 

@@ -18,10 +18,9 @@ use Rattle.device_map.specs.Requests.{request_at}
 use Rattle.device_map.specs.Ways.{sends, way_to}
 use Rattle.written_site.specs.SiteState.{is_signed_on}
 use Rattle.site_book.specs.Book.{Book, book_reply, is_full, site_of_book, with_row_of}
-use Rattle.till_session.specs.declared.fault.SessionFault.TheVariants as faults
-use Rattle.till_session.specs.declared.fault.TalkFault.TheVariants as talk
-use Rattle.till_session.specs.declared.talk.Meaning.TheVariants as meanings
-use Rattle.till_session.specs.Text.{as_meaning, is_another, meaning_at}
+use Rattle.peer_talk.specs.declared.fault.TalkFault.TheVariants as talk
+use Rattle.peer_talk.specs.declared.talk.Meaning.TheVariants as meanings
+use Rattle.peer_talk.specs.Text.{as_meaning, is_another, meaning_at}
 use Rattle.station.specs.declared.peer_end.PeerEnd.{PeerEnd}
 use Rattle.station.specs.declared.peer_end.PeerEnd.TheVariants as ends
 use Rattle.station.specs.Moves.{StationState, finish_at, free, hear_from, with_end, with_octets}
@@ -121,8 +120,8 @@ adds_refused memory (Some f) t = by_test (is_none t.session.end)
   where
     by_test : (lasts : Bool)
         → Adds t.book (if lasts
-        then tell_last memory (spelling (fault_message f)) (ends.Fault (faults.Talk
-        (talk.Stream f.fault))) t
+        then tell_last memory (spelling (fault_message f)) (ends.Talk
+        (talk.Stream f.fault)) t
         else t).book
     by_test true = adds_last memory (spelling (fault_message f)) _ t
     by_test false = adds_same t.book t.book refl

@@ -13,5 +13,6 @@ mod report;
 pub use laws::{
     growth_raises_one_total, reports_are_metered, stays_within_bounds, totals_are_metered,
 };
+pub use meter::REPLACEMENT_LIMIT;
 pub use meters::Meters;
 pub use report::Report;

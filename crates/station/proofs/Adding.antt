@@ -19,14 +19,13 @@ use Rattle.device_map.specs.Replies.{fault_message}
 use Rattle.device_map.specs.Requests.{request_at}
 use Rattle.site_book.specs.Book.{Book, next_row, site_of_book, with_row_of}
 use Rattle.written_site.specs.SiteState.{is_signed_on}
-use Rattle.till_session.specs.declared.fault.SessionFault.TheVariants as faults
-use Rattle.till_session.specs.declared.fault.TalkFault.TheVariants as talk
-use Rattle.till_session.specs.declared.talk.Meaning.{Meaning}
-use Rattle.till_session.specs.declared.talk.Meaning.TheVariants as meanings
-use Rattle.till_session.specs.Counters.{Asked, request_asked, row_made, rows_made, sign_off_row}
-use Rattle.till_session.specs.Counters.{signed_by, signed_on_after}
-use Rattle.till_session.specs.Text.{is_another, meaning_at, peer_after, requests_in}
-use Rattle.till_session.proofs.Speakers.{fault_meant, request_meant}
+use Rattle.peer_talk.specs.declared.fault.TalkFault.TheVariants as talk
+use Rattle.peer_talk.specs.declared.talk.Meaning.{Meaning}
+use Rattle.peer_talk.specs.declared.talk.Meaning.TheVariants as meanings
+use Rattle.peer_talk.specs.Exchanges.{Asked, request_asked, row_made, rows_made, sign_off_row}
+use Rattle.peer_talk.specs.Exchanges.{signed_by, signed_on_after}
+use Rattle.peer_talk.specs.Text.{is_another, meaning_at, peer_after, requests_in}
+use Rattle.peer_talk.proofs.Speakers.{fault_meant, request_meant}
 use Rattle.station.specs.declared.peer_end.PeerEnd.{PeerEnd}
 use Rattle.station.specs.declared.peer_end.PeerEnd.TheVariants as ends
 use Rattle.station.specs.Adding.{AddsRequests, AddsSignOff, IsLeaving, is_silent, till_left}
@@ -277,8 +276,8 @@ refused_asks peer on ms b memory (Some f) t a = by_end t.session.end refl
   where
     by_end : (e : Option PeerEnd) → t.session.end ≡ e
         → AddsRequests peer on ms b (if is_none e
-        then tell_last memory (spelling (fault_message f)) (ends.Fault (faults.Talk
-        (talk.Stream f.fault))) t
+        then tell_last memory (spelling (fault_message f)) (ends.Talk
+        (talk.Stream f.fault)) t
         else t).book
     by_end None lasts = then_left peer on ms b _ t a lasts (last_leaves memory _ _ t)
     by_end (Some end) over = a.adds

@@ -18,15 +18,14 @@ use Rattle.device_map.specs.Changes.{change_by}
 use Rattle.device_map.specs.Faults.{map_number}
 use Rattle.device_map.specs.Replies.{fault_message}
 use Rattle.site_book.specs.Book.{Book}
-use Rattle.till_session.specs.declared.fault.SessionFault.TheVariants as faults
-use Rattle.till_session.specs.declared.fault.TalkFault.TheVariants as talk
-use Rattle.till_session.specs.declared.fault.TheConstants.{ORIGINATOR_CHANGED}
-use Rattle.till_session.specs.declared.talk.Meaning.{Meaning}
-use Rattle.till_session.specs.declared.talk.Meaning.TheVariants as meanings
-use Rattle.till_session.specs.Counters.{Outcome, row_made, signed_by}
-use Rattle.till_session.specs.Course.{TalkState}
-use Rattle.till_session.specs.Text.{meaning_at, number_text, outcome_text, peer_after}
-use Rattle.till_session.proofs.Speakers.{another_meant, same_peer}
+use Rattle.peer_talk.specs.declared.fault.TalkFault.TheVariants as talk
+use Rattle.peer_talk.specs.declared.fault.TheConstants.{ORIGINATOR_CHANGED}
+use Rattle.peer_talk.specs.declared.talk.Meaning.{Meaning}
+use Rattle.peer_talk.specs.declared.talk.Meaning.TheVariants as meanings
+use Rattle.peer_talk.specs.Exchanges.{Outcome, row_made, signed_by}
+use Rattle.peer_talk.specs.Talks.{TalkState}
+use Rattle.peer_talk.specs.Text.{meaning_at, number_text, outcome_text, peer_after}
+use Rattle.peer_talk.proofs.Speakers.{another_meant, same_peer}
 use Rattle.station.specs.declared.peer.Peer.{Peer}
 use Rattle.station.specs.declared.peer_end.PeerEnd.{PeerEnd}
 use Rattle.station.specs.declared.peer_end.PeerEnd.TheVariants as ends
@@ -168,11 +167,11 @@ pub answers_another : (memory : Bool) (m : Telegram) (b : Book) (p : Peer) (talk
     → p.end ≡ None → meaning_at p.talk.peer m ≡ meanings.Another
     → talked ≡ record p.talk { peer = peer_after p.talk.peer m.from }
     → t' ≡ tell_last memory (number_text m ORIGINATOR_CHANGED)
-    (ends.Fault (faults.Talk talk.OriginatorChanged))
+    (ends.Talk talk.OriginatorChanged)
     (record { book = b; session = record (session_of p) { talk = talked } })
     → Answers m (turn_of b p) t' others others
 answers_another memory m b p talked t' others lasts is met turn =
-    let end : PeerEnd = ends.Fault (faults.Talk talk.OriginatorChanged) in
+    let end : PeerEnd = ends.Talk talk.OriginatorChanged in
     let text = number_text m ORIGINATOR_CHANGED in
     let same : talked ≡ p.talk =
     met ∙ ap (λ q. record p.talk { peer = q })
@@ -302,8 +301,8 @@ refused_told memory (Some f) t others = by_test (is_none t.session.end)
   where
     by_test : (b : Bool)
         → others ≡ with_notices (rows_since t.book (if b
-        then tell_last memory (spelling (fault_message f)) (ends.Fault (faults.Talk
-        (talk.Stream f.fault))) t
+        then tell_last memory (spelling (fault_message f)) (ends.Talk
+        (talk.Stream f.fault)) t
         else t).book) others
     by_test true = last_told memory _ _ t others
     by_test false = told_none t.book others

@@ -12,11 +12,10 @@ use Rattle.app_message.specs.Stream.{Stream, fed_by, held_part, stream_of, walk}
 use Rattle.device_map.specs.Replies.{fault_message}
 use Rattle.device_map.proofs.Results.{equal}
 use Rattle.site_book.specs.Book.{Book}
-use Rattle.till_session.specs.declared.fault.SessionFault.TheVariants as faults
-use Rattle.till_session.specs.declared.fault.TalkFault.TheVariants as talk
-use Rattle.till_session.specs.Counters.{outcome_given}
-use Rattle.till_session.specs.Text.{messages_text, refusal_text}
-use Rattle.till_session.proofs.Talks.{on_none}
+use Rattle.peer_talk.specs.declared.fault.TalkFault.TheVariants as talk
+use Rattle.peer_talk.specs.Exchanges.{outcome_given}
+use Rattle.peer_talk.specs.Text.{messages_text, refusal_text}
+use Rattle.peer_talk.proofs.Courses.{on_none}
 use Rattle.station.specs.declared.peer_end.PeerEnd.{PeerEnd}
 use Rattle.station.specs.declared.peer_end.PeerEnd.TheVariants as ends
 use Rattle.station.specs.declared.sizes.TheConstants.{READ_LIMIT}
@@ -55,8 +54,8 @@ refused-grows memory (Some f) t = by_test (is_none t.session.end) memory
     by_test : (b memory : Bool)
         → Grows t.book
         (if b
-        then tell_last memory (spelling (fault_message f)) (ends.Fault (faults.Talk
-        (talk.Stream f.fault))) t
+        then tell_last memory (spelling (fault_message f)) (ends.Talk
+        (talk.Stream f.fault)) t
         else t).book
     by_test true true = left-grows t.session.talk.on t.book
     by_test true false = left-grows t.session.talk.on t.book

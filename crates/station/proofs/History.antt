@@ -17,11 +17,10 @@ use Rattle.written_site.specs.SiteRun.{IsLegal}
 use Rattle.written_site.specs.SiteState.{is_signed_on, opening}
 use Rattle.written_site.proofs.Histories.{IsLegal-push}
 use Rattle.site_book.specs.Book.{Book, book_reply, is_full, next_row, site_of_book, with_row_of}
-use Rattle.till_session.specs.declared.fault.SessionFault.TheVariants as faults
-use Rattle.till_session.specs.declared.fault.TalkFault.TheVariants as talk
-use Rattle.till_session.specs.declared.talk.Meaning.{Meaning}
-use Rattle.till_session.specs.declared.talk.Meaning.TheVariants as meanings
-use Rattle.till_session.specs.Text.{meaning_at}
+use Rattle.peer_talk.specs.declared.fault.TalkFault.TheVariants as talk
+use Rattle.peer_talk.specs.declared.talk.Meaning.{Meaning}
+use Rattle.peer_talk.specs.declared.talk.Meaning.TheVariants as meanings
+use Rattle.peer_talk.specs.Text.{meaning_at}
 use Rattle.station.specs.declared.peer_end.PeerEnd.{PeerEnd}
 use Rattle.station.specs.declared.peer_end.PeerEnd.TheVariants as ends
 use Rattle.station.specs.Moves.{StationState, finish_at, free, hear_from, take_by, with_end}
@@ -108,8 +107,8 @@ refused_legal memory (Some f) t legal = by_test (is_none t.session.end)
   where
     by_test : (b : Bool)
         → IsHistory (if b
-        then tell_last memory (spelling (fault_message f)) (ends.Fault (faults.Talk
-        (talk.Stream f.fault))) t
+        then tell_last memory (spelling (fault_message f)) (ends.Talk
+        (talk.Stream f.fault)) t
         else t).book
     by_test true = last_legal memory _ _ t legal
     by_test false = legal

@@ -24,13 +24,12 @@ use Rattle.written_site.specs.SiteState.{SiteState, is_signed_on, opening}
 use Rattle.written_site.specs.SiteStep.{accepted_site, site_after}
 use Rattle.written_site.proofs.Histories.{site_of_rows-push}
 use Rattle.site_book.specs.Book.{Book, next_row, site_of_book, with_row_of}
-use Rattle.till_session.specs.declared.fault.SessionFault.TheVariants as faults
-use Rattle.till_session.specs.declared.fault.TalkFault.TheVariants as talk
-use Rattle.till_session.specs.declared.talk.Meaning.{Meaning}
-use Rattle.till_session.specs.declared.talk.Meaning.TheVariants as meanings
-use Rattle.till_session.specs.Course.{IsOwn, TalkState}
-use Rattle.till_session.specs.Text.{left_over, meaning_at, peer_after}
-use Rattle.till_session.proofs.Speakers.{own_met, own_signed, request_meant, spoken_by}
+use Rattle.peer_talk.specs.declared.fault.TalkFault.TheVariants as talk
+use Rattle.peer_talk.specs.declared.talk.Meaning.{Meaning}
+use Rattle.peer_talk.specs.declared.talk.Meaning.TheVariants as meanings
+use Rattle.peer_talk.specs.Talks.{IsOwn, TalkState}
+use Rattle.peer_talk.specs.Text.{left_over, meaning_at, peer_after}
+use Rattle.peer_talk.proofs.Speakers.{own_met, own_signed, request_meant, spoken_by}
 use Rattle.station.specs.declared.peer_end.PeerEnd.{PeerEnd}
 use Rattle.station.specs.declared.peer_end.PeerEnd.TheVariants as ends
 use Rattle.station.specs.declared.sizes.TheConstants.{NOTICE_LIMIT}
@@ -130,8 +129,8 @@ refused_left memory (Some f) t left = by_test (is_none t.session.end)
   where
     by_test : (b : Bool)
         → HasLeft (if b
-        then tell_last memory (spelling (fault_message f)) (ends.Fault (faults.Talk
-        (talk.Stream f.fault))) t
+        then tell_last memory (spelling (fault_message f)) (ends.Talk
+        (talk.Stream f.fault)) t
         else t)
     by_test true = last_left memory _ _ t
     by_test false = left
@@ -204,8 +203,8 @@ refused_own memory (Some f) t own = by_test (is_none t.session.end)
   where
     by_test : (b : Bool)
         → IsOwnSession (if b
-        then tell_last memory (spelling (fault_message f)) (ends.Fault (faults.Talk
-        (talk.Stream f.fault))) t
+        then tell_last memory (spelling (fault_message f)) (ends.Talk
+        (talk.Stream f.fault)) t
         else t).session
     by_test true = last_own memory _ _ t own
     by_test false = own

@@ -19,18 +19,17 @@ use Rattle.device_map.specs.Faults.{map_number}
 use Rattle.device_map.specs.Replies.{fault_message}
 use Rattle.device_map.specs.Requests.{request_at}
 use Rattle.site_book.specs.Book.{Book}
-use Rattle.till_session.specs.declared.fault.SessionFault.TheVariants as faults
-use Rattle.till_session.specs.declared.fault.TalkFault.TheVariants as talk
-use Rattle.till_session.specs.declared.fault.TheConstants.{ORIGINATOR_CHANGED}
-use Rattle.till_session.specs.declared.talk.Meaning.{Meaning}
-use Rattle.till_session.specs.declared.talk.Meaning.TheVariants as meanings
-use Rattle.till_session.specs.Counters.{Asked, outcome_given, request_asked, row_made, rows_made}
-use Rattle.till_session.specs.Counters.{signed_on_after}
-use Rattle.till_session.specs.Course.{TalkState}
-use Rattle.till_session.specs.Text.{is_another, left_over, meaning_at, messages_text, number_text}
-use Rattle.till_session.specs.Text.{outcome_text, peer_after, refusal_text, requests_in}
-use Rattle.till_session.proofs.Speakers.{another_meant, fault_meant, request_meant, spoken_by}
-use Rattle.till_session.proofs.Talks.{another_over, answered_on, over_then, refused_on}
+use Rattle.peer_talk.specs.declared.fault.TalkFault.TheVariants as talk
+use Rattle.peer_talk.specs.declared.fault.TheConstants.{ORIGINATOR_CHANGED}
+use Rattle.peer_talk.specs.declared.talk.Meaning.{Meaning}
+use Rattle.peer_talk.specs.declared.talk.Meaning.TheVariants as meanings
+use Rattle.peer_talk.specs.Exchanges.{Asked, outcome_given, request_asked, row_made, rows_made}
+use Rattle.peer_talk.specs.Exchanges.{signed_on_after}
+use Rattle.peer_talk.specs.Talks.{TalkState}
+use Rattle.peer_talk.specs.Text.{is_another, left_over, meaning_at, messages_text, number_text}
+use Rattle.peer_talk.specs.Text.{outcome_text, peer_after, refusal_text, requests_in}
+use Rattle.peer_talk.proofs.Speakers.{another_meant, fault_meant, request_meant, spoken_by}
+use Rattle.peer_talk.proofs.Courses.{another_over, answered_on, over_then, refused_on}
 use Rattle.station.specs.declared.peer_end.PeerEnd.{PeerEnd}
 use Rattle.station.specs.declared.peer_end.PeerEnd.TheVariants as ends
 use Rattle.station.specs.declared.sizes.TheConstants.{NOTICE_LIMIT}
@@ -147,7 +146,7 @@ closes c before had done last end b b' x x' l g owed over refused on = record {
 }
 
 abbrev another_end : PeerEnd
-another_end = ends.Fault (faults.Talk talk.OriginatorChanged)
+another_end = ends.Talk talk.OriginatorChanged
 
 -- another originator spoke, and was told so
 another_closes : (c : Configured) (before : List Row) (had : List ℕ) (done later : List Telegram)
@@ -420,8 +419,8 @@ over_unrefused : (memory : Bool) (fault : Option StreamFault) (t : Turn) (end : 
 over_unrefused memory None t end over = refl
 over_unrefused memory (Some f) t end over =
     ap (λ e. if is_none e
-    then tell_last memory (spelling (fault_message f)) (ends.Fault (faults.Talk
-    (talk.Stream f.fault))) t
+    then tell_last memory (spelling (fault_message f)) (ends.Talk
+    (talk.Stream f.fault)) t
     else t) over
 
 fault_told : (c : Configured) (before : List Row) (had : List ℕ) (done : List Telegram)
@@ -448,7 +447,7 @@ fault_refused : (c : Configured) (before : List Row) (had sent : List ℕ) (memo
     (refuse_by memory (Some f) t).session
 fault_refused c before had sent memory f t is l =
     let text = spelling (fault_message f) in
-    let end : PeerEnd = ends.Fault (faults.Talk (talk.Stream f.fault)) in
+    let end : PeerEnd = ends.Talk (talk.Stream f.fault) in
     let there : refuse_by memory (Some f) t ≡ tell_last memory text end t =
     ap (λ e. if is_none e then tell_last memory text end t else t) l.lasts in
     let over = fault_told c before had (stream_of sent).messages memory text end t l refl in
@@ -532,10 +531,10 @@ hears c before had sent piece g t h = by_piece g.piece
 none_refused : (end : PeerEnd) → [] ≡ refusal_by (Some end) [] []
 none_refused ends.Well = refl
 none_refused ends.Behind = refl
-none_refused (ends.Fault (faults.Talk talk.OriginatorChanged)) = refl
-none_refused (ends.Fault (faults.Talk (talk.Stream f))) = refl
-none_refused (ends.Fault (faults.Talk talk.Truncated)) = refl
-none_refused (ends.Fault f) = refl
+none_refused (ends.Talk talk.OriginatorChanged) = refl
+none_refused (ends.Talk (talk.Stream f)) = refl
+none_refused (ends.Talk talk.Truncated) = refl
+none_refused ends.NoMemory = refl
 
 -- a session that lasts closes, and nothing more is told
 closed : (c : Configured) (before : List Row) (had sent : List ℕ) (end : PeerEnd) (b b' : Book)

@@ -9,7 +9,7 @@ use Rattle.site_base.specs.declared.row.Row.{Row}
 use Rattle.app_message.specs.Spelling.{spelling}
 use Rattle.app_message.specs.Telegram.{Telegram}
 use Rattle.device_map.specs.Changes.{change_of, change_where}
-use Rattle.till_session.specs.Text.{is_same_node}
+use Rattle.peer_talk.specs.Text.{is_same_node}
 use Rattle.station.specs.Notices.{notice_at}
 use Rattle.station.specs.Peers.{listener, tell_row, tell_rows, tell_notice, with_notices}
 use Rattle.station.specs.PeerViews.{is_at, session_noticed, slot_noticed}

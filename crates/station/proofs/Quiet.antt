@@ -19,9 +19,9 @@ use Rattle.written_site.specs.SiteState.{SiteState}
 use Rattle.written_site.specs.SiteStep.{reply_to, site_answer}
 use Rattle.written_site.proofs.PassedChecks.{passed}
 use Rattle.site_book.specs.Book.{Book, book_reply, is_full, site_of_book}
-use Rattle.till_session.specs.Counters.{row_made}
-use Rattle.till_session.specs.Course.{IsSpokenBy}
-use Rattle.till_session.specs.Text.{is_same_node}
+use Rattle.peer_talk.specs.Exchanges.{row_made}
+use Rattle.peer_talk.specs.Talks.{IsSpokenBy}
+use Rattle.peer_talk.specs.Text.{is_same_node}
 use Rattle.station.specs.Notices.{notice_at, notices_of, octets_of, row_notice}
 use Rattle.station.specs.Sessions.{outcome_at}
 

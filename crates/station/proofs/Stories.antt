@@ -5,10 +5,10 @@ use Rattle.site_base.specs.declared.row.Row.{Row}
 use Rattle.site_base.specs.Configured.{Configured}
 use Rattle.app_message.specs.Telegram.{Telegram}
 use Rattle.site_book.specs.Book.{Book}
-use Rattle.till_session.specs.Counters.{Asked, outcome_given, rows_made, signed_by, signed_on_after}
-use Rattle.till_session.specs.Course.{GoesOn, TalkState}
-use Rattle.till_session.specs.Text.{messages_text, peer_after}
-use Rattle.till_session.proofs.Talks.{on_then}
+use Rattle.peer_talk.specs.Exchanges.{Asked, outcome_given, rows_made, signed_by, signed_on_after}
+use Rattle.peer_talk.specs.Talks.{GoesOn, TalkState}
+use Rattle.peer_talk.specs.Text.{messages_text, peer_after}
+use Rattle.peer_talk.proofs.Courses.{on_then}
 use Rattle.device_map.specs.Changes.{change_of}
 use Rattle.station.specs.Notices.{notice_at, notices_of, octets_of, row_notice}
 use Rattle.station.specs.Sessions.{Session, opening_text}

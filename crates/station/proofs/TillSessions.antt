@@ -26,14 +26,13 @@ use Rattle.written_site.specs.SiteState.{SiteState, is_signed_on, opening}
 use Rattle.written_site.proofs.Histories.{site_of_rows-push}
 use Rattle.written_site.proofs.SigningLaws.{signed_row}
 use Rattle.site_book.specs.Book.{Book, book_reply, is_full, next_row, site_of_book, with_row_of}
-use Rattle.till_session.specs.declared.fault.SessionFault.TheVariants as faults
-use Rattle.till_session.specs.declared.fault.TalkFault.TheVariants as talk
-use Rattle.till_session.specs.declared.talk.Meaning.{Meaning}
-use Rattle.till_session.specs.declared.talk.Meaning.TheVariants as meanings
-use Rattle.till_session.specs.Counters.{signed_with}
-use Rattle.till_session.specs.Course.{IsOwn, IsSpokenBy}
-use Rattle.till_session.specs.Text.{left_over, meaning_at}
-use Rattle.till_session.proofs.Speakers.{own_met, request_meant, spoken_by}
+use Rattle.peer_talk.specs.declared.fault.TalkFault.TheVariants as talk
+use Rattle.peer_talk.specs.declared.talk.Meaning.{Meaning}
+use Rattle.peer_talk.specs.declared.talk.Meaning.TheVariants as meanings
+use Rattle.peer_talk.specs.Exchanges.{signed_with}
+use Rattle.peer_talk.specs.Talks.{IsOwn, IsSpokenBy}
+use Rattle.peer_talk.specs.Text.{left_over, meaning_at}
+use Rattle.peer_talk.proofs.Speakers.{own_met, request_meant, spoken_by}
 use Rattle.station.specs.declared.peer_end.PeerEnd.{PeerEnd}
 use Rattle.station.specs.declared.peer_end.PeerEnd.TheVariants as ends
 use Rattle.station.specs.Laws.{HasSession}
@@ -258,8 +257,8 @@ refused_for b on memory (Some f) t all = by_test (is_none t.session.end)
   where
     by_test : (lasts : Bool)
         → AreSignedFor b on (if lasts
-        then tell_last memory (spelling (fault_message f)) (ends.Fault (faults.Talk
-        (talk.Stream f.fault))) t
+        then tell_last memory (spelling (fault_message f)) (ends.Talk
+        (talk.Stream f.fault)) t
         else t)
     by_test true = last_for b on memory _ _ t all
     by_test false = all

@@ -11,10 +11,10 @@ use Rattle.site_base.specs.declared.row.Row.{Row}
 use Rattle.app_message.specs.Telegram.{Telegram}
 use Rattle.site_book.specs.Book.{Book, next_row, with_row_of, site_of_book}
 use Rattle.written_site.specs.SiteState.{is_signed_on}
-use Rattle.till_session.specs.declared.talk.Meaning.{Meaning}
-use Rattle.till_session.specs.declared.talk.Meaning.TheVariants as meanings
-use Rattle.till_session.specs.Counters.{Outcome, row_made}
-use Rattle.till_session.specs.Text.{meaning_at}
+use Rattle.peer_talk.specs.declared.talk.Meaning.{Meaning}
+use Rattle.peer_talk.specs.declared.talk.Meaning.TheVariants as meanings
+use Rattle.peer_talk.specs.Exchanges.{Outcome, row_made}
+use Rattle.peer_talk.specs.Text.{meaning_at}
 use Rattle.station.specs.declared.peer_end.PeerEnd.{PeerEnd}
 use Rattle.station.specs.Moves.{rows_since}
 use Rattle.station.specs.Peers.{with_notices}

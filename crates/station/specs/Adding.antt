@@ -6,9 +6,9 @@ use Rattle.site_base.specs.declared.event.Event.{Event}
 use Rattle.site_base.specs.declared.row.Row.{Row}
 use Rattle.app_message.specs.Telegram.{Telegram}
 use Rattle.site_book.specs.Book.{Book}
-use Rattle.till_session.specs.Counters.{Asked, request_asked, rows_made, sign_off_row}
-use Rattle.till_session.specs.Counters.{signed_on_after}
-use Rattle.till_session.specs.Text.{requests_in}
+use Rattle.peer_talk.specs.Exchanges.{Asked, request_asked, rows_made, sign_off_row}
+use Rattle.peer_talk.specs.Exchanges.{signed_on_after}
+use Rattle.peer_talk.specs.Text.{requests_in}
 use Rattle.station.specs.Moves.{StationState}
 use Rattle.station.specs.Peers.{peer_at}
 use Rattle.station.specs.Runs.{Finishes, Leaves, Move, Says}

@@ -8,7 +8,7 @@ use Rattle.app_message.specs.Spelling.{spelling}
 use Rattle.app_message.specs.Telegram.{Telegram}
 use Rattle.device_map.specs.Changes.{change_by, change_of}
 use Rattle.site_book.specs.Book.{Book, site_of_book}
-use Rattle.till_session.specs.Text.{is_same_node}
+use Rattle.peer_talk.specs.Text.{is_same_node}
 use Rattle.station.specs.Standing.{standing_at}
 
 -- a change as the peer at this node is told it, if it goes there

@@ -3,7 +3,7 @@ use Rattle.std.specs.Prelude.{ℕ, Bool, false, List, map, Option, Some, None}
 use Rattle.std.specs.Prelude.{option_map}
 use Rattle.std.specs.Prelude.{if◌then◌else◌}
 use Rattle.std.specs.Borrow.{Bor}
-use Rattle.till_session.specs.Text.{is_same_node}
+use Rattle.peer_talk.specs.Text.{is_same_node}
 use Rattle.station.specs.declared.peer.Peer.{Peer}
 use Rattle.station.specs.Sessions.{Session}
 use Rattle.station.specs.Peers.{listener, tell_notice, with_peer}

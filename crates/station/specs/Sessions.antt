@@ -18,15 +18,14 @@ use Rattle.device_map.specs.Faults.{map_number}
 use Rattle.device_map.specs.Replies.{fault_message}
 use Rattle.written_site.specs.SiteState.{is_signed_on}
 use Rattle.site_book.specs.Book.{Book, book_reply, is_full, site_of_book, with_row_of}
-use Rattle.till_session.specs.declared.fault.SessionFault.TheVariants as faults
-use Rattle.till_session.specs.declared.fault.TalkFault.{TalkFault}
-use Rattle.till_session.specs.declared.fault.TalkFault.TheVariants as talk
-use Rattle.till_session.specs.declared.fault.TheConstants.{ORIGINATOR_CHANGED}
-use Rattle.till_session.specs.declared.talk.Meaning.{Meaning}
-use Rattle.till_session.specs.declared.talk.Meaning.TheVariants as meanings
-use Rattle.till_session.specs.Counters.{Outcome, row_made, signed_by}
-use Rattle.till_session.specs.Course.{TalkState, opening_talk}
-use Rattle.till_session.specs.Text.{left_over, meaning_at, number_text, outcome_text, peer_after}
+use Rattle.peer_talk.specs.declared.fault.TalkFault.{TalkFault}
+use Rattle.peer_talk.specs.declared.fault.TalkFault.TheVariants as talk
+use Rattle.peer_talk.specs.declared.fault.TheConstants.{ORIGINATOR_CHANGED}
+use Rattle.peer_talk.specs.declared.talk.Meaning.{Meaning}
+use Rattle.peer_talk.specs.declared.talk.Meaning.TheVariants as meanings
+use Rattle.peer_talk.specs.Exchanges.{Outcome, row_made, signed_by}
+use Rattle.peer_talk.specs.Talks.{TalkState, opening_talk}
+use Rattle.peer_talk.specs.Text.{left_over, meaning_at, number_text, outcome_text, peer_after}
 use Rattle.station.specs.declared.peer_end.PeerEnd.{PeerEnd}
 use Rattle.station.specs.declared.peer_end.PeerEnd.TheVariants as ends
 use Rattle.station.specs.declared.sizes.TheConstants.{READ_LIMIT}
@@ -69,12 +68,12 @@ end_session end t = record {
 }
 
 abbrev pub no_memory : PeerEnd
-no_memory = ends.Fault faults.NoMemory
+no_memory = ends.NoMemory
 
 -- the end where the peer's octets end: inside a message or not
 abbrev pub end_by : Option TalkFault → PeerEnd
 end_by None = ends.Well
-end_by (Some f) = ends.Fault (faults.Talk f)
+end_by (Some f) = ends.Talk f
 
 -- the session ends at the end of its peer's octets
 abbrev pub finish : Turn → Turn
@@ -146,8 +145,8 @@ answer_so memory m actor event outcome before t =
 -- a message that means this
 abbrev pub answer_meaning : Granted → Telegram → Meaning → Turn → Turn
 answer_meaning g m meanings.Another t =
-    tell_last g.text (number_text m ORIGINATOR_CHANGED) (ends.Fault (faults.Talk
-    talk.OriginatorChanged)) t
+    tell_last g.text (number_text m ORIGINATOR_CHANGED) (ends.Talk
+    talk.OriginatorChanged) t
 answer_meaning g m (meanings.Fault f) t =
     tell g.text (number_text m (map_number f) ++ opening_text t.session.talk.peer m.from t.book)
     (serve m.from t)
@@ -182,8 +181,8 @@ abbrev pub refuse_by : Bool → Option StreamFault → Turn → Turn
 refuse_by memory None t = t
 refuse_by memory (Some f) t =
     if is_none t.session.end
-    then tell_last memory (spelling (fault_message f)) (ends.Fault (faults.Talk
-    (talk.Stream f.fault))) t
+    then tell_last memory (spelling (fault_message f)) (ends.Talk
+    (talk.Stream f.fault)) t
     else t
 
 -- the messages that a piece brings are answered, and then its fault is refused

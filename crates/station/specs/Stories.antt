@@ -14,13 +14,12 @@ use Rattle.app_message.specs.Telegram.{Telegram}
 use Rattle.device_map.specs.declared.fault.MapFault.{MapFault}
 use Rattle.device_map.specs.Requests.{request_at}
 use Rattle.site_book.specs.Book.{Book}
-use Rattle.till_session.specs.Counters.{Asked, outcome_given, request_asked, rows_made}
-use Rattle.till_session.specs.Counters.{signed_on_after}
-use Rattle.till_session.specs.declared.fault.SessionFault.TheVariants as faults
-use Rattle.till_session.specs.declared.fault.TalkFault.TheVariants as talk
-use Rattle.till_session.specs.declared.fault.TheConstants.{ORIGINATOR_CHANGED}
-use Rattle.till_session.specs.Text.{messages_text, number_text, peer_after, refusal_text}
-use Rattle.till_session.specs.Text.{session_requests, session_text}
+use Rattle.peer_talk.specs.Exchanges.{Asked, outcome_given, request_asked, rows_made}
+use Rattle.peer_talk.specs.Exchanges.{signed_on_after}
+use Rattle.peer_talk.specs.declared.fault.TalkFault.TheVariants as talk
+use Rattle.peer_talk.specs.declared.fault.TheConstants.{ORIGINATOR_CHANGED}
+use Rattle.peer_talk.specs.Text.{messages_text, number_text, peer_after, refusal_text}
+use Rattle.peer_talk.specs.Text.{session_requests, session_text}
 use Rattle.station.specs.declared.peer_end.PeerEnd.{PeerEnd}
 use Rattle.station.specs.declared.peer_end.PeerEnd.TheVariants as ends
 use Rattle.station.specs.Notices.{notices_of, octets_of, row_notice, standing_text}
@@ -114,22 +113,22 @@ notices_due c rows (Passes r ∷ story) = notices_due c (rows ++ r ∷ []) story
 
 -- the session's text is whole: it isn't where memory was wanting
 abbrev pub is_whole : Option PeerEnd → Bool
-is_whole (Some (ends.Fault faults.NoMemory)) = false
+is_whole (Some (ends.NoMemory)) = false
 is_whole end = true
 
 -- Each message that was heard is answered, unless memory was wanting or another originator spoke.
 abbrev pub is_all_answered : Option PeerEnd → Bool
-is_all_answered (Some (ends.Fault faults.NoMemory)) = false
-is_all_answered (Some (ends.Fault (faults.Talk talk.OriginatorChanged))) = false
+is_all_answered (Some (ends.NoMemory)) = false
+is_all_answered (Some (ends.Talk talk.OriginatorChanged)) = false
 is_all_answered end = true
 
 -- What a session that ended so is told last, by the refusal of its stream and the messages that
 -- weren't answered: another originator that it is another, a fault of the stream its refusal; else
 -- nothing.
 abbrev pub refusal_by : Option PeerEnd → List ℕ → List Telegram → List ℕ
-refusal_by (Some (ends.Fault (faults.Talk talk.OriginatorChanged))) last (m ∷ unanswered) =
+refusal_by (Some (ends.Talk talk.OriginatorChanged)) last (m ∷ unanswered) =
     number_text m ORIGINATOR_CHANGED
-refusal_by (Some (ends.Fault (faults.Talk (talk.Stream f)))) last unanswered = last
+refusal_by (Some (ends.Talk (talk.Stream f))) last unanswered = last
 refusal_by end last unanswered = []
 
 -- What the peer of a session is told that began behind these rows, where so much was heard of it.

@@ -2,7 +2,7 @@
 
 ghost use Rattle.std.specs.Prelude.{◌≡◌, ◌≤◌, Bool, length, Some, map, option_map};
 ghost use Rattle.device_map.specs.Changes.{change_by};
-ghost use Rattle.till_session.specs.Counters.{row_made};
+ghost use Rattle.peer_talk.specs.Exchanges.{row_made};
 ghost use Rattle.station.specs.Papers.{IsChangeTo};
 ghost use Rattle.station.specs.declared.sizes.TheConstants.{NOTICE_OCTETS};
 ghost use Rattle.station.specs.Peers.{with_notices};

@@ -3,8 +3,8 @@
 ghost use Rattle.std.specs.Prelude.{◌≡◌, ◌++◌, Bool, None, Some, OnOk, OnErr};
 ghost use Rattle.app_message.specs.Spelling.{spelling};
 ghost use Rattle.device_map.specs.Replies.{fault_message};
-ghost use Rattle.till_session.specs.Course.{IsSpokenBy};
-ghost use Rattle.till_session.specs.Text.{number_text, outcome_text};
+ghost use Rattle.peer_talk.specs.Talks.{IsSpokenBy};
+ghost use Rattle.peer_talk.specs.Text.{number_text, outcome_text};
 ghost use Rattle.station.specs.Hearing.{Answers, AnswersAll, AnswersRequest, Hears, finish_if};
 ghost use Rattle.station.specs.Hearing.{turn_of};
 ghost use Rattle.station.specs.PeerViews.{session_of, sessions_of};
@@ -16,9 +16,9 @@ use crate::paper::Paper;
 use crate::peer::Peer;
 use crate::peer_end::PeerEnd;
 use app_message::{Message, Messages, StreamFault};
+use peer_talk::{Meaning, ORIGINATOR_CHANGED, TalkFault};
 use site_base::{Actor, Event, NoMemory, NoRow, Reply};
 use site_book::SiteBook;
-use till_session::{Meaning, ORIGINATOR_CHANGED, SessionFault, TalkFault};
 
 /// A peer whose session lasts is heard: the messages that its piece brings are answered, and a
 /// fault of its octets is refused. The others that listen are told of the rows.
@@ -35,7 +35,7 @@ pub(crate) fn hear(
         (sessions_of others.old) (sessions_of others.new) }
 {
     match peer.decoder.feed_into(piece, messages) {
-        Err(_) => end_session(peer, book, PeerEnd::Fault(SessionFault::NoMemory)),
+        Err(_) => end_session(peer, book, PeerEnd::NoMemory),
         Ok(fault) => {
             answer_all(peer, book, others, paper, messages.as_slice());
             if let Some(fault) = fault {
@@ -91,12 +91,12 @@ fn answer(
 fn refuse_another(peer: &mut Peer, book: &mut SiteBook, paper: &mut Paper, message: &Message)
     ensures { (memory : Bool) × (turn_of book.new peer.new ≡ tell_last memory
         (number_text message.now ORIGINATOR_CHANGED)
-        (PeerEnd.Fault (SessionFault.Talk TalkFault.OriginatorChanged))
+        (PeerEnd.Talk TalkFault.OriginatorChanged)
         (turn_of book.old peer.old)) }
 {
     let end = match put_number(peer, paper, message, ORIGINATOR_CHANGED) {
-        Ok(()) => PeerEnd::Fault(SessionFault::Talk(TalkFault::OriginatorChanged)),
-        Err(_) => PeerEnd::Fault(SessionFault::NoMemory),
+        Ok(()) => PeerEnd::Talk(TalkFault::OriginatorChanged),
+        Err(_) => PeerEnd::NoMemory,
     };
     end_session(peer, book, end);
 }
@@ -135,7 +135,7 @@ fn refuse_message(
         Err(e) => Err(e),
     };
     if told.is_err() {
-        end_session(peer, book, PeerEnd::Fault(SessionFault::NoMemory));
+        end_session(peer, book, PeerEnd::NoMemory);
     }
 }
 
@@ -158,7 +158,7 @@ fn answer_request(
     peer.talk.note(&actor, &event, outcome);
     match put_outcome(peer, book, paper, message, outcome, before) {
         Ok(()) => {}
-        Err(_) => end_session(peer, book, PeerEnd::Fault(SessionFault::NoMemory)),
+        Err(_) => end_session(peer, book, PeerEnd::NoMemory),
     }
 }
 
@@ -210,8 +210,8 @@ fn refuse(peer: &mut Peer, book: &mut SiteBook, paper: &mut Paper, fault: &Strea
         return;
     }
     let end = match tell_fault(peer, paper, fault) {
-        Ok(()) => PeerEnd::Fault(SessionFault::Talk(TalkFault::Stream(fault.fault))),
-        Err(_) => PeerEnd::Fault(SessionFault::NoMemory),
+        Ok(()) => PeerEnd::Talk(TalkFault::Stream(fault.fault)),
+        Err(_) => PeerEnd::NoMemory,
     };
     end_session(peer, book, end);
 }
@@ -241,7 +241,7 @@ fn finish_lasting(peer: &mut Peer, book: &mut SiteBook)
     ensures { turn_of book.new peer.new ≡ finish (turn_of book.old peer.old) }
 {
     let end = if peer.decoder.held() > 0 {
-        PeerEnd::Fault(SessionFault::Talk(TalkFault::Truncated))
+        PeerEnd::Talk(TalkFault::Truncated)
     } else {
         PeerEnd::Well
     };

@@ -5,25 +5,24 @@ ghost use Rattle.station.specs.declared.sizes.TheConstants.{NOTICE_OCTETS};
 ghost use Rattle.app_message.specs.Spelling.{spelling};
 ghost use Rattle.device_map.specs.Changes.{change_by};
 ghost use Rattle.device_map.specs.Replies.{fault_message};
-ghost use Rattle.till_session.specs.Text.{is_same_node, number_text, outcome_text};
+ghost use Rattle.peer_talk.specs.Text.{is_same_node, number_text, outcome_text};
 ghost use Rattle.station.specs.Notices.{events_text, notice_at, octets_of, standing_text};
 ghost use Rattle.station.specs.Papers.{IsChangeTo};
 ghost use Rattle.station.specs.Standing.{release_of, standing_events, stop_of};
 
 use app_message::{Message, StreamFault, encode_into};
-use device_map::{change_of, refusal_in, stream_refusal};
+use device_map::change_of;
+use peer_talk::ReplyWriter;
 use site_base::{Actor, Answer, Event, FpNo, NoMemory, NoRow, PointState, PointView, Reply, Row};
 use site_book::SiteBook;
 use std::alloc::Global;
-use std::mem;
-use till_session::reply_to;
 
-/// Buffers that stay: for a message's body, for the octets that a peer is to be told, and for a
-/// notice.
+/// What writes replies, and two buffers that stay: for the octets that a peer is to be told, and for
+/// a notice.
 #[derive(Drop)]
 pub struct Paper {
     alloc: Global,
-    body: Vec<u8>,
+    writer: ReplyWriter,
     pub(crate) text: Vec<u8>,
     pub(crate) notice: Vec<u8>,
     ghost short: { length notice.items ≤ NOTICE_OCTETS },
@@ -34,7 +33,7 @@ impl Paper {
     pub(crate) fn new(alloc: Global) -> Paper {
         Paper {
             alloc,
-            body: Vec::new(alloc),
+            writer: ReplyWriter::new(alloc),
             text: Vec::new(alloc),
             notice: Vec::new(alloc),
         }
@@ -44,7 +43,7 @@ impl Paper {
     pub(crate) fn write_number(&mut self, message: &Message, number: u8) -> Result<(), NoMemory>
         ensures { OnOk result (self.new.text.items ≡ number_text message.now number) }
     {
-        let refusal = refusal_in(self.take_body(), &message.as_spelled(), number)?;
+        let refusal = self.writer.write_number(&message.as_spelled(), number)?;
         self.write(refusal)
     }
 
@@ -56,7 +55,7 @@ impl Paper {
     ) -> Result<(), NoMemory>
         ensures { OnOk result (self.new.text.items ≡ outcome_text message.now outcome.now) }
     {
-        let reply = reply_to(self.take_body(), message, outcome)?;
+        let reply = self.writer.write_outcome(&message.as_spelled(), outcome)?;
         self.write(reply)
     }
 
@@ -64,21 +63,17 @@ impl Paper {
     pub(crate) fn write_fault(&mut self, fault: &StreamFault) -> Result<(), NoMemory>
         ensures { OnOk result (self.new.text.items ≡ spelling (fault_message fault.now)) }
     {
-        let refusal = stream_refusal(self.alloc, fault)?;
+        let refusal = self.writer.write_fault(fault)?;
         self.write(refusal)
     }
 
-    /// The text is a message, whose buffer serves again.
+    /// The text is a message.
     fn write(&mut self, message: Message) -> Result<(), NoMemory>
         ensures { OnOk result (self.new.text.items ≡ spelling message) }
     {
         encode_into(&message, &mut self.text)?;
-        self.body = message.into_buffer();
+        self.writer.give_back(message);
         Ok(())
-    }
-
-    fn take_body(&mut self) -> Vec<u8> {
-        mem::replace(&mut self.body, Vec::new(self.alloc))
     }
 
     /// Writes the standing notices of the peer at a node behind the text: what stands at the point

@@ -11,9 +11,9 @@ use crate::paper::is_same_node;
 use crate::peer_end::PeerEnd;
 use crate::sizes::{NOTICE_LIMIT, READ_LIMIT};
 use app_message::Decoder;
+use peer_talk::Talk;
 use site_base::NoMemory;
 use std::alloc::Global;
-use till_session::Talk;
 
 /// A peer of the station.
 #[derive(Drop)]
@@ -32,7 +32,7 @@ impl Peer {
     {
         Ok(Peer {
             decoder: Decoder::new(alloc),
-            talk: Talk::new(alloc),
+            talk: Talk::new(),
             outbox: Outbox::new(alloc)?,
             end: None,
         })

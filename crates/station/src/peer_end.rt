@@ -1,15 +1,17 @@
 //! How a session of the station ends.
 
+use peer_talk::TalkFault;
 use std::fmt;
-use till_session::SessionFault;
 
 /// How a session of the station ended.
 #[derive(Clone, Copy, Debug, PartialEq, Eq)]
 pub enum PeerEnd {
     /// The peer's octets ended, and not inside a message.
     Well,
-    /// The text of the session ends so, or an allocation failed.
-    Fault(SessionFault),
+    /// The text of the session ends so.
+    Talk(TalkFault),
+    /// An allocation failed.
+    NoMemory,
     /// The peer was owed too much to be told a notice.
     Behind,
 }
@@ -18,7 +20,8 @@ impl fmt::Display for PeerEnd {
     fn fmt<W: fmt::Write>(&self, f: &mut fmt::Formatter<W>) -> fmt::Result {
         match self {
             PeerEnd::Well => write!(f, "the octets ended"),
-            PeerEnd::Fault(fault) => write!(f, "{fault}"),
+            PeerEnd::Talk(fault) => write!(f, "fault {}: {fault}", fault.number()),
+            PeerEnd::NoMemory => write!(f, "fault 31: out of memory"),
             PeerEnd::Behind => write!(f, "the peer doesn't take what it is owed"),
         }
     }

@@ -16,13 +16,7 @@ impl fmt::Display for EndedSession {
     /// `session of t1: fault 44: the octets end inside a message`.
     fn fmt<W: fmt::Write>(&self, f: &mut fmt::Formatter<W>) -> fmt::Result {
         let name = PeerName { node: self.node };
-        match self.end {
-            PeerEnd::Fault(fault) => {
-                let number = fault.number();
-                write!(f, "session of {name}: fault {number}: {fault}")
-            }
-            end => write!(f, "session of {name}: {end}"),
-        }
+        write!(f, "session of {name}: {}", self.end)
     }
 }
 

@@ -22,15 +22,17 @@ use Rattle.app_message.proofs.Cutting.{any_cut}
 use Rattle.device_map.specs.Replies.{fault_message}
 use Rattle.till_session.specs.declared.fault.SessionFault.{SessionFault}
 use Rattle.till_session.specs.declared.fault.SessionFault.TheVariants as faults
-use Rattle.till_session.specs.declared.fault.TalkFault.{TalkFault}
-use Rattle.till_session.specs.declared.fault.TalkFault.TheVariants.{OriginatorChanged}
+use Rattle.peer_talk.specs.declared.fault.TalkFault.{TalkFault}
+use Rattle.peer_talk.specs.declared.fault.TalkFault.TheVariants.{OriginatorChanged}
 use Rattle.devices.specs.declared.transfer.TheConstants.{PIECE_OCTETS}
-use Rattle.till_session.specs.Counters.{Asked, outcome_given, request_asked}
-use Rattle.till_session.specs.Course.{EndsStream, GoesOn, IsCut, IsOver, TalkState, Talked}
-use Rattle.till_session.specs.Course.{ends_talk, opening_talk}
+use Rattle.peer_talk.specs.Exchanges.{Asked, outcome_given, request_asked}
+use Rattle.peer_talk.specs.Talks.{GoesOn, IsCut, IsOver, TalkState}
+use Rattle.till_session.specs.Course.{EndsStream, Talked}
+use Rattle.peer_talk.specs.Talks.{opening_talk}
+use Rattle.till_session.specs.Course.{ends_talk}
 use Rattle.till_session.specs.Ends.{Conversed, as_session_fault, is_early}
-use Rattle.till_session.specs.Text.{fault_by, left_over, messages_text, refusal_text, requests_in}
-use Rattle.till_session.specs.Text.{session_fault, session_requests, session_text}
+use Rattle.peer_talk.specs.Text.{fault_by, left_over, messages_text, refusal_text, requests_in}
+use Rattle.peer_talk.specs.Text.{session_fault, session_requests, session_text}
 use Rattle.till_session.proofs.Talks.{counted_from_none, talked_none, talked_then}
 
 -- ---- the course

@@ -1,3 +1,3 @@
-pub mod Speakers
-pub mod Talks
 pub mod Conversing
+pub mod Debts
+pub mod Talks

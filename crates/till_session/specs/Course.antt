@@ -1,53 +1,24 @@
--- A session in its course: what it keeps between two messages, and what some messages lead to.
-use Rattle.std.specs.Prelude.{◌≡◌, ℕ, true, false, List, [], ◌∷◌, ◌++◌, map, slice_index, Bool}
+-- A session in its course: what some messages lead to.
+use Rattle.std.specs.Prelude.{◌≡◌, ℕ, true, false, List, [], ◌∷◌, ◌++◌, Bool}
 use Rattle.std.specs.Prelude.{Option, Some, None, IfSome}
 use Rattle.std.specs.Io.KnownBytes.{Appends}
 use Rattle.site_base.specs.declared.actor.Actor.{Actor}
-use Rattle.site_base.specs.declared.actor.Actor.TheVariants.{Till, Dispenser}
 use Rattle.site_base.specs.declared.event.Event.{Event}
 use Rattle.site_base.specs.declared.row.Row.{Row}
 use Rattle.devices.specs.Devices.{one_more, AppendsFront}
 use Rattle.app_message.specs.declared.fault.StreamFault.{StreamFault}
 use Rattle.app_message.specs.Spelling.{spelling}
 use Rattle.app_message.specs.Telegram.{Telegram}
-use Rattle.device_map.specs.declared.ids.TheConstants.{TILL_SUBNET}
 use Rattle.device_map.specs.Replies.{fault_message}
+use Rattle.peer_talk.specs.declared.fault.TalkFault.TheVariants as talk
+use Rattle.peer_talk.specs.declared.fault.TalkFault.TheVariants.{OriginatorChanged}
+use Rattle.peer_talk.specs.Exchanges.{Asked, Outcome, row_made, rows_made, signed_by}
+use Rattle.peer_talk.specs.Exchanges.{signed_on_after}
+use Rattle.peer_talk.specs.Talks.{GoesOn, IsCut, IsOver, IsOwn, TalkState}
+use Rattle.peer_talk.specs.Text.{outcome_text}
 use Rattle.till_session.specs.declared.fault.SessionFault.{SessionFault}
 use Rattle.till_session.specs.declared.fault.SessionFault.TheVariants as faults
-use Rattle.till_session.specs.declared.fault.TalkFault.TheVariants as talk
-use Rattle.till_session.specs.declared.fault.TalkFault.TheVariants.{OriginatorChanged}
-use Rattle.till_session.specs.declared.talk.Meaning.{Meaning}
-use Rattle.till_session.specs.declared.talk.Meaning.TheVariants as meanings
-use Rattle.till_session.specs.Counters.{Asked, Outcome, is_the_one, outcome_given, owed_by}
-use Rattle.till_session.specs.Counters.{request_asked, row_made, rows_made, signed_by}
-use Rattle.till_session.specs.Counters.{signed_on_after}
-use Rattle.till_session.specs.Text.{changes_in, messages_text, outcome_text, requests_in}
-
--- whom it serves, the till that it signed on and didn't sign off, and the number of requests asked
-pub record TalkState : Type 0 where
-  pub peer : Option (List ℕ)
-  pub on : Option ℕ
-  pub asked : ℕ
-
--- before the first message
-abbrev pub opening_talk : TalkState
-opening_talk = record { peer = None; on = None; asked = 0 }
-
--- the till that it signed on is the one that it serves: it speaks from that till's node
-abbrev pub IsOwn : Option ℕ → Option (List ℕ) → Type 0
-IsOwn None peer = Unit {0}
-IsOwn (Some t) None = ⊥
-IsOwn (Some t) (Some node) = (slice_index node 0 ≡ TILL_SUBNET) × (slice_index node 1 ≡ t)
-
--- a till that speaks is the one that the session serves
-abbrev pub IsSpokenBy : Actor → Option (List ℕ) → Type 0
-IsSpokenBy (Till t) peer = IsOwn (Some t) peer
-IsSpokenBy (Dispenser p) peer = Unit {0}
-
--- whoever asks so is the one that the session serves
-abbrev pub IsRequestOf : Option (List ℕ) → Meaning → Type 0
-IsRequestOf peer (meanings.Request actor event) = IsSpokenBy actor peer
-IsRequestOf peer meaning = Unit {0}
+use Rattle.till_session.specs.Counters.{is_the_one, owed_by}
 
 -- it ends a session in the middle of a reply: a failed allocation, a writer that takes no more
 abbrev pub ends_early : SessionFault → Bool
@@ -65,33 +36,6 @@ abbrev pub EndsStream : StreamFault → SessionFault → Option (List ℕ) → O
 EndsStream f (faults.Talk fault) holds holds' =
     (fault ≡ talk.Stream f.fault) × Appends holds holds' (spelling (fault_message f))
 EndsStream f fault holds holds' = ends_early fault ≡ true
-
--- these messages were answered, and the text goes on behind what was said
-pub record GoesOn (peer peer' : Option (List ℕ)) (ms : List Telegram) (asked : List Asked)
-    (said : List ℕ) : Type 0 where
-  pub text : (last : List ℕ) (later : List Telegram) (more : List Outcome)
-      → messages_text last peer (ms ++ later) (map outcome_given asked ++ more)
-      ≡ said ++ messages_text last peer' later more
-  pub requests : (later : List Telegram)
-      → requests_in peer (ms ++ later) ≡ map request_asked asked ++ requests_in peer' later
-  pub changes : (later : List Telegram) → changes_in peer (ms ++ later) ≡ changes_in peer' later
-
--- one of these messages came from another originator, and nothing follows what was said
-pub record IsOver (peer : Option (List ℕ)) (ms : List Telegram) (asked : List Asked)
-    (said : List ℕ) : Type 0 where
-  pub text : (last : List ℕ) (later : List Telegram) (more : List Outcome)
-      → messages_text last peer (ms ++ later) (map outcome_given asked ++ more) ≡ said
-  pub requests : (later : List Telegram) → requests_in peer (ms ++ later) ≡ map request_asked asked
-  pub changes : (later : List Telegram) → changes_in peer (ms ++ later) ≡ true
-
--- the text of these messages begins with what was said
-pub record IsCut (peer : Option (List ℕ)) (ms : List Telegram) (asked : List Asked)
-    (said : List ℕ) : Type 0 where
-  pub text : (last : List ℕ) (later : List Telegram)
-      → (rest : List ℕ) × (messages_text last peer (ms ++ later) (map outcome_given asked) ≡ said
-      ++ rest)
-  pub requests : (later : List Telegram) → (rest : List (Actor × Event))
-      × (requests_in peer (ms ++ later) ≡ map request_asked asked ++ rest)
 
 -- how messages were answered: all of them; up to another originator; or up to a fault of the
 -- session's own

@@ -5,18 +5,17 @@ use Rattle.std.specs.Io.KnownBytes.{Appends, Consumes}
 use Rattle.site_base.specs.declared.row.Row.{Row}
 use Rattle.devices.specs.Devices.{AppendsFront, greatest_count}
 use Rattle.devices.specs.Transfer.{read_fault_number, write_fault_number}
-use Rattle.app_message.specs.Numbers.{grammar_number}
 use Rattle.app_message.specs.Stream.{stream_of}
 use Rattle.till_session.specs.declared.fault.SessionFault.{SessionFault}
 use Rattle.till_session.specs.declared.fault.SessionFault.TheVariants as faults
-use Rattle.till_session.specs.declared.fault.TalkFault.{TalkFault}
-use Rattle.till_session.specs.declared.fault.TalkFault.TheVariants as talk
+use Rattle.peer_talk.specs.declared.fault.TalkFault.{TalkFault}
 use Rattle.till_session.specs.declared.session.SessionEnd.{SessionEnd}
 use Rattle.devices.specs.declared.transfer.TheConstants.{PIECE_OCTETS}
-use Rattle.till_session.specs.Counters.{Asked, IsLeft, is_the_one, outcome_given, request_asked}
-use Rattle.till_session.specs.Counters.{rows_made, signed_on_after}
-use Rattle.till_session.specs.Course.{TalkState}
-use Rattle.till_session.specs.Text.{session_fault, session_requests, session_text}
+use Rattle.peer_talk.specs.Exchanges.{Asked, outcome_given, request_asked}
+use Rattle.till_session.specs.Counters.{IsLeft, is_the_one}
+use Rattle.peer_talk.specs.Exchanges.{rows_made, signed_on_after}
+use Rattle.peer_talk.specs.Talks.{TalkState}
+use Rattle.peer_talk.specs.Text.{session_fault, session_requests, session_text, talk_number}
 
 -- it ended for want of memory, at its turn limit, or because a device failed
 abbrev pub is_early : Option SessionFault → Bool
@@ -79,11 +78,6 @@ pub record Served (turns : ℕ) (left left' holds holds' : Option (List ℕ)) (r
       → end.fault ≡ as_session_fault (session_fault (stream_of read))
 
 -- the number by which a fault that ends a session is told
-abbrev pub talk_number : TalkFault → ℕ
-talk_number (talk.Stream f) = grammar_number f
-talk_number talk.OriginatorChanged = 57
-talk_number talk.Truncated = 44
-
 abbrev pub session_number : SessionFault → ℕ
 session_number faults.NoMemory = 31
 session_number (faults.Read f) = read_fault_number f

@@ -1,6 +1,5 @@
 pub mod Counters
-pub mod Text
 pub mod Course
+pub mod DeskCounters
 pub mod Ends
 pub mod SessionEnds
-pub mod DeskCounters

@@ -7,7 +7,8 @@ use site_base::{Actor, Event, NoRow, Reply, TillNo};
 pub trait Counter {
     ghost use Rattle.std.specs.Prelude.{◌≡◌, ℕ, Bool, List, ◌++◌, true, false};
     ghost use Rattle.site_base.specs.declared.row.Row.{Row};
-    ghost use Rattle.till_session.specs.Counters.{row_made, owed_by, with_debt, IsLeft};
+    ghost use Rattle.peer_talk.specs.Exchanges.{row_made};
+    ghost use Rattle.till_session.specs.Counters.{owed_by, with_debt, IsLeft};
 
     // The rows with which it answered so far, sign-offs by `leave` too.
     ghost rows: { Self → List Row };

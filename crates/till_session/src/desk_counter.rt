@@ -2,7 +2,8 @@
 
 ghost use Rattle.std.specs.Prelude.{◌≡◌, ◌++◌, ℕ, map};
 ghost use Rattle.counter_desk.specs.Receipts.{receipted_row};
-ghost use Rattle.till_session.specs.Counters.{owed_by, row_made};
+ghost use Rattle.peer_talk.specs.Exchanges.{row_made};
+ghost use Rattle.till_session.specs.Counters.{owed_by};
 ghost use Rattle.till_session.specs.DeskCounters.{is_owed_by, IsTill};
 
 use crate::counter::Counter;

@@ -6,15 +6,16 @@ ghost use Rattle.std.specs.Io.KnownBytes.{IsAtEnd};
 ghost use Rattle.devices.specs.Counted.{device_of, failures_of};
 ghost use Rattle.devices.specs.Devices.{Rose};
 ghost use Rattle.till_session.specs.Counters.{is_the_one};
-ghost use Rattle.till_session.specs.Course.{opening_talk};
+ghost use Rattle.peer_talk.specs.Talks.{opening_talk};
 ghost use Rattle.till_session.specs.Ends.{as_session_fault, Conversed, IsClosed, Served};
-ghost use Rattle.till_session.specs.Text.{left_over};
+ghost use Rattle.peer_talk.specs.Text.{left_over};
 
 use crate::counter::Counter;
-use crate::fault::{SessionFault, TalkFault};
-use crate::talk::Talk;
+use crate::fault::SessionFault;
+use crate::teller::Teller;
 use app_message::{Decoder, Messages};
 use devices::{Counted, PIECE_OCTETS, ReadFault, WriteFault, read_piece};
+use peer_talk::TalkFault;
 use std::alloc::Global;
 use std::io::{Read, Write};
 
@@ -65,26 +66,26 @@ impl Session {
         ensures write_failed { result.fault ≡ Some (SessionFault.Write WriteFault.Failed)
             → Rose (failures_of writer.old) (failures_of writer.new) }
     {
-        let mut talk = Talk::new(alloc);
-        let fault = converse(alloc, &mut talk, reader, writer, counter, turns).err();
-        let signed_off = leave_till(&talk, counter);
+        let mut teller = Teller::new(alloc);
+        let fault = converse(alloc, &mut teller, reader, writer, counter, turns).err();
+        let signed_off = leave_till(&teller, counter);
         SessionEnd {
             fault,
-            asked: talk.request_count(),
+            asked: teller.request_count(),
             signed_off,
         }
     }
 }
 
 /// Leaves the till that was signed on and not signed off, and says whether there is one.
-fn leave_till<C: Counter>(talk: &Talk, counter: &mut C) -> bool
-    requires { IfSome talk.now.on (λ t. C.owes counter.old t ≡ true) }
-    ensures left { result ≡ is_some talk.now.on }
-    ensures rows { IsClosed talk.now.on (C.rows counter.old) (C.rows counter.new) }
-    ensures nobody { ((t : ℕ) → C.owes counter.old t ≡ is_the_one talk.now.on t)
+fn leave_till<C: Counter>(teller: &Teller, counter: &mut C) -> bool
+    requires { IfSome teller.now.on (λ t. C.owes counter.old t ≡ true) }
+    ensures left { result ≡ is_some teller.now.on }
+    ensures rows { IsClosed teller.now.on (C.rows counter.old) (C.rows counter.new) }
+    ensures nobody { ((t : ℕ) → C.owes counter.old t ≡ is_the_one teller.now.on t)
         → (t : ℕ) → C.owes counter.new t ≡ false }
 {
-    match talk.till() {
+    match teller.till() {
         Some(till) => {
             counter.leave(till);
             true
@@ -96,14 +97,14 @@ fn leave_till<C: Counter>(talk: &Talk, counter: &mut C) -> bool
 /// Reads piece after piece, and answers the messages that end in each.
 fn converse<R: Read, W: Write, C: Counter>(
     alloc: Global,
-    talk: &mut Talk,
+    teller: &mut Teller,
     reader: &mut Counted<R>,
     writer: &mut Counted<W>,
     counter: &mut C,
     mut turns: u64,
 ) -> Result<(), SessionFault>
-    requires { talk.old ≡ opening_talk }
-    ensures conversed { Conversed turns (result_err result) talk.new
+    requires { teller.old ≡ opening_talk }
+    ensures conversed { Conversed turns (result_err result) teller.new
         (R.remaining (device_of reader.old)) (R.remaining (device_of reader.new))
         (W.contents (device_of writer.old)) (W.contents (device_of writer.new))
         (C.rows counter.old) (C.rows counter.new) (C.owes counter.old) (C.owes counter.new) }
@@ -123,9 +124,9 @@ fn converse<R: Read, W: Write, C: Counter>(
             return end_of(&decoder);
         }
         let fault = decoder.feed_into(&piece[..n], &mut messages)?;
-        talk.hear(counter, writer, messages.as_slice(), &mut turns)?;
+        teller.hear(counter, writer, messages.as_slice(), &mut turns)?;
         if let Some(fault) = fault {
-            return talk.refuse_stream(writer, &fault, &mut turns);
+            return teller.refuse_stream(writer, &fault, &mut turns);
         }
     }
 }

@@ -26,4 +26,5 @@ pub use laws::{
 };
 pub use request::Request;
 pub use sale::Sale;
+pub use shelf::UNPAID_LIMIT;
 pub use standing::Standing;

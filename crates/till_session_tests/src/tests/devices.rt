@@ -10,7 +10,8 @@ use site_base::{NoMemory, TillNo};
 use std::alloc::Global;
 use std::process::Abort;
 use std::test::Fail;
-use till_session::{SessionFault, TalkFault};
+use peer_talk::TalkFault;
+use till_session::SessionFault;
 
 #[test]
 fn each_call_fails(rt: HostRuntime) -> Result<(), Fail> {

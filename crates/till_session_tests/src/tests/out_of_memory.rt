@@ -10,7 +10,8 @@ use std::alloc::Global;
 use std::process::Abort;
 use std::sync::Wait;
 use std::test::Fail;
-use till_session::{SessionFault, TalkFault};
+use peer_talk::TalkFault;
+use till_session::SessionFault;
 
 /// What may be told: all is well; the SignOn found no memory, so that the till isn't signed on; or
 /// the Open found none.

@@ -10,7 +10,8 @@ use app_message::GrammarFault;
 use forecourt_engines::known_site_of;
 use site_base::TillNo;
 use std::test::Fail;
-use till_session::{SessionFault, TalkFault};
+use peer_talk::TalkFault;
+use till_session::SessionFault;
 
 #[test]
 fn another_originator(rt: HostRuntime) -> Result<(), Fail> {

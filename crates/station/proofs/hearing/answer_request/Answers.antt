@@ -1,5 +1,5 @@
 use Rattle.std.proofs.Common.{◌++◌, false, true}
-use Rattle.till_session.specs.Text.{outcome_text}
+use Rattle.peer_talk.specs.Text.{outcome_text}
 use Rattle.station.specs.Hearing.{turn_of}
 use Rattle.station.specs.Sessions.{ask, opening_text, with_outcome}
 use Rattle.station.proofs.Answering.{answers_request, request_lost, request_put, was_asked}

@@ -1,10 +1,10 @@
 use Rattle.std.proofs.Common.{◌≡◌, ◌∙◌, ap, sym, true}
 use Rattle.std.proofs.lemmas.Result.{err_from_is_err_and}
 use Rattle.till_session.specs.Course.{ends_early}
-use Rattle.till_session.proofs.Speakers.{another_meant, fault_meant, request_meant, same_peer}
+use Rattle.peer_talk.proofs.Speakers.{another_meant, fault_meant, request_meant, same_peer}
 use Rattle.till_session.proofs.Talks.{talked_another, talked_another_cut, talked_asked}
 use Rattle.till_session.proofs.Talks.{talked_refused}
-use Rattle.till_session.proofs.talk.Talk.answer.Goals as goal
+use Rattle.till_session.proofs.teller.Teller.answer.Goals as goal
 
 pub returns-in_err-refuse-in-Another-clause-talked :
     goal.returns-in_err-refuse-in-Another-clause-talked

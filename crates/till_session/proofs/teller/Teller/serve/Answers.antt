@@ -1,6 +1,6 @@
 use Rattle.std.proofs.lemmas.Result.{err_from_is_err_and}
 use Rattle.till_session.proofs.Talks.{front_none}
-use Rattle.till_session.proofs.talk.Talk.serve.Goals as goal
+use Rattle.till_session.proofs.teller.Teller.serve.Goals as goal
 
 -- there was no memory for the reply
 pub returns-in_err-reply-clause-asked : goal.returns-in_err-reply-clause-asked

@@ -1,8 +1,7 @@
 -- Who speaks in a session, and which till it signed on.
-use Rattle.std.proofs.Common.{◌≡◌, ℕ, Bool, true, false, cond, not, List, Option, Some, None, Ok}
+use Rattle.std.proofs.Common.{◌≡◌, ℕ, Bool, true, false, not, List, Option, Some, None, Ok}
 use Rattle.std.proofs.Common.{Err, Result, refl, sym, ap, ◌∙◌}
-use Rattle.std.specs.Prelude.{◌&&◌, ◌==◌, if◌then◌else◌, slice_index, IfSome}
-use Rattle.std.proofs.lemmas.Bool.{eq-eqb}
+use Rattle.std.specs.Prelude.{◌&&◌, ◌==◌, if◌then◌else◌, slice_index}
 use Rattle.site_base.specs.declared.actor.Actor.{Actor}
 use Rattle.site_base.specs.declared.actor.Actor.TheVariants.{Till, Dispenser}
 use Rattle.site_base.specs.declared.event.Event.{Event}
@@ -19,11 +18,11 @@ use Rattle.device_map.specs.Nodes.{actor_at, dispenser_at, for_us, is_request, t
 use Rattle.device_map.specs.Requests.{event_at, request_at}
 use Rattle.device_map.specs.Addresses.{database_at}
 use Rattle.device_map.proofs.Results.{bind_ok, passed, equal, ok_is}
-use Rattle.till_session.specs.Counters.{Outcome, is_the_one, owed_by, signed_by}
-use Rattle.till_session.specs.Course.{IsOwn, IsSpokenBy}
-use Rattle.till_session.specs.Text.{as_meaning, is_another, is_same_node, meaning_at, peer_after}
-use Rattle.till_session.specs.declared.talk.Meaning.{Meaning}
-use Rattle.till_session.specs.declared.talk.Meaning.TheVariants as meanings
+use Rattle.peer_talk.specs.Exchanges.{Outcome, signed_by}
+use Rattle.peer_talk.specs.Talks.{IsOwn, IsSpokenBy}
+use Rattle.peer_talk.specs.Text.{as_meaning, is_another, is_same_node, meaning_at, peer_after}
+use Rattle.peer_talk.specs.declared.talk.Meaning.{Meaning}
+use Rattle.peer_talk.specs.declared.talk.Meaning.TheVariants as meanings
 
 -- ---- a till speaks from the node of its number
 
@@ -181,58 +180,3 @@ own_signed (Till t) SignOn (Ok (Err refusal)) on peer spoken own = own
 own_signed (Till t) SignOff (Ok (Err refusal)) on peer spoken own = own
 own_signed actor event (Ok (Err refusal)) on peer spoken own = own
 own_signed actor event (Err no_row) on peer spoken own = own
-
--- ---- what a counter owes
-
-same_number : (t : ℕ) → (t == t) ≡ true
-same_number t = eq-eqb t t refl
-
--- the till that is signed on is owed
-pub still_owed : (actor : Actor) (event : Event) (outcome : Outcome) (on : Option ℕ)
-    (owes : ℕ → Bool)
-    → IfSome on (λ t. owes t ≡ true)
-    → IfSome (signed_by actor event outcome on) (λ t. owed_by actor event outcome owes t ≡ true)
-still_owed (Till t) SignOn (Ok (Ok answer)) on owes owed = rw (same_number t) refl
-still_owed (Till t) SignOff (Ok (Ok answer)) on owes owed = tt
-still_owed actor event (Ok (Ok answer)) on owes owed = owed
-still_owed (Till t) SignOn (Ok (Err refusal)) on owes owed = owed
-still_owed (Till t) SignOff (Ok (Err refusal)) on owes owed = owed
-still_owed actor event (Ok (Err refusal)) on owes owed = owed
-still_owed actor event (Err no_row) on owes owed = owed
-
-two_tills : (t : ℕ) (on : Option ℕ) (peer : Option (List ℕ)) (u : ℕ) → IsOwn on peer
-    → IsOwn (Some t) peer
-    → (u == t) ≡ false → is_the_one on u ≡ false
-two_tills t None peer u own spoken other = refl
-two_tills t (Some s) None u own spoken other = absurd own
-two_tills t (Some s) (Some node) u own spoken other =
-    let same : s ≡ t = sym own.1 ∙ spoken.1 in rw same other
-
-debt_set : (b owed : Bool) (old : Bool) → (b ≡ false → old ≡ false) → cond b owed old ≡ (b && owed)
-debt_set true owed old other = refl
-debt_set false owed old other = other refl
-
-and_true : (b : Bool) → (b && true) ≡ b
-and_true true = refl
-and_true false = refl
-
-and_false : (b : Bool) → (b && false) ≡ false
-and_false true = refl
-and_false false = refl
-
--- no other till is owed
-pub still_alone : (actor : Actor) (event : Event) (outcome : Outcome) (on : Option ℕ)
-    (peer : Option (List ℕ)) (owes : ℕ → Bool)
-    → IsOwn on peer → IsSpokenBy actor peer → ((u : ℕ) → owes u ≡ is_the_one on u)
-    → (u : ℕ) → owed_by actor event outcome owes u ≡ is_the_one (signed_by actor event outcome on) u
-still_alone (Till t) SignOn (Ok (Ok answer)) on peer owes own spoken alone u =
-    debt_set (u == t) true (owes u) (λ other. alone u ∙ two_tills t on peer u own spoken other)
-    ∙ and_true (u == t)
-still_alone (Till t) SignOff (Ok (Ok answer)) on peer owes own spoken alone u =
-    debt_set (u == t) false (owes u) (λ other. alone u ∙ two_tills t on peer u own spoken other)
-    ∙ and_false (u == t)
-still_alone actor event (Ok (Ok answer)) on peer owes own spoken alone u = alone u
-still_alone (Till t) SignOn (Ok (Err refusal)) on peer owes own spoken alone u = alone u
-still_alone (Till t) SignOff (Ok (Err refusal)) on peer owes own spoken alone u = alone u
-still_alone actor event (Ok (Err refusal)) on peer owes own spoken alone u = alone u
-still_alone actor event (Err no_row) on peer owes own spoken alone u = alone u

@@ -1,7 +1,7 @@
 use Rattle.std.proofs.Common.{◌≡◌, ◌≤◌, None, take}
 use Rattle.devices.specs.Counted.{device_of, failures_of}
 use Rattle.till_session.specs.Course.{Talked}
-use Rattle.till_session.proofs.talk.Talk.hear.Given as goal
+use Rattle.till_session.proofs.teller.Teller.hear.Given as goal
 
 abbrev pub invariant-loop-message : goal.invariant-loop-message
 invariant-loop-message g l = record {

@@ -6,6 +6,7 @@ use Rattle.site_base.specs.declared.actor.Actor.{Actor}
 use Rattle.site_base.specs.declared.event.Event.{Event}
 use Rattle.site_base.specs.Refusals.{no_row_number}
 use Rattle.app_message.specs.declared.fault.StreamFault.{StreamFault}
+use Rattle.app_message.specs.Numbers.{grammar_number}
 use Rattle.app_message.specs.Spelling.{spelling}
 use Rattle.app_message.specs.Stream.{Stream}
 use Rattle.app_message.specs.Telegram.{Telegram}
@@ -13,12 +14,12 @@ use Rattle.device_map.specs.declared.fault.MapFault.{MapFault}
 use Rattle.device_map.specs.Faults.{map_number}
 use Rattle.device_map.specs.Replies.{fault_message, number_message, reply_message}
 use Rattle.device_map.specs.Requests.{request_at}
-use Rattle.till_session.specs.declared.fault.TheConstants.{ORIGINATOR_CHANGED}
-use Rattle.till_session.specs.declared.fault.TalkFault.{TalkFault}
-use Rattle.till_session.specs.declared.fault.TalkFault.TheVariants as faults
-use Rattle.till_session.specs.declared.talk.Meaning.{Meaning}
-use Rattle.till_session.specs.declared.talk.Meaning.TheVariants as meanings
-use Rattle.till_session.specs.Counters.{Outcome}
+use Rattle.peer_talk.specs.declared.fault.TheConstants.{ORIGINATOR_CHANGED}
+use Rattle.peer_talk.specs.declared.fault.TalkFault.{TalkFault}
+use Rattle.peer_talk.specs.declared.fault.TalkFault.TheVariants as faults
+use Rattle.peer_talk.specs.declared.talk.Meaning.{Meaning}
+use Rattle.peer_talk.specs.declared.talk.Meaning.TheVariants as meanings
+use Rattle.peer_talk.specs.Exchanges.{Outcome}
 
 -- ---- whom a session serves
 
@@ -55,10 +56,14 @@ meaning_at peer m =
 abbrev pub number_text : Telegram → ℕ → List ℕ
 number_text m number = spelling (number_message m number)
 
--- a request that was answered so: its reply, or why there is no row
+-- the message that tells what a request was answered: its reply, or why there is no row
+abbrev pub outcome_message : Telegram → Outcome → Telegram
+outcome_message m (Ok reply) = reply_message m reply
+outcome_message m (Err no_row) = number_message m (no_row_number no_row)
+
+-- a request that was answered so
 abbrev pub outcome_text : Telegram → Outcome → List ℕ
-outcome_text m (Ok reply) = spelling (reply_message m reply)
-outcome_text m (Err no_row) = number_text m (no_row_number no_row)
+outcome_text m outcome = spelling (outcome_message m outcome)
 
 -- a message that means this, and what follows: the mapping's fault, or the next answer; nothing
 -- more where there is no answer
@@ -120,3 +125,9 @@ fault_by false None rest = left_over rest
 -- why the text of this stream ends, if not well
 abbrev pub session_fault : Stream → Option TalkFault
 session_fault s = fault_by (changes_in None s.messages) s.fault s.rest
+
+-- the number by which a fault that ends a session is told
+abbrev pub talk_number : TalkFault → ℕ
+talk_number (faults.Stream f) = grammar_number f
+talk_number faults.OriginatorChanged = ORIGINATOR_CHANGED
+talk_number faults.Truncated = 44

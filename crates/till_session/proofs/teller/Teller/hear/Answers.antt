@@ -1,7 +1,7 @@
 use Rattle.std.proofs.Common.{◌+◌, ◌∙◌, Some, None, arith, refl}
 use Rattle.std.proofs.lemmas.Result.{err_from_is_err_and}
 use Rattle.till_session.proofs.Talks.{talked_all, talked_more, talked_none}
-use Rattle.till_session.proofs.talk.Talk.hear.Goals as goal
+use Rattle.till_session.proofs.teller.Teller.hear.Goals as goal
 
 pub loop-message-init : goal.loop-message-init
 loop-message-init g c = record {

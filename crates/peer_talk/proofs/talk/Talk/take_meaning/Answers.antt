@@ -1,8 +1,8 @@
 use Rattle.std.proofs.Common.{◌≡◌, ◌∙◌, ap, false, subst, sym}
-use Rattle.till_session.specs.Course.{IsSpokenBy, TalkState}
-use Rattle.till_session.specs.Text.{is_another, peer_after}
-use Rattle.till_session.proofs.Speakers.{spoken_by}
-use Rattle.till_session.proofs.talk.Talk.take_meaning.Goals as goal
+use Rattle.peer_talk.specs.Talks.{IsSpokenBy, TalkState}
+use Rattle.peer_talk.specs.Text.{is_another, peer_after}
+use Rattle.peer_talk.proofs.Speakers.{spoken_by}
+use Rattle.peer_talk.proofs.talk.Talk.take_meaning.Goals as goal
 
 pub returns-in-Ok-clause-spoken : goal.returns-in-Ok-clause-spoken
 returns-in-Ok-clause-spoken c =

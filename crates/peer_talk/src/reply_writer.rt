@@ -1,0 +1,83 @@
+//! The messages that go back to a peer.
+
+ghost use Rattle.std.specs.Prelude.{◌≡◌, IfOk};
+ghost use Rattle.device_map.specs.Replies.{fault_message, number_message, reply_message};
+ghost use Rattle.peer_talk.specs.Text.{outcome_message};
+
+use app_message::{Message, SpelledMessage, StreamFault};
+use device_map::{refusal_in, reply_in, stream_refusal};
+use site_base::{NoMemory, NoRow, Reply};
+use std::alloc::Global;
+use std::mem;
+
+/// Writes the messages that go back, each into the buffer of the last one that was given back.
+#[derive(Drop)]
+pub struct ReplyWriter {
+    alloc: Global,
+    buffer: Vec<u8>,
+}
+
+impl ReplyWriter {
+    /// A writer without a buffer. It takes no memory.
+    pub fn new(alloc: Global) -> ReplyWriter {
+        ReplyWriter {
+            alloc,
+            buffer: Vec::new(alloc),
+        }
+    }
+
+    /// The message that tells what a request was answered: its reply, or why there is no row.
+    pub fn write_outcome(
+        &mut self,
+        request: &SpelledMessage<'_>,
+        outcome: &Result<Reply, NoRow>,
+    ) -> Result<Message, NoMemory>
+        ensures { IfOk result (λ message. message ≡ outcome_message request.now outcome.now) }
+    {
+        match outcome {
+            Ok(reply) => self.write_reply(request, reply),
+            Err(no_row) => self.write_number(request, no_row.number()),
+        }
+    }
+
+    /// The message that tells a reply to a request.
+    #[inline(always)]
+    pub fn write_reply(
+        &mut self,
+        request: &SpelledMessage<'_>,
+        reply: &Reply,
+    ) -> Result<Message, NoMemory>
+        ensures { IfOk result (λ message. message ≡ reply_message request.now reply.now) }
+    {
+        reply_in(self.take_buffer(), request, reply)
+    }
+
+    /// The message that tells a number in place of a reply.
+    pub fn write_number(
+        &mut self,
+        request: &SpelledMessage<'_>,
+        number: u8,
+    ) -> Result<Message, NoMemory>
+        ensures { IfOk result (λ message. message ≡ number_message request.now number) }
+    {
+        refusal_in(self.take_buffer(), request, number)
+    }
+
+    /// The message that tells why a stream ended.
+    pub fn write_fault(&mut self, fault: &StreamFault) -> Result<Message, NoMemory>
+        ensures { IfOk result (λ message. message ≡ fault_message fault.now) }
+    {
+        stream_refusal(self.alloc, fault)
+    }
+
+    /// Takes back a message that was told: its buffer serves the next one.
+    #[inline(always)]
+    pub fn give_back(&mut self, message: Message) {
+        self.buffer = message.into_buffer();
+    }
+
+    #[inline(always)]
+    fn take_buffer(&mut self) -> Vec<u8> {
+        mem::replace(&mut self.buffer, Vec::new(self.alloc))
+    }
+}
