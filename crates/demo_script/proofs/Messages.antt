@@ -7,10 +7,10 @@ use Rattle.hex.specs.declared.error.FromHexError.{FromHexError}
 use Rattle.app_message.specs.Stream.{Held, Stream, fed_by, held_part, held_after, stream, stream_of}
 use Rattle.app_message.specs.Stream.{walk}
 use Rattle.app_message.specs.Telegram.{Telegram}
-use Rattle.forecourt_engines.specs.declared.line.LineText.TheVariants as texts
-use Rattle.forecourt_engines.specs.LineTexts.{Says as LineSays}
-use Rattle.forecourt_engines.specs.Text.{without_spaces}
-use Rattle.forecourt_engines.proofs.Hexadecimal.{skipped_is_empty}
+use Rattle.hex_lines.specs.declared.line_reading.LineText.TheVariants as texts
+use Rattle.hex_lines.specs.LineTexts.{Says as LineSays}
+use Rattle.hex_lines.specs.Lines.{without_spaces}
+use Rattle.hex_lines.proofs.Hexadecimal.{skipped_is_empty}
 use Rattle.app_message.specs.declared.fault.StreamFault.{StreamFault}
 use Rattle.device_map.specs.declared.fault.MapFault.{MapFault}
 use Rattle.device_map.specs.Requests.{request_at}

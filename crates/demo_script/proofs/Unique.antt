@@ -6,7 +6,7 @@ use Rattle.std.proofs.Common.{subst, ◌∙◌, arith, drop-cons}
 use Rattle.std.specs.Io.BufRead.{strip_last}
 use Rattle.std.proofs.lemmas.Fmt.{decimal_injective}
 use Rattle.std.proofs.lemmas.List.{take-append-drop}
-use Rattle.forecourt_engines.specs.Text.{is_skipped}
+use Rattle.hex_lines.specs.Lines.{is_skipped}
 use Rattle.site_base.specs.declared.actor.Actor.{Actor}
 use Rattle.site_base.specs.declared.event.Event.{Event}
 use Rattle.site_base.specs.declared.state.PointState.{PointState}

@@ -13,8 +13,8 @@ use Rattle.app_message.specs.Telegram.{Telegram}
 use Rattle.device_map.specs.Requests.{request_at}
 use Rattle.dispenser_sim.specs.declared.script.Step.{Step}
 use Rattle.dispenser_sim.specs.declared.script.Step.TheVariants as steps
-use Rattle.forecourt_engines.specs.declared.line.TheConstants.{LINE_OCTETS}
-use Rattle.forecourt_engines.specs.Text.{is_skipped, without_spaces}
+use Rattle.hex_lines.specs.declared.line_reading.TheConstants.{LINE_OCTETS}
+use Rattle.hex_lines.specs.Lines.{is_skipped, without_spaces}
 use Rattle.demo_script.specs.declared.fault.ScriptFault.{ScriptFault}
 use Rattle.demo_script.specs.declared.fault.ScriptFault.TheVariants as faults
 use Rattle.demo_script.specs.declared.line.Line.{Line}

@@ -16,7 +16,7 @@ use crate::words::{section_begun, step_of};
 use app_message::{Message, Messages};
 use device_map::request_of;
 use dispenser_sim::{Script, Step};
-use forecourt_engines::line::{LINE_OCTETS, skips, text_of};
+use hex_lines::{LINE_OCTETS, skips, text_of};
 use site_base::{Actor, Event, NoMemory};
 use std::alloc::Global;
 use std::marker::Model;

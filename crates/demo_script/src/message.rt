@@ -6,7 +6,7 @@ ghost use Rattle.app_message.specs.Telegram.{Telegram};
 ghost use Rattle.demo_script.specs.Script.{IsMessageText};
 
 use app_message::{Decoder, Message, Messages};
-use forecourt_engines::line::{LineText, read_octets};
+use hex_lines::{LineText, read_octets};
 use site_base::NoMemory;
 use std::alloc::Global;
 

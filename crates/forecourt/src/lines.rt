@@ -1,7 +1,8 @@
 //! Lines of standard input.
 
 use crate::exit::{exit_no_memory, exit_replay};
-use forecourt_engines::{LINE_OCTETS, ReplayFault};
+use forecourt_engines::ReplayFault;
+use hex_lines::LINE_OCTETS;
 use devices::ReadFault;
 use std::io::{BufRead, ErrorKind, Read};
 use std::process::ExitCode;

@@ -8,13 +8,15 @@ use Rattle.std.proofs.lemmas.Bool.{lt-leb, le-leb, cases_lt}
 use Rattle.app_message.specs.Stream.{Held}
 use Rattle.forecourt_engines.specs.declared.fault.TextFault.{TextFault}
 use Rattle.forecourt_engines.specs.declared.fault.TextFault.TheVariants.{TooLong}
-use Rattle.forecourt_engines.specs.declared.line.TheConstants.{LINE_OCTETS}
+use Rattle.hex_lines.specs.declared.line_reading.TheConstants.{LINE_OCTETS}
 use Rattle.forecourt_engines.specs.Answers.{Answerer}
-use Rattle.forecourt_engines.specs.Text.{State, kept_of, effect, line_effect, next_line, next}
+use Rattle.hex_lines.specs.Lines.{kept_of}
+use Rattle.forecourt_engines.specs.Text.{State, effect, line_effect, next_line, next}
 use Rattle.forecourt_engines.specs.Text.{octet_text}
 use Rattle.forecourt_engines.specs.Text.{octet_step, says, after, text_from, end_input, last_text}
 use Rattle.forecourt_engines.proofs.Running.{after-append, text_from-append}
-use Rattle.forecourt_engines.specs.Laws.{between_lines, IsLine, LineSays, LastLineSays}
+use Rattle.hex_lines.specs.Lines.{IsLine}
+use Rattle.forecourt_engines.specs.Laws.{between_lines, LineSays, LastLineSays}
 use Rattle.forecourt_engines.specs.Laws.{LongLineSays}
 use Rattle.forecourt_engines.specs.Laws.{NothingFollows}
 

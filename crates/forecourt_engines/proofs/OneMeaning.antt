@@ -24,7 +24,7 @@ use Rattle.site_base.specs.Words.{sale_word}
 use Rattle.app_message.specs.Telegram.{Telegram}
 use Rattle.device_map.proofs.OneRequest.{alone}
 use Rattle.device_map.specs.Laws.{Asks, is_in_range, is_meter, is_preset, is_sale}
-use Rattle.forecourt_engines.specs.Answers.{line_of}
+use Rattle.hex_lines.specs.Lines.{line_of}
 use Rattle.forecourt_engines.specs.AskedText.{IsTokenText}
 use Rattle.forecourt_engines.specs.EventNames.{IsRequestText, behind_first, name_said, name_word}
 use Rattle.forecourt_engines.specs.LineWords.{is_comment, words_in}

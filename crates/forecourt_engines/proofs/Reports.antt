@@ -25,9 +25,10 @@ use Rattle.forecourt_engines.specs.Report.{book_report}
 use Rattle.forecourt_engines.specs.Reporting.{Reported, WritesReport, input_report}
 use Rattle.forecourt_engines.specs.Reporting.{opening_state}
 use Rattle.forecourt_engines.proofs.Running.{AppendsFront-none}
-use Rattle.forecourt_engines.specs.declared.line.TheConstants.{LINE_OCTETS}
+use Rattle.hex_lines.specs.declared.line_reading.TheConstants.{LINE_OCTETS}
 use Rattle.forecourt_engines.specs.Text.{State, after, book_of, octets_effect, end_input, ends}
-use Rattle.forecourt_engines.specs.Text.{is_skipped, effect, kept_of, line_effect, next, next_line}
+use Rattle.hex_lines.specs.Lines.{is_skipped, kept_of}
+use Rattle.forecourt_engines.specs.Text.{effect, line_effect, next, next_line}
 use Rattle.forecourt_engines.specs.Text.{octet_step}
 
 book_keeps : (b : Book) (meaning : Result (Actor × Event) MapFault)

@@ -13,10 +13,11 @@ use Rattle.app_message.specs.Stream.{fed_by, fed_from}
 use Rattle.app_message.proofs.Cutting.{any_cut}
 use Rattle.forecourt_engines.specs.declared.fault.TextFault.{TextFault}
 use Rattle.forecourt_engines.specs.declared.fault.TextFault.TheVariants as faults
-use Rattle.forecourt_engines.specs.declared.line.TheConstants.{LINE_OCTETS}
+use Rattle.hex_lines.specs.declared.line_reading.TheConstants.{LINE_OCTETS}
 use Rattle.forecourt_engines.specs.Answers.{Answerer, lines_for, after_message, answers_to}
 use Rattle.forecourt_engines.specs.Answers.{after_messages}
-use Rattle.forecourt_engines.specs.Text.{State, Effect, start, kept_of, is_skipped, effect}
+use Rattle.hex_lines.specs.Lines.{kept_of, is_skipped}
+use Rattle.forecourt_engines.specs.Text.{State, Effect, start, effect}
 use Rattle.forecourt_engines.specs.Text.{octets_effect, stream_effect, stop_of, fault_text}
 use Rattle.forecourt_engines.specs.Text.{line_effect, next_number}
 use Rattle.forecourt_engines.specs.Text.{next_line, next, octet_text, after, text_from, end_input}

@@ -1,13 +1,12 @@
 -- What a message is answered with, the change that it makes, and the book that it leads to.
 use Rattle.std.specs.Prelude.{ℕ, Bool, true, false, List, [], ◌∷◌, ◌++◌, Option, Some, None}
 use Rattle.std.specs.Prelude.{Result, Ok, Err, if◌then◌else◌}
-use Rattle.hex.specs.Hex.{encode_lower}
 use Rattle.site_base.specs.declared.actor.Actor.{Actor}
 use Rattle.site_base.specs.declared.event.Event.{Event}
 use Rattle.site_base.specs.declared.refusal.NoRow.TheVariants.{BookFull}
 use Rattle.site_base.specs.Refusals.{no_row_number}
 use Rattle.app_message.specs.Telegram.{Telegram}
-use Rattle.app_message.specs.Spelling.{spelling}
+use Rattle.hex_lines.specs.Lines.{line_of}
 use Rattle.device_map.specs.declared.fault.MapFault.{MapFault}
 use Rattle.device_map.specs.Changes.{change_of}
 use Rattle.device_map.specs.Faults.{map_number}
@@ -32,10 +31,6 @@ answer_to b m = answer_meaning b m (request_at m)
 -- the book after a message: one more row where it means an event and the book isn't full
 abbrev pub book_after : Book → Telegram → Book
 book_after b m = book_meaning b (request_at m)
-
--- a message as a line: lower case hexadecimal and a line feed
-abbrev pub line_of : Telegram → List ℕ
-line_of m = encode_lower (spelling m) ++ 10 ∷ []
 
 -- a change as a line, if there is one
 abbrev pub change_line : Option Telegram → List ℕ

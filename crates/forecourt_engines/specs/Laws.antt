@@ -1,13 +1,13 @@
 -- What joins the text of a replay to its lines.
 use Rattle.std.specs.Prelude.{◌≡◌, ℕ, ◌<◌, ◌≤◌, true, not, List, [], ◌∷◌, ◌++◌, length, ◌==◌, Some}
 use Rattle.std.specs.Prelude.{None}
-use Rattle.std.specs.List.{list_all}
 use Rattle.app_message.specs.Stream.{Held}
 use Rattle.forecourt_engines.specs.declared.fault.TextFault.{TextFault}
 use Rattle.forecourt_engines.specs.declared.fault.TextFault.TheVariants.{TooLong}
-use Rattle.forecourt_engines.specs.declared.line.TheConstants.{LINE_OCTETS}
+use Rattle.hex_lines.specs.declared.line_reading.TheConstants.{LINE_OCTETS}
 use Rattle.forecourt_engines.specs.Answers.{Answerer}
-use Rattle.forecourt_engines.specs.Text.{State, kept_of, effect, next_line, after, text_from}
+use Rattle.hex_lines.specs.Lines.{kept_of}
+use Rattle.forecourt_engines.specs.Text.{State, effect, next_line, after, text_from}
 use Rattle.forecourt_engines.specs.Text.{end_input}
 use Rattle.forecourt_engines.specs.Text.{last_text}
 
@@ -15,10 +15,6 @@ use Rattle.forecourt_engines.specs.Text.{last_text}
 abbrev pub between_lines : ℕ → Held → Answerer → State
 between_lines number stream answerer =
     record { line = []; number = number; stream = stream; answerer = answerer; stop = None }
-
--- octets without a line feed
-abbrev pub IsLine : List ℕ → Type 0
-IsLine line = list_all (λ b. not (b == 10)) line ≡ true
 
 -- a line that isn't too long, with its line feed, says what it says as a whole
 abbrev pub LineSays : Type 0

@@ -11,7 +11,7 @@ use Rattle.device_map.specs.Replies.{told_message, told_number}
 use Rattle.device_map.specs.Requests.{request_at}
 use Rattle.forecourt_engines.specs.declared.explain.Meaning.{Meaning}
 use Rattle.forecourt_engines.specs.declared.explain.Meaning.TheVariants as meanings
-use Rattle.forecourt_engines.specs.Text.{is_skipped}
+use Rattle.hex_lines.specs.Lines.{is_skipped}
 
 -- a request asks for its event; what the site tells is spelled just so; of any other message the
 -- mapping's fault is told

@@ -5,7 +5,7 @@ use Rattle.site_base.specs.declared.actor.Actor.{Actor}
 use Rattle.site_base.specs.declared.event.Event.{Event}
 use Rattle.app_message.specs.Telegram.{Telegram}
 use Rattle.device_map.specs.Laws.{Asks, is_own}
-use Rattle.forecourt_engines.specs.Answers.{line_of}
+use Rattle.hex_lines.specs.Lines.{line_of}
 use Rattle.forecourt_engines.specs.AskedText.{IsAskedText}
 use Rattle.forecourt_engines.specs.LineWords.{is_comment}
 

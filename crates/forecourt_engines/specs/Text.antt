@@ -1,8 +1,7 @@
 -- The text of a replay, octet by octet: what is written for an input, and why it ends.
-use Rattle.std.specs.Prelude.{ℕ, ◌+◌, ◌-◌, ◌^◌, Bool, true, not, min, filter, List, [], ◌∷◌, ◌++◌}
+use Rattle.std.specs.Prelude.{ℕ, ◌+◌, ◌-◌, ◌^◌, min, List, [], ◌∷◌, ◌++◌}
 use Rattle.std.specs.Prelude.{length, ◌==◌, nat_le, Option, Some, None, Result, Ok, Err}
 use Rattle.std.specs.Prelude.{if◌then◌else◌}
-use Rattle.std.specs.Io.BufRead.{strip_last}
 use Rattle.hex.specs.Hex.{decode_of}
 use Rattle.hex.specs.declared.error.FromHexError.{FromHexError}
 use Rattle.app_message.specs.declared.fault.StreamFault.{StreamFault}
@@ -10,9 +9,10 @@ use Rattle.app_message.specs.Stream.{Stream, Held, held_part, held_after, fed_by
 use Rattle.device_map.specs.Replies.{fault_message}
 use Rattle.forecourt_engines.specs.declared.fault.TextFault.{TextFault}
 use Rattle.forecourt_engines.specs.declared.fault.TextFault.TheVariants as faults
-use Rattle.forecourt_engines.specs.declared.line.TheConstants.{LINE_OCTETS}
+use Rattle.hex_lines.specs.declared.line_reading.TheConstants.{LINE_OCTETS}
 use Rattle.site_book.specs.Book.{Book}
-use Rattle.forecourt_engines.specs.Answers.{Answerer, answers_to, after_messages, line_of}
+use Rattle.hex_lines.specs.Lines.{line_of}
+use Rattle.forecourt_engines.specs.Answers.{Answerer, answers_to, after_messages}
 
 -- between two octets of the input: the line so far and its number, the octets of a message to come,
 -- the book with whether changes are told, and why the text has ended, if it has
@@ -28,18 +28,6 @@ abbrev pub start : Answerer → State
 start b = record { line = []; number = 1; stream = held_after []; answerer = b; stop = None }
 
 -- ---- what a line says
-
-abbrev pub without_spaces : List ℕ → List ℕ
-without_spaces text = filter (λ b. not (b == 32)) text
-
--- a line without its spaces, and without a carriage return that ends it
-abbrev pub kept_of : List ℕ → List ℕ
-kept_of line = without_spaces (strip_last 13 line)
-
--- an empty line or a comment
-abbrev pub is_skipped : List ℕ → Bool
-is_skipped [] = true
-is_skipped (b ∷ bs) = b == 35
 
 -- what a line leads to, and the text that it adds
 pub record Effect : Type 0 where

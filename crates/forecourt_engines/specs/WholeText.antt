@@ -8,9 +8,10 @@ use Rattle.app_message.specs.declared.fault.StreamFault.{StreamFault}
 use Rattle.app_message.specs.Stream.{Stream, stream_of}
 use Rattle.forecourt_engines.specs.declared.fault.TextFault.{TextFault}
 use Rattle.forecourt_engines.specs.declared.fault.TextFault.TheVariants as faults
-use Rattle.forecourt_engines.specs.declared.line.TheConstants.{LINE_OCTETS}
+use Rattle.hex_lines.specs.declared.line_reading.TheConstants.{LINE_OCTETS}
 use Rattle.forecourt_engines.specs.Answers.{Answerer, answers_to, after_messages}
-use Rattle.forecourt_engines.specs.Text.{start, kept_of, is_skipped, next_number, fault_text}
+use Rattle.hex_lines.specs.Lines.{kept_of, is_skipped}
+use Rattle.forecourt_engines.specs.Text.{start, next_number, fault_text}
 use Rattle.forecourt_engines.specs.Text.{left_over, text_of, fault_of, book_of}
 
 -- what follows the last line feed is a line where it isn't empty

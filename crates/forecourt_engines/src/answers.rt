@@ -1,26 +1,20 @@
 //! Messages answered over a book.
 
-ghost use Rattle.std.specs.Prelude.{◌≡◌, ◌≤◌, ◌<◌, ◌+◌, ◌++◌, ◌∷◌, [], ◌*◌, ◌^◌, length};
-ghost use Rattle.std.specs.Prelude.{OnOk, replicate};
-ghost use Rattle.hex.specs.Hex.{encode_lower};
-ghost use Rattle.forecourt_engines.specs.Answers.{line_of, change_line, lines_for, after_message};
+ghost use Rattle.std.specs.Prelude.{◌≡◌, ◌++◌, OnOk};
+ghost use Rattle.hex_lines.specs.Lines.{line_of};
+ghost use Rattle.forecourt_engines.specs.Answers.{change_line, lines_for, after_message};
 ghost use Rattle.forecourt_engines.specs.Answers.{answers_to, after_messages};
 ghost use Rattle.device_map.specs.Changes.{change_of};
 ghost use Rattle.device_map.specs.Replies.{number_message, reply_message};
-ghost use Rattle.app_message.specs.declared.sizes.TheConstants.{HEADER, LONGEST_BODY};
 
-use crate::plain_digits::{LANES, write_digits};
 use app_message::{Message, SpelledMessage};
 use device_map::{change_of, request_in};
+use hex_lines::put_line;
 use peer_talk::ReplyWriter;
 use site_base::{Answer, NoMemory, NoRow, Reply, Row};
 use site_book::SiteBook;
 use std::alloc::Global;
 use std::marker::Model;
-
-/// As many as most lines have octets: to append all of them, and to cut off what is too much, is
-/// cheaper than to append just so many as are needed.
-const LINE_FEEDS: [u8; 128] = [b'\n'; 128];
 
 /// What answers messages: a book, and whether the changes of its rows are told too. Beside that it
 /// has what writes the answers.
@@ -155,69 +149,5 @@ fn put_change(alloc: Global, row: &Row, out: &mut Vec<u8>) -> Result<(), NoMemor
     match change_of(alloc, row)? {
         None => Ok(()),
         Some(change) => put_line(out, &change),
-    }
-}
-
-/// Appends a message as a line of hexadecimal.
-pub fn put_line(out: &mut Vec<u8>, message: &Message) -> Result<(), NoMemory>
-    ensures { OnOk result (out.new.items ≡ out.old.items ++ line_of message.now) }
-{
-    let (head, body) = (message.head(), message.body());
-    put_spelling(out, &head, body)
-}
-
-/// Appends the octets of two parts as a line of hexadecimal. It takes one growth at most.
-fn put_spelling(out: &mut Vec<u8>, head: &[u8], body: &[u8]) -> Result<(), NoMemory>
-    requires head { length head.now ≡ HEADER }
-    requires body { length body.now ≤ LONGEST_BODY }
-    ensures { OnOk result (out.new.items
-        ≡ out.old.items ++ (encode_lower (head.now ++ body.now) ++ 10 ∷ [])) }
-{
-    let size = out.len();
-    put_line_feeds(out, 2 * (head.len() + body.len()) + 1)?;
-    spell(head, body, &mut out[size..]);
-    Ok(())
-}
-
-/// Appends so many line feeds. It takes one growth at most.
-#[inline(always)]
-fn put_line_feeds(out: &mut Vec<u8>, count: usize) -> Result<(), NoMemory>
-    requires { length out.old.items + count < 2 ^ 64 }
-    ensures { OnOk result (out.new.items ≡ out.old.items ++ replicate count 10) }
-{
-    let size = out.len();
-    if count > LINE_FEEDS.len() {
-        out.resize(size + count, b'\n')?;
-    } else {
-        out.extend_from_slice(&LINE_FEEDS)?;
-        out.truncate(size + count);
-    }
-    Ok(())
-}
-
-/// Writes the octets of two parts as hexadecimal over line feeds, of which the last one stays.
-fn spell(head: &[u8], body: &[u8], place: &mut [u8])
-    requires head { length head.now ≡ HEADER }
-    requires place { place.old ≡ replicate (2 * (length head.now + length body.now) + 1) 10 }
-    ensures { place.new ≡ encode_lower (head.now ++ body.now) ++ 10 ∷ [] }
-{
-    let (first, rest) = place.split_at_mut(2 * head.len());
-    let (second, _) = rest.split_at_mut(2 * body.len());
-    write_digits(head, first);
-    put_digits(body, second);
-}
-
-/// Writes octets as hexadecimal, where there is just the place for them.
-fn put_digits(octets: &[u8], place: &mut [u8])
-    requires { length place.old ≡ 2 * length octets.now }
-    ensures { place.new ≡ encode_lower octets.now }
-{
-    if octets.len() >= LANES {
-        write_digits(octets, place);
-        return;
-    }
-    match hex::encode_to_slice(octets, place) {
-        Ok(()) => {}
-        Err(_) => unreachable!(),
     }
 }

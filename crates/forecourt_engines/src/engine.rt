@@ -3,13 +3,14 @@
 ghost use Rattle.std.specs.Prelude.{◌≡◌, [], ◌∷◌, ◌++◌, None, IfOk, OnOk};
 ghost use Rattle.forecourt_engines.specs.Text.{start, after, text_from, end_input, last_text};
 ghost use Rattle.forecourt_engines.specs.Text.{last_fault};
-ghost use Rattle.forecourt_engines.specs.Text.{kept_of, effect, effect_in};
+ghost use Rattle.hex_lines.specs.Lines.{kept_of};
+ghost use Rattle.forecourt_engines.specs.Text.{effect, effect_in};
 ghost use Rattle.forecourt_engines.specs.Text.{line_effect, next_line, with_effect};
-ghost use Rattle.forecourt_engines.specs.Laws.{IsLine};
+ghost use Rattle.hex_lines.specs.Lines.{IsLine};
 
 use crate::fault::TextFault;
-use crate::line::{LINE_OCTETS, LineText, read_octets, text_of};
 use crate::stream::AnsweredStream;
+use hex_lines::{LINE_OCTETS, LineText, read_octets, text_of};
 use memchr::memchr;
 use site_base::NoMemory;
 use site_book::SiteBook;
@@ -33,7 +34,7 @@ pub struct Engine {
 
 impl Model for Engine {
     ghost use Rattle.std.specs.Prelude.{◌≤◌, length};
-    ghost use Rattle.forecourt_engines.specs.declared.line.TheConstants.{LINE_OCTETS};
+    ghost use Rattle.hex_lines.specs.declared.line_reading.TheConstants.{LINE_OCTETS};
     ghost use Rattle.forecourt_engines.specs.Text.{State};
 
     ghost Value = { State };

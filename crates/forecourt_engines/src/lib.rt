@@ -13,9 +13,7 @@ mod engine;
 pub mod explain;
 mod fault;
 mod laws;
-pub mod line;
 pub mod number;
-mod plain_digits;
 pub mod replay;
 pub mod report;
 pub mod reporting;
@@ -26,13 +24,11 @@ mod stream;
 mod trace;
 pub mod words;
 
-pub use answers::put_line;
 pub use fault::{ReplayFault, TextFault};
 pub use laws::{
     a_last_line_says, a_line_asks_for_one_thing, a_line_is_spelled_in_one_way, a_line_says,
     a_long_line_says, nothing_follows, one_stream_of_lines,
 };
-pub use line::LINE_OCTETS;
 pub use site_book::SiteBook;
 pub use sites::{known_site, known_site_of};
 pub use sizes::Sizes;

@@ -6,10 +6,11 @@ ghost use Rattle.forecourt_engines.specs.Answers.{answers_to};
 ghost use Rattle.forecourt_engines.specs.Streams.{stream_after, stream_state};
 ghost use Rattle.forecourt_engines.specs.Text.{fault_text, stop_of, stream_effect};
 
-use crate::answers::{Answerer, put_line};
+use crate::answers::Answerer;
 use crate::fault::TextFault;
 use app_message::{Decoder, Messages};
 use device_map::stream_refusal;
+use hex_lines::put_line;
 use site_base::NoMemory;
 use site_book::SiteBook;
 use std::alloc::Global;

@@ -4,13 +4,14 @@ ghost use Rattle.std.specs.Prelude.{◌≡◌, ◌≤◌, ◌<◌, [], length, S
 ghost use Rattle.app_message.specs.Stream.{fed_by, held_part, held_after};
 ghost use Rattle.forecourt_engines.specs.Answers.{Answerer};
 ghost use Rattle.forecourt_engines.specs.Meanings.{messages_in};
-ghost use Rattle.forecourt_engines.specs.Text.{effect, kept_of, left_over, next_number, stop_of};
-ghost use Rattle.forecourt_engines.specs.declared.line.TheConstants.{LINE_OCTETS};
+ghost use Rattle.hex_lines.specs.Lines.{kept_of};
+ghost use Rattle.forecourt_engines.specs.Text.{effect, left_over, next_number, stop_of};
+ghost use Rattle.hex_lines.specs.declared.line_reading.TheConstants.{LINE_OCTETS};
 ghost use Rattle.forecourt_engines.specs.declared.fault.TextFault.TheVariants.{TooLong};
 
 use crate::fault::TextFault;
-use crate::line::{LINE_OCTETS, LineText, read_octets, text_of};
 use app_message::{Decoder, Fed, Messages};
+use hex_lines::{LINE_OCTETS, LineText, read_octets, text_of};
 use site_base::NoMemory;
 use std::alloc::Global;
 use std::marker::Model;

@@ -12,7 +12,7 @@ use Rattle.site_base.specs.declared.actor.Actor.{Actor}
 use Rattle.site_base.specs.declared.event.Event.{Event}
 use Rattle.site_base.specs.declared.row.Row.{Row}
 use Rattle.site_base.specs.Configured.{Configured}
-use Rattle.forecourt_engines.specs.Laws.{IsLine}
+use Rattle.hex_lines.specs.Lines.{IsLine}
 use Rattle.written_site.specs.SiteRun.{events_of}
 use Rattle.site_book.specs.Book.{Book}
 use Rattle.station.specs.Moves.{StationState}

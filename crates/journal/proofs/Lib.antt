@@ -13,6 +13,5 @@ pub mod Recovering
 pub mod Results
 pub mod SigningOff
 pub mod Reopening
-pub mod Replays
 pub mod Spelled
 pub mod Histories

@@ -7,7 +7,7 @@ use Rattle.std.specs.Prelude.{if◌then◌else◌, ◌&&◌}
 use Rattle.std.specs.List.{list_all}
 use Rattle.site_base.specs.declared.actor.Actor.{Actor}
 use Rattle.site_base.specs.declared.event.Event.{Event}
-use Rattle.forecourt_engines.specs.Laws.{IsLine}
+use Rattle.hex_lines.specs.Lines.{IsLine}
 use Rattle.journal.specs.JournalLines.{lines_from, request_in, requests_in, unfinished_from}
 use Rattle.journal.specs.JournalLines.{with_request}
 

@@ -5,7 +5,7 @@ use Rattle.std.specs.Prelude.{◌/◌, ◌%◌, ◌&&◌, slice_index}
 use Rattle.std.specs.List.{flat_map, list_all}
 use Rattle.hex.specs.Hex.{encode_lower, encode_with, lower_digits}
 use Rattle.sha2.specs.Sha256.{sha256}
-use Rattle.forecourt_engines.specs.Laws.{IsLine}
+use Rattle.hex_lines.specs.Lines.{IsLine}
 use Rattle.journal.specs.JournalText.{header_of, title}
 use Rattle.std.specs.Int.{w16, to_be_bytes}
 use Rattle.app_message.specs.declared.kind.Kind.{Kind}

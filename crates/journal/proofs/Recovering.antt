@@ -13,7 +13,7 @@ use Rattle.site_base.specs.declared.row.Row.{Row}
 use Rattle.site_base.specs.Configured.{Configured}
 use Rattle.written_site.specs.SiteRun.{events_of}
 use Rattle.site_book.specs.Book.{Book}
-use Rattle.forecourt_engines.specs.Laws.{IsLine}
+use Rattle.hex_lines.specs.Lines.{IsLine}
 use Rattle.journal.specs.Disks.{BeginsWith, BeginsWithEither, DiskFile, Keeps, KeepsEither, OfFile}
 use Rattle.journal.specs.Disks.{OfFiles, Reads, Renews, IsUntouched}
 use Rattle.journal.specs.declared.reading.OpenFault.{OpenFault}

@@ -18,7 +18,7 @@ use Rattle.app_message.specs.Telegram.{Telegram}
 use Rattle.app_message.proofs.Again.{read_again}
 use Rattle.device_map.specs.Laws.{Asks}
 use Rattle.device_map.specs.Requests.{request_at}
-use Rattle.forecourt_engines.specs.Laws.{IsLine}
+use Rattle.hex_lines.specs.Lines.{IsLine}
 use Rattle.written_site.specs.SiteRun.{events_of}
 use Rattle.journal.specs.JournalLines.{lines_from, request_decoded, request_in}
 use Rattle.journal.specs.JournalLines.{requests_in, unfinished_from}

@@ -8,7 +8,7 @@ use Rattle.site_base.specs.declared.row.Row.{Row}
 use Rattle.app_message.specs.Telegram.{Telegram}
 use Rattle.device_map.specs.Laws.{Asks}
 use Rattle.device_map.specs.Ways.{request_by, sends, way_to}
-use Rattle.forecourt_engines.specs.Answers.{line_of}
+use Rattle.hex_lines.specs.Lines.{line_of}
 
 -- what a journal's first line begins with
 abbrev pub title : List ℕ

@@ -4,8 +4,7 @@ use Rattle.std.specs.List.{AllByRecursion}
 use Rattle.site_base.specs.declared.actor.Actor.TheVariants.{Till}
 use Rattle.site_base.specs.declared.event.Event.TheVariants.{SignOff}
 use Rattle.site_base.specs.declared.row.Row.{Row}
-use Rattle.forecourt_engines.specs.Laws.{IsLine}
-use Rattle.forecourt_engines.specs.Text.{State, book_of, fault_of, start}
+use Rattle.hex_lines.specs.Lines.{IsLine}
 use Rattle.written_site.specs.SiteRun.{IsLegal, events_of}
 use Rattle.written_site.specs.SiteState.{is_signed_on, opening}
 use Rattle.site_book.specs.Book.{Book, site_of_book, with_row_of}
@@ -56,25 +55,6 @@ pub record BeginningsAreRead : Type 0 where
 abbrev pub JournalsTellTheirHistory : Type 0
 JournalsTellTheirHistory = (header : List ℕ) (b : Book) → IsLine header → IsMadeAgain b
     → CanBeSpelled b.rows → TellsBook header (journal_text header b.rows) b
-
--- the book with the first of its rows, at most as many as the configuration allows
-abbrev pub within_limit : Book → Book
-within_limit b = record b { rows = take b.config.rows b.rows }
-
--- a replay of the text, from this state on, ends without a fault, at this book
-pub record IsReplayedTo (b : Book) (st : State) (text : List ℕ) : Type 0 where
-  pub fault : fault_of st text ≡ None
-  pub book : book_of st text ≡ b
-
--- The journal is the history for a replay, too: it reads the text of a station's rows without a
--- fault, and makes its book, replies included, up to the row that fills it. Behind that a replay
--- makes none, where a station signs off the tills that are signed on.
-abbrev pub JournalsAreReplayed : Type 0
-JournalsAreReplayed = (site_file : List ℕ) (b : Book) (changes : Bool) → IsMadeAgain b
-    → CanBeSpelled b.rows
-    → IsReplayedTo (within_limit b)
-    (start (record { book = empty_book b.config; changes = changes }))
-    (journal_text (header_of site_file) b.rows)
 
 -- A legal history of no more rows than the configuration allows, each of them one that its actor
 -- sends, can be made again of its requests; and behind one that can, the sign-off of a till that is

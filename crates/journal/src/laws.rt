@@ -1,7 +1,6 @@
 //! The laws of a journal. Each is a function whose contract is the law.
 
 ghost use Rattle.journal.specs.Laws.{BeginningsAreRead, HistoriesAreMadeAgain};
-ghost use Rattle.journal.specs.Laws.{JournalsAreReplayed};
 ghost use Rattle.journal.specs.Laws.{JournalsTellTheirHistory};
 ghost use Rattle.journal.specs.Laws.{StationsAreMadeAgain, StoredRowsAreFoundAgain};
 ghost use Rattle.journal.specs.Laws.{ToldRowsAreFoundAgain};
@@ -26,11 +25,6 @@ pub fn beginnings_are_read()
 /// A journal's text tells just the history that it was written of.
 pub fn journals_tell_their_history()
     ensures { JournalsTellTheirHistory }
-{}
-
-/// A replay of a journal's text makes that history, too, up to the row that fills the book.
-pub fn journals_are_replayed()
-    ensures { JournalsAreReplayed }
 {}
 
 /// A legal history can be made again of its requests.

@@ -24,9 +24,8 @@ mod stored_station;
 pub use disk::{Disk, DiskFault};
 pub use journal::Journal;
 pub use laws::{
-    beginnings_are_read, histories_are_made_again, journals_are_replayed,
-    journals_tell_their_history, stations_are_made_again, stored_rows_are_found_again,
-    told_rows_are_found_again,
+    beginnings_are_read, histories_are_made_again, journals_tell_their_history,
+    stations_are_made_again, stored_rows_are_found_again, told_rows_are_found_again,
 };
 pub use opening::{Opened, Unopened, open_journal, resume};
 pub use reading::OpenFault;

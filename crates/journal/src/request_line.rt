@@ -1,11 +1,11 @@
 //! A line of a journal, read.
 
-ghost use Rattle.std.specs.Prelude.{◌≡◌, Err, IfOk, MatchResult, Ok, false, true};
-ghost use Rattle.hex.specs.Hex.{decode_of};
-ghost use Rattle.journal.specs.JournalLines.{request_in, request_in_octets};
+ghost use Rattle.std.specs.Prelude.{◌≡◌, IfOk};
+ghost use Rattle.journal.specs.JournalLines.{request_in};
 
 use app_message::{Decoder, Messages};
 use device_map::request_of;
+use hex_lines::decode;
 use site_base::{Actor, Event, NoMemory};
 use std::alloc::Global;
 
@@ -44,13 +44,4 @@ impl LineReader {
             _ => Ok(None),
         }
     }
-}
-
-/// Whether the line is hexadecimal; if so, its octets take the place of what the buffer holds.
-fn decode(line: &[u8], octets: &mut Vec<u8>) -> Result<bool, NoMemory>
-    ensures { IfOk result (λ is. MatchResult (decode_of line.now)
-        (λ bytes. (is ≡ true) × (octets.new.items ≡ bytes)) (λ _. is ≡ false)) }
-{
-    octets.resize(line.len() / 2, 0)?;
-    Ok(hex::decode_to_slice(line, octets.as_mut_slice()).is_ok())
 }

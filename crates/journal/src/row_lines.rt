@@ -8,7 +8,7 @@ ghost use Rattle.journal.specs.RowLines.{AreLines};
 
 use app_message::Token;
 use device_map::encode_request;
-use forecourt_engines::put_line;
+use hex_lines::put_line;
 use site_base::{NoMemory, Row};
 use site_book::SiteBook;
 use std::alloc::Global;

@@ -7,7 +7,6 @@ ghost use Rattle.forecourt_engines.specs.SpelledLines.{AsksNothing, SaysAnothers
 ghost use Rattle.forecourt_engines.specs.SpelledLines.{Spells, SpellsRequest};
 ghost use Rattle.forecourt_engines.specs.SpelledLines.{token_behind};
 
-use crate::answers::put_line;
 use crate::words::asked::read_asked;
 use crate::words::event_name::name_of;
 use crate::words::parts::actor_of;
@@ -16,6 +15,7 @@ use crate::words::splitting::is_comment;
 use crate::words::wrong_word::{LineFault, Wanted, WrongWord};
 use app_message::Token;
 use device_map::encode_request;
+use hex_lines::put_line;
 use site_base::{Actor, NoMemory};
 use std::alloc::Global;
 

@@ -1,6 +1,6 @@
 use Rattle.std.proofs.Common.{◌∷◌, [], ◌++◌, ◌+◌, ◌∙◌, ◌≡◌, ℕ, ap, append_assoc, arith, drop, suc}
 use Rattle.std.proofs.Common.{inl, refl, take}
-use Rattle.forecourt_engines.proofs.Bytes.{absent, found}
+use Rattle.hex_lines.proofs.Bytes.{absent, found}
 use Rattle.journal.proofs.Lines.{none_ends}
 use Rattle.journal.proofs.Readings.{another_line, another_named, longer_too, nothing_begun}
 use Rattle.journal.proofs.reading.find_first_line.Goals as goal

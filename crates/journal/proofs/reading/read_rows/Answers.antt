@@ -2,7 +2,7 @@ use Rattle.std.proofs.Common.{◌≡◌, ◌∙◌, ◌-◌, Bool, ℕ, List, So
 use Rattle.std.proofs.Common.{subst}
 use Rattle.std.proofs.Common.{◌+◌, inr, refl, suc, sym, take}
 use Rattle.std.proofs.lemmas.List.{length-drop, take_all}
-use Rattle.forecourt_engines.proofs.Bytes.{absent, behind_byte, found}
+use Rattle.hex_lines.proofs.Bytes.{absent, behind_byte, found}
 use Rattle.site_book.specs.Book.{Book}
 use Rattle.journal.specs.Faults.{made_of}
 use Rattle.journal.specs.History.{made_again}

@@ -2,7 +2,7 @@ use Rattle.std.proofs.Common.{◌≡◌, ◌∙◌, ◌++◌, ◌∷◌, [], ℕ
 use Rattle.journal.specs.Disks.{OfFile}
 use Rattle.journal.specs.Faults.{NamesIn}
 use Rattle.journal.specs.Recovering.{IsReadIn, TellsNothingIn}
-use Rattle.forecourt_engines.specs.Laws.{IsLine}
+use Rattle.hex_lines.specs.Lines.{IsLine}
 use Rattle.journal.proofs.Octets.{header_plain}
 use Rattle.journal.proofs.Recovering.{holds_read_in, lines_stay_in, names_in, read_in, read_made}
 use Rattle.journal.proofs.Recovering.{renewed_file, renewed_then, tells_nothing_in}

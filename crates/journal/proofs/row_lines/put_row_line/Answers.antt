@@ -1,7 +1,7 @@
 use Rattle.std.proofs.Common.{◌++◌, ◌∙◌, ap, rules, subst}
 use Rattle.device_map.specs.Laws.{Asks}
 use Rattle.device_map.proofs.OneRequest.{alone}
-use Rattle.forecourt_engines.specs.Answers.{line_of}
+use Rattle.hex_lines.specs.Lines.{line_of}
 use Rattle.journal.proofs.row_lines.put_row_line.Goals as goal
 
 pub returns-clause-line : goal.returns-clause-line

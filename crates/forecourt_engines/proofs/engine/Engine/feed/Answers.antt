@@ -1,5 +1,5 @@
 use Rattle.std.proofs.Common.{◌∙◌, suc, drop, take}
-use Rattle.forecourt_engines.proofs.Bytes.{found, absent, behind_byte}
+use Rattle.hex_lines.proofs.Bytes.{found, absent, behind_byte}
 use Rattle.forecourt_engines.proofs.Lines.{line_by_line}
 use Rattle.forecourt_engines.proofs.engine.Engine.feed.Goals as goal
 

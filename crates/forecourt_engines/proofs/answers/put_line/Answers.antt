@@ -1,4 +1,0 @@
-use Rattle.forecourt_engines.proofs.answers.put_line.Goals as goal
-
-pub returns : goal.returns
-returns c = rw (← c.head-head.ensures, ← c.body-body.ensures.text) c.put_spelling.ensures

@@ -1,0 +1,5 @@
+pub mod Bytes
+pub mod EightOctets
+pub mod Hexadecimal
+pub mod LaneLemmas
+pub mod SixteenDigits

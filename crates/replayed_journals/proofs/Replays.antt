@@ -1,0 +1,280 @@
+-- A journal's text, read by a replay.
+use Rattle.std.proofs.Common.{◌≡◌, ℕ, zero, suc, ◌+◌, ◌-◌, ◌*◌, ◌<◌, ◌≤◌, Bool, true, false, List, []}
+use Rattle.std.proofs.Common.{◌∷◌, ◌++◌, drop, length, take, Option, Some, None, Ok, refl, sym, ap, ◌∙◌}
+use Rattle.std.proofs.Common.{arith, eqb, inl, inr}
+use Rattle.std.specs.Prelude.{◌&&◌, if◌then◌else◌, nat_lt, slice_index}
+use Rattle.std.specs.Io.BufRead.{ends_with_byte, strip_last}
+use Rattle.std.specs.List.{AllByRecursion}
+use Rattle.std.proofs.lemmas.Bool.{cases_eq, cases_lt, le-leb, lt-leb, ne_eqb}
+use Rattle.std.proofs.lemmas.List.{length-append, length-take-le, take-append-le, take_all}
+use Rattle.std.proofs.lemmas.List.Elements.{recursion_from_All}
+use Rattle.std.proofs.lemmas.Option.{none-some, same_Some}
+use Rattle.hex.specs.Hex.{encode_lower, is_hex_digit, lower_digits}
+use Rattle.hex.proofs.HexLemmas.{decode_of-encode_lower, decode_of-ok, length-encode_with}
+use Rattle.sha2.specs.Sha256.{sha256}
+use Rattle.sha2.proofs.Facts256.{length-sha256}
+use Rattle.site_base.specs.declared.actor.Actor.{Actor}
+use Rattle.site_base.specs.declared.event.Event.{Event}
+use Rattle.site_base.specs.declared.row.Row.{Row}
+use Rattle.std.specs.Int.{to_be_bytes, w16}
+use Rattle.app_message.specs.Spelling.{IsMessage, body, head_text, kind_code, spelling}
+use Rattle.app_message.specs.Stream.{held_after, walk}
+use Rattle.app_message.specs.Telegram.{Telegram}
+use Rattle.hex_lines.specs.declared.line_reading.TheConstants.{LINE_OCTETS}
+use Rattle.hex_lines.specs.Lines.{line_of}
+use Rattle.forecourt_engines.specs.Answers.{Answerer, after_message, book_meaning}
+use Rattle.forecourt_engines.specs.Laws.{between_lines}
+use Rattle.hex_lines.specs.Lines.{is_skipped, kept_of}
+use Rattle.forecourt_engines.specs.Text.{Effect, State, after, effect, last_fault}
+use Rattle.forecourt_engines.specs.Text.{end_input, next_line, next_number}
+use Rattle.hex_lines.specs.Lines.{without_spaces}
+use Rattle.forecourt_engines.specs.Text.{start, stream_effect}
+use Rattle.forecourt_engines.proofs.Lines.{line_says}
+use Rattle.forecourt_engines.proofs.Running.{after-append}
+use Rattle.written_site.specs.SiteRun.{events_of}
+use Rattle.site_book.specs.Book.{Book, next_row, with_row_of}
+use Rattle.journal.specs.History.{all_made_again, and_then, empty_book, made_again}
+use Rattle.journal.specs.JournalText.{CanBeSpelled, header_of, journal_text, row_line, row_request}
+use Rattle.journal.specs.JournalText.{rows_text, title}
+use Rattle.replayed_journals.specs.Laws.{JournalsAreReplayed, within_limit}
+use Rattle.journal.proofs.Octets.{header_plain, spelled_octets}
+use Rattle.journal.proofs.Readings.{row_again}
+use Rattle.journal.proofs.Requests.{alone_read, spelled_plain}
+
+-- ---- digits say themselves
+
+abbrev AreDigits : List ℕ → Type 0
+AreDigits xs = AllByRecursion (λ x. is_hex_digit x ≡ true) xs
+
+-- no digit is an octet that is none
+is_other : (n x : ℕ) → is_hex_digit n ≡ false → is_hex_digit x ≡ true → eqb x n ≡ false
+is_other n x none digit = elim (cases_eq x n) [
+  | inl is ↦
+      let never : false ≡ true = sym none ∙ ap is_hex_digit (sym is) ∙ digit in
+      absurd cc
+  | inr other ↦ ne_eqb x n other
+]
+
+digit_at : (xs : List ℕ) (i : ℕ) → AreDigits xs → i < length xs
+    → is_hex_digit (slice_index xs i) ≡ true
+digit_at [] i all within = absurd (omega (arith, within))
+digit_at (x ∷ xs) zero all within = all.0
+digit_at (x ∷ xs) (suc i) all within = digit_at xs i all.1 (omega (arith, within))
+
+without_none : (xs : List ℕ) → AreDigits xs → without_spaces xs ≡ xs
+without_none [] all = refl
+without_none (x ∷ xs) all =
+    rw (is_other 32 x refl all.0) (ap (λ (ys : List ℕ). x ∷ ys) (without_none xs all.1))
+
+strips_none : (xs : List ℕ) → AreDigits xs → strip_last 13 xs ≡ xs
+strips_none [] all = refl
+strips_none (x ∷ xs) all =
+    let last = digit_at (x ∷ xs) (length (x ∷ xs) - 1) all (omega arith) in
+    let other = is_other 13 (slice_index (x ∷ xs) (length (x ∷ xs) - 1)) refl last in
+    ap (λ (t : Bool). if t then take (length (x ∷ xs) - 1) (x ∷ xs) else x ∷ xs)
+    (ap (λ (t : Bool). nat_lt 0 (length (x ∷ xs)) && t) other
+    ∙ never (nat_lt 0 (length (x ∷ xs))))
+  where
+    never : (t : Bool) → (t && false) ≡ false
+    never true = refl
+    never false = refl
+
+digits_kept : (xs : List ℕ) → AreDigits xs → kept_of xs ≡ xs
+digits_kept xs all = ap without_spaces (strips_none xs all) ∙ without_none xs all
+
+digits_said : (xs : List ℕ) → AreDigits xs → 1 ≤ length xs → is_skipped xs ≡ false
+digits_said [] all some = absurd (omega (arith, some))
+digits_said (x ∷ xs) all some = is_other 35 x refl all.0
+
+-- ---- the line of a row
+
+spelled_digits : (m : Telegram) → IsMessage m → AreDigits (encode_lower (spelling m))
+spelled_digits m valid =
+    let text = encode_lower (spelling m) in
+    recursion_from_All (λ x. is_hex_digit x ≡ true) text
+    (decode_of-ok text (spelling m)
+    (decode_of-encode_lower (spelling m) (spelled_octets m valid))).1
+
+spelled_size : (m : Telegram) → IsMessage m
+    → length (encode_lower (spelling m)) ≡ 2 * (8 + length (body m))
+spelled_size m valid =
+    let n = length (body m) in
+    let last : List ℕ = 0 ∷ (kind_code m.kind * 32 + m.token) ∷ to_be_bytes w16 n in
+    let nodes : length (m.to ++ m.from) ≡ length m.to + length m.from =
+    length-append m.to m.from in
+    let head : length (head_text m n) ≡ length (m.to ++ m.from) + 4 =
+    length-append (m.to ++ m.from) last in
+    let whole : length (spelling m) ≡ length (head_text m n) + n =
+    length-append (head_text m n) (body m) in
+    let digits : length (encode_lower (spelling m)) ≡ 2 * length (spelling m) =
+    length-encode_with lower_digits (spelling m) in
+    omega (arith, nodes, head, whole, digits, valid.head.to_size, valid.head.from_size)
+
+message_effect : (number : ℕ) (a : Answerer) (m : Telegram) → IsMessage m
+    → effect number (held_after []) a (kept_of (encode_lower (spelling m)))
+    ≡ stream_effect a (record { messages = m ∷ []; rest = []; fault = None })
+message_effect number a m valid =
+    let text = encode_lower (spelling m) in
+    let digits = spelled_digits m valid in
+    let some : 1 ≤ length text = omega (arith, spelled_size m valid) in
+    rw (
+      digits_kept text digits,
+      digits_said text digits some,
+      decode_of-encode_lower (spelling m) (spelled_octets m valid),
+      alone_read m valid,
+    ) refl
+
+row_read : (number : ℕ) (a : Answerer) (m : Telegram) → IsMessage m
+    → after (between_lines number (held_after []) a) (line_of m)
+    ≡ between_lines (next_number number) (held_after []) (after_message a m)
+unfolding walk
+row_read number a m valid =
+    let text = encode_lower (spelling m) in
+    let short : length text ≤ LINE_OCTETS =
+    omega (arith, spelled_size m valid, valid.most) in
+    (line_says number (held_after []) a text (spelled_plain m valid) short).0
+    ∙ ap (λ (t : Effect). next_line (between_lines number (held_after []) a) t)
+    (message_effect number a m valid)
+
+-- ---- the row that it makes
+
+room_left : (b : Book) (actor : Actor) (event : Event) → length b.rows < b.config.rows
+    → book_meaning (within_limit b) (Ok (actor, event)) ≡ within_limit (with_row_of b actor event)
+room_left b actor event room =
+    let all : within_limit b ≡ b =
+    ap (λ (rows : List Row). record b { rows = rows })
+    (take_all b.config.rows b.rows (omega (arith, room))) in
+    let more : length (b.rows ++ next_row b actor event ∷ []) ≤ b.config.rows =
+    omega (arith, room, length-append b.rows (next_row b actor event ∷ [])) in
+    ap (λ (x : Book). book_meaning x (Ok (actor, event))) all
+    ∙ ap (λ (full : Bool). if full then b else with_row_of b actor event)
+    (lt-leb b.config.rows (length b.rows) room)
+    ∙ ap (λ (rows : List Row). record b { rows = rows })
+    (sym (take_all b.config.rows (b.rows ++ next_row b actor event ∷ []) more))
+
+none_left : (b : Book) (actor : Actor) (event : Event) → b.config.rows ≤ length b.rows
+    → book_meaning (within_limit b) (Ok (actor, event)) ≡ within_limit (with_row_of b actor event)
+none_left b actor event full =
+    let size : length (take b.config.rows b.rows) ≡ b.config.rows =
+    length-take-le b.config.rows b.rows full in
+    ap (λ (is : Bool). if is then within_limit b else with_row_of (within_limit b) actor event)
+    (le-leb b.config.rows (length (take b.config.rows b.rows)) (omega (arith, size)))
+    ∙ ap (λ (rows : List Row). record b { rows = rows })
+    (sym (take-append-le b.config.rows b.rows (next_row b actor event ∷ []) full))
+
+limit_kept : (b next : Book) (actor : Actor) (event : Event)
+    → made_again b actor event ≡ Some next
+    → book_meaning (within_limit b) (Ok (actor, event)) ≡ within_limit next
+limit_kept b next actor event made =
+    by_room ∙ ap within_limit (sym (row_again b next actor event made))
+  where
+    by_room : book_meaning (within_limit b) (Ok (actor, event))
+        ≡ within_limit (with_row_of b actor event)
+    by_room = elim (cases_lt (length b.rows) b.config.rows) [
+      | inl room ↦ room_left b actor event room
+      | inr full ↦ none_left b actor event full
+    ]
+
+-- ---- all of them
+
+-- a replay between two lines, whose book is that of a station so far
+abbrev replays : Bool → ℕ → Book → State
+replays changes number b =
+    between_lines number (held_after []) (record { book = within_limit b; changes = changes })
+
+rows_read : (rows : List Row) (changes : Bool) (number : ℕ) (b last : Book) → CanBeSpelled rows
+    → all_made_again b (events_of rows) ≡ Some last
+    → (n : ℕ) × (after (replays changes number b) (rows_text rows) ≡ replays changes n last)
+rows_read [] changes number b last spelled made =
+    (number, ap (replays changes number) (same_Some b last made))
+rows_read (r ∷ rows) changes number b last spelled made =
+    by_first (made_again b r.actor r.event)
+    (λ next others. rows_read rows changes (next_number number) next last spelled.1 others) refl made
+  where
+    read : (next : Book) → made_again b r.actor r.event ≡ Some next
+        → after (replays changes number b) (row_line r)
+        ≡ replays changes (next_number number) next
+    read next is =
+        row_read number (record { book = within_limit b; changes = changes }) (row_request r)
+        spelled.0.message
+        ∙ ap (λ (x : Book).
+        between_lines (next_number number) (held_after []) (record { book = x; changes = changes }))
+        (ap (book_meaning (within_limit b)) spelled.0.asks
+        ∙ limit_kept b next r.actor r.event is)
+
+    by_first : (o : Option Book)
+        → ((next : Book) → all_made_again next (events_of rows) ≡ Some last
+        → (n : ℕ) × (after (replays changes (next_number number) next) (rows_text rows)
+        ≡ replays changes n last))
+        → made_again b r.actor r.event ≡ o
+        → and_then o (λ next. all_made_again next (events_of rows)) ≡ Some last
+        → (n : ℕ) × (after (replays changes number b) (rows_text (r ∷ rows))
+        ≡ replays changes n last)
+    by_first None others is all = absurd (none-some last all)
+    by_first (Some next) others is all =
+        let rest = others next all in (
+          rest.0,
+          after-append (replays changes number b) (row_line r) (rows_text rows)
+              ∙ ap (λ (st : State). after st (rows_text rows)) (read next is) ∙ rest.1,
+        )
+
+-- ---- the first line
+
+-- a line that begins with a number sign is a comment
+comment : (xs : List ℕ) → is_skipped (kept_of (35 ∷ xs)) ≡ true
+comment [] = refl
+comment (x ∷ xs) = by_test (ends_with_byte 13 (35 ∷ x ∷ xs))
+  where
+    by_test : (t : Bool)
+        → is_skipped (without_spaces (if t then take (length (35 ∷ x ∷ xs) - 1) (35 ∷ x ∷ xs)
+        else 35 ∷ x ∷ xs)) ≡ true
+    by_test true =
+        let size : length (35 ∷ x ∷ xs) - 1 ≡ suc (length xs) = omega arith in
+        ap (λ (n : ℕ). is_skipped (without_spaces (take n (35 ∷ x ∷ xs)))) size
+    by_test false = refl
+
+header_read : (site_file : List ℕ) (a : Answerer)
+    → after (between_lines 1 (held_after []) a) (header_of site_file ++ 10 ∷ [])
+    ≡ between_lines (next_number 1) (held_after []) a
+header_read site_file a =
+    let header = header_of site_file in
+    let digits = encode_lower (sha256 site_file) in
+    let short : length header ≤ LINE_OCTETS =
+    omega (
+      arith,
+      length-append title digits,
+      length-encode_with lower_digits (sha256 site_file),
+      length-sha256 site_file,
+    ) in
+    let skipped : is_skipped (kept_of header) ≡ true = comment (drop 1 title ++ digits) in
+    (line_says 1 (held_after []) a header (header_plain site_file) short).0 ∙ rw skipped refl
+
+-- ---- the end
+
+ended_there : (changes : Bool) (number : ℕ) (b : Book) → last_fault (replays changes number b) ≡ None
+unfolding walk
+ended_there changes number b = refl
+
+book_there : (changes : Bool) (number : ℕ) (b : Book)
+    → (end_input (replays changes number b)).answerer.book ≡ within_limit b
+book_there changes number b = refl
+
+pub journals_are_replayed : JournalsAreReplayed
+journals_are_replayed site_file b changes made spelled =
+    let st = start (record { book = empty_book b.config; changes = changes }) in
+    let text = journal_text (header_of site_file) b.rows in
+    let rows = rows_read b.rows changes (next_number 1) (empty_book b.config) b spelled made.again in
+    let none : empty_book b.config ≡ within_limit (empty_book b.config) =
+    ap (λ (rs : List Row). record { config = b.config; rows = rs })
+    (sym (take_all b.config.rows [] (omega arith))) in
+    let begun : st ≡ replays changes 1 (empty_book b.config) =
+    ap (λ (x : Book). start (record { book = x; changes = changes })) none in
+    let read : after st text ≡ replays changes rows.0 b =
+    ap (λ (s : State). after s text) begun
+    ∙ after-append (replays changes 1 (empty_book b.config)) (header_of site_file ++ 10 ∷ [])
+    (rows_text b.rows)
+    ∙ ap (λ (s : State). after s (rows_text b.rows)) (header_read site_file _) ∙ rows.1 in
+    record {
+      fault = ap last_fault read ∙ ended_there changes rows.0 b;
+      book = ap (λ (s : State). (end_input s).answerer.book) read ∙ book_there changes rows.0 b;
+    }

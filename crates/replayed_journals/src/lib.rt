@@ -1,0 +1,7 @@
+//! A journal as a replay reads it: the law that joins the journal's text to the replay's. It has no
+//! code, and stands above both, so that neither stands on the other.
+#![tactic(auto)]
+
+mod laws;
+
+pub use laws::journals_are_replayed;
