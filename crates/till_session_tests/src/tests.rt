@@ -3,6 +3,7 @@
 mod calls;
 mod decoding;
 mod devices;
+mod notices;
 mod noting;
 mod order;
 mod out_of_memory;

@@ -1,3 +1,0 @@
-//! What no clause says, by octets.
-
-mod notices;
