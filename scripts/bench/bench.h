@@ -1,4 +1,4 @@
-/* What the clients of scripts/bench-server and scripts/bench-station share. */
+/* What the clients of scripts/bench/server and scripts/bench/station share. */
 #include <arpa/inet.h>
 #include <netinet/in.h>
 #include <netinet/tcp.h>

@@ -1,4 +1,4 @@
-/* An echo by readiness, beside which scripts/bench-station measures the station:
+/* An echo by readiness, beside which scripts/bench/station measures the station:
  *
  *   echo-ready    listens on a free port of 127.0.0.1, prints it, and sends back what connections
  *                 send, on one thread (epoll, edge-triggered), until its standard input ends

@@ -1,4 +1,4 @@
-/* An echo over loopback, beside which scripts/bench-server measures the server of sessions:
+/* An echo over loopback, beside which scripts/bench/server measures the server of sessions:
  *
  *   echo WORKERS SESSIONS    listens on a free port of 127.0.0.1, prints it, and serves so many
  *                            sessions by each of so many workers: what a connection sends is sent

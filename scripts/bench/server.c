@@ -1,8 +1,8 @@
-/* The clients of scripts/bench-server:
+/* The clients of scripts/bench/server:
  *
- *   bench-server reads PORT CLIENTS REQUESTS    tills that read a fuelling point each
- *   bench-server echo PORT CLIENTS REQUESTS     the same octets, to a server that sends them back
- *   bench-server sales PORT PAIRS CYCLES        pairs of a till and a dispenser that sell and clear
+ *   server reads PORT CLIENTS REQUESTS    tills that read a fuelling point each
+ *   server echo PORT CLIENTS REQUESTS     the same octets, to a server that sends them back
+ *   server sales PORT PAIRS CYCLES        pairs of a till and a dispenser that sell and clear
  *
  * Each client has one request outstanding, looks at every reply, and keeps how long it took.
  * Printed are requests a second of them all, and microseconds that half, 99 of 100 and 999 of 1,000

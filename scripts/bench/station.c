@@ -1,10 +1,10 @@
-/* The clients of scripts/bench-station, all on one thread:
+/* The clients of scripts/bench/station, all on one thread:
  *
- *   bench-station reads PORT CLIENTS REQUESTS     tills that read a fuelling point
- *   bench-station echo PORT CLIENTS REQUESTS      the same octets, to a server that sends them back
- *   bench-station ping PORT CLIENTS REQUESTS      PING, to Redis
- *   bench-station sets PORT CLIENTS REQUESTS      SET of a value as long as a request, to Redis
- *   bench-station notices PORT 64 REQUESTS        a till that releases the points of 64 dispensers
+ *   station reads PORT CLIENTS REQUESTS     tills that read a fuelling point
+ *   station echo PORT CLIENTS REQUESTS      the same octets, to a server that sends them back
+ *   station ping PORT CLIENTS REQUESTS      PING, to Redis
+ *   station sets PORT CLIENTS REQUESTS      SET of a value as long as a request, to Redis
+ *   station notices PORT 64 REQUESTS        a till that releases the points of 64 dispensers
  *
  * Each client has one request outstanding; each reply is looked at. Printed are requests a second
  * of them all, and microseconds that half, 99 of 100 and 999 of 1,000 replies took at most; of

@@ -1,4 +1,4 @@
-"""A headless Chromium that is driven over two pipes, for the scripts beside this file."""
+"""A headless Chromium that is driven over two pipes."""
 
 import base64
 import contextlib
@@ -11,14 +11,17 @@ import subprocess
 import tempfile
 import time
 
-from pictures import shrink
-from serving import WAIT, Failed
+from shared.checks import Failed
+from shared.pictures import shrink
+from shared.serving import LOOK, WAIT
 
 NAMES = ("chromium", "chromium-browser", "google-chrome")
 FLAGS = (
     "--headless", "--no-sandbox", "--disable-gpu", "--disable-dev-shm-usage", "--hide-scrollbars",
     "--no-first-run", "--remote-debugging-pipe",
 )  # fmt: skip
+SCREEN, WIDE, TELEPHONE = (1_280, 800), (1_920, 1_080), (390, 844)
+SOON = 2  # seconds, within which the page says what has changed
 
 
 def find_browser():
@@ -116,3 +119,30 @@ def start_browser():
             process.wait()
             os.close(asked[1])
             os.close(told[0])
+
+
+# ---- what the page shows
+
+
+def read_tile(browser, point):
+    """The words of a point's tile, without the spaces between them."""
+    script = f"""[...document.querySelectorAll('article')]
+        .filter(tile => tile.querySelector('h2').textContent === '{point}')
+        .map(tile => [...tile.querySelectorAll('h2,span,p')].filter(part => !part.children.length)
+        .filter(part => !part.hidden).map(part => part.textContent).join('|')).join()"""
+    return browser.evaluate(script)
+
+
+def expect_words(browser, point, *words):
+    """Within two seconds the tile says these words."""
+    end = time.monotonic() + SOON
+    while not all(word in (said := read_tile(browser, point)).split("|") for word in words):
+        if time.monotonic() > end:
+            raise Failed(f"point {point} says '{said}', wanted {words}")
+        time.sleep(LOOK)
+
+
+def open_page(browser, page, size, dark, last):
+    """Opens the page in a window of this size, and waits until it shows its last point."""
+    browser.open(page.url, *size, dark=dark)
+    expect_words(browser, last, str(last))

@@ -1,13 +1,12 @@
-"""The journals of stations as text, and what a journal says that its peers were told: for the
-scripts beside this file."""
+"""The journals of stations as text, and what a journal says that its peers were told."""
 
 import bisect
 import hashlib
 import typing
 
-from running import run
-from serving import Failed
-from station import (
+from shared.checks import Failed
+from shared.running import run
+from shared.station import (
     ACKNOWLEDGE, DISPENSER, NOTICE, OPEN, PREPAY, RELEASE, RESULT, SIGN_OFF, SUSPEND, TERMINATE,
     TEST_RELEASE, TILL, WRITE, decode,
 )  # fmt: skip

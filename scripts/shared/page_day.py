@@ -1,4 +1,4 @@
-"""A day of a station with a page, and requests of HTTP: for the scripts beside this file."""
+"""A day of a station with a page, and requests of HTTP."""
 
 import contextlib
 import json
@@ -7,10 +7,11 @@ import re
 import socket
 import tempfile
 
-import serving
-from running import run
-from serving import Failed, start_day
-from station import (
+from shared import serving
+from shared.checks import Failed
+from shared.running import run
+from shared.serving import start_day
+from shared.station import (
     KNOWN_SITE, NOTICE, decode, is_accepted, receive, receive_message, sign_on,
 )  # fmt: skip
 

@@ -1,4 +1,4 @@
-"""Makes pictures small, for the scripts beside this file."""
+"""Makes pictures small."""
 
 import collections
 import struct

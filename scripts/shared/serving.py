@@ -1,6 +1,5 @@
-"""What tests of the program over real sockets share: a day that runs, and how tests are run."""
+"""A day of the program over real sockets, and what its peers do there."""
 
-import concurrent.futures
 import contextlib
 import fcntl
 import os
@@ -14,34 +13,12 @@ import termios
 import threading
 import time
 
-from running import Checks
-from station import connect, read_point, receive_all
+from shared.checks import Failed, expect
+from shared.station import connect, read_point, receive_all
 
 WAIT = 60  # seconds, for what comes at once if all is well
 LOOK = 0.01  # seconds between two looks at what is waited for
 LOOKS = 10  # at what stays the same, so that it will stay so
-TESTS, BESIDE = [], []
-
-
-class Failed(Exception):
-    pass
-
-
-def test(function):
-    TESTS.append(function)
-    return function
-
-
-def test_beside(function):
-    """A test that waits for most of its time: it runs beside the others."""
-    BESIDE.append(function)
-    return function
-
-
-def expect(what, got, wanted):
-    if got != wanted:
-        shown = [x.hex(" ") if isinstance(x, bytes) else repr(x) for x in (got, wanted)]
-        raise Failed(f"{what}: {shown[0][:300]}, wanted {shown[1][:300]}")
 
 
 def wait_until(what, is_so):
@@ -169,24 +146,3 @@ def send_until(peer, closing, till=1):
     while not closing.is_set():
         if select.select([], [peer], [], LOOK)[1]:
             rest = rest[peer.send(rest) :] or whole
-
-
-def run_tests(subject, place):
-    """Runs each test, with a folder that is removed behind them."""
-    checks = Checks(subject)
-
-    def count(one, call):
-        try:
-            call()
-            checks.passed += 1
-        except (Failed, OSError, subprocess.TimeoutExpired) as why:
-            checks.failed += 1
-            print(f"{subject} test '{one.__name__}': {type(why).__name__} {why}", flush=True)
-
-    with place, concurrent.futures.ThreadPoolExecutor(len(BESIDE) or 1) as pool:
-        beside = [(one, pool.submit(one)) for one in BESIDE]
-        for one in TESTS:
-            count(one, one)
-        for one, end in beside:
-            count(one, end.result)
-    checks.finish()

@@ -1,11 +1,11 @@
-"""The messages of a station as octets, and its sites: for the scripts beside this file.
+"""The messages of a station as octets, and its sites.
 docs/PROFILE.md has every number that is named here."""
 
 import contextlib
 import socket
 import typing
 
-from running import CRATES, EXAMPLES, PATIENCE
+from shared.running import CRATES, EXAMPLES, PATIENCE
 
 # Sites.
 SITES = CRATES / "site_file/cases"

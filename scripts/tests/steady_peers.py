@@ -1,18 +1,19 @@
-"""Tills and dispensers that come back to a station that is killed: for the scripts beside this
-file. All that they send and all that comes to them is kept."""
+"""Tills and dispensers that come back to a station that is killed. All that they send and all that
+comes to them is kept."""
 
 import contextlib
-import random
 import threading
 import time
 
-from journals import DETAIL, Session, is_notice, without_token
-from serving import WAIT, Failed, expect
-from station import (
+from shared.checks import Failed, expect
+from shared.journals import DETAIL, Session, is_notice, without_token
+from shared.serving import WAIT
+from shared.station import (
     CLEAR, CLOSE, DISPENSER, FLOW, HANG_UP, LIFT, LOCK, OPEN, PREPAY, RELEASE, REPORT, RESULT,
     RESUME, SITE, SUSPEND, TERMINATE, TILL, WRITE, address_point, ask, command_sale, connect,
     decode, encode, is_accepted, read_point, read_sale, receive_message, report, sign_off, sign_on,
 )  # fmt: skip
+from tests.suite import start_chance
 
 POINTS = 8  # and as many tills
 ONLINE = 0x60
@@ -66,9 +67,10 @@ class Peer(threading.Thread):
     """A till or a dispenser that works at the station, comes back when that was killed, and goes on
     from what it was told last."""
 
-    def __init__(self, runs, node):
+    def __init__(self, runs, node, seed):
         super().__init__(daemon=True)
-        self.runs, self.node, self.chance = runs, node, random.Random(f"journal {node}")
+        self.runs, self.node = runs, node
+        self.chance = start_chance(seed, f"journal {node}")
         self.sessions = []  # with the number of their run
         self.session, self.peer = None, None
 
@@ -152,8 +154,8 @@ def refusal(message):
 class Till(Peer):
     """Opens, releases, reads, locks and clears, wherever there is something to do."""
 
-    def __init__(self, runs, number):
-        super().__init__(runs, (TILL, number))
+    def __init__(self, runs, number, seed):
+        super().__init__(runs, (TILL, number), seed)
         self.number = number
         self.cleared = dict.fromkeys(range(1, POINTS + 1), 0)  # so many sales, as far as it knows
         self.told_cleared = []  # the sales of which it was told that it cleared them
@@ -220,8 +222,8 @@ class Till(Peer):
 class Pump(Peer):
     """Lifts, lets flow and hangs up; its meters go on, whatever the site was told of them."""
 
-    def __init__(self, runs, point):
-        super().__init__(runs, (DISPENSER, point))
+    def __init__(self, runs, point, seed):
+        super().__init__(runs, (DISPENSER, point), seed)
         self.point = point
         self.meters = {1: 0, 2: 1_000}
         self.out, self.is_out = 1, False

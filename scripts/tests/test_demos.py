@@ -1,5 +1,4 @@
-#!/usr/bin/env python3
-"""Runs the built program's demos: scripts/test-demos PROGRAM
+"""Demos.
 
 - each script of crates/forecourt/demos and of examples with a report beside it: 20 runs over memory
   and 20 over loopback, each of which prints that report;
@@ -8,23 +7,27 @@
 - what ends a demo early, and what doesn't."""
 
 import os
-import pathlib
-import sys
-import tempfile
 
-from running import CRATES, EXAMPLES, Checks, compile_c, run
-from station import FIVE_POINTS
+from shared.checks import expect, expect_end
+from shared.running import CRATES, EXAMPLES, compile_c, run
+from shared.station import FIVE_POINTS
+from tests.built import PROGRAM
+from tests.suite import make_folder, test_each
 
-PROGRAM = pathlib.Path(sys.argv[1]).resolve()
+HERE = make_folder()
 DEMOS = CRATES / "forecourt/demos"
 RUNS = 20
 SIGN_ON = "010102010041000401013100\n"
-CHECKS = Checks("demos")
-expect, expect_end = CHECKS.expect, CHECKS.expect_end
 
 
 def run_demo(*words, **how):
     return run(PROGRAM, "demo", *words, **how)
+
+
+def write(text, name="script"):
+    path = HERE / name
+    path.write_text(text)
+    return path
 
 
 def pick_lines(end, first=1, last=0):
@@ -33,7 +36,9 @@ def pick_lines(end, first=1, last=0):
     return end.status, lines[:first], lines[len(lines) - last :]
 
 
-def try_reports():
+@test_each
+def reports():
+    """Each run of a script prints its report."""
     for script in sorted([*DEMOS.glob("*.demo"), *EXAMPLES.glob("*.demo")]):
         report = script.with_suffix(".report")
         if not report.exists():
@@ -44,13 +49,15 @@ def try_reports():
                 expect_end(" ".join([script.name, *words]), end, 0, report)
 
 
-def try_side_by_side(folder):
+@test_each
+def side_by_side():
     """One dispenser lifts, waits for the idle point and lifts again; the other waits for the
     calling one and hangs up. Sections one after the other make 4 or 5 rows; 6 are made only side
     by side."""
     script, found = DEMOS / "nozzle_in_and_out.demo", set()
     preload = {
-        "LD_PRELOAD": compile_c(folder, "faults", "-O1", "-shared", "-fPIC"), "START_TOGETHER": "2"
+        "LD_PRELOAD": compile_c(HERE, "tests/faults.c", "-O1", "-shared", "-fPIC"),
+        "START_TOGETHER": "2",
     }
     for _ in range(RUNS):
         end = run_demo(FIVE_POINTS, script, env={**os.environ, **preload})
@@ -61,10 +68,12 @@ def try_side_by_side(folder):
     expect("a run with 6 rows", "rows 6" in found, True)
 
 
-def try_faulty_files(folder, write):
-    none = folder / "none"
+@test_each
+def faulty_files():
+    """A script or a site file that isn't there, or is none."""
+    none = HERE / "none"
     expect_end("no script", run_demo(FIVE_POINTS, none), 1, b"", f"cannot read {none}")
-    expect_end("no site", run_demo(none, folder / "neither"), 1, b"", f"cannot read {none}")
+    expect_end("no site", run_demo(none, HERE / "neither"), 1, b"", f"cannot read {none}")
     expect_end(
         "the site first", run_demo(write("till\n", "site"), write("x\n")), 1, b"", "fault 70"
     )
@@ -78,7 +87,9 @@ def try_faulty_files(folder, write):
         expect_end(name, run_demo(FIVE_POINTS, write(text)), 1, b"", f"script line {line}")
 
 
-def try_ends(folder, write):
+@test_each
+def ends():
+    """What ends a demo early, and what doesn't."""
     # A dispenser that waits in vain ends its own work alone: no row, and a share all the same.
     end = run_demo(FIVE_POINTS, write(SIGN_ON + "dispenser 1 3\nwait 4\nlift 1\n"))
     expect("polls spent", pick_lines(end, 1, 1), (0, ["rows 2"], ["shares 2 settled"]))
@@ -101,22 +112,3 @@ def try_ends(folder, write):
     # With loopback and no till there is nobody to serve.
     end = run_demo(FIVE_POINTS, write("dispenser 1 1\noffline\n"), "--loopback")
     expect("no till over loopback", pick_lines(end), (0, ["rows 1"], []))
-
-
-def main():
-    with tempfile.TemporaryDirectory() as name:
-        folder = pathlib.Path(name)
-
-        def write(text, name="script"):
-            path = folder / name
-            path.write_text(text)
-            return path
-
-        try_reports()
-        try_side_by_side(folder)
-        try_faulty_files(folder, write)
-        try_ends(folder, write)
-    CHECKS.finish()
-
-
-main()

@@ -1,7 +1,4 @@
-#!/usr/bin/env python3
-"""Runs programs with allocations and devices that fail: scripts/test-faults [FOLDER]
-
-The programs are those that `rt ci` has built, or those of a FOLDER (scripts/build-unproved).
+"""Programs whose allocations and devices fail.
 
 - each test of a module `out_of_memory`, with its Nth allocation failed, for N = 1, 2, .. until a
   run meets none;
@@ -36,7 +33,7 @@ The programs are those that `rt ci` has built, or those of a FOLDER (scripts/bui
   failed allocation says so, and every other row is as ever.
 
 Nothing is built anew: a library that is loaded before the program (faults.c) makes the calls
-fail. What is counted are the runs that met their fault."""
+fail. A test counts the runs that met their fault."""
 
 import concurrent.futures
 import contextlib
@@ -46,39 +43,43 @@ import re
 import select
 import socket
 import subprocess
-import sys
 import tempfile
+import threading
 import time
 import typing
 
-from journals import find_untold, first_line, read_journal, whole_lines, write_rows
-from running import CRATES, PATIENCE, compile_c, find_program, list_tests, run
-from serving import Failed
-from station import DISPENSER, EXAMPLES, FIVE_POINTS, KNOWN_SITE, OPEN, SITES, TILL, command_point
-from station import connect, parse, receive_all, receive_message, sign_off, sign_on
+from shared.checks import Failed, expect
+from shared.journals import find_untold, first_line, read_journal, whole_lines, write_rows
+from shared.running import CRATES, EXAMPLES, PATIENCE, compile_c, run
+from shared.station import (
+    DISPENSER, FIVE_POINTS, KNOWN_SITE, OPEN, SITES, TILL, command_point, connect, parse,
+    receive_all, receive_message, sign_off, sign_on,
+)  # fmt: skip
+from tests.built import PROGRAM, TABLES, find_tests_program, list_tests
+from tests.suite import make_folder, test
 
-BUILT = pathlib.Path(sys.argv[1]).resolve() if len(sys.argv) > 1 else None
-PROGRAM, TABLES = find_program("forecourt", BUILT), find_program("site_tables", BUILT)
 FOLDER, SITE_TABLES = CRATES / "forecourt", CRATES / "site_tables"
 STORED, NOTHING = FOLDER / "stdin", pathlib.Path(os.devnull)
 MODULE = "out_of_memory"  # of the tests whose allocations fail
 AT_ONCE = 32  # runs
-MOST = 10_000  # runs of one scenario
-SCENARIOS = []
+MOST = 10_000  # runs in turn
 JOURNAL, MOVED, COPY = "journal", "moved", "journal.starting"
-
-
-def scenario(function):
-    """A function that returns what it did, and how many runs met their fault."""
-    SCENARIOS.append(function)
-    return function
 
 
 class Place:
     """Where programs run with faults: a folder, and the library that is loaded before them."""
 
     def __init__(self, folder):
-        self.folder, self.library = folder, compile_c(folder, "faults", "-O1", "-shared", "-fPIC")
+        folder.chmod(0o755)
+        self.folder, self.compiling, self.compiled = folder, threading.Lock(), None
+
+    @property
+    def library(self):
+        """The library, which is compiled for the first run."""
+        with self.compiling:
+            flags = ("-O1", "-shared", "-fPIC")
+            self.compiled = self.compiled or compile_c(self.folder, "tests/faults.c", *flags)
+        return self.compiled
 
     @contextlib.contextmanager
     def prepare(self, faults):
@@ -121,7 +122,7 @@ class Place:
             out = re.sub(b"127.0.0.1:[0-9]+", b"PORT", end.out)
             files = {path.name: path for path in journal.parent.iterdir() if path != met}
             beside = {name: files.pop(name).read_bytes() for name in (MOVED, COPY) if name in files}
-            expect_station("the files of the folder", [*files], [JOURNAL])
+            expect("the files of the folder", [*files], [JOURNAL])
             is_anew = journal.stat().st_ino != begun.st_ino
             end = end._replace(out=out)
             return Opening(end, journal.read_bytes(), met.exists(), is_anew, beside)
@@ -151,6 +152,9 @@ class Place:
                 got = ask(int(line.rsplit(":", 1)[1])) if line else None
                 out, err = server.communicate(timeout=PATIENCE)
             return server.returncode, out.decode(), err.decode(), got, met.exists()
+
+
+PLACE = Place(make_folder())
 
 
 class Station(typing.NamedTuple):
@@ -211,7 +215,7 @@ def ask(port):
 
 def count_in_turn(name, one):
     """Calls one(N) for N = 1, 2, .. until it meets nothing, several at a time; returns how many
-    were met. A scenario that has no end fails."""
+    were met. What has no end fails."""
     with concurrent.futures.ThreadPoolExecutor(os.cpu_count()) as pool:
         for first in range(1, MOST, AT_ONCE):
             numbers = range(first, first + AT_ONCE)
@@ -222,7 +226,7 @@ def count_in_turn(name, one):
 
 
 def count_some_in_turn(name, one):
-    """The same of a scenario that has to meet some."""
+    """The same of what has to meet some."""
     count = count_in_turn(name, one)
     if count == 0:
         raise Failed(f"{name}: nothing failed")
@@ -233,27 +237,28 @@ def find_tests():
     """Each test of a module of failing allocations, with its program."""
     for folder in sorted(CRATES.iterdir()):
         if any((folder / "src").rglob(f"{MODULE}.rt")):
-            program = find_program(folder.name, BUILT, of_tests=True)
+            program = find_tests_program(folder.name)
             names = [name for name in list_tests(program) if f"{MODULE}::" in name]
             if not names:
                 raise Failed(f"{folder.name} has no test of failing allocations")
             yield from ((program, name) for name in names)
 
 
-@scenario
-def fail_allocations_of_tests(place):
+@test
+def fail_allocations_of_tests():
+    """Each test of a module `out_of_memory`, with each allocation failed."""
     runs, tests = 0, list(find_tests())
     for program, name in tests:
 
         def one(n):
-            end, met = place.run([program, name], NOTHING, FAIL_ALLOCATION=n)
+            end, met = PLACE.run([program, name], NOTHING, FAIL_ALLOCATION=n)
             if end.status != 0 or "test result: ok" not in end.out.decode() + end.err:
                 why = f"status {end.status}\n{end.out.decode()}{end.err}"
                 raise Failed(f"{program.name}: {name} with allocation {n} failed: {why}")
             return met
 
         runs += count_some_in_turn(name, one)
-    return f"{len(tests)} tests, each allocation", runs
+    return runs
 
 
 def list_cases(kind):
@@ -293,15 +298,16 @@ def name_command(words, source):
     return " ".join([*(os.path.basename(word) for word in words), "on", source.name])
 
 
-@scenario
-def fail_allocations_of_program(place):
+@test
+def fail_allocations_of_program():
+    """The program with words and inputs of all kinds."""
     runs, commands = 0, list(list_commands())
     for words, source in commands:
         name, command = name_command(words, source), [PROGRAM, *words]
-        whole, _ = place.run(command, source)
+        whole, _ = PLACE.run(command, source)
 
         def one(n):
-            end, met = place.run(command, source, FAIL_ALLOCATION=n)
+            end, met = PLACE.run(command, source, FAIL_ALLOCATION=n)
             if not met and end != whole:
                 raise Failed(f"{name}: not the same twice")
             is_front = (end.status, end.err.strip()) == (4, "fault 31") and whole.out.startswith(
@@ -312,19 +318,19 @@ def fail_allocations_of_program(place):
             return met
 
         runs += count_some_in_turn(name, one)
-    return f"program, {len(commands)} commands, each allocation", runs
+    return runs
 
 
 class Command:
     """The program with words and an input, and how it ends without faults."""
 
-    def __init__(self, place, words, source):
-        self.place, self.command, self.source = place, [PROGRAM, *words], source
+    def __init__(self, words, source):
+        self.command, self.source = [PROGRAM, *words], source
         self.name = name_command(words, source)
-        self.whole, _ = place.run(self.command, source)
+        self.whole, _ = PLACE.run(self.command, source)
 
     def run(self, **faults):
-        return self.place.run(self.command, self.source, **faults)
+        return PLACE.run(self.command, self.source, **faults)
 
     def fail_calls(self, kind, fault, is_met=True):
         """Each call of this kind fails in turn: the program ends with this fault, and a front of
@@ -361,12 +367,12 @@ class Command:
         return met
 
 
-@scenario
-def fail_devices_of_program(place):
+@test
+def fail_devices_of_program():
     """Reads of standard input, and writes."""
     runs, sources = 0, list_cases("cases")
     for source in sources:
-        command = Command(place, [], source)
+        command = Command([], source)
         length = len(command.whole.out)
         runs += command.fail_calls("FAIL_READ", "fault 61")
         runs += command.fail_calls("FAIL_WRITE", "fault 62", length > 0)
@@ -375,11 +381,11 @@ def fail_devices_of_program(place):
             runs += command.expect_same(SHORT_WRITE=most, INTERRUPT=1)
         runs += command.expect_same(INTERRUPT=1)
         runs += sum(map(command.limit_output, (0, 1, 33, 100)))
-    return f"program, {len(sources)} inputs, each read and write", runs
+    return runs
 
 
-@scenario
-def fail_devices_of_files(place):
+@test
+def fail_devices_of_files():
     """With words: reads of the site file, reads of standard input, and writes."""
     commands = [(["check", KNOWN_SITE], NOTHING, True, False)]
     commands += [(["replay", KNOWN_SITE, "--changes"], STORED, True, True)]
@@ -388,14 +394,14 @@ def fail_devices_of_files(place):
     commands += [(words, source, len(words) > 1, True) for words, source in list_days()]
     runs = 0
     for words, source, reads_file, reads_input in commands:
-        command = Command(place, words, source)
+        command = Command(words, source)
         if reads_file:
             runs += command.fail_calls("FAIL_FILE_READ", f"cannot read {words[1]}")
         if reads_input:
             runs += command.fail_calls("FAIL_READ", "fault 61")
         runs += command.fail_calls("FAIL_WRITE", "fault 62", len(command.whole.out) > 0)
         runs += command.expect_same(INTERRUPT=1)
-    return f"program, {len(commands)} commands, each read and write", runs
+    return runs
 
 
 # A till signs on, and opens point 1. What it may get: all is well; the SignOn found no memory, so
@@ -434,10 +440,11 @@ STATION_ENDS = re.compile(
 )
 
 
-@scenario
-def fail_allocations_of_server(place):
+@test
+def fail_allocations_of_server():
+    """A server of one session."""
     def one(n):
-        status, report, err, got, met = place.serve(FAIL_ALLOCATION=n)
+        status, report, err, got, met = PLACE.serve(FAIL_ALLOCATION=n)
         is_front = got is None or any(text.startswith(got) for text in REPLIES)
         if status == 0:
             is_well = err == "" and got is not None and ANY_DAY.fullmatch(report)
@@ -450,32 +457,32 @@ def fail_allocations_of_server(place):
             raise Failed("the server: not the same twice")
         return met
 
-    return "program as a server, each allocation", count_some_in_turn("the server", one)
+    return count_some_in_turn("the server", one)
 
 
-@scenario
-def fail_devices_of_server(place):
+@test
+def fail_devices_of_server():
     """Its line and its report: each write failed in turn, writes that are cut short, interrupted
     calls."""
-    whole = place.serve()
+    whole = PLACE.serve()
     if whole[:1] + whole[2:] != (0, "", REPLIES[0], False) or not WHOLE_DAY.fullmatch(whole[1]):
         raise Failed(f"the server: {whole}")
-    if place.serve(FAIL_WRITE=1) != (1, "", "fault 62\n", None, True):
+    if PLACE.serve(FAIL_WRITE=1) != (1, "", "fault 62\n", None, True):
         raise Failed("the server: its line wasn't written, and it went on")
-    if place.serve(FAIL_WRITE=2) != (1, "", "fault 62\n", REPLIES[0], True):
+    if PLACE.serve(FAIL_WRITE=2) != (1, "", "fault 62\n", REPLIES[0], True):
         raise Failed("the server: its report wasn't written, and it didn't say so")
     changed = (
         {"SHORT_WRITE": 5}, {"INTERRUPT": 1}, {"SHORT_WRITE": 1, "INTERRUPT": 1}, {"SHORT_SEND": 5},
         {"SHORT_SEND": 1, "INTERRUPT": 1},
     )  # fmt: skip
     for faults in changed:
-        if place.serve(**faults) != (*whole[:4], True):
+        if PLACE.serve(**faults) != (*whole[:4], True):
             raise Failed(f"the server isn't the same with {faults}, or met none of them")
-    return "program as a server, its writes", 2 + len(changed)
+    return 2 + len(changed)
 
 
-@scenario
-def fail_sockets_of_server(place):
+@test
+def fail_sockets_of_server():
     """A session whose socket fails ends, and its till is signed off: the first read, so that
     nothing is asked; the second one, behind both requests (the peer may read a front of the first
     reply alone, since its socket is reset); the first reply, behind the SignOn; the second one."""
@@ -486,33 +493,28 @@ def fail_sockets_of_server(place):
         ({"FAIL_SEND": 2}, 3, parse(SIGNED_ON)),
     )
     for faults, rows, wanted in cases:
-        status, report, err, got, met = place.serve(**faults)
+        status, report, err, got, met = PLACE.serve(**faults)
         is_told = wanted.startswith(got) if faults.get("FAIL_RECEIVE") == 2 else got == wanted
         is_well = (status, err, met) == (0, "", True) and is_told
         if not is_well or not report.startswith(f"rows {rows}\n"):
             raise Failed(
                 f"the server with {faults}: status {status}, '{err}', '{report}', {got}, met {met}"
             )
-    return "program as a server, reads and writes of its socket", len(cases)
+    return len(cases)
 
 
-@scenario
-def fail_connections_of_server(place):
+@test
+def fail_connections_of_server():
     """It can't listen; or the one session has no connection or worker, and the day is settled."""
     for kind in LISTENING:
-        if place.serve(**{kind: 1}) != (1, "", "fault 63\n", None, True):
+        if PLACE.serve(**{kind: 1}) != (1, "", "fault 63\n", None, True):
             raise Failed(f"the server with {kind}: it went on, or didn't say so")
     for kind, shares in (("FAIL_ACCEPT", 1), ("FAIL_THREAD", 0)):
         report = f"rows 0\nclears 0 cents 0\n{PRODUCTS}shares {shares} settled\n"
-        got = place.serve(**{kind: 1})
+        got = PLACE.serve(**{kind: 1})
         if got != (0, report, "", b"", True):
             raise Failed(f"the server with {kind}: {got}")
-    return "program as a server, its listener, connection and worker", len(LISTENING) + 2
-
-
-def expect_station(what, got, wanted):
-    if got != wanted:
-        raise Failed(f"the station with {what}: {got}, wanted {wanted}")
+    return len(LISTENING) + 2
 
 
 def is_well_without_memory(got):
@@ -527,47 +529,47 @@ def is_well_without_memory(got):
     return is_well and (got.err != "" or are_whole == 2)
 
 
-@scenario
-def fail_allocations_of_station(place):
+@test
+def fail_allocations_of_station():
     """A station that finds no memory to begin with says so; a session that finds none ends, or
     one request has no row, and the other session and the day go on."""
 
     def one(n):
-        got = place.station(FAIL_ALLOCATION=n)
+        got = PLACE.station(FAIL_ALLOCATION=n)
         if not got.met and got != WHOLE_STATION:
             raise Failed(f"the station: not the same twice: {got}")
         if not is_well_without_memory(got):
             raise Failed(f"the station with allocation {n} failed: {got}")
         return got.met
 
-    return "program as a station, each allocation", count_some_in_turn("the station", one)
+    return count_some_in_turn("the station", one)
 
 
-@scenario
-def fail_devices_of_station(place):
+@test
+def fail_devices_of_station():
     """Its line and its report; its listener; its sockets; the thread that waits for standard
     input; and calls that are interrupted or cut short, which change nothing."""
-    expect_station("nothing", place.station(), WHOLE_STATION)
+    expect("nothing", PLACE.station(), WHOLE_STATION)
     nobody = {"report": "", "till": None, "pump": None, "met": True, "status": 1}
-    expect_station("no line", place.station(FAIL_WRITE=1),
+    expect("no line", PLACE.station(FAIL_WRITE=1),
                    WHOLE_STATION._replace(**nobody, err="fault 62\n"))  # fmt: skip
     silent = WHOLE_STATION._replace(status=1, report="", err="fault 62\n", met=True)
-    expect_station("no report", place.station(FAIL_WRITE=2), silent)
+    expect("no report", PLACE.station(FAIL_WRITE=2), silent)
     for kind in LISTENING:
-        expect_station(kind, place.station(**{kind: 1}),
+        expect(kind, PLACE.station(**{kind: 1}),
                        WHOLE_STATION._replace(**nobody, err="fault 63\n"))  # fmt: skip
-    expect_station("no thread", place.station(FAIL_THREAD=1),
+    expect("no thread", PLACE.station(FAIL_THREAD=1),
                    WHOLE_STATION._replace(**nobody, err="fault 64\n"))  # fmt: skip
     deaf = "cannot accept: Too many open files (os error 24); it is tried again each second\n"
-    expect_station("no connection", place.station(FAIL_ACCEPT=1),
+    expect("no connection", PLACE.station(FAIL_ACCEPT=1),
                    WHOLE_STATION._replace(err=deaf, met=True))  # fmt: skip
     changed = (
         {"SHORT_WRITE": 5}, {"INTERRUPT": 1}, {"SHORT_WRITE": 1, "INTERRUPT": 1},
         {"SHORT_SEND": 5}, {"SHORT_SEND": 1, "INTERRUPT": 1},
     )  # fmt: skip
     for faults in changed:
-        expect_station(faults, place.station(**faults), WHOLE_STATION._replace(met=True))
-    return "program as a station, its devices", 4 + len(LISTENING) + len(changed)
+        expect(faults, PLACE.station(**faults), WHOLE_STATION._replace(met=True))
+    return 4 + len(LISTENING) + len(changed)
 
 
 # Till 2 is signed on in a journal whose last line is torn: it is signed off.
@@ -583,7 +585,7 @@ LATER_DAY = Stored(
 JOURNALS = ((None, NEW_DAY), (STORED_TEXT, LATER_DAY))
 
 
-def expect_stored(place, what, got, whole):
+def expect_stored(what, got, whole):
     """No peer was told what the journal doesn't have; that is a front of what a whole day's has, if
     not all memory was there for its rows; and it is opened again."""
     text = whole_lines(got.octets)
@@ -598,7 +600,7 @@ def expect_stored(place, what, got, whole):
         raise Failed(f"{what}: {got.found} rows were found, and {len(rows)} are there: {got}")
     if whole and not whole.octets.startswith(text):
         raise Failed(f"{what}: the journal isn't a front of a day's: {got}")
-    end, octets, *_ = place.open_journal(got.octets)
+    end, octets, *_ = PLACE.open_journal(got.octets)
     is_opened = end.status == 0 and octets.startswith(text)
     if not is_opened or (b"journal rows" in end.out) != (rows != []):
         raise Failed(f"{what}: the journal isn't opened again: {end}")
@@ -607,26 +609,26 @@ def expect_stored(place, what, got, whole):
         raise Failed(f"{what}: the report isn't that of the journal: {got}")
 
 
-@scenario
-def fail_journals_of_station(place):
+@test
+def fail_journals_of_station():
     """The folder of a new journal, its first line, the copy at a start, the sign-off of who was
     signed on, and a day's rows: each write and each fdatasync fails in turn, at a line's end and
     within it; at each fdatasync the file system stops, and doesn't say so."""
     runs = 0
     for text, whole in JOURNALS:
-        expect_station("a journal", place.stored(text), whole)
+        expect("a journal", PLACE.stored(text), whole)
         for kind in ("FAIL_JOURNAL_WRITE", "FAIL_SYNC", "STOP_AT_SYNC"):
             for short in ({}, {"SHORT_JOURNAL_WRITE": 7}):
 
                 def one(k):
                     faults = {kind: k, **short}
-                    got = place.stored(text, **faults)
-                    expect_stored(place, f"the station with {faults}", got, whole)
+                    got = PLACE.stored(text, **faults)
+                    expect_stored(f"the station with {faults}", got, whole)
                     if got.end.status == 0 and whole.octets == got.octets:
-                        expect_station(faults, got._replace(end=got.end._replace(met=False)), whole)
+                        expect(faults, got._replace(end=got.end._replace(met=False)), whole)
                         return False
                     end = (got.end.status, got.end.report, got.end.err, got.end.met)
-                    expect_station(faults, end, (1, "", "fault 62\n", True))
+                    expect(faults, end, (1, "", "fault 62\n", True))
                     return True
 
                 runs += count_some_in_turn(f"{kind} {short}", one)
@@ -635,45 +637,45 @@ def fail_journals_of_station(place):
             {"SHORT_JOURNAL_WRITE": 1, "INTERRUPT": 1, "SHORT_SEND": 1},
         ):  # fmt: skip
             met = whole._replace(end=whole.end._replace(met=True))
-            expect_station(faults, place.stored(text, **faults), met)
+            expect(faults, PLACE.stored(text, **faults), met)
             runs += 1
-    folder = place.stored(None, FAIL_SYNC=1)
+    folder = PLACE.stored(None, FAIL_SYNC=1)
     wanted = (b"", 1, "fault 62\n", None)
     got = (folder.octets, folder.end.status, folder.end.err, folder.end.till)
-    expect_station("a folder that isn't synced, and no line yet", got, wanted)
-    return "program as a station, each write and each fdatasync of its journal", runs + 1
+    expect("a folder that isn't synced, and no line yet", got, wanted)
+    return runs + 1
 
 
-@scenario
-def fail_sockets_of_stored_station(place):
+@test
+def fail_sockets_of_stored_station():
     """A session whose socket fails ends, its till is signed off, and that is stored: the other peer
     is told all that it may be, also what it was owed in the round in which that happened."""
     runs = 0
     for kind in ("FAIL_RECEIVE", "FAIL_SEND"):
 
         def one(k):
-            got = place.stored(None, **{kind: k})
+            got = PLACE.stored(None, **{kind: k})
             if not got.end.met:
-                expect_station("nothing", got, NEW_DAY)
+                expect("nothing", got, NEW_DAY)
                 return False
             what = f"the station with a journal and {kind} {k}"
-            expect_stored(place, what, got, None)
+            expect_stored(what, got, None)
             are_whole = (got.end.till == REPLIES[0]) + (got.end.pump in PUMP_REPLIES)
             if (got.end.status, got.end.err) != (0, "") or are_whole < 1:
                 raise Failed(f"{what}: {got}")
             signed = [got.octets.count(write_rows(one)) for one in (sign_on(1), sign_off(1))]
-            expect_station(f"{what}: sign-ons and sign-offs", signed[0], signed[1])
+            expect(f"{what}: sign-ons and sign-offs", signed[0], signed[1])
             is_opened = write_rows(command_point(1, 0, 1, OPEN)) in got.octets
             if is_opened and got.end.till != REPLIES[0]:
-                expect_station(f"{what}: the dispenser", got.end.pump, REFUSED + TOLD)
+                expect(f"{what}: the dispenser", got.end.pump, REFUSED + TOLD)
             return True
 
         runs += count_some_in_turn(kind, one)
-    return "program as a station with a journal, reads and writes of its sockets", runs
+    return runs
 
 
-@scenario
-def fail_openings_of_journals(place):
+@test
+def fail_openings_of_journals():
     """A journal that isn't locked or read, or whose copy isn't made or named, stays as it is."""
     runs = 0
     unread, unwritten = "cannot read journal", "fault 62"
@@ -681,109 +683,105 @@ def fail_openings_of_journals(place):
         "FAIL_LOCK": [unread, unwritten], "FAIL_RENAME": [unwritten],
         "FAIL_FILE_READ": [f"cannot read {KNOWN_SITE}", unread],
     }  # fmt: skip
-    whole, after, *_ = place.open_journal(STORED_TEXT)
-    expect_station("a journal", after, STORED_LINES + write_rows(sign_off(2)))
+    whole, after, *_ = PLACE.open_journal(STORED_TEXT)
+    expect("a journal", after, STORED_LINES + write_rows(sign_off(2)))
     for kind, ends in wanted.items():
         said = []
 
         def one(k):
-            end, octets, met, is_anew, beside = place.open_journal(STORED_TEXT, **{kind: k})
-            expect_station(f"{kind} {k}: beside it", beside, {})
+            end, octets, met, is_anew, beside = PLACE.open_journal(STORED_TEXT, **{kind: k})
+            expect(f"{kind} {k}: beside it", beside, {})
             if not met:
-                expect_station("nothing", (end, octets), (whole, after))
+                expect("nothing", (end, octets), (whole, after))
                 return False
             got = (end.status, end.out, octets, is_anew)
-            expect_station(f"{kind} {k}", got, (1, b"", STORED_TEXT, False))
+            expect(f"{kind} {k}", got, (1, b"", STORED_TEXT, False))
             said.append(end.err.strip())
             return True
 
         runs += count_some_in_turn(kind, one)
-        expect_station(kind, sorted({*said}), sorted(ends))
-    return "program as a station, a journal that isn't locked, read or put in place", runs
+        expect(kind, sorted({*said}), sorted(ends))
+    return runs
 
 
 FLUSHES = ("the folder", "the copy", "the folder", "the sign-off")
 
 
-@scenario
-def fail_copies_of_journals(place):
+@test
+def fail_copies_of_journals():
     """A start puts a copy in the place of its journal, which is on the disk before: of a file whose
     flush has failed, what the system shows may not be there. Each flush fails in turn: before
     that of the copy the journal is the file that it was."""
 
     def one(k):
-        end, octets, met, is_anew, beside = place.open_journal(STORED_TEXT, FAIL_SYNC=k)
-        expect_station(f"flush {k}: beside it", beside, {})
-        expect_station(f"flush {k}: put in place", is_anew, k > 1 + FLUSHES.index("the copy"))
+        end, octets, met, is_anew, beside = PLACE.open_journal(STORED_TEXT, FAIL_SYNC=k)
+        expect(f"flush {k}: beside it", beside, {})
+        expect(f"flush {k}: put in place", is_anew, k > 1 + FLUSHES.index("the copy"))
         if not met:
-            expect_station("so many flushes", k, len(FLUSHES) + 1)
+            expect("so many flushes", k, len(FLUSHES) + 1)
             return False
-        expect_station(f"flush {k}", (end.status, end.out, end.err), (1, b"", "fault 62\n"))
+        expect(f"flush {k}", (end.status, end.out, end.err), (1, b"", "fault 62\n"))
         left = STORED_LINES if is_anew else STORED_TEXT
-        expect_station(f"flush {k}: the lines", octets, left)
+        expect(f"flush {k}: the lines", octets, left)
         return True
 
-    return "program as a station, each flush of a start", count_some_in_turn("FAIL_SYNC", one)
+    return count_some_in_turn("FAIL_SYNC", one)
 
 
-@scenario
-def move_journals_at_starts(place):
+@test
+def move_journals_at_starts():
     """A journal is moved at a flush of a start, and another file gets its name: before the copy is
     in place that file stays, the journal stays where it is, and the start is refused."""
 
     def one(k):
-        end, octets, met, _, beside = place.open_journal(STORED_TEXT, MOVE_AT_SYNC=k)
+        end, octets, met, _, beside = PLACE.open_journal(STORED_TEXT, MOVE_AT_SYNC=k)
         if not met:
-            expect_station("so many flushes", k, len(FLUSHES) + 1)
+            expect("so many flushes", k, len(FLUSHES) + 1)
             return False
-        expect_station(f"flush {k}: what has its name", octets, b"")
+        expect(f"flush {k}: what has its name", octets, b"")
         if k <= 1 + FLUSHES.index("the copy"):
-            expect_station(f"flush {k}: the journal", beside, {MOVED: STORED_TEXT})
-            expect_station(f"flush {k}", (end.status, end.out, end.err), (1, b"", "fault 62\n"))
+            expect(f"flush {k}: the journal", beside, {MOVED: STORED_TEXT})
+            expect(f"flush {k}", (end.status, end.out, end.err), (1, b"", "fault 62\n"))
         else:
             gone_on = STORED_LINES + write_rows(sign_off(2))
-            expect_station(f"flush {k}: the journal", beside, {MOVED: gone_on})
+            expect(f"flush {k}: the journal", beside, {MOVED: gone_on})
         return True
 
-    return "program as a station, its journal moved at each flush of a start", count_some_in_turn(
-        "MOVE_AT_SYNC", one
-    )
+    return count_some_in_turn("MOVE_AT_SYNC", one)
 
 
-@scenario
-def swap_copies_of_journals(place):
+@test
+def swap_copies_of_journals():
     """Somebody puts another file in the place of a start's copy: that one doesn't become the
     journal. One that is there before the copy is taken for what an earlier start has left."""
 
     def one(k):
-        end, octets, met, _, beside = place.open_journal(STORED_TEXT, SWAP_AT_SYNC=k)
+        end, octets, met, _, beside = PLACE.open_journal(STORED_TEXT, SWAP_AT_SYNC=k)
         if not met:
-            expect_station("so many flushes", k, len(FLUSHES) + 1)
+            expect("so many flushes", k, len(FLUSHES) + 1)
             return False
         if k == 1 + FLUSHES.index("the copy"):
             got = (end.status, end.out, end.err, octets, beside)
-            expect_station(f"flush {k}", got, (1, b"", "fault 62\n", STORED_TEXT, {COPY: b""}))
+            expect(f"flush {k}", got, (1, b"", "fault 62\n", STORED_TEXT, {COPY: b""}))
         else:
             got = (end.status, end.err, octets, beside)
             left = {COPY: b""} if k > 1 else {}
             gone_on = STORED_LINES + write_rows(sign_off(2))
-            expect_station(f"flush {k}", got, (0, "", gone_on, left))
+            expect(f"flush {k}", got, (0, "", gone_on, left))
         return True
 
-    return "program as a station, the copy of its journal swapped at each flush of a start", (
-        count_some_in_turn("SWAP_AT_SYNC", one)
-    )
+    return count_some_in_turn("SWAP_AT_SYNC", one)
 
 
-@scenario
-def fail_allocations_of_journals(place):
+@test
+def fail_allocations_of_journals():
     """At the opening of a journal with rows: `fault 31`, and what stands there is what stood there,
     without the torn line, or with the sign-off; or all is as ever."""
-    whole, after, *_ = place.open_journal(STORED_TEXT)
+    whole, after, *_ = PLACE.open_journal(STORED_TEXT)
 
     def one(n):
-        end, octets, met, _, beside = place.open_journal(STORED_TEXT, FAIL_ALLOCATION=n)
-        expect_station(f"allocation {n}: beside it", beside, {})
+        end, octets, met, _, beside = PLACE.open_journal(STORED_TEXT, FAIL_ALLOCATION=n)
+        expect(f"allocation {n}: beside it", beside, {})
         if not met and (end, octets) != (whole, after):
             raise Failed("a journal that is opened: not the same twice")
         is_whole = (end, octets) == (whole, after)
@@ -793,38 +791,34 @@ def fail_allocations_of_journals(place):
             raise Failed(f"a journal that is opened, allocation {n} failed: {end}, {octets}")
         return met
 
-    return "program as a station, a journal's opening, each allocation", count_some_in_turn(
-        "a journal that is opened", one
-    )
+    return count_some_in_turn("a journal that is opened", one)
 
 
-@scenario
-def fail_allocations_of_stored_station(place):
+@test
+def fail_allocations_of_stored_station():
     """A day with a journal: as without one, but that it ends with `fault 31`, behind its report,
     where there was no memory for a row's line. Nobody is told what isn't stored."""
 
     def one(n):
-        got = place.stored(None, FAIL_ALLOCATION=n)
+        got = PLACE.stored(None, FAIL_ALLOCATION=n)
         if not got.end.met:
-            expect_station("nothing", got, NEW_DAY)
-        expect_stored(place, f"the station with a journal, allocation {n}", got, None)
+            expect("nothing", got, NEW_DAY)
+        expect_stored(f"the station with a journal, allocation {n}", got, None)
         is_ended = (got.end.status, got.end.err) == (4, "fault 31\n")
         if not is_ended and not is_well_without_memory(got.end):
             raise Failed(f"the station with a journal, allocation {n} failed: {got}")
         return got.end.met
 
-    return "program as a station with a journal, each allocation", count_some_in_turn(
-        "the station with a journal", one
-    )
+    return count_some_in_turn("the station with a journal", one)
 
 
-@scenario
-def block_a_send_of_station(place):
+@test
+def block_a_send_of_station():
     """A reply that its connection doesn't take, and of which the system tells no more, is sent at
     the day's end, and its till is left."""
     pipe = subprocess.PIPE
     words = [PROGRAM, "station", KNOWN_SITE, "--port=0"]
-    with place.prepare({"BLOCK_SEND": 1}) as (how, met):
+    with PLACE.prepare({"BLOCK_SEND": 1}) as (how, met):
         with subprocess.Popen(words, stdin=pipe, stdout=pipe, bufsize=0, **how) as program:
             port = int(program.stdout.readline().decode().rsplit(":", 1)[1])
             with connect(port) as till:
@@ -839,19 +833,19 @@ def block_a_send_of_station(place):
             out, _ = program.communicate(timeout=PATIENCE)
     if not is_silent or got != parse(SIGNED_ON) or not out.startswith(b"rows 2\n"):
         raise Failed(f"the station whose send would block: {is_silent}, {got}, {out}")
-    return "program as a station, a send that would block", 1
+    return 1
 
 
-@scenario
-def fail_sockets_of_station(place):
+@test
+def fail_sockets_of_station():
     """A session whose socket fails ends, its till is signed off, and no other session ends."""
     runs = 0
     for kind in ("FAIL_RECEIVE", "FAIL_SEND"):
 
         def one(k):
-            got = place.station(**{kind: k})
+            got = PLACE.station(**{kind: k})
             if not got.met:
-                expect_station("nothing", got, WHOLE_STATION)
+                expect("nothing", got, WHOLE_STATION)
                 return False
             are_whole = (got.till == REPLIES[0]) + (got.pump in PUMP_REPLIES)
             are_fronts = REPLIES[0].startswith(got.till) and WHOLE_STATION.pump.startswith(got.pump)
@@ -860,7 +854,7 @@ def fail_sockets_of_station(place):
             return True
 
         runs += count_some_in_turn(kind, one)
-    return "program as a station, reads and writes of its sockets", runs
+    return runs
 
 
 def is_balanced(report):
@@ -874,15 +868,15 @@ DEMO_REPORT = (FOLDER / "demos/two_tills.report").read_bytes()
 NO_LISTENER, NO_WORKER = (1, b"", "fault 63\n"), (1, b"", "fault 64\n")
 
 
-@scenario
-def fail_allocations_of_demo(place):
+@test
+def fail_allocations_of_demo():
     """A worker that finds no memory ends its own work alone, and the day is settled all the
     same."""
     runs = 0
     for words in ([], ["--loopback"]):
 
         def one(n):
-            end, met = place.run([*DEMO, *words], NOTHING, FAIL_ALLOCATION=n)
+            end, met = PLACE.run([*DEMO, *words], NOTHING, FAIL_ALLOCATION=n)
             is_settled = (end.status, end.err) == (0, "") and is_balanced(end.out.decode())
             is_ended = end in ((4, b"", "fault 31\n"), NO_LISTENER, NO_WORKER)
             if not (is_settled or is_ended) or not met and end.out != DEMO_REPORT:
@@ -890,17 +884,17 @@ def fail_allocations_of_demo(place):
             return met
 
         runs += count_some_in_turn("a demo", one)
-    return "program as a demo, over memory and loopback, each allocation", runs
+    return runs
 
 
-@scenario
-def fail_connections_of_demo(place):
+@test
+def fail_connections_of_demo():
     """Two tills over loopback: a listener and two connections, each made and accepted."""
     calls = {**dict.fromkeys(LISTENING, 1), "FAIL_SOCKET": 3, "FAIL_CONNECT": 2, "FAIL_ACCEPT": 2}
     for kind, wanted in calls.items():
 
         def one(k):
-            end, met = place.run([*DEMO, "--loopback"], NOTHING, **{kind: k})
+            end, met = PLACE.run([*DEMO, "--loopback"], NOTHING, **{kind: k})
             if end != (NO_LISTENER if met else (0, DEMO_REPORT, "")):
                 raise Failed(f"a demo over loopback, {kind} {k}: {end}")
             return met
@@ -908,11 +902,11 @@ def fail_connections_of_demo(place):
         found = count_in_turn(kind, one)
         if found != wanted:
             raise Failed(f"a demo over loopback: {kind} was met {found} times, not {wanted}")
-    return "program as a demo over loopback, each call of a socket", sum(calls.values())
+    return sum(calls.values())
 
 
-@scenario
-def fail_threads_of_demo(place):
+@test
+def fail_threads_of_demo():
     """Two sections have a worker each. Over loopback these are the tills' clients, and two
     workers more serve their sessions: one of them alone serves both."""
     alone = (0, DEMO_REPORT.replace(b"shares 3", b"shares 2"), "")
@@ -925,26 +919,27 @@ def fail_threads_of_demo(place):
         (loopback, {"FAIL_THREADS": 3}, NO_WORKER),
     )  # fmt: skip
     for words, faults, wanted in cases:
-        end, met = place.run([*DEMO, *words], NOTHING, **faults)
+        end, met = PLACE.run([*DEMO, *words], NOTHING, **faults)
         if end != wanted or not met:
             raise Failed(f"a demo {words} with {faults}: {end}, met {met}")
-    return "program as a demo, each worker", len(cases)
+    return len(cases)
 
 
-@scenario
-def fail_threads_of_crew(place):
-    tests = find_program("counter_desk_tests", BUILT, of_tests=True)
+@test
+def fail_threads_of_crew():
+    """A crew of two, each of whose workers isn't started."""
+    tests = find_tests_program("counter_desk_tests")
     ends = "missing_worker::each_unstarted"
     (name,) = (name for name in list_tests(tests) if name.endswith(ends))
     for n in (1, 2):
-        end, met = place.run([tests, name], NOTHING, FAIL_THREAD=n)
+        end, met = PLACE.run([tests, name], NOTHING, FAIL_THREAD=n)
         text = end.out.decode() + end.err
         if end.status != 0 or not met or "test result: ok" not in text:
             raise Failed(f"a crew whose worker {n} isn't started: status {end.status}\n{text}")
         unstarted = [line for line in text.splitlines() if "wasn't started" in line]
         if unstarted != [f"worker {n} wasn't started"]:
             raise Failed(f"a crew whose worker {n} isn't started says: {text}")
-    return "a crew of two, each worker", 2
+    return 2
 
 
 def split_sites(text):
@@ -966,13 +961,13 @@ def are_rows(got, wanted):
     return rest and together
 
 
-def fail_allocations_of_site(place, command, name, source):
-    whole, _ = place.run(command, source)
+def fail_allocations_of_site(command, name, source):
+    whole, _ = PLACE.run(command, source)
     if whole.status != 0:
         raise Failed(f"{name}: {whole}")
 
     def one(n):
-        end, met = place.run(command, source, FAIL_ALLOCATION=n)
+        end, met = PLACE.run(command, source, FAIL_ALLOCATION=n)
         if end.status == 0:
             rows = end.out.split(b"\n"), whole.out.split(b"\n")
             is_well = end == whole or end.err != "" and are_rows(*rows)
@@ -985,35 +980,16 @@ def fail_allocations_of_site(place, command, name, source):
     return count_some_in_turn(name, one)
 
 
-@scenario
-def fail_allocations_of_tables(place):
+@test
+def fail_allocations_of_tables():
+    """The sites of the tables, each for itself."""
     runs, count = 0, 0
     for word, table in (
         ("sites", SITE_TABLES / "stdin"), ("desk", SITE_TABLES / "tables/desk.txt")
     ):
         for number, text in enumerate(split_sites(table.read_text()), 1):
-            source = pathlib.Path(place.folder) / f"{word}{number}"
+            source = pathlib.Path(PLACE.folder) / f"{word}{number}"
             source.write_text(text)
-            runs += fail_allocations_of_site(place, [TABLES, word], f"{word} {number}", source)
+            runs += fail_allocations_of_site([TABLES, word], f"{word} {number}", source)
             count += 1
-    return f"tables, {count} sites, each allocation", runs
-
-
-def main():
-    runs, failed = 0, 0
-    with tempfile.TemporaryDirectory() as folder:
-        os.chmod(folder, 0o755)
-        place = Place(folder)
-        for try_faults in SCENARIOS:
-            try:
-                what, count = try_faults(place)
-                print(f"faults: {what}: {count} runs", flush=True)
-                runs += count
-            except Failed as why:
-                failed += 1
-                print(f"faults: {try_faults.__name__}: {why}", flush=True)
-    print(f"faults: {runs} passed, {failed} failed")
-    sys.exit(failed != 0)
-
-
-main()
+    return runs

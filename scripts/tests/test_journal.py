@@ -1,5 +1,4 @@
-#!/usr/bin/env python3
-"""Tests the journal of `forecourt station`: scripts/test-journal PROGRAM
+"""The journal of `forecourt station`.
 
 Journals that are made by hand are opened; journals lie on files that can't be used, on a full
 disk, and beside closed standard streams; and a station of eight tills and eight dispensers is
@@ -9,8 +8,6 @@ a replay of the journal answers. A test that the system doesn't allow says that 
 import contextlib
 import fcntl
 import os
-import pathlib
-import random
 import re
 import resource
 import shutil
@@ -18,27 +15,26 @@ import signal
 import socket
 import stat
 import subprocess
-import sys
-import tempfile
 import time
 
-from journals import (
+from shared.checks import Failed, Skipped, expect
+from shared.journals import (
     Told, find_untold, first_line, is_notice, is_sign_off, read_journal, split_messages,
     whole_lines, without_token, write_rows,
 )  # fmt: skip
-from running import run
-from serving import WAIT, Failed, expect, run_tests, send_reset, start_day, test, wait_until
-from station import (
+from shared.running import run
+from shared.serving import WAIT, send_reset, start_day, wait_until
+from shared.station import (
     ACKNOWLEDGE, CLEAR, CLOSE, DISPENSER, FLOW, HANG_UP, KNOWN_SITE, LIFT, LOCK, OPEN, RELEASE,
     RESULT, SITE, TILL, WRITE, address_point, command_point, command_sale, decode, encode, parse,
     read_point, read_sale, receive, receive_all, receive_message, report, sign_off, sign_on,
     write_report,
 )  # fmt: skip
-from steady_peers import POINTS, Pump, Runs, Till, say
+from tests.built import PROGRAM
+from tests.steady_peers import POINTS, Pump, Runs, Till, say
+from tests.suite import make_folder, start_chance, test
 
-PROGRAM = pathlib.Path(sys.argv[1]).resolve()
-PLACE = tempfile.TemporaryDirectory()
-HERE = pathlib.Path(PLACE.name)
+HERE = make_folder()
 OTHER_SITE = HERE / "other.toml"
 FIRST = first_line(KNOWN_SITE)
 NOBODY = 65_534
@@ -110,10 +106,6 @@ def expect_line(what, text, number, site=KNOWN_SITE):
     path = write_journal(text)
     expect_refused(what, path, f"journal line {number}", site)
     expect(f"{what}: the file", path.read_bytes(), text)
-
-
-def skip(what):
-    print(f"journal: SKIPPED: {what}", flush=True)
 
 
 # ---- journals made by hand
@@ -250,10 +242,10 @@ def mutate(chance, octets):
 
 
 @test
-def random_lines():
+def random_lines(seed):
     """A line is a journal's just where a replay answers it by one reply of a row: requests of all
     kinds, and what random changes make of them."""
-    chance, counts = random.Random("lines"), [0, 0]
+    chance, counts = start_chance(seed, "lines"), [0, 0]
     kinds = [*DAY, *map(parse, (
         "01 01 02 01 00 4B 00 07 04 21 21 00 01 81 00",
         "01 01 02 01 00 03 00 07 06 21 22 00 01 00 01",
@@ -438,16 +430,14 @@ def no_files():
 def without_leave():
     """Who may not read and write the file, or make it, is refused; who may is served."""
     if os.geteuid() != 0:
-        skip("files without leave: not root")
-        return
+        raise Skipped("not root")
     os.chmod(HERE, 0o755)
     how = {"user": NOBODY, "group": NOBODY, "extra_groups": []}
     try:
         ended = run(PROGRAM, "--version", **how)
         expect("nobody runs it", ended.status, 0)
     except OSError as why:
-        skip(f"files without leave: nobody can't run the program: {why}")
-        return
+        raise Skipped(f"nobody can't run the program: {why}") from None
     theirs = HERE / "theirs"
     theirs.mkdir(mode=0o700)
     os.chown(theirs, NOBODY, NOBODY)
@@ -532,8 +522,7 @@ def errors_into_the_journal():
 def what_others_have_left():
     """A copy that another user's start has left is removed, too, where the folder lets that be."""
     if os.geteuid() != 0:
-        skip("what others have left: not root")
-        return
+        raise Skipped("not root")
     os.chmod(HERE, 0o755)
     folder = HERE / "shared"
     folder.mkdir()
@@ -546,8 +535,7 @@ def what_others_have_left():
     try:
         ended = run(*command(path), user=NOBODY, group=NOBODY, extra_groups=[])
     except OSError as why:
-        skip(f"what others have left: nobody can't run the program: {why}")
-        return
+        raise Skipped(f"nobody can't run the program: {why}") from None
     expect("its end", (ended.status, ended.err), (0, ""))
     expect("the file", path.read_bytes(), DAY_TEXT + OFF_1)
     expect("nothing is left", copy_of(path).exists(), False)
@@ -682,11 +670,11 @@ def receive_or_end(peer):
         return b""
 
 
-def fill(path, what, **how):
+def fill(path, what, seed, **how):
     """A till closes and opens a point, and its dispenser listens, until the journal takes no more:
     the day ends with fault 62 and without a report, and what both were told are rows that the
     journal has."""
-    chance = random.Random(what)
+    chance = start_chance(seed, what)
     with start_station(path, **how) as day, day.connect() as till, day.connect() as pump:
         pump.sendall(say(1))
         came = {(DISPENSER, 1): receive_message(pump), (TILL, 1): b""}
@@ -724,12 +712,12 @@ def limit_file(octets):
 
 
 @test
-def a_file_that_takes_no_more():
+def a_file_that_takes_no_more(seed):
     """A file may take only so many octets, whatever line is torn there: that one is cut off again;
     a start that finds more room goes on behind the whole lines."""
     for most in (20_000, 20_001, 20_029, 65_536):
         path = write_journal(b"")
-        text = fill(path, f"a file of {most} octets", preexec_fn=limit_file(most))
+        text = fill(path, f"a file of {most} octets", seed, preexec_fn=limit_file(most))
         expect("its octets: the stored rows alone", path.read_bytes(), text)
         expect("no more than it may take", len(text) <= most, True)
         rows = text.count(b"\n") - 1
@@ -745,17 +733,16 @@ def a_file_that_takes_no_more():
 
 
 @test
-def a_full_disk():
+def a_full_disk(seed):
     """A small disk that is filled."""
     disk = HERE / "disk"
-    disk.mkdir()
+    disk.mkdir(exist_ok=True)
     options = ["-t", "tmpfs", "-o", "size=64k", "tmpfs", disk]
     if not shutil.which("mount") or run("mount", *options).status != 0:
-        skip("a full disk: mounting isn't allowed")
-        return
+        raise Skipped("mounting isn't allowed")
     try:
         path = disk / "journal"
-        text = fill(path, "a full disk")
+        text = fill(path, "a full disk", seed)
         kept = write_journal(path.read_bytes(), "kept")
         again = run(*command(path))
         expect("again", (again.status, again.err) in ((0, ""), (1, "fault 62\n")), True)
@@ -806,10 +793,10 @@ def kill_start(path, site, chance):
     expect("a start that is killed", err, b"")
 
 
-def run_and_kill(path, site, runs):
+def run_and_kill(path, site, runs, seed):
     """Runs the station until it is killed, KILLS times in all, and then for a whole day; returns
     how many rows it found at each start, and its last report."""
-    chance, found, kills = random.Random("kills"), [], 0
+    chance, found, kills = start_chance(seed, "kills"), [], 0
     while True:
         if kills < KILLS and chance.random() < 0.2:
             kill_start(path, site, chance)
@@ -872,9 +859,9 @@ def expect_each_litre_once(peers, rows, report_text):
     return len(cleared)
 
 
-def expect_fronts(text, site):
+def expect_fronts(text, site, seed):
     """A copy of the journal, cut at whatever octet, is opened with the rows of its whole lines."""
-    chance, first = random.Random("cuts"), len(first_line(site))
+    chance, first = start_chance(seed, "cuts"), len(first_line(site))
     begins = [at + 1 for at in range(first, min(len(text), 40_000)) if text[at : at + 1] == b"\n"]
     places = [chance.randrange(len(text)) for _ in range(CUTS // 2)]
     places += [chance.randrange(min(len(text), 20_000)) for _ in range(CUTS // 4)]
@@ -897,19 +884,19 @@ def expect_fronts(text, site):
 
 
 @test
-def killed_for_real():
+def killed_for_real(seed):
     """Eight tills and eight dispensers work at a station that is killed at any moment and started
     again. Each reply that ever came is that of its row, each notice is of a row too, and all come
     in the rows' order; each row is what its peer sent; and the station's last report is that of its
     journal."""
     site, runs = write_kill_site(), Runs()
     path, begun = write_journal(b"", "killed"), time.monotonic()
-    peers = [Till(runs, number) for number in range(1, POINTS + 1)]
-    peers += [Pump(runs, point) for point in range(1, POINTS + 1)]
+    peers = [Till(runs, number, seed) for number in range(1, POINTS + 1)]
+    peers += [Pump(runs, point, seed) for point in range(1, POINTS + 1)]
     for peer in peers:
         peer.start()
     try:
-        days = run_and_kill(path, site, runs)
+        days = run_and_kill(path, site, runs, seed)
         next(days)
         for peer in peers:
             peer.join(WAIT)
@@ -939,7 +926,4 @@ def killed_for_real():
         f" {sum(len(peer.sessions) for peer in peers)} sessions",
         flush=True,
     )  # fmt: skip
-    expect_fronts(text, site)
-
-
-run_tests("journal", PLACE)
+    expect_fronts(text, site, seed)

@@ -1,16 +1,9 @@
-#!/usr/bin/env python3
-"""Tests the page of `forecourt station`, and reports as JSON:
-
-    scripts/test-page PROGRAM
-    scripts/test-page PROGRAM --pictures FOLDER
+"""The page of `forecourt station`, and reports as JSON.
 
 Over plain HTTP: what each path and method is answered, how many are served and for how long, and
 peers that mean no good; what `site.json` tells beside the journal and the commands that read it.
 In a headless Chromium: what the page says of a day, step after step, and how it looks on screens
-and on a telephone. Without a Chromium those tests are skipped, which it says.
-
-With --pictures it writes what the page shows into the folder: of a busy day, the picture of the
-README among it, and of 64 points."""
+and on a telephone. Without a Chromium those tests are skipped."""
 
 import base64
 import concurrent.futures
@@ -24,31 +17,30 @@ import select
 import signal
 import socket
 import statistics
-import sys
-import tempfile
 import threading
 import time
 
-import forecourts
-import page_day
-import serving
-from browser import find_browser, start_browser
-from page_day import connect, end_day, read_answer, write_request
-from running import EXAMPLES, SCRIPTS, compile_c, run
-from serving import Failed, expect, list_addresses, run_tests, test, test_beside, wait_until
-from station import (
+from shared import forecourts, page_day, serving
+from shared.browser import (
+    SCREEN, SOON, TELEPHONE, WIDE, expect_words, find_browser, open_page, read_tile, start_browser,
+)  # fmt: skip
+from shared.checks import Failed, Skipped, expect
+from shared.page_day import connect, end_day, read_answer, write_request
+from shared.running import EXAMPLES, SCRIPTS, compile_c, run
+from shared.serving import list_addresses, wait_until
+from shared.station import (
     CLEAR, FIVE_POINTS, FLOW, HANG_UP, KNOWN_SITE, LIFT, LOCK, OPEN, RELEASE, SITE,
     TILL, WRITE, address_point, command_point, command_sale, decode, encode, read_point,
     receive_all, report, sign_on,
 )  # fmt: skip
+from tests.built import PROGRAM
+from tests.suite import make_folder, test, test_beside
 
-PROGRAM = pathlib.Path(sys.argv[1]).resolve()
-PLACE = tempfile.TemporaryDirectory()
+HERE = make_folder()
 start_page = functools.partial(page_day.start_page, PROGRAM)
 start_busy = functools.partial(page_day.start_busy, PROGRAM)
-SCREEN, WIDE, ASIDE, TELEPHONE = (1_280, 800), (1_920, 1_080), (844, 390), (390, 844)
-LOOKS = (SCRIPTS / "page_looks.js").read_text()
-SOON = 2  # seconds, within which the page says what has changed
+ASIDE = (844, 390)  # a telephone that lies
+LOOKS = (SCRIPTS / "tests/page_looks.js").read_text()
 SILENCE = 6  # seconds, within which it says that the station doesn't answer
 PIPELINED = 10_000
 MOST_PEERS = 64
@@ -391,10 +383,10 @@ def a_day_that_ends():
 def only_what_is_stored():
     """A till's request and one of the page are heard in one round. Where its row is stored the page
     tells of it; where the flush fails neither is answered, and the day ends."""
-    library = compile_c(PLACE.name, "faults", "-O1", "-shared", "-fPIC")
+    library = compile_c(HERE, "tests/faults.c", "-O1", "-shared", "-fPIC")
     met = 0
     for sync in range(0, 9):
-        journal = pathlib.Path(PLACE.name) / f"flush-{sync}.journal"
+        journal = HERE / f"flush-{sync}.journal"
         faults = {"LD_PRELOAD": library, "FAIL_SYNC": str(sync)}
         try:
             with start_page("--journal", str(journal), till=None, env=faults) as page:
@@ -445,7 +437,7 @@ def read_state(day):
 def rows_of_the_journal():
     """While a till asks as fast as it is answered, no more rows are told than the journal has
     lines."""
-    journal = pathlib.Path(PLACE.name) / "stored.journal"
+    journal = HERE / "stored.journal"
     with start_page("--journal", str(journal)) as page, connect(page.port) as peer:
         asking = threading.Thread(
             target=lambda: page.tell(*(read_point(1, n % 32, 1) for n in range(READS)))
@@ -475,7 +467,7 @@ def count_rows(journal):
 def beside_the_commands():
     """What `site.json` tells of 64 points is what `sales` and `report` find in the journal; the
     station's own report as JSON is that of its journal."""
-    journal = pathlib.Path(PLACE.name) / "crowded.journal"
+    journal = HERE / "crowded.journal"
     words = ("--journal", str(journal), "--json")
     with start_busy(forecourts.make_crowded_day(), *words) as (page, file):
         site = page.site()
@@ -542,7 +534,7 @@ def wrong_words():
     for words, first in ((("--port=x", "--page=x"), "port"), (("--port=0", "--page=x"), "page")):
         end = run(PROGRAM, "station", "nowhere.toml", "--idle=x", *words)
         expect("the first one", (end.status, end.err.split()[1]), (2, f"--{first}"))
-    journal = pathlib.Path(PLACE.name) / "taken.journal"
+    journal = HERE / "taken.journal"
     with start_page("--journal", str(journal)) as page:
         for taken in (page.port, page.day.port):
             end = run(PROGRAM, "station", KNOWN_SITE, "--port=0", f"--page={taken}")
@@ -568,37 +560,20 @@ def read_kilobytes(day):
 # ---- in a browser
 
 
-def read_tile(browser, point):
-    """The words of a point's tile, without the spaces between them."""
-    script = f"""[...document.querySelectorAll('article')]
-        .filter(tile => tile.querySelector('h2').textContent === '{point}')
-        .map(tile => [...tile.querySelectorAll('h2,span,p')].filter(part => !part.children.length)
-        .filter(part => !part.hidden).map(part => part.textContent).join('|')).join()"""
-    return browser.evaluate(script)
-
-
-def expect_words(browser, point, *words):
-    """Within two seconds the tile says these words."""
-    end = time.monotonic() + SOON
-    while not all(word in (said := read_tile(browser, point)).split("|") for word in words):
-        if time.monotonic() > end:
-            raise Failed(f"point {point} says '{said}', wanted {words}")
-        time.sleep(serving.LOOK)
-
-
-def in_browser(enlist):
+def in_browser(function):
     """A test that needs a browser."""
 
-    def take(function):
-        if find_browser():
-            return enlist(function)
-        print(f"page test '{function.__name__}': SKIPPED, since there is no Chromium", flush=True)
-        return function
+    @functools.wraps(function)
+    def call():
+        if not find_browser():
+            raise Skipped("there is no Chromium")
+        function()
 
-    return take
+    return call
 
 
-@in_browser(test)
+@test
+@in_browser
 def a_day_at_a_point():
     """A point calls, is released, fuels, sells, is locked and cleared; the page says each step
     within two seconds, and how many transactions are unpaid."""
@@ -629,7 +604,8 @@ def a_day_at_a_point():
         expect("complaints of the browser", browser.complaints, [])
 
 
-@in_browser(test_beside)
+@test_beside
+@in_browser
 def a_silent_station():
     """The page says since when there is no answer, and goes on once there is one."""
     with start_page() as page, start_browser() as browser:
@@ -657,12 +633,6 @@ LOST = "document.body.classList.add('lost')"
 
 def overlap(a, b):
     return a[0] < b[2] and b[0] < a[2] and a[1] < b[3] and b[1] < a[3]
-
-
-def open_page(browser, page, size, dark, last):
-    """Opens the page in a window of this size, and waits until it shows its last point."""
-    browser.open(page.url, *size, dark=dark)
-    expect_words(browser, last, str(last))
 
 
 def expect_one_screen(browser, count, size):
@@ -699,7 +669,8 @@ def expect_legible(browser, may_end_early):
         expect("ends early, though it isn't long", plain, [])
 
 
-@in_browser(test)
+@test
+@in_browser
 def sixty_four_points():
     """64 points in every state, with as many unpaid transactions as they may have: on a screen all
     stand within the window; on a telephone one below another; whatever the window is no text is
@@ -722,7 +693,8 @@ def sixty_four_points():
         expect("complaints of the browser", browser.complaints, [])
 
 
-@in_browser(test)
+@test
+@in_browser
 def twelve_points():
     """A busy day at twelve points: nothing ends early."""
     with start_busy(forecourts.make_busy_day()) as (page, _), start_browser() as browser:
@@ -783,35 +755,3 @@ def write_tile(point, names, sales):
         words += [f"{sale['shift']}/{sale['number']}", f"{sale['millilitres'] / 1_000:.2f}",
                   f"{sale['cents'] / 100:.2f}", by]  # fmt: skip
     return words
-
-
-# ---- pictures
-
-
-def write_pictures(folder):
-    """What the page shows of a busy day and of 64 points, light and dark."""
-    pictures = (
-        (forecourts.make_busy_day, 12, SCREEN, False, "page"),
-        (forecourts.make_busy_day, 12, SCREEN, True, "page_dark"),
-        (forecourts.make_busy_day, 12, TELEPHONE, False, "telephone"),
-        (forecourts.make_crowded_day, 64, SCREEN, False, "points_64"),
-        (forecourts.make_crowded_day, 64, SCREEN, True, "points_64_dark"),
-        (forecourts.make_crowded_day, 64, TELEPHONE, False, "telephone_64"),
-        (forecourts.make_crowded_day, 64, TELEPHONE, True, "telephone_64_dark"),
-    )
-    folder.mkdir(parents=True, exist_ok=True)
-    with PLACE:
-        for make_day in (forecourts.make_busy_day, forecourts.make_crowded_day):
-            with start_busy(make_day()) as (page, _), start_browser() as browser:
-                for made, last, size, dark, name in pictures:
-                    if made is make_day:
-                        open_page(browser, page, size, dark, last)
-                        browser.picture(folder / f"{name}.png")
-                        print(folder / f"{name}.png", flush=True)
-
-
-if __name__ == "__main__":
-    if sys.argv[2:3] == ["--pictures"]:
-        write_pictures(pathlib.Path(sys.argv[3]))
-    else:
-        run_tests("page", PLACE)

@@ -1,5 +1,4 @@
-#!/usr/bin/env python3
-"""Tests the built program from outside: scripts/test-program PROGRAM
+"""The program from outside.
 
 What it writes, where it writes it, and its exit status: on files of cases, on lines as long as
 can be, on devices that fail, with words on its command line that are right and wrong, with less
@@ -8,25 +7,22 @@ memory than it wants, and on the examples."""
 import collections
 import csv
 import json
-import pathlib
-import random
 import subprocess
 import sys
-import tempfile
 
-import random_words
-import station
-from running import CRATES, EXAMPLES, PATIENCE, Checks, close_input, limit_memory, run
-from station import FIVE_POINTS, KNOWN_SITE, LONGEST_LINE, SITES, SIXTY_FOUR_POINTS
+from shared import random_words, station
+from shared.checks import expect, expect_end
+from shared.running import CRATES, EXAMPLES, PATIENCE, close_input, limit_memory, run
+from shared.station import FIVE_POINTS, KNOWN_SITE, LONGEST_LINE, SITES, SIXTY_FOUR_POINTS
+from tests.built import PROGRAM
+from tests.suite import make_folder, start_chance, test_each
 
-PROGRAM = pathlib.Path(sys.argv[1]).resolve()
 FOLDER = CRATES / "forecourt"
 STORED, ANSWERS = FOLDER / "stdin", FOLDER / "stdout"
 MESSAGES, REPLIES = STORED.read_text().splitlines(), ANSWERS.read_bytes().splitlines(keepends=True)
 FIRST = MESSAGES[0].replace(" ", "")
 LEAST_MEMORY = 12_000 * 1024  # octets of addresses, too few for 200,000 replies or rows
-CHECKS = Checks("program")
-expect, expect_end = CHECKS.expect, CHECKS.expect_end
+HERE = make_folder()
 
 
 def forecourt(*words, given=b"", **how):
@@ -48,7 +44,8 @@ def expect_whole(folder, kind):
     )
 
 
-def try_cases():
+@test_each
+def cases():
     """Each file of cases/, of explained/ for explain, and of reports/ for report on the known
     site: what is written for NAME.hex is NAME.out, the text on standard error NAME.err, and the
     status NAME.status; without these files there is no such text, and the status is 0."""
@@ -63,7 +60,9 @@ def try_cases():
             expect_end(f"{kind}/{case.name}", end, status, case.with_suffix(".out"), text)
 
 
-def try_stored_messages():
+@test_each
+def stored_messages():
+    """Messages in one piece, an octet a line, with a faulty line, and cut."""
     whole = STORED.read_text()
     octets = "".join(whole.split())
     folded = "".join(octets[at : at + 2] + "\n" for at in range(0, len(octets), 2))
@@ -84,7 +83,8 @@ def fill_line(text, length=LONGEST_LINE):
     return text.rjust(length)
 
 
-def try_long_lines():
+@test_each
+def long_lines():
     """The longest line has 65,536 octets, spaces and comments counted too, with or without a
     line feed."""
     for end in ("", "\n"):
@@ -96,7 +96,9 @@ def try_long_lines():
     expect_end("a comment that is too long, behind half a message", end, 1, b"", "line 2: too long")
 
 
-def try_devices():
+@test_each
+def devices():
+    """An output that takes nothing, and a standard input that is closed."""
     refused = b"0201010100e300050101010128\n"
     expect_end(
         "a wrong code", forecourt(given="010102010143000401233E00\n"), 1, refused, "fault 40"
@@ -133,7 +135,9 @@ def expect_help(first, *words):
     return lines
 
 
-def try_words():
+@test_each
+def mistaken_words():
+    """Mistakes on the command line."""
     for words in (
         ["stray"], ["check"], ["check", KNOWN_SITE, KNOWN_SITE], [
             "check", KNOWN_SITE, "--changes"
@@ -149,7 +153,9 @@ def try_words():
         expect_mistake(*words)
 
 
-def try_help():
+@test_each
+def help_texts():
+    """What `help`, `--help` and `--version` print, of each command, too."""
     expect_help("forecourt 0.1.0", "--version")
     for word in ("help", "--help", "-h"):
         whole = "The forecourt site controller; alone it replays standard input on the site that it knows"
@@ -181,7 +187,8 @@ def try_help():
         expect(f"{command} --help ends with an example", is_example, True)
 
 
-def try_site_files():
+@test_each
+def site_files():
     """Each site file of the cases: `ok ..` on standard output, or its first fault on standard
     error. A replay on a faulty one says the same, and answers nothing."""
     expect_whole(SITES, "toml")
@@ -201,7 +208,8 @@ def try_site_files():
         )
 
 
-def try_explain():
+@test_each
+def lines_to_explain():
     """What is explained is read as a replay reads it: a line that is too long, even one that
     doesn't end, takes no more memory than the longest."""
     end = forecourt("explain", given=b"0" * 100_000_000, preexec_fn=limit_memory(60_000 * 1024))
@@ -232,7 +240,8 @@ NotToml UnknownKey MissingKey WrongKind OutOfRange Repeated UnknownProduct
 """.split()))  # fmt: skip
 
 
-def try_numbers():
+@test_each
+def explained_numbers():
     """`explain NUMBER` has a line for each refusal and fault; another word is a mistake."""
     fronts = {n: f"refusal {n} {name}: " for n, name in enumerate(REFUSALS, 1)}
     fronts.update({n: f"fault {n} {name}: " for n, name in FAULTS.items()})
@@ -252,7 +261,8 @@ def try_numbers():
     expect_end("explain 1 to an output that takes nothing", end, 1, b"", "fault 62")
 
 
-def try_spelled_lines():
+@test_each
+def spelled_lines():
     """Comments stay, spaces don't count, and a line without a token has the next one: they rise
     from 1 and begin again behind 31. Each request of explained/ is spelled as it was."""
     given = "# a day\n\n  # noon\n\t t1\tSignOn \r\nt1 SignOff , token  9\n"
@@ -355,7 +365,8 @@ QUOTED_WORDS = (
 )
 
 
-def try_wrong_words():
+@test_each
+def wrong_words():
     """The first line that asks for nothing ends a text; what came before it is spelled."""
     before = b"010102010041000401013100\n"
     for case in WRONG_WORDS.strip().splitlines():
@@ -368,9 +379,10 @@ def try_wrong_words():
         expect_end(f"spell: {line}", end, 1, b"", why)
 
 
-def try_random_words():
+@test_each
+def random_events(seed):
     """Spelled events are explained in their words again; any text is spelled, or told a fault."""
-    chance = random.Random(38)
+    chance = start_chance(seed, 38)
     lines = [random_words.choose_event(chance) for _ in range(10_000)]
     spelled = forecourt("spell", given="".join(f"{line}\n" for line in lines))
     told = "".join(f"{line}, token {at % 31 + 1}\n" for at, line in enumerate(lines))
@@ -433,7 +445,9 @@ total       19.000     0.000     0.000     0.000    19.000     0.000
 """
 
 
-def try_human_report():
+@test_each
+def human_report():
+    """The report for people."""
     day = EXAMPLES / "paying_day.hex"
     end = forecourt("report", FIVE_POINTS, "--human", given=day)
     expect_end("the report of the paying day, for people", end, 0, HUMAN.encode())
@@ -445,7 +459,8 @@ def try_human_report():
     expect_end("for people, on a closed standard input", end, 1, b"", "fault 61")
 
 
-def try_sales():
+@test_each
+def sales_of_a_day():
     """The sales of a day and its draws add up to its report, and are the same as JSON."""
     expect("the sales of the paying day", read_table("paying_day"), f"{','.join(TITLES)}\n{PAID}")
     for day in DAYS:
@@ -493,7 +508,9 @@ shares 0 settled
 """
 
 
-def try_reports(folder):
+@test_each
+def reports():
+    """Reports where memory or a line ends them, and of products in another order."""
     reads = f"{FIRST}\n" + "01010201000300020123\n" * 200_000
     end = forecourt("report", KNOWN_SITE, given=reads, preexec_fn=limit_memory(LEAST_MEMORY))
     expect_end("a report under a memory limit", end, 4, b"", "fault 31")
@@ -502,14 +519,15 @@ def try_reports(folder):
     rows = FOLDER / "reports/rows_before_a_fault.out"
     end = forecourt("report", KNOWN_SITE, given=text)
     expect_end("a report until a line that is too long", end, 1, rows, "line 3: too long")
-    turned = folder / "turned.toml"
+    turned = HERE / "turned.toml"
     turned.write_text(TURNED_SITE)
     end = forecourt("report", turned, given=STORED)
     name = "a report of products that do not stand by number, on a full book"
     expect_end(name, end, 0, TURNED_REPORT.encode())
 
 
-def try_greatest_site():
+@test_each
+def greatest_site():
     """Till 32 signs on, point 64 is closed, its dispenser reports that it is offline, and no
     node behind the last till's is a till's, nor one behind the last dispenser's a dispenser's."""
     asked = """01 01 02 20 00 41 00 04 01 01 31 00
@@ -535,7 +553,8 @@ def fold(path):
     return "".join(f"{line}\n" for line in folded).encode()
 
 
-def try_examples():
+@test_each
+def examples():
     """As examples/README.md says."""
     end = forecourt("check", FIVE_POINTS)
     expect_end("examples: five points", end, 0, b"ok points 5 nozzles 10 products 2\n")
@@ -556,7 +575,8 @@ def try_examples():
     expect_end("examples: the report of paying_day", end, 0, EXAMPLES / "paying_day.report")
 
 
-def try_first_screen():
+@test_each
+def first_screen():
     """The README's first day is the end of its words, with what the site answers to them."""
     words = EXAMPLES / "two_tills.words"
     spelled = forecourt("spell", given=words)
@@ -568,7 +588,8 @@ def try_first_screen():
     expect("the README's first day", (pairs, len(pairs)), (block, 9))
 
 
-def try_changes():
+@test_each
+def changes():
     """A replay on the file of the known site is the one without words; with --changes the line
     of an accepted Open follows its reply: a notice to the dispenser of point 3."""
     opened, released = b"030301010080000401233c00\n", b"030301010080000401233e00\n"
@@ -608,7 +629,8 @@ def play_pump(port):
     return replies
 
 
-def try_till():
+@test_each
+def a_till_of_the_examples():
     """The till of the examples, at a server; the dispenser of its point is played on a second
     connection, once the till has released the point."""
     words = ["serve", FIVE_POINTS, "--port", "0", "--workers", "2", "--sessions", "2"]
@@ -648,7 +670,8 @@ FLOOD = (
 )  # fmt: skip
 
 
-def try_flood():
+@test_each
+def a_flood():
     """Behind the sale of a day, which is cleared, it is cleared again 10,000 times. Each is
     refused, and the till keeps its one clear."""
     times = 10_000
@@ -666,7 +689,8 @@ def try_flood():
     )
 
 
-def try_longest_book():
+@test_each
+def longest_book():
     """A million rows are made, of a SignOn and of reads; the next message has none."""
     text = "010102010041000401013100\n" + ("01010201000300020123" * 1000 + "\n") * 1000
     end = forecourt("replay", KNOWN_SITE, given=text)
@@ -679,7 +703,8 @@ def try_longest_book():
     expect_end("the report of a million rows", end, 0, station.write_report(1_000_000, 0).encode())
 
 
-def try_memory_limit():
+@test_each
+def memory_limit():
     """A line of messages whose answers need more memory than there is: want of memory is told,
     and what was written is a front of the answers."""
     text = "010102010041000401013100\n" + "01010201000300020123\n" * 200_000
@@ -687,34 +712,3 @@ def try_memory_limit():
     expect("many messages", (whole.status, whole.err), (0, ""))
     end = forecourt(given=text, preexec_fn=limit_memory(LEAST_MEMORY))
     expect_end("a memory limit", end, 4, whole.out[: len(end.out)], "fault 31")
-
-
-def main():
-    with tempfile.TemporaryDirectory() as folder:
-        try_cases()
-        try_stored_messages()
-        try_long_lines()
-        try_devices()
-        try_words()
-        try_help()
-        try_site_files()
-        try_explain()
-        try_numbers()
-        try_spelled_lines()
-        try_wrong_words()
-        try_random_words()
-        try_sales()
-        try_human_report()
-        try_reports(pathlib.Path(folder))
-        try_greatest_site()
-        try_examples()
-        try_first_screen()
-        try_changes()
-        try_till()
-        try_flood()
-        try_longest_book()
-        try_memory_limit()
-    CHECKS.finish()
-
-
-main()

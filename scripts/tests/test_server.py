@@ -1,5 +1,4 @@
-#!/usr/bin/env python3
-"""Tests `forecourt serve` over real sockets: scripts/test-server PROGRAM
+"""`forecourt serve` over real sockets.
 
 Peers of many kinds connect to it: each reply is compared with octets that stand here, or with
 what a replay of the same octets alone answers; each day's report and exit status are looked at,
@@ -11,23 +10,21 @@ import os
 import pathlib
 import socket
 import statistics
-import sys
-import tempfile
 import threading
 import time
 
-from running import run
-from serving import (
-    WAIT, Failed, expect, list_addresses, run_tests, send_reset, send_until, start_day, test,
-)  # fmt: skip
-from station import (
+from shared.checks import Failed, expect
+from shared.running import run
+from shared.serving import WAIT, list_addresses, send_reset, send_until, start_day
+from shared.station import (
     ASSIGN, CLEAR, FLOW, HANG_UP, KNOWN_SITE, LIFT, LOCK, OPEN, RELEASE, TERMINATE, command_point,
     command_sale, parse, read_point, receive, receive_all, report, sign_off, sign_on,
     write_lines, write_report,
 )  # fmt: skip
+from tests.built import PROGRAM
+from tests.suite import make_folder, test
 
-PROGRAM = pathlib.Path(sys.argv[1]).resolve()
-PLACE = tempfile.TemporaryDirectory()
+HERE = make_folder()
 SIGNED_ON_1 = parse("02 01 01 01 00 E1 00 08 01 01 01 01 00 03 01 00")
 SIGNED_ON_2 = parse("02 02 01 01 00 E1 00 08 01 01 01 01 00 03 01 00")
 SIGNED_ON_3 = parse("02 03 01 01 00 E1 00 08 01 01 01 01 00 03 01 00")
@@ -309,7 +306,7 @@ def a_full_book():
     same."""
     full = parse("02 01 01 01 00 E3 00 05 01 21 01 01 1E")
     text = KNOWN_SITE.read_text()
-    site = pathlib.Path(PLACE.name) / "full.toml"
+    site = HERE / "full.toml"
     rest = [line for line in text.splitlines() if not line.startswith("rows")]
     site.write_text("\n".join(["rows = 3", *rest, ""]))
     with serve(1, 1, site) as day:
@@ -425,6 +422,3 @@ def a_named_port():
         expect("port", day.port, port)
         expect("reply", day.ask(sign_on(1)), SIGNED_ON_1)
         expect("report", day.report(), write_report(2, 1))
-
-
-run_tests("server", PLACE)

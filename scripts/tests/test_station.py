@@ -1,5 +1,4 @@
-#!/usr/bin/env python3
-"""Tests `forecourt station` over real sockets: scripts/test-station PROGRAM
+"""`forecourt station` over real sockets.
 
 Tills and dispensers of many kinds connect to it, peers that mean no good among them. What each is
 told is compared with octets that stand here, or with what a replay of the same requests answers;
@@ -10,7 +9,6 @@ import contextlib
 import os
 import pathlib
 import pty
-import random
 import resource
 import select
 import signal
@@ -18,24 +16,23 @@ import socket
 import statistics
 import subprocess
 import sys
-import tempfile
 import threading
 import time
 
-from running import close_input, run
-from serving import (
-    LOOK, WAIT, Failed, expect, run_tests, send_reset, send_until, start_day, test,
-)  # fmt: skip
-from station import (
+from shared.checks import Failed, expect
+from shared.running import close_input, run
+from shared.serving import LOOK, WAIT, send_reset, send_until, start_day
+from shared.station import (
     ASSIGN, CLEAR, CLOSE, DISPENSER, EXAMPLES, FIVE_POINTS, FLOW, HANG_UP, KNOWN_SITE, LIFT, LOCK,
     NOTICE, OPEN, PREPAY, RELEASE, REPORT, RESUME, SITE, SUSPEND, TERMINATE, TEST_RELEASE, TILL,
     UNASSIGN, WRITE, address_point, command_point, command_sale, encode, parse, read_point,
     receive, receive_all, receive_message, report, sign_off, sign_on, write_lines, write_report,
     write_site,
 )  # fmt: skip
+from tests.built import PROGRAM
+from tests.suite import make_folder, start_chance, test
 
-PROGRAM = pathlib.Path(sys.argv[1]).resolve()
-PLACE = tempfile.TemporaryDirectory()
+HERE = make_folder()
 MOST_PEERS = 1_024
 SIGNED_ON = {
     n: parse(f"02 {n:02X} 01 01 00 E1 00 08 01 01 01 01 00 03 01 00") for n in range(1, 33)
@@ -682,10 +679,10 @@ def split_by_node(octets):
 
 
 @test
-def thirty_two_tills_and_sixty_four_dispensers():
+def thirty_two_tills_and_sixty_four_dispensers(seed):
     """All at once, each asking what it likes: what each is told, replies and notices, is what a
     replay of the requests in the order of their rows tells it, and the report is that of it."""
-    site = pathlib.Path(PLACE.name) / "many.toml"
+    site = HERE / "many.toml"
     site.write_text(write_site(64))
     order = Order(32)
     with start_station(site=site) as day:
@@ -697,7 +694,7 @@ def thirty_two_tills_and_sixty_four_dispensers():
             till.ask(sign_on(n))
         groups = [
             threading.Thread(target=run_group, args=(
-                random.Random(n), order, till, {p: pumps[p] for p in (2 * n + 1, 2 * n + 2)},
+                start_chance(seed, n), order, till, {p: pumps[p] for p in (2 * n + 1, 2 * n + 2)},
                 tills, n))
             for n, till in enumerate(tills)
         ]  # fmt: skip
@@ -812,7 +809,7 @@ def expect_tokens(got):
 def a_full_book():
     """A book of three rows: the fourth request has none, the day goes on, and the tills are
     signed off all the same."""
-    site = pathlib.Path(PLACE.name) / "full.toml"
+    site = HERE / "full.toml"
     lines = KNOWN_SITE.read_text().splitlines()
     rest = [line for line in lines if not line.startswith("rows")]
     site.write_text("\n".join(["rows = 3", *rest, ""]))
@@ -853,6 +850,3 @@ def mistaken_words():
                           ("/dev/null", "fault 72 product\n"), (KNOWN_SITE, "fault 63\n")):
             ended = run(PROGRAM, "station", site, "--port", port, given=b"")
             expect(f"{site}", (ended.status, ended.out, ended.err), (1, b"", why))
-
-
-run_tests("station", PLACE)

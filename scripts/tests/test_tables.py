@@ -1,8 +1,7 @@
-#!/usr/bin/env python3
-"""Runs the program of tables: scripts/test-tables PROGRAM
+"""Tables of cases, run by the program site_tables.
 
-PROGRAM is that of crates/site_tables, which reads a table and prints it with what a site, a desk or
-a reader of scripts answers (its word: sites, desk, scripts).
+It reads a table and prints it with what a site, a desk or a reader of scripts answers (its word:
+sites, desk, scripts).
 
 - the rows at a site: the table stdin gives stdout;
 - the point table (tables/points.txt): each event in each state, with the state that it leads to,
@@ -13,16 +12,16 @@ a reader of scripts answers (its word: sites, desk, scripts).
 - the cases of scripts: tables/scripts.txt gives tables/scripts.out."""
 
 import itertools
-import pathlib
 import re
-import sys
 import typing
 
-from running import CRATES, Checks, run, stop
+from shared.checks import Failed, expect
+from shared.running import CRATES, run
+from tests.built import TABLES
+from tests.suite import test_each
 
-PROGRAM = pathlib.Path(sys.argv[1]).resolve()
 FOLDER = CRATES / "site_tables"
-TABLES = FOLDER / "tables"
+FILES = FOLDER / "tables"
 ROW = re.compile(r"(\d+ )?[td]\d+ |leave ")  # a line that prints a row, or that a till had left
 SITE = [
     "rows 100",
@@ -44,14 +43,13 @@ FORGOTTEN = {
     "prepaid": "0",
 }
 POINTS, NOZZLES = 64, 8
-CHECKS = Checks("tables")
 
 
 def print_table(lines, word="sites"):
     """What the program prints for these lines."""
-    end = run(PROGRAM, word, given=("\n".join(lines) + "\n").encode())
+    end = run(TABLES, word, given=("\n".join(lines) + "\n").encode())
     if end.status != 0:
-        stop(f"{word}: status {end.status}, {end.err.strip()}")
+        raise Failed(f"{word}: status {end.status}, {end.err.strip()}")
     return end.out.decode().splitlines()
 
 
@@ -61,10 +59,8 @@ def read_lines(path):
 
 def compare(name, found, wanted):
     """Each line that is found is the one that is wanted, and there are as many."""
-    passed = CHECKS.passed
     for number, (got, line) in enumerate(itertools.zip_longest(found, wanted), 1):
-        CHECKS.expect(f"{name}, line {number}", got, line)
-    print(f"{name}: {CHECKS.passed - passed} lines passed")
+        expect(f"{name}, line {number}", got, line)
 
 
 # ---- the point table
@@ -210,13 +206,14 @@ def compare_case(case, rows, shown):
     }
     wrong = {name: pair for name, pair in parts.items() if pair[0] != pair[1]}
     got, wanted = ({name: pair[side] for name, pair in wrong.items()} for side in (0, 1))
-    CHECKS.expect(case.name(), got, wanted)
+    expect(case.name(), got, wanted)
 
 
-def try_points():
+@test_each
+def point_table():
     """Each case of the point table."""
-    cases = list(PointTable(TABLES / "points.txt").make_cases())
-    passed, lines, found = CHECKS.passed, None, []
+    cases = list(PointTable(FILES / "points.txt").make_cases())
+    lines, found = None, []
     for line in print_table([line for case in cases for line in ask_case(case)]):
         if line == "# way":
             lines = []
@@ -228,13 +225,14 @@ def try_points():
     for case, lines in zip(cases, found, strict=True):
         middle = lines.index("# case")
         compare_case(case, lines[:middle], lines[middle + 1 :])
-    print(f"point table: {CHECKS.passed - passed} cases passed")
 
 
 # ---- the other tables
 
 
-def try_nozzles():
+@test_each
+def nozzles_of_the_greatest_site():
+    """The opening reading of each nozzle."""
     opening = {(p, n): p * 100 + n for p in range(1, POINTS + 1) for n in range(1, NOZZLES + 1)}
     site = ["rows 100", "product 1 diesel 1500"]
     for p in range(1, POINTS + 1):
@@ -248,7 +246,8 @@ def try_nozzles():
     compare("nozzles of the greatest site", [line for line in found if line], rows)
 
 
-def try_desk():
+@test_each
+def rows_at_a_desk():
     """Every row of the sites' table, submitted at a desk."""
     wanted = [line for line in read_lines(FOLDER / "stdout") if ROW.match(line)]
     assert len(wanted) > 1_000
@@ -259,10 +258,19 @@ def try_table(name, word, asked, answered):
     compare(name, print_table(read_lines(asked), word), read_lines(answered))
 
 
-try_table("rows at a site", "sites", FOLDER / "stdin", FOLDER / "stdout")
-try_points()
-try_nozzles()
-try_desk()
-try_table("a desk's table", "desk", TABLES / "desk.txt", TABLES / "desk.out")
-try_table("cases of scripts", "scripts", TABLES / "scripts.txt", TABLES / "scripts.out")
-CHECKS.finish()
+@test_each
+def rows_at_a_site():
+    """The table stdin gives stdout."""
+    try_table("rows at a site", "sites", FOLDER / "stdin", FOLDER / "stdout")
+
+
+@test_each
+def a_desks_table():
+    """The table desk.txt gives desk.out."""
+    try_table("a desk's table", "desk", FILES / "desk.txt", FILES / "desk.out")
+
+
+@test_each
+def cases_of_scripts():
+    """The table scripts.txt gives scripts.out."""
+    try_table("cases of scripts", "scripts", FILES / "scripts.txt", FILES / "scripts.out")
