@@ -34,6 +34,7 @@ smoke:
 	scripts/smoke
 
 test:
+	scripts/tools/check-layers
 	scripts/gate
 	scripts/test all
 
