@@ -7,6 +7,7 @@ memory than it wants, and on the examples."""
 import collections
 import csv
 import json
+import re
 import subprocess
 import sys
 
@@ -239,6 +240,12 @@ FAULTS.update(zip(range(70, 77), """
 NotToml UnknownKey MissingKey WrongKind OutOfRange Repeated UnknownProduct
 """.split()))  # fmt: skip
 
+PROFILE = CRATES.parent / "docs/PROFILE.md"
+REFUSALS_HEAD = "| No | Name (detail) | No | Name (detail) |"
+FAULTS_HEAD = "| No | Name of the fault | No | Name of the fault |"
+# A full book and a change of originator are answered, a state that doesn't come is a worker's.
+ENDING_NOTHING = {30, 57, 65}
+
 
 @test_each
 def explained_numbers():
@@ -259,6 +266,69 @@ def explained_numbers():
     expect_mistake("explain", "1", "2")
     end = forecourt("explain", "1", given=STORED, sink="/dev/full")
     expect_end("explain 1 to an output that takes nothing", end, 1, b"", "fault 62")
+
+
+def read_profile(*heads):
+    """The rows of the tables of PROFILE that begin with one of these lines, as cells."""
+    rows, is_read = [], False
+    for line in PROFILE.read_text().splitlines():
+        is_read = line in heads or is_read and line.startswith("|")
+        if is_read and line not in heads and not line.startswith("|---"):
+            rows.append([cell.strip() for cell in line.strip("|").split("|")])
+    return rows
+
+
+def find_numbers(text):
+    """The numbers of the faults that a text names: `fault 40` to `fault 43`, say."""
+    numbers = [*map(int, re.findall(r"`fault (\d+)[^`]*`", text))]
+    return [*range(numbers[0], numbers[1] + 1)] if "` to `" in text else numbers
+
+
+def explain_all():
+    """What each number means, as `explain NUMBER` says: its kind, its name, and whether it has a
+    detail."""
+    meanings = {}
+    for number in range(256):
+        end = forecourt("explain", str(number))
+        if end.status == 0:
+            kind, _, name, rest = end.out.decode().split(" ", 3)
+            meanings[number] = (kind, name.removesuffix(":"), "(detail: " in rest)
+    return meanings
+
+
+@test_each
+def numbers_of_the_profile():
+    """The tables of numbers in PROFILE have just the numbers that `explain` knows, with their
+    names, and a detail where it says so."""
+    drawn = {}
+    for kind, head in (("refusal", REFUSALS_HEAD), ("fault", FAULTS_HEAD)):
+        cells = [cell for row in read_profile(head) for cell in row]
+        for number, name in zip(cells[::2], cells[1::2]):
+            if number:
+                has_detail = name.endswith(")")
+                drawn[int(number)] = (kind, name.split(" (")[0], has_detail)
+    known = explain_all()
+    for number in sorted({*drawn} | {*known}):
+        expect(f"number {number}", drawn.get(number), known.get(number))
+
+
+@test_each
+def faults_of_the_profile():
+    """PROFILE's tables of faults name faults that `explain` knows, each with its exit status where
+    it ends the program; a fault that isn't there is an answer, or ends a dispenser's own work."""
+    kinds = {number: kind for number, (kind, _, _) in explain_all().items()}
+    answered = [int(row[0]) for row in read_profile("| No | Fault |")]
+    in_files = [n for row in read_profile("| Fault | When |") for n in find_numbers(row[0])]
+    statuses = {}
+    for texts, status, *_ in read_profile("| Standard error | Status | When | Of |"):
+        texts = texts.replace("unsettled 60", "fault 60")
+        statuses.update((number, status) for number in find_numbers(texts))
+    for number in (*answered, *in_files, *statuses):
+        expect(f"fault {number}", kinds.get(number), "fault")
+    faults = {number for number, kind in kinds.items() if kind == "fault"}
+    expect("faults that end nothing", faults - {*statuses}, {*answered, *ENDING_NOTHING})
+    wanted = {**dict.fromkeys(statuses, "1"), 31: "4", 60: "3"}
+    expect("statuses", statuses, wanted)
 
 
 @test_each
@@ -457,6 +527,18 @@ def human_report():
     expect_end("for people, to an output that takes nothing", end, 1, b"", "fault 62")
     end = forecourt("report", FIVE_POINTS, "--human", given=None, preexec_fn=close_input)
     expect_end("for people, on a closed standard input", end, 1, b"", "fault 61")
+
+
+@test_each
+def each_event_is_drawn():
+    """Random events are of each variant of Event, and of no other name."""
+    source = (CRATES / "site_base/src/event.rt").read_text()
+    body = re.search(r"^pub enum Event \{$(.*?)^\}$", source, re.M | re.S).group(1)
+    variants = {*re.findall(r"^    (\w+)", body, re.M)}
+    chance = start_chance(0, "each event")
+    drawn = {random_words.choose_event(chance).split()[1] for _ in range(10_000)}
+    expect("variants that shared/random_words.py doesn't draw", variants - drawn, set())
+    expect("names that are no variant's", drawn - variants, set())
 
 
 @test_each
