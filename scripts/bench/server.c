@@ -159,7 +159,7 @@ static void *run(void *client)
 
 int main(int count, char **words)
 {
-    program = "bench-server";
+    program = "bench/server";
     if (count != 5)
         fail("reads|echo|sales PORT CLIENTS REQUESTS");
     kind = words[1];

@@ -167,7 +167,7 @@ static double make_notices(int pumps, int requests, int *times)
 
 int main(int count, char **words)
 {
-    program = "bench-station";
+    program = "bench/station";
     if (count != 5)
         fail("reads|echo|ping|sets|notices PORT CLIENTS REQUESTS");
     const char *kind = words[1];

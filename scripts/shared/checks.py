@@ -84,5 +84,5 @@ def shorten(value):
     long one."""
     if isinstance(value, bytes):
         value = value.decode() if value.isascii() and b"\0" not in value else value.hex(" ")
-    text = value if isinstance(value, str) else repr(value)
-    return repr(text[:SHOWN] + "..") if len(text) > SHOWN else repr(text)
+    text = repr(value)
+    return text[:SHOWN] + ".." if len(text) > SHOWN else text

@@ -3,7 +3,9 @@
 POINTS, TILLS, PRODUCTS, NOZZLES = 64, 32, 8, 8
 GREATEST_READING, GREATEST_AMOUNT, GREATEST_SHIFT, GREATEST_SEQ = 10**12 - 1, 2**32 - 1, 999, 9999
 ALONE = "SignOn SignOff CloseShift ReadSite".split()
-OF_POINT = "Open Close Assign Unassign Release TestRelease Suspend Resume Terminate ReadPoint".split()
+OF_POINT = """
+Open Close Assign Unassign Release TestRelease Suspend Resume Terminate ReadPoint
+""".split()
 OF_SALE = "Lock Unlock Clear ReadTransaction".split()
 OF_METER = "Lift Flow HangUp".split()
 

@@ -1,4 +1,4 @@
-// What is wrong with how the page looks, for scripts/test-page: an expression whose value is
+// What is wrong with how the page looks, for `scripts/test page`: an expression whose value is
 //   cut:   texts of which a part isn't there, and nothing shows it
 //   short: texts that end in an ellipsis, as [the class of their element, the number of its point]
 //   faint: texts whose contrast with what is behind them is below 4.5 (WCAG 2, level AA)

@@ -1,4 +1,4 @@
-"""Demos.
+"""Demos: the reports that they print, and what ends them early.
 
 - each script of crates/forecourt/demos and of examples with a report beside it: 20 runs over memory
   and 20 over loopback, each of which prints that report;

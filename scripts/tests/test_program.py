@@ -1,8 +1,8 @@
-"""The program from outside.
+"""The program from outside: what it writes, where it writes it, and its exit status.
 
-What it writes, where it writes it, and its exit status: on files of cases, on lines as long as
-can be, on devices that fail, with words on its command line that are right and wrong, with less
-memory than it wants, and on the examples."""
+It is run on files of cases, on lines as long as can be, on devices that fail, with words on its
+command line that are right and wrong, with less memory than it wants, and on the examples. What it
+says of numbers is compared with docs/PROFILE.md."""
 
 import collections
 import csv
@@ -159,8 +159,10 @@ def help_texts():
     """What `help`, `--help` and `--version` print, of each command, too."""
     expect_help("forecourt 0.1.0", "--version")
     for word in ("help", "--help", "-h"):
-        whole = "The forecourt site controller; alone it replays standard input on the site that it knows"
-        lines = expect_help(whole, word)
+        lines = expect_help(
+            "The forecourt site controller; alone it replays standard input on the site that it knows",
+            word,
+        )
         for text in (
             "check", "replay", "report", "serve", "demo", "explain", "sales", "spell", "Print help",
             "Print version",
@@ -345,9 +347,11 @@ def spelled_lines():
         lines = [x for x in case.read_text().splitlines() if x[0] in "td" and x[:3] != "to "]
         given = "".join(f"{line}\n" for line in lines)
         spelled = forecourt("spell", given=given)
-        expect_end(f"{case.name}, spelled", forecourt("explain", given=spelled.out), 0, given.encode())
+        told = forecourt("explain", given=spelled.out)
+        expect_end(f"{case.name}, spelled", told, 0, given.encode())
     full = {"given": "t1 SignOn\n", "sink": "/dev/full"}
-    expect_end("spell to an output that takes nothing", forecourt("spell", **full), 1, b"", "fault 62")
+    end = forecourt("spell", **full)
+    expect_end("spell to an output that takes nothing", end, 1, b"", "fault 62")
     end = forecourt("spell", given=None, preexec_fn=close_input)
     expect_end("spell on a closed standard input", end, 1, b"", "fault 61")
     end = forecourt("spell", given="#" + " " * LONGEST_LINE)

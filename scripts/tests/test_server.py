@@ -1,9 +1,8 @@
-"""`forecourt serve` over real sockets.
+"""`forecourt serve` over real sockets, with peers of many kinds.
 
-Peers of many kinds connect to it: each reply is compared with octets that stand here, or with
-what a replay of the same octets alone answers; each day's report and exit status are looked at,
-and that it listens on 127.0.0.1 alone. Where a peer waits for what the server does, it looks at
-the system's table of sockets."""
+Each reply is compared with octets that stand here, or with what a replay of the same octets alone
+answers; each day's report and exit status are looked at, and that it listens on 127.0.0.1 alone.
+Where a peer waits for what the server does, it looks at the system's table of sockets."""
 
 import contextlib
 import os
