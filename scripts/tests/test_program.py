@@ -159,10 +159,8 @@ def help_texts():
     """What `help`, `--help` and `--version` print, of each command, too."""
     expect_help("forecourt 0.1.0", "--version")
     for word in ("help", "--help", "-h"):
-        lines = expect_help(
-            "The forecourt site controller; alone it replays standard input on the site that it knows",
-            word,
-        )
+        first = "The forecourt site controller; alone it replays standard input on the site that"
+        lines = expect_help(f"{first} it knows", word)
         for text in (
             "check", "replay", "report", "serve", "demo", "explain", "sales", "spell", "Print help",
             "Print version",
