@@ -104,7 +104,7 @@ def idle_dependencies():
     file = "crates/parts/specs/Lib.antt"
     for text in ("use base::one;", "base::one();", "ghost use Rattle.base.specs.Numbers.{one};"):
         expect(text, check(**{file: f"{text}\n"})[0], 0)
-    for text in ("", "// base", "use database::one;", "crate::base::one();", "Rattle.basement.x"):
+    for text in ("", "-- use base", "use database::one;", "crate::base::one();", "Rattle.basic.x"):
         wanted = "parts depends on base, and names it nowhere"
         expect_refused(text, wanted, **{file: f"{text}\n"})
     other = {"crates/whole/src/main.rt": "use base::one;\nfn main() { parts::join(); }\n"}

@@ -167,7 +167,7 @@ def refuse(point, state):
 
 
 @test
-def dispenser_hears_of_its_release():
+def notices_of_a_release():
     """A till opens and releases a point whose dispenser listens, and sells: each change is told
     to that dispenser, and to no other, and each reply to who asked."""
     with start_station() as day, day.connect() as till, day.connect() as pump:
