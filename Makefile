@@ -1,7 +1,6 @@
 # The forecourt site controller. `make` alone says what there is.
 
 PROGRAM := crates/forecourt/out/forecourt
-TABLES := crates/site_tables/out/site_tables
 CRATES := $(patsubst crates/%/wrong-bodies,%,$(wildcard crates/*/wrong-bodies))
 
 .PHONY: help run build check smoke test audit bench
@@ -11,9 +10,10 @@ help:
 	@echo 'make build    proves and builds the program: $(PROGRAM)'
 	@echo 'make check    proves every crate, lowest first'
 	@echo 'make smoke    builds without proof, and runs every test of programs: not the gate'
-	@echo 'make test     the gate: every proof that is not kept, the mutants of the gate, every'
-	@echo '              test, and the built programs on their tables and cases, with'
-	@echo '              allocations and devices that fail'
+	@echo 'make test     the gate: the layers of the crates, every proof that is not kept, the'
+	@echo '              mutants of the gate, every test, and the built programs on their tables'
+	@echo '              and cases, with allocations and devices that fail; scripts/test runs one'
+	@echo '              suite of these tests, or one test'
 	@echo 'make audit    the mutants of the audit, of every crate or of CRATES="a b"'
 	@echo 'make bench    messages a second, memory, and their growth with the input; calls a second of'
 	@echo '              tills that collide; what a message costs with 5 and 64 points and with up to'
@@ -34,25 +34,19 @@ smoke:
 	scripts/smoke
 
 test:
+	scripts/tools/check-layers
 	scripts/gate
-	scripts/test-program $(PROGRAM)
-	scripts/test-server $(PROGRAM)
-	scripts/test-station $(PROGRAM)
-	scripts/test-journal $(PROGRAM)
-	scripts/test-page $(PROGRAM)
-	scripts/test-demos $(PROGRAM)
-	scripts/test-tables $(TABLES)
-	scripts/test-faults
+	scripts/test all
 
 audit:
 	scripts/audit $(CRATES)
 
 bench: build
-	@scripts/bench $(PROGRAM)
-	@scripts/bench-fuellings $(PROGRAM) 20000 40000 100000
-	@scripts/bench-book $(PROGRAM)
-	@scripts/bench-server $(PROGRAM)
-	@scripts/bench-station $(PROGRAM)
-	@scripts/bench-station --journal $(PROGRAM)
-	@scripts/bench-station --page $(PROGRAM)
-	@scripts/instructions $(PROGRAM)
+	@scripts/bench/replays $(PROGRAM)
+	@scripts/bench/fuellings $(PROGRAM) 20000 40000 100000
+	@scripts/bench/book $(PROGRAM)
+	@scripts/bench/server $(PROGRAM)
+	@scripts/bench/station $(PROGRAM)
+	@scripts/bench/station --journal $(PROGRAM)
+	@scripts/bench/station --page $(PROGRAM)
+	@scripts/bench/instructions $(PROGRAM)

@@ -1,0 +1,88 @@
+"""Checks. One that fails ends its test, unless the test's checks are independent of each other:
+then each is counted, and the next one is made all the same."""
+
+import contextlib
+import os
+import threading
+
+SHOWN = 300  # characters of a text that isn't as wanted
+
+
+class Failed(Exception):
+    """What failed, in words."""
+
+
+class Skipped(Exception):
+    """Why a test can't be made here."""
+
+
+class Running(threading.local):
+    """The test of independent checks that runs on this thread, if one does."""
+
+    counts = None
+
+
+RUNNING = Running()
+
+
+class Counts:
+    """How many checks of a test passed, and how many failed. Each failure is told as it comes."""
+
+    def __init__(self, tell):
+        self.passed, self.failed, self.tell = 0, 0, tell
+
+    def fail(self, why):
+        self.failed += 1
+        self.tell(why)
+
+
+@contextlib.contextmanager
+def count_each(counts):
+    """In the block the checks of this thread are independent, and counted here."""
+    RUNNING.counts = counts
+    try:
+        yield
+    finally:
+        RUNNING.counts = None
+
+
+def expect(what, got, wanted):
+    """A check: what was got is what is wanted."""
+    expect_parts(what, {"": got}, {"": wanted})
+
+
+def expect_end(what, end, status=0, out=b"", err=""):
+    """A run ended with this status, these octets on standard output, or those of a file, and, but
+    for a line feed, this text on standard error."""
+    out = out.read_bytes() if isinstance(out, os.PathLike) else out
+    got = {"status ": end.status, "output ": end.out, "error ": end.err.removesuffix("\n")}
+    expect_parts(what, got, {"status ": status, "output ": out, "error ": err})
+
+
+def expect_parts(what, got, wanted):
+    """One check of some parts: those that differ are told."""
+    wrong = [
+        f"{name}{shorten(got[name])}, wanted {shorten(wanted[name])}"
+        for name in got
+        if got[name] != wanted[name]
+    ]
+    if wrong:
+        fail(f"{what}: {'; '.join(wrong)}")
+    elif RUNNING.counts:
+        RUNNING.counts.passed += 1
+
+
+def fail(why):
+    """A check has failed."""
+    if not RUNNING.counts:
+        raise Failed(why)
+    RUNNING.counts.fail(why)
+
+
+def shorten(value):
+    """A value as it is printed: octets in hexadecimal where they aren't text, and not all of a
+    long one."""
+    if isinstance(value, bytes):
+        value = value.decode() if value.isascii() and b"\0" not in value else value.hex(" ")
+    text = repr(value)
+    return text[:SHOWN] + ".." if len(text) > SHOWN else text

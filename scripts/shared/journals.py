@@ -1,0 +1,233 @@
+"""The journals of stations as text, and what a journal says that its peers were told."""
+
+import bisect
+import hashlib
+import typing
+
+from shared.checks import Failed
+from shared.running import run
+from shared.station import (
+    ACKNOWLEDGE, DISPENSER, NOTICE, OPEN, PREPAY, RELEASE, RESULT, SIGN_OFF, SUSPEND, TERMINATE,
+    TEST_RELEASE, TILL, WRITE, decode,
+)  # fmt: skip
+
+TITLE = b"# witsomar journal of site "
+ACCEPTED, WRONG_STATE, NO_MEMORY, DETAIL = 0, 10, 31, 2
+RELEASES = (RELEASE, PREPAY, TEST_RELEASE)
+
+
+def first_line(site):
+    """The first line of a journal of this site file, with its line feed."""
+    return TITLE + hashlib.sha256(site.read_bytes()).hexdigest().encode() + b"\n"
+
+
+def write_rows(*requests):
+    """The lines of a journal for these requests, whatever their tokens are."""
+    return b"".join(without_token(one).hex().encode() + b"\n" for one in requests)
+
+
+def without_token(octets):
+    """The octets of a message with token 0."""
+    return octets[:5] + bytes([octets[5] & 0xE0]) + octets[6:]
+
+
+def whole_lines(text):
+    """The lines that have their line feed."""
+    return text[: text.rfind(b"\n") + 1]
+
+
+def split_messages(octets):
+    """The whole messages that the octets begin with, each as its octets, with token 0; what is
+    left of one that is cut isn't told."""
+    messages = []
+    while len(octets) >= 8:
+        size = 8 + int.from_bytes(octets[6:8], "big")
+        if len(octets) < size:
+            break
+        messages.append(without_token(octets[:size]))
+        octets = octets[size:]
+    return messages
+
+
+def is_notice(octets):
+    return octets[5] >> 5 == NOTICE
+
+
+def read_items(octets):
+    return decode(octets)[0].items
+
+
+def tells_of_a_row(octets):
+    """Whether it isn't the answer that there was no memory for a row."""
+    return octets[5] >> 5 != ACKNOWLEDGE or read_items(octets)[RESULT][0] != NO_MEMORY
+
+
+class Row(typing.NamedTuple):
+    """A row of a journal: its request, its reply, and the notice of its change if it is one."""
+
+    request: bytes
+    reply: bytes
+    notice: bytes | None
+
+    @property
+    def node(self):
+        return tuple(self.request[2:4])
+
+    @property
+    def is_accepted(self):
+        return self.reply[5] >> 5 != ACKNOWLEDGE or read_items(self.reply)[RESULT][0] == ACCEPTED
+
+
+def read_journal(program, site, text):
+    """The rows of a journal's text, as the replay makes them."""
+    requests = [bytes.fromhex(line.decode()) for line in text.splitlines()[1:]]
+    end = run(program, "replay", site, "--changes", given=text)
+    if (end.status, end.err) != (0, ""):
+        raise Failed(f"the journal isn't replayed: status {end.status}, {end.err}")
+    rows = []
+    for line in end.out.splitlines():
+        told = bytes.fromhex(line.decode())
+        if is_notice(told):
+            rows[-1] = rows[-1]._replace(notice=told)
+        else:
+            rows.append(Row(requests[len(rows)], told, None))
+    if len(rows) != len(requests):
+        raise Failed(f"{len(requests)} rows have {len(rows)} replies")
+    return rows
+
+
+def is_sign_off(row):
+    """Whether the row is that of a till that was signed on and is signed off."""
+    message = decode(row.request)[0]
+    return message.kind == WRITE and SIGN_OFF in message.items and row.is_accepted
+
+
+# ---- who was told what
+
+
+class Session(typing.NamedTuple):
+    """A session of a peer: what it sent, request by request, and what came, message by message,
+    all with token 0."""
+
+    sent: list
+    came: list
+
+    @property
+    def replies(self):
+        return [one for one in self.came if not is_notice(one)]
+
+
+class Told:
+    """What peers may have been told, by a journal's rows."""
+
+    def __init__(self, rows):
+        self.rows, self.own, self.changes = rows, {}, {}
+        for place, row in enumerate(rows):
+            self.own.setdefault(row.node, []).append(place)
+            if row.notice:
+                node = tuple(row.notice[:2])
+                self.changes.setdefault(node, ([], []))
+                self.changes[node][0].append(place)
+                self.changes[node][1].append(row.notice)
+
+    def places(self, node, begin, end):
+        """The places of a node's rows from one place to another."""
+        own = self.own.get(node, [])
+        return own[bisect.bisect_left(own, begin) : bisect.bisect_left(own, end)]
+
+    def notices(self, node, begin, end):
+        """The changes of the dispenser's point from one place to another, with their places."""
+        places, notices = self.changes.get(node, ([], []))
+        span = slice(bisect.bisect_left(places, begin), bisect.bisect_left(places, end))
+        return list(zip(places[span], notices[span]))
+
+    def standing(self, node, place):
+        """What stands at a dispenser's point behind the row at this place, which is its own
+        Online: where that is refused, its detail is the point's state."""
+        if self.rows[place].is_accepted:
+            return []
+        items = read_items(self.rows[place].reply)
+        if items[RESULT][0] != WRONG_STATE:
+            raise Failed(f"an Online is refused otherwise: {self.rows[place].reply.hex()}")
+        state = int.from_bytes(items[DETAIL], "big")
+        wanted = [(OPEN,)] if 3 <= state <= 9 else []
+        wanted += [RELEASES] if 5 <= state <= 9 else []
+        wanted += [(SUSPEND, TERMINATE)] if state in (7, 9) else []
+        before = [notice for _, notice in reversed(self.notices(node, 0, place))]
+        return [next((one for one in before if one[10] in kinds), b"") for kinds in wanted]
+
+    def stream(self, node, places, end):
+        """What a session is told whose rows are at these places, and which has ended before the
+        row at the place `end`."""
+        if not places:
+            return []
+        replies = [(place, self.rows[place].reply) for place in places]
+        if node[0] != DISPENSER:
+            return [reply for _, reply in replies]
+        later = sorted(replies[1:] + self.notices(node, places[0], end))
+        return [replies[0][1], *self.standing(node, places[0]), *(one for _, one in later)]
+
+    def goes_on(self, node, session, own, begin, end):
+        """Where this session's rows may end among its node's own, if they begin at one of these:
+        each reply that came is that of its row, in order, and the notices come where they have
+        to. Rows whose replies didn't come may follow, of what was sent behind those."""
+        count = len(session.replies)
+        if begin + count > len(own):
+            return set()
+        mine = own[begin : begin + count]
+        if [self.rows[place].request for place in mine] != session.sent[:count]:
+            return set()
+        if self.stream(node, mine, end)[: len(session.came)] != session.came:
+            return set()
+        ends, at = {begin + count}, begin + count
+        for request in session.sent[count:]:
+            if at == len(own) or self.rows[own[at]].request != request:
+                break
+            at += 1
+            ends.add(at)
+        return ends
+
+    def leaves(self, node, own, begins):
+        """Behind a session its till may have been signed off."""
+        if node[0] != TILL:
+            return begins
+        return begins | {
+            at + 1 for at in begins if at < len(own) and is_sign_off(self.rows[own[at]])
+        }
+
+    def explain(self, node, sessions, begin, end):
+        """Why these sessions of a node, one after the other, can't have made just its rows from
+        one place to another, if they can't: None where all is well."""
+        own = self.places(node, begin, end)
+        cursors = self.leaves(node, own, {0})
+        for number, session in enumerate(sessions, 1):
+            ends = [self.goes_on(node, session, own, at, end) for at in cursors]
+            before, cursors = cursors, self.leaves(node, own, set().union(*ends))
+            if not cursors:
+                came = " ".join(one.hex() for one in session.came[:20])
+                return (
+                    f"session {number} of {len(sessions)} of node {node}: {len(session.sent)} sent,"
+                    f" {len(session.replies)} replies; no row at {sorted(before)} of its"
+                    f" {len(own)} goes on with {came}"
+                )
+        # A start that was killed may have signed the till off again.
+        cursors = self.leaves(node, own, cursors)
+        if len(own) not in cursors:
+            return f"node {node}: {len(own)} rows, of which its sessions made {sorted(cursors)}"
+        return None
+
+
+def find_untold(rows, node, came, begin=0):
+    """The first message that this node, whose one session has all its rows from this place on,
+    can't have been told by these rows; None where there is none. Where no memory was there for a
+    row, none is told of: a dispenser whose first request has none may be told any change."""
+    told = Told(rows)
+    own = told.places(node, begin, len(rows))
+    wanted = told.stream(node, own, len(rows)) or [
+        notice for _, notice in told.notices(node, begin, len(rows))
+    ]
+    got = [one for one in split_messages(came) if tells_of_a_row(one)]
+    for one, other in zip(got, [*wanted, *[None] * len(got)]):
+        if one != other:
+            return one
+    return None

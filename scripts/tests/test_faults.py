@@ -1,0 +1,995 @@
+"""Programs whose allocations and devices fail.
+
+- each test of a module `out_of_memory`, with its Nth allocation failed, for N = 1, 2, .. until a
+  run meets none;
+- the program on each of its case files, and on the stored messages, in the same way: it ends with
+  `fault 31` and status 4, and what it wrote is a front of what it writes else (or it did without,
+  and all is as ever);
+- the program with each read and each write failed in turn, with writes that are cut short, with an
+  output that takes only so much, and with interrupted calls;
+- the program as a server of one session, with its allocations failed in turn: it ends with `fault
+  31` and status 4, or settles all the same, and the peer gets a front of what it may get; with each
+  of its writes failed, with writes that are cut short, and with interrupted calls, of its socket
+  too; with each read and each write of its socket failed;
+- the server, with each call that makes its listener failed: `fault 63`; with a connection that
+  isn't accepted and a worker that isn't started: nobody is served, and the day is settled;
+- the program as a station of a till and a dispenser, with its allocations failed in turn: it ends
+  with `fault 31` and status 4, or at most one of the two sessions ends early; with each of its
+  writes, its listener's calls, its connection and its thread failed, with each read and each write
+  of its sockets failed, and with calls that are cut short or interrupted;
+- the station with a journal, with each write and each fdatasync of it failed, where what wasn't
+  synced is lost, also where the file system stops and doesn't say so; with writes that are cut
+  short, and with a journal that isn't locked or read, or whose copy isn't put in its place: `fault
+  62` and no report, or `cannot read JOURNAL`; with the journal moved, or its copy replaced, by
+  somebody else at each flush of a start; with allocations failed in turn, at the opening of a
+  journal with rows too; with each read and each write of its sockets failed. Nobody is told what
+  isn't stored, and what stands in the journal is opened again;
+- a demo, in the first way: it ends with `fault 31`, 63 or 64 and no report, or a worker ends its
+  own work early and the report balances; with each call that makes a listener or a connection
+  failed, over loopback: `fault 63` and no report; with each worker not started: `fault 64` and no
+  report, but where another one serves its sessions;
+- a crew of two, with each worker not started: its end says so, and the other works;
+- the tables of rows at a site and at a desk, in the first way: a row whose reply was lost with a
+  failed allocation says so, and every other row is as ever.
+
+Nothing is built anew: a library that is loaded before the program (faults.c) makes the calls
+fail. A test counts the runs that met their fault."""
+
+import concurrent.futures
+import contextlib
+import os
+import pathlib
+import re
+import select
+import socket
+import subprocess
+import tempfile
+import threading
+import time
+import typing
+
+from shared.checks import Failed, expect
+from shared.journals import find_untold, first_line, read_journal, whole_lines, write_rows
+from shared.running import CRATES, EXAMPLES, PATIENCE, compile_c, run
+from shared.station import (
+    DISPENSER, FIVE_POINTS, KNOWN_SITE, OPEN, SITES, TILL, command_point, connect, parse,
+    receive_all, receive_message, sign_off, sign_on,
+)  # fmt: skip
+from tests.built import PROGRAM, TABLES, find_tests_program, list_tests
+from tests.suite import make_folder, test
+
+FOLDER, SITE_TABLES = CRATES / "forecourt", CRATES / "site_tables"
+STORED, NOTHING = FOLDER / "stdin", pathlib.Path(os.devnull)
+MODULE = "out_of_memory"  # of the tests whose allocations fail
+AT_ONCE = 32  # runs
+MOST = 10_000  # runs in turn
+JOURNAL, MOVED, COPY = "journal", "moved", "journal.starting"
+
+
+class Place:
+    """Where programs run with faults: a folder, and the library that is loaded before them."""
+
+    def __init__(self, folder):
+        folder.chmod(0o755)
+        self.folder, self.compiling, self.compiled = folder, threading.Lock(), None
+
+    @property
+    def library(self):
+        """The library, which is compiled for the first run."""
+        with self.compiling:
+            flags = ("-O1", "-shared", "-fPIC")
+            self.compiled = self.compiled or compile_c(self.folder, "tests/faults.c", *flags)
+        return self.compiled
+
+    @contextlib.contextmanager
+    def prepare(self, faults):
+        """A folder to run in, with these faults: how to start a program there, and the file that
+        is made when a call meets its fault."""
+        with tempfile.TemporaryDirectory(dir=self.folder) as here:
+            met = pathlib.Path(here) / "met"
+            values = {name: str(value) for name, value in faults.items()}
+            yield {"env": {"LD_PRELOAD": self.library, "MET": str(met), **values}, "cwd": here}, met
+
+    def run(self, command, source, **faults):
+        """The end of a run, and whether the fault was met."""
+        with self.prepare(faults) as (how, met):
+            return run(*command, given=source, **how), met.exists()
+
+    def station(self, **faults):
+        """A station of a till and the dispenser of point 1, whose day ends behind their requests:
+        its status, its report, its text on standard error, what each got (None where it doesn't
+        listen), and whether the fault was met."""
+        with self.prepare(faults) as (how, met):
+            return self.run_station([], how, met)[0]
+
+    def stored(self, text, **faults):
+        """The same of a station with a journal, which has this text; None if it isn't there."""
+        with self.prepare(faults) as (how, met):
+            journal = pathlib.Path(how["cwd"]) / JOURNAL
+            if text is not None:
+                journal.write_bytes(text)
+            end, told = self.run_station(["--journal", JOURNAL], how, met)
+            return Stored(end, told, journal.read_bytes() if journal.exists() else b"")
+
+    def open_journal(self, text, **faults):
+        """A station that opens a journal of this text, and whose day ends at once."""
+        words = ["station", KNOWN_SITE, "--port=0", "--journal", JOURNAL]
+        with self.prepare(faults) as (how, met):
+            journal = pathlib.Path(how["cwd"]) / JOURNAL
+            journal.write_bytes(text)
+            begun = journal.stat()
+            end = run(PROGRAM, *words, given=NOTHING, **how)
+            out = re.sub(b"127.0.0.1:[0-9]+", b"PORT", end.out)
+            files = {path.name: path for path in journal.parent.iterdir() if path != met}
+            beside = {name: files.pop(name).read_bytes() for name in (MOVED, COPY) if name in files}
+            expect("the files of the folder", [*files], [JOURNAL])
+            is_anew = journal.stat().st_ino != begun.st_ino
+            end = end._replace(out=out)
+            return Opening(end, journal.read_bytes(), met.exists(), is_anew, beside)
+
+    def run_station(self, words, how, met):
+        """How the station ended, and how many rows it said that its journal had."""
+        command, pipe = [PROGRAM, "station", KNOWN_SITE, "--port=0", *words], subprocess.PIPE
+        with subprocess.Popen(
+            command, stdin=pipe, stdout=pipe, stderr=pipe, bufsize=0, **how
+        ) as program:  # fmt: skip
+            line, rows = program.stdout.readline().decode(), 0
+            if line.startswith("journal rows "):
+                rows, line = int(line.split()[2]), program.stdout.readline().decode()
+            got = ask_station(int(line.rsplit(":", 1)[1])) if line else (None, None)
+            out, err = program.communicate(timeout=PATIENCE)
+        return Station(program.returncode, out.decode(), err.decode(), *got, met.exists()), rows
+
+    def serve(self, **faults):
+        """A server of one session: its status, its report, its text on standard error, what its
+        peer got (None where it doesn't listen), and whether the fault was met."""
+        words = ["serve", KNOWN_SITE, "--port=0", "--workers=1", "--sessions=1"]
+        with self.prepare(faults) as (how, met):
+            with subprocess.Popen(
+                [PROGRAM, *words], stdout=subprocess.PIPE, stderr=subprocess.PIPE, bufsize=0, **how
+            ) as server:
+                line = server.stdout.readline().decode()
+                got = ask(int(line.rsplit(":", 1)[1])) if line else None
+                out, err = server.communicate(timeout=PATIENCE)
+            return server.returncode, out.decode(), err.decode(), got, met.exists()
+
+
+PLACE = Place(make_folder())
+
+
+class Station(typing.NamedTuple):
+    """How a station ended, and what its till and its dispenser got."""
+
+    status: int
+    report: str
+    err: str
+    till: bytes
+    pump: bytes
+    met: bool
+
+
+class Opening(typing.NamedTuple):
+    """How a station that opened a journal ended, what the journal has then, whether the fault was
+    met, whether another file has the journal's name, and what stands beside it."""
+
+    end: object
+    octets: bytes
+    met: bool
+    is_anew: bool
+    beside: dict
+
+
+class Stored(typing.NamedTuple):
+    """How a station with a journal ended, how many rows it said that it found there, and what the
+    journal has then."""
+
+    end: Station
+    found: int
+    octets: bytes
+
+
+def ask_station(port):
+    """What a station on this port sends to a dispenser and to a till, which ask one after the
+    other; where their sessions last, all of it."""
+    pump = b""
+    with connect(port) as peer:
+        with contextlib.suppress(OSError):
+            peer.sendall(ONLINE)
+            pump = receive_message(peer)
+        till = ask(port)
+        with contextlib.suppress(OSError):
+            peer.shutdown(socket.SHUT_WR)
+            pump += receive_all(peer)
+    return till, pump
+
+
+def ask(port):
+    """What a server on this port sends to a peer that asks."""
+    got = b""
+    with contextlib.suppress(OSError), connect(port) as peer:
+        peer.sendall(ASKED)
+        peer.shutdown(socket.SHUT_WR)
+        got = receive_all(peer)
+    return got
+
+
+def count_in_turn(name, one):
+    """Calls one(N) for N = 1, 2, .. until it meets nothing, several at a time; returns how many
+    were met. What has no end fails."""
+    with concurrent.futures.ThreadPoolExecutor(os.cpu_count()) as pool:
+        for first in range(1, MOST, AT_ONCE):
+            numbers = range(first, first + AT_ONCE)
+            for n, is_met in zip(numbers, pool.map(one, numbers)):
+                if not is_met:
+                    return n - 1
+    raise Failed(f"{name}: more than {MOST} of them")
+
+
+def count_some_in_turn(name, one):
+    """The same of what has to meet some."""
+    count = count_in_turn(name, one)
+    if count == 0:
+        raise Failed(f"{name}: nothing failed")
+    return count
+
+
+def find_tests():
+    """Each test of a module of failing allocations, with its program."""
+    for folder in sorted(CRATES.iterdir()):
+        if any((folder / "src").rglob(f"{MODULE}.rt")):
+            program = find_tests_program(folder.name)
+            names = [name for name in list_tests(program) if f"{MODULE}::" in name]
+            if not names:
+                raise Failed(f"{folder.name} has no test of failing allocations")
+            yield from ((program, name) for name in names)
+
+
+@test
+def fail_allocations_of_tests():
+    """Each test of a module `out_of_memory`, with each allocation failed."""
+    runs, tests = 0, list(find_tests())
+    for program, name in tests:
+
+        def one(n):
+            end, met = PLACE.run([program, name], NOTHING, FAIL_ALLOCATION=n)
+            if end.status != 0 or "test result: ok" not in end.out.decode() + end.err:
+                why = f"status {end.status}\n{end.out.decode()}{end.err}"
+                raise Failed(f"{program.name}: {name} with allocation {n} failed: {why}")
+            return met
+
+        runs += count_some_in_turn(name, one)
+    return runs
+
+
+def list_cases(kind):
+    """The case files of this kind; the stored messages are a replay's, too."""
+    files = sorted((FOLDER / kind).glob("*.hex"))
+    return [STORED, *files] if kind == "cases" else files
+
+
+def list_days():
+    """What reads a day in words, or tells one for people or for a back office. The paying day has
+    sales, the fuelling day a draw."""
+    for source in (EXAMPLES / "paying_day.words", EXAMPLES / "fuelling_day.words"):
+        yield ["spell"], source
+    for words in ([], ["--json"], ["--draws"], ["--draws", "--json"]):
+        yield ["sales", FIVE_POINTS, *words], EXAMPLES / "paying_day.hex"
+        yield ["sales", FIVE_POINTS, *words], EXAMPLES / "fuelling_day.hex"
+    yield ["report", FIVE_POINTS, "--human"], EXAMPLES / "paying_day.hex"
+
+
+def list_commands():
+    """Words of the command line, and what comes on standard input."""
+    for source in list_cases("cases"):
+        yield [], source
+    for site in ("c1", "points_64", "fault_71_of_21_octets", "fault_76_not_by_place"):
+        yield ["check", SITES / f"{site}.toml"], NOTHING
+    yield ["replay", KNOWN_SITE, "--changes"], STORED
+    yield ["replay", SITES / "no_such_file.toml"], STORED
+    for source in list_cases("explained"):
+        yield ["explain"], source
+    for source in list_cases("reports"):
+        yield ["report", KNOWN_SITE], source
+    yield from list_days()
+    yield ["--version"], NOTHING
+
+
+def name_command(words, source):
+    return " ".join([*(os.path.basename(word) for word in words), "on", source.name])
+
+
+@test
+def fail_allocations_of_program():
+    """The program with words and inputs of all kinds."""
+    runs, commands = 0, list(list_commands())
+    for words, source in commands:
+        name, command = name_command(words, source), [PROGRAM, *words]
+        whole, _ = PLACE.run(command, source)
+
+        def one(n):
+            end, met = PLACE.run(command, source, FAIL_ALLOCATION=n)
+            if not met and end != whole:
+                raise Failed(f"{name}: not the same twice")
+            is_front = (end.status, end.err.strip()) == (4, "fault 31") and whole.out.startswith(
+                end.out
+            )
+            if met and end != whole and not is_front:
+                raise Failed(f"{name} with allocation {n} failed: {end}")
+            return met
+
+        runs += count_some_in_turn(name, one)
+    return runs
+
+
+class Command:
+    """The program with words and an input, and how it ends without faults."""
+
+    def __init__(self, words, source):
+        self.command, self.source = [PROGRAM, *words], source
+        self.name = name_command(words, source)
+        self.whole, _ = PLACE.run(self.command, source)
+
+    def run(self, **faults):
+        return PLACE.run(self.command, self.source, **faults)
+
+    def fail_calls(self, kind, fault, is_met=True):
+        """Each call of this kind fails in turn: the program ends with this fault, and a front of
+        its text."""
+
+        def one(k):
+            end, met = self.run(**{kind: k})
+            is_front = (end.status, end.err.strip()) == (1, fault) and self.whole.out.startswith(
+                end.out
+            )
+            if not (is_front if met else end == self.whole):
+                raise Failed(f"{self.name}, {kind} {k}: {end}")
+            return met
+
+        return (count_some_in_turn if is_met else count_in_turn)(f"{self.name}, {kind}", one)
+
+    def expect_same(self, is_met=True, **faults):
+        """These faults change nothing."""
+        end, met = self.run(**faults)
+        if end != self.whole or is_met and not met:
+            raise Failed(f"{self.name} isn't the same with {faults}, or met none of them")
+        return met
+
+    def limit_output(self, most):
+        """An output of so many octets takes those, and then none."""
+        end, met = self.run(TAKE_ALL=most)
+        wanted = (1, self.whole.out[:most], "fault 62") if len(
+            self.whole.out
+        ) > most else self.whole
+        if met != (len(self.whole.out) > most) or (*end[:2], end.err.strip()) != (
+            *wanted[:2], wanted[2].strip()
+        ):
+            raise Failed(f"{self.name}, an output of {most} octets: {end}, met {met}")
+        return met
+
+
+@test
+def fail_devices_of_program():
+    """Reads of standard input, and writes."""
+    runs, sources = 0, list_cases("cases")
+    for source in sources:
+        command = Command([], source)
+        length = len(command.whole.out)
+        runs += command.fail_calls("FAIL_READ", "fault 61")
+        runs += command.fail_calls("FAIL_WRITE", "fault 62", length > 0)
+        for most in (1, 5, 33):
+            runs += command.expect_same(length > 2 * most, SHORT_WRITE=most)
+            runs += command.expect_same(SHORT_WRITE=most, INTERRUPT=1)
+        runs += command.expect_same(INTERRUPT=1)
+        runs += sum(map(command.limit_output, (0, 1, 33, 100)))
+    return runs
+
+
+@test
+def fail_devices_of_files():
+    """With words: reads of the site file, reads of standard input, and writes."""
+    commands = [(["check", KNOWN_SITE], NOTHING, True, False)]
+    commands += [(["replay", KNOWN_SITE, "--changes"], STORED, True, True)]
+    commands += [(["explain"], source, False, True) for source in list_cases("explained")]
+    commands += [(["report", KNOWN_SITE], source, True, True) for source in list_cases("reports")]
+    commands += [(words, source, len(words) > 1, True) for words, source in list_days()]
+    runs = 0
+    for words, source, reads_file, reads_input in commands:
+        command = Command(words, source)
+        if reads_file:
+            runs += command.fail_calls("FAIL_FILE_READ", f"cannot read {words[1]}")
+        if reads_input:
+            runs += command.fail_calls("FAIL_READ", "fault 61")
+        runs += command.fail_calls("FAIL_WRITE", "fault 62", len(command.whole.out) > 0)
+        runs += command.expect_same(INTERRUPT=1)
+    return runs
+
+
+# A till signs on, and opens point 1. What it may get: all is well; the SignOn found no memory, so
+# that the till isn't signed on; or the Open found none.
+ASKED = sign_on(1) + command_point(1, 2, 1, OPEN)
+SIGNED_ON = "02 01 01 01 00 E1 00 08 01 01 01 01 00 03 01 00"
+OPENED = "02 01 01 01 00 E2 00 08 01 21 01 01 00 03 01 00"
+REPLIES = [
+    parse(SIGNED_ON, OPENED),
+    parse("02 01 01 01 00 E1 00 05 01 01 01 01 1F", "02 01 01 01 00 E2 00 05 01 21 01 01 01"),
+    parse(SIGNED_ON, "02 01 01 01 00 E2 00 05 01 21 01 01 1F"),
+]
+# The dispenser of point 1 says that it is online, which it is, and is told that the point is open.
+ONLINE = parse("01 01 03 01 00 63 00 04 01 21 60 00")
+REFUSED = parse("03 01 01 01 00 E3 00 0F 01 21 01 01 0A 02 08 00 00 00 00 00 00 00 02")
+NO_ROW = parse("03 01 01 01 00 E3 00 05 01 21 01 01 1F")
+TOLD = parse("03 01 01 01 00 80 00 04 01 21 3C 00")
+PUMP_REPLIES = [REFUSED + TOLD, NO_ROW + TOLD, REFUSED, NO_ROW]
+# Calls that make a listener.
+LISTENING = ["FAIL_SOCKET", "FAIL_BIND", "FAIL_LISTEN", "FAIL_NAME"]
+# Till 1 signs on, opens and is signed off.
+WHOLE_DAY = re.compile("rows 3\n(.*\n)*shares 1 settled\n")
+ZERO = "metered 0 running 0 payable 0 locked 0 cleared 0 adjusted 0"
+PRODUCTS = f"product 1 diesel {ZERO}\nproduct 2 petrol {ZERO}\n"
+ANY_DAY = re.compile(f"rows [0-3]\nclears 0 cents 0\n{PRODUCTS}shares [01] settled\n")
+
+
+# Dispenser 1 says that it is online; till 1 signs on, opens and is signed off.
+WHOLE_STATION = Station(
+    0, f"rows 4\nclears 0 cents 0\n{PRODUCTS}shares 0 settled\n", "", REPLIES[0], REFUSED + TOLD,
+    False,
+)
+WHO = "(t1|d1|a peer that said nothing)"
+STATION_ENDS = re.compile(
+    f"((session of {WHO}|a connection was closed): fault 31: out of memory\n)?"
+)
+
+
+@test
+def fail_allocations_of_server():
+    """A server of one session."""
+    def one(n):
+        status, report, err, got, met = PLACE.serve(FAIL_ALLOCATION=n)
+        is_front = got is None or any(text.startswith(got) for text in REPLIES)
+        if status == 0:
+            is_well = err == "" and got is not None and ANY_DAY.fullmatch(report)
+        else:
+            is_well = status == 4 and err == "fault 31\n" and report == ""
+        if not is_front or not is_well:
+            end = f"status {status}, '{err}', '{report}', {got}"
+            raise Failed(f"the server with allocation {n} failed: {end}")
+        if not met and ((status, got) != (0, REPLIES[0]) or not WHOLE_DAY.fullmatch(report)):
+            raise Failed("the server: not the same twice")
+        return met
+
+    return count_some_in_turn("the server", one)
+
+
+@test
+def fail_devices_of_server():
+    """Its line and its report: each write failed in turn, writes that are cut short, interrupted
+    calls."""
+    whole = PLACE.serve()
+    if whole[:1] + whole[2:] != (0, "", REPLIES[0], False) or not WHOLE_DAY.fullmatch(whole[1]):
+        raise Failed(f"the server: {whole}")
+    if PLACE.serve(FAIL_WRITE=1) != (1, "", "fault 62\n", None, True):
+        raise Failed("the server: its line wasn't written, and it went on")
+    if PLACE.serve(FAIL_WRITE=2) != (1, "", "fault 62\n", REPLIES[0], True):
+        raise Failed("the server: its report wasn't written, and it didn't say so")
+    changed = (
+        {"SHORT_WRITE": 5}, {"INTERRUPT": 1}, {"SHORT_WRITE": 1, "INTERRUPT": 1}, {"SHORT_SEND": 5},
+        {"SHORT_SEND": 1, "INTERRUPT": 1},
+    )  # fmt: skip
+    for faults in changed:
+        if PLACE.serve(**faults) != (*whole[:4], True):
+            raise Failed(f"the server isn't the same with {faults}, or met none of them")
+    return 2 + len(changed)
+
+
+@test
+def fail_sockets_of_server():
+    """A session whose socket fails ends, and its till is signed off: the first read, so that
+    nothing is asked; the second one, behind both requests (the peer may read a front of the first
+    reply alone, since its socket is reset); the first reply, behind the SignOn; the second one."""
+    cases = (
+        ({"FAIL_RECEIVE": 1}, 0, b""),
+        ({"FAIL_RECEIVE": 2}, 3, REPLIES[0]),
+        ({"FAIL_SEND": 1}, 2, b""),
+        ({"FAIL_SEND": 2}, 3, parse(SIGNED_ON)),
+    )
+    for faults, rows, wanted in cases:
+        status, report, err, got, met = PLACE.serve(**faults)
+        is_told = wanted.startswith(got) if faults.get("FAIL_RECEIVE") == 2 else got == wanted
+        is_well = (status, err, met) == (0, "", True) and is_told
+        if not is_well or not report.startswith(f"rows {rows}\n"):
+            raise Failed(
+                f"the server with {faults}: status {status}, '{err}', '{report}', {got}, met {met}"
+            )
+    return len(cases)
+
+
+@test
+def fail_connections_of_server():
+    """It can't listen; or the one session has no connection or worker, and the day is settled."""
+    for kind in LISTENING:
+        if PLACE.serve(**{kind: 1}) != (1, "", "fault 63\n", None, True):
+            raise Failed(f"the server with {kind}: it went on, or didn't say so")
+    for kind, shares in (("FAIL_ACCEPT", 1), ("FAIL_THREAD", 0)):
+        report = f"rows 0\nclears 0 cents 0\n{PRODUCTS}shares {shares} settled\n"
+        got = PLACE.serve(**{kind: 1})
+        if got != (0, report, "", b"", True):
+            raise Failed(f"the server with {kind}: {got}")
+    return len(LISTENING) + 2
+
+
+def is_well_without_memory(got):
+    """Whether a station of which one allocation failed ended as it may."""
+    if got.status != 0:
+        return (got.report, got.status, got.err) in (("", 4, "fault 31\n"), ("", 1, "fault 64\n"))
+    is_till_well = any(text.startswith(got.till) for text in REPLIES)
+    is_pump_well = any(text.startswith(got.pump) for text in PUMP_REPLIES)
+    are_whole = (got.till in REPLIES) + (got.pump in PUMP_REPLIES)
+    is_well = is_till_well and is_pump_well and are_whole >= 1
+    is_well = is_well and STATION_ENDS.fullmatch(got.err) and re.match("rows [1-4]\n", got.report)
+    return is_well and (got.err != "" or are_whole == 2)
+
+
+@test
+def fail_allocations_of_station():
+    """A station that finds no memory to begin with says so; a session that finds none ends, or
+    one request has no row, and the other session and the day go on."""
+
+    def one(n):
+        got = PLACE.station(FAIL_ALLOCATION=n)
+        if not got.met and got != WHOLE_STATION:
+            raise Failed(f"the station: not the same twice: {got}")
+        if not is_well_without_memory(got):
+            raise Failed(f"the station with allocation {n} failed: {got}")
+        return got.met
+
+    return count_some_in_turn("the station", one)
+
+
+@test
+def fail_devices_of_station():
+    """Its line and its report; its listener; its sockets; the thread that waits for standard
+    input; and calls that are interrupted or cut short, which change nothing."""
+    expect("nothing", PLACE.station(), WHOLE_STATION)
+    nobody = {"report": "", "till": None, "pump": None, "met": True, "status": 1}
+    expect("no line", PLACE.station(FAIL_WRITE=1),
+                   WHOLE_STATION._replace(**nobody, err="fault 62\n"))  # fmt: skip
+    silent = WHOLE_STATION._replace(status=1, report="", err="fault 62\n", met=True)
+    expect("no report", PLACE.station(FAIL_WRITE=2), silent)
+    for kind in LISTENING:
+        expect(kind, PLACE.station(**{kind: 1}),
+                       WHOLE_STATION._replace(**nobody, err="fault 63\n"))  # fmt: skip
+    expect("no thread", PLACE.station(FAIL_THREAD=1),
+                   WHOLE_STATION._replace(**nobody, err="fault 64\n"))  # fmt: skip
+    deaf = "cannot accept: Too many open files (os error 24); it is tried again each second\n"
+    expect("no connection", PLACE.station(FAIL_ACCEPT=1),
+                   WHOLE_STATION._replace(err=deaf, met=True))  # fmt: skip
+    changed = (
+        {"SHORT_WRITE": 5}, {"INTERRUPT": 1}, {"SHORT_WRITE": 1, "INTERRUPT": 1},
+        {"SHORT_SEND": 5}, {"SHORT_SEND": 1, "INTERRUPT": 1},
+    )  # fmt: skip
+    for faults in changed:
+        expect(faults, PLACE.station(**faults), WHOLE_STATION._replace(met=True))
+    return 4 + len(LISTENING) + len(changed)
+
+
+# Till 2 is signed on in a journal whose last line is torn: it is signed off.
+BEFORE = [sign_on(2), command_point(2, 0, 2, OPEN)]
+STORED_LINES = first_line(KNOWN_SITE) + write_rows(*BEFORE)
+STORED_TEXT = STORED_LINES + b"0101020100"
+DAY_OF_TWO = write_rows(ONLINE, sign_on(1), command_point(1, 0, 1, OPEN), sign_off(1))
+NEW_DAY = Stored(WHOLE_STATION, 0, first_line(KNOWN_SITE) + DAY_OF_TWO)
+LATER_DAY = Stored(
+    WHOLE_STATION._replace(report=WHOLE_STATION.report.replace("rows 4", "rows 7")), 2,
+    STORED_LINES + write_rows(sign_off(2)) + DAY_OF_TWO,
+)  # fmt: skip
+JOURNALS = ((None, NEW_DAY), (STORED_TEXT, LATER_DAY))
+
+
+def expect_stored(what, got, whole):
+    """No peer was told what the journal doesn't have; that is a front of what a whole day's has, if
+    not all memory was there for its rows; and it is opened again."""
+    text = whole_lines(got.octets)
+    rows = read_journal(PROGRAM, KNOWN_SITE, text)
+    begin = len(BEFORE) + 1 if got.found else 0
+    peers = ((TILL, 1), got.end.till), ((DISPENSER, 1), got.end.pump)
+    for node, came in peers:
+        untold = find_untold(rows, node, came or b"", begin)
+        if untold:
+            raise Failed(f"{what}: {node} was told {untold.hex()}, which isn't stored: {got}")
+    if len(rows) < got.found:
+        raise Failed(f"{what}: {got.found} rows were found, and {len(rows)} are there: {got}")
+    if whole and not whole.octets.startswith(text):
+        raise Failed(f"{what}: the journal isn't a front of a day's: {got}")
+    end, octets, *_ = PLACE.open_journal(got.octets)
+    is_opened = end.status == 0 and octets.startswith(text)
+    if not is_opened or (b"journal rows" in end.out) != (rows != []):
+        raise Failed(f"{what}: the journal isn't opened again: {end}")
+    report = run(PROGRAM, "report", KNOWN_SITE, given=text).out.decode()
+    if got.end.report not in ("", report) or got.end.status == 0 and got.end.report == "":
+        raise Failed(f"{what}: the report isn't that of the journal: {got}")
+
+
+@test
+def fail_journals_of_station():
+    """The folder of a new journal, its first line, the copy at a start, the sign-off of who was
+    signed on, and a day's rows: each write and each fdatasync fails in turn, at a line's end and
+    within it; at each fdatasync the file system stops, and doesn't say so."""
+    runs = 0
+    for text, whole in JOURNALS:
+        expect("a journal", PLACE.stored(text), whole)
+        for kind in ("FAIL_JOURNAL_WRITE", "FAIL_SYNC", "STOP_AT_SYNC"):
+            for short in ({}, {"SHORT_JOURNAL_WRITE": 7}):
+
+                def one(k):
+                    faults = {kind: k, **short}
+                    got = PLACE.stored(text, **faults)
+                    expect_stored(f"the station with {faults}", got, whole)
+                    if got.end.status == 0 and whole.octets == got.octets:
+                        expect(faults, got._replace(end=got.end._replace(met=False)), whole)
+                        return False
+                    end = (got.end.status, got.end.report, got.end.err, got.end.met)
+                    expect(faults, end, (1, "", "fault 62\n", True))
+                    return True
+
+                runs += count_some_in_turn(f"{kind} {short}", one)
+        for faults in (
+            {"SHORT_JOURNAL_WRITE": 1}, {"SHORT_JOURNAL_WRITE": 31}, {"INTERRUPT": 1},
+            {"SHORT_JOURNAL_WRITE": 1, "INTERRUPT": 1, "SHORT_SEND": 1},
+        ):  # fmt: skip
+            met = whole._replace(end=whole.end._replace(met=True))
+            expect(faults, PLACE.stored(text, **faults), met)
+            runs += 1
+    folder = PLACE.stored(None, FAIL_SYNC=1)
+    wanted = (b"", 1, "fault 62\n", None)
+    got = (folder.octets, folder.end.status, folder.end.err, folder.end.till)
+    expect("a folder that isn't synced, and no line yet", got, wanted)
+    return runs + 1
+
+
+@test
+def fail_sockets_of_stored_station():
+    """A session whose socket fails ends, its till is signed off, and that is stored: the other peer
+    is told all that it may be, also what it was owed in the round in which that happened."""
+    runs = 0
+    for kind in ("FAIL_RECEIVE", "FAIL_SEND"):
+
+        def one(k):
+            got = PLACE.stored(None, **{kind: k})
+            if not got.end.met:
+                expect("nothing", got, NEW_DAY)
+                return False
+            what = f"the station with a journal and {kind} {k}"
+            expect_stored(what, got, None)
+            are_whole = (got.end.till == REPLIES[0]) + (got.end.pump in PUMP_REPLIES)
+            if (got.end.status, got.end.err) != (0, "") or are_whole < 1:
+                raise Failed(f"{what}: {got}")
+            signed = [got.octets.count(write_rows(one)) for one in (sign_on(1), sign_off(1))]
+            expect(f"{what}: sign-ons and sign-offs", signed[0], signed[1])
+            is_opened = write_rows(command_point(1, 0, 1, OPEN)) in got.octets
+            if is_opened and got.end.till != REPLIES[0]:
+                expect(f"{what}: the dispenser", got.end.pump, REFUSED + TOLD)
+            return True
+
+        runs += count_some_in_turn(kind, one)
+    return runs
+
+
+@test
+def fail_openings_of_journals():
+    """A journal that isn't locked or read, or whose copy isn't made or named, stays as it is."""
+    runs = 0
+    unread, unwritten = "cannot read journal", "fault 62"
+    wanted = {
+        "FAIL_LOCK": [unread, unwritten], "FAIL_RENAME": [unwritten],
+        "FAIL_FILE_READ": [f"cannot read {KNOWN_SITE}", unread],
+    }  # fmt: skip
+    whole, after, *_ = PLACE.open_journal(STORED_TEXT)
+    expect("a journal", after, STORED_LINES + write_rows(sign_off(2)))
+    for kind, ends in wanted.items():
+        said = []
+
+        def one(k):
+            end, octets, met, is_anew, beside = PLACE.open_journal(STORED_TEXT, **{kind: k})
+            expect(f"{kind} {k}: beside it", beside, {})
+            if not met:
+                expect("nothing", (end, octets), (whole, after))
+                return False
+            got = (end.status, end.out, octets, is_anew)
+            expect(f"{kind} {k}", got, (1, b"", STORED_TEXT, False))
+            said.append(end.err.strip())
+            return True
+
+        runs += count_some_in_turn(kind, one)
+        expect(kind, sorted({*said}), sorted(ends))
+    return runs
+
+
+FLUSHES = ("the folder", "the copy", "the folder", "the sign-off")
+
+
+@test
+def fail_copies_of_journals():
+    """A start puts a copy in the place of its journal, which is on the disk before: of a file whose
+    flush has failed, what the system shows may not be there. Each flush fails in turn: before
+    that of the copy the journal is the file that it was."""
+
+    def one(k):
+        end, octets, met, is_anew, beside = PLACE.open_journal(STORED_TEXT, FAIL_SYNC=k)
+        expect(f"flush {k}: beside it", beside, {})
+        expect(f"flush {k}: put in place", is_anew, k > 1 + FLUSHES.index("the copy"))
+        if not met:
+            expect("so many flushes", k, len(FLUSHES) + 1)
+            return False
+        expect(f"flush {k}", (end.status, end.out, end.err), (1, b"", "fault 62\n"))
+        left = STORED_LINES if is_anew else STORED_TEXT
+        expect(f"flush {k}: the lines", octets, left)
+        return True
+
+    return count_some_in_turn("FAIL_SYNC", one)
+
+
+@test
+def move_journals_at_starts():
+    """A journal is moved at a flush of a start, and another file gets its name: before the copy is
+    in place that file stays, the journal stays where it is, and the start is refused."""
+
+    def one(k):
+        end, octets, met, _, beside = PLACE.open_journal(STORED_TEXT, MOVE_AT_SYNC=k)
+        if not met:
+            expect("so many flushes", k, len(FLUSHES) + 1)
+            return False
+        expect(f"flush {k}: what has its name", octets, b"")
+        if k <= 1 + FLUSHES.index("the copy"):
+            expect(f"flush {k}: the journal", beside, {MOVED: STORED_TEXT})
+            expect(f"flush {k}", (end.status, end.out, end.err), (1, b"", "fault 62\n"))
+        else:
+            gone_on = STORED_LINES + write_rows(sign_off(2))
+            expect(f"flush {k}: the journal", beside, {MOVED: gone_on})
+        return True
+
+    return count_some_in_turn("MOVE_AT_SYNC", one)
+
+
+@test
+def swap_copies_of_journals():
+    """Somebody puts another file in the place of a start's copy: that one doesn't become the
+    journal. One that is there before the copy is taken for what an earlier start has left."""
+
+    def one(k):
+        end, octets, met, _, beside = PLACE.open_journal(STORED_TEXT, SWAP_AT_SYNC=k)
+        if not met:
+            expect("so many flushes", k, len(FLUSHES) + 1)
+            return False
+        if k == 1 + FLUSHES.index("the copy"):
+            got = (end.status, end.out, end.err, octets, beside)
+            expect(f"flush {k}", got, (1, b"", "fault 62\n", STORED_TEXT, {COPY: b""}))
+        else:
+            got = (end.status, end.err, octets, beside)
+            left = {COPY: b""} if k > 1 else {}
+            gone_on = STORED_LINES + write_rows(sign_off(2))
+            expect(f"flush {k}", got, (0, "", gone_on, left))
+        return True
+
+    return count_some_in_turn("SWAP_AT_SYNC", one)
+
+
+@test
+def fail_allocations_of_journals():
+    """At the opening of a journal with rows: `fault 31`, and what stands there is what stood there,
+    without the torn line, or with the sign-off; or all is as ever."""
+    whole, after, *_ = PLACE.open_journal(STORED_TEXT)
+
+    def one(n):
+        end, octets, met, _, beside = PLACE.open_journal(STORED_TEXT, FAIL_ALLOCATION=n)
+        expect(f"allocation {n}: beside it", beside, {})
+        if not met and (end, octets) != (whole, after):
+            raise Failed("a journal that is opened: not the same twice")
+        is_whole = (end, octets) == (whole, after)
+        is_ended = (end.status, end.err) in ((4, "fault 31\n"), (1, "fault 64\n"))
+        is_front = whole.out.startswith(end.out) and octets in (STORED_TEXT, STORED_LINES, after)
+        if not is_whole and not (is_ended and is_front):
+            raise Failed(f"a journal that is opened, allocation {n} failed: {end}, {octets}")
+        return met
+
+    return count_some_in_turn("a journal that is opened", one)
+
+
+@test
+def fail_allocations_of_stored_station():
+    """A day with a journal: as without one, but that it ends with `fault 31`, behind its report,
+    where there was no memory for a row's line. Nobody is told what isn't stored."""
+
+    def one(n):
+        got = PLACE.stored(None, FAIL_ALLOCATION=n)
+        if not got.end.met:
+            expect("nothing", got, NEW_DAY)
+        expect_stored(f"the station with a journal, allocation {n}", got, None)
+        is_ended = (got.end.status, got.end.err) == (4, "fault 31\n")
+        if not is_ended and not is_well_without_memory(got.end):
+            raise Failed(f"the station with a journal, allocation {n} failed: {got}")
+        return got.end.met
+
+    return count_some_in_turn("the station with a journal", one)
+
+
+@test
+def block_a_send_of_station():
+    """A reply that its connection doesn't take, and of which the system tells no more, is sent at
+    the day's end, and its till is left."""
+    pipe = subprocess.PIPE
+    words = [PROGRAM, "station", KNOWN_SITE, "--port=0"]
+    with PLACE.prepare({"BLOCK_SEND": 1}) as (how, met):
+        with subprocess.Popen(words, stdin=pipe, stdout=pipe, bufsize=0, **how) as program:
+            port = int(program.stdout.readline().decode().rsplit(":", 1)[1])
+            with connect(port) as till:
+                till.sendall(sign_on(1))
+                before = time.monotonic()
+                while not met.exists() and time.monotonic() < before + PATIENCE:
+                    time.sleep(0.01)
+                is_silent = met.exists() and not select.select([till], [], [], 0.1)[0]
+                program.stdin.close()
+                program.stdin = None
+                got = receive_all(till)
+            out, _ = program.communicate(timeout=PATIENCE)
+    if not is_silent or got != parse(SIGNED_ON) or not out.startswith(b"rows 2\n"):
+        raise Failed(f"the station whose send would block: {is_silent}, {got}, {out}")
+    return 1
+
+
+@test
+def fail_sockets_of_station():
+    """A session whose socket fails ends, its till is signed off, and no other session ends."""
+    runs = 0
+    for kind in ("FAIL_RECEIVE", "FAIL_SEND"):
+
+        def one(k):
+            got = PLACE.station(**{kind: k})
+            if not got.met:
+                expect("nothing", got, WHOLE_STATION)
+                return False
+            are_whole = (got.till == REPLIES[0]) + (got.pump in PUMP_REPLIES)
+            are_fronts = REPLIES[0].startswith(got.till) and WHOLE_STATION.pump.startswith(got.pump)
+            if (got.status, got.err) != (0, "") or are_whole < 1 or not are_fronts:
+                raise Failed(f"the station with {kind} {k}: {got}")
+            return True
+
+        runs += count_some_in_turn(kind, one)
+    return runs
+
+
+def is_balanced(report):
+    """Each product's metered volume is its other volumes."""
+    products = [line.split() for line in report.splitlines() if line.startswith("product ")]
+    return len(products) == 2 and all(int(p[4]) == sum(map(int, p[6::2])) for p in products)
+
+
+DEMO = [PROGRAM, "demo", KNOWN_SITE, FOLDER / "demos/two_tills.demo"]
+DEMO_REPORT = (FOLDER / "demos/two_tills.report").read_bytes()
+NO_LISTENER, NO_WORKER = (1, b"", "fault 63\n"), (1, b"", "fault 64\n")
+
+
+@test
+def fail_allocations_of_demo():
+    """A worker that finds no memory ends its own work alone, and the day is settled all the
+    same."""
+    runs = 0
+    for words in ([], ["--loopback"]):
+
+        def one(n):
+            end, met = PLACE.run([*DEMO, *words], NOTHING, FAIL_ALLOCATION=n)
+            is_settled = (end.status, end.err) == (0, "") and is_balanced(end.out.decode())
+            is_ended = end in ((4, b"", "fault 31\n"), NO_LISTENER, NO_WORKER)
+            if not (is_settled or is_ended) or not met and end.out != DEMO_REPORT:
+                raise Failed(f"a demo {words} with allocation {n} failed: {end}")
+            return met
+
+        runs += count_some_in_turn("a demo", one)
+    return runs
+
+
+@test
+def fail_connections_of_demo():
+    """Two tills over loopback: a listener and two connections, each made and accepted."""
+    calls = {**dict.fromkeys(LISTENING, 1), "FAIL_SOCKET": 3, "FAIL_CONNECT": 2, "FAIL_ACCEPT": 2}
+    for kind, wanted in calls.items():
+
+        def one(k):
+            end, met = PLACE.run([*DEMO, "--loopback"], NOTHING, **{kind: k})
+            if end != (NO_LISTENER if met else (0, DEMO_REPORT, "")):
+                raise Failed(f"a demo over loopback, {kind} {k}: {end}")
+            return met
+
+        found = count_in_turn(kind, one)
+        if found != wanted:
+            raise Failed(f"a demo over loopback: {kind} was met {found} times, not {wanted}")
+    return sum(calls.values())
+
+
+@test
+def fail_threads_of_demo():
+    """Two sections have a worker each. Over loopback these are the tills' clients, and two
+    workers more serve their sessions: one of them alone serves both."""
+    alone = (0, DEMO_REPORT.replace(b"shares 3", b"shares 2"), "")
+    loopback = ["--loopback"]
+    cases = (
+        ([], {"FAIL_THREAD": 1}, NO_WORKER), ([], {"FAIL_THREAD": 2}, NO_WORKER),
+        ([], {"FAIL_THREADS": 1}, NO_WORKER),
+        (loopback, {"FAIL_THREAD": 1}, NO_WORKER), (loopback, {"FAIL_THREAD": 2}, NO_WORKER),
+        (loopback, {"FAIL_THREAD": 3}, alone), (loopback, {"FAIL_THREAD": 4}, alone),
+        (loopback, {"FAIL_THREADS": 3}, NO_WORKER),
+    )  # fmt: skip
+    for words, faults, wanted in cases:
+        end, met = PLACE.run([*DEMO, *words], NOTHING, **faults)
+        if end != wanted or not met:
+            raise Failed(f"a demo {words} with {faults}: {end}, met {met}")
+    return len(cases)
+
+
+@test
+def fail_threads_of_crew():
+    """A crew of two, each of whose workers isn't started."""
+    tests = find_tests_program("counter_desk_tests")
+    ends = "missing_worker::each_unstarted"
+    (name,) = (name for name in list_tests(tests) if name.endswith(ends))
+    for n in (1, 2):
+        end, met = PLACE.run([tests, name], NOTHING, FAIL_THREAD=n)
+        text = end.out.decode() + end.err
+        if end.status != 0 or not met or "test result: ok" not in text:
+            raise Failed(f"a crew whose worker {n} isn't started: status {end.status}\n{text}")
+        unstarted = [line for line in text.splitlines() if "wasn't started" in line]
+        if unstarted != [f"worker {n} wasn't started"]:
+            raise Failed(f"a crew whose worker {n} isn't started says: {text}")
+    return 2
+
+
+def split_sites(text):
+    """The table's sites: each a piece of the table of its own, from the words above it on."""
+    pieces, above = [], []
+    for line in text.splitlines(keepends=True):
+        if line.startswith(("rows ", "book ")):
+            pieces.append([])
+        (pieces[-1] if pieces else above).append(line)
+    return ["".join([*above, *pieces[0]]), *("".join(piece) for piece in pieces[1:])]
+
+
+def are_rows(got, wanted):
+    """All rows as wanted, but for those that a failed allocation lost: they stand together,
+    before one that isn't."""
+    lost = [place for place, row in enumerate(got) if row == b"lost"]
+    rest = len(got) == len(wanted) and all(a in (b, b"lost") for a, b in zip(got, wanted))
+    together = not lost or (lost == list(range(lost[0], lost[-1] + 1)) and got[lost[-1] + 1] != b"")
+    return rest and together
+
+
+def fail_allocations_of_site(command, name, source):
+    whole, _ = PLACE.run(command, source)
+    if whole.status != 0:
+        raise Failed(f"{name}: {whole}")
+
+    def one(n):
+        end, met = PLACE.run(command, source, FAIL_ALLOCATION=n)
+        if end.status == 0:
+            rows = end.out.split(b"\n"), whole.out.split(b"\n")
+            is_well = end == whole or end.err != "" and are_rows(*rows)
+        else:
+            is_well = end.status == 1 and "memory" in end.err and whole.out.startswith(end.out)
+        if not is_well or not met and end != whole:
+            raise Failed(f"{name} with allocation {n} failed: {end}")
+        return met
+
+    return count_some_in_turn(name, one)
+
+
+@test
+def fail_allocations_of_tables():
+    """The sites of the tables, each for itself."""
+    runs, count = 0, 0
+    for word, table in (
+        ("sites", SITE_TABLES / "stdin"), ("desk", SITE_TABLES / "tables/desk.txt")
+    ):
+        for number, text in enumerate(split_sites(table.read_text()), 1):
+            source = pathlib.Path(PLACE.folder) / f"{word}{number}"
+            source.write_text(text)
+            runs += fail_allocations_of_site([TABLES, word], f"{word} {number}", source)
+            count += 1
+    return runs

@@ -1,0 +1,929 @@
+"""The journal of `forecourt station`.
+
+Journals that are made by hand are opened; journals lie on files that can't be used, on a full
+disk, and beside closed standard streams; and a station of eight tills and eight dispensers is
+killed again and again, and started on its journal. What each peer was told is compared with what
+a replay of the journal answers. A test that the system doesn't allow says that it is skipped."""
+
+import contextlib
+import fcntl
+import os
+import re
+import resource
+import shutil
+import signal
+import socket
+import stat
+import subprocess
+import time
+
+from shared.checks import Failed, Skipped, expect
+from shared.journals import (
+    Told, find_untold, first_line, is_notice, is_sign_off, read_journal, split_messages,
+    whole_lines, without_token, write_rows,
+)  # fmt: skip
+from shared.running import run
+from shared.serving import WAIT, send_reset, start_day, wait_until
+from shared.station import (
+    ACKNOWLEDGE, CLEAR, CLOSE, DISPENSER, FLOW, HANG_UP, KNOWN_SITE, LIFT, LOCK, OPEN, RELEASE,
+    RESULT, SITE, TILL, WRITE, address_point, command_point, command_sale, decode, encode, parse,
+    read_point, read_sale, receive, receive_all, receive_message, report, sign_off, sign_on,
+    write_report,
+)  # fmt: skip
+from tests.built import PROGRAM
+from tests.steady_peers import POINTS, Pump, Runs, Till, say
+from tests.suite import make_folder, start_chance, test
+
+HERE = make_folder()
+OTHER_SITE = HERE / "other.toml"
+FIRST = first_line(KNOWN_SITE)
+NOBODY = 65_534
+LINES = 150
+AT_ONCE = 6  # stations
+MANY = 200  # rows, and messages, until a disk is full
+LISTENING = re.compile(rb"listening 127\.0\.0\.1:\d+\n")
+# Till 2 releases point 1, which till 1 opened, and its dispenser sells ten litres.
+DAY = [
+    sign_on(1), sign_on(2), command_point(1, 0, 1, OPEN), command_point(2, 0, 1, RELEASE),
+    report(1, 0, LIFT, 0), report(1, 0, FLOW, 4_000), report(1, 0, HANG_UP, 10_000),
+    command_sale(2, 0, 1, 1, LOCK), command_sale(2, 0, 1, 1, CLEAR), sign_off(2),
+]  # fmt: skip
+DAY_TEXT = FIRST + write_rows(*DAY)
+OFF_1 = write_rows(sign_off(1))
+
+
+def write_journal(text, name="journal"):
+    path = HERE / name
+    path.write_bytes(text)
+    return path
+
+
+def command(journal, *words, site=KNOWN_SITE):
+    return [*map(str, [PROGRAM, "station", site, "--port", 0, "--journal", journal, *words])]
+
+
+def start_station(journal, *words, site=KNOWN_SITE, **how):
+    return start_day(command(journal, *words, site=site), **{"stdin": subprocess.PIPE, **how})
+
+
+def end(day, told=""):
+    """The report of a day whose standard input is closed."""
+    day.process.stdin.close()
+    day.process.stdin = None
+    return day.report(told)
+
+
+def report_of(text, site=KNOWN_SITE):
+    """The report of a journal's text, which is read as any day's."""
+    made = run(PROGRAM, "report", site, given=text)
+    expect("the report of the journal", (made.status, made.err), (0, ""))
+    return made.out
+
+
+def expect_opened(what, text, whole, rows, signed_off=b"", site=KNOWN_SITE, reported=None):
+    """A station opens this journal: it says how many rows it had, its file is then the whole lines
+    and the sign-offs of who was signed on, and its report that of them, or another one."""
+    path = write_journal(text) if text is not None else HERE / "none"
+    path.unlink() if text is None and path.exists() else None
+    ended = run(*command(path, site=site))
+    told = LISTENING.sub(b"listening\n", ended.out)
+    after = path.read_bytes()
+    expect(f"{what}: the file", after, whole + signed_off)
+    said = f"journal rows {rows}\n".encode() if rows else b""
+    wanted = said + b"listening\n" + (reported or report_of(after, site))
+    expect(what, (ended.status, ended.err, told), (0, "", wanted))
+
+
+def expect_refused(what, path, fault, site=KNOWN_SITE, **how):
+    """A station doesn't open this journal, and says why."""
+    ended = run(*command(path, site=site), **how)
+    got = (ended.status, ended.out, ended.err)
+    expect(what, got, (1, b"", f"{fault}\n"))
+
+
+def expect_line(what, text, number, site=KNOWN_SITE):
+    """The line of this number is no journal's: the file stays as it is."""
+    path = write_journal(text)
+    expect_refused(what, path, f"journal line {number}", site)
+    expect(f"{what}: the file", path.read_bytes(), text)
+
+
+# ---- journals made by hand
+
+
+@test
+def nothing_yet():
+    """An empty file, and one that isn't there, are begun; so is each beginning of the first
+    line."""
+    expect_opened("no file", None, FIRST, 0)
+    for length in range(len(FIRST)):
+        expect_opened(f"{length} octets", FIRST[:length], FIRST, 0)
+    expect_opened("the first line", FIRST, FIRST, 0)
+
+
+@test
+def rows_are_made_again():
+    """Whose till is still signed on is signed off, and that is journalled: the next start finds
+    it."""
+    expect_opened("a day", DAY_TEXT, DAY_TEXT, len(DAY), OFF_1)
+    after = DAY_TEXT + OFF_1
+    expect_opened("its second start", after, after, len(DAY) + 1)
+    sold = {"metered": 10_000, "cleared": 10_000}
+    expect("report", report_of(after), write_report(11, 0, 1, 1_500, diesel=sold).encode())
+    both = FIRST + write_rows(sign_on(32), sign_on(2), sign_on(1), sign_off(2))
+    offs = write_rows(sign_off(1), sign_off(32))
+    expect_opened("in the order of their numbers", both, both, 4, offs)
+
+
+@test
+def it_goes_on():
+    """A station that was opened on a journal answers as if it had never stopped; both days are one
+    journal."""
+    path = write_journal(DAY_TEXT)
+    more = [sign_on(1), read_sale(1, 0, 1, 1), command_point(1, 0, 1, RELEASE), read_point(1, 0, 1)]
+    with start_station(path) as day, day.connect() as till:
+        expect("rows", day.rows, len(DAY))
+        till.sendall(b"".join(more))
+        got = b"".join(without_token(receive_message(till)) for _ in more)
+        told = end(day)
+        expect("no more is told", receive_all(till), b"")
+    after = path.read_bytes()
+    expect("the journal", after, DAY_TEXT + OFF_1 + write_rows(*more) + OFF_1)
+    replayed = [row.reply for row in read_journal(PROGRAM, KNOWN_SITE, after)]
+    expect("the replies", got, b"".join(replayed[len(DAY) + 1 : -1]))
+    expect("the report", told.encode(), report_of(after))
+
+
+@test
+def lines_are_rows():
+    """What makes no row makes no line: a message that means no event, a stranger's, and what ends a
+    session. A refusal is a row."""
+    path = write_journal(b"")
+    stranger = encode((SITE, 1), (9, 9), 0, 0, address_point(1))
+    empty = encode((SITE, 1), (TILL, 1), WRITE, 0, address_point(1))
+    read = read_point(1, 0, 1)
+    with start_station(path) as day:
+        for sent in (stranger, empty, b"\xff" * 8, b"", read[:5], empty + read + empty):
+            day.ask(sent)
+        told = end(day, None)
+    expect("the journal", path.read_bytes(), FIRST + write_rows(read))
+    expect("the report", told, write_report(1, 0))
+
+
+@test
+def ends_are_stored():
+    """The sign-off at a session's end is stored at once, however it ends, while nothing else
+    happens."""
+    on, off = write_rows(sign_on(1)), write_rows(sign_off(1))
+    for what, words, leave in (
+        ("closed", (), lambda till: till.close()),
+        ("reset", (), send_reset),
+        ("half-closed", (), lambda till: till.shutdown(socket.SHUT_WR)),
+        ("a fault", (), lambda till: till.sendall(b"\xff" * 8)),
+        ("silent", ("--idle", "1"), lambda till: None),
+    ):
+        path = write_journal(b"")
+        with start_station(path, *words) as day:
+            till = day.connect()
+            till.sendall(sign_on(1))
+            expect("a reply", len(receive_message(till)), 16)
+            expect(f"{what}: signed on", path.read_bytes(), FIRST + on)
+            leave(till)
+            wait_until(f"{what}: its sign-off", lambda: path.read_bytes() == FIRST + on + off)
+            till.close()
+
+
+@test
+def unfinished_last_lines():
+    """A last line without its line feed was never told of, whatever stands there: it is cut."""
+    line = write_rows(command_point(1, 0, 1, OPEN))
+    torn = [line[:length] for length in range(1, len(line))]
+    torn += [b"\0" * 4_096, b"#", b" ", b"zz", b"\r", b"\xff", line[:-1] * 1_000]
+    for last in torn:
+        expect_opened(f"{last[:30]}", DAY_TEXT + last, DAY_TEXT, len(DAY), OFF_1)
+        expect_opened(f"{last[:30]} alone", FIRST + last, FIRST, 0)
+
+
+@test
+def bad_lines():
+    """What is no request of a till or a dispenser, at each place of a journal."""
+    line = write_rows(read_point(1, 0, 1))[:-1]
+    stranger = encode((SITE, 1), (9, 9), 0, 0, address_point(1))
+    reply = parse("02 01 01 01 00 E2 00 08 01 21 01 01 00 03 01 00")
+    bad = [
+        b"", b" ", b"\r", b"# a comment", b"#", FIRST[:-1], b"zz", line[:-1], line[:-2],
+        line + line, line + b"\r", b" " + line, line + b" ", line[:8] + b" " + line[8:],
+        b"0x" + line,
+        line + b"00", b"\0" + line, b"\xff", write_rows(stranger)[:-1], write_rows(reply)[:-1],
+        b"00" * 40_000, line[:2] + b"+f" + line[4:], b"ff" * 8,
+    ]  # fmt: skip
+    lines = DAY_TEXT.splitlines(keepends=True)
+    for one in bad:
+        for place in (1, 5, len(lines)):
+            text = b"".join([*lines[:place], one + b"\n", *lines[place:]])
+            expect_line(f"{one[:30]} at {place + 1}", text, place + 1)
+    expect_line("the first of two", DAY_TEXT + b"\n#\n", len(lines) + 1)
+    expect_line("before an unfinished one", DAY_TEXT + b"\n" + line, len(lines) + 1)
+
+
+def mutate(chance, octets):
+    """The octets of a message with some octet changed, put in or left out, or as they are."""
+    octets = bytearray(octets)
+    for _ in range(chance.choice((0, 1, 1, 1, 2))):
+        at, octet = chance.randrange(len(octets)), chance.choice((0, 1, 2, 3, 0x21, 0xFF))
+        how = chance.randrange(4)
+        if how == 0:
+            octets.insert(at, octet)
+        elif how == 1:
+            del octets[at]
+        else:
+            octets[at] = octet if how == 2 else octets[at] ^ 1 << chance.randrange(8)
+    return bytes(octets)
+
+
+@test
+def random_lines(seed):
+    """A line is a journal's just where a replay answers it by one reply of a row: requests of all
+    kinds, and what random changes make of them."""
+    chance, counts = start_chance(seed, "lines"), [0, 0]
+    kinds = [*DAY, *map(parse, (
+        "01 01 02 01 00 4B 00 07 04 21 21 00 01 81 00",
+        "01 01 02 01 00 03 00 07 06 21 22 00 01 00 01",
+        "01 01 02 01 00 41 00 08 01 82 90 04 00 00 07 07",
+        "01 01 02 01 00 42 00 0A 01 21 44 00 51 04 00 00 07 D0",
+        "01 01 02 01 00 42 00 0A 01 21 3E 00 50 04 00 00 07 D0",
+        "01 01 02 01 00 42 00 11 01 21 46 00 70 01 01 71 08 00 00 00 00 00 00 00 05",
+        "01 01 02 01 00 00 00 02 01 01", "01 01 02 01 00 41 00 04 01 01 33 00",
+        "01 01 02 01 00 00 00 02 01 81", "01 01 03 01 00 60 00 04 01 21 61 00",
+    ))]  # fmt: skip
+    for _ in range(LINES):
+        one = mutate(chance, chance.choice(kinds))
+        line = one.hex().encode() + b"\n"
+        answered = run(PROGRAM, "replay", KNOWN_SITE, given=line)
+        replies = [bytes.fromhex(text.decode()) for text in answered.out.splitlines()]
+        is_row = answered.status == 0 and len(replies) == 1 and not is_number(replies[0])
+        counts[is_row] += 1
+        if is_row:
+            signed = [n for n in range(1, 33) if without_token(one) == without_token(sign_on(n))]
+            offs = write_rows(*map(sign_off, signed))
+            expect_opened(one.hex(), FIRST + line, FIRST + line, 1, offs)
+        else:
+            expect_line(one.hex(), FIRST + line, 2)
+    if min(counts) < LINES // 10:
+        raise Failed(f"{counts[True]} rows, and {counts[False]} others")
+
+
+def is_number(reply):
+    """Whether a reply says that a message means no event."""
+    message = decode(reply)[0]
+    return message.kind == ACKNOWLEDGE and 50 <= message.items[RESULT][0] <= 58
+
+
+@test
+def first_lines():
+    """A first line that is no journal's, and that of another site file."""
+    rows = write_rows(*DAY)
+    for first in (
+        b"", b"\n", b"#\n", b"# a comment\n", b"#" + FIRST, FIRST[:-1] + b" \n", FIRST[:-2] + b"\n",
+        FIRST[:-1] + b"0\n", b"\xef\xbb\xbf" + FIRST, FIRST[:-1] + b"\r\n", FIRST[1:],
+    ):  # fmt: skip
+        expect_line(f"{first[:40]}", first + rows, 1)
+    for text in (b"x", b"# witsomar journal of sitf", b"01", FIRST[:-2] + b"x", b"\0" * 10):
+        expect_line(f"{text} without a line feed", text, 1)
+    OTHER_SITE.write_bytes(KNOWN_SITE.read_bytes() + b"\n")
+    for text in (DAY_TEXT, FIRST):
+        path = write_journal(text)
+        expect_refused("another site's", path, "journal of another site", OTHER_SITE)
+        expect("another site's file", path.read_bytes(), text)
+
+
+@test
+def other_spellings():
+    """A line of capital digits is read as well, and one with another token: they stay so."""
+    text = FIRST + write_rows(*DAY).upper()
+    expect_opened("capitals", text, text, len(DAY), OFF_1)
+    tokens = [one[:5] + bytes([one[5] | number]) + one[6:] for number, one in enumerate(DAY, 1)]
+    text = FIRST + b"".join(one.hex().encode() + b"\n" for one in tokens)
+    expect_opened("tokens", text, text, len(DAY), OFF_1)
+
+
+@test
+def full_books():
+    """Behind the row that fills the book there are the sign-offs of who is signed on, and nothing
+    else; a station that goes on there answers each request by 30. Its own report counts these
+    sign-offs; to `report` they are requests that a full book has no row for."""
+    site = HERE / "few.toml"
+    site.write_bytes(b"rows = 4\n" + KNOWN_SITE.read_bytes())
+    four = [sign_on(1), sign_on(2), say(1), command_point(1, 0, 1, OPEN)]
+    first = first_line(site)
+    full, offs = first + write_rows(*four), write_rows(sign_off(1), sign_off(2))
+    six, one_off = write_report(6, 0).encode(), full + write_rows(sign_off(2))
+    expect_opened("full", full, full, 4, offs, site, six)
+    expect_opened("one is off", one_off, one_off, 5, write_rows(sign_off(1)), site, six)
+    expect_opened("both are off", full + offs, full + offs, 6, b"", site, six)
+    expect("to a report", report_of(full + offs, site), write_report(4, 0).encode())
+    lift = report(1, 0, LIFT, 0)
+    for one in (sign_off(3), sign_on(3), sign_on(1), read_point(1, 0, 1), say(1), lift):
+        expect_line("beyond a full book", full + write_rows(one), 6, site)
+        expect_line("beyond its sign-offs", full + offs + write_rows(one), 8, site)
+    expect_line("a second sign-off", full + offs + write_rows(sign_off(1)), 8, site)
+    path = write_journal(full)
+    with start_station(path, site=site) as day, day.connect() as till, day.connect() as pump:
+        for peer, asked, wanted in (
+            (till, sign_on(1), parse("02 01 01 01 00 E1 00 05 01 01 01 01 1E")),
+            (pump, say(1), parse("03 01 01 01 00 E3 00 05 01 21 01 01 1E 03 01 01 01 00 80 00 04")
+             + parse("01 21 3C 00")),
+        ):  # fmt: skip
+            peer.sendall(asked)
+            expect("no row, and what stands", receive(peer, len(wanted)), wanted)
+        expect("the report", end(day).splitlines()[0], "rows 6")
+    expect("the journal", path.read_bytes(), full + offs)
+
+
+# ---- files
+
+
+@test
+def in_use():
+    """A second station on a journal is refused while the first one lives; one that was killed
+    leaves it free."""
+    path = write_journal(FIRST)
+    with start_station(path) as day, day.connect() as till:
+        till.sendall(sign_on(1))
+        expect("a reply", len(receive_message(till)), 16)
+        before = path.read_bytes()
+        link, second = HERE / "link", HERE / "second_name"
+        link.symlink_to(path)
+        second.hardlink_to(path)
+        for name in (path, link, second):
+            expect_refused("in use", name, "journal in use")
+        link.unlink()
+        second.unlink()
+        expect("the file", path.read_bytes(), before)
+        day.process.kill()
+        day.process.wait(WAIT)
+    with start_station(path) as day:
+        expect("its rows", day.rows, 1)
+        end(day)
+    expect("the file", path.read_bytes(), FIRST + write_rows(sign_on(1), sign_off(1)))
+
+
+@test
+def starts_at_once():
+    """Of some stations that are started at once on one journal just one serves, and each other one
+    is told that it is in use."""
+    pipe = subprocess.PIPE
+    for text in (None, DAY_TEXT):
+        for _ in range(AT_ONCE):
+            path = HERE / "at_once"
+            path.unlink(missing_ok=True)
+            if text:
+                path.write_bytes(text)
+            with contextlib.ExitStack() as stack:
+                all_ = [
+                    stack.enter_context(
+                        subprocess.Popen(command(path), stdin=pipe, stdout=pipe, stderr=pipe)
+                    )
+                    for _ in range(AT_ONCE)
+                ]
+                lines = sorted(one.stdout.readline()[:12] for one in all_)
+                served = b"journal rows" if text else b"listening 12"
+                expect("who serves", lines, [b""] * (AT_ONCE - 1) + [served])
+                ends = []
+                for one in all_:
+                    _, err = one.communicate(timeout=WAIT)
+                    ends.append((one.returncode, err))
+            refused = [(1, b"journal in use\n")] * (AT_ONCE - 1)
+            expect("how they end", sorted(ends), [(0, b""), *refused])
+            expect("the file", path.read_bytes(), text + OFF_1 if text else FIRST)
+
+
+@test
+def no_files():
+    """Names at which no journal can lie are refused at once."""
+    fifo, dangling, ring = HERE / "fifo", HERE / "dangling", HERE / "ring"
+    os.mkfifo(fifo)
+    dangling.symlink_to(HERE / "nowhere")
+    ring.symlink_to(ring)
+    file = write_journal(FIRST, "file")
+    names = [
+        HERE, fifo, dangling, ring, "/dev/full", "/dev/null", "/dev/zero", "", "/",
+        HERE / "no/such", f"{file}/x", f"{HERE}/slash/", HERE / ("x" * 300),
+    ]  # fmt: skip
+    for name in names:
+        expect_refused(f"{name}", name, f"cannot read {name}", timeout=10)
+    expect("nothing is made", sorted(p.name for p in HERE.iterdir() if p.name in
+           ("nowhere", "slash", "no")), [])  # fmt: skip
+    with os.fdopen(os.open(fifo, os.O_RDWR)):
+        expect_refused("a fifo with a reader", fifo, f"cannot read {fifo}", timeout=10)
+    site = HERE / "site.toml"
+    site.write_bytes(KNOWN_SITE.read_bytes())
+    expect_refused("the site file", site, "journal line 1", site)
+    expect("the site file stays", site.read_bytes(), KNOWN_SITE.read_bytes())
+    link = HERE / "good"
+    link.symlink_to(file)
+    ended = run(*command(link))
+    expect("a link to a journal", (ended.status, file.read_bytes()), (0, FIRST))
+
+
+@test
+def without_leave():
+    """Who may not read and write the file, or make it, is refused; who may is served."""
+    if os.geteuid() != 0:
+        raise Skipped("not root")
+    os.chmod(HERE, 0o755)
+    how = {"user": NOBODY, "group": NOBODY, "extra_groups": []}
+    try:
+        ended = run(PROGRAM, "--version", **how)
+        expect("nobody runs it", ended.status, 0)
+    except OSError as why:
+        raise Skipped(f"nobody can't run the program: {why}") from None
+    theirs = HERE / "theirs"
+    theirs.mkdir(mode=0o700)
+    os.chown(theirs, NOBODY, NOBODY)
+    for mode in (0o600, 0o644, 0o200, 0o622):
+        path = write_journal(DAY_TEXT, "kept")
+        path.chmod(mode)
+        expect_refused(f"mode {mode:o}", path, f"cannot read {path}", **how)
+        expect("the file", path.read_bytes(), DAY_TEXT)
+        path.unlink()
+    path = HERE / "none_yet"
+    expect_refused("a folder of others", path, f"cannot read {path}", **how)
+    expect("no file is made", path.exists(), False)
+    path = theirs / "journal"
+    ended = run(*command(path), **how)
+    expect("their own", (ended.status, ended.err, path.read_bytes()), (0, "", FIRST))
+
+
+def copy_of(path):
+    """The file to which a start writes a journal anew."""
+    return path.with_name(path.name + ".starting")
+
+
+@test
+def what_a_start_puts_in_its_place():
+    """A start puts a new file in a journal's place, with its owner and leave; a journal that is
+    made is its owner's alone. What an earlier start has left is removed."""
+    path, owner = write_journal(DAY_TEXT), NOBODY if os.geteuid() == 0 else os.geteuid()
+    path.chmod(0o640)
+    os.chown(path, owner, owner if os.geteuid() == 0 else -1)
+    before = path.stat()
+    copy_of(path).write_bytes(DAY_TEXT[:100])
+    expect("its end", run(*command(path)).status, 0)
+    after = path.stat()
+    expect("the file", path.read_bytes(), DAY_TEXT + OFF_1)
+    expect("another one", after.st_ino != before.st_ino, True)
+    for what in ("st_mode", "st_uid", "st_gid"):
+        expect(what, getattr(after, what), getattr(before, what))
+    expect("nothing is left", copy_of(path).exists(), False)
+    made = HERE / "made"
+    expect("its end", run(*command(made)).status, 0)
+    expect("leave of a new one", stat.filemode(made.stat().st_mode), "-rw-------")
+    expect("nothing is left", copy_of(made).exists(), False)
+
+
+@test
+def names_of_copies():
+    """A start of another journal may take such a file for what an earlier one has left."""
+    path = write_journal(DAY_TEXT, "another.starting")
+    link = HERE / "link_to_another"
+    link.symlink_to(path)
+    for name in (path, link):
+        expect_refused(f"{name.name}", name, f"cannot read {name}")
+    expect("the file", path.read_bytes(), DAY_TEXT)
+    expect_refused("none yet", HERE / "none.starting", f"cannot read {HERE / 'none.starting'}")
+    expect("no file is made", (HERE / "none.starting").exists(), False)
+
+
+@test
+def errors_into_the_journal():
+    """Where standard error goes to the journal, a start that is refused tells nothing: the journal
+    stays as it is, a running station's too."""
+    path = write_journal(DAY_TEXT, "told")
+
+    def start_there():
+        with open(path, "ab") as told:
+            ended = subprocess.run(
+                command(path), stdin=subprocess.DEVNULL, stdout=subprocess.PIPE, stderr=told,
+                timeout=WAIT, check=False,
+            )  # fmt: skip
+        expect("its end", (ended.returncode, ended.stdout), (1, b""))
+
+    start_there()
+    expect("the file", path.read_bytes(), DAY_TEXT)
+    with start_station(path) as day:
+        expect("rows", day.rows, len(DAY))
+        start_there()
+        end(day, None)
+    expect("the file", path.read_bytes(), DAY_TEXT + OFF_1)
+
+
+@test
+def what_others_have_left():
+    """A copy that another user's start has left is removed, too, where the folder lets that be."""
+    if os.geteuid() != 0:
+        raise Skipped("not root")
+    os.chmod(HERE, 0o755)
+    folder = HERE / "shared"
+    folder.mkdir()
+    os.chown(folder, NOBODY, NOBODY)
+    path = folder / "journal"
+    path.write_bytes(DAY_TEXT)
+    os.chown(path, NOBODY, NOBODY)
+    copy_of(path).write_bytes(DAY_TEXT[:100])
+    copy_of(path).chmod(0o600)
+    try:
+        ended = run(*command(path), user=NOBODY, group=NOBODY, extra_groups=[])
+    except OSError as why:
+        raise Skipped(f"nobody can't run the program: {why}") from None
+    expect("its end", (ended.status, ended.err), (0, ""))
+    expect("the file", path.read_bytes(), DAY_TEXT + OFF_1)
+    expect("nothing is left", copy_of(path).exists(), False)
+
+
+@test
+def no_place_for_a_copy():
+    """What no start has left isn't removed: the journal isn't opened, and stays as it is."""
+    path = write_journal(DAY_TEXT + b"01", "taken")
+    copy = copy_of(path)
+
+    def expect_unopened(what):
+        ended = run(*command(path))
+        expect(what, (ended.status, ended.out, ended.err), (1, b"", "fault 62\n"))
+        expect(f"{what}: the journal", path.read_bytes(), DAY_TEXT + b"01")
+        expect(f"{what}: it stays", os.path.lexists(copy), True)
+
+    copy.mkdir()
+    expect_unopened("a folder")
+    copy.rmdir()
+    copy.symlink_to(HERE / "nowhere")
+    expect_unopened("a link")
+    copy.unlink()
+    os.mkfifo(copy)
+    expect_unopened("a fifo")
+    copy.unlink()
+    copy.write_bytes(FIRST)
+    with open(copy, "rb") as file:
+        fcntl.flock(file, fcntl.LOCK_EX)
+        expect_unopened("a file that somebody has locked")
+    expect("its octets", copy.read_bytes(), FIRST)
+    expect("its end", run(*command(path)).status, 0)
+    expect("the journal", path.read_bytes(), DAY_TEXT + OFF_1)
+
+
+@test
+def mistaken_words():
+    """The journal is looked at behind the command line and the site file."""
+    for words in (["--journal"], ["--journal", "a", "--journal", "b"]):
+        ended = run(PROGRAM, "station", KNOWN_SITE, "--port", "0", *words)
+        expect(f"{words}", (ended.status, ended.out), (2, b""))
+    path = write_journal(b"bad\n")
+    for port, site, wanted in (
+        ("x", KNOWN_SITE, 2), ("0", "no_such_file", "cannot read no_such_file\n"),
+        ("0", "/dev/null", "fault 72 product\n"), ("0", KNOWN_SITE, "journal line 1\n"),
+    ):  # fmt: skip
+        ended = run(PROGRAM, "station", site, "--port", port, "--journal", path)
+        got = ended.status if wanted == 2 else (ended.status, ended.err)
+        expect(f"{port} {site}", got, 2 if wanted == 2 else (1, wanted))
+    with start_station(write_journal(FIRST, "first")) as day:
+        ended = run(PROGRAM, "station", KNOWN_SITE, "--port", str(day.port), "--journal", path)
+        expect("before listening", (ended.status, ended.err), (1, "journal line 1\n"))
+        path = write_journal(DAY_TEXT)
+        ended = run(PROGRAM, "station", KNOWN_SITE, "--port", str(day.port), "--journal", path)
+        expect("listening", (ended.status, ended.out, ended.err), (1, b"", "fault 63\n"))
+        expect("its file", path.read_bytes(), DAY_TEXT + OFF_1)
+
+
+# ---- closed standard streams
+
+
+def close_streams(*numbers):
+    """Before a program starts: these of its standard streams are closed."""
+    return lambda: [os.close(number) for number in numbers]
+
+
+@test
+def closed_streams():
+    """Whatever is closed, the journal's file has nothing but its lines; where it can't be told
+    where it listens nobody is served."""
+    for text, whole in ((b"", FIRST), (DAY_TEXT + b"01", DAY_TEXT + OFF_1)):
+        for closed in ((1,), (2,), (1, 2), (0,), (0, 1), (0, 2), (0, 1, 2)):
+            for words in ((), ("--detached",)):
+                path = write_journal(text)
+                if words and 1 not in closed:
+                    continue  # it serves until it is killed: see below
+                ended = run(*command(path, *words), preexec_fn=close_streams(*closed))
+                is_told = 1 not in closed
+                got = (ended.status, ended.err, ended.out != b"")
+                why = "" if is_told or 2 in closed else "fault 62\n"
+                expect(f"{closed} closed", got, (0 if is_told else 1, why, is_told))
+                expect(f"{closed} closed: the file", path.read_bytes(), whole)
+
+
+@test
+def full_output():
+    """A standard output that takes nothing ends the day; its rows are there at the next start."""
+    path = write_journal(DAY_TEXT)
+    ended = run(*command(path), sink="/dev/full")
+    expect("its end", (ended.status, ended.err), (1, "fault 62\n"))
+    text = DAY_TEXT + OFF_1
+    expect("its file", path.read_bytes(), text)
+    expect_opened("the next start", text, text, len(DAY) + 1)
+
+
+@test
+def closed_error():
+    """What is told of sessions on a standard error that is closed goes nowhere: not to the
+    journal, and not to a peer."""
+    asked = [sign_on(1), command_point(1, 0, 1, OPEN)]
+    for words in ((), ("--detached",)):
+        for closed in ((2,), (0, 2)) if words else ((2,),):
+            path = write_journal(b"")
+            with start_station(path, *words, preexec_fn=close_streams(*closed)) as day:
+                with day.connect() as other, day.connect() as peer:
+                    peer.sendall(b"".join(asked) + b"\xff" * 8)
+                    told = receive_all(peer)
+                    other.sendall(sign_on(2))
+                    told += receive_message(other)
+                    day.process.kill()
+                    day.process.wait(WAIT)
+                    told += receive_all(other)
+            text = path.read_bytes()
+            rows = [*asked, sign_off(1), sign_on(2)]
+            expect(f"{closed} closed {words}: the file", text, FIRST + write_rows(*rows))
+            made = [row.reply for row in read_journal(PROGRAM, KNOWN_SITE, text)]
+            fault = parse("FF FF 01 01 00 FF 00 05 01 01 01 01 28")
+            told = decode(told)
+            wanted = decode(b"".join([*made[:2], fault, made[3]]))
+            expect("who was told what", [one._replace(token=0) for one in told],
+                   [one._replace(token=0) for one in wanted])  # fmt: skip
+
+
+# ---- a disk that takes no more
+
+
+def receive_or_end(peer):
+    """A message; nothing once the connection has ended, however it did."""
+    try:
+        return receive_message(peer)
+    except ConnectionError:
+        return b""
+
+
+def fill(path, what, seed, **how):
+    """A till closes and opens a point, and its dispenser listens, until the journal takes no more:
+    the day ends with fault 62 and without a report, and what both were told are rows that the
+    journal has."""
+    chance = start_chance(seed, what)
+    with start_station(path, **how) as day, day.connect() as till, day.connect() as pump:
+        pump.sendall(say(1))
+        came = {(DISPENSER, 1): receive_message(pump), (TILL, 1): b""}
+        asked, told = [sign_on(1), command_point(1, 0, 1, OPEN)], b"first"
+        while told:
+            with contextlib.suppress(ConnectionError):
+                till.sendall(b"".join(asked))
+            for _ in asked:
+                told = receive_or_end(till)
+                came[(TILL, 1)] += told
+            pairs = chance.choice((1, 2, 10, 30))
+            asked = [command_point(1, 0, 1, one) for one in (CLOSE, OPEN) * pairs]
+        came[(DISPENSER, 1)] += receive_all(pump)
+        out, err = day.process.communicate(timeout=WAIT)
+        expect(f"{what}: the end", (day.process.returncode, out, err), (1, b"", b"fault 62\n"))
+    text = whole_lines(path.read_bytes())
+    rows = read_journal(PROGRAM, KNOWN_SITE, text)
+    for node, octets in came.items():
+        untold = find_untold(rows, node, octets)
+        expect(f"{what}: {node} is told what isn't stored", untold, None)
+    count = len(split_messages(b"".join(came.values())))
+    if len(rows) < MANY or count < MANY:
+        raise Failed(f"{what}: only {len(rows)} rows, and {count} messages were told")
+    return text
+
+
+def limit_file(octets):
+    """Before a program starts: its files take at most so many octets each."""
+
+    def limit():
+        signal.signal(signal.SIGXFSZ, signal.SIG_IGN)
+        resource.setrlimit(resource.RLIMIT_FSIZE, (octets, octets))
+
+    return limit
+
+
+@test
+def a_file_that_takes_no_more(seed):
+    """A file may take only so many octets, whatever line is torn there: that one is cut off again;
+    a start that finds more room goes on behind the whole lines."""
+    for most in (20_000, 20_001, 20_029, 65_536):
+        path = write_journal(b"")
+        text = fill(path, f"a file of {most} octets", seed, preexec_fn=limit_file(most))
+        expect("its octets: the stored rows alone", path.read_bytes(), text)
+        expect("no more than it may take", len(text) <= most, True)
+        rows = text.count(b"\n") - 1
+        offs = [sign_off(1)] if b"\n" + write_rows(sign_on(1)) in text else []
+        expect_opened("with more room", path.read_bytes(), text, rows, write_rows(*offs))
+    path = write_journal(b"")
+    ended = run(*command(path), preexec_fn=limit_file(len(FIRST) - 1))
+    expect("no first line", (ended.status, ended.out, ended.err), (1, b"", "fault 62\n"))
+    path = write_journal(DAY_TEXT)
+    ended = run(*command(path), preexec_fn=limit_file(len(DAY_TEXT)))
+    expect("no sign-off", (ended.status, ended.out, ended.err), (1, b"", "fault 62\n"))
+    expect("the rows stay", path.read_bytes(), DAY_TEXT)
+
+
+@test
+def a_full_disk(seed):
+    """A small disk that is filled."""
+    disk = HERE / "disk"
+    disk.mkdir(exist_ok=True)
+    options = ["-t", "tmpfs", "-o", "size=64k", "tmpfs", disk]
+    if not shutil.which("mount") or run("mount", *options).status != 0:
+        raise Skipped("mounting isn't allowed")
+    try:
+        path = disk / "journal"
+        text = fill(path, "a full disk", seed)
+        kept = write_journal(path.read_bytes(), "kept")
+        again = run(*command(path))
+        expect("again", (again.status, again.err) in ((0, ""), (1, "fault 62\n")), True)
+        expect("its rows stay", path.read_bytes().startswith(text), True)
+        ended = run(*command(kept))
+        expect("on another disk", (ended.status, ended.err), (0, ""))
+        (disk / "more").write_bytes(b"")
+        with open(disk / "more", "wb", buffering=0) as more, contextlib.suppress(OSError):
+            while more.write(b"x" * 512):
+                pass
+        full = disk / "second"
+        ended = run(*command(full))
+        expect("no octet is left", (ended.status, ended.out, ended.err), (1, b"", "fault 62\n"))
+    finally:
+        run("umount", disk)
+
+
+# ---- a station that is killed
+
+KILLS = 120
+PRICES = (1_500, 1_799)
+CUTS = 40
+
+
+def write_kill_site():
+    site = HERE / "killed.toml"
+    nozzles = "nozzles = [{product = 1, reading = 0}, {product = 2, reading = 1000}]"
+    text = "managers = [1]\n" + "".join(
+        f'[[product]]\nnumber = {number}\nname = "{name}"\nprice = {price}\n'
+        for number, name, price in zip((1, 2), ("diesel", "petrol"), PRICES)
+    )
+    site.write_text(text + "".join(
+        f"[[point]]\nnumber = {number}\n{nozzles}\n" for number in range(1, POINTS + 1)
+    ))  # fmt: skip
+    return site
+
+
+def kill_start(path, site, chance):
+    """Starts a station, and kills it before anybody asks it anything; how long it lived may be
+    too short for it to read its journal."""
+    with subprocess.Popen(
+        command(path, "--detached", site=site), stdin=subprocess.DEVNULL,
+        stdout=subprocess.DEVNULL, stderr=subprocess.PIPE,
+    ) as process:  # fmt: skip
+        time.sleep(chance.random() * 0.1)
+        process.kill()
+        _, err = process.communicate(timeout=WAIT)
+    expect("a start that is killed", err, b"")
+
+
+def run_and_kill(path, site, runs, seed):
+    """Runs the station until it is killed, KILLS times in all, and then for a whole day; returns
+    how many rows it found at each start, and its last report."""
+    chance, found, kills = start_chance(seed, "kills"), [], 0
+    while True:
+        if kills < KILLS and chance.random() < 0.2:
+            kill_start(path, site, chance)
+            kills += 1
+        with start_station(path, site=site) as day:
+            found.append(day.rows)
+            runs.begin(day.port)
+            is_last = kills >= KILLS
+            time.sleep(2 if is_last else chance.choice((0.02, 0.1, 0.3, 0.6)) * chance.random())
+            if runs.wrong:
+                raise Failed("; ".join(runs.wrong[:3]))
+            if is_last:
+                runs.stop()
+                yield day
+                yield found, end(day)
+                return
+            runs.kill(day.process)
+            out, err = day.process.communicate(timeout=WAIT)
+            expect("a run that is killed", (out, err), (b"", b""))
+            kills += 1
+
+
+def expect_told(peers, rows, found):
+    """Each peer's sessions, with all that came to it, are what the journal's rows tell, run by
+    run; and no row is of anybody else."""
+    told, bounds = Told(rows), [*found, len(rows)]
+    for peer in peers:
+        for number, (begin, end_) in enumerate(zip(bounds, bounds[1:])):
+            sessions = [one for run_, one in peer.sessions if run_ == number]
+            why = told.explain(peer.node, sessions, begin, end_)
+            if why:
+                raise Failed(f"run {number}, rows {begin} to {end_}: {why}")
+    expect("whose rows", {*told.own} <= {peer.node for peer in peers}, True)
+
+
+def expect_each_litre_once(peers, rows, report_text):
+    """No sale is cleared twice; who was told that it cleared one is who did; each litre is in one
+    place, and all that the meters told is metered."""
+    cleared = {}
+    for row in rows:
+        asked = decode(row.request)[0]
+        if asked.kind == WRITE and CLEAR in asked.items and row.is_accepted:
+            sale = (asked.address[0] - 0x20, int(asked.address[2:].hex()))
+            if sale in cleared:
+                raise Failed(f"sale {sale} is cleared by {cleared[sale]} and by {row.node}")
+            cleared[sale] = row.node
+    for till in peers[:POINTS]:
+        for sale in till.told_cleared:
+            expect(f"who cleared {sale}", cleared[sale], till.node)
+    expect("clears", report_text.splitlines()[1].split()[1], str(len(cleared)))
+    lines = [line.split() for line in report_text.splitlines() if line.startswith("product ")]
+    for number, (line, begun) in enumerate(zip(lines, (0, 1_000)), 1):
+        volumes = dict(zip(line[3::2], map(int, line[4::2])))
+        parts = [volumes[name] for name in ("running", "payable", "locked", "cleared", "adjusted")]
+        expect(f"the litres of product {number}", volumes["metered"], sum(parts))
+        meters = sum(pump.meters[number] - begun for pump in peers[POINTS:])
+        expect(f"what is metered of product {number}", volumes["metered"], meters)
+    if len(cleared) < KILLS:
+        raise Failed(f"only {len(cleared)} sales")
+    return len(cleared)
+
+
+def expect_fronts(text, site, seed):
+    """A copy of the journal, cut at whatever octet, is opened with the rows of its whole lines."""
+    chance, first = start_chance(seed, "cuts"), len(first_line(site))
+    begins = [at + 1 for at in range(first, min(len(text), 40_000)) if text[at : at + 1] == b"\n"]
+    places = [chance.randrange(len(text)) for _ in range(CUTS // 2)]
+    places += [chance.randrange(min(len(text), 20_000)) for _ in range(CUTS // 4)]
+    places += [chance.choice(begins) + chance.choice((-1, 0, 1)) for _ in range(CUTS // 4)]
+    for place in places:
+        path = write_journal(text[:place], "cut")
+        kept = whole_lines(text[:place]) or first_line(site)
+        ended = run(*command(path, site=site))
+        count = kept.count(b"\n") - 1
+        said = f"journal rows {count}\n".encode() if count else b""
+        is_opened = ended.status == 0 and ended.err == "" and ended.out.startswith(said + b"list")
+        if not is_opened:
+            raise Failed(f"cut to {place} octets: {ended}")
+        after = path.read_bytes()
+        expect(f"cut to {place} octets: its front", after[: len(kept)], kept)
+        offs = [row for row in read_journal(PROGRAM, site, after)[count:] if not is_sign_off(row)]
+        expect(f"cut to {place} octets: what else", offs, [])
+        if not ended.out.endswith(report_of(after, site)):
+            raise Failed(f"cut to {place} octets: the report is another one's")
+
+
+@test
+def killed_for_real(seed):
+    """Eight tills and eight dispensers work at a station that is killed at any moment and started
+    again. Each reply that ever came is that of its row, each notice is of a row too, and all come
+    in the rows' order; each row is what its peer sent; and the station's last report is that of its
+    journal."""
+    site, runs = write_kill_site(), Runs()
+    path, begun = write_journal(b"", "killed"), time.monotonic()
+    peers = [Till(runs, number, seed) for number in range(1, POINTS + 1)]
+    peers += [Pump(runs, point, seed) for point in range(1, POINTS + 1)]
+    for peer in peers:
+        peer.start()
+    try:
+        days = run_and_kill(path, site, runs, seed)
+        next(days)
+        for peer in peers:
+            peer.join(WAIT)
+            expect(f"{peer.node} has stopped", peer.is_alive(), False)
+        found, told = next(days)
+    finally:
+        runs.stop()
+    if runs.wrong:
+        raise Failed("; ".join(runs.wrong[:3]))
+    for peer in peers:
+        peer.take_rest()
+        last = peer.sessions[-1][1]
+        expect(f"{peer.node}: its last replies", len(last.replies), len(last.sent))
+    took = time.monotonic() - begun
+    text = path.read_bytes()
+    expect("whole lines", whole_lines(text), text)
+    expect("no copy is left", copy_of(path).exists(), False)
+    rows = read_journal(PROGRAM, site, text)
+    expect_told(peers, rows, found)
+    sales = expect_each_litre_once(peers, rows, told)
+    expect("the report", told.encode(), report_of(text, site))
+    came = [one for peer in peers for _, session in peer.sessions for one in session.came]
+    notices = sum(map(is_notice, came))
+    print(
+        f"journal: {KILLS} kills in {took:.0f} seconds, {len(rows)} rows, {len(came) - notices}"
+        f" replies, {notices} notices, {sales} sales,"
+        f" {sum(len(peer.sessions) for peer in peers)} sessions",
+        flush=True,
+    )  # fmt: skip
+    expect_fronts(text, site, seed)

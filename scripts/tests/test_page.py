@@ -1,0 +1,757 @@
+"""The page of `forecourt station`, and reports as JSON.
+
+Over plain HTTP: what each path and method is answered, how many are served and for how long, and
+peers that mean no good; what `site.json` tells beside the journal and the commands that read it.
+In a headless Chromium: what the page says of a day, step after step, and how it looks on screens
+and on a telephone. Without a Chromium those tests are skipped."""
+
+import base64
+import concurrent.futures
+import contextlib
+import functools
+import hashlib
+import json
+import pathlib
+import re
+import select
+import signal
+import socket
+import statistics
+import threading
+import time
+
+from shared import forecourts, page_day, serving
+from shared.browser import (
+    SCREEN, SOON, TELEPHONE, WIDE, expect_words, find_browser, open_page, read_tile, start_browser,
+)  # fmt: skip
+from shared.checks import Failed, Skipped, expect
+from shared.page_day import connect, end_day, read_answer, write_request
+from shared.running import EXAMPLES, SCRIPTS, compile_c, run
+from shared.serving import list_addresses, wait_until
+from shared.station import (
+    CLEAR, FIVE_POINTS, FLOW, HANG_UP, KNOWN_SITE, LIFT, LOCK, OPEN, RELEASE, SITE,
+    TILL, WRITE, address_point, command_point, command_sale, decode, encode, read_point,
+    receive_all, report, sign_on,
+)  # fmt: skip
+from tests.built import PROGRAM
+from tests.suite import make_folder, test, test_beside
+
+HERE = make_folder()
+start_page = functools.partial(page_day.start_page, PROGRAM)
+start_busy = functools.partial(page_day.start_busy, PROGRAM)
+ASIDE = (844, 390)  # a telephone that lies
+LOOKS = (SCRIPTS / "tests/page_looks.js").read_text()
+SILENCE = 6  # seconds, within which it says that the station doesn't answer
+PIPELINED = 10_000
+MOST_PEERS = 64
+# Seconds after which a silent peer is left: 10 to 12, and one for a machine that is busy.
+LEFT_AFTER = (10, 13)
+READS = 2_000  # of a till, beside which the page is asked
+SLOW = 0.02  # seconds: half of a till's replies come sooner
+STATES = (
+    "inoperative", "closed", "idle", "calling", "authorised", "started", "suspended started",
+    "fuelling", "suspended fuelling",
+)  # fmt: skip
+
+
+def wait_for_end(peer):
+    """Waits until the station ends the connection, whatever it says before."""
+    peer.settimeout(serving.WAIT)
+    with contextlib.suppress(ConnectionError):
+        while peer.recv(65_536):
+            pass
+
+
+def ask_on(peer):
+    """Asks on a connection that stays for what isn't there; the status of the answer."""
+    peer.sendall(write_request("/nothing"))
+    return read_answer(peer)[0]
+
+
+# ---- plain HTTP
+
+
+@test
+def each_path_and_method():
+    with start_page() as page:
+        status, fields, body = page.get("/")
+        expect("the page", (status, fields["content-type"]), (200, "text/html; charset=utf-8"))
+        expect("its HEAD", page.get("/", "HEAD"), (200, fields, b""))
+        status, fields, body = page.get("/site.json")
+        expect("the site", (status, fields["content-type"]), (200, "application/json"))
+        expect("not kept", fields["cache-control"], "no-store")
+        expect("with a query", page.get("/site.json?x=1")[2], body)
+        for path in ("/nothing", "/site.json/", "/../site.json", "//"):
+            expect(path, page.get(path)[0], 404)
+        for method in ("POST", "PUT", "DELETE", "OPTIONS", "PATCH", "CONNECT"):
+            status, fields, body = page.get("/", method)
+            expect(method, (status, fields["allow"], body), (405, "GET, HEAD", b""))
+        with connect(page.port) as peer:
+            peer.sendall(write_request("/", "POST", "Content-Length: 1024\r\n") + b"a" * 1_024)
+            expect("the longest body", read_answer(peer)[0], 405)
+        rows = page.site()["rows"]
+        expect("no row is made", rows, 1)
+
+
+@test
+def asks_nothing_of_others():
+    """The page's own script and style are those that its policy names, and nothing else may run;
+    no address of elsewhere stands in it."""
+    with start_page() as page:
+        _, fields, body = page.get("/")
+        policy = fields["content-security-policy"]
+        for name in ("style", "script"):
+            text = re.search(f"<{name}>(.*?)</{name}>".encode(), body, re.S).group(1)
+            digest = base64.b64encode(hashlib.sha256(text).digest()).decode()
+            expect(f"the {name}'s sum (src/policy.rt)", f"{name}-src 'sha256-{digest}'" in policy,
+                   True)  # fmt: skip
+        expect("nothing else", policy.startswith("default-src 'none'; "), True)
+        expect("addresses", re.findall(rb"https?://|src=|@import|innerHTML|eval\(", body), [])
+
+
+# The members of site.json, and of what is in it.
+SITE_MEMBERS = ["connections", "limit", "points", "products", "rows", "shift", "tills",
+                "transactions"]  # fmt: skip
+POINT = ["fuelling", "holder", "nozzle", "number", "product", "state", "state name"]
+FUELLING = ["cents", "ending", "millilitres", "mills", "prepaid", "preset cents",
+            "preset millilitres", "test"]  # fmt: skip
+PRODUCT = ["adjusted", "cleared", "locked", "metered", "mills", "name", "number", "payable",
+           "running"]  # fmt: skip
+TRANSACTION = ["cents", "millilitres", "mills", "number", "point", "prepaid", "product", "shift",
+               "status", "till"]  # fmt: skip
+
+
+@test
+def members_of_the_site():
+    """Each point, product and till is there. The text has no spaces between members, which stand
+    in the order of their names."""
+    with start_busy(forecourts.make_crowded_day()) as (page, _):
+        text = page.get("/site.json")[2].decode()
+        site = json.loads(text)
+        again = json.dumps(site, sort_keys=True, separators=(",", ":"))
+        expect("in order, without spaces", text, again)
+        expect("members", list(site), SITE_MEMBERS)
+        for name, members in (("points", POINT), ("products", PRODUCT),
+                              ("tills", ["cents", "clears", "number", "signed on"]),
+                              ("transactions", TRANSACTION)):  # fmt: skip
+            expect(name, [one for one in site[name] if list(one) != members], [])
+        expect("points", [point["number"] for point in site["points"]], list(range(1, 65)))
+        expect("tills", [till["number"] for till in site["tills"]], list(range(1, 33)))
+        expect("connections", site["connections"], 96)
+        for point in site["points"]:
+            expect("fuelling", list(point["fuelling"]), FUELLING)
+            expect("state", point["state name"], STATES[point["state"] - 1])
+            has_started = point["state"] > forecourts.AUTHORISED
+            expect("started", point["fuelling"]["cents"] is not None, has_started)
+        for product in site["products"]:
+            parts = ("running", "payable", "locked", "cleared", "adjusted")
+            expect("parts", sum(product[part] for part in parts), product["metered"])
+
+
+@test
+def request_cut_after_each_octet():
+    """Octet by octet, and each front of a request alone: the day goes on."""
+    with start_page() as page:
+        wanted = page.get("/site.json")[2]
+        sent = write_request("/site.json")
+        with connect(page.port) as peer:
+            for octet in sent:
+                peer.sendall(bytes([octet]))
+                time.sleep(serving.LOOK / 5)
+            got = read_answer(peer)
+            expect("status", got[0], 200)
+            expect("rows", json.loads(got[2])["rows"], json.loads(wanted)["rows"])
+        for end in range(len(sent)):
+            with connect(page.port) as peer:
+                peer.sendall(sent[:end])
+        expect_undisturbed(page)
+
+
+@test
+def pipelined():
+    """10,000 requests at once: as many answers, in order, however slowly they are read; and what
+    is owed to a peer that reads nothing doesn't grow."""
+    with start_page() as page:
+        sent = write_request("/nothing") * PIPELINED
+        with connect(page.port) as slow, connect(page.port) as peer:
+            slow.setblocking(False)
+            with contextlib.suppress(BlockingIOError):
+                while True:
+                    slow.send(write_request("/"))
+            peer.setblocking(False)
+            answers = b""
+            while answers.count(b"404 Not Found") < PIPELINED:
+                if sent:
+                    with contextlib.suppress(BlockingIOError):
+                        sent = sent[peer.send(sent) :]
+                with contextlib.suppress(BlockingIOError):
+                    answers += peer.recv(65_536)
+            expect_undisturbed(page)
+            kilobytes = read_kilobytes(page.day)
+            if kilobytes > 32_000:
+                raise Failed(f"{kilobytes} kilobytes of memory")
+
+
+@test
+def loopback_alone():
+    """The station and its page listen on 127.0.0.1, and have no other socket."""
+    with start_page(till=None) as page:
+        wanted = [(f"0100007F:{port:04X}", "0A") for port in (page.day.port, page.port)]
+        expect("addresses", sorted(list_addresses(page.day.process)), sorted(wanted))
+
+
+def count_fields(count):
+    """A request with so many fields, its Host among them."""
+    return write_request("/", fields="".join(f"A{n}: 1\r\n" for n in range(count - 1)))
+
+
+@test
+def strange_requests():
+    """What is no request is refused, and its connection closed."""
+    long = "A: " + "a" * 70_000 + "\r\n"
+    strange = (
+        (write_request("/", host="a b"), 400),
+        (write_request("/", host="\\"), 400),
+        (b"GET / HTTP/1.1\r\n\r\n", 400),
+        (b"\0\1\2\r\n\r\n", 400),
+        (b"GET  / HTTP/9.9\r\n\r\n", 400),
+        (write_request("/", fields=long), 431),
+        (count_fields(65), 431),
+        (write_request("/" + "a" * 70_000), 414),
+        (write_request("/", "POST", "Content-Length: 1025\r\n"), 413),
+        (write_request("/", "POST", "Transfer-Encoding: gzip, chunked\r\n"), 501),
+    )
+    with start_page() as page:
+        for sent, status in strange:
+            with connect(page.port) as peer:
+                with contextlib.suppress(ConnectionError):
+                    peer.sendall(sent)
+                    expect(repr(sent[:60]), read_answer(peer)[0], status)
+                    wait_for_end(peer)
+        with connect(page.port) as peer:
+            peer.sendall(count_fields(64))
+            expect("64 fields", read_answer(peer)[0], 200)
+        for host in ("example.org", "[::1]:80", "localhost", ""):
+            with connect(page.port) as peer:
+                peer.sendall(write_request("/nothing", host=host))
+                expect(host, read_answer(peer)[0], 404)
+        expect_undisturbed(page)
+
+
+# ---- who is served, and for how long
+
+
+@test
+def sixty_four_connections():
+    """As many are served at once; one more is closed at once, and once one has left another is
+    served. None of them is a connection of the station, and none holds up a till."""
+    with start_page() as page, contextlib.ExitStack() as stack:
+        peers = [stack.enter_context(connect(page.port)) for _ in range(MOST_PEERS)]
+        for peer in peers:
+            expect("each is served", ask_on(peer), 404)
+        with connect(page.port) as more:
+            begun = time.monotonic()
+            wait_for_end(more)
+            if time.monotonic() - begun > SOON:
+                raise Failed(f"one more is closed after {time.monotonic() - begun:.1f} seconds")
+        expect_fast(page)
+        peers[0].sendall(write_request("/site.json"))
+        expect("connections", json.loads(read_answer(peers[0])[2])["connections"], 1)
+        peers.pop().close()
+        wait_until("another is served", lambda: is_served(page.port))
+        expect("the others are, too", {ask_on(peer) for peer in peers}, {404})
+
+
+def is_served(port):
+    """Whether a new connection of the page is."""
+    with connect(port) as peer, contextlib.suppress(Failed, ConnectionError):
+        return ask_on(peer) == 404
+    return False
+
+
+def expect_fast(page):
+    """Half of a hundred replies to the till come within a moment."""
+    rounds = []
+    for n in range(100):
+        begun = time.monotonic()
+        page.tell(read_point(1, n % 32, 1))
+        rounds.append(time.monotonic() - begun)
+    if statistics.median(rounds) > SLOW:
+        raise Failed(f"half of the replies took {statistics.median(rounds):.4f} seconds or more")
+
+
+@test_beside
+def silent_peers():
+    """Who says nothing, who says an octet each second, who is silent behind an answer and who takes
+    no answer is left after ten to twelve seconds; who asks now and then stays."""
+    kinds = (say_nothing, say_an_octet_each_second, fall_silent, take_nothing)
+    pool = concurrent.futures.ThreadPoolExecutor(len(kinds))
+    with start_page() as page, pool, connect(page.port) as steady:
+        ends = [pool.submit(wait_out, kind, page.port) for kind in kinds]
+        while not all(end.done() for end in ends):
+            expect("who asks now and then", ask_on(steady), 404)
+            time.sleep(1)
+        least, most = LEFT_AFTER
+        for kind, end in zip(kinds, ends):
+            since_it_came, since_it_is_silent = end.result()
+            if since_it_came < least or since_it_is_silent > most:
+                raise Failed(f"{kind.__name__}: left after {end.result()} seconds")
+
+
+def wait_out(kind, port):
+    """After how many seconds a peer of this kind is left: since it came, and since it fell silent,
+    where that is later."""
+    came = time.monotonic()
+    with connect(port) as peer:
+        silent = kind(peer) or came
+        now = time.monotonic()
+    return now - came, now - silent
+
+
+def say_nothing(peer):
+    wait_for_end(peer)
+
+
+def say_an_octet_each_second(peer):
+    for octet in write_request("/"):
+        peer.sendall(bytes([octet]))
+        if select.select([peer], [], [], 1)[0]:
+            break
+    wait_for_end(peer)
+
+
+def fall_silent(peer):
+    expect("an answer", ask_on(peer), 404)
+    wait_for_end(peer)
+
+
+def take_nothing(peer):
+    ask_until_full(peer)
+    silent = time.monotonic()
+    wait_until("the connection closed", lambda: has_failed(peer))
+    return silent
+
+
+def ask_until_full(peer):
+    """Asks until no octet is taken any more, and reads none."""
+    peer.setblocking(False)
+    looks = 0
+    while looks < serving.LOOKS:
+        try:
+            peer.send(write_request("/") * 100)
+            looks = 0
+        except BlockingIOError:
+            looks += 1
+            time.sleep(serving.LOOK)
+
+
+def has_failed(peer):
+    """Whether the other end has closed the connection, though octets of it aren't read."""
+    try:
+        peer.send(b"G")
+    except BlockingIOError:
+        return bool(peer.getsockopt(socket.SOL_SOCKET, socket.SO_ERROR))
+    except ConnectionError:
+        return True
+    return False
+
+
+@test
+def a_day_that_ends():
+    """The day ends at once, though peers of the page are there: silent ones, one in the middle of
+    a request, and one that takes nothing of what it asked for."""
+    with start_page() as page, contextlib.ExitStack() as stack:
+        peers = [stack.enter_context(connect(page.port)) for _ in range(4)]
+        expect("an answer", ask_on(peers[1]), 404)
+        peers[2].sendall(write_request("/")[:20])
+        ask_until_full(peers[3])
+        page.leave()
+        begun = time.monotonic()
+        rows = int(end_day(page.day).split()[1])
+        expect("rows", rows, 2)
+        if time.monotonic() - begun > SOON:
+            raise Failed(f"the day ends after {time.monotonic() - begun:.1f} seconds")
+        for peer in peers:
+            peer.setblocking(True)
+            wait_for_end(peer)
+
+
+# ---- the site as JSON, beside the journal and the commands
+
+
+@test
+def only_what_is_stored():
+    """A till's request and one of the page are heard in one round. Where its row is stored the page
+    tells of it; where the flush fails neither is answered, and the day ends."""
+    library = compile_c(HERE, "tests/faults.c", "-O1", "-shared", "-fPIC")
+    met = 0
+    for sync in range(0, 9):
+        journal = HERE / f"flush-{sync}.journal"
+        faults = {"LD_PRELOAD": library, "FAIL_SYNC": str(sync)}
+        try:
+            with start_page("--journal", str(journal), till=None, env=faults) as page:
+                answers = ask_in_one_round(page)
+                if sync == 0:
+                    expect("rows", answers, [1, 1])
+                    continue
+                expect("answers", answers, [0, None])
+                _, told = page.day.process.communicate(timeout=serving.WAIT)
+                expect("the end", (page.day.process.returncode, told), (1, b"fault 62\n"))
+                page.day.process.stdin = None
+                expect("lines", count_rows(journal), 0)
+                met += 1
+                break
+        except Failed as why:
+            if "the first line is ''" not in str(why):
+                raise  # else it was a flush before it listens
+    expect("flushes that failed", met, 1)
+
+
+def ask_in_one_round(page):
+    """A till signs on, and the page is asked for the site, while the station is stopped. Returns
+    how many replies the till gets, and the rows that the page tells; None where it isn't
+    answered."""
+    with page.day.connect() as till, connect(page.port) as peer:
+        expect("the page", ask_on(peer), 404)
+        # Behind this both are silent: a wait that a stop interrupts may report others once more.
+        wait_until("the till is there", lambda: page.site()["connections"] == 1)
+        page.day.process.send_signal(signal.SIGSTOP)
+        wait_until("the station stopped", lambda: read_state(page.day) == "T")
+        till.sendall(sign_on(1))
+        peer.sendall(write_request("/site.json"))
+        page.day.process.send_signal(signal.SIGCONT)
+        rows = None
+        with contextlib.suppress(Failed, ConnectionError):
+            rows = json.loads(read_answer(peer)[2])["rows"]
+        till.shutdown(socket.SHUT_WR)
+        return [len(decode(receive_all(till))), rows]
+
+
+def read_state(day):
+    """The state of the process, as the system names it."""
+    text = pathlib.Path(f"/proc/{day.process.pid}/stat").read_text()
+    return text.rsplit(")", 1)[1].split()[0]
+
+
+@test
+def rows_of_the_journal():
+    """While a till asks as fast as it is answered, no more rows are told than the journal has
+    lines."""
+    journal = HERE / "stored.journal"
+    with start_page("--journal", str(journal)) as page, connect(page.port) as peer:
+        asking = threading.Thread(
+            target=lambda: page.tell(*(read_point(1, n % 32, 1) for n in range(READS)))
+        )
+        asking.start()
+        told = 0
+        while asking.is_alive():
+            peer.sendall(write_request("/site.json"))
+            rows = json.loads(read_answer(peer)[2])["rows"]
+            lines = count_rows(journal)
+            if rows > lines:
+                raise Failed(f"{rows} rows are told, and {lines} are in the journal")
+            told += 1
+        asking.join()
+        expect("rows", page.site()["rows"], READS + 1)
+        expect("lines", count_rows(journal), READS + 1)
+        if told < 10:
+            raise Failed(f"the page was asked {told} times")
+
+
+def count_rows(journal):
+    """The whole lines of a journal, without its first."""
+    return journal.read_bytes().count(b"\n") - 1
+
+
+@test
+def beside_the_commands():
+    """What `site.json` tells of 64 points is what `sales` and `report` find in the journal; the
+    station's own report as JSON is that of its journal."""
+    journal = HERE / "crowded.journal"
+    words = ("--journal", str(journal), "--json")
+    with start_busy(forecourts.make_crowded_day(), *words) as (page, file):
+        site = page.site()
+        text = journal.read_bytes()
+        sales = run(PROGRAM, "sales", file, "--json", given=text).out.decode().splitlines()
+        members = sorted(site["transactions"][0])
+        unpaid = [{name: sale[name] for name in members} for sale in map(json.loads, sales)
+                  if sale["status"] != "cleared"]  # fmt: skip
+        expect("unpaid transactions", site["transactions"], unpaid)
+        told = json.loads(run(PROGRAM, "report", file, "--json", given=text).out)
+        expect("rows", (site["rows"], count_rows(journal)), (told["rows"], told["rows"]))
+        expect("products", site["products"], told["products"])
+        tills = [{**till, "signed on": True} for till in told["tills"]]
+        expect("tills", site["tills"], tills)
+        page.leave()
+        told = end_day(page.day).encode()
+        expect_same_report(told, run(PROGRAM, "report", file, given=journal.read_bytes()).out)
+
+
+@test
+def reports_as_json():
+    """A report as JSON has the figures of the text, at the end of each day of the examples, and
+    where a day ends with a fault, which is told alike."""
+    days = [path.read_bytes() for path in sorted(EXAMPLES.glob("*.hex"))]
+    ends = (b"", b"01 01 02", b"0101 0202 00 0G", b"FF" * 12 + b"\n", b"zz\n0101020100410004010131")
+    for given in [*days, b"", *(days[0] + end for end in ends)]:
+        text = run(PROGRAM, "report", FIVE_POINTS, given=given)
+        told = run(PROGRAM, "report", FIVE_POINTS, "--json", given=given)
+        expect("status and fault", (told.status, told.err), (text.status, text.err))
+        expect_same_report(told.out, text.out)
+    torn = run(PROGRAM, "report", FIVE_POINTS, "--json", given=days[0] + b"01 01 02")
+    expect("a torn line", (torn.status, torn.err), (1, "fault 44\n"))
+
+
+def expect_same_report(told, text):
+    """The report as JSON, on one line and with its members in order, has the figures of the
+    text."""
+    value = json.loads(told)
+    again = json.dumps(value, sort_keys=True, separators=(",", ":")) + "\n"
+    expect("one line, in order", told.decode(), again)
+    expect("members", list(value), ["products", "rows", "shares", "tills"])
+    expect("tills", [till["number"] for till in value["tills"]], list(range(1, 33)))
+    lines = [f"rows {value['rows']}"]
+    clears, cents = (sum(till[what] for till in value["tills"]) for what in ("clears", "cents"))
+    lines.append(f"clears {clears} cents {cents}")
+    for one in value["products"]:
+        parts = " ".join(f"{what} {one[what]}" for what in ("metered", "running", "payable",
+                         "locked", "cleared", "adjusted"))  # fmt: skip
+        lines.append(f"product {one['number']} {one['name']} {parts}")
+    lines.append(f"shares {value['shares']} settled")
+    expect("figures", "\n".join(lines), text.decode().removesuffix("\n"))
+
+
+# ---- the command line
+
+
+@test
+def wrong_words():
+    """A port of the page that is none, and one that is taken."""
+    for word in ("x", "", "+80", "65536", "-1", "1.0"):
+        end = run(PROGRAM, "station", "nowhere.toml", "--port=0", f"--page={word}")
+        wanted = "error: --page is a decimal number from 0 to 65535\n"
+        expect(f"--page={word}", end, (2, b"", wanted))
+    for words, first in ((("--port=x", "--page=x"), "port"), (("--port=0", "--page=x"), "page")):
+        end = run(PROGRAM, "station", "nowhere.toml", "--idle=x", *words)
+        expect("the first one", (end.status, end.err.split()[1]), (2, f"--{first}"))
+    journal = HERE / "taken.journal"
+    with start_page("--journal", str(journal)) as page:
+        for taken in (page.port, page.day.port):
+            end = run(PROGRAM, "station", KNOWN_SITE, "--port=0", f"--page={taken}")
+            expect("a taken port", end, (1, b"", "fault 63\n"))
+        end = run(PROGRAM, "station", KNOWN_SITE, "--port", str(page.port), "--page=0")
+        expect("the station's port is taken", end, (1, b"", "fault 63\n"))
+
+
+def expect_undisturbed(page):
+    """The till is answered at once, and the page too."""
+    begun = time.monotonic()
+    page.tell(*(read_point(1, n % 32, 1) for n in range(100)))
+    if time.monotonic() - begun > SOON:
+        raise Failed(f"100 replies took {time.monotonic() - begun:.1f} seconds")
+    expect("the page", page.get("/")[0], 200)
+
+
+def read_kilobytes(day):
+    text = pathlib.Path(f"/proc/{day.process.pid}/status").read_text()
+    return int(re.search(r"VmRSS:\s+(\d+)", text).group(1))
+
+
+# ---- in a browser
+
+
+def in_browser(function):
+    """A test that needs a browser."""
+
+    @functools.wraps(function)
+    def call():
+        if not find_browser():
+            raise Skipped("there is no Chromium")
+        function()
+
+    return call
+
+
+@test
+@in_browser
+def a_day_at_a_point():
+    """A point calls, is released, fuels, sells, is locked and cleared; the page says each step
+    within two seconds, and how many transactions are unpaid."""
+    released = encode((SITE, 1), (TILL, 1), WRITE, 4, address_point(1),
+                      [(RELEASE, b""), (0x51, (2_000).to_bytes(4, "big"))])  # fmt: skip
+    with start_page() as page, start_browser() as browser:
+        browser.open(page.url, *SCREEN)
+        wait_until("the page", lambda: browser.evaluate("document.querySelector('article')") != "")
+        expect_words(browser, 1, "1", "closed")
+        page.tell(command_point(1, 2, 1, OPEN))
+        expect_words(browser, 1, "idle")
+        page.tell(report(1, 3, LIFT, 0))
+        expect_words(browser, 1, "calling", "1 diesel")
+        page.tell(released)
+        expect_words(browser, 1, "started", "for 20.00", "1 diesel", "till 1")
+        page.tell(report(1, 3, FLOW, 4_000))
+        expect_words(browser, 1, "fuelling", "4.00 l", "6.00")
+        page.tell(report(1, 3, HANG_UP, 10_000))
+        expect_words(browser, 1, "idle", "1/1", "10.00", "15.00", "payable")
+        expect("title", browser.evaluate("document.title"), "(1) Forecourt")
+        page.tell(command_sale(1, 5, 1, 1, LOCK))
+        expect_words(browser, 1, "1/1", "till 1")
+        page.tell(command_sale(1, 6, 1, 1, CLEAR))
+        wait_until("cleared", lambda: "1/1" not in read_tile(browser, 1))
+        expect("title", browser.evaluate("document.title"), "(0) Forecourt")
+        till = browser.evaluate("document.querySelector('#tills span').textContent")
+        expect("the till", till, "till 1 on, 1 for 15.00")
+        expect("complaints of the browser", browser.complaints, [])
+
+
+@test_beside
+@in_browser
+def a_silent_station():
+    """The page says since when there is no answer, and goes on once there is one."""
+    with start_page() as page, start_browser() as browser:
+        browser.open(page.url, *SCREEN)
+        expect_words(browser, 1, "closed")
+        page.day.process.send_signal(signal.SIGSTOP)
+        try:
+            time.sleep(SILENCE)
+            said = browser.evaluate("document.getElementById('state').textContent")
+            if not re.fullmatch(r"no answer since \d\d:\d\d:\d\d", said):
+                raise Failed(f"the page says '{said}'")
+        finally:
+            page.day.process.send_signal(signal.SIGCONT)
+        time.sleep(SILENCE)
+        said = browser.evaluate("document.getElementById('state').textContent")
+        expect("again", said, "0 unpaid")
+
+
+RECTANGLES = """[...document.querySelectorAll('article')].map(tile => {
+    const box = tile.getBoundingClientRect();
+    return [box.left, box.top, box.right, box.bottom];
+})"""
+LOST = "document.body.classList.add('lost')"
+
+
+def overlap(a, b):
+    return a[0] < b[2] and b[0] < a[2] and a[1] < b[3] and b[1] < a[3]
+
+
+def expect_one_screen(browser, count, size):
+    """So many tiles stand within the window, none over another, and nothing is scrolled."""
+    boxes = browser.evaluate(RECTANGLES)
+    expect("tiles", len(boxes), count)
+    outside = [x for x in boxes if x[0] < 0 or x[1] < 0 or x[2] > size[0] or x[3] > size[1]]
+    expect("outside of the window", outside, [])
+    pairs = [(a, b) for n, a in enumerate(boxes) for b in boxes[n + 1 :] if overlap(a, b)]
+    expect("overlaps", pairs, [])
+    height = browser.evaluate("document.documentElement.scrollHeight")
+    expect("no scrolling", height <= size[1], True)
+
+
+def expect_column(browser, size):
+    """The tiles stand one below another, as wide as the window, and nothing is scrolled
+    sideways."""
+    boxes = browser.evaluate(RECTANGLES)
+    expect("one column", {(x[0], x[2]) for x in boxes}, {(4, size[0] - 4)})
+    width = browser.evaluate("document.documentElement.scrollWidth")
+    expect("no scrolling sideways", width <= size[0], True)
+
+
+def expect_legible(browser, may_end_early):
+    """No text is cut off, and each is strong enough, where no answer comes, too. Of a text whose
+    element has one of these classes an ellipsis may be the end, at points above PLAIN alone."""
+    for prepared in ("", f"{LOST}, "):
+        found = browser.evaluate(f"{prepared}{LOOKS}")
+        expect("cut off", found["cut"], [])
+        expect("faint", found["faint"], [])
+        early = [x for x in found["short"] if x[0] not in may_end_early]
+        expect("ends early", early, [])
+        plain = [x for x in found["short"] if 0 < x[1] <= forecourts.PLAIN and x[0] != "out"]
+        expect("ends early, though it isn't long", plain, [])
+
+
+@test
+@in_browser
+def sixty_four_points():
+    """64 points in every state, with as many unpaid transactions as they may have: on a screen all
+    stand within the window; on a telephone one below another; whatever the window is no text is
+    cut off or faint. A volume and a product's name end early first, and that shows."""
+    with start_busy(forecourts.make_crowded_day()) as (page, _), start_browser() as browser:
+        expect("states", {x["state"] for x in page.site()["points"]}, set(range(1, 10)))
+        for dark in (False, True):
+            open_page(browser, page, SCREEN, dark, 64)
+            expect_one_screen(browser, 64, SCREEN)
+            expect_legible(browser, {"flowed", "out", "name"})
+            open_page(browser, page, TELEPHONE, dark, 64)
+            expect_column(browser, TELEPHONE)
+            expect_legible(browser, set())
+        open_page(browser, page, WIDE, False, 64)
+        expect_one_screen(browser, 64, WIDE)
+        expect_legible(browser, {"out"})
+        open_page(browser, page, ASIDE, False, 64)
+        expect_legible(browser, {"flowed", "out", "name"})
+        expect_each_tile(browser, page)
+        expect("complaints of the browser", browser.complaints, [])
+
+
+@test
+@in_browser
+def twelve_points():
+    """A busy day at twelve points: nothing ends early."""
+    with start_busy(forecourts.make_busy_day()) as (page, _), start_browser() as browser:
+        for size in (SCREEN, WIDE, ASIDE, TELEPHONE):
+            open_page(browser, page, size, False, 12)
+            expect_legible(browser, set())
+        open_page(browser, page, SCREEN, False, 12)
+        expect_one_screen(browser, 12, SCREEN)
+        expect_each_tile(browser, page)
+        expect("complaints of the browser", browser.complaints, [])
+
+
+def expect_each_tile(browser, page):
+    """Each tile says what `site.json` has of its point, and the footer what it has of products and
+    tills."""
+    site = page.site()
+    names = {one["number"]: one["name"] for one in site["products"]}
+    for point in site["points"]:
+        sales = [x for x in site["transactions"] if x["point"] == point["number"]]
+        said = read_tile(browser, point["number"])
+        expect(f"point {point['number']}", said, "|".join(write_tile(point, names, sales)))
+    texts = "[...document.querySelectorAll('{0}')].map(x => x.textContent)"
+    prices = browser.evaluate(texts.format("#products .price"))
+    expect("prices", prices, [f"{x['mills'] / 1_000:.3f}" for x in site["products"]])
+    parts = [x.split() for x in browser.evaluate(texts.format("#products .parts span"))]
+    wanted = [(what, x[what]) for x in site["products"] for what in
+              ("cleared", "payable", "locked", "running", "adjusted")]  # fmt: skip
+    expect("names of parts", [name for name, _ in parts], [name for name, _ in wanted])
+    far = [x for x, (_, ml) in zip(parts, wanted) if abs(float(x[1]) * 1_000 - ml) > 50.1]
+    expect("parts, to a tenth of a litre", far, [])
+    tills = browser.evaluate(texts.format("#tills span"))
+    expect("tills", tills, [
+        f"till {x['number']} {'on' if x['signed on'] else 'off'}, {x['clears']} for"
+        f" {x['cents'] / 100:.2f}" for x in site["tills"] if x["signed on"] or x["clears"]
+    ])  # fmt: skip
+
+
+def write_tile(point, names, sales):
+    """The words that a tile is to have."""
+    fuelling = point["fuelling"]
+    words = [str(point["number"]), STATES[point["state"] - 1]]
+    if fuelling["prepaid"] is not None:
+        words.append(f"prepaid {fuelling['prepaid'] / 100:.2f}")
+    elif fuelling["preset cents"] is not None:
+        words.append(f"for {fuelling['preset cents'] / 100:.2f}")
+    elif fuelling["preset millilitres"] is not None:
+        words.append(f"for {fuelling['preset millilitres'] / 1_000:.2f} l")
+    marks = [mark for mark in ("test", "ending") if fuelling[mark]]
+    if point["nozzle"]:
+        marks.append(f"{point['nozzle']} {names[point['product']]}")
+    words += [", ".join(marks)] if marks else []
+    if fuelling["cents"] is not None:
+        words += [f"{fuelling['millilitres'] / 1_000:.2f} l", f"{fuelling['cents'] / 100:.2f}"]
+    if point["holder"]:
+        words.append(f"till {point['holder']}")
+    for sale in sales:
+        by = f"till {sale['till']}" if sale["status"] == "locked" else "payable"
+        words += [f"{sale['shift']}/{sale['number']}", f"{sale['millilitres'] / 1_000:.2f}",
+                  f"{sale['cents'] / 100:.2f}", by]  # fmt: skip
+    return words

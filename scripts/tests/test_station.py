@@ -1,0 +1,852 @@
+"""`forecourt station` over real sockets.
+
+Tills and dispensers of many kinds connect to it, peers that mean no good among them. What each is
+told is compared with octets that stand here, or with what a replay of the same requests answers;
+each day's report, its lines on standard error and its exit status are looked at, and what the
+program takes of processor and memory."""
+
+import contextlib
+import os
+import pathlib
+import pty
+import resource
+import select
+import signal
+import socket
+import statistics
+import subprocess
+import sys
+import threading
+import time
+
+from shared.checks import Failed, expect
+from shared.running import close_input, run
+from shared.serving import LOOK, WAIT, send_reset, send_until, start_day
+from shared.station import (
+    ASSIGN, CLEAR, CLOSE, DISPENSER, EXAMPLES, FIVE_POINTS, FLOW, HANG_UP, KNOWN_SITE, LIFT, LOCK,
+    NOTICE, OPEN, PREPAY, RELEASE, REPORT, RESUME, SITE, SUSPEND, TERMINATE, TEST_RELEASE, TILL,
+    UNASSIGN, WRITE, address_point, command_point, command_sale, encode, parse, read_point,
+    receive, receive_all, receive_message, report, sign_off, sign_on, write_lines, write_report,
+    write_site,
+)  # fmt: skip
+from tests.built import PROGRAM
+from tests.suite import make_folder, start_chance, test
+
+HERE = make_folder()
+MOST_PEERS = 1_024
+SIGNED_ON = {
+    n: parse(f"02 {n:02X} 01 01 00 E1 00 08 01 01 01 01 00 03 01 00") for n in range(1, 33)
+}
+DONE = parse("02 01 01 01 00 E2 00 08 01 21 01 01 00 03 01 00")  # to till 1, of point 1
+# What the dispenser of point 1 is told.
+OPENED = parse("03 01 01 01 00 80 00 04 01 21 3C 00")
+CLOSED = parse("03 01 01 01 00 80 00 04 01 21 3D 00")
+RELEASED = parse("03 01 01 01 00 80 00 04 01 21 3E 00")
+SUSPENDED = parse("03 01 01 01 00 80 00 04 01 21 40 00")
+RESUMED = parse("03 01 01 01 00 80 00 04 01 21 41 00")
+LIFTED = parse("03 01 01 01 00 E3 00 0E 01 21 01 01 00 03 01 02 72 04 00 00 05 DC")
+FLOWED = parse("03 01 01 01 00 E3 00 12 01 21 01 01 00 03 01 03 73 08 00 00 00 00 00 00 0F A0")
+SOLD = parse(
+    "03 01 01 01 00 E3 00 16 01 21 01 01 00 03 01 06 73 08 00 00 00 00 00 00 17 70 74 02 00 01"
+)
+TERMINATED = parse("03 01 01 01 00 80 00 04 01 21 3F 00")
+CLEARED = parse(
+    "02 01 01 01 00 E4 00 0B 04 21 21 00 01 01 01 00 03 01 09"
+    " 02 01 01 01 00 E5 00 15 04 21 21 00 01 01 01 00 03 01 0B 75 08 00 00 00 00 00 00 05 DC"
+)
+FULL_KILOBYTES = 32_000  # of memory, with 1,024 peers that say nothing
+FLOODED_KILOBYTES = 64_000  # .. and with floods that aren't read
+STEPS = 150  # requests of each till and its dispensers
+SOON = 10  # seconds, for a connection that is closed at once if all is well
+QUIET_TICKS = 2  # hundredths of a second, of fifty
+MOST_TIMES = 5  # as long as without the others, besides two milliseconds
+SLOW = 0.02  # seconds: half of the replies come sooner, whatever else the station does
+
+
+def start_station(*words, site=KNOWN_SITE, port=0, given=None, **how):
+    command = [PROGRAM, "station", site, "--port", port, *words]
+    stdin = {"stdin": given if given is not None else -1}
+    return start_day([*map(str, command)], **stdin, **how)
+
+
+def replay(sent):
+    """What a replay of these octets on the opening site answers."""
+    return parse(run(PROGRAM, "replay", KNOWN_SITE, given=write_lines(sent)).out.decode())
+
+
+def end(day, told=""):
+    """The report of a day whose standard input is closed."""
+    day.process.stdin.close()
+    day.process.stdin = None
+    return day.report(told)
+
+
+def ask(peer, sent, wanted):
+    """Sends octets, and looks at what is told to them."""
+    peer.sendall(sent)
+    expect("reply", receive(peer, len(wanted)), wanted)
+
+
+def expect_quiet(peer):
+    """Nothing is told to this peer, and it isn't closed."""
+    time.sleep(2 * LOOK)
+    expect("nothing told", bool(select.select([peer], [], [], 0)[0]), False)
+
+
+def is_closed(peer):
+    """Whether the station closes the connection soon, and says nothing before, however it ends."""
+    peer.settimeout(SOON)
+    try:
+        return peer.recv(1) == b""
+    except ConnectionError:
+        return True
+    except TimeoutError:
+        return False
+
+
+def expect_quiet_program(day):
+    """The program takes next to no processor time while nobody asks for anything."""
+    before = read_ticks(day)
+    time.sleep(0.5)
+    if read_ticks(day) - before > QUIET_TICKS:
+        raise Failed(f"{read_ticks(day) - before} hundredths of a second in half a second")
+
+
+def read_status(day, name):
+    """A figure of the process that the system tells: kilobytes."""
+    for line in pathlib.Path(f"/proc/{day.process.pid}/status").read_text().splitlines():
+        if line.startswith(name):
+            return int(line.split()[1])
+    raise Failed(f"no {name}")
+
+
+def read_ticks(day):
+    """The processor time of the process, in hundredths of a second."""
+    fields = pathlib.Path(f"/proc/{day.process.pid}/stat").read_text().rsplit(")", 1)[1].split()
+    return int(fields[11]) + int(fields[12])
+
+
+def expect_fast(day, till=31):
+    """Half of a hundred replies to a till come within a moment. Returns how long half took."""
+    with day.connect() as peer:
+        ask(peer, sign_on(till), SIGNED_ON[till])
+        rounds = []
+        for _ in range(100):
+            begun = time.monotonic()
+            peer.sendall(read_point(till, 1, 2))
+            expect("octets of a reply", len(receive(peer, 38)), 38)
+            rounds.append(time.monotonic() - begun)
+        ask(peer, sign_off(till), SIGNED_ON[till])
+    if statistics.median(rounds) > SLOW:
+        raise Failed(f"half of the replies took {statistics.median(rounds):.4f} seconds or more")
+    return statistics.median(rounds)
+
+
+def expect_as_fast(day, before):
+    """Replies come as fast as before, but for what the machine has to do besides."""
+    now = expect_fast(day)
+    if now > MOST_TIMES * before + SLOW / 10:
+        raise Failed(f"half of the replies took {now:.6f} seconds, and {before:.6f} before")
+
+
+ROWS_OF_FAST = 102
+
+
+# ---- what tills and dispensers are told
+
+
+def say(point, token=3):
+    """A dispenser says that its point is online: that changes nothing, where it is already."""
+    return encode((SITE, 1), (DISPENSER, point), REPORT, token, address_point(point), [(0x60, b"")])
+
+
+def refuse(point, state):
+    """What it is told: that its point is in this state."""
+    return parse(f"03 {point:02X} 01 01 00 E3 00 0F 01 {0x20 + point:02X} 01 01 0A 02 08"
+                 f" {state:016X}")  # fmt: skip
+
+
+@test
+def notices_of_a_release():
+    """A till opens and releases a point whose dispenser listens, and sells: each change is told
+    to that dispenser, and to no other, and each reply to who asked."""
+    with start_station() as day, day.connect() as till, day.connect() as pump:
+        with day.connect() as other:
+            ask(till, sign_on(1), SIGNED_ON[1])
+            ask(pump, say(1), refuse(1, 2))
+            ask(other, say(2), refuse(2, 2))
+            for command, told in ((OPEN, OPENED), (RELEASE, RELEASED)):
+                ask(till, command_point(1, 2, 1, command), DONE)
+                expect("a change", receive(pump, len(told)), told)
+            ask(pump, report(1, 3, LIFT, 0), LIFTED)
+            ask(pump, report(1, 3, FLOW, 4_000), FLOWED)
+            for command, told in ((SUSPEND, SUSPENDED), (RESUME, RESUMED)):
+                ask(till, command_point(1, 2, 1, command), DONE)
+                expect("a change", receive(pump, len(told)), told)
+            ask(pump, report(1, 3, HANG_UP, 10_000), SOLD)
+            ask(till, command_sale(1, 4, 1, 1, LOCK) + command_sale(1, 5, 1, 1, CLEAR), CLEARED)
+            expect_quiet(other)
+            expect_quiet(pump)
+        till.close()
+        sold = {"metered": 10_000, "cleared": 10_000}
+        expect("report", end(day), write_report(13, 0, 1, 1_500, diesel=sold))
+
+
+@test
+def dispensers_that_come_back():
+    """They are told what stands at their point behind their first reply, and from then on what
+    changes: each session of one dispenser."""
+    standing = (
+        (None, 2, b""),
+        (OPEN, 3, OPENED),
+        (RELEASE, 5, OPENED + RELEASED),
+        (LIFT, 6, OPENED + RELEASED),
+        (SUSPEND, 7, OPENED + RELEASED + SUSPENDED),
+        (RESUME, 6, OPENED + RELEASED),
+        (TERMINATE, 7, OPENED + RELEASED + TERMINATED),
+        (HANG_UP, 3, OPENED),
+        (CLOSE, 2, b""),
+    )
+    with start_station() as day, day.connect() as till:
+        ask(till, sign_on(1), SIGNED_ON[1])
+        for command, state, told in standing:
+            if command in (LIFT, HANG_UP):
+                with day.connect() as pump:
+                    pump.sendall(report(1, 3, command, 0))
+                    expect("octets of a reply", len(receive(pump, 20)), 20)
+            elif command:
+                till.sendall(command_point(1, 2, 1, command))
+                expect("the reply's front", receive(till, 16)[:13], DONE[:13])
+            with day.connect() as first, day.connect() as second:
+                for pump in (first, second):
+                    ask(pump, say(1), refuse(1, state) + told)
+                    ask(pump, say(1), refuse(1, state))
+        with day.connect() as first, day.connect() as second:
+            for pump in (first, second):
+                ask(pump, say(1), refuse(1, 2))
+            for command, told in ((OPEN, OPENED), (CLOSE, CLOSED)):
+                ask(till, command_point(1, 2, 1, command), DONE)
+                for pump in (first, second):
+                    expect("both are told", receive(pump, len(told)), told)
+        end(day)
+
+
+@test
+def how_a_point_was_released():
+    """What stands at a point tells its preset, its prepaid cents, or that it is tested."""
+    releases = (
+        (RELEASE, (0x50, 3_000), "0A 01 21 3E 00 50 04 00 00 0B B8"),
+        (RELEASE, (0x51, 2_000), "0A 01 21 3E 00 51 04 00 00 07 D0"),
+        (PREPAY, (0x51, 2_000), "0A 01 21 44 00 51 04 00 00 07 D0"),
+        (TEST_RELEASE, None, "04 01 21 45 00"),
+    )
+    with start_station() as day, day.connect() as till:
+        ask(till, sign_on(1), SIGNED_ON[1])
+        ask(till, command_point(1, 2, 1, OPEN), DONE)
+        for command, limit, told in releases:
+            items = [(command, b"")] + ([(limit[0], limit[1].to_bytes(4, "big"))] if limit else [])
+            ask(till, encode((SITE, 1), (TILL, 1), WRITE, 2, address_point(1), items), DONE)
+            with day.connect() as pump:
+                released = OPENED + parse(f"03 01 01 01 00 80 00 {told}")
+                ask(pump, say(1), refuse(1, 5) + released)
+            till.sendall(command_point(1, 2, 1, TERMINATE))
+            expect("Terminate", receive_message(till)[:13], DONE[:13])
+        end(day)
+
+
+@test
+def a_till_through_two_connections():
+    """The second SignOn is refused, as in a replay; the end of that connection leaves nobody's
+    till, and that of the first does."""
+    sent = sign_on(1) + sign_on(1)
+    wanted = replay(sent)
+    with start_station() as day, day.connect() as first:
+        ask(first, sign_on(1), SIGNED_ON[1])
+        with day.connect() as second:
+            ask(second, sign_on(1), wanted[len(SIGNED_ON[1]) :])
+            port = second.getsockname()[1]
+        day.wait_until_left(port)
+        ask(first, command_point(1, 2, 1, OPEN), DONE)
+        port = first.getsockname()[1]
+        first.close()
+        day.wait_until_left(port)
+        with day.connect() as again:
+            ask(again, sign_on(1), SIGNED_ON[1])
+            expect("report", end(day), write_report(6, 0))
+
+
+# ---- messages, however they are cut
+
+
+@test
+def octet_by_octet():
+    """Each octet of a dispenser's and a till's messages is read before the next one is sent."""
+    with start_station() as day, day.connect() as till, day.connect() as pump:
+        for peer, sent, wanted in (
+            (till, sign_on(1), SIGNED_ON[1]),
+            (pump, say(1), refuse(1, 2)),
+            (till, command_point(1, 2, 1, OPEN), DONE),
+        ):
+            for octet in sent:
+                peer.sendall(bytes([octet]))
+                day.wait_until_read(peer)
+            expect("reply", receive(peer, len(wanted)), wanted)
+        expect("the notice", receive(pump, len(OPENED)), OPENED)
+        expect("report", end(day), write_report(4, 0))
+
+
+@test
+def a_million_octets():
+    """As many as are taken at once: a SignOn, and reads of a point; then no more come."""
+    sent = sign_on(1) + b"".join(read_point(1, n % 32, 3) for n in range(100_000))
+    wanted = replay(sent)
+    with start_station() as day:
+        expect("replies", day.ask(sent), wanted)
+        expect("report", end(day), write_report(100_002, 0))
+
+
+@test
+def faults():
+    """What ends a session is told to its peer, and on standard error; other sessions go on."""
+    told = "".join(f"session of {line}\n" for line in (
+        "a peer that said nothing: fault 40: a faulty header or body",
+        "t1: fault 44: the octets end inside a message",
+        "t1: fault 57: another originator",
+        "d1: fault 44: the octets end inside a message",
+        "node 9 9: fault 44: the octets end inside a message",
+    ))  # fmt: skip
+    half, foreign = command_point(1, 2, 3, OPEN)[:7], parse("01 01 09 09 00 03 00 02 01 23")
+    with start_station() as day, day.connect() as other:
+        ask(other, sign_on(2), SIGNED_ON[2])
+        expect("FF", day.ask(b"\xff" * 65_536), parse("FF FF 01 01 00 FF 00 05 01 01 01 01 28"))
+        expect("half a message", day.ask(sign_on(1) + half), SIGNED_ON[1])
+        changed = parse("02 02 01 01 00 E2 00 05 01 01 01 01 39")
+        sent = sign_on(1) + sign_on(2, 2) + read_point(1, 3, 3)
+        expect("another originator", day.ask(sent), SIGNED_ON[1] + changed)
+        expect("a dispenser's half", day.ask(say(1) + say(1)[:3]), refuse(1, 2))
+        expect("a stranger's half", day.ask(foreign + half)[10:], replay(foreign)[10:])
+        for _ in range(3):
+            day.connect().close()
+        ask(other, sign_off(2), SIGNED_ON[2])
+        expect("report", end(day, told), write_report(7, 0))
+
+
+# ---- peers that mean no good
+
+
+@test
+def an_octet_now_and_then():
+    """A hundred peers of whom an octet comes now and then."""
+    with start_station() as day, contextlib.ExitStack() as stack:
+        before = expect_fast(day)
+        peers = [stack.enter_context(day.connect()) for _ in range(100)]
+        for octet in sign_on(1)[:9]:
+            for peer in peers:
+                peer.sendall(bytes([octet]))
+            expect_as_fast(day, before)
+        for peer in peers:
+            port = peer.getsockname()[1]
+            peer.close()
+            day.wait_until_left(port)
+        half = "session of a peer that said nothing: fault 44: the octets end inside a message\n"
+        expect("report", end(day, 100 * half), write_report(10 * ROWS_OF_FAST, 0))
+
+
+@test
+def floods_without_reading():
+    """Peers that send without reading until the buffers are full: they aren't read from, others
+    are answered, and the memory stays small. One that reads then has each of its replies."""
+    with start_station() as day, contextlib.ExitStack() as stack:
+        before = expect_fast(day)
+        closing, senders = threading.Event(), []
+        stack.callback(closing.set)
+        for number in (1, 2):
+            peer = stack.enter_context(day.connect())
+            ask(peer, sign_on(number), SIGNED_ON[number])
+            peer.setblocking(False)
+            sender = threading.Thread(target=send_until, args=(peer, closing, number))
+            sender.start()
+            senders.append((peer, sender))
+        try:
+            for peer, _ in senders:
+                day.wait_until_full(peer)
+            expect_as_fast(day, before)
+            if read_status(day, "VmHWM") > FLOODED_KILOBYTES:
+                raise Failed(f"{read_status(day, 'VmHWM')} kB")
+        finally:
+            closing.set()
+            for _, sender in senders:
+                sender.join()
+        last = senders[0][0]
+        last.setblocking(True)
+        last.shutdown(socket.SHUT_WR)
+        got = receive_all(last)
+        expect_tokens(got)
+        whole = (len(got) > 65_536, len(got) % 38)
+        expect("whole replies, more than a full outbox", whole, (True, 0))
+        for peer, _ in senders[1:]:
+            peer.close()
+        day.process.stdin.close()
+        day.process.stdin = None
+        out, _ = day.process.communicate(timeout=WAIT)
+        expect("status", day.process.returncode, 0)
+
+
+@test
+def a_dispenser_that_never_reads():
+    """Its session ends once it is owed too much: the till isn't held up. It comes back, and is
+    told what stands."""
+    told = "session of d1: the peer doesn't take what it is owed\n"
+    with start_station() as day, day.connect() as till:
+        pump = socket.socket()
+        pump.setsockopt(socket.SOL_SOCKET, socket.SO_RCVBUF, 4_096)
+        pump.connect(("127.0.0.1", day.port))
+        ask(pump, say(1), refuse(1, 2))
+        ask(till, sign_on(1), SIGNED_ON[1])
+        ask(till, command_point(1, 2, 1, OPEN) + command_point(1, 2, 1, RELEASE), DONE + DONE)
+        with day.connect() as lifting:
+            lifting.sendall(report(1, 3, LIFT, 0))
+            expect("LIFTED", receive(lifting, len(LIFTED)), LIFTED)
+        port = pump.getsockname()[1]
+        both = 1_000 * (command_point(1, 2, 1, SUSPEND) + command_point(1, 2, 1, RESUME))
+        rounds = 0
+        while day.queues(port) is not None:
+            ask(till, both, 2_000 * DONE)
+            rounds += 1
+        with day.connect() as again:
+            ask(again, say(1), refuse(1, 6) + OPENED + RELEASED)
+        pump.close()
+        till.close()
+        rows = int(end(day, told).split()[1])
+        expect("rows", rows, 7 + 2_000 * rounds)
+
+
+@test
+def resets_in_mid_reply():
+    """Peers that ask for many replies, read a part of one, and reset the connection: their tills
+    are left, and sign on again."""
+    with start_station() as day:
+        for number in range(1, 6):
+            peer = day.connect()
+            peer.sendall(sign_on(number) + b"".join(read_point(number, 1, 3) for _ in range(5_000)))
+            expect("the first octets", receive(peer, 20)[:16], SIGNED_ON[number])
+            port = peer.getsockname()[1]
+            send_reset(peer)
+            day.wait_until_left(port)
+            expect("the till again", day.ask(sign_on(number)), SIGNED_ON[number])
+        expect_fast(day)
+        end(day, None)  # where the last piece ends within a message, that is told
+
+
+@test
+def peers_above_the_most():
+    """1,024 that connect and say nothing; one more is closed at once. Where one is gone, another
+    is served."""
+    with start_station() as day, contextlib.ExitStack() as stack:
+        before = expect_fast(day)
+        peers = [stack.enter_context(day.connect()) for _ in range(MOST_PEERS - 1)]
+        expect_as_fast(day, before)
+        peers.append(stack.enter_context(day.connect()))
+        ask(peers[-1], sign_on(1), SIGNED_ON[1])
+        with day.connect() as more:
+            expect("one more is closed", is_closed(more), True)
+        if read_status(day, "VmHWM") > FULL_KILOBYTES:
+            raise Failed(f"{read_status(day, 'VmHWM')} kB")
+        port = peers[0].getsockname()[1]
+        peers[0].close()
+        day.wait_until_left(port)
+        expect_fast(day)
+        expect_quiet_program(day)
+        expect("report", end(day), write_report(3 * ROWS_OF_FAST + 2, 0))
+
+
+@test
+def descriptors_spent():
+    """Where no descriptor is left, that is told once, those who are there are served, and who
+    waits is served once those before it have gone. A shortage after that is told again."""
+    told = "cannot accept: Too many open files (os error 24); it is tried again each second\n"
+    few = lambda: resource.setrlimit(resource.RLIMIT_NOFILE, (20, 20))
+    with start_station(preexec_fn=few) as day, contextlib.ExitStack() as stack:
+        first = stack.enter_context(day.connect())
+        ask(first, sign_on(1), SIGNED_ON[1])
+        others = [stack.enter_context(day.connect()) for _ in range(30)]
+        expect("told", os.read(day.process.stderr.fileno(), 4_096).decode(), told)
+        time.sleep(1.5)
+        expect_quiet_program(day)
+        ask(first, read_point(1, 1, 2), replay(sign_on(1) + read_point(1, 1, 2))[16:])
+        for peer in others[:-1]:
+            peer.close()
+        ask(others[-1], sign_on(2), SIGNED_ON[2])
+        more = [stack.enter_context(day.connect()) for _ in range(30)]
+        expect("told again", os.read(day.process.stderr.fileno(), 4_096).decode(), told)
+        for peer in more:
+            peer.close()
+        expect("report", end(day), write_report(5, 0))
+
+
+@test
+def silent_peers():
+    """With --idle a session of which nothing came for so long ends, and its till is left; one
+    that speaks goes on."""
+    told = (
+        "session of t1: nothing came for 2 seconds\n"
+        "session of a peer that said nothing: nothing came for 2 seconds\n"
+    )
+    wanted = replay(sign_on(2) + read_point(2, 1, 3))[16:]
+    with start_station("--idle", "2") as day, day.connect() as first, day.connect() as second:
+        ask(first, sign_on(1), SIGNED_ON[1])
+        half = day.connect()
+        half.sendall(sign_on(3)[:5])
+        ask(second, sign_on(2), SIGNED_ON[2])
+        ends = time.monotonic() + 4
+        rows = 0
+        while time.monotonic() < ends:
+            ask(second, read_point(2, 1, 3), wanted)
+            rows += 1
+            time.sleep(0.1)
+        for peer in (first, half):
+            expect("a silent peer is closed", is_closed(peer), True)
+        half.close()
+        port = second.getsockname()[1]
+        second.close()
+        day.wait_until_left(port)
+        with day.connect() as again:
+            ask(again, sign_on(1), SIGNED_ON[1])
+            expect("report", end(day, told), write_report(rows + 6, 0))
+
+
+@test
+def a_stop_longer_than_idle():
+    """A station that the system stops for longer than --idle, and then goes on: whoever has sent
+    something meanwhile is heard, and isn't silent; who hasn't is."""
+    told = "session of t2: nothing came for 2 seconds\n"
+    with start_station("--idle", "2") as day, day.connect() as first, day.connect() as second:
+        ask(first, sign_on(1), SIGNED_ON[1])
+        ask(second, sign_on(2), SIGNED_ON[2])
+        time.sleep(0.3)  # until it waits: a stop behind its round's store would be one of the disk
+        day.process.send_signal(signal.SIGSTOP)
+        first.sendall(read_point(1, 1, 3))
+        time.sleep(3.2)
+        day.process.send_signal(signal.SIGCONT)
+        wanted = replay(sign_on(1) + read_point(1, 1, 3))[16:]
+        expect("it is heard", receive(first, len(wanted)), wanted)
+        expect("who was silent", is_closed(second), True)
+        ask(first, read_point(1, 1, 3), wanted)
+        expect("report", end(day, told), write_report(6, 0))
+
+
+@test
+def peers_that_do_not_hang_up():
+    """Where a session has ended with a fault and its peer doesn't hang up, the connection is
+    closed some seconds later; until then it costs no processor time. What the peer sent behind
+    the fault doesn't keep it from the refusal."""
+    refused = parse("FF FF 01 01 00 FF 00 05 01 01 01 01 28")
+    told = "session of a peer that said nothing: fault 40: a faulty header or body\n"
+    with start_station() as day, day.connect() as silent, day.connect() as long:
+        silent.sendall(b"\xff" * 8)
+        expect("the refusal", receive(silent, len(refused)), refused)
+        sender = threading.Thread(target=long.sendall, args=(b"\xff" * 300_000,))
+        sender.start()
+        expect("the other's", receive(long, len(refused)), refused)
+        sender.join()
+        expect_quiet_program(day)
+        expect("no more comes", is_closed(silent), True)
+        long.close()
+        ports = [silent.getsockname()[1]]
+        day.wait_until_left(ports[0])
+        expect_fast(day)
+        expect("report", end(day, 2 * told), write_report(ROWS_OF_FAST, 0))
+
+
+@test
+def resets_in_mid_message():
+    """A connection that fails within a message: that is told, and its till is left."""
+    told = "session of t1: fault 44: the octets end inside a message\n"
+    with start_station() as day:
+        peer = day.connect()
+        ask(peer, sign_on(1), SIGNED_ON[1])
+        peer.sendall(command_point(1, 2, 1, OPEN)[:7])
+        day.wait_until_read(peer)
+        port = peer.getsockname()[1]
+        send_reset(peer)
+        day.wait_until_left(port)
+        with day.connect() as again:
+            ask(again, sign_on(1), SIGNED_ON[1])
+            expect("report", end(day, told), write_report(4, 0))
+
+
+@test
+def idle_with_a_hundred():
+    """A hundred peers that say nothing cost no processor time."""
+    with start_station() as day, contextlib.ExitStack() as stack:
+        for _ in range(100):
+            stack.enter_context(day.connect())
+        expect_fast(day)
+        expect_quiet_program(day)
+        end(day)
+
+
+# ---- a whole station
+
+
+class Order:
+    """The requests of a day, in the order of their rows: what two requests that look at the same
+    thing come to depends on their order, so one of them is over before the other is sent. All
+    others run side by side."""
+
+    def __init__(self, groups):
+        self.groups = [threading.Lock() for _ in range(groups)]
+        self.sent, self.own = [], threading.Lock()
+
+    @contextlib.contextmanager
+    def alone(self, *groups):
+        with contextlib.ExitStack() as stack:
+            for group in sorted({*groups}):
+                stack.enter_context(self.groups[group])
+            yield
+
+    def note(self, sent):
+        with self.own:
+            self.sent.append(sent)
+
+
+class Peer:
+    """A till or a dispenser of a day: what it sends, and all that it is told."""
+
+    def __init__(self, day, order, node):
+        self.order, self.node, self.told = order, node, b""
+        self.peer = day.connect()
+
+    def ask(self, sent):
+        """Sends a request, and waits until its reply is there: notices may come before it."""
+        self.peer.sendall(sent)
+        while True:
+            told = receive_message(self.peer)
+            self.told += told
+            if told[5] >> 5 != NOTICE:
+                self.order.note(sent)
+                return
+
+    def take_rest(self):
+        """What it is told until the day has ended."""
+        self.told += receive_all(self.peer)
+        self.peer.close()
+
+
+def choose_request(chance, till, p):
+    """What a till asks of a point and its sales."""
+    command = chance.choice((OPEN, OPEN, CLOSE, RELEASE, RELEASE, RELEASE, TERMINATE, SUSPEND,
+                             RESUME, RESUME, ASSIGN, UNASSIGN, TEST_RELEASE))  # fmt: skip
+    if chance.random() < 0.3:
+        sale = chance.randint(1, 3)
+        return command_sale(till, chance.randrange(32), p, sale, chance.choice((LOCK, CLEAR)))
+    if chance.random() < 0.1:
+        return read_point(till, chance.randrange(32), p)
+    return command_point(till, chance.randrange(32), p, command)
+
+
+def run_group(chance, order, till, pumps, tills, group):
+    """A till and two dispensers, and now and then another group's point."""
+    readings = dict.fromkeys(pumps, 0)
+    for step in range(STEPS):
+        p = chance.choice([*pumps])
+        if chance.random() < 0.5:
+            if chance.random() < 0.5:
+                readings[p] += chance.randint(1, 5_000)
+            command = chance.choice((LIFT, FLOW, HANG_UP))
+            said = report(p, chance.randrange(32), command, readings[p])
+            with order.alone(group):
+                pumps[p].ask(said)
+        elif chance.random() < 0.1:
+            other = chance.randrange(len(tills))
+            q = 1 + 2 * other + chance.randrange(2)
+            with order.alone(group, other):
+                till.ask(choose_request(chance, group + 1, q))
+        else:
+            with order.alone(group):
+                till.ask(choose_request(chance, group + 1, p))
+
+
+def split_by_node(octets):
+    """What each node is told, of octets that are messages to all of them."""
+    told = {}
+    while octets:
+        size = 8 + int.from_bytes(octets[6:8], "big")
+        node = tuple(octets[:2])
+        told[node] = told.get(node, b"") + octets[:size]
+        octets = octets[size:]
+    return told
+
+
+@test
+def thirty_two_tills_and_sixty_four_dispensers(seed):
+    """All at once, each asking what it likes: what each is told, replies and notices, is what a
+    replay of the requests in the order of their rows tells it, and the report is that of it."""
+    site = HERE / "many.toml"
+    site.write_text(write_site(64))
+    order = Order(32)
+    with start_station(site=site) as day:
+        tills = [Peer(day, order, (TILL, n)) for n in range(1, 33)]
+        pumps = {p: Peer(day, order, (DISPENSER, p)) for p in range(1, 65)}
+        for p, pump in pumps.items():
+            pump.ask(say(p))
+        for n, till in enumerate(tills, 1):
+            till.ask(sign_on(n))
+        groups = [
+            threading.Thread(target=run_group, args=(
+                start_chance(seed, n), order, till, {p: pumps[p] for p in (2 * n + 1, 2 * n + 2)},
+                tills, n))
+            for n, till in enumerate(tills)
+        ]  # fmt: skip
+        for group in groups:
+            group.start()
+        for group in groups:
+            group.join()
+        got = end(day)
+        for peer in (*tills, *pumps.values()):
+            peer.take_rest()
+    sent = b"".join(order.sent)
+    lines = write_lines(sent)
+    replayed = run(PROGRAM, "replay", site, "--changes", given=lines)
+    told = split_by_node(parse(replayed.out.decode()))
+    for peer in (*tills, *pumps.values()):
+        expect(f"node {peer.node}", peer.told, told[peer.node])
+    left = b"".join(sign_off(n) for n in range(1, 33))
+    wanted = run(PROGRAM, "report", site, given=lines + write_lines(left)).out.decode()
+    expect("report", got, wanted)
+    expect("requests", len(order.sent), 96 + 32 * STEPS)
+
+
+@test
+def examples():
+    """The till and the dispenser of the examples, as their page says."""
+    how = {"stdout": subprocess.PIPE, "stderr": subprocess.STDOUT, "text": True}
+    with start_station(site=FIVE_POINTS) as day:
+        words = (
+            [EXAMPLES / "dispenser.py", day.port, 1, 10_000],
+            [EXAMPLES / "till.py", day.port, 1, 1],
+        )
+        with contextlib.ExitStack() as stack:
+            peers = [
+                stack.enter_context(subprocess.Popen([sys.executable, *map(str, one)], **how))
+                for one in words
+            ]
+            said = [peer.communicate(timeout=WAIT)[0] for peer in peers]
+        lines = said[0].splitlines()
+        expect("the dispenser", lines[-1], "10000 ml of nozzle 1; its meter stands at 10000")
+        expect("its notices", lines[:-1], ["point 1 is open", "point 1 is released"])
+        expect("the till", said[1], "point 1 is released\ncleared 10000 ml for 1500 cents\n")
+        rows = end(day).split()[1]
+        expect("rows", int(rows) >= 20, True)
+
+
+# ---- how a day ends
+
+
+@test
+def control_d():
+    """At a terminal Ctrl-D ends the day, and nothing else that is typed does."""
+    ours, theirs = pty.openpty()
+    with start_station(given=theirs) as day, day.connect() as till:
+        ask(till, sign_on(1), SIGNED_ON[1])
+        os.write(ours, b"hello\n")
+        ask(till, command_point(1, 2, 1, OPEN), DONE)
+        os.write(ours, b"\x04")
+        expect("report", day.report(), write_report(3, 0))
+        expect("the till is told no more", receive_all(till), b"")
+    os.close(ours)
+    os.close(theirs)
+
+
+@test
+def other_ends():
+    """A standard input that is closed, empty, or a file ends the day at once; with --detached
+    none does, and a signal ends the program."""
+    for how in ({"preexec_fn": close_input}, {"given": os.open("/dev/null", os.O_RDONLY)}):
+        with start_station(**how) as day:
+            expect("report", day.report(), write_report(0, 0))
+    null = os.open("/dev/null", os.O_RDONLY)
+    with start_station("--detached", given=null) as day, day.connect() as till:
+        ask(till, sign_on(1), SIGNED_ON[1])
+        time.sleep(0.2)
+        ask(till, command_point(1, 2, 1, OPEN), DONE)
+        day.process.send_signal(signal.SIGTERM)
+        expect("status", day.process.wait(WAIT), -signal.SIGTERM)
+
+
+@test
+def what_is_owed_at_the_end():
+    """The day ends beside a peer that doesn't read what it is owed: what it gets then are the
+    first replies, in order, and no more of them than rows were made."""
+    with start_station() as day, day.connect() as till:
+        ask(till, sign_on(1), SIGNED_ON[1])
+        till.setblocking(False)
+        closing = threading.Event()
+        sender = threading.Thread(target=send_until, args=(till, closing))
+        sender.start()
+        try:
+            day.wait_until_full(till)
+        finally:
+            closing.set()
+            sender.join()
+        till.setblocking(True)
+        got = receive(till, 38 * 10_000)
+        report = end(day, None)
+        with contextlib.suppress(ConnectionError):
+            got += receive_all(till)
+        expect_tokens(got)
+        rows = int(report.split()[1])
+        expect("no more than were asked", len(got) // 38 <= rows - 2, True)
+
+
+def expect_tokens(got):
+    """Replies to what `send_until` sends, in order; the last one may be cut."""
+    tokens = [got[at + 5] & 31 for at in range(0, len(got) - 37, 38)]
+    expect("replies in order", tokens, [n % 6_000 % 32 for n in range(len(tokens))])
+
+
+@test
+def a_full_book():
+    """A book of three rows: the fourth request has none, the day goes on, and the tills are
+    signed off all the same."""
+    site = HERE / "full.toml"
+    lines = KNOWN_SITE.read_text().splitlines()
+    rest = [line for line in lines if not line.startswith("rows")]
+    site.write_text("\n".join(["rows = 3", *rest, ""]))
+    full = parse("02 01 01 01 00 E3 00 05 01 21 01 01 1E")
+    with start_station(site=site) as day, day.connect() as till, day.connect() as pump:
+        ask(till, sign_on(1), SIGNED_ON[1])
+        ask(pump, say(1), refuse(1, 2))
+        ask(till, command_point(1, 2, 1, OPEN), DONE)
+        expect("the notice", receive(pump, len(OPENED)), OPENED)
+        ask(till, command_point(1, 3, 1, RELEASE), full)
+        ask(pump, say(1), parse("03 01 01 01 00 E3 00 05 01 21 01 01 1E"))
+        expect("report", end(day), write_report(4, 0))
+
+
+@test
+def closed_output():
+    """Where it can't tell where it listens, it serves nobody."""
+    ended = run(PROGRAM, "station", KNOWN_SITE, "--port", "0", given=b"", sink="/dev/full")
+    expect("listening", (ended.status, ended.err), (1, "fault 62\n"))
+
+
+# ---- the command line, and the order of faults
+
+
+@test
+def mistaken_words():
+    wrong = [[]] + [["--port", port] for port in ("65536", "-1", "+80", "x", "", "0x50", "1e3")]
+    wrong += [["--port=0", f"--idle={idle}"] for idle in ("0", "86401", "-1", "+1", "x", "", "1.5")]
+    wrong += [["--port=0", "--port=1"], ["--port=0", "--workers=1"], ["--port=0", "--detached=1"]]
+    for words in wrong:
+        for site in (KNOWN_SITE, "no_such_file"):
+            ended = run(PROGRAM, "station", site, *words, given=b"")
+            got = (ended.status, ended.out, ended.err != "", "cannot read" in ended.err)
+            expect(f"{words}", got, (2, b"", True, False))
+    with socket.create_server(("127.0.0.1", 0)) as busy:
+        port = str(busy.getsockname()[1])
+        for site, why in (("no_such_file", "cannot read no_such_file\n"),
+                          ("/dev/null", "fault 72 product\n"), (KNOWN_SITE, "fault 63\n")):
+            ended = run(PROGRAM, "station", site, "--port", port, given=b"")
+            expect(f"{site}", (ended.status, ended.out, ended.err), (1, b"", why))
