@@ -1,5 +1,8 @@
 //! Lines of standard input.
 
+ghost use Rattle.std.specs.Prelude.{IfErr};
+ghost use Rattle.program_io.specs.Statuses.{IsFailed};
+
 use crate::exit::{exit_no_memory, exit_replay};
 use forecourt_engines::{LINE_OCTETS, ReplayFault};
 use site_base::ReadFault;
@@ -13,7 +16,9 @@ pub fn read_line<R: BufRead>(
     rt: &impl Eprint,
     reader: &mut R,
     line: &mut Vec<u8>,
-) -> Result<bool, ExitCode> {
+) -> Result<bool, ExitCode>
+    ensures failed { IfErr result IsFailed }
+{
     line.clear();
     let mut limited = reader.take(LINE_OCTETS as u64 + 1);
     match limited.read_until(b'\n', line) {

@@ -1,37 +1,28 @@
 //! A copy of a journal's file, which takes its place.
 
-use crate::journal_file::{is_at, open_by};
-use std::fs::{self, File, OpenOptions, TryLockError};
-use std::io::{self, ErrorKind, Write};
+use crate::identity::is_at;
+use crate::lock::lock;
+use crate::names::copy_name;
+use crate::opening::open_by;
+use std::fs::{File, OpenOptions};
+use std::io::{ErrorKind, Write};
 use std::os::unix::fs::{MetadataExt, fchown};
-use std::path::PathBuf;
+use std::rt::Files;
+use std::{fs, io};
 
-/// What stands behind a journal's name in that of its copy.
-const COPY_EXTENSION: &str = "starting";
-
-/// May a start's copy have this name? No journal does: a start of another one might remove it.
-pub fn is_copy_name(name: &str) -> bool {
-    name.rsplit_once('.').is_some_and(|(_, extension)| extension.eq_ignore_ascii_case(
-        COPY_EXTENSION,
-    ))
-}
-
-/// Puts a copy with these octets in a file's place. It is locked, and has the file's owner and
-/// leave; all of it is on the disk before it takes the name.
-pub fn put_copy(rt: &HostRuntime, file: &File, name: &str, octets: &[u8]) -> io::Result<File> {
-    let copy_name = PathBuf::from_str(rt.alloc(), name)?.with_added_extension(
-        rt.alloc(),
-        COPY_EXTENSION,
-    )?;
+/// Puts a copy with these octets in the place of the file of this name. It is locked, and has the
+/// file's owner and permissions; all of it is on the disk before it takes the name. Where that
+/// fails the file keeps its name, and no copy is left.
+pub fn put_copy<R: Files<File = File> + AllocGlobal>(
+    rt: &R,
+    file: &File,
+    name: &str,
+    octets: &[u8],
+) -> io::Result<File> {
+    let copy_name = copy_name(rt.alloc(), name)?;
     remove_left(rt, copy_name.as_str())?;
     let copy = open_by(rt, OpenOptions::new().create_new(true), copy_name.as_str())?;
-    match fill_copy(file, &copy, octets).and_then(|()| take_place(
-        rt,
-        file,
-        name,
-        &copy,
-        copy_name.as_str(),
-    )) {
+    match fill_and_rename(rt, file, name, &copy, copy_name.as_str(), octets) {
         Ok(()) if is_at(rt, name, &copy) => Ok(copy),
         Ok(()) => Err(io::Error::from(ErrorKind::NotFound)),
         Err(error) => {
@@ -45,7 +36,7 @@ pub fn put_copy(rt: &HostRuntime, file: &File, name: &str, octets: &[u8]) -> io:
 
 /// Removes the copy that a start has left which ended before it was in place. What is no file, or
 /// is locked by somebody, is no such copy.
-fn remove_left(rt: &HostRuntime, copy_name: &str) -> io::Result<()> {
+fn remove_left<R: Files<File = File>>(rt: &R, copy_name: &str) -> io::Result<()> {
     match fs::symlink_metadata(rt, copy_name) {
         Ok(found) if found.is_file() => {}
         Ok(_) => return Err(io::Error::from(ErrorKind::AlreadyExists)),
@@ -68,10 +59,23 @@ fn remove_left(rt: &HostRuntime, copy_name: &str) -> io::Result<()> {
     }
 }
 
+/// Puts the octets into the copy, and gives it the file's name.
+fn fill_and_rename(
+    rt: &impl Files,
+    file: &File,
+    name: &str,
+    copy: &File,
+    copy_name: &str,
+    octets: &[u8],
+) -> io::Result<()> {
+    fill_copy(file, copy, octets)?;
+    take_place(rt, file, name, copy, copy_name)
+}
+
 /// Gives the copy the file's name, while each has its own: a journal that was moved away meanwhile
 /// stays where it is, and what has its name then, or the copy's, is another's.
 fn take_place(
-    rt: &HostRuntime,
+    rt: &impl Files,
     file: &File,
     name: &str,
     copy: &File,
@@ -84,7 +88,7 @@ fn take_place(
 }
 
 /// Locks a copy, and puts the octets into it, with the file's owner, where that may be, and its
-/// leave.
+/// permissions.
 fn fill_copy(file: &File, copy: &File, octets: &[u8]) -> io::Result<()> {
     lock(copy)?;
     let mut writer = copy;
@@ -94,13 +98,4 @@ fn fill_copy(file: &File, copy: &File, octets: &[u8]) -> io::Result<()> {
     let _ = fchown(copy, Some(found.uid()), None);
     copy.set_permissions(found.permissions())?;
     copy.sync_all()
-}
-
-/// Locks a file for this process; `WouldBlock` where another has it.
-pub fn lock(file: &File) -> io::Result<()> {
-    match file.try_lock() {
-        Ok(()) => Ok(()),
-        Err(TryLockError::WouldBlock) => Err(io::Error::from(ErrorKind::WouldBlock)),
-        Err(TryLockError::Error(error)) => Err(error),
-    }
 }

@@ -1,24 +1,26 @@
 //! `forecourt explain`, of a trace, and `forecourt explain NUMBER`, of a number.
 
-use crate::exit::{COMMAND_LINE, exit_no_memory, exit_replay, exit_unwritten, exit_with};
-use crate::lines::read_line;
-use clap::ArgMatches;
 use forecourt_engines::explain::{explain, fault_name};
 use forecourt_engines::{Explained, NumberMeaning, ReplayFault, TextFault, Trace};
+use program_io::{COMMAND_LINE, exit_no_memory, exit_replay, exit_unwritten, exit_with, read_line};
 use site_base::{NoMemory, ReadFault};
-use std::io::BufReader;
+use std::io::{BufReader, Read};
 use std::process::ExitCode;
 
-/// Prints what a number means; without one, each message of standard input in words.
-pub fn run_explain(rt: &HostRuntime, words: &ArgMatches<'_>) -> ExitCode {
-    match words.get_str("NUMBER") {
+/// Prints what a number means; without one, each message of this input in words.
+pub fn run_explain<R: Print + Eprint + AllocGlobal, I: Read + Drop>(
+    rt: &R,
+    input: I,
+    number: Option<&str>,
+) -> ExitCode {
+    match number {
         Some(word) => explain_number(rt, word),
-        None => explain_trace(rt),
+        None => explain_trace(rt, input),
     }
 }
 
 /// Prints what a refusal's or fault's number means. Another word is a mistake.
-fn explain_number(rt: &HostRuntime, word: &str) -> ExitCode {
+fn explain_number<R: Print + Eprint>(rt: &R, word: &str) -> ExitCode {
     // `parse` takes a plus before the digits.
     let number = match word.strip_prefix('+') {
         Some(_) => None,
@@ -36,12 +38,12 @@ fn explain_number(rt: &HostRuntime, word: &str) -> ExitCode {
     }
 }
 
-/// Prints each message of standard input in words, and says why the trace ended, if it ended with
-/// a fault.
-fn explain_trace(rt: &HostRuntime) -> ExitCode {
+/// Prints each message of this input in words, and says why the trace ended, if it ended with a
+/// fault.
+fn explain_trace<R: Print + Eprint + AllocGlobal, I: Read + Drop>(rt: &R, input: I) -> ExitCode {
     let alloc = rt.alloc();
     let mut trace = Trace::new(alloc);
-    let mut reader = match BufReader::new(alloc, rt.stdin()) {
+    let mut reader = match BufReader::new(alloc, input) {
         Ok(reader) => reader,
         Err(_) => return exit_no_memory(rt),
     };
@@ -62,7 +64,10 @@ fn explain_trace(rt: &HostRuntime) -> ExitCode {
 }
 
 /// Prints what a line brought, or how the program ends with it.
-fn print_line(rt: &HostRuntime, brought: Result<Explained, NoMemory>) -> Result<(), ExitCode> {
+fn print_line<R: Print + Eprint + AllocGlobal>(
+    rt: &R,
+    brought: Result<Explained, NoMemory>,
+) -> Result<(), ExitCode> {
     let Explained { messages, stop } = match brought {
         Ok(brought) => brought,
         Err(_) => return Err(exit_no_memory(rt)),
@@ -82,9 +87,9 @@ fn print_line(rt: &HostRuntime, brought: Result<Explained, NoMemory>) -> Result<
     }
 }
 
-/// Tells why the trace ended; a fault of its octets by its name, too, where the messages are
+/// Prints why the trace ended; a fault of its octets by its name, too, where the messages are
 /// printed.
-fn exit_stopped(rt: &HostRuntime, fault: TextFault) -> ExitCode {
+fn exit_stopped<R: Print + Eprint>(rt: &R, fault: TextFault) -> ExitCode {
     if let TextFault::Stream(grammar) = fault {
         let number = grammar.number();
         if println!(rt; "{} {}", number, fault_name(number).unwrap_or("")).is_err() {

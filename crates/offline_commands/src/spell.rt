@@ -1,23 +1,22 @@
 //! `forecourt spell`: a day in words, spelled as the lines of hexadecimal that the other commands
 //! read.
 
-use crate::TURNS;
-use crate::exit::{FAULT, exit_no_memory, exit_replay, exit_unwritten, exit_with};
-use crate::lines::read_line;
 use forecourt_engines::words::{LineFault, Token, WordFault, spell_line};
 use forecourt_engines::{LINE_OCTETS, ReplayFault, TextFault};
+use program_io::{FAULT, TURNS, exit_no_memory, exit_replay, exit_unwritten, exit_with, read_line};
 use site_base::{Counted, ReadFault, write_whole};
-use std::io::BufReader;
+use std::io;
+use std::io::{BufReader, Read};
 use std::process::ExitCode;
 
-/// So many octets are printed at once.
+/// This many octets are printed at once.
 const TEXT_OCTETS: usize = 65_536;
 
-/// Spells each line of standard input, and ends with the first that asks for nothing; what was
-/// spelled before it is printed.
-pub fn run_spell(rt: &HostRuntime) -> ExitCode {
+/// Spells each line of this input, and ends with the first that asks for nothing; what was spelled
+/// before it is printed.
+pub fn run_spell<R: Print + Eprint + AllocGlobal, I: Read + Drop>(rt: &R, input: I) -> ExitCode {
     let alloc = rt.alloc();
-    let mut reader = match BufReader::new(alloc, rt.stdin()) {
+    let mut reader = match BufReader::new(alloc, input) {
         Ok(reader) => reader,
         Err(_) => return exit_no_memory(rt),
     };
@@ -40,8 +39,8 @@ pub fn run_spell(rt: &HostRuntime) -> ExitCode {
 
 /// Spells the line of this number, and prints what was spelled where it is much. The answer is the
 /// next token, or how the program ends.
-fn spell_next(
-    rt: &HostRuntime,
+fn spell_next<R: Print + Eprint + AllocGlobal>(
+    rt: &R,
     number: u64,
     line: &[u8],
     next: Token,
@@ -68,7 +67,7 @@ fn spell_next(
 }
 
 /// Prints what was spelled, and ends so.
-fn print_last(rt: &HostRuntime, text: &mut Vec<u8>, status: ExitCode) -> ExitCode {
+fn print_last<R: Print + Eprint>(rt: &R, text: &mut Vec<u8>, status: ExitCode) -> ExitCode {
     match print_text(rt, text) {
         Ok(()) => status,
         Err(status) => status,
@@ -76,9 +75,9 @@ fn print_last(rt: &HostRuntime, text: &mut Vec<u8>, status: ExitCode) -> ExitCod
 }
 
 /// Prints what was spelled, or says that standard output takes no more.
-fn print_text(rt: &HostRuntime, text: &mut Vec<u8>) -> Result<(), ExitCode> {
+fn print_text<R: Print + Eprint>(rt: &R, text: &mut Vec<u8>) -> Result<(), ExitCode> {
     let mut turns = TURNS;
-    match write_whole(&mut Counted::new(rt.stdout()), text, &mut turns) {
+    match write_whole(&mut Counted::new(io::writer(rt)), text, &mut turns) {
         Ok(()) => {
             text.clear();
             Ok(())
