@@ -1,9 +1,9 @@
 //! A copy of a journal's file, which takes its place.
 
+use crate::files::open_by;
 use crate::identity::is_at;
 use crate::lock::lock;
 use crate::names::copy_name;
-use crate::opening::open_by;
 use std::fs::{File, OpenOptions};
 use std::io::{ErrorKind, Write};
 use std::os::unix::fs::{MetadataExt, fchown};

@@ -1,7 +1,7 @@
 //! Why a journal's file can't be used.
 
 ghost use Rattle.std.specs.Prelude.{◌≡◌, ◌≢◌};
-ghost use Rattle.std_io.specs.IoError.{error_kind};
+ghost use Rattle.std.specs.IoError.{error_kind};
 
 use journal::DiskFault;
 use std::alloc::AllocError;

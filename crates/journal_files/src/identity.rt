@@ -1,5 +1,7 @@
 //! Whether two names lead to the same file.
 
+ghost use Rattle.std.specs.Prelude.{◌≡◌, IsErr, false};
+
 use std::fs::{File, Metadata};
 use std::os::unix::fs::MetadataExt;
 use std::rt::Files;
@@ -23,7 +25,9 @@ pub fn is_written_by(rt: &impl Files, stream: &str, file: &File) -> bool {
 }
 
 /// Is this what is found of the file?
-fn is_of(found: io::Result<Metadata>, file: &File) -> bool {
+fn is_of(found: io::Result<Metadata>, file: &File) -> bool
+    ensures unknown { IsErr found → result ≡ false }
+{
     match (found, file.metadata()) {
         (Ok(there), Ok(here)) => there.dev() == here.dev() && there.ino() == here.ino(),
         _ => false,

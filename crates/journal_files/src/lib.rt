@@ -8,7 +8,9 @@
 #![tactic(auto)]
 
 mod copies;
+mod disk;
 mod fault;
+mod files;
 mod identity;
 mod journal_file;
 mod lock;

@@ -1,7 +1,7 @@
 //! The names of journals and of their copies.
 
-ghost use Rattle.std.specs.Prelude.{◌≡◌};
-ghost use Rattle.journal_files.specs.Names.{has_copy_name};
+ghost use Rattle.std.specs.Prelude.{◌≡◌, ◌++◌, ◌↔◌, ◌⊎◌, IfErr, IfOk, IsTrue, string_bytes};
+ghost use Rattle.journal_files.specs.Names.{HasCopyName};
 
 use crate::fault::{FileFault, fault_of};
 use std::alloc::{AllocError, Global};
@@ -9,22 +9,27 @@ use std::fs;
 use std::path::PathBuf;
 use std::rt::Files;
 
-/// What a copy's name has after its last point. Before it is the journal's own name.
-const COPY_EXTENSION: &str = "starting";
+/// What a copy's name has after that of its journal.
+pub const COPY_ENDING: &str = ".starting";
 
 /// May a copy have this name? No journal does: a start of another one might remove it.
 pub fn is_copy_name(name: &str) -> bool
-    ensures { result ≡ has_copy_name name.now }
+    ensures { IsTrue result ↔ HasCopyName name.now }
 {
-    match name.rsplit_once('.') {
-        Some((_, extension)) => extension.eq_ignore_ascii_case(COPY_EXTENSION),
+    let octets = name.as_bytes();
+    match octets.len().checked_sub(COPY_ENDING.len()) {
+        Some(at) => octets[at..].eq_ignore_ascii_case(COPY_ENDING.as_bytes()),
         None => false,
     }
 }
 
 /// The name of the copy of the journal of this name.
-pub fn copy_name(alloc: Global, name: &str) -> Result<PathBuf, AllocError> {
-    PathBuf::from_str(alloc, name)?.with_added_extension(alloc, COPY_EXTENSION)
+pub fn copy_name(alloc: Global, name: &str) -> Result<String, AllocError>
+    ensures { IfOk result (λ copy. string_bytes copy ≡ name.now ++ COPY_ENDING.now) }
+{
+    let mut copy = String::from_str(alloc, name)?;
+    copy.push_str(COPY_ENDING)?;
+    Ok(copy)
 }
 
 /// The folder of the file of this name.
@@ -37,7 +42,9 @@ pub fn folder_of(name: &str) -> &str {
 }
 
 /// Where the file of this name is, or will be: a link to a file is followed.
-pub fn resolve<R: Files + AllocGlobal>(rt: &R, name: &str) -> Result<PathBuf, FileFault> {
+pub fn resolve<R: Files + AllocGlobal>(rt: &R, name: &str) -> Result<PathBuf, FileFault>
+    ensures { IfErr result (λ f. (f ≡ FileFault.NoMemory) ⊎ (f ≡ FileFault.Unread)) }
+{
     match fs::symlink_metadata(rt, name) {
         Ok(found) if found.is_symlink() => match fs::canonicalize(rt, name) {
             Ok(path) => Ok(path),
