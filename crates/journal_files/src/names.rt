@@ -1,7 +1,7 @@
 //! The names of journals and of their copies.
 
 ghost use Rattle.std.specs.Prelude.{◌≡◌, ◌++◌, ◌↔◌, ◌⊎◌, IfErr, IfOk, IsTrue, string_bytes};
-ghost use Rattle.journal_files.specs.Names.{HasCopyName};
+ghost use Rattle.journal_files.specs.Names.{HasCopyName, IsFolderOf};
 
 use crate::fault::{FileFault, fault_of};
 use std::alloc::{AllocError, Global};
@@ -33,11 +33,13 @@ pub fn copy_name(alloc: Global, name: &str) -> Result<String, AllocError>
 }
 
 /// The folder of the file of this name.
-pub fn folder_of(name: &str) -> &str {
-    match name.rsplit_once('/') {
+pub fn folder_of(name: &str) -> &str
+    ensures { IsFolderOf name.now result.now }
+{
+    match name.rfind('/') {
         None => ".",
-        Some(("", _)) => "/",
-        Some((folder, _)) => folder,
+        Some(0) => "/",
+        Some(at) => &name[..at],
     }
 }
 
