@@ -1,4 +1,4 @@
-use Rattle.std.proofs.Common.{◌≡◌, ℕ, arith, inl, inr, refl, subst}
+use Rattle.std.proofs.Common.{ℕ, arith, inl, inr, refl, subst}
 use Rattle.std.specs.Prelude.{MatchOption, Option, List}
 use Rattle.std.proofs.lemmas.Str.Pattern.{rfind_char}
 use Rattle.journal_files.specs.Names.{HasNoSlash, IsLastSlash, slash}
