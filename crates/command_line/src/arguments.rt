@@ -1,7 +1,7 @@
 //! The arguments that commands share, as `clap` knows them.
 
-ghost use Rattle.std.specs.Prelude.{◌≡◌, false};
-ghost use Rattle.clap.specs.Words.{rule_of};
+ghost use Rattle.std.specs.Prelude.{◌≡◌, codes, false};
+ghost use Rattle.clap.specs.Words.{new_rule, rule_of};
 ghost use Rattle.command_line.specs.Program.{flag_rule, option_rule, required_rule, script_rule};
 ghost use Rattle.command_line.specs.Program.{site_file_rule};
 
@@ -24,6 +24,14 @@ pub fn script<'a>(alloc: Global) -> Arg<'a>
     Arg::new(alloc, "SCRIPT")
         .help("The script: a setup, and the sections of tills and dispensers")
         .required(true)
+}
+
+/// The number that an explanation is asked for.
+pub fn number<'a>(alloc: Global) -> Arg<'a>
+    ensures rule { rule_of result ≡ new_rule (codes "NUMBER") }
+    ensures local { result.global ≡ false }
+{
+    Arg::new(alloc, "NUMBER").help("A refusal's or fault's number, as 20")
 }
 
 /// A word that is there or not.

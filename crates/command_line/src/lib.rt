@@ -7,6 +7,7 @@
 #![tactic(auto)]
 
 mod arguments;
+mod building;
 mod command;
 mod day_commands;
 mod no_command;
