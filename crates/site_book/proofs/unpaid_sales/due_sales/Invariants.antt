@@ -2,7 +2,7 @@ use Rattle.std.proofs.Common.{◌≡◌, ◌++◌, drop}
 use Rattle.std.specs.Prelude.{filter}
 use Rattle.site_book.specs.Book.{site_of_book}
 use Rattle.site_book.specs.Unpaid.{as_they_stand, is_due}
-use Rattle.site_book.proofs.kept_sales.due_sales.Given as goal
+use Rattle.site_book.proofs.unpaid_sales.due_sales.Given as goal
 
 abbrev pub invariant-loop-sold : goal.invariant-loop-sold
 invariant-loop-sold l =

@@ -3,7 +3,7 @@ use Rattle.std.proofs.lemmas.Bool.{false≢true}
 use Rattle.written_site.specs.RowWords.{closes_shift}
 use Rattle.written_site.proofs.SigningLaws.{shift_by_rows}
 use Rattle.site_book.proofs.BookSales.{open_more, open_most}
-use Rattle.site_book.proofs.kept_sales.shift_after.Goals as goal
+use Rattle.site_book.proofs.unpaid_sales.shift_after.Goals as goal
 
 pub returns-then-not-closes_shift : goal.returns-then-not-closes_shift
 returns-then-not-closes_shift c = λ before.

@@ -2,7 +2,7 @@ use Rattle.std.proofs.Common.{◌≡◌, [], ◌∷◌, ◌++◌, ap, ◌∙◌,
 use Rattle.std.proofs.lemmas.Grind.{common_steps}
 use Rattle.site_book.specs.RowLists.{RowList}
 use Rattle.site_book.proofs.KeptRows.{pushed, pushed_within}
-use Rattle.site_base.proofs.rows.Rows.push.Goals as goal
+use Rattle.site_book.proofs.rows.Rows.push.Goals as goal
 
 pub invariant_of-self : goal.invariant_of-self
 invariant_of-self c =

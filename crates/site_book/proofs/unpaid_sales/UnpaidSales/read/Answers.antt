@@ -1,7 +1,7 @@
 use Rattle.std.proofs.Common.{subst, sym, ◌∙◌}
 use Rattle.site_book.specs.Unpaid.{GoesBy, Kept}
 use Rattle.site_book.proofs.Reading.{whole}
-use Rattle.site_book.proofs.kept_sales.UnpaidSales.read.Goals as goal
+use Rattle.site_book.proofs.unpaid_sales.UnpaidSales.read.Goals as goal
 
 pub returns-clause-kept : goal.returns-clause-kept
 returns-clause-kept c = λ goes.

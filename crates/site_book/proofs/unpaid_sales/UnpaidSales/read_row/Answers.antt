@@ -2,7 +2,7 @@ use Rattle.std.proofs.Common.{◌+◌, List, slice_get, subst, sym, ap, ◌∙�
 use Rattle.site_book.specs.declared.named_sale.NamedSale.{NamedSale}
 use Rattle.site_book.specs.Unpaid.{GoesBy, Kept}
 use Rattle.site_book.proofs.Reading.{row_kept}
-use Rattle.site_book.proofs.kept_sales.UnpaidSales.read_row.Goals as goal
+use Rattle.site_book.proofs.unpaid_sales.UnpaidSales.read_row.Goals as goal
 
 pub returns-clause-kept : goal.returns-clause-kept
 returns-clause-kept c = λ goes.

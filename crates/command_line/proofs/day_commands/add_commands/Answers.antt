@@ -1,0 +1,8 @@
+use Rattle.std.proofs.Common.{refl}
+use Rattle.command_line.proofs.day_commands.add_commands.Goals as goal
+
+pub returns : goal.returns
+returns c =
+    let one = c.in_ok-program.ensures _ _ refl c.in_ok-serve.ensures in
+    let two = c.in_ok-program-2.ensures _ _ one c.in_ok-station.ensures in
+    c.add_command-3.ensures _ _ two c.in_ok-demo.ensures

@@ -1,0 +1,8 @@
+use Rattle.command_line.proofs.day_commands.serve.Goals as goal
+
+pub returns : goal.returns
+returns c =
+    let one = c.in_ok-command.ensures _ _ c.start-command.ensures c.site_file.ensures.rule in
+    let two = c.in_ok-command-2.ensures _ _ one c.required.ensures.rule in
+    let three = c.in_ok-command-3.ensures _ _ two c.required-2.ensures.rule in
+    c.add_argument-4.ensures _ _ three c.required-3.ensures.rule

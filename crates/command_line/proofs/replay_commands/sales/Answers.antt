@@ -1,0 +1,7 @@
+use Rattle.command_line.proofs.replay_commands.sales.Goals as goal
+
+pub returns : goal.returns
+returns c =
+    let one = c.in_ok-command.ensures _ _ c.start-command.ensures c.site_file.ensures.rule in
+    let two = c.in_ok-command-2.ensures _ _ one c.flag.ensures.rule in
+    c.add_argument-3.ensures _ _ two c.flag-2.ensures.rule

@@ -1,0 +1,73 @@
+-- Which command a name says, with the rows that `clap` finds after it.
+use Rattle.std.specs.Prelude.{◌≡◌, ◌≢◌, ℕ, Bool, true, false, List, [], ◌∷◌, Option, Some, None}
+use Rattle.std.specs.Prelude.{codes, option_map, unwrap_or}
+use Rattle.std.specs.Borrow.{Bor}
+use Rattle.std.specs.List.{All}
+use Rattle.clap.specs.Words.{Row, Text, first_of, one_of}
+use Rattle.command_line.specs.declared.command.Command.{Command}
+use Rattle.command_line.specs.declared.command.Command.TheVariants as commands
+use Rattle.command_line.specs.declared.command.ReportForm.{ReportForm}
+use Rattle.command_line.specs.declared.command.ReportForm.TheVariants.{Lines, People, Json}
+
+-- the text of an argument; empty where it isn't there
+abbrev pub text_in : Text → List Row → Text
+text_in name rows = unwrap_or (first_of name rows) []
+
+-- an option that is there or not is this text
+abbrev pub IsOption : Text → List Row → Option (Bor Text) → Type 0
+IsOption name rows given = option_map (λ s. s.now) given ≡ first_of name rows
+
+-- a flag that reads as this text is given or not
+abbrev pub IsFlag : Option Text → Bool → Type 0
+IsFlag read given =
+    (read ≡ None → given ≡ false) × (read ≡ Some (codes "true") → given ≡ true)
+    × (read ≡ Some (codes "false") → given ≡ false)
+
+-- .. the flag of this name
+abbrev pub HasFlag : Text → List Row → Bool → Type 0
+HasFlag name rows given = IsFlag (one_of name rows) given
+
+-- a report has this form: `--human` comes before `--json`
+abbrev pub HasForm : List Row → ReportForm → Type 0
+HasForm rows People = HasFlag (codes "human") rows true
+HasForm rows Json = HasFlag (codes "human") rows false × HasFlag (codes "json") rows true
+HasForm rows Lines = HasFlag (codes "human") rows false × HasFlag (codes "json") rows false
+
+abbrev pub command_names : List Text
+command_names =
+    codes "check" ∷ codes "replay" ∷ codes "report" ∷ codes "sales" ∷ codes "serve"
+    ∷ codes "station" ∷ codes "demo" ∷ codes "explain" ∷ codes "spell" ∷ []
+
+-- this name with these rows says this command; any other name the replay on the known site
+abbrev pub IsSaid : Text → List Row → Command → Type 0
+IsSaid name rows (commands.Check site) =
+    (name ≡ codes "check") × (site.now ≡ text_in (codes "FILE") rows)
+IsSaid name rows (commands.Replay o) =
+    (name ≡ codes "replay") × (o.site.now ≡ text_in (codes "FILE") rows)
+    × HasFlag (codes "changes") rows o.changes
+IsSaid name rows (commands.Report o) =
+    (name ≡ codes "report") × (o.site.now ≡ text_in (codes "FILE") rows) × HasForm rows o.form
+IsSaid name rows (commands.Sales o) =
+    (name ≡ codes "sales") × (o.site.now ≡ text_in (codes "FILE") rows)
+    × HasFlag (codes "draws") rows o.draws × HasFlag (codes "json") rows o.json
+IsSaid name rows (commands.Serve o) =
+    (name ≡ codes "serve") × (o.site.now ≡ text_in (codes "FILE") rows)
+    × (o.port.now ≡ text_in (codes "port") rows) × (o.workers.now ≡ text_in (codes "workers") rows)
+    × (o.sessions.now ≡ text_in (codes "sessions") rows)
+IsSaid name rows (commands.Station o) =
+    (name ≡ codes "station") × (o.site.now ≡ text_in (codes "FILE") rows)
+    × (o.port.now ≡ text_in (codes "port") rows) × IsOption (codes "journal") rows o.journal
+    × IsOption (codes "page") rows o.page × IsOption (codes "idle") rows o.idle
+    × HasFlag (codes "detached") rows o.detached × HasFlag (codes "json") rows o.json
+IsSaid name rows (commands.Demo o) =
+    (name ≡ codes "demo") × (o.site.now ≡ text_in (codes "FILE") rows)
+    × (o.script.now ≡ text_in (codes "SCRIPT") rows) × HasFlag (codes "loopback") rows o.loopback
+IsSaid name rows (commands.Explain number) =
+    (name ≡ codes "explain") × IsOption (codes "NUMBER") rows number
+IsSaid name rows commands.Spell = name ≡ codes "spell"
+IsSaid name rows commands.ReplayHere = All (λ n. name ≢ n) command_names
+
+-- .. what `clap` finds says this command; without a name it is the replay on the known site
+abbrev pub IsSaidBy : Option (Text × List Row) → Command → Type 0
+IsSaidBy None command = command ≡ commands.ReplayHere
+IsSaidBy (Some (name, rows)) command = IsSaid name rows command

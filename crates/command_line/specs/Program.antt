@@ -1,0 +1,95 @@
+-- The command line as a table: each command with its arguments, as `clap` reads them.
+use Rattle.std.specs.Prelude.{◌≡◌, true, false, List, [], ◌∷◌, ◌++◌, Some, codes}
+use Rattle.clap.specs.Words.{App, Rule, Shape, Text, app_of, new_app, new_rule, shape_of}
+use Rattle.clap.specs.Words.{with_subcommand}
+use Rattle.clap.specs.Simple.{new_shape}
+use Rattle.clap.specs.declared.builder.command.Command.{Command}
+use Rattle.clap.specs.declared.builder.command.Command.TheViews.{out-Command}
+use Rattle.clap.specs.declared.builder.action.ArgAction.TheVariants.{SetTrue}
+
+-- ---- arguments
+
+-- a word at its place, which has to be there
+abbrev pub word_rule : Text → Rule
+word_rule name = record (new_rule name) { required = true }
+
+abbrev pub site_file_rule : Rule
+site_file_rule = word_rule (codes "FILE")
+
+abbrev pub script_rule : Rule
+script_rule = word_rule (codes "SCRIPT")
+
+-- `--name`, which is there or not
+abbrev pub flag_rule : Text → Rule
+flag_rule name = record (new_rule name) { long = Some name; action = Some SetTrue }
+
+-- `--name VALUE`, which may be left out
+abbrev pub option_rule : Text → Rule
+option_rule name = record (new_rule name) { long = Some name; value_names = 1 }
+
+-- .. which has to be there
+abbrev pub required_rule : Text → Rule
+required_rule name = record (option_rule name) { required = true }
+
+-- ---- commands
+
+-- a command with one argument more
+abbrev pub with_argument : Shape → Rule → Shape
+with_argument s r = record s { rules = s.rules ++ r ∷ [] }
+
+-- .. with these arguments more
+abbrev pub with_arguments : Shape → List Rule → Shape
+with_arguments s [] = s
+with_arguments s (r ∷ rs) = with_arguments (with_argument s r) rs
+
+-- the command of this name with these arguments
+abbrev pub command : Text → List Rule → Shape
+command name rules = with_arguments (new_shape name) rules
+
+abbrev pub replay_shapes : List Shape
+replay_shapes =
+    command (codes "check") (site_file_rule ∷ [])
+    ∷ command (codes "replay") (site_file_rule ∷ flag_rule (codes "changes") ∷ [])
+    ∷ command (codes "report")
+    (site_file_rule ∷ flag_rule (codes "human") ∷ flag_rule (codes "json") ∷ [])
+    ∷ command (codes "sales")
+    (site_file_rule ∷ flag_rule (codes "draws") ∷ flag_rule (codes "json") ∷ [])
+    ∷ []
+
+abbrev pub day_shapes : List Shape
+day_shapes =
+    command (codes "serve")
+    (site_file_rule ∷ required_rule (codes "port") ∷ required_rule (codes "workers")
+    ∷ required_rule (codes "sessions") ∷ [])
+    ∷ command (codes "station")
+    (site_file_rule ∷ required_rule (codes "port") ∷ option_rule (codes "journal")
+    ∷ option_rule (codes "page") ∷ option_rule (codes "idle")
+    ∷ flag_rule (codes "detached") ∷ flag_rule (codes "json") ∷ [])
+    ∷ command (codes "demo")
+    (site_file_rule ∷ script_rule ∷ flag_rule (codes "loopback") ∷ [])
+    ∷ []
+
+abbrev pub word_shapes : List Shape
+word_shapes =
+    command (codes "explain") (new_rule (codes "NUMBER") ∷ []) ∷ command (codes "spell") [] ∷ []
+
+-- ---- the program
+
+-- a command is this one, and none of its arguments is its subcommands' too
+abbrev pub HasShape : Shape → Command → Type 0
+HasShape s c = (shape_of c ≡ s) × ((out-Command c).has_globals ≡ false)
+
+-- a program with these commands more
+abbrev pub with_commands : App → List Shape → App
+with_commands a [] = a
+with_commands a (s ∷ ss) = with_commands (with_subcommand a s) ss
+
+-- the program before it has a command: one has to be named
+abbrev pub bare_program : App
+bare_program = record (new_app (codes "forecourt")) {
+  top = record (new_shape (codes "forecourt")) { has_version = true; subcommand_required = true };
+}
+
+abbrev pub program : App
+program = with_commands (with_commands (with_commands bare_program replay_shapes) day_shapes)
+    word_shapes

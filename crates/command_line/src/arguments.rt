@@ -1,0 +1,65 @@
+//! The arguments that commands share, as `clap` knows them.
+
+ghost use Rattle.std.specs.Prelude.{◌≡◌, codes, false};
+ghost use Rattle.clap.specs.Words.{new_rule, rule_of};
+ghost use Rattle.command_line.specs.Program.{flag_rule, option_rule, required_rule, script_rule};
+ghost use Rattle.command_line.specs.Program.{site_file_rule};
+
+use clap::{Arg, ArgAction};
+use std::alloc::Global;
+
+/// The site file that a command reads.
+pub fn site_file<'a>(alloc: Global) -> Arg<'a>
+    ensures rule { rule_of result ≡ site_file_rule }
+    ensures local { result.global ≡ false }
+{
+    Arg::new(alloc, "FILE").help("The site file").required(true)
+}
+
+/// The script that a demo runs.
+pub fn script<'a>(alloc: Global) -> Arg<'a>
+    ensures rule { rule_of result ≡ script_rule }
+    ensures local { result.global ≡ false }
+{
+    Arg::new(alloc, "SCRIPT")
+        .help("The script: a setup, and the sections of tills and dispensers")
+        .required(true)
+}
+
+/// The number that an explanation is asked for.
+pub fn number<'a>(alloc: Global) -> Arg<'a>
+    ensures rule { rule_of result ≡ new_rule (codes "NUMBER") }
+    ensures local { result.global ≡ false }
+{
+    Arg::new(alloc, "NUMBER").help("A refusal's or fault's number, as 20")
+}
+
+/// A word that is there or not.
+pub fn flag<'a>(alloc: Global, name: &'a str, help: &'a str) -> Arg<'a>
+    ensures rule { rule_of result ≡ flag_rule name.entry.now }
+    ensures local { result.global ≡ false }
+{
+    Arg::new(alloc, name)
+        .long(name)
+        .help(help)
+        .action(ArgAction::SetTrue)
+}
+
+/// An option that a command asks for; help shows its value under this name.
+pub fn required<'a>(alloc: Global, name: &'a str, value: &'a str, help: &'a str) -> Arg<'a>
+    ensures rule { rule_of result ≡ required_rule name.entry.now }
+    ensures local { result.global ≡ false }
+{
+    option(alloc, name, value, help).required(true)
+}
+
+/// An option that a command may be given.
+pub fn option<'a>(alloc: Global, name: &'a str, value: &'a str, help: &'a str) -> Arg<'a>
+    ensures rule { rule_of result ≡ option_rule name.entry.now }
+    ensures local { result.global ≡ false }
+{
+    Arg::new(alloc, name)
+        .long(name)
+        .value_name(value)
+        .help(help)
+}

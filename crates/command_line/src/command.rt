@@ -1,0 +1,110 @@
+//! What the words ask for. A text is as it was written: nothing of it is checked.
+
+/// A command of the program.
+#[derive(Clone, Copy, Debug, PartialEq, Eq)]
+pub enum Command<'a> {
+    /// No words: standard input is replayed on the site that the program knows.
+    ReplayHere,
+    /// `check FILE`: how large is the site of this file?
+    Check(&'a str),
+    /// `replay FILE [--changes]`
+    Replay(ReplayOptions<'a>),
+    /// `report FILE [--human | --json]`
+    Report(ReportOptions<'a>),
+    /// `sales FILE [--draws] [--json]`
+    Sales(SalesOptions<'a>),
+    /// `serve FILE --port N --workers N --sessions N`
+    Serve(ServeOptions<'a>),
+    /// `station FILE --port N [--journal JOURNAL] [--page N] [--idle SECONDS] [--detached]
+    /// [--json]`
+    Station(StationOptions<'a>),
+    /// `demo FILE SCRIPT [--loopback]`
+    Demo(DemoOptions<'a>),
+    /// `explain [NUMBER]`: what does this number mean? Without one standard input is explained.
+    Explain(Option<&'a str>),
+    /// `spell`
+    Spell,
+}
+
+/// What `replay` is given.
+#[derive(Clone, Copy, Debug, PartialEq, Eq)]
+pub struct ReplayOptions<'a> {
+    /// The name of the site file.
+    pub site: &'a str,
+    /// Prints the notices to dispensers too.
+    pub changes: bool,
+}
+
+/// What `report` is given.
+#[derive(Clone, Copy, Debug, PartialEq, Eq)]
+pub struct ReportOptions<'a> {
+    /// The name of the site file.
+    pub site: &'a str,
+    /// How the report is written.
+    pub form: ReportForm,
+}
+
+/// How a report is written.
+#[derive(Clone, Copy, Debug, PartialEq, Eq)]
+pub enum ReportForm {
+    /// A line for each figure.
+    Lines,
+    /// Litres and money in columns, for people. It comes before `Json` where both are asked for.
+    People,
+    /// One object of JSON.
+    Json,
+}
+
+/// What `sales` is given.
+#[derive(Clone, Copy, Debug, PartialEq, Eq)]
+pub struct SalesOptions<'a> {
+    /// The name of the site file.
+    pub site: &'a str,
+    /// Prints what tests drew, and not the sales.
+    pub draws: bool,
+    /// Prints an object of JSON a line, and not CSV.
+    pub json: bool,
+}
+
+/// What `serve` is given.
+#[derive(Clone, Copy, Debug, PartialEq, Eq)]
+pub struct ServeOptions<'a> {
+    /// The name of the site file.
+    pub site: &'a str,
+    /// The port on which it listens.
+    pub port: &'a str,
+    /// How many workers serve side by side.
+    pub workers: &'a str,
+    /// How many sessions are served in all.
+    pub sessions: &'a str,
+}
+
+/// What `station` is given.
+#[derive(Clone, Copy, Debug, PartialEq, Eq)]
+pub struct StationOptions<'a> {
+    /// The name of the site file.
+    pub site: &'a str,
+    /// The port on which it listens for tills and dispensers.
+    pub port: &'a str,
+    /// The name of the journal; without one nothing is stored.
+    pub journal: Option<&'a str>,
+    /// The port of the page; without one there is no page.
+    pub page: Option<&'a str>,
+    /// After how many silent seconds a session ends; without a number none does.
+    pub idle: Option<&'a str>,
+    /// Runs on when standard input ends.
+    pub detached: bool,
+    /// Prints the report as one object of JSON.
+    pub json: bool,
+}
+
+/// What `demo` is given.
+#[derive(Clone, Copy, Debug, PartialEq, Eq)]
+pub struct DemoOptions<'a> {
+    /// The name of the site file.
+    pub site: &'a str,
+    /// The name of the script.
+    pub script: &'a str,
+    /// The tills' sessions run over sockets.
+    pub loopback: bool,
+}

@@ -1,0 +1,88 @@
+//! The commands that open a site for a day.
+
+ghost use Rattle.std.specs.Prelude.{◌≡◌, ◌∷◌, [], IfOk, codes};
+ghost use Rattle.clap.specs.Words.{app_of};
+ghost use Rattle.command_line.specs.Program.{HasShape, command, day_shapes, flag_rule};
+ghost use Rattle.command_line.specs.Program.{option_rule, required_rule, script_rule};
+ghost use Rattle.command_line.specs.Program.{site_file_rule, with_arguments, with_commands};
+
+use crate::arguments::{flag, option, required, script, site_file};
+use crate::building::{add_argument, add_command, start};
+use clap::Command;
+use std::alloc::{AllocError, Global};
+
+/// The port of a server or of a station.
+const ANY_PORT: &str = "The port, from 0 (a free one) to 65535";
+
+/// The program with these commands.
+pub fn add_commands<'a>(alloc: Global, program: Command<'a>) -> Result<Command<'a>, AllocError>
+    ensures { IfOk result (λ p. app_of p ≡ with_commands (app_of program.entry) day_shapes) }
+{
+    let program = add_command(program, serve(alloc)?)?;
+    let program = add_command(program, station(alloc)?)?;
+    add_command(program, demo(alloc)?)
+}
+
+fn serve<'a>(alloc: Global) -> Result<Command<'a>, AllocError>
+    ensures { IfOk result (HasShape (command (codes "serve")
+        (site_file_rule ∷ required_rule (codes "port") ∷ required_rule (codes "workers")
+        ∷ required_rule (codes "sessions") ∷ []))) }
+{
+    let about =
+        "Serves tills and dispensers on 127.0.0.1, settles, and prints the report of the day";
+    let example = "Example: forecourt serve examples/five_points.toml --port 4001 --workers 4 \
+                   --sessions 100\n";
+    let workers = "How many sessions are served side by side, from 1 to 16";
+    let sessions = "How many sessions are served in all, from 1 to 10000";
+    let command = start(alloc, "serve", about, example);
+    let command = add_argument(command, site_file(alloc))?;
+    let command = add_argument(command, required(alloc, "port", "N", ANY_PORT))?;
+    let command = add_argument(command, required(alloc, "workers", "N", workers))?;
+    add_argument(command, required(alloc, "sessions", "N", sessions))
+}
+
+fn station<'a>(alloc: Global) -> Result<Command<'a>, AllocError>
+    ensures { IfOk result (HasShape (command (codes "station")
+        (site_file_rule ∷ required_rule (codes "port") ∷ option_rule (codes "journal")
+        ∷ option_rule (codes "page") ∷ option_rule (codes "idle") ∷ flag_rule (codes "detached")
+        ∷ flag_rule (codes "json") ∷ []))) }
+{
+    let about = "Serves every till and dispenser of a site on 127.0.0.1 until standard input ends, \
+                 and prints the report of the day";
+    let example = "Example: forecourt station examples/five_points.toml --port 4001\n";
+    let command = start(alloc, "station", about, example);
+    let command = add_argument(command, site_file(alloc))?;
+    let command = add_argument(command, required(alloc, "port", "N", ANY_PORT))?;
+    add_station_options(alloc, command)
+}
+
+/// The station's command with what it may be given.
+fn add_station_options<'a>(alloc: Global, command: Command<'a>) -> Result<Command<'a>, AllocError>
+    ensures { (s : _) → HasShape s command.entry → IfOk result (HasShape (with_arguments s
+        (option_rule (codes "journal") ∷ option_rule (codes "page") ∷ option_rule (codes "idle")
+        ∷ flag_rule (codes "detached") ∷ flag_rule (codes "json") ∷ []))) }
+{
+    let journal = "Stores each row in this file before a reply is sent, and goes on where it ended";
+    let page = "Serves a page that shows the site, on this port, from 0 (a free one) to 65535";
+    let idle = "Ends a session of which nothing came for so many seconds, from 1 to 86400";
+    let detached = "Runs until the system stops it, whatever standard input does";
+    let json = "Prints the report as one object of JSON";
+    let command = add_argument(command, option(alloc, "journal", "JOURNAL", journal))?;
+    let command = add_argument(command, option(alloc, "page", "N", page))?;
+    let command = add_argument(command, option(alloc, "idle", "SECONDS", idle))?;
+    let command = add_argument(command, flag(alloc, "detached", detached))?;
+    add_argument(command, flag(alloc, "json", json))
+}
+
+fn demo<'a>(alloc: Global) -> Result<Command<'a>, AllocError>
+    ensures { IfOk result (HasShape (command (codes "demo")
+        (site_file_rule ∷ script_rule ∷ flag_rule (codes "loopback") ∷ []))) }
+{
+    let about = "Runs a script, settles, and prints the report of the day";
+    let example = "Example: forecourt demo examples/five_points.toml examples/saturday.demo\n";
+    let loopback = "The tills' sessions run over sockets, on 127.0.0.1";
+    let command = start(alloc, "demo", about, example);
+    let command = add_argument(command, site_file(alloc))?;
+    let command = add_argument(command, script(alloc))?;
+    add_argument(command, flag(alloc, "loopback", loopback))
+}

@@ -1,0 +1,48 @@
+//! What is printed in place of a command.
+
+ghost use Rattle.std.specs.Prelude.{◌≡◌, ◌≢◌, ◌⊎◌};
+ghost use Rattle.clap.specs.Values.{kind_of};
+ghost use Rattle.clap.specs.declared.error.kind.ErrorKind.TheVariants.{DisplayHelp};
+ghost use Rattle.clap.specs.declared.error.kind.ErrorKind.TheVariants.{DisplayVersion};
+ghost use Rattle.clap.specs.declared.error.kind.ErrorKind.TheVariants.{OutOfMemory};
+ghost use Rattle.command_line.specs.Endings.{IsHelp, IsMistake, IsNoMemory};
+
+use clap::Error;
+use clap::error::ErrorKind;
+use std::alloc::{AllocError, Global};
+
+/// Why the words lead to no command.
+#[derive(Debug, PartialEq, Eq, Drop)]
+pub enum NoCommand {
+    /// They ask for help or for the version: this text goes to standard output, and the status is
+    /// 0.
+    Help(String),
+    /// They are wrong: this text goes to standard error, and the status is 2.
+    Mistake(String),
+    /// Memory ran out.
+    NoMemory,
+}
+
+impl From<AllocError> for NoCommand {
+    fn from(_e: AllocError) -> NoCommand {
+        NoCommand::NoMemory
+    }
+}
+
+/// What is printed where `clap` gives this error in place of matches.
+pub(crate) fn explain_error(alloc: Global, error: &Error) -> NoCommand
+    ensures memory { kind_of error.now ≡ OutOfMemory → IsNoMemory result }
+    ensures help { IsHelp result
+        → (kind_of error.now ≡ DisplayHelp) ⊎ (kind_of error.now ≡ DisplayVersion) }
+    ensures mistake { IsMistake result → (kind_of error.now ≢ DisplayHelp)
+        × (kind_of error.now ≢ DisplayVersion) }
+{
+    if error.kind() == ErrorKind::OutOfMemory {
+        return NoCommand::NoMemory;
+    }
+    match format!(in alloc; "{error}") {
+        Ok(text) if error.use_stderr() => NoCommand::Mistake(text),
+        Ok(text) => NoCommand::Help(text),
+        Err(_) => NoCommand::NoMemory,
+    }
+}

@@ -1,0 +1,32 @@
+//! The program as `clap` knows it, with its commands.
+
+ghost use Rattle.std.specs.Prelude.{◌≡◌, IfOk};
+ghost use Rattle.clap.specs.Words.{app_of};
+ghost use Rattle.command_line.specs.Program.{bare_program, program};
+
+use crate::{day_commands, replay_commands, word_commands};
+use clap::Command;
+use std::alloc::{AllocError, Global};
+
+/// The program with all its commands.
+pub fn build_program<'a>(alloc: Global) -> Result<Command<'a>, AllocError>
+    ensures { IfOk result (λ p. app_of p ≡ program) }
+{
+    let bare = build_bare(alloc);
+    let replays = replay_commands::add_commands(alloc, bare)?;
+    let days = day_commands::add_commands(alloc, replays)?;
+    word_commands::add_commands(alloc, days)
+}
+
+/// The program before it has a command.
+fn build_bare<'a>(alloc: Global) -> Command<'a>
+    ensures { app_of result ≡ bare_program }
+{
+    Command::new(alloc, "forecourt")
+        .version("0.1.0")
+        .subcommand_required(true)
+        .about(
+            "The forecourt site controller; alone it replays standard input on the site \
+             that it knows",
+        )
+}

@@ -1,0 +1,133 @@
+//! From `clap`'s matches to plain values.
+
+ghost use Rattle.std.specs.Prelude.{◌≡◌, codes};
+ghost use Rattle.clap.specs.Words.{found_of, rows_of, subcommand_rows_of};
+ghost use Rattle.command_line.specs.Commands.{HasFlag, IsOption, IsSaid, IsSaidBy, text_in};
+
+use crate::command::{
+    Command, DemoOptions, ReplayOptions, ReportForm, ReportOptions, SalesOptions, ServeOptions,
+    StationOptions,
+};
+use clap::ArgMatches;
+
+/// The command of these matches, with what was written after its name.
+pub fn read_command<'a>(matches: &ArgMatches<'a>) -> Command<'a>
+    ensures { IsSaidBy (subcommand_rows_of matches.now) result }
+{
+    match matches.subcommand() {
+        Some((name, words)) => read_named(name, words),
+        None => Command::ReplayHere,
+    }
+}
+
+/// The command of this name.
+fn read_named<'a>(name: &str, words: &ArgMatches<'a>) -> Command<'a>
+    ensures { IsSaid name.now (rows_of (found_of words.now)) result }
+{
+    match name {
+        "check" => Command::Check(text(words, "FILE")),
+        "replay" => Command::Replay(read_replay(words)),
+        "report" => Command::Report(read_report(words)),
+        "sales" => Command::Sales(read_sales(words)),
+        "serve" => Command::Serve(read_serve(words)),
+        "station" => Command::Station(read_station(words)),
+        "demo" => Command::Demo(read_demo(words)),
+        "explain" => Command::Explain(given(words, "NUMBER")),
+        "spell" => Command::Spell,
+        _ => Command::ReplayHere,
+    }
+}
+
+fn read_replay<'a>(words: &ArgMatches<'a>) -> ReplayOptions<'a>
+    ensures { IsSaid (codes "replay") (rows_of (found_of words.now)) (Command.Replay result) }
+{
+    ReplayOptions {
+        site: text(words, "FILE"),
+        changes: is_given(words, "changes"),
+    }
+}
+
+fn read_report<'a>(words: &ArgMatches<'a>) -> ReportOptions<'a>
+    ensures { IsSaid (codes "report") (rows_of (found_of words.now)) (Command.Report result) }
+{
+    let form = if is_given(words, "human") {
+        ReportForm::People
+    } else if is_given(words, "json") {
+        ReportForm::Json
+    } else {
+        ReportForm::Lines
+    };
+    ReportOptions {
+        site: text(words, "FILE"),
+        form,
+    }
+}
+
+fn read_sales<'a>(words: &ArgMatches<'a>) -> SalesOptions<'a>
+    ensures { IsSaid (codes "sales") (rows_of (found_of words.now)) (Command.Sales result) }
+{
+    SalesOptions {
+        site: text(words, "FILE"),
+        draws: is_given(words, "draws"),
+        json: is_given(words, "json"),
+    }
+}
+
+fn read_serve<'a>(words: &ArgMatches<'a>) -> ServeOptions<'a>
+    ensures { IsSaid (codes "serve") (rows_of (found_of words.now)) (Command.Serve result) }
+{
+    ServeOptions {
+        site: text(words, "FILE"),
+        port: text(words, "port"),
+        workers: text(words, "workers"),
+        sessions: text(words, "sessions"),
+    }
+}
+
+fn read_station<'a>(words: &ArgMatches<'a>) -> StationOptions<'a>
+    ensures { IsSaid (codes "station") (rows_of (found_of words.now)) (Command.Station result) }
+{
+    StationOptions {
+        site: text(words, "FILE"),
+        port: text(words, "port"),
+        journal: given(words, "journal"),
+        page: given(words, "page"),
+        idle: given(words, "idle"),
+        detached: is_given(words, "detached"),
+        json: is_given(words, "json"),
+    }
+}
+
+fn read_demo<'a>(words: &ArgMatches<'a>) -> DemoOptions<'a>
+    ensures { IsSaid (codes "demo") (rows_of (found_of words.now)) (Command.Demo result) }
+{
+    DemoOptions {
+        site: text(words, "FILE"),
+        script: text(words, "SCRIPT"),
+        loopback: is_given(words, "loopback"),
+    }
+}
+
+/// The text of an argument; empty where it isn't there, as no required one is.
+fn text<'a>(words: &ArgMatches<'a>, name: &str) -> &'a str
+    ensures { result.now ≡ text_in name.now (rows_of (found_of words.now)) }
+{
+    match given(words, name) {
+        Some(text) => text,
+        None => "",
+    }
+}
+
+/// The text of an argument, if it is there.
+fn given<'a>(words: &ArgMatches<'a>, name: &str) -> Option<&'a str>
+    ensures { IsOption name.now (rows_of (found_of words.now)) result }
+{
+    words.get_str(name)
+}
+
+/// Is this flag there?
+fn is_given(words: &ArgMatches<'_>, name: &str) -> bool
+    ensures { HasFlag name.now (rows_of (found_of words.now)) result }
+{
+    words.get_flag(name)
+}

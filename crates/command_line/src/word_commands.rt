@@ -1,0 +1,36 @@
+//! The commands that read or write words.
+
+ghost use Rattle.std.specs.Prelude.{◌≡◌, ◌∷◌, [], IfOk, codes};
+ghost use Rattle.clap.specs.Words.{app_of, new_rule};
+ghost use Rattle.command_line.specs.Program.{HasShape, command, with_commands, word_shapes};
+
+use crate::arguments::number;
+use crate::building::{add_argument, add_command, start};
+use clap::Command;
+use std::alloc::{AllocError, Global};
+
+/// The program with these commands.
+pub fn add_commands<'a>(alloc: Global, program: Command<'a>) -> Result<Command<'a>, AllocError>
+    ensures { IfOk result (λ p. app_of p ≡ with_commands (app_of program.entry) word_shapes) }
+{
+    let program = add_command(program, explain(alloc)?)?;
+    add_command(program, spell(alloc))
+}
+
+fn explain<'a>(alloc: Global) -> Result<Command<'a>, AllocError>
+    ensures { IfOk result (HasShape (command (codes "explain")
+        (new_rule (codes "NUMBER") ∷ []))) }
+{
+    let about = "Prints the messages of standard input in words, or what a number means";
+    let example = "Examples: forecourt explain < examples/day.hex; forecourt explain 20\n";
+    let command = start(alloc, "explain", about, example);
+    add_argument(command, number(alloc))
+}
+
+fn spell<'a>(alloc: Global) -> Command<'a>
+    ensures { HasShape (command (codes "spell") []) result }
+{
+    let about = "Prints the requests that standard input asks for in words, in hexadecimal";
+    let example = "Example: forecourt spell < examples/paying_day.words\n";
+    start(alloc, "spell", about, example)
+}

@@ -1,0 +1,21 @@
+//! The commands that open no site for a day: `check`, `replay`, `report`, `sales`, `explain` and
+//! `spell`. They read a site file or standard input, print, and end.
+//!
+//! Each `run_..` takes what the command line says and gives the status that the program exits
+//! with. What a command does stands in `forecourt_engines`, `sales_table` and `site_json`.
+#![tactic(auto)]
+
+mod check;
+mod explain;
+mod replay;
+mod report;
+mod sales;
+mod silent;
+mod spell;
+
+pub use check::run_check;
+pub use explain::run_explain;
+pub use replay::{run_replay, run_replay_here};
+pub use report::run_report;
+pub use sales::run_sales;
+pub use spell::run_spell;

@@ -1,0 +1,48 @@
+//! `forecourt replay FILE`, and the program without words.
+
+use command_line::ReplayOptions;
+use forecourt_engines::known_site;
+use forecourt_engines::replay::replay;
+use program_io::{TURNS, exit_no_memory, exit_replay, read_site};
+use devices::Counted;
+use site_base::SiteConfig;
+use std::io;
+use std::io::Read;
+use std::process::ExitCode;
+use std::rt::Files;
+
+/// Answers this input on the site of a file.
+pub fn run_replay<R: Files + Print + Eprint + AllocGlobal, I: Read + Drop>(
+    rt: &R,
+    input: I,
+    options: ReplayOptions<'_>,
+) -> ExitCode {
+    match read_site(rt, options.site) {
+        Ok(config) => replay_on(rt, input, &config, options.changes),
+        Err(status) => status,
+    }
+}
+
+/// Answers this input on the known site.
+pub fn run_replay_here<R: Print + Eprint + AllocGlobal, I: Read + Drop>(
+    rt: &R,
+    input: I,
+) -> ExitCode {
+    match known_site(rt.alloc()) {
+        Ok(config) => replay_on(rt, input, &config, false),
+        Err(_) => exit_no_memory(rt),
+    }
+}
+
+/// Answers this input on this site, and says why the replay ended, if it ended with a fault.
+fn replay_on<R: Print + Eprint + AllocGlobal, I: Read + Drop>(
+    rt: &R,
+    input: I,
+    config: &SiteConfig,
+    changes: bool,
+) -> ExitCode {
+    let mut reader = Counted::new(input);
+    let mut writer = Counted::new(io::writer(rt));
+    let end = replay(rt.alloc(), config, &mut reader, &mut writer, TURNS, changes);
+    exit_replay(rt, end.fault)
+}

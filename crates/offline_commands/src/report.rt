@@ -1,0 +1,102 @@
+//! `forecourt report FILE [--human | --json]`.
+
+use crate::silent::{ends_its_text, replay_silently};
+use command_line::{ReportForm, ReportOptions};
+use forecourt_engines::replay::ReplayEnd;
+use forecourt_engines::reporting::replay_to_report;
+use forecourt_engines::{ReplayFault, SiteBook};
+use program_io::{TURNS, exit_no_memory, exit_replay, read_site};
+use sales_table::totals_text;
+use devices::{Counted, write_whole};
+use site_base::{NoMemory, SiteConfig};
+use std::alloc::Global;
+use std::io;
+use std::io::Read;
+use std::process::ExitCode;
+use std::rt::Files;
+
+/// Replays this input on the site of a file, and prints the report of its rows.
+pub fn run_report<R: Files + Print + Eprint + AllocGlobal, I: Read + Drop>(
+    rt: &R,
+    input: I,
+    options: ReportOptions<'_>,
+) -> ExitCode {
+    let config = match read_site(rt, options.site) {
+        Ok(config) => config,
+        Err(status) => return status,
+    };
+    match options.form {
+        ReportForm::Lines => report_lines(rt, input, &config),
+        ReportForm::People => report_after(rt, input, &config, BookText::People),
+        ReportForm::Json => report_after(rt, input, &config, BookText::Json),
+    }
+}
+
+/// Replays this input on this site, and prints a line for each figure of its rows. It says why the
+/// replay ended, if it ended with a fault.
+fn report_lines<R: Print + Eprint + AllocGlobal, I: Read + Drop>(
+    rt: &R,
+    input: I,
+    config: &SiteConfig,
+) -> ExitCode {
+    let mut reader = Counted::new(input);
+    let mut writer = Counted::new(io::writer(rt));
+    let end = replay_to_report(rt.alloc(), config, &mut reader, &mut writer, TURNS);
+    exit_replay(rt, end.err())
+}
+
+/// What is printed of a book.
+#[derive(Clone, Copy, Debug)]
+enum BookText {
+    /// Its figures in columns.
+    People,
+    /// One object of JSON.
+    Json,
+}
+
+/// Replays this input on this site, and prints this text of its book where the text of the
+/// answers ended.
+fn report_after<R: Print + Eprint + AllocGlobal, I: Read + Drop>(
+    rt: &R,
+    input: I,
+    config: &SiteConfig,
+    wanted: BookText,
+) -> ExitCode {
+    let ReplayEnd { fault, book } = replay_silently(rt.alloc(), input, config);
+    let Some(book) = book else {
+        return exit_replay(rt, fault);
+    };
+    if !ends_its_text(&fault) {
+        return exit_replay(rt, fault);
+    }
+    match text_of(rt.alloc(), &book, wanted) {
+        Ok(text) => match print_text(rt, &text) {
+            None => exit_replay(rt, fault),
+            fault => exit_replay(rt, fault),
+        },
+        Err(NoMemory) => exit_no_memory(rt),
+    }
+}
+
+/// This text of a book, by its audit.
+fn text_of(alloc: Global, book: &SiteBook, wanted: BookText) -> Result<Vec<u8>, NoMemory> {
+    let totals = book.audit(alloc)?;
+    let products = book.config().products();
+    match wanted {
+        BookText::People => totals_text(alloc, products, &totals),
+        BookText::Json => {
+            let mut text = site_json::report_text(alloc, products, &totals, 0)?;
+            text.push('\n')?;
+            Ok(text.into_bytes())
+        }
+    }
+}
+
+/// Prints a text; the fault of its write, if it fails.
+fn print_text(rt: &impl Print, text: &[u8]) -> Option<ReplayFault> {
+    let (mut writer, mut turns) = (Counted::new(io::writer(rt)), TURNS);
+    match write_whole(&mut writer, text, &mut turns) {
+        Ok(()) => None,
+        Err(fault) => Some(ReplayFault::Write(fault)),
+    }
+}

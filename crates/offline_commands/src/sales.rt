@@ -1,0 +1,62 @@
+//! `forecourt sales FILE`.
+
+use crate::silent::{ends_its_text, replay_silently};
+use command_line::SalesOptions;
+use forecourt_engines::{ReplayFault, SiteBook};
+use program_io::{TURNS, exit_replay, read_site};
+use sales_table::{Form, TableFault, write_draws, write_sales};
+use devices::Counted;
+use site_base::SiteConfig;
+use std::io;
+use std::io::Read;
+use std::process::ExitCode;
+use std::rt::Files;
+
+/// Replays this input on the site of a file, and prints the table of its sales, or of its draws.
+pub fn run_sales<R: Files + Print + Eprint + AllocGlobal, I: Read + Drop>(
+    rt: &R,
+    input: I,
+    options: SalesOptions<'_>,
+) -> ExitCode {
+    match read_site(rt, options.site) {
+        Ok(config) => print_sold(rt, input, &config, options),
+        Err(status) => status,
+    }
+}
+
+/// Prints the table of what this input sells on this site, up to a fault of its text, which is
+/// printed then.
+fn print_sold<R: Print + Eprint + AllocGlobal, I: Read + Drop>(
+    rt: &R,
+    input: I,
+    config: &SiteConfig,
+    options: SalesOptions<'_>,
+) -> ExitCode {
+    let end = replay_silently(rt.alloc(), input, config);
+    let Some(book) = &end.book else {
+        return exit_replay(rt, end.fault);
+    };
+    if !ends_its_text(&end.fault) {
+        return exit_replay(rt, end.fault);
+    }
+    match print_table(rt, book, options) {
+        Ok(()) => exit_replay(rt, end.fault),
+        Err(TableFault::NoMemory) => exit_replay(rt, Some(ReplayFault::NoMemory)),
+        Err(TableFault::Write(fault)) => exit_replay(rt, Some(ReplayFault::Write(fault))),
+    }
+}
+
+/// Prints the table of a book.
+fn print_table<R: Print + AllocGlobal>(
+    rt: &R,
+    book: &SiteBook,
+    options: SalesOptions<'_>,
+) -> Result<(), TableFault> {
+    let form = if options.json { Form::Json } else { Form::Csv };
+    let (mut writer, mut turns) = (Counted::new(io::writer(rt)), TURNS);
+    if options.draws {
+        write_draws(rt.alloc(), book, form, &mut writer, &mut turns)
+    } else {
+        write_sales(rt.alloc(), book, form, &mut writer, &mut turns)
+    }
+}

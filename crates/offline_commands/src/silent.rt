@@ -1,0 +1,22 @@
+//! Replays whose answers aren't printed.
+
+use forecourt_engines::ReplayFault;
+use forecourt_engines::replay::{ReplayEnd, replay};
+use program_io::TURNS;
+use devices::Counted;
+use site_base::SiteConfig;
+use std::alloc::Global;
+use std::io;
+use std::io::Read;
+
+/// Replays this input on this site without its answers.
+pub fn replay_silently<I: Read + Drop>(alloc: Global, input: I, config: &SiteConfig) -> ReplayEnd {
+    let mut reader = Counted::new(input);
+    let mut sink = Counted::new(io::sink());
+    replay(alloc, config, &mut reader, &mut sink, TURNS, false)
+}
+
+/// Is this the end of the input, or a fault of its text? After another one nothing is reported.
+pub fn ends_its_text(fault: &Option<ReplayFault>) -> bool {
+    matches!(fault, None | Some(ReplayFault::Text(_)))
+}

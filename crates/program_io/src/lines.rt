@@ -1,0 +1,36 @@
+//! Lines of standard input.
+
+ghost use Rattle.std.specs.Prelude.{IfErr};
+ghost use Rattle.program_io.specs.Statuses.{IsFailed};
+
+use crate::exit::{exit_no_memory, exit_replay};
+use forecourt_engines::ReplayFault;
+use hex_lines::LINE_OCTETS;
+use devices::ReadFault;
+use std::io::{BufRead, ErrorKind, Read};
+use std::process::ExitCode;
+
+/// Reads the next line, without its line feed, in place of what the buffer holds; false at the end
+/// of the input. No more is read of a line than it takes to see that it is too long. Where the
+/// input can't be read, it answers how the program ends.
+pub fn read_line<R: BufRead>(
+    rt: &impl Eprint,
+    reader: &mut R,
+    line: &mut Vec<u8>,
+) -> Result<bool, ExitCode>
+    ensures failed { IfErr result IsFailed }
+{
+    line.clear();
+    let mut limited = reader.take(LINE_OCTETS as u64 + 1);
+    match limited.read_until(b'\n', line) {
+        Ok(0) => Ok(false),
+        Ok(_) => {
+            if line.last() == Some(&b'\n') {
+                line.pop();
+            }
+            Ok(true)
+        }
+        Err(error) if error.kind() == ErrorKind::OutOfMemory => Err(exit_no_memory(rt)),
+        Err(_) => Err(exit_replay(rt, Some(ReplayFault::Read(ReadFault::Failed)))),
+    }
+}
