@@ -2,12 +2,12 @@
 
 use crate::silent::{ends_its_text, replay_silently};
 use command_line::{ReportForm, ReportOptions};
+use devices::{Counted, write_whole};
 use forecourt_engines::replay::ReplayEnd;
 use forecourt_engines::reporting::replay_to_report;
 use forecourt_engines::{ReplayFault, SiteBook};
 use program_io::{TURNS, exit_no_memory, exit_replay, read_site};
 use sales_table::totals_text;
-use devices::{Counted, write_whole};
 use site_base::{NoMemory, SiteConfig};
 use std::alloc::Global;
 use std::io;
