@@ -13,9 +13,9 @@ ghost use Rattle.forecourt_days.specs.StationDays.{TellsDay, TellsFront, report_
 use crate::fault::DayFault;
 use crate::plan::ReportForm;
 use crate::writing::put_places;
+use devices::{Counted, write_whole};
 use forecourt_engines::reporting::report_of_book;
 use journal::{Disk, StoredStation};
-use devices::{Counted, write_whole};
 use site_base::NoMemory;
 use site_book::SiteBook;
 use station_server::{Connections, StationServer};

@@ -11,8 +11,8 @@ ghost use Rattle.forecourt_days.specs.StationDays.{page_line, places_text};
 
 use crate::fault::DayFault;
 use counter_desk::Settled;
-use forecourt_engines::report::report;
 use devices::{Counted, WriteFault, write_whole};
+use forecourt_engines::report::report;
 use site_base::{NoMemory, SiteConfig};
 use std::alloc::Global;
 use std::io::Write;
