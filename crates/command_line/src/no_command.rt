@@ -5,7 +5,7 @@ ghost use Rattle.command_line.specs.Endings.{Explains};
 
 use clap::Error;
 use clap::error::ErrorKind;
-use std::alloc::{AllocError, Global};
+use std::alloc::Global;
 
 /// Why the words lead to no command.
 #[derive(Debug, PartialEq, Eq, Drop)]
@@ -17,12 +17,6 @@ pub enum NoCommand {
     Mistake(String),
     /// Memory ran out.
     NoMemory,
-}
-
-impl From<AllocError> for NoCommand {
-    fn from(_e: AllocError) -> NoCommand {
-        NoCommand::NoMemory
-    }
 }
 
 /// What is printed where `clap` gives this error in place of matches.

@@ -16,6 +16,10 @@ use std::alloc::Global;
 /// printed in its place.
 pub fn parse<'a>(alloc: Global, words: &'a [String]) -> Result<Command<'a>, NoCommand>
     ensures alone { length words.entry.now ≤ 1 → result ≡ Ok Command.ReplayHere }
+    ensures said { 2 ≤ length words.entry.now → IfOk result
+        (IsSaidBy (subcommand_of program (map string_bytes words.entry.now))) }
+    ensures ends { 2 ≤ length words.entry.now
+        → EndsBy (fault_of program (map string_bytes words.entry.now)) result }
 {
     if words.len() <= 1 {
         return Ok(Command::ReplayHere);
