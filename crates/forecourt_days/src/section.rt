@@ -6,8 +6,8 @@ ghost use Rattle.forecourt_days.specs.Sections.{AreServed, IsWorkedAt, octets_of
 use app_message::{Messages, encode_into};
 use counter_desk::{Desk, Naming, OpenGate, Root, Share};
 use demo_script::Section;
-use dispenser_sim::{Dispenser, DispenserEnd, DispenserFault};
 use devices::Counted;
+use dispenser_sim::{Dispenser, DispenserEnd, DispenserFault};
 use site_base::{NoMemory, SiteConfig};
 use std::alloc::Global;
 use std::sync::ledger::Ledger;

@@ -1,10 +1,10 @@
 //! `forecourt replay FILE`, and the program without words.
 
 use command_line::ReplayOptions;
+use devices::Counted;
 use forecourt_engines::known_site;
 use forecourt_engines::replay::replay;
 use program_io::{TURNS, exit_no_memory, exit_replay, read_site};
-use devices::Counted;
 use site_base::SiteConfig;
 use std::io;
 use std::io::Read;

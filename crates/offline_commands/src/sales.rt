@@ -2,10 +2,10 @@
 
 use crate::silent::{ends_its_text, replay_silently};
 use command_line::SalesOptions;
+use devices::Counted;
 use forecourt_engines::{ReplayFault, SiteBook};
 use program_io::{TURNS, exit_replay, read_site};
 use sales_table::{Form, TableFault, write_draws, write_sales};
-use devices::Counted;
 use site_base::SiteConfig;
 use std::io;
 use std::io::Read;

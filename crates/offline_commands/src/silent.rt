@@ -1,9 +1,9 @@
 //! Replays whose answers aren't printed.
 
+use devices::Counted;
 use forecourt_engines::ReplayFault;
 use forecourt_engines::replay::{ReplayEnd, replay};
 use program_io::TURNS;
-use devices::Counted;
 use site_base::SiteConfig;
 use std::alloc::Global;
 use std::io;

@@ -1,7 +1,6 @@
 //! Why a table wasn't written whole.
 
 use devices::WriteFault;
-
 use site_base::NoMemory;
 use thiserror::Error;
 
