@@ -1,6 +1,6 @@
 -- The command line as a table: each command with its arguments, as `clap` reads them.
 use Rattle.std.specs.Prelude.{◌≡◌, true, false, List, [], ◌∷◌, ◌++◌, Some, codes}
-use Rattle.clap.specs.Words.{App, Rule, Shape, Text, app_of, new_app, new_rule, shape_of}
+use Rattle.clap.specs.Words.{App, Rule, Shape, Text, new_app, new_rule, shape_of}
 use Rattle.clap.specs.Words.{with_subcommand}
 use Rattle.clap.specs.Simple.{new_shape}
 use Rattle.clap.specs.declared.builder.command.Command.{Command}

@@ -1,15 +1,11 @@
 //! What is printed in place of a command.
 
-ghost use Rattle.std.specs.Prelude.{◌≡◌, ◌≢◌, ◌⊎◌};
-ghost use Rattle.clap.specs.Values.{kind_of};
-ghost use Rattle.clap.specs.declared.error.kind.ErrorKind.TheVariants.{DisplayHelp};
-ghost use Rattle.clap.specs.declared.error.kind.ErrorKind.TheVariants.{DisplayVersion};
-ghost use Rattle.clap.specs.declared.error.kind.ErrorKind.TheVariants.{OutOfMemory};
-ghost use Rattle.command_line.specs.Endings.{IsHelp, IsMistake, IsNoMemory};
+ghost use Rattle.clap.specs.Words.{kind_of};
+ghost use Rattle.command_line.specs.Endings.{Explains};
 
 use clap::Error;
 use clap::error::ErrorKind;
-use std::alloc::{AllocError, Global};
+use std::alloc::Global;
 
 /// Why the words lead to no command.
 #[derive(Debug, PartialEq, Eq, Drop)]
@@ -23,19 +19,9 @@ pub enum NoCommand {
     NoMemory,
 }
 
-impl From<AllocError> for NoCommand {
-    fn from(_e: AllocError) -> NoCommand {
-        NoCommand::NoMemory
-    }
-}
-
 /// What is printed where `clap` gives this error in place of matches.
 pub(crate) fn explain_error(alloc: Global, error: &Error) -> NoCommand
-    ensures memory { kind_of error.now ≡ OutOfMemory → IsNoMemory result }
-    ensures help { IsHelp result
-        → (kind_of error.now ≡ DisplayHelp) ⊎ (kind_of error.now ≡ DisplayVersion) }
-    ensures mistake { IsMistake result → (kind_of error.now ≢ DisplayHelp)
-        × (kind_of error.now ≢ DisplayVersion) }
+    ensures { Explains (kind_of error.now) result }
 {
     if error.kind() == ErrorKind::OutOfMemory {
         return NoCommand::NoMemory;

@@ -2,9 +2,9 @@
 
 use crate::ends::exit_day;
 use command_line::ServeOptions;
+use devices::Counted;
 use forecourt_days::{DayFault, Loopback, ServerPlan, serve_day};
 use program_io::{COMMAND_LINE, TURNS, exit_with, read_site};
-use devices::Counted;
 use site_base::SiteConfig;
 use std::io;
 use std::net::{Net, TcpListener, TcpStream};

@@ -4,9 +4,9 @@ ghost use Rattle.std.specs.Prelude.{IfErr};
 ghost use Rattle.program_io.specs.Statuses.{IsFailed};
 
 use crate::exit::{exit_no_memory, exit_replay};
+use devices::ReadFault;
 use forecourt_engines::ReplayFault;
 use hex_lines::LINE_OCTETS;
-use devices::ReadFault;
 use std::io::{BufRead, ErrorKind, Read};
 use std::process::ExitCode;
 

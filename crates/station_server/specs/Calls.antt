@@ -8,6 +8,12 @@ use Rattle.station.specs.Sessions.{Grants}
 use Rattle.station_server.specs.declared.calls.Call.{Call}
 use Rattle.station_server.specs.declared.calls.Call.TheVariants.{Ended, Failed, Passed}
 
+-- it passed no octet, and doesn't say that no more come
+abbrev pub IsStop : Call → Type 0
+IsStop (Passed n) = ⊥
+IsStop Ended = ⊥
+IsStop call = Unit {0}
+
 -- so many octets that the peer sent were heard
 pub record HearsOctets (n key : ℕ) (left left' : Option (List ℕ)) (s s' : StationState)
     : Type 0 where

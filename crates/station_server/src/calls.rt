@@ -3,10 +3,10 @@
 
 ghost use Rattle.std.specs.Prelude.{◌≡◌, ◌<◌, length, true};
 ghost use Rattle.station.specs.Reads.{is_read_at};
-ghost use Rattle.station_server.specs.Calls.{HearsCall, SendsCall};
+ghost use Rattle.station_server.specs.Calls.{HearsCall, IsStop, SendsCall};
 
 use journal::{Disk, StoredStation};
-use std::io::{ErrorKind, Read, Write};
+use std::io::{self, ErrorKind, Read, Write};
 
 /// What became of a call.
 #[derive(Clone, Copy, Debug, PartialEq, Eq)]
@@ -21,6 +21,19 @@ pub enum Call {
     Ended,
     /// The connection failed.
     Failed,
+}
+
+impl Call {
+    /// What became of a call that passed no octet, and answered this error.
+    pub(crate) fn of_error(error: &io::Error) -> Call
+        ensures { IsStop result }
+    {
+        match error.kind() {
+            ErrorKind::WouldBlock => Call::Waits,
+            ErrorKind::Interrupted => Call::Interrupted,
+            _ => Call::Failed,
+        }
+    }
 }
 
 /// Reads once from the connection of a peer that is read from, and has the station hear what came:
@@ -46,14 +59,22 @@ pub fn read_once<R: Read, D: Disk>(
             stored.hear(key, &piece[..n]);
             Call::Passed(n)
         }
-        Err(error) => match error.kind() {
-            ErrorKind::WouldBlock => Call::Waits,
-            ErrorKind::Interrupted => Call::Interrupted,
-            _ => {
+        Err(error) => {
+            let call = Call::of_error(&error);
+            if call == Call::Failed {
                 stored.finish(key);
-                Call::Failed
             }
-        },
+            call
+        }
+    }
+}
+
+/// Reads once from a connection what nobody hears.
+pub(crate) fn read_ignored<R: Read>(reader: &mut R, piece: &mut [u8]) -> Call {
+    match reader.read(piece) {
+        Ok(0) => Call::Ended,
+        Ok(n) => Call::Passed(n),
+        Err(error) => Call::of_error(&error),
     }
 }
 
@@ -73,10 +94,6 @@ pub fn write_once<W: Write, D: Disk>(
             stored.take(key, n);
             Call::Passed(n)
         }
-        Err(error) => match error.kind() {
-            ErrorKind::WouldBlock => Call::Waits,
-            ErrorKind::Interrupted => Call::Interrupted,
-            _ => Call::Failed,
-        },
+        Err(error) => Call::of_error(&error),
     }
 }

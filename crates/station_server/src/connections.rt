@@ -6,6 +6,7 @@ ghost use Rattle.station.specs.Reads.{HasNoPeer};
 ghost use Rattle.journal.specs.Stored.{is_all_stored};
 ghost use Rattle.station_server.specs.Reaches.{Reaches};
 
+use crate::due_list::DueList;
 use crate::fault::ServerFault;
 use crate::link::{Channel, Link};
 use crate::naming::{EndedSession, PeerName};
@@ -25,10 +26,8 @@ pub struct Connections<D: Disk> {
     pub(crate) stored: StoredStation<D>,
     links: Vec<Option<Link>>,
     piece: Vec<u8>,
-    /// The keys of those that are sent what they are owed at the end of this round.
-    due: Vec<usize>,
-    /// How many of the due keys count.
-    due_count: usize,
+    /// Those that are sent what they are owed at the end of this round.
+    due: DueList,
     /// So many sessions have ended whose connections haven't.
     closing: usize,
     /// Of so many rows it was looked whether a dispenser is told of them.
@@ -50,8 +49,7 @@ impl<D: Disk> Connections<D> {
             stored,
             links,
             piece: Vec::from_elem(alloc, 0, PIECE_OCTETS)?,
-            due: Vec::from_elem(alloc, 0, PEERS)?,
-            due_count: 0,
+            due: DueList::new(alloc)?,
             closing: 0,
             rows_seen,
         })
@@ -149,13 +147,7 @@ impl<D: Disk> Connections<D> {
     pub(crate) fn make_due(&mut self, key: usize)
         ensures { self.new.stored ≡ self.old.stored }
     {
-        if let Some(Some(link)) = self.links.get_mut(key) {
-            if !link.is_due && self.due_count < self.due.len() {
-                link.is_due = true;
-                self.due[self.due_count] = key;
-                self.due_count += 1;
-            }
-        }
+        self.due.add(key);
     }
 
     /// Where a dispenser is told of a row of this round, peers that are owed octets are sent them
@@ -227,13 +219,12 @@ impl<D: Disk> Connections<D> {
     fn send_each<E: Eprint>(&mut self, registry: &Registry, rt: &E, now: Instant)
         ensures { Reaches self.old.stored.station self.new.stored.station }
     {
-        for at in 0..self.due_count {
+        for at in 0..self.due.len() {
             if let Some(key) = self.due.get(at) {
-                let key = *key;
                 self.send_owed(registry, rt, key, now);
             }
         }
-        self.due_count = 0;
+        self.due.clear();
     }
 
     /// A peer is sent what it is owed, and its connection follows its session.
@@ -244,7 +235,6 @@ impl<D: Disk> Connections<D> {
         let Some(Some(link)) = self.links.get_mut(key) else {
             return;
         };
-        link.is_due = false;
         link.send(&mut self.stored, key, now);
         if link.channel == Channel::Failed {
             self.stored.finish(key);

@@ -7,8 +7,10 @@
 //! connection is exact (`specs/Calls.antt`); readiness and the clock are the system's.
 #![tactic(auto)]
 
+mod accepting;
 mod calls;
 mod connections;
+mod due_list;
 mod fault;
 mod link;
 mod naming;

@@ -3,11 +3,10 @@
 ghost use Rattle.std.specs.Prelude.{◌<◌, length};
 ghost use Rattle.station_server.specs.Reaches.{Reaches};
 
-use crate::calls::{Call, read_once, write_once};
+use crate::calls::{Call, read_ignored, read_once, write_once};
 use crate::sizes::CALLS_A_TURN;
 use journal::{Disk, StoredStation};
 use mio::net::TcpStream;
-use std::io::{ErrorKind, Read};
 use std::net::Shutdown;
 use std::time::Instant;
 
@@ -23,8 +22,6 @@ pub(crate) struct Link {
     pub(crate) is_unread: bool,
     /// It takes no octets for now.
     pub(crate) is_full: bool,
-    /// It waits to be sent what it is owed, in this round.
-    pub(crate) is_due: bool,
     /// The peer was told that nothing more will come.
     is_shut: bool,
     /// What the peer may still do.
@@ -51,7 +48,6 @@ impl Link {
             closing_since: None,
             is_unread: false,
             is_full: false,
-            is_due: false,
             is_shut: false,
             channel: Channel::Open,
         }
@@ -138,24 +134,21 @@ impl Link {
     pub(crate) fn ignore(&mut self, piece: &mut [u8]) {
         self.is_unread = true;
         for _ in 0..CALLS_A_TURN {
-            match self.stream.read(piece) {
-                Ok(0) => {
+            match read_ignored(&mut self.stream, piece) {
+                Call::Passed(_) | Call::Interrupted => {}
+                Call::Waits => {
+                    self.is_unread = false;
+                    return;
+                }
+                Call::Ended => {
                     self.is_unread = false;
                     self.channel = Channel::HalfClosed;
                     return;
                 }
-                Ok(_) => {}
-                Err(error) => match error.kind() {
-                    ErrorKind::Interrupted => {}
-                    ErrorKind::WouldBlock => {
-                        self.is_unread = false;
-                        return;
-                    }
-                    _ => {
-                        self.channel = Channel::Failed;
-                        return;
-                    }
-                },
+                Call::Failed => {
+                    self.channel = Channel::Failed;
+                    return;
+                }
             }
         }
     }

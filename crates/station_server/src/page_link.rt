@@ -4,6 +4,7 @@ ghost use Rattle.std.specs.Prelude.{◌≡◌, OnOk};
 ghost use Rattle.site_page.specs.Connections.{AreAnswered};
 ghost use Rattle.station_server.specs.Pages.{calls_of};
 
+use crate::calls::Call;
 use crate::piece::Piece;
 use crate::sizes::{CALLS_A_TURN, PAGE_SECONDS};
 use mio::net::TcpStream;
@@ -11,7 +12,7 @@ use site_base::NoMemory;
 use site_page::{Page, PageConnection};
 use std::alloc::Global;
 use std::hash::RandomState;
-use std::io::{ErrorKind, Write};
+use std::io::Write;
 use std::net::Shutdown;
 use std::time::Instant;
 
@@ -113,7 +114,7 @@ impl PageLink {
                 }
                 Progress::GoesOn
             }
-            Err(error) => wait_or_end(error.kind()),
+            Err(error) => progress_after(Call::of_error(&error)),
         }
     }
 
@@ -121,11 +122,7 @@ impl PageLink {
     fn read(&mut self) -> Progress
         ensures { calls_of self.new ≡ calls_of self.old }
     {
-        match self.piece.read_from(&mut self.stream) {
-            Ok(0) => Progress::Over,
-            Ok(_) => Progress::GoesOn,
-            Err(error) => wait_or_end(error.kind()),
-        }
+        progress_after(self.piece.read_from(&mut self.stream))
     }
 
     /// Tells the peer, once, that nothing more will come, and passes over what it still sends: an
@@ -137,19 +134,15 @@ impl PageLink {
             self.is_shut = true;
             let _ = self.stream.shutdown(Shutdown::Write);
         }
-        match self.piece.read_from(&mut self.stream) {
-            Ok(0) => Progress::Over,
-            Ok(_) => Progress::GoesOn,
-            Err(error) => wait_or_end(error.kind()),
-        }
+        progress_after(self.piece.read_from(&mut self.stream))
     }
 }
 
-/// How a connection goes on behind a call that failed so.
-fn wait_or_end(kind: ErrorKind) -> Progress {
-    match kind {
-        ErrorKind::WouldBlock => Progress::Waits,
-        ErrorKind::Interrupted => Progress::GoesOn,
-        _ => Progress::Over,
+/// How a connection goes on after a call.
+fn progress_after(call: Call) -> Progress {
+    match call {
+        Call::Passed(_) | Call::Interrupted => Progress::GoesOn,
+        Call::Waits => Progress::Waits,
+        Call::Ended | Call::Failed => Progress::Over,
     }
 }

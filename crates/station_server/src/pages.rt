@@ -5,20 +5,19 @@ ghost use Rattle.serde_json.specs.Written.{compact_text};
 ghost use Rattle.site_json.specs.SiteData.{site_data};
 ghost use Rattle.site_book.specs.Unpaid.{GoesBy, unpaid_sales};
 
+use crate::accepting::{Caller, accept};
 use crate::connections::both_ways;
 use crate::page_link::{PageLink, Progress};
 use crate::sizes::{ACCEPTS_A_TURN, PAGE_CONNECTIONS};
 use mio::net::{TcpListener, TcpStream};
 use mio::{Registry, Token};
 use site_base::NoMemory;
-use site_book::SiteBook;
+use site_book::{SiteBook, UnpaidSales};
 use site_page::Page;
 use station::PEERS;
 use std::alloc::Global;
 use std::hash::RandomState;
-use std::io::ErrorKind;
 use std::time::Instant;
-use site_book::UnpaidSales;
 
 /// The page's listener, and its connections by their places. They are lent the book, and can't
 /// change it.
@@ -164,15 +163,17 @@ impl Pages {
     /// Accepts the connections that wait; where that fails it is tried again.
     fn accept_all(&mut self, registry: &Registry, now: Instant) {
         for _ in 0..ACCEPTS_A_TURN {
-            match self.listener.accept() {
-                Ok((stream, _)) => self.welcome(registry, stream, now),
-                Err(error) => match error.kind() {
-                    ErrorKind::Interrupted | ErrorKind::ConnectionAborted => {}
-                    kind => {
-                        self.has_callers = kind != ErrorKind::WouldBlock;
-                        return;
-                    }
-                },
+            match accept(&self.listener) {
+                Caller::Came(stream) => self.welcome(registry, stream, now),
+                Caller::Gone => {}
+                Caller::None => {
+                    self.has_callers = false;
+                    return;
+                }
+                Caller::Failed(_) => {
+                    self.has_callers = true;
+                    return;
+                }
             }
         }
     }

@@ -2,10 +2,11 @@
 
 ghost use Rattle.std.specs.Prelude.{◌≤◌, ◌<◌, length};
 
+use crate::calls::Call;
 use crate::sizes::PIECE_OCTETS;
 use site_base::NoMemory;
 use std::alloc::Global;
-use std::io::{self, Read};
+use std::io::Read;
 
 /// A piece of what a peer sent.
 #[derive(Drop)]
@@ -40,11 +41,16 @@ impl Piece {
         self.from += n.min(self.to - self.from);
     }
 
-    /// Reads once, in place of what was read before, and returns how many octets came.
-    pub(crate) fn read_from<R: Read>(&mut self, reader: &mut R) -> io::Result<usize> {
-        let n = reader.read(&mut self.octets)?;
-        self.from = 0;
-        self.to = n;
-        Ok(n)
+    /// Reads once. What came takes the place of what was read before; where nothing came, that
+    /// stays.
+    pub(crate) fn read_from<R: Read>(&mut self, reader: &mut R) -> Call {
+        match reader.read(&mut self.octets) {
+            Ok(n) => {
+                self.from = 0;
+                self.to = n;
+                if n == 0 { Call::Ended } else { Call::Passed(n) }
+            }
+            Err(error) => Call::of_error(&error),
+        }
     }
 }

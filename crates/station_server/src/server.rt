@@ -6,6 +6,7 @@ ghost use Rattle.station.specs.Reads.{HasNoPeer};
 ghost use Rattle.journal.specs.Stored.{is_all_stored};
 ghost use Rattle.station_server.specs.Reaches.{Reaches};
 
+use crate::accepting::{Caller, accept};
 use crate::connections::Connections;
 use crate::fault::ServerFault;
 use crate::pages::Pages;
@@ -16,15 +17,15 @@ use journal::Disk;
 use mio::event::Event;
 use mio::net::TcpListener;
 use mio::{Events, Interest, Poll, Token, Waker};
+use site_book::UnpaidSales;
 use station::PEERS;
 use std::alloc::Global;
 use std::hash::RandomState;
-use std::io::{self, ErrorKind};
+use std::io;
 use std::net::{Ipv4Addr, Net, SocketAddr, SocketAddrV4};
 use std::random::RandomSource;
 use std::sync::Wait;
 use std::time::{Clock, Duration, Instant};
-use site_book::UnpaidSales;
 
 /// What a new connection is reported under.
 const LISTENER: Token = Token(usize::MAX);
@@ -43,16 +44,24 @@ pub struct StationServer {
     port: u16,
     pages: Option<Pages>,
     page_port: Option<u16>,
-    /// Connections wait to be accepted.
-    has_callers: bool,
-    /// Accepting failed: it is tried again.
-    is_deaf: bool,
-    /// That was told, and since then not all that waited were accepted.
+    callers: Callers,
+    /// It was told that accepting failed, and since then not all that waited were accepted.
     has_told: bool,
     /// The day's end has come.
     has_ended: bool,
     swept_at: Instant,
     time: Instant,
+}
+
+/// Whether connections wait to be accepted.
+#[derive(Clone, Copy, Debug, PartialEq, Eq)]
+enum Callers {
+    /// None that is known of.
+    None,
+    /// They wait, and are accepted at the end of the round.
+    Waiting,
+    /// Accepting failed: it is tried again at the next sweep.
+    Refused,
 }
 
 impl StationServer {
@@ -157,7 +166,7 @@ impl StationServer {
             }
             self.send_all(rt, connections, idle)?;
             self.serve_page(connections, unpaid);
-            if self.has_callers {
+            if self.callers == Callers::Waiting {
                 self.accept_all(rt, connections);
             }
         }
@@ -233,7 +242,11 @@ impl StationServer {
         idle: Option<u64>,
     ) -> Option<Duration> {
         let is_page_busy = self.pages.as_ref().is_some_and(|pages| pages.is_busy());
-        if self.is_deaf || connections.has_closing() || idle.is_some() || is_page_busy {
+        if self.callers == Callers::Refused
+            || connections.has_closing()
+            || idle.is_some()
+            || is_page_busy
+        {
             return Some(Duration::from_secs(SWEEP_SECONDS));
         }
         None
@@ -254,7 +267,7 @@ impl StationServer {
         for event in &self.events {
             match event.token() {
                 WAKER => self.has_ended = true,
-                LISTENER => self.has_callers = true,
+                LISTENER => self.callers = Callers::Waiting,
                 Token(key) if key < PEERS => take_turn(connections, event, key, self.time),
                 token => {
                     if let Some(pages) = &mut self.pages {
@@ -271,22 +284,21 @@ impl StationServer {
     fn accept_all<R: Eprint, D: Disk>(&mut self, rt: &R, connections: &mut Connections<D>)
         ensures { Reaches connections.old.stored.station connections.new.stored.station }
     {
-        self.is_deaf = false;
-        self.has_callers = false;
+        self.callers = Callers::None;
         for _ in 0..ACCEPTS_A_TURN {
-            match self.listener.accept() {
-                Ok((stream, _)) => connections.welcome(self.poll.registry(), rt, stream, self.time),
-                Err(error) => match error.kind() {
-                    ErrorKind::WouldBlock => {
-                        self.has_told = false;
-                        return;
-                    }
-                    ErrorKind::Interrupted | ErrorKind::ConnectionAborted => {}
-                    _ => {
-                        self.tell_deaf(rt, &error);
-                        return;
-                    }
-                },
+            match accept(&self.listener) {
+                Caller::Came(stream) => {
+                    connections.welcome(self.poll.registry(), rt, stream, self.time);
+                }
+                Caller::Gone => {}
+                Caller::None => {
+                    self.has_told = false;
+                    return;
+                }
+                Caller::Failed(error) => {
+                    self.tell_refused(rt, &error);
+                    return;
+                }
             }
         }
         let registry = self.poll.registry();
@@ -294,8 +306,8 @@ impl StationServer {
     }
 
     /// Accepting failed so: it is told, where it wasn't yet.
-    fn tell_deaf<R: Eprint>(&mut self, rt: &R, error: &io::Error) {
-        self.is_deaf = true;
+    fn tell_refused<R: Eprint>(&mut self, rt: &R, error: &io::Error) {
+        self.callers = Callers::Refused;
         if !self.has_told {
             self.has_told = true;
             let _ = eprintln!(rt; "cannot accept: {error}; it is tried again each second");
@@ -337,16 +349,16 @@ impl StationServer {
             return Ok(());
         }
         self.swept_at = self.time;
-        self.accept_if_deaf(rt, connections);
+        self.accept_again(rt, connections);
         connections.sweep(self.poll.registry(), rt, idle, self.time)
     }
 
     /// Accepts again, where that failed.
     #[tactic(auto, using(crate::proofs::Reaching::moved))]
-    fn accept_if_deaf<R: Eprint, D: Disk>(&mut self, rt: &R, connections: &mut Connections<D>)
+    fn accept_again<R: Eprint, D: Disk>(&mut self, rt: &R, connections: &mut Connections<D>)
         ensures { Reaches connections.old.stored.station connections.new.stored.station }
     {
-        if self.is_deaf {
+        if self.callers == Callers::Refused {
             self.accept_all(rt, connections);
         }
     }
@@ -445,8 +457,7 @@ fn listen<N: Net, C: Clock>(
         port,
         pages: None,
         page_port: None,
-        has_callers: false,
-        is_deaf: false,
+        callers: Callers::None,
         has_told: false,
         has_ended: false,
         swept_at: now,

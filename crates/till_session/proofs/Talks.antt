@@ -31,6 +31,8 @@ use Rattle.till_session.specs.Course.{Talked, asked_more, ends_early}
 use Rattle.peer_talk.specs.Text.{is_another, messages_text, number_text, outcome_text}
 use Rattle.peer_talk.specs.Text.{peer_after, requests_in}
 use Rattle.peer_talk.proofs.Speakers.{spoken_by}
+use Rattle.peer_talk.proofs.Courses.{another_over, answered_on, cut_longer, cut_then, on_cut, on_none}
+use Rattle.peer_talk.proofs.Courses.{on_then, over_cut, over_longer, over_then, refused_on}
 use Rattle.till_session.proofs.Debts.{still_alone, still_owed}
 
 -- ---- messages one after another

@@ -136,7 +136,7 @@ impl Teller {
             → Rose (failures_of writer.old) (failures_of writer.new) }
         ensures turns { turns.new ≤ turns.old }
     {
-        match self.talk.take_meaning(message) {
+        match self.take_meaning(message) {
             Meaning::Another => {
                 self.refuse(writer, message, ORIGINATOR_CHANGED, turns)?;
                 Err(SessionFault::Talk(TalkFault::OriginatorChanged))
@@ -146,6 +146,16 @@ impl Teller {
                 self.serve(counter, writer, message, actor, event, turns)
             }
         }
+    }
+
+    /// Takes what a message means.
+    fn take_meaning(&mut self, message: &Message) -> Meaning
+        ensures meaning { result ≡ meaning_at self.old.peer message.now }
+        ensures peer { self.new
+            ≡ record self.old { peer = peer_after self.old.peer message.now.from } }
+        ensures spoken { IsRequestOf self.new.peer result }
+    {
+        self.talk.take_meaning(message)
     }
 
     /// Tells a number in place of a reply to a message.
@@ -194,10 +204,34 @@ impl Teller {
         ensures turns { turns.new ≤ turns.old }
     {
         let outcome = &self.ask(counter, &actor, &event);
-        let reply = self.writer.write_outcome(&message.as_spelled(), outcome)?;
-        self.tell(writer, reply, turns)?;
+        self.tell_outcome(writer, message, outcome, turns)?;
         counter.note_written(actor);
         Ok(())
+    }
+
+    /// Tells what a request was answered.
+    fn tell_outcome<W: Write>(
+        &mut self,
+        writer: &mut Counted<W>,
+        message: &Message,
+        outcome: &Result<Reply, NoRow>,
+        turns: &mut u64,
+    ) -> Result<(), SessionFault>
+        ensures same { self.new ≡ self.old }
+        ensures ok { OnOk result (Appends (W.contents (device_of writer.old))
+            (W.contents (device_of writer.new))
+            (outcome_text message.now outcome.now)) }
+        ensures front { AppendsFront (W.contents (device_of writer.old))
+            (W.contents (device_of writer.new))
+            (outcome_text message.now outcome.now) }
+        ensures ends { IfErr result (λ fault. ends_early fault ≡ true) }
+        ensures counted { OnOk result (failures_of writer.new ≡ failures_of writer.old) }
+        ensures failed { IsErrOf result (SessionFault.Write WriteFault.Failed)
+            → Rose (failures_of writer.old) (failures_of writer.new) }
+        ensures turns { turns.new ≤ turns.old }
+    {
+        let reply = self.writer.write_outcome(&message.as_spelled(), outcome)?;
+        self.tell(writer, reply, turns)
     }
 
     /// Asks the counter for a request.

@@ -1,9 +1,9 @@
 //! A replay of three messages, whose reader or writer fails at each of its calls in turn, takes
 //! nothing, or is interrupted without end.
 
+use devices::{Counted, ReadFault, WriteFault};
 use forecourt_engines::replay::replay;
 use forecourt_engines::{ReplayFault, known_site};
-use devices::{Counted, ReadFault, WriteFault};
 use site_base::NoMemory;
 use std::alloc::Global;
 use std::io::{self, ErrorKind, Read, Write};

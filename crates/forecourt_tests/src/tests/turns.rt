@@ -1,9 +1,9 @@
 //! Replays whose turns are used up: fault 59, behind a front of the answers.
 
+use devices::{Counted, ReadFault, WriteFault};
 use forecourt_engines::replay::replay;
 use forecourt_engines::reporting::replay_to_report;
 use forecourt_engines::{ReplayFault, known_site};
-use devices::{Counted, ReadFault, WriteFault};
 use std::alloc::Global;
 use std::io::{self, Write};
 use std::test::Fail;

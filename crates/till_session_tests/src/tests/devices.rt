@@ -4,13 +4,13 @@ use super::calls::{TWO_TILLS, TWO_TILLS_TOLD, octets};
 use super::noting::Call;
 use super::peers::Peer;
 use super::sessions::{Seen, session};
-use forecourt_engines::known_site_of;
 use devices::{ReadFault, WriteFault};
+use forecourt_engines::known_site_of;
+use peer_talk::TalkFault;
 use site_base::{NoMemory, TillNo};
 use std::alloc::Global;
 use std::process::Abort;
 use std::test::Fail;
-use peer_talk::TalkFault;
 use till_session::SessionFault;
 
 #[test]

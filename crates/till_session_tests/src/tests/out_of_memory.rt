@@ -5,12 +5,12 @@ use super::noting::Call;
 use super::peers::Peer;
 use super::sessions::{Seen, session};
 use forecourt_engines::known_site_of;
+use peer_talk::TalkFault;
 use site_base::{NoMemory, SiteConfig, TillNo};
 use std::alloc::Global;
 use std::process::Abort;
 use std::sync::Wait;
 use std::test::Fail;
-use peer_talk::TalkFault;
 use till_session::SessionFault;
 
 /// What may be told: all is well; the SignOn found no memory, so that the till isn't signed on; or

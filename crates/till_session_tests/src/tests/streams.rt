@@ -8,9 +8,9 @@ use super::peers::Peer;
 use super::sessions::session;
 use app_message::GrammarFault;
 use forecourt_engines::known_site_of;
+use peer_talk::TalkFault;
 use site_base::TillNo;
 use std::test::Fail;
-use peer_talk::TalkFault;
 use till_session::SessionFault;
 
 #[test]

@@ -2,13 +2,9 @@
 //! answers as ever.
 
 use site_base::{
-
     Actor, Answer, Event, FpNo, Listing, Millilitres, Mills, NoMemory, NozzleEntry, PointEntry,
-
     PriceBook, ProductEntry, ProductName, ProductNo, Row, SiteConfig, TillNo,
-
 };
-
 use site_book::Rows;
 use std::alloc::Global;
 
