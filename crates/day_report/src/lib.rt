@@ -1,6 +1,6 @@
-//! The report of a site's figures, which a day ends with: as text, a line for each figure; for
-//! people, in columns of litres and money; and as JSON. Each is made of the same `Totals`, which the
-//! caller has from a book, and the contract of each says octet by octet what it is.
+//! The report of a site's figures: as text, a line for each figure; for people, in columns of
+//! litres and money; and as JSON. Each form is made of the same `Totals`, and its contract says
+//! octet by octet what it is.
 #![tactic(auto)]
 
 mod column;
