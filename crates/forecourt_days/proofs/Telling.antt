@@ -7,7 +7,7 @@ use Rattle.site_base.specs.Configured.{Configured}
 use Rattle.devices.specs.Devices.{AppendsFront}
 use Rattle.devices.proofs.KnownBytes.{Appends-then, Appends-front}
 use Rattle.counter_desk.specs.declared.settlement.Settled.{Settled}
-use Rattle.forecourt_engines.specs.Report.{report_text}
+use Rattle.day_report.specs.Text.{report_text}
 use Rattle.forecourt_days.specs.declared.demos.DemoEnd.{DemoEnd}
 use Rattle.forecourt_days.specs.Days.{IsSettledDay, TellsDayFront, day_text, listening_line}
 use Rattle.forecourt_days.specs.Demos.{IsSettledDemo, TellsReportFront}

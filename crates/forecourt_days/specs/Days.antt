@@ -10,7 +10,7 @@ use Rattle.counter_desk.specs.declared.settlement.Settled.{Settled}
 use Rattle.counter_desk.specs.declared.settlement.SettleFault.{SettleFault}
 use Rattle.counter_desk.specs.declared.settlement.SettleFault.TheVariants as settle
 use Rattle.counter_desk.specs.Settlement.{Settles}
-use Rattle.forecourt_engines.specs.Report.{report_text}
+use Rattle.day_report.specs.Text.{report_text}
 use Rattle.forecourt_days.specs.declared.fault.DayFault.{DayFault}
 use Rattle.forecourt_days.specs.declared.fault.DayFault.TheVariants.{NoMemory, Unsettled, Write}
 

@@ -8,7 +8,7 @@ use Rattle.devices.specs.Devices.{AppendsFront}
 use Rattle.counter_desk.specs.declared.receipt.Receipt.{Receipt}
 use Rattle.counter_desk.specs.Settlement.{Settles}
 use Rattle.counter_desk.specs.Work.{Works}
-use Rattle.forecourt_engines.specs.Report.{report_text}
+use Rattle.day_report.specs.Text.{report_text}
 use Rattle.forecourt_days.specs.declared.demos.DemoEnd.{DemoEnd}
 
 -- A demo's day is settled: the receipts of the sections' workers, and last those of the worker that

@@ -1,14 +1,13 @@
 -- What a station's day writes.
-use Rattle.std.specs.Prelude.{◌≡◌, ℕ, false, List, [], ◌∷◌, ◌++◌, Option, Some, None}
+use Rattle.std.specs.Prelude.{◌≡◌, ℕ, false, List, ◌++◌, Option, Some, None}
 use Rattle.std.specs.Prelude.{codes, decimal}
-use Rattle.serde_json.specs.Written.{compact_text}
 use Rattle.std.specs.Io.KnownBytes.{Appends}
 use Rattle.devices.specs.declared.transfer.WriteFault.TheVariants as writes
 use Rattle.devices.specs.Devices.{AppendsFront}
 use Rattle.written_site.specs.SiteState.{is_signed_on}
 use Rattle.site_book.specs.Book.{Book, site_of_book}
-use Rattle.forecourt_engines.specs.Report.{book_report}
-use Rattle.site_json.specs.ReportData.{book_report_data}
+use Rattle.day_report.specs.Json.{json_text}
+use Rattle.forecourt_engines.specs.Reporting.{book_report, book_totals}
 use Rattle.forecourt_days.specs.Days.{listening_line}
 use Rattle.station_server.specs.declared.fault.ServerFault.{ServerFault}
 use Rattle.station_server.specs.declared.fault.ServerFault.TheVariants as servers
@@ -40,7 +39,7 @@ places_text port (Some page) = listening_line port ++ page_line page
 -- the report of a book, as text or as JSON
 abbrev pub report_in : ReportForm → Book → List ℕ
 report_in Text b = book_report b
-report_in Json b = compact_text (book_report_data b) ++ 10 ∷ []
+report_in Json b = json_text b.config.products (book_totals b) 0
 
 -- where it listens, and the report of the book that the day's moves led to
 abbrev pub station_text : Book → ℕ → Option ℕ → ReportForm → List Move → List ℕ

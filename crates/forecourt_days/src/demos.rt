@@ -5,7 +5,7 @@ ghost use Rattle.std.specs.Io.KnownBytes.{Appends};
 ghost use Rattle.std.specs.Result.{IsErrOf};
 ghost use Rattle.devices.specs.Counted.{device_of, failures_of};
 ghost use Rattle.devices.specs.Devices.{one_more};
-ghost use Rattle.forecourt_engines.specs.Report.{report_text};
+ghost use Rattle.day_report.specs.Text.{report_text};
 ghost use Rattle.forecourt_days.specs.Demos.{IsSettledDemo, TellsReportFront};
 
 use crate::demo_fault::DemoFault;

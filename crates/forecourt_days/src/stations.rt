@@ -13,6 +13,7 @@ ghost use Rattle.forecourt_days.specs.StationDays.{TellsDay, TellsFront, report_
 use crate::fault::DayFault;
 use crate::plan::ReportForm;
 use crate::writing::put_places;
+use day_report::report_as_json;
 use devices::{Counted, write_whole};
 use forecourt_engines::reporting::report_of_book;
 use journal::{Disk, StoredStation};
@@ -113,7 +114,5 @@ pub fn json_report_of_book(alloc: Global, book: &SiteBook) -> Result<String, NoM
     ensures { IfOk result (λ text. string_bytes text ≡ report_in ReportForm.Json book.now) }
 {
     let totals = book.audit(alloc)?;
-    let mut text = site_json::report_text(alloc, book.config().products(), &totals, 0)?;
-    text.push('\n')?;
-    Ok(text)
+    report_as_json(alloc, book.config().products(), &totals, 0)
 }

@@ -5,14 +5,14 @@ ghost use Rattle.std.specs.Result.{IsErrOf};
 ghost use Rattle.std.specs.Io.KnownBytes.{Appends};
 ghost use Rattle.devices.specs.Counted.{device_of, failures_of};
 ghost use Rattle.devices.specs.Devices.{AppendsFront, one_more};
-ghost use Rattle.forecourt_engines.specs.Report.{report_text};
+ghost use Rattle.day_report.specs.Text.{report_text};
 ghost use Rattle.forecourt_days.specs.Days.{listening_line};
 ghost use Rattle.forecourt_days.specs.StationDays.{page_line, places_text};
 
 use crate::fault::DayFault;
 use counter_desk::Settled;
+use day_report::report_as_text;
 use devices::{Counted, WriteFault, write_whole};
-use forecourt_engines::report::report;
 use site_base::{NoMemory, SiteConfig};
 use std::alloc::Global;
 use std::io::Write;
@@ -112,7 +112,7 @@ pub fn put_report<W: Write>(
     ensures limit { IsErrOf result (DayFault.Write WriteFault.TurnLimit) → turns.new ≡ 0 }
     ensures turns { turns.new ≤ turns.old }
 {
-    let text = report(alloc, config, &settled.book, settled.shares)?;
+    let text = report_as_text(alloc, config, &settled.book, settled.shares)?;
     write_whole(writer, text.as_str().as_bytes(), turns)?;
     Ok(())
 }

@@ -21,9 +21,8 @@ use Rattle.forecourt_engines.specs.declared.fault.TextFault.TheVariants as fault
 use Rattle.forecourt_engines.specs.declared.fault.ReplayFault.{ReplayFault}
 use Rattle.forecourt_engines.specs.declared.fault.ReplayFault.TheVariants as ends_so
 use Rattle.forecourt_engines.specs.Replay.{is_early, is_unwritten, as_fault, Replayed}
-use Rattle.forecourt_engines.specs.Report.{book_report}
 use Rattle.forecourt_engines.specs.Reporting.{Reported, WritesReport, input_report}
-use Rattle.forecourt_engines.specs.Reporting.{opening_state}
+use Rattle.forecourt_engines.specs.Reporting.{book_report, opening_state}
 use Rattle.forecourt_engines.proofs.Running.{AppendsFront-none}
 use Rattle.hex_lines.specs.declared.line_reading.TheConstants.{LINE_OCTETS}
 use Rattle.forecourt_engines.specs.Text.{State, after, book_of, octets_effect, end_input, ends}

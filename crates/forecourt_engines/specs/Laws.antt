@@ -1,5 +1,5 @@
 -- What joins the text of a replay to its lines.
-use Rattle.std.specs.Prelude.{◌≡◌, ℕ, ◌<◌, ◌≤◌, true, not, List, [], ◌∷◌, ◌++◌, length, ◌==◌, Some}
+use Rattle.std.specs.Prelude.{◌≡◌, ℕ, ◌<◌, ◌≤◌, List, [], ◌∷◌, ◌++◌, length, Some}
 use Rattle.std.specs.Prelude.{None}
 use Rattle.app_message.specs.Stream.{Held}
 use Rattle.forecourt_engines.specs.declared.fault.TextFault.{TextFault}
@@ -7,7 +7,7 @@ use Rattle.forecourt_engines.specs.declared.fault.TextFault.TheVariants.{TooLong
 use Rattle.hex_lines.specs.declared.line_reading.TheConstants.{LINE_OCTETS}
 use Rattle.hex_lines.specs.Lines.{IsLine}
 use Rattle.forecourt_engines.specs.Answers.{Answerer}
-use Rattle.hex_lines.specs.Lines.{kept_of}
+use Rattle.hex_lines.specs.Lines.{IsLine, kept_of}
 use Rattle.forecourt_engines.specs.Text.{State, effect, next_line, after, text_from}
 use Rattle.forecourt_engines.specs.Text.{end_input}
 use Rattle.forecourt_engines.specs.Text.{last_text}

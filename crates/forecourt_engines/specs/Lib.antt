@@ -7,7 +7,6 @@ pub mod LineWords
 pub mod Meanings
 pub mod Numbers
 pub mod Replay
-pub mod Report
 pub mod Reporting
 pub mod Said
 pub mod SiteSizes

@@ -3,16 +3,30 @@ use Rattle.std.specs.Prelude.{◌≡◌, ℕ, ◌≤◌, ◌*◌, length, false,
 use Rattle.std.specs.Io.KnownBytes.{Appends, Consumes}
 use Rattle.site_base.specs.Configured.{Configured}
 use Rattle.devices.specs.Devices.{AppendsFront}
-use Rattle.site_book.specs.Book.{Book}
+use Rattle.site_base.specs.declared.totals.Totals.{Totals}
+use Rattle.day_report.specs.Text.{report_text}
+use Rattle.written_site.specs.ShiftFigures.{product_totals, till_totals}
+use Rattle.site_book.specs.Book.{Book, site_of_book}
 use Rattle.forecourt_engines.specs.declared.fault.ReplayFault.{ReplayFault}
 use Rattle.devices.specs.declared.transfer.TheConstants.{PIECE_OCTETS}
 use Rattle.forecourt_engines.specs.Replay.{is_early, as_fault, StopsThere}
-use Rattle.forecourt_engines.specs.Report.{book_report}
 use Rattle.forecourt_engines.specs.Text.{State, start, fault_of, book_of}
 
 -- a replay of this configuration before its first octet, which tells no changes
 abbrev pub opening_state : Configured → State
 opening_state c = start (record { book = record { config = c; rows = [] }; changes = false })
+
+-- the figures of a book's rows
+abbrev pub book_totals : Book → Totals
+book_totals b = record {
+  rows = length b.rows;
+  products = product_totals (site_of_book b);
+  tills = till_totals (site_of_book b);
+}
+
+-- the report of a book's figures, before any share settled
+abbrev pub book_report : Book → List ℕ
+book_report b = report_text b.config (book_totals b) 0
 
 -- the report of the figures of the rows that an input makes
 abbrev pub input_report : Configured → List ℕ → List ℕ

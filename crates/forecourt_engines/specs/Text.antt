@@ -12,7 +12,7 @@ use Rattle.forecourt_engines.specs.declared.fault.TextFault.TheVariants as fault
 use Rattle.hex_lines.specs.declared.line_reading.TheConstants.{LINE_OCTETS}
 use Rattle.hex_lines.specs.Lines.{is_skipped, kept_of, without_spaces}
 use Rattle.site_book.specs.Book.{Book}
-use Rattle.hex_lines.specs.Lines.{line_of}
+use Rattle.hex_lines.specs.Lines.{is_skipped, kept_of, line_of, without_spaces}
 use Rattle.forecourt_engines.specs.Answers.{Answerer, answers_to, after_messages}
 
 -- between two octets of the input: the line so far and its number, the octets of a message to come,

@@ -4,8 +4,8 @@
 //! `replay` answers lines of messages over the opening site of a configuration. What it writes is
 //! the text of what it read, as `specs/Text.antt` defines it octet by octet; the laws join that
 //! text to lines and to one stream of messages. `replay_to_report` writes the report of the rows
-//! that `replay` would make, which `report` makes of their figures. `Trace` reads such
-//! lines and `explain` words each message; `words` reads such words back, and spells them.
+//! that `replay` would make, which `day_report` makes of their figures. `Trace` reads such lines,
+//! and `explain` words each message; `words` reads such words back, and spells them.
 #![tactic(auto)]
 
 mod answers;
@@ -15,7 +15,6 @@ mod fault;
 mod laws;
 pub mod number;
 pub mod replay;
-pub mod report;
 pub mod reporting;
 mod sink;
 mod sites;

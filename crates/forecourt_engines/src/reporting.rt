@@ -8,14 +8,13 @@ ghost use Rattle.devices.specs.Counted.{device_of, failures_of};
 ghost use Rattle.devices.specs.Devices.{Rose};
 ghost use Rattle.forecourt_engines.specs.Replay.{as_fault};
 ghost use Rattle.devices.specs.declared.transfer.ReadFault.{ReadFault};
-ghost use Rattle.forecourt_engines.specs.Report.{book_report};
-ghost use Rattle.forecourt_engines.specs.Reporting.{Reported, WritesReport};
+ghost use Rattle.forecourt_engines.specs.Reporting.{Reported, WritesReport, book_report};
 
 use crate::engine::Engine;
 use crate::fault::{ReplayFault, TextFault};
 use crate::replay::run;
-use crate::report::report;
 use crate::sink::NoText;
+use day_report::report_as_text;
 use devices::{Counted, ReadFault, WriteFault, write_whole};
 use site_base::{NoMemory, SiteConfig};
 use site_book::SiteBook;
@@ -98,5 +97,5 @@ pub fn report_of_book(
     ensures { IfOk result (λ text. string_bytes text ≡ book_report book.now) }
 {
     let totals = book.audit(alloc)?;
-    report(alloc, config, &totals, 0)
+    report_as_text(alloc, config, &totals, 0)
 }

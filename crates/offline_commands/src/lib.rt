@@ -2,7 +2,7 @@
 //! `spell`. They read a site file or standard input, print, and end.
 //!
 //! Each `run_..` takes what the command line says and gives the status that the program exits
-//! with. What a command does stands in `forecourt_engines`, `sales_table` and `site_json`.
+//! with. What a command does stands in `forecourt_engines`, `day_report` and `sales_table`.
 #![tactic(auto)]
 
 mod check;

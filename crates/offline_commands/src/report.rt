@@ -2,12 +2,12 @@
 
 use crate::silent::{ends_its_text, replay_silently};
 use command_line::{ReportForm, ReportOptions};
+use day_report::{report_as_json, report_for_people};
 use devices::{Counted, write_whole};
 use forecourt_engines::replay::ReplayEnd;
 use forecourt_engines::reporting::replay_to_report;
 use forecourt_engines::{ReplayFault, SiteBook};
 use program_io::{TURNS, exit_no_memory, exit_replay, read_site};
-use sales_table::totals_text;
 use site_base::{NoMemory, SiteConfig};
 use std::alloc::Global;
 use std::io;
@@ -83,12 +83,8 @@ fn text_of(alloc: Global, book: &SiteBook, wanted: BookText) -> Result<Vec<u8>, 
     let totals = book.audit(alloc)?;
     let products = book.config().products();
     match wanted {
-        BookText::People => totals_text(alloc, products, &totals),
-        BookText::Json => {
-            let mut text = site_json::report_text(alloc, products, &totals, 0)?;
-            text.push('\n')?;
-            Ok(text.into_bytes())
-        }
+        BookText::People => report_for_people(alloc, products, &totals),
+        BookText::Json => Ok(report_as_json(alloc, products, &totals, 0)?.into_bytes()),
     }
 }
 

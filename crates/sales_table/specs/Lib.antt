@@ -1,5 +1,3 @@
 pub mod Tables
 pub mod Objects
 pub mod Texts
-pub mod Columns
-pub mod People

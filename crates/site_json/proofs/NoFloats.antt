@@ -1,4 +1,4 @@
--- No number of a site or of a report is a float.
+-- No number of a site is a float.
 use Rattle.std.proofs.Common.{◌≡◌, ℕ, Bool, false, List, [], ◌∷◌, ◌++◌, Option, Some, None, map}
 use Rattle.std.proofs.Common.{refl}
 use Rattle.std.specs.Prelude.{flat_map}
@@ -6,10 +6,7 @@ use Rattle.serde_json.specs.Data.{Data}
 use Rattle.serde_json.specs.View.{items_of}
 use Rattle.serde_json.specs.Written.{has_float, items_have_float}
 use Rattle.site_base.specs.declared.config.PointEntry.{PointEntry}
-use Rattle.site_base.specs.declared.config.ProductEntry.{ProductEntry}
-use Rattle.site_base.specs.declared.totals.Totals.{Totals}
 use Rattle.site_base.specs.declared.view.PointView.{PointView}
-use Rattle.site_base.specs.declared.view.ProductView.{ProductView}
 use Rattle.transaction_buffer.specs.Sales.{till_of}
 use Rattle.written_site.specs.ShiftFigures.{product_totals, tills}
 use Rattle.written_site.specs.SiteState.{SiteState, view_point}
@@ -18,20 +15,14 @@ use Rattle.site_book.specs.Book.{Book, site_of_book}
 use Rattle.site_json.specs.Figures.{figure_if}
 use Rattle.site_json.specs.Points.{cents_so_far, fuelling_data, point_data, points_data}
 use Rattle.site_json.specs.Points.{preset_cents, preset_millilitres, product_out}
-use Rattle.site_json.specs.Products.{products_data}
-use Rattle.site_json.specs.ReportData.{cleared_data, report_data}
 use Rattle.site_json.specs.SiteData.{site_data}
 use Rattle.site_json.specs.Tills.{till_data}
 use Rattle.site_json.specs.Transactions.{transaction_data}
+use Rattle.day_report.proofs.NoFloats.{no_float_mapped, no_float_products}
 
 no_float_if : (o : Option ℕ) → has_float (figure_if o) ≡ false
 no_float_if None = refl
 no_float_if (Some n) = refl
-
-no_float_mapped : {A : Type 0} (f : A → Data) (xs : List A) → ((x : A) → has_float (f x) ≡ false)
-    → items_have_float (items_of (map f xs)) ≡ false
-no_float_mapped f [] none = refl
-no_float_mapped f (x ∷ xs) none = rw (none x) (no_float_mapped f xs none)
 
 no_float_fuelling : (v : PointView) → has_float (fuelling_data v) ≡ false
 no_float_fuelling v =
@@ -62,12 +53,6 @@ no_float_points s (e ∷ es) = by (view_point s e.number) refl (no_float_points 
     by None is rest = rw is rest
     by (Some v) is rest = rw is (rw (no_float_point e v) rest)
 
-no_float_products : (ps : List ProductEntry) (vs : List ProductView)
-    → items_have_float (items_of (products_data ps vs)) ≡ false
-no_float_products [] vs = refl
-no_float_products (p ∷ ps) [] = refl
-no_float_products (p ∷ ps) (v ∷ vs) = no_float_products ps vs
-
 no_float_transaction : (x : NamedSale) → has_float (transaction_data x) ≡ false
 no_float_transaction x =
     rw (no_float_if x.sale.prepaid, no_float_if (till_of x.sale.standing)) refl
@@ -82,8 +67,3 @@ no_float_site b unpaid connections =
       no_float_mapped (till_data s) tills (λ t. refl),
       no_float_mapped transaction_data unpaid no_float_transaction,
     ) refl
-
-pub no_float_report : (ps : List ProductEntry) (t : Totals) (shares : ℕ)
-    → has_float (report_data ps t shares) ≡ false
-no_float_report ps t shares =
-    rw (no_float_products ps t.products, no_float_mapped cleared_data t.tills (λ x. refl)) refl

@@ -16,7 +16,8 @@ use Rattle.site_base.specs.Members as numbered
 use Rattle.site_base.specs.Ranges.{is_between}
 use Rattle.site_base.specs.States.{state_number}
 use Rattle.written_site.specs.SiteState.{SiteState, view_point}
-use Rattle.site_json.specs.Figures.{figure, figure_if}
+use Rattle.day_report.specs.Figures.{figure}
+use Rattle.site_json.specs.Figures.{figure_if}
 
 -- the name of a state
 abbrev pub state_word : PointState → List ℕ

@@ -6,9 +6,9 @@ use Rattle.site_book.specs.declared.named_sale.NamedSale.{NamedSale}
 use Rattle.site_book.specs.Book.{Book, site_of_book}
 use Rattle.written_site.specs.ShiftFigures.{product_totals}
 use Rattle.written_site.specs.SiteState.{open_shift}
-use Rattle.site_json.specs.Figures.{figure, listed}
+use Rattle.day_report.specs.Figures.{figure, listed}
 use Rattle.site_json.specs.Points.{points_data}
-use Rattle.site_json.specs.Products.{products_data}
+use Rattle.day_report.specs.Products.{products_data}
 use Rattle.site_json.specs.Tills.{tills_data}
 use Rattle.site_json.specs.Transactions.{transactions_data}
 

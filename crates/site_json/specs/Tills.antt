@@ -3,7 +3,7 @@ use Rattle.std.specs.Prelude.{ℕ, List, codes, map}
 use Rattle.serde_json.specs.Data.{Data, boolean, object, member, no_members}
 use Rattle.written_site.specs.ShiftFigures.{cents_in, clears_in, tills}
 use Rattle.written_site.specs.SiteState.{SiteState, is_signed_on, open_shift}
-use Rattle.site_json.specs.Figures.{figure}
+use Rattle.day_report.specs.Figures.{figure}
 
 -- a till: whether it is signed on, and its clears in the open shift with their cents
 abbrev pub till_data : SiteState → ℕ → Data

@@ -5,7 +5,8 @@ use Rattle.site_base.specs.declared.state.Status.{Status}
 use Rattle.site_base.specs.declared.state.Status.TheVariants.{Payable, Locked, Cleared}
 use Rattle.transaction_buffer.specs.Sales.{status_of, till_of}
 use Rattle.site_book.specs.declared.named_sale.NamedSale.{NamedSale}
-use Rattle.site_json.specs.Figures.{figure, figure_if}
+use Rattle.day_report.specs.Figures.{figure}
+use Rattle.site_json.specs.Figures.{figure_if}
 
 -- the name of a status
 abbrev pub status_word : Status → List ℕ

@@ -5,15 +5,15 @@ ghost use Rattle.serde_json.specs.View.{view};
 ghost use Rattle.serde_json.specs.Written.{compact_text};
 ghost use Rattle.site_book.specs.Book.{site_of_book};
 ghost use Rattle.written_site.specs.ShiftFigures.{product_totals};
-ghost use Rattle.site_json.specs.Figures.{listed};
+ghost use Rattle.day_report.specs.Figures.{listed};
 ghost use Rattle.site_json.specs.Points.{points_data};
-ghost use Rattle.site_json.specs.Products.{products_data};
+ghost use Rattle.day_report.specs.Products.{products_data};
 ghost use Rattle.site_json.specs.SiteData.{site_data, whole_data};
 
 use crate::points::point_values;
-use crate::products::product_values;
 use crate::tills::till_values;
 use crate::transactions::transaction_values;
+use day_report::product_values;
 use serde_json::{Value, json};
 use site_base::NoMemory;
 use site_book::{NamedSale, SiteBook};

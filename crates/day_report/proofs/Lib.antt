@@ -1,0 +1,3 @@
+pub mod EachProduct
+pub mod JoinedTexts
+pub mod NoFloats

@@ -1,8 +1,0 @@
-use Rattle.std.proofs.Common.{◌≡◌, drop, map, max}
-use Rattle.sales_table.specs.Columns.{longest}
-use Rattle.sales_table.proofs.columns.Line.longest_figure.Given as goal
-
-abbrev pub invariant-loop-figure : goal.invariant-loop-figure
-invariant-loop-figure l =
-    max l.most (longest (map (λ f. f.items) (drop l.figure-index l.figure-items)))
-    ≡ longest l.self.figures

@@ -1,7 +1,0 @@
-use Rattle.std.proofs.Common.{◌≡◌, max, drop}
-use Rattle.sales_table.specs.Columns.{longest_title}
-use Rattle.sales_table.proofs.columns.longest_title.Given as goal
-
-abbrev pub invariant-loop-line : goal.invariant-loop-line
-invariant-loop-line l =
-    max l.most (longest_title (drop l.line-index l.lines)) ≡ longest_title l.lines

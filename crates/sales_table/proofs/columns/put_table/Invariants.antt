@@ -1,8 +1,0 @@
-use Rattle.std.proofs.Common.{◌≡◌, ◌++◌, drop, flat_map}
-use Rattle.sales_table.specs.Columns.{line_text}
-use Rattle.sales_table.proofs.columns.put_table.Given as goal
-
-abbrev pub invariant-loop-line : goal.invariant-loop-line
-invariant-loop-line l =
-    l.text.items ++ flat_map (line_text l.first l.width) (drop l.line-index l.lines)
-    ≡ l.fn.text.items ++ flat_map (line_text l.first l.width) l.lines
