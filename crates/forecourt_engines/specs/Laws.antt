@@ -5,7 +5,6 @@ use Rattle.app_message.specs.Stream.{Held}
 use Rattle.forecourt_engines.specs.declared.fault.TextFault.{TextFault}
 use Rattle.forecourt_engines.specs.declared.fault.TextFault.TheVariants.{TooLong}
 use Rattle.hex_lines.specs.declared.line_reading.TheConstants.{LINE_OCTETS}
-use Rattle.hex_lines.specs.Lines.{IsLine}
 use Rattle.forecourt_engines.specs.Answers.{Answerer}
 use Rattle.hex_lines.specs.Lines.{IsLine, kept_of}
 use Rattle.forecourt_engines.specs.Text.{State, effect, next_line, after, text_from}

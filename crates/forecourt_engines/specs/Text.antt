@@ -10,7 +10,6 @@ use Rattle.device_map.specs.Replies.{fault_message}
 use Rattle.forecourt_engines.specs.declared.fault.TextFault.{TextFault}
 use Rattle.forecourt_engines.specs.declared.fault.TextFault.TheVariants as faults
 use Rattle.hex_lines.specs.declared.line_reading.TheConstants.{LINE_OCTETS}
-use Rattle.hex_lines.specs.Lines.{is_skipped, kept_of, without_spaces}
 use Rattle.site_book.specs.Book.{Book}
 use Rattle.hex_lines.specs.Lines.{is_skipped, kept_of, line_of, without_spaces}
 use Rattle.forecourt_engines.specs.Answers.{Answerer, answers_to, after_messages}
