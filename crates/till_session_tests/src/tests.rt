@@ -2,7 +2,7 @@
 
 mod calls;
 mod decoding;
-mod devices;
+mod failing_devices;
 mod notices;
 mod noting;
 mod order;

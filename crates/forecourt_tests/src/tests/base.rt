@@ -1,5 +1,5 @@
 //! site_base: devices that fail, words, and allocations that fail.
 
-mod devices;
+mod failing_devices;
 mod out_of_memory;
 mod words;
