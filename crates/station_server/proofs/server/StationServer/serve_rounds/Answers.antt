@@ -18,8 +18,8 @@ returns-in_err-send_all g c =
     (reaches_then _ _ _ c.hear_before_sweep.ensures c.send_all.ensures.moves))
 
 -- connections were accepted at the round's end
-pub loop-preserved-then-self-2 : goal.loop-preserved-then-self-2
-loop-preserved-then-self-2 g c =
+pub loop-preserved-then-eq : goal.loop-preserved-then-eq
+loop-preserved-then-eq g c =
     let round = reaches_then _ _ _ c.hear_round.ensures
     (reaches_then _ _ _ c.hear_before_sweep.ensures c.send_all.ensures.moves) in
     let shown = c.serve_page.ensures (goes_further _ _ _ round c.loop.invariant.kept) in
