@@ -28,8 +28,10 @@ use Rattle.station.specs.Moves.{take_by, with_taken, with_turn, without_peer}
 use Rattle.station.specs.Peers.{peer_at}
 use Rattle.station.specs.Sessions.{Granted, Grants, Session, Turn, answer, answer_all}
 use Rattle.station.specs.Sessions.{answer_meaning}
-use Rattle.station.specs.Sessions.{answer_so, finish, full_grant, hear, is_read, outcome_at}
-use Rattle.station.specs.Sessions.{refuse_by, serve, take_messages, tell, tell_last, with_outcome}
+use Rattle.conversation.specs.Books.{outcome_at}
+use Rattle.station.specs.Sessions.{answer_so, finish, full_grant, hear, is_read}
+use Rattle.conversation.specs.Books.{with_outcome}
+use Rattle.station.specs.Sessions.{refuse_by, serve, take_messages, tell, tell_last}
 use Rattle.station.specs.Sessions.{end_session, no_memory, without_till}
 use Rattle.journal.proofs.Made.{Adds, adds_row, adds_same, adds_sign_off, adds_then}
 use Rattle.journal.proofs.Sent.{request_sends}

@@ -38,8 +38,10 @@ use Rattle.station.specs.Runs.{Arrives, Finishes, Leaves as Gone, Move, Says, Ta
 use Rattle.station.specs.Sessions.{Granted, Grants, Session, Turn, answer, answer_all}
 use Rattle.station.specs.Sessions.{answer_meaning, ask, end_session, finish, full_grant, hear}
 use Rattle.station.specs.Sessions.{is_read}
-use Rattle.station.specs.Sessions.{no_memory, outcome_at}
-use Rattle.station.specs.Sessions.{refuse_by, serve, take_messages, tell, tell_last, with_outcome}
+use Rattle.conversation.specs.Books.{outcome_at}
+use Rattle.station.specs.Sessions.{no_memory}
+use Rattle.conversation.specs.Books.{with_outcome}
+use Rattle.station.specs.Sessions.{refuse_by, serve, take_messages, tell, tell_last}
 use Rattle.station.specs.Sessions.{without_till}
 use Rattle.station.proofs.History.{arrived_book, freed_book, taken_book}
 use Rattle.station.proofs.Leaving.{may_sign_off}

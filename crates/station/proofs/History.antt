@@ -31,8 +31,9 @@ use Rattle.station.specs.Runs.{arrive, opening_station}
 use Rattle.station.specs.Sessions.{Granted, Grants, Session, Turn, answer, answer_all}
 use Rattle.station.specs.Sessions.{answer_meaning, end_session, finish, full_grant, hear, is_read}
 use Rattle.station.specs.Sessions.{no_memory}
-use Rattle.station.specs.Sessions.{outcome_at, refuse_by, take_messages, tell, tell_last}
-use Rattle.station.specs.Sessions.{with_outcome}
+use Rattle.conversation.specs.Books.{outcome_at}
+use Rattle.station.specs.Sessions.{refuse_by, take_messages, tell, tell_last}
+use Rattle.conversation.specs.Books.{with_outcome}
 use Rattle.station.specs.Sessions.{without_till}
 use Rattle.station.proofs.Courses.{heard-grows}
 use Rattle.station.proofs.Turns.{Grows, grows_none, grows_then, left-grows}

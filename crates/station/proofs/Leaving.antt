@@ -44,7 +44,8 @@ use Rattle.station.specs.Sessions.{Granted, Grants, Session, Turn, answer, answe
 use Rattle.station.specs.Sessions.{answer_meaning, end_session, full_grant, hear, no_memory}
 use Rattle.station.specs.Sessions.{refuse_by}
 use Rattle.station.specs.Sessions.{take_messages}
-use Rattle.station.specs.Sessions.{ask, end_by, finish, is_read, opening_session, outcome_at}
+use Rattle.conversation.specs.Books.{outcome_at}
+use Rattle.station.specs.Sessions.{ask, end_by, finish, is_read, opening_session}
 use Rattle.station.specs.Sessions.{with_text, serve, tell, tell_last, without_till}
 use Rattle.station.proofs.Courses.{other_key}
 use Rattle.station.proofs.Lives.{nobody_noticed}

@@ -40,8 +40,10 @@ use Rattle.station.specs.Sessions.{answer_meaning, answer_so, end_by, end_sessio
 use Rattle.station.specs.Sessions.{full_grant}
 use Rattle.station.specs.Sessions.{hear}
 use Rattle.station.specs.Sessions.{no_memory}
-use Rattle.station.specs.Sessions.{opening_text, outcome_at, refuse_by, serve, take_messages}
-use Rattle.station.specs.Sessions.{tell, tell_last, with_outcome}
+use Rattle.conversation.specs.Books.{outcome_at}
+use Rattle.station.specs.Sessions.{opening_text, refuse_by, serve, take_messages}
+use Rattle.conversation.specs.Books.{with_outcome}
+use Rattle.station.specs.Sessions.{tell, tell_last}
 use Rattle.station.specs.Stories.{AreAsked, Happening, asked_in, book_of, is_all_answered}
 use Rattle.station.specs.Stories.{is_whole, messages_in, refusal_by, rows_in, said_in, told_in}
 use Rattle.station.proofs.Quiet.{own_quiet}

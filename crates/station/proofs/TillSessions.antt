@@ -44,7 +44,8 @@ use Rattle.station.specs.Runs.{arrive, opening_station}
 use Rattle.station.specs.Sessions.{Granted, Grants, Session, Turn, answer, answer_all}
 use Rattle.station.specs.Sessions.{answer_meaning}
 use Rattle.station.specs.Sessions.{ask, end_by, end_session, finish, full_grant, hear, is_read}
-use Rattle.station.specs.Sessions.{no_memory, opening_session, outcome_at, refuse_by, serve}
+use Rattle.conversation.specs.Books.{outcome_at}
+use Rattle.station.specs.Sessions.{no_memory, opening_session, refuse_by, serve}
 use Rattle.station.specs.Sessions.{take_messages, tell, tell_last, with_text}
 use Rattle.station.specs.Sessions.{without_till}
 use Rattle.station.proofs.Courses.{other_key}

@@ -19,8 +19,10 @@ use Rattle.station.specs.declared.peer_end.PeerEnd.{PeerEnd}
 use Rattle.station.specs.Moves.{rows_since}
 use Rattle.station.specs.Peers.{with_notices}
 use Rattle.station.specs.Sessions.{Granted, Session, Turn, answer, answer_all, answer_meaning}
-use Rattle.station.specs.Sessions.{end_session, full_grant, outcome_at, tell, tell_last}
-use Rattle.station.specs.Sessions.{with_outcome, without_till}
+use Rattle.conversation.specs.Books.{outcome_at}
+use Rattle.station.specs.Sessions.{end_session, full_grant, tell, tell_last}
+use Rattle.conversation.specs.Books.{with_outcome}
+use Rattle.station.specs.Sessions.{without_till}
 use Rattle.station.proofs.Notices.{no_sign_off_change, with_notices-append, with_notices-none}
 use Rattle.station.proofs.Notices.{with_notices-unchanged}
 

@@ -23,7 +23,8 @@ use Rattle.peer_talk.specs.declared.fault.TalkFault.TheVariants as talk
 use Rattle.peer_talk.specs.declared.fault.TheConstants.{ORIGINATOR_CHANGED}
 use Rattle.peer_talk.specs.declared.talk.Meaning.{Meaning}
 use Rattle.peer_talk.specs.declared.talk.Meaning.TheVariants as meanings
-use Rattle.peer_talk.specs.Exchanges.{Outcome, row_made, signed_by}
+use Rattle.peer_talk.specs.Exchanges.{Outcome, signed_by}
+use Rattle.conversation.specs.Books.{outcome_at, with_outcome}
 use Rattle.peer_talk.specs.Talks.{TalkState, opening_talk}
 use Rattle.peer_talk.specs.Text.{left_over, meaning_at, number_text, outcome_text, peer_after}
 use Rattle.station.specs.declared.peer_end.PeerEnd.{PeerEnd}
@@ -88,16 +89,6 @@ pub record Granted : Type 0 where
 
 abbrev pub full_grant : Granted
 full_grant = record { row = true; text = true }
-
--- what a request is answered: there is no row where memory is wanting, or the book is full
-abbrev pub outcome_at : Bool → Book → Actor → Event → Outcome
-outcome_at false b actor event = Err norow.NoMemory
-outcome_at true b actor event =
-    if is_full b then Err norow.BookFull else Ok (book_reply b actor event)
-
--- the book with the row of a request that is answered so
-abbrev pub with_outcome : Actor → Event → Outcome → Book → Book
-with_outcome actor event outcome b = record b { rows = b.rows ++ row_made actor event outcome }
 
 -- the peer is owed these octets too
 abbrev pub with_text : List ℕ → Turn → Turn

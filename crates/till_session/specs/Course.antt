@@ -16,6 +16,8 @@ use Rattle.peer_talk.specs.Exchanges.{Asked, Outcome, row_made, rows_made, signe
 use Rattle.peer_talk.specs.Exchanges.{signed_on_after}
 use Rattle.peer_talk.specs.Talks.{GoesOn, IsCut, IsOver, IsOwn, TalkState}
 use Rattle.peer_talk.specs.Text.{outcome_text}
+use Rattle.conversation.specs.declared.said.Said.{Said}
+use Rattle.conversation.specs.declared.said.Said.TheVariants as says
 use Rattle.till_session.specs.declared.fault.SessionFault.{SessionFault}
 use Rattle.till_session.specs.declared.fault.SessionFault.TheVariants as faults
 use Rattle.till_session.specs.Counters.{is_the_one, owed_by}
@@ -50,23 +52,10 @@ abbrev pub asked_more : ℕ → List Asked → ℕ
 asked_more n [] = n
 asked_more n (a ∷ asked) = asked_more (one_more n) asked
 
--- what was written of a reply: all of it, unless the session ends early
-abbrev pub IsTold : Option SessionFault → Option (List ℕ) → Option (List ℕ) → List ℕ → Type 0
-IsTold None holds holds' text = Appends holds holds' text
-IsTold (Some fault) holds holds' text = AppendsFront holds holds' text
-
--- a request was asked once, and what was answered was written
-pub record AsksOnce (fault : Option SessionFault) (old new : TalkState) (actor : Actor)
-    (event : Event) (m : Telegram) (holds holds' : Option (List ℕ)) (rows rows' : List Row)
-    (owes owes' : ℕ → Bool) : Type 0 where
-  pub outcome : Outcome
-  pub told : IsTold fault holds holds' (outcome_text m outcome)
-  pub recorded : rows' ≡ rows ++ row_made actor event outcome
-  pub debt : (t : ℕ) → owes' t ≡ owed_by actor event outcome owes t
-  pub peer : new.peer ≡ old.peer
-  pub own : IsOwn old.on old.peer
-  pub signed : new.on ≡ signed_by actor event outcome old.on
-  pub counted : new.asked ≡ one_more old.asked
+-- how a session goes on behind what was said to a message, which was written
+abbrev pub end_with : Said → Option SessionFault
+end_with says.Another = Some (faults.Talk OriginatorChanged)
+end_with said = None
 
 -- Some messages were heard, some requests were asked, and this was said, which was written. The
 -- counter has the rows of these requests. Where it owed just the till that the session signed on,
