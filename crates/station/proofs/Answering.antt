@@ -123,7 +123,7 @@ refusal_told false text t others = left-told t.session.talk.on t.book others
 -- ---- a message, from what is said to it
 
 -- the session behind what is said to a message: without memory for that it ends
-abbrev said_so : Bool → Telegram → Said → Option (List ℕ) → Turn → Turn
+abbrev pub said_so : Bool → Telegram → Said → Option (List ℕ) → Turn → Turn
 said_so memory m says.Another before t =
     tell_last memory (number_text m ORIGINATOR_CHANGED ++ opening_text before m.from t.book)
     (ends.Talk talk.OriginatorChanged) t
@@ -151,7 +151,7 @@ no_opening None from b other = absurd cc
 no_opening (Some node) from b other = refl
 
 -- the turn of a peer whose message this is said to, at this book
-abbrev heard_turn : Book → Peer → List ℕ → Said → Turn
+abbrev pub heard_turn : Book → Peer → List ℕ → Said → Turn
 heard_turn b p from said =
     record { book = b; session = record (session_of p) { talk = talk_after from said p.talk } }
 
