@@ -87,7 +87,7 @@ said-more peer (Speaks m asked ∷ story) h =
     (said_in (peer_in q story) (h ∷ [])))
 said-more peer (Passes r ∷ story) h = said-more peer story h
 
-signed-append : (on : Option ℕ) (a b : List Asked)
+pub signed-append : (on : Option ℕ) (a b : List Asked)
     → signed_on_after on (a ++ b) ≡ signed_on_after (signed_on_after on a) b
 signed-append on [] b = refl
 signed-append on (x ∷ a) b = signed-append (signed_by x.actor x.event x.outcome on) a b
