@@ -10,13 +10,11 @@ use Rattle.site_base.specs.declared.event.Event.TheVariants as events
 use Rattle.devices.specs.Devices.{one_more}
 use Rattle.site_base.specs.Events.{point_named}
 use Rattle.app_message.specs.declared.fault.StreamFault.{StreamFault}
-use Rattle.app_message.specs.Spelling.{spelling}
 use Rattle.app_message.specs.Stream.{Held, fed_by, held_part}
 use Rattle.app_message.specs.Telegram.{Telegram}
 use Rattle.device_map.specs.declared.fault.MapFault.{MapFault}
 use Rattle.device_map.specs.Changes.{change_by}
 use Rattle.device_map.specs.Faults.{map_number}
-use Rattle.device_map.specs.Replies.{fault_message}
 use Rattle.site_book.specs.Book.{Book}
 use Rattle.peer_talk.specs.declared.fault.TalkFault.TheVariants as talk
 use Rattle.peer_talk.specs.declared.fault.TheConstants.{ORIGINATOR_CHANGED}
@@ -30,11 +28,11 @@ use Rattle.station.specs.declared.peer.Peer.{Peer}
 use Rattle.station.specs.declared.peer_end.PeerEnd.{PeerEnd}
 use Rattle.station.specs.declared.peer_end.PeerEnd.TheVariants as ends
 use Rattle.station.specs.Hearing.{Answers, AnswersAll, AnswersRequest, Hears, turn_of}
-use Rattle.station.specs.Moves.{StationState, hear_from, rows_since, with_octets, with_turn}
+use Rattle.station.specs.Moves.{StationState, rows_since, with_octets}
 use Rattle.station.specs.Papers.{IsChangeTo}
-use Rattle.station.specs.Peers.{peer_at, with_notices}
+use Rattle.station.specs.Peers.{with_notices}
 use Rattle.station.specs.PeerViews.{session_of}
-use Rattle.station.specs.Reads.{is_read_at, is_read_of}
+use Rattle.station.specs.Reads.{is_read_at}
 use Rattle.station.specs.Sessions.{Granted, Grants, Session, Turn, all_granted, answer}
 use Rattle.station.specs.Sessions.{answer_all, answer_meaning, ask, end_session, full_grant, hear}
 use Rattle.station.specs.Sessions.{no_memory, opening_text, outcome_at, with_text, refuse_by, serve}

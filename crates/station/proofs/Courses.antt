@@ -22,7 +22,7 @@ use Rattle.station.specs.Reads.{is_read_at, owed_at}
 use Rattle.station.specs.Sessions.{Grants, Session, Turn, finish, hear, is_read, opening_session}
 use Rattle.station.specs.Stories.{IsTold, asked_in, is_all_answered, is_whole, messages_in}
 use Rattle.station.specs.Stories.{refusal_by, rows_in, said_in, told_in}
-use Rattle.station.proofs.Keeping.{Leads, after_input, key_of, moved, turn_at}
+use Rattle.station.proofs.Keeping.{Leads, after_input, key_of, moved_keeps, turn_at}
 use Rattle.station.proofs.Lives.{InCourse, finishes, hears, rows_come}
 use Rattle.station.proofs.Peers.{other_key, peer_at-map, peer_at-other, peer_at-same}
 use Rattle.station.proofs.Stories.{notices_are_due}
@@ -234,7 +234,7 @@ moves c before had sent k m s stays seen = by_key (key_of m == k) refl
     by_key false is =
         let other = other_key (key_of m) k is in
         rw (untaken k m s is, unheard k m s is, append-nil had, append-nil sent)
-        (moved (IsSeen c before had sent k) m s
+        (moved_keeps (IsSeen c before had sent k) m s
         (other_leads c before had sent k (key_of m) s other seen))
 
 -- ---- what it is told

@@ -1,9 +1,8 @@
--- What a session keeps, whatever is heard of its peer, and where a move leads the station: one walk
--- over the machine for every law.
+-- One walk over the station's machine for every law.
 --
--- A law of the book shows that a row keeps it (`books_keep`), one of a session's turns four steps
--- (`Keeps`), one of every session three facts beside (`EachKeeps`), and any other law of the station
--- five (`Leads`).
+-- A law of the book shows that a row keeps it (`books_keep`), a law of a session's turns four steps
+-- (`Keeps`, `heard_keeps`), a law of every session three facts beside (`EachKeeps`, `each_keep`),
+-- and any other law of the station five cases of a move (`Leads`, `moved_keeps`).
 use Rattle.std.proofs.Common.{◌≡◌, ℕ, Bool, true, false, List, [], ◌∷◌, ◌++◌, Option, Some, None}
 use Rattle.std.proofs.Common.{Ok, Err, drop, refl, ap, sym, subst, ◌∙◌, append-nil}
 use Rattle.std.specs.Prelude.{◌&&◌, if◌then◌else◌, is_none, length, nat_lt, option_map}
@@ -39,13 +38,14 @@ use Rattle.station.specs.Runs.{arrive}
 use Rattle.station.specs.Sessions.{Granted, Grants, Session, Turn, answer, answer_all}
 use Rattle.station.specs.Sessions.{answer_meaning, ask, end_by, end_session, finish, full_grant}
 use Rattle.station.specs.Sessions.{hear, is_read, no_memory, opening_session, outcome_at}
-use Rattle.station.specs.Sessions.{refuse_by, serve, take_messages, tell, tell_last, with_outcome, with_text}
-use Rattle.station.specs.Sessions.{without_till}
+use Rattle.station.specs.Sessions.{refuse_by, serve, take_messages, tell, tell_last, with_outcome}
+use Rattle.station.specs.Sessions.{with_text, without_till}
 use Rattle.station.proofs.Notices.{nobody_noticed}
 use Rattle.station.proofs.Peers.{at_slot, peer_at-map, peer_at-same}
 
 -- ---- case by case
 
+-- none lasts that has ended
 pub ended_lasts : (x : Session) (end : PeerEnd) → x.end ≡ Some end → x.end ≡ None → ⊥
 ended_lasts x end over lasts =
     let no : Some end ≡ None = sym over ∙ lasts in
@@ -104,8 +104,8 @@ by_memory P g piece t taken lost = by_piece g.piece
 
 -- ---- what a session keeps
 
--- A session keeps P while it lasts: as it begins to serve an originator, as a request of the one
--- that it serves is answered, as it is told octets, and as it ends.
+-- A session that lasts keeps P: as it begins to serve an originator, as a request of the one that
+-- it serves is answered, as it is told octets, and as it ends.
 pub record Keeps (P : Turn → Type 0) : Type 0 where
   pub serves : (from : List ℕ) (t : Turn) → t.session.end ≡ None → P t → P (serve from t)
   pub asks : (memory : Bool) (actor : Actor) (event : Event) (t : Turn) → t.session.end ≡ None
@@ -119,11 +119,12 @@ pub data Input : Type 0 where
   Piece : (memory : Grants) (octets : List ℕ) → Input
   NoMore : Input
 
+-- a session has heard it
 abbrev pub after_input : Input → Turn → Turn
 after_input (Piece memory octets) t = hear memory octets t
 after_input NoMore t = finish t
 
--- the turn with other octets of a message to come
+-- a session that holds these octets of a message to come
 abbrev pub holding : Held → Turn → Turn
 holding h t = record t { session = record t.session { held = h } }
 
@@ -169,21 +170,22 @@ module _ {P : Turn → Type 0} (keeps : Keeps P) where
       by_fault P memory fault t (λ none. p) (λ f some lasts. last_keeps memory _ _ t lasts p)
       (λ end over. p)
 
-  -- whatever comes of its peer, a session that lasts keeps P
-  pub input_keeps : (input : Input) (t : Turn) → t.session.end ≡ None
+  -- whatever comes of its peer
+  pub heard_keeps : (input : Input) (t : Turn) → t.session.end ≡ None
       → ((h : Held) → P (holding h t)) → P (after_input input t)
-  input_keeps (Piece g piece) t lasts holds =
+  heard_keeps (Piece g piece) t lasts holds =
       let fed = fed_by t.session.held piece in
       let start = holding (held_part fed) t in
       by_memory P g piece t
       (refused_keeps g.refusal fed.fault (answer_all g.messages fed.messages start)
       (all_keep g.messages fed.messages start (holds (held_part fed))))
       (keeps.ends no_memory t lasts (holds t.session.held))
-  input_keeps NoMore t lasts holds =
+  heard_keeps NoMore t lasts holds =
       keeps.ends (end_by (left_over t.session.held.rest)) t lasts (holds t.session.held)
 
 -- ---- where a move leads
 
+-- whose move it is
 abbrev pub key_of : Move → ℕ
 key_of (Arrives k) = k
 key_of (Says memory k octets) = k
@@ -191,15 +193,16 @@ key_of (Takes k n) = k
 key_of (Finishes k) = k
 key_of (Leaves k) = k
 
+-- a session at the station's book
 abbrev pub turn_at : StationState → Session → Turn
 turn_at s x = record { book = s.book; session = x }
 
+-- this session has the key, or nobody
 abbrev pub with_slot : ℕ → Option Session → StationState → StationState
 with_slot k y s = record s { peers = with_peer k y s.peers }
 
--- Whatever the move of key k, Q holds of the station that it leads to: of the one that was, where
--- nothing changes; where a peer comes; behind the turn of a session that lasts; where octets are
--- taken; and where a session that has ended leaves its slot.
+-- Q holds wherever a move of key k leads: where nothing changes, where a peer comes, behind a turn of
+-- a session that lasts, where octets are taken, and where a session that has ended is gone.
 pub record Leads (Q : StationState → Type 0) (k : ℕ) (s : StationState) : Type 0 where
   pub stays : Q s
   pub comes : peer_at s.peers k ≡ None → Q (with_arrival k s)
@@ -210,6 +213,7 @@ pub record Leads (Q : StationState → Type 0) (k : ℕ) (s : StationState) : Ty
   pub leaves : (later : StationState) (x : Session) → peer_at later.peers k ≡ Some x
       → is_none x.end ≡ false → Q later → Q (with_slot k None later)
 
+-- a session that is read from lasts
 pub read_lasts : (x : Session) → is_read x ≡ true → x.end ≡ None
 read_lasts x read = by_end x.end (nat_lt (length x.owed) READ_LIMIT) read
   where
@@ -266,26 +270,28 @@ module _ {Q : StationState → Type 0} (k : ℕ) (s : StationState) (leads : Lea
   leave None later there over q = q
   leave (Some x) later there over q = leads.leaves later x there over q
 
-pub moved : (Q : StationState → Type 0) (m : Move) (s : StationState) → Leads Q (key_of m) s
+pub moved_keeps : (Q : StationState → Type 0) (m : Move) (s : StationState) → Leads Q (key_of m) s
     → Q (after_move m s)
-moved Q (Arrives k) s leads = come k s leads (peer_at s.peers k) refl
-moved Q (Says memory k octets) s leads = say k s leads memory octets (peer_at s.peers k) refl
-moved Q (Takes k n) s leads = take k s leads n (peer_at s.peers k) refl
-moved Q (Finishes k) s leads = end k s leads (peer_at s.peers k) refl
-moved Q (Leaves k) s leads =
+moved_keeps Q (Arrives k) s leads = come k s leads (peer_at s.peers k) refl
+moved_keeps Q (Says memory k octets) s leads = say k s leads memory octets (peer_at s.peers k) refl
+moved_keeps Q (Takes k n) s leads = take k s leads n (peer_at s.peers k) refl
+moved_keeps Q (Finishes k) s leads = end k s leads (peer_at s.peers k) refl
+moved_keeps Q (Leaves k) s leads =
     leave k s leads (peer_at (with_end k s).peers k) (with_end k s) refl
     (finished_over k (peer_at s.peers k) s refl) (end k s leads (peer_at s.peers k) refl)
 
+-- what any move keeps
 pub moves_keep : (Q : StationState → Type 0)
     → ((k : ℕ) (s : StationState) → Q s → Leads Q k s)
     → (ms : List Move) (s : StationState) → Q s → Q (after ms s)
 moves_keep Q leads [] s q = q
 moves_keep Q leads (m ∷ ms) s q =
-    moves_keep Q leads ms (after_move m s) (moved Q m s (leads (key_of m) s q))
+    moves_keep Q leads ms (after_move m s) (moved_keeps Q m s (leads (key_of m) s q))
 
 -- ---- a law of the book
 
--- A book gets rows alone, each with the reply of the written step: B is kept, if a row keeps it.
+-- The book gets nothing but rows, each with the reply of the written step: where a row keeps B, all
+-- moves do.
 module _ (B : Book → Type 0)
     (row_keeps : (b : Book) (actor : Actor) (event : Event) → B b
     → B (with_row_of b actor event)) where
@@ -327,20 +333,23 @@ module _ (B : Book → Type 0)
         stays = kept;
         comes = λ none. kept;
         turns = λ input x there lasts.
-            input_keeps rows_keep input (turn_at s x) lasts (λ h. kept);
+            heard_keeps rows_keep input (turn_at s x) lasts (λ h. kept);
         takes = λ n x there. kept;
         leaves = λ later x there over still. still;
       })
 
 -- ---- a law of each session
 
+-- S holds of whoever is there
 abbrev pub HoldsAt : (Session → Type 0) → Option Session → Type 0
 HoldsAt S None = Unit {0}
 HoldsAt S (Some x) = S x
 
+-- .. of every session
 abbrev pub EachHolds : (Session → Type 0) → StationState → Type 0
 EachHolds S s = (k : ℕ) → HoldsAt S (peer_at s.peers k)
 
+-- S holds of a session that has heard nothing, and of every later one
 pub record EachKeeps (S : Session → Type 0) : Type 0 where
   pub opens : S opening_session
   pub holds : (h : Held) (x : Session) → S x → S (record x { held = h })
@@ -388,7 +397,7 @@ module _ {S : Session → Type 0} (keeps : EachKeeps S) where
         let rows = rows_since s.book t.book in
         at_slot (HoldsAt S) k j (Some t.session) (with_notices rows s.peers)
         (λ same.
-        input_keeps keeps.turns input (turn_at s x) lasts
+        heard_keeps keeps.turns input (turn_at s x) lasts
         (λ h. keeps.holds h x (subst (HoldsAt S) there (each k))))
         (λ other.
         subst (HoldsAt S) (sym (peer_at-map (option_map (tell_rows rows)) j s.peers refl))
@@ -401,7 +410,7 @@ module _ {S : Session → Type 0} (keeps : EachKeeps S) where
   }
 
   pub each_moved : (m : Move) (s : StationState) → EachHolds S s → EachHolds S (after_move m s)
-  each_moved m s each = moved (EachHolds S) m s (each_leads (key_of m) s each)
+  each_moved m s each = moved_keeps (EachHolds S) m s (each_leads (key_of m) s each)
 
   pub each_keep : (ms : List Move) (s : StationState) → EachHolds S s → EachHolds S (after ms s)
   each_keep = moves_keep (EachHolds S) each_leads

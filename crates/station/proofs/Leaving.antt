@@ -32,7 +32,7 @@ use Rattle.station.specs.Runs.{Move, after, after_move, opening_station}
 use Rattle.station.specs.Sessions.{Session, Turn, ask, end_session, finish, opening_session}
 use Rattle.station.specs.Sessions.{outcome_at, serve, with_text, without_till}
 use Rattle.station.proofs.Keeping.{EachHolds, EachKeeps, HoldsAt, Keeps, Leads, after_input}
-use Rattle.station.proofs.Keeping.{each_keep, holding, input_keeps, key_of, moved, turn_at}
+use Rattle.station.proofs.Keeping.{each_keep, holding, heard_keeps, key_of, moved_keeps, turn_at}
 use Rattle.station.proofs.Notices.{nobody_noticed}
 use Rattle.station.proofs.Peers.{at_slot, peer_at-map}
 use Rattle.station.proofs.Quiet.{other_subnet, where_goes}
@@ -205,7 +205,7 @@ ends_lead j k s x there own lasts = record {
       let rows = rows_since s.book t.book in
       at_slot (HaveLeft t.book) k j (Some t.session) (with_notices rows s.peers)
       (λ same.
-      input_keeps till_is_left input (turn_at s z) ongoing
+      heard_keeps till_is_left input (turn_at s z) ongoing
       (λ h. lasting_left (holding h (turn_at s z)) ongoing))
       (λ other.
       subst (HaveLeft t.book)
@@ -229,7 +229,7 @@ pub ends_leave : (m : Move) (s : StationState) (j : ℕ) (x y : Session) (end : 
     → is_signed_on (site_of_book (after_move m s).book) u ≡ false
 ends_leave m s j x y end u own there lasts is =
     subst (HaveLeft (after_move m s).book) is
-    (moved (λ later. HaveLeft later.book (peer_at later.peers j)) m s
+    (moved_keeps (λ later. HaveLeft later.book (peer_at later.peers j)) m s
     (ends_lead j (key_of m) s x there (own_at s j x own there) lasts)) end u
 
 pub freed_book : (k : ℕ) (slot : Option Session) (s : StationState) → (free k slot s).book ≡ s.book

@@ -2,7 +2,7 @@
 use Rattle.std.proofs.Common.{◌≡◌, ◌⊎◌, inl, inr, ℕ, Bool, true, false, List, [], ◌∷◌, ◌++◌, map}
 use Rattle.std.proofs.Common.{Option, Some, None, Ok, Err, refl, ap, sym, subst, ◌∙◌, append_assoc}
 use Rattle.std.proofs.Common.{append-nil}
-use Rattle.std.specs.Prelude.{if◌then◌else◌, is_none, length, nat_lt}
+use Rattle.std.specs.Prelude.{if◌then◌else◌, length, nat_lt}
 use Rattle.site_base.specs.declared.actor.Actor.{Actor}
 use Rattle.site_base.specs.declared.event.Event.{Event}
 use Rattle.site_base.specs.declared.row.Row.{Row}
@@ -14,7 +14,6 @@ use Rattle.app_message.specs.Stream.{with_messages}
 use Rattle.app_message.specs.Telegram.{Telegram}
 use Rattle.app_message.proofs.Cutting.{any_cut}
 use Rattle.device_map.specs.declared.fault.MapFault.{MapFault}
-use Rattle.device_map.specs.Changes.{change_of}
 use Rattle.device_map.specs.Faults.{map_number}
 use Rattle.device_map.specs.Replies.{fault_message}
 use Rattle.device_map.specs.Requests.{request_at}
@@ -33,7 +32,7 @@ use Rattle.peer_talk.proofs.Courses.{another_over, answered_on, over_then, refus
 use Rattle.station.specs.declared.peer_end.PeerEnd.{PeerEnd}
 use Rattle.station.specs.declared.peer_end.PeerEnd.TheVariants as ends
 use Rattle.station.specs.declared.sizes.TheConstants.{NOTICE_LIMIT}
-use Rattle.station.specs.Notices.{notice_at, notices_of, octets_of, row_notice}
+use Rattle.station.specs.Notices.{notices_of, octets_of, row_notice}
 use Rattle.station.specs.Peers.{listener, tell_row, tell_rows, tell_notice}
 use Rattle.station.specs.Sessions.{Granted, Grants, Session, Turn, answer, answer_all}
 use Rattle.station.specs.Sessions.{answer_meaning, answer_so, end_by, end_session, finish, hear}

@@ -30,8 +30,8 @@ use Rattle.station.specs.Peers.{tell_rows, peer_at, with_notices}
 use Rattle.station.specs.Runs.{Move, after, after_move, opening_station}
 use Rattle.station.specs.Sessions.{Session, Turn, ask, end_session, opening_session, outcome_at}
 use Rattle.station.specs.Sessions.{without_till}
-use Rattle.station.proofs.Keeping.{Keeps, Leads, after_input, each_moved, input_keeps, key_of}
-use Rattle.station.proofs.Keeping.{moved, turn_at, with_slot}
+use Rattle.station.proofs.Keeping.{Keeps, Leads, after_input, each_moved, heard_keeps, key_of}
+use Rattle.station.proofs.Keeping.{moved_keeps, turn_at, with_slot}
 use Rattle.station.proofs.Leaving.{AreOwn, IsOwnSession, each_own, own_at, own_kept, signed_off}
 use Rattle.station.proofs.Leaving.{till_unended}
 use Rattle.station.proofs.Peers.{other_key, peer_at-map, peer_at-other, peer_at-same}
@@ -274,7 +274,7 @@ have_lead k s own all = record {
       sym none ∙ ap (peer_at s.peers) same ∙ h.there in cc));
   turns = λ input x there lasts.
       let t = turn_at s x in
-      let signed = input_keeps (signed_for s.book x.talk.on) input t lasts
+      let signed = heard_keeps (signed_for s.book x.talk.on) input t lasts
       (λ h. (own_at s k x own there, start_for t lasts)) in
       turn_have k (after_input input t) s x there own signed.1 all;
   takes = λ n x there u signed.
@@ -303,7 +303,7 @@ moves_have : (ms : List Move) (s : StationState) → AreOwn s → TillsHave s �
 moves_have [] s own all = all
 moves_have (m ∷ ms) s own all =
     moves_have ms (after_move m s) (each_moved each_own m s own)
-    (moved TillsHave m s (have_lead (key_of m) s own all))
+    (moved_keeps TillsHave m s (have_lead (key_of m) s own all))
 
 pub tills_have : (b : Book) (ms : List Move)
     → ((u : ℕ) → is_signed_on (site_of_book b) u ≡ false)

@@ -2,7 +2,7 @@
 use Rattle.std.proofs.Common.{◌≡◌, ℕ, Bool, true, false, List, [], ◌∷◌, ◌++◌, length, drop}
 use Rattle.std.proofs.Common.{Option, Some, None, refl, ap, sym, ◌∙◌, append_assoc, append-nil}
 use Rattle.std.proofs.Common.{arith}
-use Rattle.std.specs.Prelude.{if◌then◌else◌, is_none}
+use Rattle.std.specs.Prelude.{if◌then◌else◌}
 use Rattle.site_base.specs.declared.actor.Actor.{Actor}
 use Rattle.site_base.specs.declared.actor.Actor.TheVariants.{Till}
 use Rattle.site_base.specs.declared.event.Event.{Event}
@@ -18,7 +18,7 @@ use Rattle.station.specs.Peers.{with_notices}
 use Rattle.station.specs.Sessions.{Granted, Session, Turn, answer, answer_all, refuse_by}
 use Rattle.station.specs.Sessions.{with_outcome, without_till}
 use Rattle.station.proofs.Keeping.{Input, Keeps, after_input, all_keep, answered_keeps}
-use Rattle.station.proofs.Keeping.{input_keeps, left_keeps, refused_keeps, rows_keep}
+use Rattle.station.proofs.Keeping.{heard_keeps, left_keeps, refused_keeps, rows_keep}
 use Rattle.station.proofs.Notices.{no_sign_off_change, with_notices-append, with_notices-none}
 use Rattle.station.proofs.Notices.{with_notices-unchanged}
 
@@ -123,7 +123,7 @@ refused-grows memory fault t =
 pub input-grows : (input : Input) (t : Turn) → t.session.end ≡ None
     → Grows t.book (after_input input t).book
 input-grows input t lasts =
-    input_keeps (turns_grow t.book) input t lasts (λ h. grows_none t.book)
+    heard_keeps (turns_grow t.book) input t lasts (λ h. grows_none t.book)
 
 -- ---- messages one after another
 
