@@ -1,8 +1,7 @@
 -- The peers of a station as a list.
-use Rattle.std.proofs.Common.{◌≡◌, ◌≢◌, ℕ, zero, suc, ◌<◌, ◌==◌, Bool, true, false, List, []}
-use Rattle.std.proofs.Common.{◌∷◌, length, map, Option, None, refl, ap, sym, subst, ◌∙◌, arith}
+use Rattle.std.proofs.Common.{◌≡◌, ◌≢◌, ℕ, zero, suc, ◌==◌, Bool, true, false, List, []}
+use Rattle.std.proofs.Common.{◌∷◌, map, Option, None, refl, ap, sym, subst, ◌∙◌}
 use Rattle.std.proofs.lemmas.Bool.{eq-eqb}
-use Rattle.std.proofs.Math.ListN.{set}
 use Rattle.device_map.proofs.Results.{equal}
 use Rattle.station.specs.Peers.{peer_at, with_peer}
 use Rattle.station.specs.Sessions.{Session}
@@ -66,11 +65,3 @@ pub peer_at-map : (f : Option Session → Option Session) (k : ℕ) (peers : Lis
 peer_at-map f k [] none = sym none
 peer_at-map f zero (p ∷ peers) none = refl
 peer_at-map f (suc k) (p ∷ peers) none = peer_at-map f k peers none
-
--- a key that the list has
-pub with_peer-set : (k : ℕ) (x : Option Session) (peers : List (Option Session))
-    → k < length peers → with_peer k x peers ≡ set peers k x
-with_peer-set k x [] within = absurd (omega arith)
-with_peer-set zero x (p ∷ peers) within = refl
-with_peer-set (suc k) x (p ∷ peers) within =
-    ap (λ ps. p ∷ ps) (with_peer-set k x peers (omega arith))
