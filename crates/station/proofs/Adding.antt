@@ -1,9 +1,10 @@
 -- Which rows a move adds: those of the requests that were heard with it, in their order, and the
 -- sign-off of a till that was left.
-use Rattle.std.proofs.Common.{◌≡◌, inl, inr, ℕ, Bool, true, false, List, [], ◌∷◌, ◌++◌}
-use Rattle.std.proofs.Common.{Option, Some, None, Ok, Err, refl, ap, sym, subst, ◌∙◌, append_assoc}
+use Rattle.std.proofs.Common.{◌≡◌, ◌⊎◌, inl, inr, ℕ, Bool, true, false, List, [], ◌∷◌, ◌++◌, map}
+use Rattle.std.proofs.Common.{Option, Some, None, refl, ap, sym, subst, ◌∙◌, append_assoc}
 use Rattle.std.proofs.Common.{append-nil}
 use Rattle.std.specs.Prelude.{if◌then◌else◌, is_none}
+use Rattle.std.proofs.lemmas.List.{map-append}
 use Rattle.site_base.specs.declared.actor.Actor.TheVariants.{Till}
 use Rattle.site_base.specs.declared.answer.Answer.TheVariants.{Done}
 use Rattle.site_base.specs.declared.event.Event.TheVariants.{SignOff}
@@ -11,41 +12,34 @@ use Rattle.site_base.specs.declared.refusal.Refusal.{Refusal}
 use Rattle.site_base.specs.declared.row.Row.{Row}
 use Rattle.site_base.specs.Checks.{reply_or}
 use Rattle.app_message.specs.declared.fault.StreamFault.{StreamFault}
-use Rattle.app_message.specs.Spelling.{spelling}
 use Rattle.app_message.specs.Stream.{fed_by, held_part}
 use Rattle.app_message.specs.Telegram.{Telegram}
-use Rattle.device_map.specs.declared.fault.MapFault.{MapFault}
-use Rattle.device_map.specs.Replies.{fault_message}
-use Rattle.device_map.specs.Requests.{request_at}
 use Rattle.site_book.specs.Book.{Book, next_row, site_of_book, with_row_of}
 use Rattle.written_site.specs.SiteState.{is_signed_on}
-use Rattle.peer_talk.specs.declared.fault.TalkFault.TheVariants as talk
 use Rattle.peer_talk.specs.declared.talk.Meaning.{Meaning}
 use Rattle.peer_talk.specs.declared.talk.Meaning.TheVariants as meanings
 use Rattle.peer_talk.specs.Exchanges.{Asked, request_asked, row_made, rows_made, sign_off_row}
 use Rattle.peer_talk.specs.Exchanges.{signed_by, signed_on_after}
-use Rattle.peer_talk.specs.Text.{is_another, meaning_at, peer_after, requests_in}
+use Rattle.peer_talk.specs.Talks.{TalkState}
+use Rattle.peer_talk.specs.Text.{meaning_at, peer_after, requests_in}
 use Rattle.peer_talk.proofs.Speakers.{fault_meant, request_meant}
 use Rattle.station.specs.declared.peer_end.PeerEnd.{PeerEnd}
-use Rattle.station.specs.declared.peer_end.PeerEnd.TheVariants as ends
 use Rattle.station.specs.Adding.{AddsRequests, AddsSignOff, IsLeaving, is_silent, till_left}
 use Rattle.station.specs.Adding.{till_of}
-use Rattle.station.specs.Moves.{StationState, finish_at, hear_from, with_end, with_octets}
+use Rattle.station.specs.Moves.{StationState, finish_at, hear_from, take_by, with_end, with_octets}
 use Rattle.station.specs.Moves.{with_turn}
 use Rattle.station.specs.Peers.{peer_at}
 use Rattle.station.specs.Reads.{is_read_at, is_read_of}
 use Rattle.station.specs.Runs.{Arrives, Finishes, Leaves as Gone, Move, Says, Takes, after_move}
-use Rattle.station.specs.Sessions.{Granted, Grants, Session, Turn, answer, answer_all}
-use Rattle.station.specs.Sessions.{answer_meaning, ask, end_session, finish, full_grant, hear}
-use Rattle.station.specs.Sessions.{is_read}
+use Rattle.station.specs.Runs.{arrive}
+use Rattle.station.specs.Sessions.{Granted, Grants, Session, Turn, answer, answer_meaning, ask}
 use Rattle.conversation.specs.Books.{outcome_at}
-use Rattle.station.specs.Sessions.{no_memory}
-use Rattle.conversation.specs.Books.{with_outcome}
-use Rattle.station.specs.Sessions.{refuse_by, serve, take_messages, tell, tell_last}
-use Rattle.station.specs.Sessions.{without_till}
-use Rattle.station.proofs.History.{arrived_book, freed_book, taken_book}
-use Rattle.station.proofs.Leaving.{may_sign_off}
-use Rattle.station.proofs.Lives.{all_stay}
+use Rattle.station.specs.Sessions.{end_session, finish, hear, is_read, no_memory}
+use Rattle.station.specs.Sessions.{refuse_by, serve, tell, tell_last, with_text, without_till}
+use Rattle.station.proofs.Keeping.{by_fault, by_lasting, by_memory, by_message, ended_lasts}
+use Rattle.station.proofs.Keeping.{holding, read_lasts}
+use Rattle.station.proofs.Leaving.{freed_book, may_sign_off}
+use Rattle.station.proofs.Stories.{signed-append}
 
 -- ---- a till that is left
 
@@ -86,224 +80,140 @@ leaves_till (Some t) b = by_test (is_signed_on (site_of_book b) t) refl
 
 -- ---- messages
 
--- these messages were heard, and led to this turn; nothing was left while the session lasts
-record Adds (peer : Option (List ℕ)) (on : Option ℕ) (ms : List Telegram) (b : Book) (u : Turn) :
-    Type 0 where
-  adds : AddsRequests peer on ms b u.book
-  signed : u.session.talk.on ≡ signed_on_after on adds.asked
-  still : u.session.end ≡ None → adds.left ≡ []
+rows_made-more : (asked : List Asked) (a : Asked)
+    → rows_made (asked ++ a ∷ []) ≡ rows_made asked ++ row_made a.actor a.event a.outcome
+rows_made-more [] a = append-nil (row_made a.actor a.event a.outcome)
+rows_made-more (b ∷ asked) a =
+    ap (λ rs. row_made b.actor b.event b.outcome ++ rs) (rows_made-more asked a)
+    ∙ sym (append_assoc (row_made b.actor b.event b.outcome) (rows_made asked)
+    (row_made a.actor a.event a.outcome))
 
--- nothing was asked
-unasked : (peer : Option (List ℕ)) (on : Option ℕ) (ms : List Telegram) (b : Book) (u : Turn)
-    → u.session.talk.on ≡ on → (l : Leaves on b u.book) → (u.session.end ≡ None → l.left ≡ [])
-    → Adds peer on ms b u
-unasked peer on ms b u signed l still = record {
-  adds = record {
-    asked = [];
+-- a session that served this peer, and was signed on as this till, began at this book to hear these
+-- messages
+module _ (peer : Option (List ℕ)) (on : Option ℕ) (all : List Telegram) (old : Book) where
+  -- it lasts: these requests were asked, and their rows added; these messages are to come
+  record IsAsking (ms : List Telegram) (b : Book) (talked : TalkState) : Type 0 where
+    asked : List Asked
+    rows : b.rows ≡ old.rows ++ rows_made asked
+    requests : requests_in peer all ≡ map request_asked asked ++ requests_in talked.peer ms
+    signed : talked.on ≡ signed_on_after on asked
+
+  abbrev HasEnded : Turn → Type 0
+  HasEnded t = (end : PeerEnd) × (t.session.end ≡ Some end) × AddsRequests peer on all old t.book
+
+  abbrev Asks : List Telegram → Turn → Type 0
+  Asks ms t = ((t.session.end ≡ None) × IsAsking ms t.book t.session.talk) ⊎ HasEnded t
+
+  -- the session's end, behind what it asked
+  stops : (ms : List Telegram) (b b' : Book) (talked : TalkState) → IsAsking ms b talked
+      → Leaves talked.on b b' → AddsRequests peer on all old b'
+  stops ms b b' talked a l = record {
+    asked = a.asked;
     left = l.left;
-    leaving = l.leaving;
-    unasked = requests_in peer ms;
-    rows = l.rows ∙ ap (λ rs. rs ++ l.left) (sym (append-nil b.rows));
-    requests = refl;
-  };
-  signed = signed;
-  still = still;
-}
+    leaving = subst (λ o. IsLeaving o l.left) a.signed l.leaving;
+    unasked = requests_in talked.peer ms;
+    rows = l.rows ∙ ap (λ rs. rs ++ l.left) a.rows;
+    requests = a.requests;
+  }
 
-not_over : (u : Turn) (end : PeerEnd) (left : List Row) → u.session.end ≡ Some end
-    → u.session.end ≡ None → left ≡ []
-not_over u end left over lasts =
-    absurd (let no : Some end ≡ None = sym over ∙ lasts in cc)
+  ends_asking : (end : PeerEnd) (ms : List Telegram) (t : Turn)
+      → IsAsking ms t.book t.session.talk → HasEnded (end_session end t)
+  ends_asking end ms t a = (
+    end,
+    refl,
+    stops ms t.book (end_session end t).book t.session.talk a
+        (leaves_till t.session.talk.on t.book),
+  )
 
--- a message that means no event, and those behind it
-behind_fault : (peer : Option (List ℕ)) (on : Option ℕ) (m : Telegram) (ms : List Telegram)
-    (f : MapFault) (b : Book) (u : Turn) → is_another peer m.from ≡ false → request_at m ≡ Err f
-    → Adds (peer_after peer m.from) on ms b u → Adds peer on (m ∷ ms) b u
-behind_fault peer on m ms f b u same is a = record {
-  adds = record {
-    asked = a.adds.asked;
-    left = a.adds.left;
-    leaving = a.adds.leaving;
-    unasked = a.adds.unasked;
-    rows = a.adds.rows;
-    requests = rw (same, is) a.adds.requests;
-  };
-  signed = a.signed;
-  still = a.still;
-}
+  is_told : (memory : Bool) (text : List ℕ) (ms : List Telegram) (t : Turn)
+      → t.session.end ≡ None → IsAsking ms t.book t.session.talk → Asks ms (tell memory text t)
+  is_told true text ms t lasts a = inl (lasts, a)
+  is_told false text ms t lasts a = inr (ends_asking no_memory ms t a)
 
--- a request, and those behind it
-behind_request : (peer : Option (List ℕ)) (on : Option ℕ) (m : Telegram) (ms : List Telegram)
-    (a : Asked) (b made : Book) (u : Turn) → is_another peer m.from ≡ false
-    → request_at m ≡ Ok (a.actor, a.event)
-    → made.rows ≡ b.rows ++ row_made a.actor a.event a.outcome
-    → Adds (peer_after peer m.from) (signed_by a.actor a.event a.outcome on) ms made u
-    → Adds peer on (m ∷ ms) b u
-behind_request peer on m ms a b made u same is row rest = record {
-  adds = record {
-    asked = a ∷ rest.adds.asked;
-    left = rest.adds.left;
-    leaving = rest.adds.leaving;
-    unasked = rest.adds.unasked;
-    rows =
-        rest.adds.rows
-        ∙ ap (λ rs. (rs ++ rows_made rest.adds.asked) ++ rest.adds.left) row
-        ∙ ap (λ rs. rs ++ rest.adds.left)
-        (append_assoc b.rows (row_made a.actor a.event a.outcome) (rows_made rest.adds.asked));
-    requests = rw (same, is) (ap (λ rs. request_asked a ∷ rs) rest.adds.requests);
-  };
-  signed = rest.signed;
-  still = rest.still;
-}
+  is_told_last : (memory : Bool) (text : List ℕ) (end : PeerEnd) (ms : List Telegram) (t : Turn)
+      → IsAsking ms t.book t.session.talk → HasEnded (tell_last memory text end t)
+  is_told_last true text end ms t a = ends_asking end ms (with_text text t) a
+  is_told_last false text end ms t a = ends_asking no_memory ms t a
 
-abbrev AddsAll : List Granted → List Telegram → Turn → Type 0
-AddsAll gs ms t =
-    Adds t.session.talk.peer t.session.talk.on ms t.book (answer_all gs ms t)
+  asks_meaning : (g : Granted) (m : Telegram) (ms : List Telegram) (meaning : Meaning) (t : Turn)
+      → meaning_at t.session.talk.peer m ≡ meaning → t.session.end ≡ None
+      → IsAsking (m ∷ ms) t.book t.session.talk → Asks ms (answer_meaning g m meaning t)
+  asks_meaning g m ms meanings.Another t is lasts a =
+      inr (is_told_last g.text _ _ (m ∷ ms) t a)
+  asks_meaning g m ms (meanings.Fault f) t is lasts a =
+      let meant = fault_meant t.session.talk.peer m f is in
+      is_told g.text _ ms (serve m.from t) lasts
+      (record {
+        asked = a.asked;
+        rows = a.rows;
+        requests = rw (meant.0, meant.1) at a.requests;
+        signed = a.signed;
+      })
+  asks_meaning g m ms (meanings.Request actor event) t is lasts a =
+      let meant = request_meant t.session.talk.peer m actor event is in
+      let outcome = outcome_at g.row t.book actor event in
+      let one : Asked = record { actor = actor; event = event; outcome = outcome } in
+      let later = requests_in (peer_after t.session.talk.peer m.from) ms in
+      is_told g.text _ ms (ask actor event outcome (serve m.from t)) lasts
+      (record {
+        asked = a.asked ++ one ∷ [];
+        rows =
+            ap (λ rs. rs ++ row_made actor event outcome) a.rows
+            ∙ append_assoc old.rows (rows_made a.asked) (row_made actor event outcome)
+            ∙ ap (λ rs. old.rows ++ rs) (sym (rows_made-more a.asked one));
+        requests =
+            (rw (meant.0, meant.1) at a.requests)
+            ∙ sym (append_assoc (map request_asked a.asked) (request_asked one ∷ []) later)
+            ∙ ap (λ rs. rs ++ later) (sym (map-append request_asked a.asked (one ∷ [])));
+        signed =
+            ap (signed_by actor event outcome) a.signed
+            ∙ sym (signed-append on a.asked (one ∷ []));
+      })
 
--- a session that has ended asks nothing
-over_asks : (peer : Option (List ℕ)) (gs : List Granted) (ms ns : List Telegram) (b : Book)
-    (t : Turn) (end : PeerEnd) → t.session.end ≡ Some end → Leaves t.session.talk.on b t.book
-    → Adds peer t.session.talk.on ns b (answer_all gs ms t)
-over_asks peer gs ms ns b t end over l =
-    subst (Adds peer t.session.talk.on ns b) (sym (all_stay gs ms t end over))
-    (unasked peer t.session.talk.on ns b t refl l (not_over t end l.left over))
+  next_asks : (g : Granted) (m : Telegram) (ms : List Telegram) (t : Turn) → Asks (m ∷ ms) t
+      → Asks ms (answer g m t)
+  next_asks g m ms t (inl a) =
+      by_lasting (Asks ms) g m t
+      (λ lasts. asks_meaning g m ms (meaning_at t.session.talk.peer m) t refl lasts a.1)
+      (λ end over. absurd (ended_lasts t.session end over a.0))
+  next_asks g m ms t (inr d) =
+      by_lasting (Asks ms) g m t
+      (λ lasts. absurd (ended_lasts t.session d.0 d.1 lasts)) (λ end over. inr d)
 
-last_asks : (memory : Bool) (text : List ℕ) (end : PeerEnd) (peer : Option (List ℕ))
-    (gs : List Granted) (ms ns : List Telegram) (t : Turn)
-    → Adds peer t.session.talk.on ns t.book (answer_all gs ms (tell_last memory text end t))
-last_asks true text end peer gs ms ns t =
-    over_asks peer gs ms ns t.book (tell_last true text end t) end refl
-    (leaves_till t.session.talk.on t.book)
-last_asks false text end peer gs ms ns t =
-    over_asks peer gs ms ns t.book (tell_last false text end t) no_memory refl
-    (leaves_till t.session.talk.on t.book)
-
-fault_asks : (memory : Bool) (text : List ℕ) (gs : List Granted) (m : Telegram)
-    (ms : List Telegram) (f : MapFault) (t : Turn)
-    → is_another t.session.talk.peer m.from ≡ false → request_at m ≡ Err f
-    → ((u : Turn) → AddsAll gs ms u)
-    → Adds t.session.talk.peer t.session.talk.on (m ∷ ms) t.book
-    (answer_all gs ms (tell memory text (serve m.from t)))
-fault_asks true text gs m ms f t same is on =
-    behind_fault t.session.talk.peer t.session.talk.on m ms f t.book _ same is
-    (on (tell true text (serve m.from t)))
-fault_asks false text gs m ms f t same is on =
-    over_asks t.session.talk.peer gs ms (m ∷ ms) t.book
-    (tell false text (serve m.from t)) no_memory refl (leaves_till t.session.talk.on t.book)
-
-request_asks : (memory : Bool) (text : List ℕ) (gs : List Granted) (m : Telegram)
-    (ms : List Telegram) (a : Asked) (t : Turn)
-    → is_another t.session.talk.peer m.from ≡ false → request_at m ≡ Ok (a.actor, a.event)
-    → ((u : Turn) → AddsAll gs ms u)
-    → Adds t.session.talk.peer t.session.talk.on (m ∷ ms) t.book
-    (answer_all gs ms (tell memory text (ask a.actor a.event a.outcome (serve m.from t))))
-request_asks true text gs m ms a t same is on =
-    behind_request t.session.talk.peer t.session.talk.on m ms a t.book
-    (with_outcome a.actor a.event a.outcome t.book) _ same is refl
-    (on (tell true text (ask a.actor a.event a.outcome (serve m.from t))))
-request_asks false text gs m ms a t same is on =
-    let made = with_outcome a.actor a.event a.outcome t.book in
-    let after = ask a.actor a.event a.outcome (serve m.from t) in
-    behind_request t.session.talk.peer t.session.talk.on m ms a t.book made _ same is refl
-    (over_asks (peer_after t.session.talk.peer m.from) gs ms ms made (tell false text after)
-    no_memory refl (leaves_till after.session.talk.on made))
-
-one_asks : (gs : List Granted) (g : Granted) (m : Telegram) (ms : List Telegram) (t : Turn)
-    → ((u : Turn) → AddsAll gs ms u)
-    → Adds t.session.talk.peer t.session.talk.on (m ∷ ms) t.book
-    (answer_all gs ms (answer g m t))
-one_asks gs g m ms t on = by_end t.session.end refl
-  where
-    by_meaning : (meaning : Meaning) → meaning_at t.session.talk.peer m ≡ meaning
-        → Adds t.session.talk.peer t.session.talk.on (m ∷ ms) t.book
-        (answer_all gs ms (answer_meaning g m meaning t))
-    by_meaning meanings.Another is =
-        last_asks g.text _ _ t.session.talk.peer gs ms (m ∷ ms) t
-    by_meaning (meanings.Fault f) is =
-        let meant = fault_meant t.session.talk.peer m f is in
-        fault_asks g.text _ gs m ms f t meant.0 meant.1 on
-    by_meaning (meanings.Request actor event) is =
-        let meant = request_meant t.session.talk.peer m actor event is in
-        let a : Asked = record {
-          actor = actor;
-          event = event;
-          outcome = outcome_at g.row t.book actor event;
-        } in
-        request_asks g.text _ gs m ms a t meant.0 meant.1 on
-
-    by_end : (e : Option PeerEnd) → t.session.end ≡ e
-        → Adds t.session.talk.peer t.session.talk.on (m ∷ ms) t.book (answer_all gs ms
-        (if is_none e then answer_meaning g m (meaning_at t.session.talk.peer m) t else t))
-    by_end None lasts = by_meaning (meaning_at t.session.talk.peer m) refl
-    by_end (Some end) over =
-        over_asks t.session.talk.peer gs ms (m ∷ ms) t.book t end over
-        (none_left t.session.talk.on t.book)
-
-all_ask : (gs : List Granted) (ms : List Telegram) (t : Turn) → AddsAll gs ms t
-all_ask gs [] t =
-    unasked t.session.talk.peer t.session.talk.on [] t.book t refl
-    (none_left t.session.talk.on t.book) (λ lasts. refl)
-all_ask [] (m ∷ ms) t = one_asks [] full_grant m ms t (λ u. all_ask [] ms u)
-all_ask (g ∷ gs) (m ∷ ms) t = one_asks gs g m ms t (λ u. all_ask gs ms u)
+  refused_asks : (memory : Bool) (fault : Option StreamFault) (t : Turn) → Asks [] t
+      → AddsRequests peer on all old (refuse_by memory fault t).book
+  refused_asks memory fault t (inl a) =
+      by_fault (λ u. AddsRequests peer on all old u.book) memory fault t
+      (λ none.
+      stops [] t.book t.book t.session.talk a.1 (none_left t.session.talk.on t.book))
+      (λ f some lasts. (is_told_last memory _ _ [] t a.1).2)
+      (λ end over. absurd (ended_lasts t.session end over a.0))
+  refused_asks memory fault t (inr d) =
+      by_fault (λ u. AddsRequests peer on all old u.book) memory fault t (λ none. d.2)
+      (λ f some lasts. absurd (ended_lasts t.session d.0 d.1 lasts)) (λ end over. d.2)
 
 -- ---- a piece
 
--- the session's end, behind what it asked
-then_left : (peer : Option (List ℕ)) (on : Option ℕ) (ms : List Telegram) (b b' : Book) (u : Turn)
-    → Adds peer on ms b u → u.session.end ≡ None → Leaves u.session.talk.on u.book b'
-    → AddsRequests peer on ms b b'
-then_left peer on ms b b' u a lasts l = record {
-  asked = a.adds.asked;
-  left = l.left;
-  leaving = subst (λ o. IsLeaving o l.left) a.signed l.leaving;
-  unasked = a.adds.unasked;
-  rows =
-      l.rows ∙ ap (λ rs. rs ++ l.left)
-      (a.adds.rows
-      ∙ ap (λ rs. (b.rows ++ rows_made a.adds.asked) ++ rs) (a.still lasts)
-      ∙ append-nil (b.rows ++ rows_made a.adds.asked));
-  requests = a.adds.requests;
-}
-
-last_leaves : (memory : Bool) (text : List ℕ) (end : PeerEnd) (t : Turn)
-    → Leaves t.session.talk.on t.book (tell_last memory text end t).book
-last_leaves true text end t = leaves_till t.session.talk.on t.book
-last_leaves false text end t = leaves_till t.session.talk.on t.book
-
-refused_asks : (peer : Option (List ℕ)) (on : Option ℕ) (ms : List Telegram) (b : Book)
-    (memory : Bool) (fault : Option StreamFault) (t : Turn) → Adds peer on ms b t
-    → AddsRequests peer on ms b (refuse_by memory fault t).book
-refused_asks peer on ms b memory None t a = a.adds
-refused_asks peer on ms b memory (Some f) t a = by_end t.session.end refl
-  where
-    by_end : (e : Option PeerEnd) → t.session.end ≡ e
-        → AddsRequests peer on ms b (if is_none e
-        then tell_last memory (spelling (fault_message f)) (ends.Talk
-        (talk.Stream f.fault)) t
-        else t).book
-    by_end None lasts = then_left peer on ms b _ t a lasts (last_leaves memory _ _ t)
-    by_end (Some end) over = a.adds
-
-pub piece_asks : (g : Grants) (piece : List ℕ) (t : Turn)
+piece_asks : (g : Grants) (piece : List ℕ) (t : Turn) → t.session.end ≡ None
     → AddsRequests t.session.talk.peer t.session.talk.on (fed_by t.session.held piece).messages
     t.book (hear g piece t).book
-piece_asks g piece t = by_piece g.piece
-  where
-    by_piece : (b : Bool)
-        → AddsRequests t.session.talk.peer t.session.talk.on (fed_by t.session.held piece).messages
-        t.book
-        (if b then take_messages g (fed_by t.session.held piece) t
-        else end_session no_memory t).book
-    by_piece true =
-        let fed = fed_by t.session.held piece in
-        let start : Turn = record t { session = record t.session { held = held_part fed } } in
-        refused_asks t.session.talk.peer t.session.talk.on fed.messages t.book g.refusal fed.fault
-        (answer_all g.messages fed.messages start) (all_ask g.messages fed.messages start)
-    by_piece false =
-        let l = leaves_till t.session.talk.on t.book in
-        (unasked t.session.talk.peer t.session.talk.on (fed_by t.session.held piece).messages t.book
-        (end_session no_memory t) refl l
-        (not_over (end_session no_memory t) no_memory l.left refl)).adds
+piece_asks g piece t lasts =
+    let fed = fed_by t.session.held piece in
+    let peer = t.session.talk.peer in
+    let on = t.session.talk.on in
+    let begins : IsAsking peer on fed.messages t.book fed.messages t.book t.session.talk = record {
+      asked = [];
+      rows = sym (append-nil t.book.rows);
+      requests = refl;
+      signed = refl;
+    } in
+    by_memory (λ u. AddsRequests peer on fed.messages t.book u.book) g piece t
+    (refused_asks peer on fed.messages t.book g.refusal fed.fault _
+    (by_message (Asks peer on fed.messages t.book)
+    (next_asks peer on fed.messages t.book) g.messages fed.messages
+    (holding (held_part fed) t) (inl (lasts, begins))))
+    (stops peer on fed.messages t.book fed.messages t.book _ t.session.talk begins
+    (leaves_till on t.book))
 
 pub octets_ask : (s : StationState) (memory : Grants) (k : ℕ) (octets : List ℕ) (x : Session)
     → peer_at s.peers k ≡ Some x → is_read x ≡ true
@@ -316,7 +226,7 @@ octets_ask s memory k octets x there read =
     (sym there)
     (subst (λ b. AddsRequests x.talk.peer x.talk.on ms s.book
     (if b then with_turn k (hear memory octets start) s else s).book)
-    (sym read) (piece_asks memory octets start))
+    (sym read) (piece_asks memory octets start (read_lasts x read)))
 
 -- octets for a key whose peer isn't read from, or that nobody has
 pub octets_unheard : (s : StationState) (memory : Grants) (k : ℕ) (octets : List ℕ)
@@ -331,6 +241,14 @@ octets_unheard s memory k octets unread = by_slot (peer_at s.peers k) unread
         else s) unread
 
 -- ---- moves without octets
+
+arrived_book : (k : ℕ) (y : Option Session) (s : StationState) → (arrive k y s).book ≡ s.book
+arrived_book k None s = refl
+arrived_book k (Some x) s = refl
+
+taken_book : (k n : ℕ) (y : Option Session) (s : StationState) → (take_by k n y s).book ≡ s.book
+taken_book k n None s = refl
+taken_book k n (Some x) s = refl
 
 signs_off : (on : Option ℕ) (b b' : Book) → Leaves on b b' → AddsSignOff on b b'
 signs_off on b b' l = record { left = l.left; rows = l.rows; leaving = l.leaving }

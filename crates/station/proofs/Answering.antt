@@ -14,7 +14,6 @@ use Rattle.app_message.specs.Stream.{Held, fed_by, held_part}
 use Rattle.app_message.specs.Telegram.{Telegram}
 use Rattle.device_map.specs.Changes.{change_by}
 use Rattle.device_map.specs.Faults.{map_number}
-use Rattle.device_map.specs.Replies.{fault_message}
 use Rattle.site_book.specs.Book.{Book}
 use Rattle.peer_talk.specs.declared.fault.TalkFault.TheVariants as talk
 use Rattle.peer_talk.specs.declared.fault.TheConstants.{ORIGINATOR_CHANGED}
@@ -32,18 +31,19 @@ use Rattle.station.specs.declared.peer_end.PeerEnd.{PeerEnd}
 use Rattle.station.specs.declared.peer_end.PeerEnd.TheVariants as ends
 use Rattle.station.specs.Hearing.{Among, Answers, AnswersAll, Hears, IsAskedAmong, among}
 use Rattle.station.specs.Hearing.{end_behind, turn_of}
-use Rattle.station.specs.Moves.{StationState, hear_from, rows_since, with_octets, with_turn}
+use Rattle.station.specs.Moves.{StationState, rows_since, with_octets}
 use Rattle.station.specs.Papers.{IsChangeTo}
-use Rattle.station.specs.Peers.{peer_at, with_notices}
+use Rattle.station.specs.Peers.{with_notices}
 use Rattle.station.specs.PeerViews.{session_of}
-use Rattle.station.specs.Reads.{is_read_at, is_read_of}
+use Rattle.station.specs.Reads.{is_read_at}
 use Rattle.station.specs.Sessions.{Granted, Grants, Session, Turn, all_granted, answer}
 use Rattle.station.specs.Sessions.{answer_all, answer_meaning, answer_so, ask, end_session}
 use Rattle.station.specs.Sessions.{full_grant, hear, no_memory, opening_text, refuse_by, serve}
 use Rattle.station.specs.Sessions.{tell, tell_last, with_text, without_till}
-use Rattle.station.proofs.Courses.{refused-grows}
+use Rattle.station.proofs.Adding.{octets_unheard}
+use Rattle.station.proofs.Keeping.{by_fault}
 use Rattle.station.proofs.Notices.{with_notices-none, with_notices-unchanged}
-use Rattle.station.proofs.Turns.{Grows, all-grows, answered-grows, left-grows}
+use Rattle.station.proofs.Turns.{Grows, all-grows, answered-grows, left-grows, refused-grows}
 use Rattle.station.proofs.Turns.{left-told}
 use Rattle.station.proofs.Turns.{outcome-grows, since, told_none, told_then}
 use Rattle.station.proofs.Turns as turns
@@ -294,16 +294,10 @@ hears_nothing piece b p decoder t' others same turn =
 refused_told : (memory : Bool) (fault : Option StreamFault) (t : Turn)
     (others : List (Option Session))
     → others ≡ with_notices (rows_since t.book (refuse_by memory fault t).book) others
-refused_told memory None t others = told_none t.book others
-refused_told memory (Some f) t others = by_test (is_none t.session.end)
-  where
-    by_test : (b : Bool)
-        → others ≡ with_notices (rows_since t.book (if b
-        then tell_last memory (spelling (fault_message f)) (ends.Talk
-        (talk.Stream f.fault)) t
-        else t).book) others
-    by_test true = last_told memory _ _ t others
-    by_test false = told_none t.book others
+refused_told memory fault t others =
+    by_fault (λ u. others ≡ with_notices (rows_since t.book u.book) others) memory fault t
+    (λ none. told_none t.book others) (λ f some lasts. last_told memory _ _ t others)
+    (λ end over. told_none t.book others)
 
 pub hears_piece : (piece : List ℕ) (b : Book) (p : Peer) (decoder : Held) (ms : List Telegram)
     (fault : Option StreamFault) (memory : Bool) (t t' : Turn)
@@ -345,12 +339,4 @@ hears_piece piece b p decoder ms fault memory t t' others others' holds listed f
 
 pub unheard : (k : ℕ) (piece : List ℕ) (s : StationState) → is_read_at s k ≡ false
     → (memory : Grants) × (s ≡ with_octets memory k piece s)
-unheard k piece s unread = (all_granted, by_slot (peer_at s.peers k) unread)
-  where
-    by_slot : (slot : Option Session) → is_read_of slot ≡ false
-        → s ≡ hear_from all_granted k piece slot s
-    by_slot None unread = refl
-    by_slot (Some x) unread =
-        sym (ap (λ b. if b
-        then with_turn k (hear all_granted piece (record { book = s.book; session = x })) s
-        else s) unread)
+unheard k piece s unread = (all_granted, sym (octets_unheard s all_granted k piece unread))

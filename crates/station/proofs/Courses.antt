@@ -3,80 +3,30 @@ use Rattle.std.proofs.Common.{◌≡◌, ◌≢◌, inl, inr, ℕ, ◌==◌, Boo
 use Rattle.std.proofs.Common.{◌++◌, Option, Some, None, refl, ap, sym, subst, ◌∙◌, append_assoc}
 use Rattle.std.proofs.Common.{append-nil, take, drop, take-append-drop, map}
 use Rattle.std.specs.Prelude.{◌&&◌, if◌then◌else◌, is_none, length, nat_lt, option_map}
-use Rattle.std.proofs.lemmas.Bool.{eq-eqb}
 use Rattle.site_base.specs.declared.row.Row.{Row}
 use Rattle.site_base.specs.Configured.{Configured}
-use Rattle.app_message.specs.declared.fault.StreamFault.{StreamFault}
-use Rattle.app_message.specs.Spelling.{spelling}
-use Rattle.app_message.specs.Stream.{Stream, fed_by, held_part, stream_of, walk}
-use Rattle.device_map.specs.Replies.{fault_message}
+use Rattle.app_message.specs.Stream.{stream_of, walk}
 use Rattle.device_map.proofs.Results.{equal}
-use Rattle.site_book.specs.Book.{Book}
-use Rattle.peer_talk.specs.declared.fault.TalkFault.TheVariants as talk
 use Rattle.peer_talk.specs.Exchanges.{outcome_given}
 use Rattle.peer_talk.specs.Text.{messages_text, refusal_text}
 use Rattle.peer_talk.proofs.Courses.{on_none}
+use Rattle.site_book.specs.Book.{Book}
 use Rattle.station.specs.declared.peer_end.PeerEnd.{PeerEnd}
-use Rattle.station.specs.declared.peer_end.PeerEnd.TheVariants as ends
 use Rattle.station.specs.declared.sizes.TheConstants.{READ_LIMIT}
-use Rattle.station.specs.Moves.{StationState, finish_at, free, hear_from, rows_since, take_by}
-use Rattle.station.specs.Moves.{with_arrival, with_end, with_turn}
+use Rattle.station.specs.Moves.{StationState, finish_at, hear_from, rows_since, take_by}
+use Rattle.station.specs.Moves.{with_arrival, with_turn}
 use Rattle.station.specs.Peers.{tell_rows, peer_at, with_peer, with_notices}
 use Rattle.station.specs.Runs.{Arrives, Finishes, Leaves, Move, Says, Stays, Takes, after}
-use Rattle.station.specs.Runs.{after_move, arrive, heard_of, heard_with, stays_with, taken_with}
-use Rattle.station.specs.Runs.{text_to}
+use Rattle.station.specs.Runs.{after_move, heard_of, heard_with, stays_with, taken_with, text_to}
 use Rattle.station.specs.Reads.{is_read_at, owed_at}
-use Rattle.station.specs.Sessions.{Grants, Session, Turn, answer_all, end_session, finish, hear}
-use Rattle.station.specs.Sessions.{is_read, no_memory, opening_session, refuse_by, take_messages}
-use Rattle.station.specs.Sessions.{tell_last}
+use Rattle.station.specs.Sessions.{Grants, Session, Turn, finish, hear, is_read, opening_session}
 use Rattle.station.specs.Stories.{IsTold, asked_in, is_all_answered, is_whole, messages_in}
 use Rattle.station.specs.Stories.{refusal_by, rows_in, said_in, told_in}
+use Rattle.station.proofs.Keeping.{Leads, after_input, key_of, moved_keeps, turn_at}
 use Rattle.station.proofs.Lives.{InCourse, finishes, hears, rows_come}
-use Rattle.station.proofs.Peers.{peer_at-map, peer_at-other, peer_at-same}
+use Rattle.station.proofs.Peers.{other_key, peer_at-map, peer_at-other, peer_at-same}
 use Rattle.station.proofs.Stories.{notices_are_due}
-use Rattle.station.proofs.Turns.{Grows, all-grows, ended-grows, grows_none, grows_then, left-grows}
-use Rattle.station.proofs.Turns.{since}
-
--- ---- keys
-
-pub other_key : (j k : ℕ) → (j == k) ≡ false → k ≢ j
-other_key j k is same =
-    absurd (let true_is : (j == k) ≡ true = ap (λ n. j == n) same ∙ eq-eqb j j refl in
-    let no : true ≡ false = sym true_is ∙ is in cc)
-
--- ---- rows that a turn adds
-
-pub refused-grows : (memory : Bool) (fault : Option StreamFault) (t : Turn)
-    → Grows t.book (refuse_by memory fault t).book
-refused-grows memory None t = grows_none t.book
-refused-grows memory (Some f) t = by_test (is_none t.session.end) memory
-  where
-    by_test : (b memory : Bool)
-        → Grows t.book
-        (if b
-        then tell_last memory (spelling (fault_message f)) (ends.Talk
-        (talk.Stream f.fault)) t
-        else t).book
-    by_test true true = left-grows t.session.talk.on t.book
-    by_test true false = left-grows t.session.talk.on t.book
-    by_test false memory = grows_none t.book
-
-pub taken-grows : (g : Grants) (fed : Stream) (t : Turn) → Grows t.book (take_messages g fed t).book
-taken-grows g fed t =
-    let start : Turn = record t { session = record t.session { held = held_part fed } } in
-    let answered = answer_all g.messages fed.messages start in
-    grows_then t.book answered.book _ (all-grows g.messages fed.messages start)
-    (refused-grows g.refusal fed.fault answered)
-
-pub heard-grows : (g : Grants) (piece : List ℕ) (t : Turn) → Grows t.book (hear g piece t).book
-heard-grows g piece t = by_piece g.piece
-  where
-    by_piece : (b : Bool)
-        → Grows t.book
-        (if b then take_messages g (fed_by t.session.held piece) t
-        else end_session no_memory t).book
-    by_piece true = taken-grows g (fed_by t.session.held piece) t
-    by_piece false = ended-grows no_memory t
+use Rattle.station.proofs.Turns.{Grows, input-grows, since}
 
 -- ---- the peer of a key in its course
 
@@ -85,10 +35,6 @@ pub record IsSeen (c : Configured) (before : List Row) (had sent : List ℕ) (k 
   pub session : Session
   pub there : peer_at s.peers k ≡ Some session
   pub course : InCourse c before had sent s.book session
-
-nothing_more : (c : Configured) (before : List Row) (had sent : List ℕ) (k : ℕ) (s : StationState)
-    → IsSeen c before had sent k s → IsSeen c before (had ++ []) (sent ++ []) k s
-nothing_more c before had sent k s seen = rw (append-nil had, append-nil sent) seen
 
 -- another's turn
 other_turn : (c : Configured) (before : List Row) (had sent : List ℕ) (k j : ℕ) (t : Turn)
@@ -159,22 +105,6 @@ own_says c before had sent k memory octets s seen = by_course seen.course
     by_course (inr d) =
         rw (not_read seen.session d.0 d.1.over, append-nil sent) seen
 
-other_says : (c : Configured) (before : List Row) (had sent : List ℕ) (k j : ℕ) (memory : Grants)
-    (octets : List ℕ) (y : Option Session) (s : StationState) → k ≢ j
-    → IsSeen c before had sent k s → IsSeen c before had sent k (hear_from memory j octets y s)
-other_says c before had sent k j memory octets None s other seen = seen
-other_says c before had sent k j memory octets (Some y) s other seen = by_test (is_read y)
-  where
-    by_test : (b : Bool)
-        → IsSeen c before had sent k
-        (if b then with_turn j (hear memory octets (record { book = s.book; session = y })) s
-        else s)
-    by_test true =
-        let start : Turn = record { book = s.book; session = y } in
-        other_turn c before had sent k j (hear memory octets start) s other
-        (heard-grows memory octets start) seen
-    by_test false = seen
-
 own_ends : (c : Configured) (before : List Row) (had sent : List ℕ) (k : ℕ) (s : StationState)
     → (seen : IsSeen c before had sent k s)
     → IsSeen c before had sent k (finish_at k (Some seen.session) s)
@@ -188,28 +118,6 @@ own_ends c before had sent k s seen = by_course seen.course
         (own_turn c before had sent k (finish start) s
         (inr (finishes c before had sent start h)))
     by_course (inr d) = rw d.1.over seen
-
-other_ends : (c : Configured) (before : List Row) (had sent : List ℕ) (k j : ℕ)
-    (y : Option Session) (s : StationState) → k ≢ j → IsSeen c before had sent k s
-    → IsSeen c before had sent k (finish_at j y s)
-other_ends c before had sent k j None s other seen = seen
-other_ends c before had sent k j (Some y) s other seen = by_test (is_none y.end)
-  where
-    by_test : (b : Bool)
-        → IsSeen c before had sent k
-        (if b then with_turn j (finish (record { book = s.book; session = y })) s else s)
-    by_test true =
-        let start : Turn = record { book = s.book; session = y } in
-        other_turn c before had sent k j (finish start) s other
-        (left-grows y.talk.on s.book) seen
-    by_test false = seen
-
-other_frees : (c : Configured) (before : List Row) (had sent : List ℕ) (k j : ℕ)
-    (y : Option Session) (s : StationState) → k ≢ j → IsSeen c before had sent k s
-    → IsSeen c before had sent k (free j y s)
-other_frees c before had sent k j None s other seen = seen
-other_frees c before had sent k j (Some y) s other seen =
-    other_slot c before had sent k j None s other seen
 
 -- what was taken and what is left is what was owed
 all_owed : (had owed : List ℕ) (n : ℕ) → (had ++ take n owed) ++ drop n owed ≡ had ++ owed
@@ -270,74 +178,64 @@ own_takes c before had sent k n s seen = record {
       },
     )
 
-other_takes : (c : Configured) (before : List Row) (had sent : List ℕ) (k j n : ℕ)
-    (y : Option Session) (s : StationState) → k ≢ j → IsSeen c before had sent k s
-    → IsSeen c before had sent k (take_by j n y s)
-other_takes c before had sent k j n None s other seen = seen
-other_takes c before had sent k j n (Some y) s other seen =
-    other_slot c before had sent k j _ s other seen
+-- ---- any move
 
-other_arrives : (c : Configured) (before : List Row) (had sent : List ℕ) (k j : ℕ)
-    (y : Option Session) (s : StationState) → peer_at s.peers j ≡ y
-    → IsSeen c before had sent k s → IsSeen c before had sent k (arrive j y s)
-other_arrives c before had sent k j (Some y) s is seen = seen
-other_arrives c before had sent k j None s is seen =
-    other_slot c before had sent k j (Some opening_session) s
-    (λ same. absurd (let there : peer_at s.peers j ≡ Some seen.session =
-    ap (peer_at s.peers) (sym same) ∙ seen.there in
-    let no : Some seen.session ≡ None = sym there ∙ is in cc))
-    seen
+-- a move of another key
+other_leads : (c : Configured) (before : List Row) (had sent : List ℕ) (k j : ℕ)
+    (s : StationState) → k ≢ j → IsSeen c before had sent k s
+    → Leads (IsSeen c before had sent k) j s
+other_leads c before had sent k j s other seen = record {
+  stays = seen;
+  comes = λ none. other_slot c before had sent k j (Some opening_session) s other seen;
+  turns = λ input x there lasts.
+      other_turn c before had sent k j (after_input input (turn_at s x)) s other
+      (input-grows input (turn_at s x) lasts) seen;
+  takes = λ n x there. other_slot c before had sent k j _ s other seen;
+  leaves = λ later x there over still. other_slot c before had sent k j None later other still;
+}
+
+-- nothing is heard of a peer with a move of another key, nor taken by it
+unheard : (k : ℕ) (m : Move) (s : StationState) → (key_of m == k) ≡ false
+    → heard_with k m s ≡ []
+unheard k (Says memory j octets) s other =
+    ap (λ b. if b then (if is_read_at s k then octets else []) else []) other
+unheard k m s other = refl
+
+untaken : (k : ℕ) (m : Move) (s : StationState) → (key_of m == k) ≡ false
+    → taken_with k m s ≡ []
+untaken k (Takes j n) s other = ap (λ b. if b then take n (owed_at s k) else []) other
+untaken k m s other = refl
+
+own_moves : (c : Configured) (before : List Row) (had sent : List ℕ) (k : ℕ) (m : Move)
+    (s : StationState) → (key_of m == k) ≡ true → stays_with k m ≡ true
+    → IsSeen c before had sent k s
+    → IsSeen c before (had ++ taken_with k m s) (sent ++ heard_with k m s) k (after_move m s)
+own_moves c before had sent k (Arrives j) s own stays seen =
+    rw (equal j k own, seen.there, append-nil had, append-nil sent) seen
+own_moves c before had sent k (Says memory j octets) s own stays seen =
+    rw (own, equal j k own, seen.there, append-nil had)
+    (own_says c before had sent k memory octets s seen)
+own_moves c before had sent k (Takes j n) s own stays seen =
+    rw (own, equal j k own, seen.there, append-nil sent) (own_takes c before had sent k n s seen)
+own_moves c before had sent k (Finishes j) s own stays seen =
+    rw (equal j k own, seen.there, append-nil had, append-nil sent)
+    (own_ends c before had sent k s seen)
+own_moves c before had sent k (Leaves j) s own stays seen =
+    absurd (let no : false ≡ true = sym (ap (λ b. if b then false else true) own) ∙ stays in cc)
 
 pub moves : (c : Configured) (before : List Row) (had sent : List ℕ) (k : ℕ) (m : Move)
     (s : StationState) → stays_with k m ≡ true → IsSeen c before had sent k s
     → IsSeen c before (had ++ taken_with k m s) (sent ++ heard_with k m s) k (after_move m s)
-moves c before had sent k (Arrives j) s stays seen =
-    nothing_more c before had sent k _
-    (other_arrives c before had sent k j (peer_at s.peers j) s refl seen)
-moves c before had sent k (Says memory j octets) s stays seen = by_key (j == k) refl
+moves c before had sent k m s stays seen = by_key (key_of m == k) refl
   where
-    by_key : (b : Bool) → (j == k) ≡ b
-        → IsSeen c before (had ++ [])
-        (sent ++ (if b then (if is_read_at s k then octets else []) else [])) k
-        (hear_from memory j octets (peer_at s.peers j) s)
-    by_key true is =
-        rw (equal j k is, seen.there, append-nil had)
-        (own_says c before had sent k memory octets s seen)
+    by_key : (b : Bool) → (key_of m == k) ≡ b
+        → IsSeen c before (had ++ taken_with k m s) (sent ++ heard_with k m s) k (after_move m s)
+    by_key true own = own_moves c before had sent k m s own stays seen
     by_key false is =
-        nothing_more c before had sent k _
-        (other_says c before had sent k j memory octets (peer_at s.peers j) s (other_key j k is)
-        seen)
-moves c before had sent k (Takes j n) s stays seen = by_key (j == k) refl
-  where
-    by_key : (b : Bool) → (j == k) ≡ b
-        → IsSeen c before (had ++ (if b then take n (owed_at s k) else [])) (sent ++ []) k
-        (take_by j n (peer_at s.peers j) s)
-    by_key true is =
-        rw (equal j k is, seen.there, append-nil sent) (own_takes c before had sent k n s seen)
-    by_key false is =
-        nothing_more c before had sent k _
-        (other_takes c before had sent k j n (peer_at s.peers j) s (other_key j k is) seen)
-moves c before had sent k (Finishes j) s stays seen = by_key (j == k) refl
-  where
-    by_key : (b : Bool) → (j == k) ≡ b
-        → IsSeen c before (had ++ []) (sent ++ []) k (finish_at j (peer_at s.peers j) s)
-    by_key true is =
-        rw (equal j k is, seen.there, append-nil had, append-nil sent)
-        (own_ends c before had sent k s seen)
-    by_key false is =
-        nothing_more c before had sent k _
-        (other_ends c before had sent k j (peer_at s.peers j) s (other_key j k is) seen)
-moves c before had sent k (Leaves j) s stays seen = by_key (j == k) refl stays
-  where
-    by_key : (b : Bool) → (j == k) ≡ b → (if b then false else true) ≡ true
-        → IsSeen c before (had ++ []) (sent ++ []) k
-        (free j (peer_at (with_end j s).peers j) (with_end j s))
-    by_key true is stays = absurd cc
-    by_key false is stays =
-        nothing_more c before had sent k _
-        (other_frees c before had sent k j (peer_at (with_end j s).peers j) (with_end j s)
-        (other_key j k is)
-        (other_ends c before had sent k j (peer_at s.peers j) s (other_key j k is) seen))
+        let other = other_key (key_of m) k is in
+        rw (untaken k m s is, unheard k m s is, append-nil had, append-nil sent)
+        (moved_keeps (IsSeen c before had sent k) m s
+        (other_leads c before had sent k (key_of m) s other seen))
 
 -- ---- what it is told
 

@@ -1,5 +1,6 @@
 pub mod Peers
 pub mod Notices
+pub mod Keeping
 pub mod Turns
 pub mod Stories
 pub mod Quiet

@@ -2,7 +2,7 @@
 use Rattle.std.proofs.Common.{◌≡◌, ◌⊎◌, inl, inr, ℕ, Bool, true, false, List, [], ◌∷◌, ◌++◌, map}
 use Rattle.std.proofs.Common.{Option, Some, None, Ok, Err, refl, ap, sym, subst, ◌∙◌, append_assoc}
 use Rattle.std.proofs.Common.{append-nil}
-use Rattle.std.specs.Prelude.{if◌then◌else◌, is_none, length, nat_lt}
+use Rattle.std.specs.Prelude.{if◌then◌else◌, length, nat_lt}
 use Rattle.site_base.specs.declared.actor.Actor.{Actor}
 use Rattle.site_base.specs.declared.event.Event.{Event}
 use Rattle.site_base.specs.declared.row.Row.{Row}
@@ -14,7 +14,6 @@ use Rattle.app_message.specs.Stream.{with_messages}
 use Rattle.app_message.specs.Telegram.{Telegram}
 use Rattle.app_message.proofs.Cutting.{any_cut}
 use Rattle.device_map.specs.declared.fault.MapFault.{MapFault}
-use Rattle.device_map.specs.Changes.{change_of}
 use Rattle.device_map.specs.Faults.{map_number}
 use Rattle.device_map.specs.Replies.{fault_message}
 use Rattle.device_map.specs.Requests.{request_at}
@@ -33,22 +32,21 @@ use Rattle.peer_talk.proofs.Courses.{another_over, answered_on, over_then, refus
 use Rattle.station.specs.declared.peer_end.PeerEnd.{PeerEnd}
 use Rattle.station.specs.declared.peer_end.PeerEnd.TheVariants as ends
 use Rattle.station.specs.declared.sizes.TheConstants.{NOTICE_LIMIT}
-use Rattle.station.specs.Notices.{notice_at, notices_of, octets_of, row_notice}
+use Rattle.station.specs.Notices.{notices_of, octets_of, row_notice}
 use Rattle.station.specs.Peers.{listener, tell_row, tell_rows, tell_notice}
 use Rattle.station.specs.Sessions.{Granted, Grants, Session, Turn, answer, answer_all}
-use Rattle.station.specs.Sessions.{answer_meaning, answer_so, end_by, end_session, finish}
-use Rattle.station.specs.Sessions.{full_grant}
-use Rattle.station.specs.Sessions.{hear}
-use Rattle.station.specs.Sessions.{no_memory}
+use Rattle.station.specs.Sessions.{answer_meaning, answer_so, end_by, end_session, finish, hear}
 use Rattle.conversation.specs.Books.{outcome_at}
-use Rattle.station.specs.Sessions.{opening_text, refuse_by, serve, take_messages}
+use Rattle.station.specs.Sessions.{no_memory, opening_text, refuse_by, serve}
 use Rattle.conversation.specs.Books.{with_outcome}
-use Rattle.station.specs.Sessions.{tell, tell_last}
+use Rattle.station.specs.Sessions.{take_messages, tell, tell_last}
 use Rattle.station.specs.Stories.{AreAsked, Happening, asked_in, book_of, is_all_answered}
 use Rattle.station.specs.Stories.{is_whole, messages_in, refusal_by, rows_in, said_in, told_in}
+use Rattle.station.proofs.Keeping.{Keeps, all_keep, by_fault, by_lasting, by_memory, by_message}
+use Rattle.station.proofs.Keeping.{ended_lasts}
+use Rattle.station.proofs.Notices.{nobody_noticed}
 use Rattle.station.proofs.Quiet.{own_quiet}
-use Rattle.station.proofs.Stories.{AreOwnQuiet, IsLiving}
-use Rattle.station.proofs.Stories.{passes, speaks}
+use Rattle.station.proofs.Stories.{AreOwnQuiet, IsLiving, passes, speaks}
 use Rattle.station.proofs.Turns.{Grows, grows_then, left-grows, outcome-grows}
 
 -- a session that ended so: its text is that of these messages and of what stands last
@@ -196,11 +194,6 @@ another_closes c before had done later m last b b' x x' l other g owed over on =
 
 -- ---- a message
 
-lasting_answer : (g : Granted) (m : Telegram) (t : Turn) → t.session.end ≡ None
-    → answer g m t ≡ answer_meaning g m (meaning_at t.session.talk.peer m) t
-lasting_answer g m t lasts =
-    ap (λ e. if is_none e then answer_meaning g m (meaning_at t.session.talk.peer m) t else t) lasts
-
 another_answered : (c : Configured) (before : List Row) (had : List ℕ) (done later : List Telegram)
     (m : Telegram) (last : List ℕ) (memory : Bool) (t : Turn)
     → IsLiving c before had done t.book t.session → is_another t.session.talk.peer m.from ≡ true
@@ -276,9 +269,10 @@ one_answered : (c : Configured) (before : List Row) (had : List ℕ) (done later
     → Came c before had (done ++ m ∷ []) (done ++ m ∷ later) last (answer g m t).book
     (answer g m t).session
 one_answered c before had done later m last g t l =
-    subst (λ (u : Turn). Came c before had (done ++ m ∷ []) (done ++ m ∷ later) last u.book
-    u.session)
-    (sym (lasting_answer g m t l.lasts)) (by_meaning (meaning_at t.session.talk.peer m) refl)
+    by_lasting
+    (λ u. Came c before had (done ++ m ∷ []) (done ++ m ∷ later) last u.book u.session) g m t
+    (λ lasts. by_meaning (meaning_at t.session.talk.peer m) refl)
+    (λ end over. absurd (ended_lasts t.session end over l.lasts))
   where
     by_meaning : (meaning : Meaning) → meaning_at t.session.talk.peer m ≡ meaning
         → Came c before had (done ++ m ∷ []) (done ++ m ∷ later) last
@@ -295,85 +289,61 @@ one_answered c before had done later m last g t l =
 
 -- ---- messages
 
-over_stays : (g : Granted) (m : Telegram) (t : Turn) (end : PeerEnd) → t.session.end ≡ Some end
-    → answer g m t ≡ t
-over_stays g m t end over =
-    ap (λ e. if is_none e then answer_meaning g m (meaning_at t.session.talk.peer m) t else t) over
+-- a session that has these messages to answer still, or has ended
+abbrev IsToAnswer : Configured → List Row → List ℕ → List Telegram → List ℕ → List Telegram
+    → Turn → Type 0
+IsToAnswer c before had all last ms t =
+    ((done : List Telegram) × (done ++ ms ≡ all) × IsLiving c before had done t.book t.session)
+    ⊎ ((end : PeerEnd) × IsDone c before had all last end t.book t.session)
 
-pub all_stay : (gs : List Granted) (ms : List Telegram) (t : Turn) (end : PeerEnd)
-    → t.session.end ≡ Some end → answer_all gs ms t ≡ t
-all_stay gs [] t end over = refl
-all_stay [] (m ∷ ms) t end over =
-    ap (answer_all [] ms) (over_stays full_grant m t end over) ∙ all_stay [] ms t end over
-all_stay (g ∷ gs) (m ∷ ms) t end over =
-    ap (answer_all gs ms) (over_stays g m t end over) ∙ all_stay gs ms t end over
+next_answered : (c : Configured) (before : List Row) (had : List ℕ) (all : List Telegram)
+    (last : List ℕ) (g : Granted) (m : Telegram) (ms : List Telegram) (t : Turn)
+    → IsToAnswer c before had all last (m ∷ ms) t
+    → IsToAnswer c before had all last ms (answer g m t)
+next_answered c before had all last g m ms t (inr d) =
+    by_lasting (IsToAnswer c before had all last ms) g m t
+    (λ lasts. absurd (ended_lasts t.session d.0 d.1.over lasts)) (λ end over. inr d)
+next_answered c before had all last g m ms t (inl l) =
+    by_came (one_answered c before had l.0 ms m last g t l.2)
+  where
+    by_came : Came c before had (l.0 ++ m ∷ []) (l.0 ++ m ∷ ms) last (answer g m t).book
+        (answer g m t).session → IsToAnswer c before had all last ms (answer g m t)
+    by_came (inl on) = inl (l.0 ++ m ∷ [], append_assoc l.0 (m ∷ []) ms ∙ l.1, on)
+    by_came (inr d) =
+        inr (
+          d.0,
+          subst (λ ns. IsDone c before had ns last d.0 (answer g m t).book (answer g m t).session)
+              l.1 d.1,
+        )
 
--- a message was answered, and then come the others
-next_answered : (c : Configured) (before : List Row) (had : List ℕ) (done : List Telegram)
-    (last : List ℕ) (gs : List Granted) (m : Telegram) (ms : List Telegram) (t : Turn)
-    → Came c before had (done ++ m ∷ []) (done ++ m ∷ ms) last t.book t.session
-    → (IsLiving c before had (done ++ m ∷ []) t.book t.session
-    → Came c before had ((done ++ m ∷ []) ++ ms) ((done ++ m ∷ []) ++ ms) last
-    (answer_all gs ms t).book (answer_all gs ms t).session)
-    → Came c before had (done ++ m ∷ ms) (done ++ m ∷ ms) last (answer_all gs ms t).book
-    (answer_all gs ms t).session
-next_answered c before had done last gs m ms t (inl l) on =
-    subst (λ all. Came c before had all all last (answer_all gs ms t).book
-    (answer_all gs ms t).session)
-    (append_assoc done (m ∷ []) ms) (on l)
-next_answered c before had done last gs m ms t (inr d) on =
-    subst (λ (u : Turn). Came c before had (done ++ m ∷ ms) (done ++ m ∷ ms) last u.book u.session)
-    (sym (all_stay gs ms t d.0 d.1.over)) (inr d)
-
-pub all_answered : (c : Configured) (before : List Row) (had : List ℕ) (done : List Telegram)
+all_answered : (c : Configured) (before : List Row) (had : List ℕ) (done : List Telegram)
     (last : List ℕ) (gs : List Granted) (ms : List Telegram) (t : Turn)
     → IsLiving c before had done t.book t.session
     → Came c before had (done ++ ms) (done ++ ms) last (answer_all gs ms t).book
     (answer_all gs ms t).session
-all_answered c before had done last gs [] t l =
-    subst (λ all. Came c before had all all last t.book t.session) (sym (append-nil done)) (inl l)
-all_answered c before had done last [] (m ∷ ms) t l =
-    next_answered c before had done last [] m ms (answer full_grant m t)
-    (one_answered c before had done ms m last full_grant t l)
-    (λ l'. all_answered c before had (done ++ m ∷ []) last [] ms (answer full_grant m t) l')
-all_answered c before had done last (g ∷ gs) (m ∷ ms) t l =
-    next_answered c before had done last gs m ms (answer g m t)
-    (one_answered c before had done ms m last g t l)
-    (λ l'. all_answered c before had (done ++ m ∷ []) last gs ms (answer g m t) l')
+all_answered c before had done last gs ms t l =
+    by_rest (by_message (IsToAnswer c before had (done ++ ms) last)
+    (next_answered c before had (done ++ ms) last) gs ms t (inl (done, refl, l)))
+  where
+    by_rest : IsToAnswer c before had (done ++ ms) last [] (answer_all gs ms t)
+        → Came c before had (done ++ ms) (done ++ ms) last (answer_all gs ms t).book
+        (answer_all gs ms t).session
+    by_rest (inr d) = inr d
+    by_rest (inl on) =
+        inl (subst (λ ns. IsLiving c before had ns (answer_all gs ms t).book
+        (answer_all gs ms t).session)
+        (sym (append-nil on.0) ∙ on.1) on.2)
 
 -- ---- a piece
 
-held_ended : (memory : Bool) (text : List ℕ) (t : Turn)
-    → (tell memory text t).session.held ≡ t.session.held
-held_ended true text t = refl
-held_ended false text t = refl
-
-held_last : (memory : Bool) (text : List ℕ) (end : PeerEnd) (t : Turn)
-    → (tell_last memory text end t).session.held ≡ t.session.held
-held_last true text end t = refl
-held_last false text end t = refl
-
-held_by : (g : Granted) (m : Telegram) (meaning : Meaning) (t : Turn)
-    → (answer_meaning g m meaning t).session.held ≡ t.session.held
-held_by g m meanings.Another t = held_last g.text _ _ t
-held_by g m (meanings.Fault f) t = held_ended g.text _ (serve m.from t)
-held_by g m (meanings.Request actor event) t = held_ended g.text _ _
-
-held_one : (g : Granted) (m : Telegram) (t : Turn)
-    → (answer g m t).session.held ≡ t.session.held
-held_one g m t = by_test (is_none t.session.end)
-  where
-    by_test : (b : Bool)
-        → (if b then answer_meaning g m (meaning_at t.session.talk.peer m) t else t).session.held
-        ≡ t.session.held
-    by_test true = held_by g m (meaning_at t.session.talk.peer m) t
-    by_test false = refl
-
-held_all : (gs : List Granted) (ms : List Telegram) (t : Turn)
-    → (answer_all gs ms t).session.held ≡ t.session.held
-held_all gs [] t = refl
-held_all [] (m ∷ ms) t = held_all [] ms (answer full_grant m t) ∙ held_one full_grant m t
-held_all (g ∷ gs) (m ∷ ms) t = held_all gs ms (answer g m t) ∙ held_one g m t
+-- no answer changes what is held of a message to come
+still_held : (h : Held) → Keeps (λ t. t.session.held ≡ h)
+still_held h = record {
+  serves = λ from t lasts is. is;
+  asks = λ memory actor event t lasts spoken is. is;
+  tells = λ text t lasts is. is;
+  ends = λ end t lasts is. is;
+}
 
 -- a session that lasts, of which so much was heard
 pub record IsHearing (c : Configured) (before : List Row) (had sent : List ℕ) (b : Book)
@@ -416,15 +386,6 @@ fed_is h sent piece holds =
     any_cut sent piece ∙ ap (λ k. with_messages (stream_of sent).messages (fed_by k piece))
     (sym holds)
 
-over_unrefused : (memory : Bool) (fault : Option StreamFault) (t : Turn) (end : PeerEnd)
-    → t.session.end ≡ Some end → refuse_by memory fault t ≡ t
-over_unrefused memory None t end over = refl
-over_unrefused memory (Some f) t end over =
-    ap (λ e. if is_none e
-    then tell_last memory (spelling (fault_message f)) (ends.Talk
-    (talk.Stream f.fault)) t
-    else t) over
-
 fault_told : (c : Configured) (before : List Row) (had : List ℕ) (done : List Telegram)
     (memory : Bool) (text : List ℕ) (end : PeerEnd) (t : Turn)
     → IsLiving c before had done t.book t.session → text ≡ refusal_by (Some end) text []
@@ -442,20 +403,6 @@ fault_told c before had done false text end t l refused = (
       rw (append-nil done) at stopped),
 )
 
-fault_refused : (c : Configured) (before : List Row) (had sent : List ℕ) (memory : Bool)
-    (f : StreamFault) (t : Turn) → (stream_of sent).fault ≡ Some f
-    → IsLiving c before had (stream_of sent).messages t.book t.session
-    → IsOverIn c before had sent (refuse_by memory (Some f) t).book
-    (refuse_by memory (Some f) t).session
-fault_refused c before had sent memory f t is l =
-    let text = spelling (fault_message f) in
-    let end : PeerEnd = ends.Talk (talk.Stream f.fault) in
-    let there : refuse_by memory (Some f) t ≡ tell_last memory text end t =
-    ap (λ e. if is_none e then tell_last memory text end t else t) l.lasts in
-    let over = fault_told c before had (stream_of sent).messages memory text end t l refl in
-    subst (λ (u : Turn). IsOverIn c before had sent u.book u.session) (sym there)
-    (over.0, rw is over.1)
-
 -- a fault of the octets is refused
 refused : (c : Configured) (before : List Row) (had sent : List ℕ) (memory : Bool)
     (fault : Option StreamFault) (t : Turn) → (stream_of sent).fault ≡ fault
@@ -464,20 +411,18 @@ refused : (c : Configured) (before : List Row) (had sent : List ℕ) (memory : B
     t.book t.session
     → InCourse c before had sent (refuse_by memory fault t).book
     (refuse_by memory fault t).session
-refused c before had sent memory None t is holds (inl l) =
-    inl (record { living = l; holds = holds; sound = is })
-refused c before had sent memory None t is holds (inr d) =
-    inr (d.0, rw is d.1)
-refused c before had sent memory (Some f) t is holds (inl l) =
-    inr (fault_refused c before had sent memory f t is l)
-refused c before had sent memory (Some f) t is holds (inr d) =
-    inr (
-      d.0,
-      subst (λ (u : Turn). IsDone c before had (stream_of sent).messages
-          (refusal_text (stream_of sent).fault) d.0 u.book u.session)
-          (sym (over_unrefused memory (Some f) t d.0 d.1.over))
-          (rw is d.1),
-    )
+refused c before had sent memory fault t is holds (inl l) =
+    by_fault (λ u. InCourse c before had sent u.book u.session) memory fault t
+    (λ none. inl (record { living = l; holds = holds; sound = is ∙ none }))
+    (λ f some lasts.
+    let told = fault_told c before had (stream_of sent).messages memory
+    (spelling (fault_message f)) (ends.Talk (talk.Stream f.fault)) t l refl in
+    inr (told.0, rw (is ∙ some) told.1))
+    (λ end over. absurd (ended_lasts t.session end over l.lasts))
+refused c before had sent memory fault t is holds (inr d) =
+    let over : IsOverIn c before had sent t.book t.session = (d.0, rw is d.1) in
+    by_fault (λ u. InCourse c before had sent u.book u.session) memory fault t (λ none. inr over)
+    (λ f some lasts. absurd (ended_lasts t.session d.0 d.1.over lasts)) (λ end is. inr over)
 
 piece_taken : (c : Configured) (before : List Row) (had sent piece : List ℕ) (g : Grants) (t : Turn)
     → IsHearing c before had sent t.book t.session
@@ -494,7 +439,8 @@ piece_taken c before had sent piece g t h =
     let after = answer_all g.messages fed.messages start in
     refused c before had (sent ++ piece) g.refusal fed.fault after
     (ap (λ (s : Stream). s.fault) is)
-    (held_all g.messages fed.messages start ∙ sym (ap held_part is))
+    (all_keep (still_held start.session.held) g.messages fed.messages start refl
+    ∙ sym (ap held_part is))
     (subst (λ all. Came c before had all all (refusal_text fed.fault) after.book after.session)
     (sym (ap (λ (s : Stream). s.messages) is)) came)
 
@@ -516,16 +462,10 @@ piece_lost c before had sent piece t h =
 pub hears : (c : Configured) (before : List Row) (had sent piece : List ℕ) (g : Grants) (t : Turn)
     → IsHearing c before had sent t.book t.session
     → InCourse c before had (sent ++ piece) (hear g piece t).book (hear g piece t).session
-hears c before had sent piece g t h = by_piece g.piece
-  where
-    by_piece : (b : Bool)
-        → InCourse c before had (sent ++ piece)
-        (if b then take_messages g (fed_by t.session.held piece) t
-        else end_session no_memory t).book
-        (if b then take_messages g (fed_by t.session.held piece) t
-        else end_session no_memory t).session
-    by_piece true = piece_taken c before had sent piece g t h
-    by_piece false = inr (piece_lost c before had sent piece t h)
+hears c before had sent piece g t h =
+    by_memory (λ u. InCourse c before had (sent ++ piece) u.book u.session) g piece t
+    (piece_taken c before had sent piece g t h)
+    (inr (piece_lost c before had sent piece t h))
 
 -- ---- the end of its octets
 
@@ -557,13 +497,6 @@ finishes c before had sent t h =
     t.session (finish t).session h (left-grows t.session.talk.on t.book) refl refl refl
 
 -- ---- rows of others
-
-pub nobody_noticed : (r : Row) → row_notice None r ≡ None
-nobody_noticed r = by_change (change_of r)
-  where
-    by_change : (change : Option Telegram) → notice_at change None ≡ None
-    by_change None = refl
-    by_change (Some m) = refl
 
 over_unnoticed : (r : Row) (x : Session) (end : PeerEnd) → x.end ≡ Some end → tell_row r x ≡ x
 over_unnoticed r x end over =

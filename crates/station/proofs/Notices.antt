@@ -10,7 +10,7 @@ use Rattle.app_message.specs.Spelling.{spelling}
 use Rattle.app_message.specs.Telegram.{Telegram}
 use Rattle.device_map.specs.Changes.{change_of, change_where}
 use Rattle.peer_talk.specs.Text.{is_same_node}
-use Rattle.station.specs.Notices.{notice_at}
+use Rattle.station.specs.Notices.{notice_at, row_notice}
 use Rattle.station.specs.Peers.{listener, tell_row, tell_rows, tell_notice, with_notices}
 use Rattle.station.specs.PeerViews.{is_at, session_noticed, slot_noticed}
 use Rattle.station.specs.Sessions.{Session}
@@ -53,6 +53,15 @@ with_notices-unchanged r (Some x ∷ peers) none =
 pub no_sign_off_change : (reply : Result Answer Refusal) → change_where SignOff reply ≡ None
 no_sign_off_change (Ok answer) = refl
 no_sign_off_change (Err refusal) = refl
+
+-- ---- nobody
+
+pub nobody_noticed : (r : Row) → row_notice None r ≡ None
+nobody_noticed r = by_change (change_of r)
+  where
+    by_change : (change : Option Telegram) → notice_at change None ≡ None
+    by_change None = refl
+    by_change (Some m) = refl
 
 -- ---- a row with a change
 

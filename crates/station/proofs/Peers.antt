@@ -1,9 +1,15 @@
 -- The peers of a station as a list.
-use Rattle.std.proofs.Common.{◌≡◌, ◌≢◌, ℕ, zero, suc, ◌<◌, List, [], ◌∷◌, length, map}
-use Rattle.std.proofs.Common.{Option, None, refl, ap, sym, arith}
-use Rattle.std.proofs.Math.ListN.{set}
+use Rattle.std.proofs.Common.{◌≡◌, ◌≢◌, ℕ, zero, suc, ◌==◌, Bool, true, false, List, []}
+use Rattle.std.proofs.Common.{◌∷◌, map, Option, None, refl, ap, sym, subst, ◌∙◌}
+use Rattle.std.proofs.lemmas.Bool.{eq-eqb}
+use Rattle.device_map.proofs.Results.{equal}
 use Rattle.station.specs.Peers.{peer_at, with_peer}
 use Rattle.station.specs.Sessions.{Session}
+
+pub other_key : (j k : ℕ) → (j == k) ≡ false → k ≢ j
+other_key j k is same =
+    absurd (let true_is : (j == k) ≡ true = ap (λ n. j == n) same ∙ eq-eqb j j refl in
+    let no : true ≡ false = sym true_is ∙ is in cc)
 
 pub peer_at-same : (k : ℕ) (x : Option Session) (peers : List (Option Session))
     → peer_at (with_peer k x peers) k ≡ x
@@ -22,6 +28,20 @@ peer_at-other (suc k) zero x (p ∷ peers) other = refl
 peer_at-other (suc k) (suc j) x [] other = peer_at-other k j x [] (λ is. other (ap suc is))
 peer_at-other (suc k) (suc j) x (p ∷ peers) other =
     peer_at-other k j x peers (λ is. other (ap suc is))
+
+-- .. so each slot is the one of the key, or as it was
+pub at_slot : (R : Option Session → Type 0) (k j : ℕ) (y : Option Session)
+    (peers : List (Option Session)) → (k ≡ j → R y) → (j ≢ k → R (peer_at peers j))
+    → R (peer_at (with_peer k y peers) j)
+at_slot R k j y peers same other = by_key (k == j) refl
+  where
+    by_key : (b : Bool) → (k == j) ≡ b → R (peer_at (with_peer k y peers) j)
+    by_key true is =
+        subst (λ i. R (peer_at (with_peer k y peers) i)) (equal k j is)
+        (subst R (sym (peer_at-same k y peers)) (same (equal k j is)))
+    by_key false is =
+        let apart = other_key k j is in
+        subst R (sym (peer_at-other k j y peers apart)) (other apart)
 
 pub with_peer-twice : (k : ℕ) (x y : Option Session) (peers : List (Option Session))
     → with_peer k x (with_peer k y peers) ≡ with_peer k x peers
@@ -45,11 +65,3 @@ pub peer_at-map : (f : Option Session → Option Session) (k : ℕ) (peers : Lis
 peer_at-map f k [] none = sym none
 peer_at-map f zero (p ∷ peers) none = refl
 peer_at-map f (suc k) (p ∷ peers) none = peer_at-map f k peers none
-
--- a key that the list has
-pub with_peer-set : (k : ℕ) (x : Option Session) (peers : List (Option Session))
-    → k < length peers → with_peer k x peers ≡ set peers k x
-with_peer-set k x [] within = absurd (omega arith)
-with_peer-set zero x (p ∷ peers) within = refl
-with_peer-set (suc k) x (p ∷ peers) within =
-    ap (λ ps. p ∷ ps) (with_peer-set k x peers (omega arith))

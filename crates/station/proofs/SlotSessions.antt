@@ -43,13 +43,6 @@ unowed_beyond zero (p ∷ slots) within = within (omega arith)
 unowed_beyond (suc k) (p ∷ slots) within =
     unowed_beyond k slots (λ less. within (omega arith))
 
--- nobody is where there is no slot
-pub nobody_beyond : (k : ℕ) (slots : List (Option Peer)) → length slots ≤ k
-    → peer_at (sessions_of slots) k ≡ None
-nobody_beyond k [] beyond = refl
-nobody_beyond zero (p ∷ slots) beyond = absurd (omega arith)
-nobody_beyond (suc k) (p ∷ slots) beyond = nobody_beyond k slots (omega arith)
-
 pub sessions_set : (k : ℕ) (slots : List (Option Peer)) (y : Option Peer) → k < length slots
     → sessions_of (set slots k y) ≡ with_peer k (option_map session_of y) (sessions_of slots)
 sessions_set k [] y within = absurd (omega arith)
@@ -91,15 +84,6 @@ put_back k x rows peers =
     ∙ with_peer-twice k x None (with_notices rows peers)
 
 -- ---- one slot of many
-
--- a slot whose session stays
-pub sessions_kept : (i : ℕ) (slots : List (Option Peer)) (y d : Option Peer) → i < length slots
-    → option_map session_of y ≡ option_map session_of (get_or slots i d)
-    → sessions_of (set slots i y) ≡ sessions_of slots
-sessions_kept i [] y d within same = absurd (omega arith)
-sessions_kept zero (p ∷ slots) y d within same = ap (λ q. q ∷ sessions_of slots) same
-sessions_kept (suc i) (p ∷ slots) y d within same =
-    ap (λ ps. option_map session_of p ∷ ps) (sessions_kept i slots y d (omega arith) same)
 
 pub found_again : (i : ℕ) (slots : List (Option Peer)) (d : Option Peer) (e : Option Session)
     → i < length slots → option_map session_of (get_or slots i d) ≡ get_or (sessions_of slots) i e

@@ -9,13 +9,13 @@ use Rattle.peer_talk.specs.Exchanges.{Asked, outcome_given, rows_made, signed_by
 use Rattle.peer_talk.specs.Talks.{GoesOn, TalkState}
 use Rattle.peer_talk.specs.Text.{messages_text, peer_after}
 use Rattle.peer_talk.proofs.Courses.{on_then}
-use Rattle.device_map.specs.Changes.{change_of}
-use Rattle.station.specs.Notices.{notice_at, notices_of, octets_of, row_notice}
+use Rattle.station.specs.Notices.{notices_of, octets_of, row_notice}
 use Rattle.station.specs.Sessions.{Session, opening_text}
 use Rattle.station.specs.Stories.{AreAsked, Happening, IsAskedBy, Passes, Speaks, asked_in}
 use Rattle.station.specs.Stories.{book_of, messages_in}
 use Rattle.station.specs.Stories.{notices_due, notices_in, peer_in, reply_to_one, rows_in, said_in}
 use Rattle.station.specs.Stories.{told_in}
+use Rattle.station.proofs.Notices.{nobody_noticed}
 
 -- ---- one happening more
 
@@ -87,7 +87,7 @@ said-more peer (Speaks m asked ∷ story) h =
     (said_in (peer_in q story) (h ∷ [])))
 said-more peer (Passes r ∷ story) h = said-more peer story h
 
-signed-append : (on : Option ℕ) (a b : List Asked)
+pub signed-append : (on : Option ℕ) (a b : List Asked)
     → signed_on_after on (a ++ b) ≡ signed_on_after (signed_on_after on a) b
 signed-append on [] b = refl
 signed-append on (x ∷ a) b = signed-append (signed_by x.actor x.event x.outcome on) a b
@@ -138,14 +138,6 @@ all_due c rows node (Passes r ∷ story) quiet =
     ap (λ t. octets_of (row_notice (Some node) r) ++ t)
     (all_due c (rows ++ r ∷ []) node story quiet)
 
--- the peer of nobody is told nothing
-pub nobody_told : (r : Row) → octets_of (row_notice None r) ≡ []
-nobody_told r = by_change (change_of r)
-  where
-    by_change : (change : Option Telegram) → octets_of (notice_at change None) ≡ []
-    by_change None = refl
-    by_change (Some m) = refl
-
 pub notices_are_due : (c : Configured) (rows : List Row) (story : List Happening)
     → AreOwnQuiet None story → notices_in c rows None story ≡ notices_due c rows story
 notices_are_due c rows [] quiet = refl
@@ -154,7 +146,7 @@ notices_are_due c rows (Speaks m asked ∷ story) quiet =
     ap (λ t. opening_text None m.from (book_of c behind) ++ t)
     (all_due c behind m.from story quiet.1)
 notices_are_due c rows (Passes r ∷ story) quiet =
-    ap (λ t. t ++ notices_in c (rows ++ r ∷ []) None story) (nobody_told r)
+    ap (λ t. t ++ notices_in c (rows ++ r ∷ []) None story) (ap octets_of (nobody_noticed r))
     ∙ notices_are_due c (rows ++ r ∷ []) story quiet
 
 -- ---- a session in its course

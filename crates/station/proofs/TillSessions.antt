@@ -15,43 +15,27 @@ use Rattle.site_base.specs.declared.refusal.NoRow.TheVariants as norow
 use Rattle.site_base.specs.declared.refusal.Refusal.{Refusal}
 use Rattle.site_base.specs.declared.row.Row.{Row}
 use Rattle.site_base.specs.SignChanges.{sign_change}
-use Rattle.app_message.specs.declared.fault.StreamFault.{StreamFault}
-use Rattle.app_message.specs.Spelling.{spelling}
-use Rattle.app_message.specs.Stream.{fed_by, held_part}
-use Rattle.app_message.specs.Telegram.{Telegram}
-use Rattle.device_map.specs.Replies.{fault_message}
 use Rattle.device_map.proofs.Results.{equal}
 use Rattle.written_site.specs.RowWords.{signing_of, signing_said}
 use Rattle.written_site.specs.SiteState.{SiteState, is_signed_on, opening}
 use Rattle.written_site.proofs.Histories.{site_of_rows-push}
 use Rattle.written_site.proofs.SigningLaws.{signed_row}
 use Rattle.site_book.specs.Book.{Book, book_reply, is_full, next_row, site_of_book, with_row_of}
-use Rattle.peer_talk.specs.declared.fault.TalkFault.TheVariants as talk
-use Rattle.peer_talk.specs.declared.talk.Meaning.{Meaning}
-use Rattle.peer_talk.specs.declared.talk.Meaning.TheVariants as meanings
 use Rattle.peer_talk.specs.Exchanges.{signed_with}
 use Rattle.peer_talk.specs.Talks.{IsOwn, IsSpokenBy}
-use Rattle.peer_talk.specs.Text.{left_over, meaning_at}
-use Rattle.peer_talk.proofs.Speakers.{own_met, request_meant, spoken_by}
 use Rattle.station.specs.declared.peer_end.PeerEnd.{PeerEnd}
-use Rattle.station.specs.declared.peer_end.PeerEnd.TheVariants as ends
 use Rattle.station.specs.Laws.{HasSession}
-use Rattle.station.specs.Moves.{StationState, finish_at, free, hear_from, rows_since, take_by}
-use Rattle.station.specs.Moves.{with_end, with_turn}
+use Rattle.station.specs.Moves.{StationState, rows_since, with_turn}
 use Rattle.station.specs.Peers.{tell_rows, peer_at, with_notices}
-use Rattle.station.specs.Runs.{Arrives, Finishes, Leaves, Move, Says, Takes, after, after_move}
-use Rattle.station.specs.Runs.{arrive, opening_station}
-use Rattle.station.specs.Sessions.{Granted, Grants, Session, Turn, answer, answer_all}
-use Rattle.station.specs.Sessions.{answer_meaning}
-use Rattle.station.specs.Sessions.{ask, end_by, end_session, finish, full_grant, hear, is_read}
+use Rattle.station.specs.Runs.{Move, after, after_move, opening_station}
 use Rattle.conversation.specs.Books.{outcome_at}
-use Rattle.station.specs.Sessions.{no_memory, opening_session, refuse_by, serve}
-use Rattle.station.specs.Sessions.{take_messages, tell, tell_last, with_text}
+use Rattle.station.specs.Sessions.{Session, Turn, ask, end_session, opening_session}
 use Rattle.station.specs.Sessions.{without_till}
-use Rattle.station.proofs.Courses.{other_key}
-use Rattle.station.proofs.Leaving.{AreOwn, IsOwnSession, move_own, one_own, signed_off}
+use Rattle.station.proofs.Keeping.{Keeps, Leads, after_input, each_moved, heard_keeps, key_of}
+use Rattle.station.proofs.Keeping.{moved_keeps, turn_at, with_slot}
+use Rattle.station.proofs.Leaving.{AreOwn, IsOwnSession, each_own, own_at, own_kept, signed_off}
 use Rattle.station.proofs.Leaving.{till_unended}
-use Rattle.station.proofs.Peers.{peer_at-map, peer_at-other, peer_at-same}
+use Rattle.station.proofs.Peers.{other_key, peer_at-map, peer_at-other, peer_at-same}
 
 -- ---- a row
 
@@ -135,16 +119,6 @@ ended_for b on end t all u signed = by_on t.session.talk.on refl signed
             another (λ its. other_till v u at (sym is ∙ its))
             (all u (sym (still_on t.book v u at) ∙ on_then))
 
-told_for : (b : Book) (on : Option ℕ) (memory : Bool) (text : List ℕ) (t : Turn)
-    → AreSignedFor b on t → AreSignedFor b on (tell memory text t)
-told_for b on true text t all = all
-told_for b on false text t all = ended_for b on no_memory t all
-
-last_for : (b : Book) (on : Option ℕ) (memory : Bool) (text : List ℕ) (end : PeerEnd) (t : Turn)
-    → AreSignedFor b on t → AreSignedFor b on (tell_last memory text end t)
-last_for b on true text end t all = ended_for b on end (with_text text t) all
-last_for b on false text end t all = ended_for b on no_memory t all
-
 -- ---- a request
 
 -- a row that signs this till on is one by which the session has signed it on
@@ -217,70 +191,18 @@ asked_for b on true actor event t lasts spoken own all = by_full (is_full t.book
     by_full false = λ u signed.
         by_signing u (signing_of u row) refl (sym (row_signed t.book actor event u) ∙ signed)
 
-by_meaning_for : (b : Book) (on : Option ℕ) (g : Granted) (m : Telegram) (meaning : Meaning)
-    (t : Turn) → meaning_at t.session.talk.peer m ≡ meaning → t.session.end ≡ None
-    → IsOwnSession t.session → AreSignedFor b on t
-    → AreSignedFor b on (answer_meaning g m meaning t)
-by_meaning_for b on g m meanings.Another t is lasts own all = last_for b on g.text _ _ t all
-by_meaning_for b on g m (meanings.Fault f) t is lasts own all =
-    told_for b on g.text _ (serve m.from t) all
-by_meaning_for b on g m (meanings.Request actor event) t is lasts own all =
-    let p = t.session.talk.peer in
-    let meant = request_meant p m actor event is in
-    told_for b on g.text _ (ask actor event (outcome_at g.row t.book actor event) (serve m.from t))
-    (asked_for b on g.row actor event (serve m.from t) lasts
-    (spoken_by p m actor event meant.0 meant.1) (own_met t.session.talk.on p m.from own) all)
-
-one_for : (b : Book) (on : Option ℕ) (g : Granted) (m : Telegram) (t : Turn)
-    → IsOwnSession t.session → AreSignedFor b on t → AreSignedFor b on (answer g m t)
-one_for b on g m t own all = by_end t.session.end refl
-  where
-    by_end : (e : Option PeerEnd) → t.session.end ≡ e
-        → AreSignedFor b on
-        (if is_none e then answer_meaning g m (meaning_at t.session.talk.peer m) t else t)
-    by_end None lasts =
-        by_meaning_for b on g m (meaning_at t.session.talk.peer m) t refl lasts own all
-    by_end (Some end) over = all
-
-all_for : (b : Book) (on : Option ℕ) (gs : List Granted) (ms : List Telegram) (t : Turn)
-    → IsOwnSession t.session → AreSignedFor b on t → AreSignedFor b on (answer_all gs ms t)
-all_for b on gs [] t own all = all
-all_for b on [] (m ∷ ms) t own all =
-    all_for b on [] ms (answer full_grant m t) (one_own full_grant m t own)
-    (one_for b on full_grant m t own all)
-all_for b on (g ∷ gs) (m ∷ ms) t own all =
-    all_for b on gs ms (answer g m t) (one_own g m t own) (one_for b on g m t own all)
-
-refused_for : (b : Book) (on : Option ℕ) (memory : Bool) (fault : Option StreamFault) (t : Turn)
-    → AreSignedFor b on t → AreSignedFor b on (refuse_by memory fault t)
-refused_for b on memory None t all = all
-refused_for b on memory (Some f) t all = by_test (is_none t.session.end)
-  where
-    by_test : (lasts : Bool)
-        → AreSignedFor b on (if lasts
-        then tell_last memory (spelling (fault_message f)) (ends.Talk
-        (talk.Stream f.fault)) t
-        else t)
-    by_test true = last_for b on memory _ _ t all
-    by_test false = all
-
-heard_for : (g : Grants) (piece : List ℕ) (t : Turn) → t.session.end ≡ None
-    → IsOwnSession t.session → AreSignedFor t.book t.session.talk.on (hear g piece t)
-heard_for g piece t lasts own = by_piece g.piece
-  where
-    by_piece : (memory : Bool)
-        → AreSignedFor t.book t.session.talk.on
-        (if memory then take_messages g (fed_by t.session.held piece) t
-        else end_session no_memory t)
-    by_piece true =
-        let fed = fed_by t.session.held piece in
-        let start : Turn =
-        record t { session = record t.session { held = held_part fed } } in
-        refused_for t.book t.session.talk.on g.refusal fed.fault
-        (answer_all g.messages fed.messages start)
-        (all_for t.book t.session.talk.on g.messages fed.messages start own
-        (start_for t lasts))
-    by_piece false = ended_for t.book t.session.talk.on no_memory t (start_for t lasts)
+-- whatever comes of its peer, each till that is signed on was signed on by it or before
+signed_for : (b : Book) (on : Option ℕ)
+    → Keeps (λ t. IsOwnSession t.session × AreSignedFor b on t)
+signed_for b on = record {
+  serves = λ from t lasts all. (own_kept.serves from t lasts all.0, all.1);
+  asks = λ memory actor event t lasts spoken all. (
+    own_kept.asks memory actor event t lasts spoken all.0,
+    asked_for b on memory actor event t lasts spoken all.0 all.1,
+  );
+  tells = λ text t lasts all. all;
+  ends = λ end t lasts all. (all.0, ended_for b on end t all.1);
+}
 
 -- ---- a move
 
@@ -289,11 +211,25 @@ TillsHave s = (u : ℕ) → is_signed_on (site_of_book s.book) u ≡ true → Ha
 
 -- one key has one session
 one_session : (s : StationState) (k j : ℕ) (x y : Session) → peer_at s.peers k ≡ Some x
-    → peer_at s.peers j ≡ Some y → (k == j) ≡ true → x ≡ y
+    → peer_at s.peers j ≡ Some y → k ≡ j → x ≡ y
 one_session s k j x y here there same =
-    let both : Some x ≡ Some y =
-    sym here ∙ ap (peer_at s.peers) (equal k j same) ∙ there in
+    let both : Some x ≡ Some y = sym here ∙ ap (peer_at s.peers) same ∙ there in
     cc
+
+-- a session stays where another slot changes
+elsewhere : (k : ℕ) (y : Option Session) (s : StationState) (u : ℕ) (h : HasSession s u)
+    → (k ≡ h.key → HasSession (with_slot k y s) u) → HasSession (with_slot k y s) u
+elsewhere k y s u h here = by_key (k == h.key) refl
+  where
+    by_key : (b : Bool) → (k == h.key) ≡ b → HasSession (with_slot k y s) u
+    by_key true same = here (equal k h.key same)
+    by_key false same = record {
+      key = h.key;
+      session = h.session;
+      there = peer_at-other k h.key y s.peers (other_key k h.key same) ∙ h.there;
+      lasts = h.lasts;
+      on = h.on;
+    }
 
 turn_have : (k : ℕ) (t : Turn) (s : StationState) (x : Session) → peer_at s.peers k ≡ Some x
     → AreOwn s → AreSignedFor s.book x.talk.on t → TillsHave s → TillsHave (with_turn k t s)
@@ -302,185 +238,77 @@ turn_have k t s x here own its all u signed = by_whom (its u signed)
     rows : List Row
     rows = rows_since s.book t.book
 
-    by_key : is_signed_on (site_of_book s.book) u ≡ true → x.talk.on ≢ Some u
-        → (h : HasSession s u) → (b : Bool) → (k == h.key) ≡ b → HasSession (with_turn k t s) u
-    by_key was other h true same =
-        absurd (other (ap (λ (z : Session). z.talk.on)
-        (one_session s k h.key x h.session here h.there same) ∙ h.on))
-    by_key was other h false same = record {
-      key = h.key;
-      session = h.session;
-      there = peer_at-other k h.key (Some t.session) (with_notices rows s.peers)
-          (other_key k h.key same)
-          ∙ peer_at-map (option_map (tell_rows rows)) h.key s.peers refl
-          ∙ ap (option_map (tell_rows rows)) h.there
-          ∙ ap (λ (z : Session). Some z)
-          (till_unended rows h.session u h.on (own h.key h.session h.there));
-      lasts = h.lasts;
-      on = h.on;
-    }
+    noticed : StationState
+    noticed = record { book = t.book; peers = with_notices rows s.peers }
 
     by_whom : IsSignedFor s.book x.talk.on t u → HasSession (with_turn k t s) u
     by_whom (inl its) = record {
       key = k;
       session = t.session;
-      there = peer_at-same k (Some t.session) (with_notices rows s.peers);
+      there = peer_at-same k (Some t.session) noticed.peers;
       lasts = its.0;
       on = its.1;
     }
-    by_whom (inr was) = by_key was.0 was.1 (all u was.0) (k == (all u was.0).key) refl
+    by_whom (inr was) =
+        let h = all u was.0 in
+        elsewhere k (Some t.session) noticed u
+        (record {
+          key = h.key;
+          session = h.session;
+          there = peer_at-map (option_map (tell_rows rows)) h.key s.peers refl
+              ∙ ap (option_map (tell_rows rows)) h.there
+              ∙ ap (λ (z : Session). Some z)
+              (till_unended rows h.session u h.on (own_at s h.key h.session own h.there));
+          lasts = h.lasts;
+          on = h.on;
+        })
+        (λ same. absurd (was.1 (ap (λ (z : Session). z.talk.on)
+        (one_session s k h.key x h.session here h.there same) ∙ h.on)))
 
-octets_have : (g : Grants) (k : ℕ) (piece : List ℕ) (y : Option Session) (s : StationState)
-    → peer_at s.peers k ≡ y → AreOwn s → TillsHave s → TillsHave (hear_from g k piece y s)
-octets_have g k piece None s there own all = all
-octets_have g k piece (Some x) s there own all = by_end x.end refl (is_read x) refl
-  where
-    start : Turn
-    start = record { book = s.book; session = x }
-
-    by_end : (e : Option PeerEnd) → x.end ≡ e → (b : Bool) → is_read x ≡ b
-        → TillsHave (if b then with_turn k (hear g piece start) s else s)
-    by_end e is false read = all
-    by_end None is true read =
-        turn_have k (hear g piece start) s x there own
-        (heard_for g piece start is (own k x there)) all
-    by_end (Some end) is true read =
-        absurd (false≢true (sym (ended_unread x end is) ∙ read))
-      where
-        ended_unread : (z : Session) (end : PeerEnd) → z.end ≡ Some end → is_read z ≡ false
-        ended_unread z end over = rw over refl
-
-ends_have : (k : ℕ) (y : Option Session) (s : StationState) → peer_at s.peers k ≡ y → AreOwn s
-    → TillsHave s → TillsHave (finish_at k y s)
-ends_have k None s there own all = all
-ends_have k (Some x) s there own all = by_end x.end refl
-  where
-    start : Turn
-    start = record { book = s.book; session = x }
-
-    by_end : (e : Option PeerEnd) → x.end ≡ e
-        → TillsHave (if is_none e then with_turn k (finish start) s else s)
-    by_end None lasts =
-        turn_have k (finish start) s x there own
-        (ended_for s.book x.talk.on (end_by (left_over x.held.rest)) start
-        (start_for start lasts)) all
-    by_end (Some end) over = all
-
--- a session whose octets have ended doesn't last
-ended_over : (k : ℕ) (y : Option Session) (s : StationState) (z : Session)
-    → peer_at s.peers k ≡ y → peer_at (finish_at k y s).peers k ≡ Some z → z.end ≡ None → ⊥
-ended_over k None s z there is lasts =
-    let no : None ≡ Some z = sym there ∙ is in cc
-ended_over k (Some x) s z there is lasts = by_end x.end refl is
-  where
-    start : Turn
-    start = record { book = s.book; session = x }
-
-    by_end : (e : Option PeerEnd) → x.end ≡ e
-        → peer_at (if is_none e then with_turn k (finish start) s else s).peers k ≡ Some z → ⊥
-    by_end None ongoing is =
-        let both : Some (finish start).session ≡ Some z =
-        sym (peer_at-same k (Some (finish start).session)
-        (with_notices (rows_since s.book (finish start).book) s.peers)) ∙ is in
-        let same : (finish start).session ≡ z = cc in
-        let no : ◌≡◌ {A = Option PeerEnd} (Some (end_by (left_over x.held.rest))) None =
-        ap (λ (w : Session). w.end) same ∙ lasts in
-        cc
-    by_end (Some end) over is =
-        let both : Some x ≡ Some z = sym there ∙ is in
-        let same : x ≡ z = cc in
-        let no : ◌≡◌ {A = Option PeerEnd} (Some end) None =
-        sym over ∙ ap (λ (w : Session). w.end) same ∙ lasts in
-        cc
-
-freed_have : (k : ℕ) (y : Option Session) (s : StationState)
-    → ((z : Session) → peer_at s.peers k ≡ Some z → z.end ≡ None → ⊥)
-    → TillsHave s → TillsHave (free k y s)
-freed_have k None s over all u signed = all u signed
-freed_have k (Some x) s over all u signed =
-    by_key (all u signed) (k == (all u signed).key) refl
-  where
-    by_key : (h : HasSession s u) → (b : Bool) → (k == h.key) ≡ b
-        → HasSession (free k (Some x) s) u
-    by_key h true same =
-        absurd (over h.session (ap (peer_at s.peers) (equal k h.key same) ∙ h.there) h.lasts)
-    by_key h false same = record {
-      key = h.key;
-      session = h.session;
-      there = peer_at-other k h.key None s.peers (other_key k h.key same) ∙ h.there;
-      lasts = h.lasts;
-      on = h.on;
-    }
-
-taken_have : (k n : ℕ) (y : Option Session) (s : StationState) → peer_at s.peers k ≡ y
-    → TillsHave s → TillsHave (take_by k n y s)
-taken_have k n None s there all u signed = all u signed
-taken_have k n (Some x) s there all u signed =
-    by_key (all u signed) (k == (all u signed).key) refl
-  where
-    later : Session
-    later = record x { owed = drop n x.owed }
-
-    by_key : (h : HasSession s u) → (b : Bool) → (k == h.key) ≡ b
-        → HasSession (take_by k n (Some x) s) u
-    by_key h true same =
-        let one : x ≡ h.session = one_session s k h.key x h.session there h.there same in
-        record {
-          key = k;
-          session = later;
-          there = peer_at-same k (Some later) s.peers;
-          lasts = ap (λ (w : Session). w.end) one ∙ h.lasts;
-          on = ap (λ (w : Session). w.talk.on) one ∙ h.on;
-        }
-    by_key h false same = record {
-      key = h.key;
-      session = h.session;
-      there = peer_at-other k h.key (Some later) s.peers (other_key k h.key same) ∙ h.there;
-      lasts = h.lasts;
-      on = h.on;
-    }
-
-arrived_have : (k : ℕ) (y : Option Session) (s : StationState) → peer_at s.peers k ≡ y
-    → TillsHave s → TillsHave (arrive k y s)
-arrived_have k (Some x) s there all u signed = all u signed
-arrived_have k None s there all u signed = by_key (all u signed) (k == (all u signed).key) refl
-  where
-    by_key : (h : HasSession s u) → (b : Bool) → (k == h.key) ≡ b
-        → HasSession (arrive k None s) u
-    by_key h true same =
-        absurd (let no : None ≡ Some h.session =
-        sym there ∙ ap (peer_at s.peers) (equal k h.key same) ∙ h.there in cc)
-    by_key h false same = record {
-      key = h.key;
-      session = h.session;
-      there = peer_at-other k h.key (Some opening_session) s.peers (other_key k h.key same)
-          ∙ h.there;
-      lasts = h.lasts;
-      on = h.on;
-    }
-
-move_have : (m : Move) (s : StationState) → AreOwn s → TillsHave s → TillsHave (after_move m s)
-move_have (Arrives k) s own all = arrived_have k (peer_at s.peers k) s refl all
-move_have (Says memory k octets) s own all =
-    octets_have memory k octets (peer_at s.peers k) s refl own all
-move_have (Takes k n) s own all = taken_have k n (peer_at s.peers k) s refl all
-move_have (Finishes k) s own all = ends_have k (peer_at s.peers k) s refl own all
-move_have (Leaves k) s own all =
-    freed_have k (peer_at (with_end k s).peers k) (with_end k s)
-    (λ z is lasts. ended_over k (peer_at s.peers k) s z refl is lasts)
-    (ends_have k (peer_at s.peers k) s refl own all)
+have_lead : (k : ℕ) (s : StationState) → AreOwn s → TillsHave s → Leads TillsHave k s
+have_lead k s own all = record {
+  stays = all;
+  comes = λ none u signed.
+      let h = all u signed in
+      elsewhere k (Some opening_session) s u h
+      (λ same. absurd (let no : None ≡ Some h.session =
+      sym none ∙ ap (peer_at s.peers) same ∙ h.there in cc));
+  turns = λ input x there lasts.
+      let t = turn_at s x in
+      let signed = heard_keeps (signed_for s.book x.talk.on) input t lasts
+      (λ h. (own_at s k x own there, start_for t lasts)) in
+      turn_have k (after_input input t) s x there own signed.1 all;
+  takes = λ n x there u signed.
+      let h = all u signed in
+      let later : Session = record x { owed = drop n x.owed } in
+      elsewhere k (Some later) s u h
+      (λ same.
+      let one = one_session s k h.key x h.session there h.there same in
+      record {
+        key = k;
+        session = later;
+        there = peer_at-same k (Some later) s.peers;
+        lasts = ap (λ (z : Session). z.end) one ∙ h.lasts;
+        on = ap (λ (z : Session). z.talk.on) one ∙ h.on;
+      });
+  leaves = λ later x there over still u signed.
+      let h = still u signed in
+      elsewhere k None later u h
+      (λ same.
+      let one = one_session later k h.key x h.session there h.there same in
+      absurd (false≢true (sym over ∙ ap (λ (z : Session). is_none z.end) one
+      ∙ ap (λ e. is_none e) h.lasts)));
+}
 
 moves_have : (ms : List Move) (s : StationState) → AreOwn s → TillsHave s → TillsHave (after ms s)
 moves_have [] s own all = all
 moves_have (m ∷ ms) s own all =
-    moves_have ms (after_move m s) (move_own m s own) (move_have m s own all)
+    moves_have ms (after_move m s) (each_moved each_own m s own)
+    (moved_keeps TillsHave m s (have_lead (key_of m) s own all))
 
 pub tills_have : (b : Book) (ms : List Move)
     → ((u : ℕ) → is_signed_on (site_of_book b) u ≡ false)
     → TillsHave (after ms (opening_station b))
 tills_have b ms off =
-    moves_have ms (opening_station b) (λ k x is. absurd (nobody k x is))
+    moves_have ms (opening_station b) (λ k. tt)
     (λ u signed. absurd (false≢true (sym (off u) ∙ signed)))
-  where
-    nobody : (k : ℕ) (x : Session) → peer_at [] k ≡ Some x → ⊥
-    nobody k x is = cc

@@ -2,27 +2,24 @@
 use Rattle.std.proofs.Common.{◌≡◌, ℕ, Bool, true, false, List, [], ◌∷◌, ◌++◌, length, drop}
 use Rattle.std.proofs.Common.{Option, Some, None, refl, ap, sym, ◌∙◌, append_assoc, append-nil}
 use Rattle.std.proofs.Common.{arith}
-use Rattle.std.specs.Prelude.{if◌then◌else◌, is_none}
+use Rattle.std.specs.Prelude.{if◌then◌else◌}
 use Rattle.site_base.specs.declared.actor.Actor.{Actor}
 use Rattle.site_base.specs.declared.actor.Actor.TheVariants.{Till}
 use Rattle.site_base.specs.declared.event.Event.{Event}
 use Rattle.site_base.specs.declared.event.Event.TheVariants.{SignOff}
 use Rattle.site_base.specs.declared.row.Row.{Row}
+use Rattle.app_message.specs.declared.fault.StreamFault.{StreamFault}
 use Rattle.app_message.specs.Telegram.{Telegram}
 use Rattle.site_book.specs.Book.{Book, next_row, with_row_of, site_of_book}
 use Rattle.written_site.specs.SiteState.{is_signed_on}
-use Rattle.peer_talk.specs.declared.talk.Meaning.{Meaning}
-use Rattle.peer_talk.specs.declared.talk.Meaning.TheVariants as meanings
 use Rattle.peer_talk.specs.Exchanges.{Outcome, row_made}
-use Rattle.peer_talk.specs.Text.{meaning_at}
-use Rattle.station.specs.declared.peer_end.PeerEnd.{PeerEnd}
 use Rattle.station.specs.Moves.{rows_since}
 use Rattle.station.specs.Peers.{with_notices}
-use Rattle.station.specs.Sessions.{Granted, Session, Turn, answer, answer_all, answer_meaning}
-use Rattle.conversation.specs.Books.{outcome_at}
-use Rattle.station.specs.Sessions.{end_session, full_grant, tell, tell_last}
+use Rattle.station.specs.Sessions.{Granted, Session, Turn, answer, answer_all, refuse_by}
 use Rattle.conversation.specs.Books.{with_outcome}
 use Rattle.station.specs.Sessions.{without_till}
+use Rattle.station.proofs.Keeping.{Input, Keeps, after_input, all_keep, answered_keeps}
+use Rattle.station.proofs.Keeping.{heard_keeps, left_keeps, refused_keeps, rows_keep}
 use Rattle.station.proofs.Notices.{no_sign_off_change, with_notices-append, with_notices-none}
 use Rattle.station.proofs.Notices.{with_notices-unchanged}
 
@@ -78,13 +75,13 @@ abbrev pub with_row-grows : (b : Book) (actor : Actor) (event : Event)
 with_row-grows b actor event =
     record { more = next_row b actor event ∷ []; rows = refl; same = refl }
 
+-- .. and with one more row
+pub row_more : (b c : Book) (actor : Actor) (event : Event) → Grows b c
+    → Grows b (with_row_of c actor event)
+row_more b c actor event g = grows_then b c _ g (with_row-grows c actor event)
+
 pub left-grows : (on : Option ℕ) (b : Book) → Grows b (without_till on b)
-left-grows None b = grows_none b
-left-grows (Some t) b = by_test (is_signed_on (site_of_book b) t)
-  where
-    by_test : (s : Bool) → Grows b (if s then with_row_of b (Till t) SignOff else b)
-    by_test true = with_row-grows b (Till t) SignOff
-    by_test false = grows_none b
+left-grows on b = left_keeps (Grows b) (row_more b) on b (grows_none b)
 
 -- nobody is told that a till is left
 pub left-told : (on : Option ℕ) (b : Book) (x : List (Option Session))
@@ -101,53 +98,33 @@ left-told (Some t) b x = by_test (is_signed_on (site_of_book b) t)
         ∙ with_notices-unchanged row x (no_sign_off_change row.reply))
     by_test false = told_none b x
 
-pub ended-grows : (end : PeerEnd) (t : Turn) → Grows t.book (end_session end t).book
-ended-grows end t = left-grows t.session.talk.on t.book
-
--- ---- a message
-
-told-grows : (memory : Bool) (text : List ℕ) (t : Turn) → Grows t.book (tell memory text t).book
-told-grows true text t = grows_none t.book
-told-grows false text t = left-grows t.session.talk.on t.book
-
-last-grows : (memory : Bool) (text : List ℕ) (end : PeerEnd) (t : Turn)
-    → Grows t.book (tell_last memory text end t).book
-last-grows true text end t = left-grows t.session.talk.on t.book
-last-grows false text end t = left-grows t.session.talk.on t.book
+-- ---- what a session does
 
 abbrev pub outcome-grows : (actor : Actor) (event : Event) (outcome : Outcome) (b : Book)
     → Grows b (with_outcome actor event outcome b)
 outcome-grows actor event outcome b =
     record { more = row_made actor event outcome; rows = refl; same = refl }
 
-by-grows : (g : Granted) (m : Telegram) (meaning : Meaning) (t : Turn)
-    → Grows t.book (answer_meaning g m meaning t).book
-by-grows g m meanings.Another t = last-grows g.text _ _ t
-by-grows g m (meanings.Fault f) t = told-grows g.text _ _
-by-grows g m (meanings.Request actor event) t =
-    let outcome = outcome_at g.row t.book actor event in
-    grows_then t.book (with_outcome actor event outcome t.book) _
-    (outcome-grows actor event outcome t.book)
-    (told-grows g.text _ _)
+-- a book only grows
+pub turns_grow : (b : Book) → Keeps (λ t. Grows b t.book)
+turns_grow b = rows_keep (Grows b) (row_more b)
 
 pub answered-grows : (g : Granted) (m : Telegram) (t : Turn) → Grows t.book (answer g m t).book
-answered-grows g m t = by_test (is_none t.session.end)
-  where
-    by_test : (b : Bool)
-        → Grows t.book (if b then answer_meaning g m (meaning_at t.session.talk.peer m) t
-        else t).book
-    by_test true = by-grows g m (meaning_at t.session.talk.peer m) t
-    by_test false = grows_none t.book
+answered-grows g m t = answered_keeps (turns_grow t.book) g m t (grows_none t.book)
 
 pub all-grows : (gs : List Granted) (ms : List Telegram) (t : Turn)
     → Grows t.book (answer_all gs ms t).book
-all-grows gs [] t = grows_none t.book
-all-grows [] (m ∷ ms) t =
-    grows_then t.book (answer full_grant m t).book _ (answered-grows full_grant m t)
-    (all-grows [] ms (answer full_grant m t))
-all-grows (g ∷ gs) (m ∷ ms) t =
-    grows_then t.book (answer g m t).book _ (answered-grows g m t)
-    (all-grows gs ms (answer g m t))
+all-grows gs ms t = all_keep (turns_grow t.book) gs ms t (grows_none t.book)
+
+pub refused-grows : (memory : Bool) (fault : Option StreamFault) (t : Turn)
+    → Grows t.book (refuse_by memory fault t).book
+refused-grows memory fault t =
+    refused_keeps (turns_grow t.book) memory fault t (grows_none t.book)
+
+pub input-grows : (input : Input) (t : Turn) → t.session.end ≡ None
+    → Grows t.book (after_input input t).book
+input-grows input t lasts =
+    heard_keeps (turns_grow t.book) input t lasts (λ h. grows_none t.book)
 
 -- ---- messages one after another
 

@@ -1,12 +1,8 @@
 use Rattle.station.specs.Runs.{after, opening_station}
-use Rattle.station.proofs.History.{always_legal, moves_on}
+use Rattle.station.proofs.History.{always_legal, books_grow}
 use Rattle.station.proofs.laws.rows_are_one_history.Goals as goal
 
 pub returns : goal.returns
 returns c = λ b ms more legal.
-    let later = moves_on more (after ms (opening_station b)) in
-    record {
-      legal = always_legal b ms legal;
-      later = later.grows.more;
-      grows = later.grows.rows;
-    }
+    let later = books_grow more (after ms (opening_station b)) in
+    record { legal = always_legal b ms legal; later = later.more; grows = later.rows }
