@@ -1,7 +1,7 @@
 -- What is said to a message over a book is its answer.
 use Rattle.std.proofs.Common.{◌≡◌, ◌++◌, Bool, true, false, List, Option, Some, None, Result, Ok, Err}
-use Rattle.std.proofs.Common.{refl, sym, ap, ◌∙◌, append-nil}
-use Rattle.std.specs.Prelude.{if◌then◌else◌}
+use Rattle.std.proofs.Common.{refl, sym, ap, subst, ◌∙◌, append-nil, append_assoc, ℕ}
+use Rattle.std.specs.Prelude.{if◌then◌else◌, OnOk}
 use Rattle.site_base.specs.declared.actor.Actor.{Actor}
 use Rattle.site_base.specs.declared.event.Event.{Event}
 use Rattle.site_base.specs.declared.refusal.NoRow.TheVariants as norow
@@ -9,6 +9,8 @@ use Rattle.app_message.specs.Telegram.{Telegram}
 use Rattle.device_map.specs.declared.fault.MapFault.{MapFault}
 use Rattle.device_map.specs.Faults.{map_number}
 use Rattle.device_map.specs.Replies.{number_message}
+use Rattle.device_map.specs.Requests.{request_at}
+use Rattle.hex_lines.specs.Lines.{line_of}
 use Rattle.site_book.specs.Book.{Book, book_reply, is_full}
 use Rattle.peer_talk.specs.Exchanges.{Outcome, row_made}
 use Rattle.peer_talk.specs.Text.{as_meaning, outcome_message}
@@ -16,8 +18,9 @@ use Rattle.conversation.specs.Books.{IsAskedOf, outcome_at, with_outcome}
 use Rattle.conversation.specs.Saying.{IsAskedFor, meaning_of, said_message}
 use Rattle.conversation.specs.declared.said.Said.{Said}
 use Rattle.conversation.specs.declared.said.Said.TheVariants as says
-use Rattle.forecourt_engines.specs.Answers.{answer_meaning, book_meaning, change_meaning, change_said}
-use Rattle.forecourt_engines.specs.Answers.{lacks_memory}
+use Rattle.forecourt_engines.specs.Answers.{Answerer, answer_meaning, answer_to, book_meaning}
+use Rattle.forecourt_engines.specs.Answers.{change_line, change_meaning, change_said, change_to}
+use Rattle.forecourt_engines.specs.Answers.{lacks_memory, lines_for, told_change}
 
 -- what was said to a message that means this, over this book, is its answer, and led to that book
 pub record IsAnswer (b b' : Book) (m : Telegram) (r : Result (Actor × Event) MapFault)
@@ -33,8 +36,9 @@ asked_answer : (b b' : Book) (m : Telegram) (actor : Actor) (event : Event) (out
     → lacks_memory (says.Outcome actor event outcome) ≡ false
     → IsAnswer b b' m (Ok (actor, event)) (says.Outcome actor event outcome)
 asked_answer b b' m actor event outcome false full room so book has =
-    absurd (let lacks : true ≡ false =
-    sym (ap (λ o. lacks_memory (says.Outcome actor event o)) so) ∙ has in lacks)
+    let lacks : true ≡ false =
+    sym (ap (λ o. lacks_memory (says.Outcome actor event o)) so) ∙ has in
+    absurd cc
 asked_answer b b' m actor event outcome true true room so book has =
     let is : outcome ≡ Err norow.BookFull = so ∙ rw room refl in
     record {
@@ -73,3 +77,32 @@ said_answer b b' m (Err f) says.Another is asked has = absurd cc
 said_answer b b' m (Err f) (says.Outcome actor event outcome) is asked has = absurd cc
 said_answer b b' m (Ok x) says.Another is asked has = absurd cc
 said_answer b b' m (Ok x) (says.Fault g) is asked has = absurd cc
+
+-- the lines for a message that it is said so to, where no change is told
+pub lines_told : (a : Answerer) (b' : Book) (m : Telegram) (said : Said) (out told : List ℕ)
+    → IsAnswer a.book b' m (request_at m) said → a.changes ≡ false
+    → told ≡ out ++ line_of (said_message m said) → told ≡ out ++ lines_for a m
+lines_told a b' m said out told answer silent is =
+    is ∙ ap (λ n. out ++ line_of n) answer.message
+    ∙ ap (λ t. out ++ t)
+    (sym (append-nil (line_of (answer_to a.book m)))
+    ∙ sym (ap (λ c. line_of (answer_to a.book m) ++ told_change c (change_to a.book m)) silent))
+
+-- .. and where one is
+pub lines_with_change : (a : Answerer) (b' : Book) (m : Telegram) (said : Said)
+    (out told all : List ℕ)
+    → IsAnswer a.book b' m (request_at m) said → a.changes ≡ true
+    → told ≡ out ++ line_of (said_message m said) → all ≡ told ++ change_line (change_said said)
+    → all ≡ out ++ lines_for a m
+lines_with_change a b' m said out told all answer tells is more =
+    more
+    ∙ ap (λ t. t ++ change_line (change_said said))
+    (is ∙ ap (λ n. out ++ line_of n) answer.message)
+    ∙ ap (λ c. (out ++ line_of (answer_to a.book m)) ++ change_line c) answer.change
+    ∙ append_assoc out (line_of (answer_to a.book m)) (change_line (change_to a.book m))
+    ∙ ap (λ t. out ++ t)
+    (sym (ap (λ c. line_of (answer_to a.book m) ++ told_change c (change_to a.book m)) tells))
+
+pub then_on_ok : {X E : Type 0} {P Q : Type 0} (r : Result X E) → (P → Q) → OnOk r P → OnOk r Q
+then_on_ok (Ok x) f p = f p
+then_on_ok (Err e) f p = tt
