@@ -2,25 +2,22 @@
 use Rattle.std.specs.Prelude.{◌≡◌, ℕ, true, false, List, [], ◌∷◌, ◌++◌, Bool}
 use Rattle.std.specs.Prelude.{Option, Some, None, IfSome}
 use Rattle.std.specs.Io.KnownBytes.{Appends}
-use Rattle.site_base.specs.declared.actor.Actor.{Actor}
-use Rattle.site_base.specs.declared.event.Event.{Event}
 use Rattle.site_base.specs.declared.row.Row.{Row}
-use Rattle.devices.specs.Devices.{one_more, AppendsFront}
+use Rattle.devices.specs.Devices.{one_more}
 use Rattle.app_message.specs.declared.fault.StreamFault.{StreamFault}
 use Rattle.app_message.specs.Spelling.{spelling}
 use Rattle.app_message.specs.Telegram.{Telegram}
 use Rattle.device_map.specs.Replies.{fault_message}
 use Rattle.peer_talk.specs.declared.fault.TalkFault.TheVariants as talk
 use Rattle.peer_talk.specs.declared.fault.TalkFault.TheVariants.{OriginatorChanged}
-use Rattle.peer_talk.specs.Exchanges.{Asked, Outcome, row_made, rows_made, signed_by}
+use Rattle.peer_talk.specs.Exchanges.{Asked, rows_made}
 use Rattle.peer_talk.specs.Exchanges.{signed_on_after}
-use Rattle.peer_talk.specs.Talks.{GoesOn, IsCut, IsOver, IsOwn, TalkState}
-use Rattle.peer_talk.specs.Text.{outcome_text}
+use Rattle.peer_talk.specs.Talks.{GoesOn, IsCut, IsOver, TalkState}
 use Rattle.conversation.specs.declared.said.Said.{Said}
 use Rattle.conversation.specs.declared.said.Said.TheVariants as says
 use Rattle.till_session.specs.declared.fault.SessionFault.{SessionFault}
 use Rattle.till_session.specs.declared.fault.SessionFault.TheVariants as faults
-use Rattle.till_session.specs.Counters.{is_the_one, owed_by}
+use Rattle.till_session.specs.Counters.{is_the_one}
 
 -- it ends a session in the middle of a reply: a failed allocation, a writer that takes no more
 abbrev pub ends_early : SessionFault → Bool
