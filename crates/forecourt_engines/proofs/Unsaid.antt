@@ -1,6 +1,6 @@
 -- What no event is said by.
 use Rattle.std.proofs.Common.{◌≡◌, ◌≢◌, ℕ, ◌≤◌, ◌^◌, true, List, [], ◌∷◌, refl, sym, subst, ap}
-use Rattle.std.proofs.Common.{◌∙◌, arith, nat_lt}
+use Rattle.std.proofs.Common.{◌∙◌, ◌&&◌, arith, decimal, nat_lt}
 use Rattle.std.proofs.lemmas.Bool.{and_parts}
 use Rattle.std.proofs.lemmas.Bool.Decides.{nat_tests}
 use Rattle.site_base.specs.declared.event.Event.{Event}
@@ -11,7 +11,7 @@ use Rattle.site_base.specs.declared.state.Preset.{Preset}
 use Rattle.site_base.specs.declared.state.Preset.TheVariants.{Unset, Volume, Money}
 use Rattle.site_base.specs.Ranges.{is_between}
 use Rattle.site_base.specs.declared.actor.Actor.{Actor}
-use Rattle.site_base.specs.Words.{actor_word, event_words, limit_words}
+use Rattle.site_base.specs.Words.{actor_word, event_words, limit_words, meter_word, sale_word}
 use Rattle.forecourt_engines.specs.declared.words.event_name.EventName.{EventName}
 use Rattle.forecourt_engines.specs.declared.words.event_name.EventName.TheVariants as names
 use Rattle.forecourt_engines.specs.declared.words.parts.TheConstants.{GREATEST_AMOUNT}
@@ -45,26 +45,37 @@ limit Unset range = refl
 limit (Volume n) range = (refl, four n range)
 limit (Money n) range = (refl, four n range)
 
--- the words of an event in range say it
+-- ---- what stands behind the name of an event in range is read
+
+point_read : (words : List (List ℕ)) (p : ℕ) → ((q : ℕ) → ¬ ArePoint words q)
+    → (is_between 1 POINTS p && true) ≡ true → words ≢ decimal p ∷ []
+point_read words p none range same =
+    let low = within POINTS p (and_parts (is_between 1 POINTS p) true range).0 in
+    none p (same, low.0, low.1)
+
+meter_read : (words : List (List ℕ)) (p n reading : ℕ)
+    → ((q m r : ℕ) → ¬ AreMeter words q m r) → (is_between 1 POINTS p && is_meter n reading) ≡ true
+    → words ≢ decimal p ∷ meter_word n reading ∷ []
+meter_read words p n reading none range same =
+    let both = and_parts (is_between 1 POINTS p) (is_meter n reading) range in
+    none p n reading
+    (record { words_are = same; point = within POINTS p both.0; meter = both.1 })
+
+sale_read : (words : List (List ℕ)) (p : ℕ) (sale : SaleId)
+    → ((q : ℕ) (other : SaleId) → ¬ AreSale words q other)
+    → (is_between 1 POINTS p && is_sale sale) ≡ true → words ≢ sale_word p sale ∷ []
+sale_read words p sale none range same =
+    none p sale (same, and_parts (is_between 1 POINTS p) (is_sale sale) range)
+
 unsaid_event : (words : List (List ℕ)) (event : Event) → Unread (name_said event) words
     → is_in_range event ≡ true → words ≢ behind_first (event_words event)
-unsaid_event words events.SignOn none range same =
-    none same
-unsaid_event words events.SignOff none range same =
-    none same
-unsaid_event words (events.Open p) none range same =
-    let low = within POINTS p (and_parts (is_between 1 POINTS p) true range).0 in
-    none p (same, low.0, low.1)
-unsaid_event words (events.Close p) none range same =
-    let low = within POINTS p (and_parts (is_between 1 POINTS p) true range).0 in
-    none p (same, low.0, low.1)
-unsaid_event words (events.Assign p) none range same =
-    let low = within POINTS p (and_parts (is_between 1 POINTS p) true range).0 in
-    none p (same, low.0, low.1)
-unsaid_event words (events.Unassign p) none range same =
-    let low = within POINTS p (and_parts (is_between 1 POINTS p) true range).0 in
-    none p (same, low.0, low.1)
-unsaid_event words (events.Release p preset) none range same =
+unsaid_event words events.SignOn none range = none
+unsaid_event words events.SignOff none range = none
+unsaid_event words (events.Open p) none range = point_read words p none range
+unsaid_event words (events.Close p) none range = point_read words p none range
+unsaid_event words (events.Assign p) none range = point_read words p none range
+unsaid_event words (events.Unassign p) none range = point_read words p none range
+unsaid_event words (events.Release p preset) none range = λ same.
     let both = and_parts (is_between 1 POINTS p) (is_preset preset) range in
     none p preset (record {
       behind = limit_words preset;
@@ -72,71 +83,38 @@ unsaid_event words (events.Release p preset) none range same =
       point = within POINTS p both.0;
       limit = limit preset both.1;
     })
-unsaid_event words (events.Prepay p cents) none range same =
+unsaid_event words (events.Prepay p cents) none range = λ same.
     let both = and_parts (is_between 1 POINTS p) (nat_lt cents (2 ^ 32)) range in
-    none p cents (record {
-      words_are = same;
-      point = within POINTS p both.0;
-      amount_fits = four cents both.1;
-    })
-unsaid_event words (events.TestRelease p) none range same =
-    let low = within POINTS p (and_parts (is_between 1 POINTS p) true range).0 in
-    none p (same, low.0, low.1)
-unsaid_event words (events.Suspend p) none range same =
-    let low = within POINTS p (and_parts (is_between 1 POINTS p) true range).0 in
-    none p (same, low.0, low.1)
-unsaid_event words (events.Resume p) none range same =
-    let low = within POINTS p (and_parts (is_between 1 POINTS p) true range).0 in
-    none p (same, low.0, low.1)
-unsaid_event words (events.Terminate p) none range same =
-    let low = within POINTS p (and_parts (is_between 1 POINTS p) true range).0 in
-    none p (same, low.0, low.1)
-unsaid_event words (events.ReplaceMeter p n reading) none range same =
-    let both = and_parts (is_between 1 POINTS p) (is_meter n reading) range in
-    none p n reading
-    (record { words_are = same; point = within POINTS p both.0; meter = both.1 })
-unsaid_event words (events.ReadPoint p) none range same =
-    let low = within POINTS p (and_parts (is_between 1 POINTS p) true range).0 in
-    none p (same, low.0, low.1)
-unsaid_event words (events.Lock p sale) none range same =
-    none p sale (same, and_parts (is_between 1 POINTS p) (is_sale sale) range)
-unsaid_event words (events.Unlock p sale) none range same =
-    none p sale (same, and_parts (is_between 1 POINTS p) (is_sale sale) range)
-unsaid_event words (events.Clear p sale) none range same =
-    none p sale (same, and_parts (is_between 1 POINTS p) (is_sale sale) range)
-unsaid_event words (events.ReadTransaction p sale) none range same =
-    none p sale (same, and_parts (is_between 1 POINTS p) (is_sale sale) range)
-unsaid_event words (events.SetPrice q mills) none range same =
+    none p cents
+    (record { words_are = same; point = within POINTS p both.0; amount_fits = four cents both.1 })
+unsaid_event words (events.TestRelease p) none range = point_read words p none range
+unsaid_event words (events.Suspend p) none range = point_read words p none range
+unsaid_event words (events.Resume p) none range = point_read words p none range
+unsaid_event words (events.Terminate p) none range = point_read words p none range
+unsaid_event words (events.ReplaceMeter p n reading) none range =
+    meter_read words p n reading none range
+unsaid_event words (events.ReadPoint p) none range = point_read words p none range
+unsaid_event words (events.Lock p sale) none range = sale_read words p sale none range
+unsaid_event words (events.Unlock p sale) none range = sale_read words p sale none range
+unsaid_event words (events.Clear p sale) none range = sale_read words p sale none range
+unsaid_event words (events.ReadTransaction p sale) none range = sale_read words p sale none range
+unsaid_event words (events.SetPrice q mills) none range = λ same.
     let both = and_parts (is_between 1 PRODUCTS q) (nat_lt mills (2 ^ 32)) range in
-    none q mills (record {
+    none q mills
+    (record {
       words_are = same;
       product = within PRODUCTS q both.0;
       amount_fits = four mills both.1;
     })
-unsaid_event words (events.ReadProduct q) none range same =
+unsaid_event words (events.ReadProduct q) none range = λ same.
     let low = within PRODUCTS q range in none q (same, low.0, low.1)
-unsaid_event words events.CloseShift none range same =
-    none same
-unsaid_event words events.ReadSite none range same =
-    none same
-unsaid_event words (events.Online p) none range same =
-    let low = within POINTS p (and_parts (is_between 1 POINTS p) true range).0 in
-    none p (same, low.0, low.1)
-unsaid_event words (events.Offline p) none range same =
-    let low = within POINTS p (and_parts (is_between 1 POINTS p) true range).0 in
-    none p (same, low.0, low.1)
-unsaid_event words (events.Lift p n reading) none range same =
-    let both = and_parts (is_between 1 POINTS p) (is_meter n reading) range in
-    none p n reading
-    (record { words_are = same; point = within POINTS p both.0; meter = both.1 })
-unsaid_event words (events.Flow p n reading) none range same =
-    let both = and_parts (is_between 1 POINTS p) (is_meter n reading) range in
-    none p n reading
-    (record { words_are = same; point = within POINTS p both.0; meter = both.1 })
-unsaid_event words (events.HangUp p n reading) none range same =
-    let both = and_parts (is_between 1 POINTS p) (is_meter n reading) range in
-    none p n reading
-    (record { words_are = same; point = within POINTS p both.0; meter = both.1 })
+unsaid_event words events.CloseShift none range = none
+unsaid_event words events.ReadSite none range = none
+unsaid_event words (events.Online p) none range = point_read words p none range
+unsaid_event words (events.Offline p) none range = point_read words p none range
+unsaid_event words (events.Lift p n reading) none range = meter_read words p n reading none range
+unsaid_event words (events.Flow p n reading) none range = meter_read words p n reading none range
+unsaid_event words (events.HangUp p n reading) none range = meter_read words p n reading none range
 
 -- so of a name that they don't say
 pub unsaid : (name : EventName) (words : List (List ℕ)) → Unread name words → (event : Event)

@@ -1,24 +1,40 @@
 -- The book's rows are one history: each move adds rows that the written step makes.
-use Rattle.std.proofs.Common.{List, refl, subst}
+use Rattle.std.proofs.Common.{refl, subst}
+use Rattle.std.specs.Prelude.{List}
+use Rattle.site_base.specs.declared.actor.Actor.{Actor}
+use Rattle.site_base.specs.declared.actor.Actor.TheVariants.{Till}
+use Rattle.site_base.specs.declared.event.Event.{Event}
+use Rattle.site_base.specs.declared.event.Event.TheVariants.{SignOff}
 use Rattle.site_base.specs.Configured.{Configured}
 use Rattle.written_site.specs.SiteRun.{IsLegal}
 use Rattle.written_site.specs.SiteState.{opening}
 use Rattle.written_site.proofs.Histories.{IsLegal-push}
-use Rattle.site_book.specs.Book.{Book, next_row}
+use Rattle.site_book.specs.Book.{Book, next_row, with_row_of}
 use Rattle.station.specs.Moves.{StationState}
 use Rattle.station.specs.Runs.{Move, after, opening_station}
-use Rattle.station.proofs.Keeping.{books_keep}
-use Rattle.station.proofs.Turns.{Grows, grows_none, row_more}
+use Rattle.station.proofs.Keeping.{RowsKeep, books_keep}
+use Rattle.station.proofs.Turns.{Grows, grows_none, more_rows}
 
 pub books_grow : (ms : List Move) (s : StationState) → Grows s.book (after ms s).book
-books_grow ms s = books_keep (Grows s.book) (row_more s.book) ms s (grows_none s.book)
+books_grow ms s = books_keep (more_rows s.book) ms s (grows_none s.book)
 
-pub always_legal : (b : Book) (ms : List Move) → IsLegal (opening b.config) b.rows
+abbrev IsHistory : Book → Type 0
+IsHistory b = IsLegal (opening b.config) b.rows
+
+row_goes_on : (b : Book) (actor : Actor) (event : Event) → IsHistory b
+    → IsHistory (with_row_of b actor event)
+row_goes_on b actor event legal =
+    IsLegal-push (opening b.config) b.rows (next_row b actor event) legal refl
+
+rows_go_on : RowsKeep IsHistory
+rows_go_on = record {
+  asked = λ b m actor event is room. row_goes_on b actor event;
+  left = λ b t on. row_goes_on b (Till t) SignOff;
+}
+
+pub always_legal : (b : Book) (ms : List Move) → IsHistory b
     → IsLegal (opening b.config) (after ms (opening_station b)).book.rows
 always_legal b ms legal =
     let s = opening_station b in
     subst (λ (c : Configured). IsLegal (opening c) (after ms s).book.rows) (books_grow ms s).same
-    (books_keep (λ k. IsLegal (opening k.config) k.rows)
-    (λ k actor event so_far.
-    IsLegal-push (opening k.config) k.rows (next_row k actor event) so_far refl)
-    ms s legal)
+    (books_keep rows_go_on ms s legal)

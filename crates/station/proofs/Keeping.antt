@@ -1,8 +1,8 @@
 -- One walk over the station's machine for every law.
 --
--- A law of the book shows that a row keeps it (`books_keep`), a law of a session's turns four steps
--- (`Keeps`, `heard_keeps`), a law of every session three facts beside (`EachKeeps`, `each_keep`),
--- and any other law of the station five cases of a move (`Leads`, `moved_keeps`).
+-- A law of the book shows that a row keeps it (`RowsKeep`, `books_keep`), a law of a session's turns
+-- four steps (`Keeps`, `heard_keeps`), a law of every session three facts beside (`EachKeeps`,
+-- `each_keep`), and any other law of the station five cases of a move (`Leads`, `moved_keeps`).
 use Rattle.std.proofs.Common.{◌≡◌, ℕ, Bool, true, false, List, [], ◌∷◌, ◌++◌, Option, Some, None}
 use Rattle.std.proofs.Common.{Ok, Err, drop, refl, ap, sym, subst, ◌∙◌, append-nil}
 use Rattle.std.specs.Prelude.{◌&&◌, if◌then◌else◌, is_none, length, nat_lt, option_map}
@@ -17,6 +17,7 @@ use Rattle.app_message.specs.Spelling.{spelling}
 use Rattle.app_message.specs.Stream.{Held, fed_by, held_part}
 use Rattle.app_message.specs.Telegram.{Telegram}
 use Rattle.device_map.specs.Replies.{fault_message}
+use Rattle.device_map.specs.Requests.{request_at}
 use Rattle.site_book.specs.Book.{Book, book_reply, is_full, site_of_book, with_row_of}
 use Rattle.written_site.specs.SiteState.{is_signed_on}
 use Rattle.peer_talk.specs.declared.fault.TalkFault.TheVariants as talk
@@ -110,7 +111,8 @@ by_memory P g piece t taken lost = by_piece g.piece
 -- it serves is answered, as it is told octets, and as it ends.
 pub record Keeps (P : Turn → Type 0) : Type 0 where
   pub serves : (from : List ℕ) (t : Turn) → t.session.end ≡ None → P t → P (serve from t)
-  pub asks : (memory : Bool) (actor : Actor) (event : Event) (t : Turn) → t.session.end ≡ None
+  pub asks : (memory : Bool) (m : Telegram) (actor : Actor) (event : Event) (t : Turn)
+      → t.session.end ≡ None → request_at m ≡ Ok (actor, event)
       → IsSpokenBy actor t.session.talk.peer → P t
       → P (ask actor event (outcome_at memory t.book actor event) t)
   pub tells : (text : List ℕ) (t : Turn) → t.session.end ≡ None → P t → P (with_text text t)
@@ -153,7 +155,7 @@ module _ {P : Turn → Type 0} (keeps : Keeps P) where
       let spoken = spoken_by t.session.talk.peer m actor event meant.0 meant.1 in
       told_keeps g.text _ (ask actor event (outcome_at g.row t.book actor event) (serve m.from t))
       lasts
-      (keeps.asks g.row actor event (serve m.from t) lasts spoken
+      (keeps.asks g.row m actor event (serve m.from t) lasts meant.1 spoken
       (keeps.serves m.from t lasts p))
 
   pub answered_keeps : (g : Granted) (m : Telegram) (t : Turn) → P t → P (answer g m t)
@@ -292,38 +294,44 @@ moves_keep Q leads (m ∷ ms) s q =
 
 -- ---- a law of the book
 
--- The book gets nothing but rows, each with the reply of the written step: where a row keeps B, all
--- moves do.
-module _ (B : Book → Type 0)
-    (row_keeps : (b : Book) (actor : Actor) (event : Event) → B b
-    → B (with_row_of b actor event)) where
+-- A book gets rows alone, and each keeps B: that of a request, where there is room, and that of a
+-- till that is left.
+pub record RowsKeep (B : Book → Type 0) : Type 0 where
+  pub asked : (b : Book) (m : Telegram) (actor : Actor) (event : Event)
+      → request_at m ≡ Ok (actor, event) → is_full b ≡ false → B b → B (with_row_of b actor event)
+  pub left : (b : Book) (t : ℕ) → is_signed_on (site_of_book b) t ≡ true → B b
+      → B (with_row_of b (Till t) SignOff)
+
+module _ {B : Book → Type 0} (rows : RowsKeep B) where
   pub left_keeps : (on : Option ℕ) (b : Book) → B b → B (without_till on b)
   left_keeps None b kept = kept
-  left_keeps (Some t) b kept = by_test (is_signed_on (site_of_book b) t)
+  left_keeps (Some t) b kept = by_test (is_signed_on (site_of_book b) t) refl
     where
-      by_test : (on : Bool) → B (if on then with_row_of b (Till t) SignOff else b)
-      by_test true = row_keeps b (Till t) SignOff kept
-      by_test false = kept
+      by_test : (on : Bool) → is_signed_on (site_of_book b) t ≡ on
+          → B (if on then with_row_of b (Till t) SignOff else b)
+      by_test true on = rows.left b t on kept
+      by_test false off = kept
 
   none_keeps : (b : Book) → B b → B (record b { rows = b.rows ++ [] })
-  none_keeps b kept = subst (λ rows. B (record b { rows = rows })) (sym (append-nil b.rows)) kept
+  none_keeps b kept = subst (λ rs. B (record b { rows = rs })) (sym (append-nil b.rows)) kept
 
-  outcome_keeps : (memory : Bool) (b : Book) (actor : Actor) (event : Event) → B b
+  outcome_keeps : (memory : Bool) (m : Telegram) (actor : Actor) (event : Event) (b : Book)
+      → request_at m ≡ Ok (actor, event) → B b
       → B (with_outcome actor event (outcome_at memory b actor event) b)
-  outcome_keeps false b actor event kept = none_keeps b kept
-  outcome_keeps true b actor event kept = by_full (is_full b)
+  outcome_keeps false m actor event b is kept = none_keeps b kept
+  outcome_keeps true m actor event b is kept = by_full (is_full b) refl
     where
-      by_full : (full : Bool)
+      by_full : (full : Bool) → is_full b ≡ full
           → B (with_outcome actor event (if full then Err norow.BookFull
           else Ok (book_reply b actor event)) b)
-      by_full true = none_keeps b kept
-      by_full false = row_keeps b actor event kept
+      by_full true no_room = none_keeps b kept
+      by_full false room = rows.asked b m actor event is room kept
 
   pub rows_keep : Keeps (λ t. B t.book)
   rows_keep = record {
     serves = λ from t lasts kept. kept;
-    asks = λ memory actor event t lasts spoken kept.
-        outcome_keeps memory t.book actor event kept;
+    asks = λ memory m actor event t lasts is spoken kept.
+        outcome_keeps memory m actor event t.book is kept;
     tells = λ text t lasts kept. kept;
     ends = λ end t lasts kept. left_keeps t.session.talk.on t.book kept;
   }

@@ -83,7 +83,7 @@ lasting_left t lasts end u over on =
 till_is_left : Keeps HasLeft
 till_is_left = record {
   serves = λ from t lasts left. lasting_left (serve from t) lasts;
-  asks = λ memory actor event t lasts spoken left.
+  asks = λ memory m actor event t lasts is spoken left.
       lasting_left (ask actor event (outcome_at memory t.book actor event) t) lasts;
   tells = λ text t lasts left. lasting_left (with_text text t) lasts;
   ends = λ end t lasts left. ended_left end t;
@@ -97,7 +97,7 @@ IsOwnSession x = IsOwn x.talk.on x.talk.peer
 pub own_kept : Keeps (λ t. IsOwnSession t.session)
 own_kept = record {
   serves = λ from t lasts own. own_met t.session.talk.on t.session.talk.peer from own;
-  asks = λ memory actor event t lasts spoken own.
+  asks = λ memory m actor event t lasts is spoken own.
       own_signed actor event (outcome_at memory t.book actor event) t.session.talk.on
       t.session.talk.peer spoken own;
   tells = λ text t lasts own. own;

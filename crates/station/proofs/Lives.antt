@@ -340,7 +340,7 @@ all_answered c before had done last gs ms t l =
 still_held : (h : Held) → Keeps (λ t. t.session.held ≡ h)
 still_held h = record {
   serves = λ from t lasts is. is;
-  asks = λ memory actor event t lasts spoken is. is;
+  asks = λ memory m actor event t lasts asked spoken is. is;
   tells = λ text t lasts is. is;
   ends = λ end t lasts is. is;
 }

@@ -196,8 +196,8 @@ signed_for : (b : Book) (on : Option ℕ)
     → Keeps (λ t. IsOwnSession t.session × AreSignedFor b on t)
 signed_for b on = record {
   serves = λ from t lasts all. (own_kept.serves from t lasts all.0, all.1);
-  asks = λ memory actor event t lasts spoken all. (
-    own_kept.asks memory actor event t lasts spoken all.0,
+  asks = λ memory m actor event t lasts is spoken all. (
+    own_kept.asks memory m actor event t lasts is spoken all.0,
     asked_for b on memory actor event t lasts spoken all.0 all.1,
   );
   tells = λ text t lasts all. all;

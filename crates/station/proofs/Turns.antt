@@ -18,7 +18,7 @@ use Rattle.station.specs.Peers.{with_notices}
 use Rattle.station.specs.Sessions.{Granted, Session, Turn, answer, answer_all, refuse_by}
 use Rattle.conversation.specs.Books.{with_outcome}
 use Rattle.station.specs.Sessions.{without_till}
-use Rattle.station.proofs.Keeping.{Input, Keeps, after_input, all_keep, answered_keeps}
+use Rattle.station.proofs.Keeping.{Input, Keeps, RowsKeep, after_input, all_keep, answered_keeps}
 use Rattle.station.proofs.Keeping.{heard_keeps, left_keeps, refused_keeps, rows_keep}
 use Rattle.station.proofs.Notices.{no_sign_off_change, with_notices-append, with_notices-none}
 use Rattle.station.proofs.Notices.{with_notices-unchanged}
@@ -75,13 +75,14 @@ abbrev pub with_row-grows : (b : Book) (actor : Actor) (event : Event)
 with_row-grows b actor event =
     record { more = next_row b actor event ∷ []; rows = refl; same = refl }
 
--- .. and with one more row
-pub row_more : (b c : Book) (actor : Actor) (event : Event) → Grows b c
-    → Grows b (with_row_of c actor event)
-row_more b c actor event g = grows_then b c _ g (with_row-grows c actor event)
+pub more_rows : (b : Book) → RowsKeep (Grows b)
+more_rows b = record {
+  asked = λ c m actor event is room g. grows_then b c _ g (with_row-grows c actor event);
+  left = λ c t on g. grows_then b c _ g (with_row-grows c (Till t) SignOff);
+}
 
 pub left-grows : (on : Option ℕ) (b : Book) → Grows b (without_till on b)
-left-grows on b = left_keeps (Grows b) (row_more b) on b (grows_none b)
+left-grows on b = left_keeps (more_rows b) on b (grows_none b)
 
 -- nobody is told that a till is left
 pub left-told : (on : Option ℕ) (b : Book) (x : List (Option Session))
@@ -107,7 +108,7 @@ outcome-grows actor event outcome b =
 
 -- a book only grows
 pub turns_grow : (b : Book) → Keeps (λ t. Grows b t.book)
-turns_grow b = rows_keep (Grows b) (row_more b)
+turns_grow b = rows_keep (more_rows b)
 
 pub answered-grows : (g : Granted) (m : Telegram) (t : Turn) → Grows t.book (answer g m t).book
 answered-grows g m t = answered_keeps (turns_grow t.book) g m t (grows_none t.book)

@@ -10,6 +10,16 @@ ghost use Rattle.forecourt_engines.specs.EventNames.{is_report, name_word};
 
 use crate::number::is_word;
 
+/// The one of these variants whose name a word is, if it is one.
+macro_rules! find_name {
+    ($word:expr, $kind:ident: $($name:ident),+) => {{
+        $(if is_word($word, stringify!($name).as_bytes()) {
+            return Some($kind::$name);
+        })+
+        None
+    }};
+}
+
 /// The name of an event, by what stands behind it.
 #[derive(Clone, Copy, Debug, PartialEq, Eq)]
 pub enum EventName {
@@ -115,19 +125,7 @@ fn rest_name(word: &[u8]) -> Option<EventName>
     ensures price { IfNone result (word.now ≢ name_word EventName.SetPrice) }
     ensures product { IfNone result (word.now ≢ name_word EventName.ReadProduct) }
 {
-    if is_word(word, b"Release") {
-        return Some(EventName::Release);
-    }
-    if is_word(word, b"Prepay") {
-        return Some(EventName::Prepay);
-    }
-    if is_word(word, b"SetPrice") {
-        return Some(EventName::SetPrice);
-    }
-    if is_word(word, b"ReadProduct") {
-        return Some(EventName::ReadProduct);
-    }
-    None
+    find_name!(word, EventName: Release, Prepay, SetPrice, ReadProduct)
 }
 
 /// The name of an event that nothing is said of.
@@ -136,19 +134,7 @@ fn lone_name(word: &[u8]) -> Option<LoneName>
     ensures other { IfNone result ((name : LoneName)
         → word.now ≢ name_word (EventName.Alone name)) }
 {
-    if is_word(word, b"SignOn") {
-        return Some(LoneName::SignOn);
-    }
-    if is_word(word, b"SignOff") {
-        return Some(LoneName::SignOff);
-    }
-    if is_word(word, b"CloseShift") {
-        return Some(LoneName::CloseShift);
-    }
-    if is_word(word, b"ReadSite") {
-        return Some(LoneName::ReadSite);
-    }
-    None
+    find_name!(word, LoneName: SignOn, SignOff, CloseShift, ReadSite)
 }
 
 /// The name of an event that names a fuelling point alone.
@@ -157,40 +143,10 @@ fn point_name(word: &[u8]) -> Option<PointName>
     ensures other { IfNone result ((name : PointName)
         → word.now ≢ name_word (EventName.OfPoint name)) }
 {
-    if is_word(word, b"Open") {
-        return Some(PointName::Open);
-    }
-    if is_word(word, b"Close") {
-        return Some(PointName::Close);
-    }
-    if is_word(word, b"Assign") {
-        return Some(PointName::Assign);
-    }
-    if is_word(word, b"Unassign") {
-        return Some(PointName::Unassign);
-    }
-    if is_word(word, b"TestRelease") {
-        return Some(PointName::TestRelease);
-    }
-    if is_word(word, b"Suspend") {
-        return Some(PointName::Suspend);
-    }
-    if is_word(word, b"Resume") {
-        return Some(PointName::Resume);
-    }
-    if is_word(word, b"Terminate") {
-        return Some(PointName::Terminate);
-    }
-    if is_word(word, b"ReadPoint") {
-        return Some(PointName::ReadPoint);
-    }
-    if is_word(word, b"Online") {
-        return Some(PointName::Online);
-    }
-    if is_word(word, b"Offline") {
-        return Some(PointName::Offline);
-    }
-    None
+    find_name!(
+        word, PointName: Open, Close, Assign, Unassign, TestRelease, Suspend, Resume, Terminate,
+        ReadPoint, Online, Offline
+    )
 }
 
 /// The name of an event of a nozzle's meter.
@@ -199,19 +155,7 @@ fn meter_name(word: &[u8]) -> Option<MeterName>
     ensures other { IfNone result ((name : MeterName)
         → word.now ≢ name_word (EventName.OfMeter name)) }
 {
-    if is_word(word, b"ReplaceMeter") {
-        return Some(MeterName::ReplaceMeter);
-    }
-    if is_word(word, b"Lift") {
-        return Some(MeterName::Lift);
-    }
-    if is_word(word, b"Flow") {
-        return Some(MeterName::Flow);
-    }
-    if is_word(word, b"HangUp") {
-        return Some(MeterName::HangUp);
-    }
-    None
+    find_name!(word, MeterName: ReplaceMeter, Lift, Flow, HangUp)
 }
 
 /// The name of an event of a transaction.
@@ -220,17 +164,5 @@ fn sale_name(word: &[u8]) -> Option<SaleName>
     ensures other { IfNone result ((name : SaleName)
         → word.now ≢ name_word (EventName.OfSale name)) }
 {
-    if is_word(word, b"Lock") {
-        return Some(SaleName::Lock);
-    }
-    if is_word(word, b"Unlock") {
-        return Some(SaleName::Unlock);
-    }
-    if is_word(word, b"Clear") {
-        return Some(SaleName::Clear);
-    }
-    if is_word(word, b"ReadTransaction") {
-        return Some(SaleName::ReadTransaction);
-    }
-    None
+    find_name!(word, SaleName: Lock, Unlock, Clear, ReadTransaction)
 }
