@@ -12,7 +12,7 @@ use Rattle.station.specs.Reads.{HasNoPeer}
 use Rattle.station.specs.Runs.{Move, after, opening_station}
 use Rattle.station.proofs.TillSessions.{tills_have}
 use Rattle.journal.specs.Opening.{HasNobodyOn}
-use Rattle.station_server.specs.Reaches.{Reaches}
+use Rattle.peer_connections.specs.Reaches.{Reaches}
 use Rattle.day_base.specs.declared.plan.ReportForm.{ReportForm}
 use Rattle.station_days.specs.StationDays.{TellsDay, TellsFront, day_book, day_station}
 use Rattle.station_days.specs.StationDays.{station_text}
