@@ -4,8 +4,8 @@
 //! status that the program exits with. What a day is stands in `desk_days`.
 #![tactic(auto)]
 
-mod demo;
+mod demo_command;
 mod serve;
 
-pub use demo::run_demo;
+pub use demo_command::run_demo;
 pub use serve::run_serve;

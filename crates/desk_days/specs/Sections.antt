@@ -5,12 +5,12 @@ use Rattle.app_message.specs.Spelling.{spelling}
 use Rattle.app_message.specs.Telegram.{Telegram}
 use Rattle.counter_desk.specs.declared.receipt.Receipt.{Receipt}
 use Rattle.counter_desk.specs.Receipts.{receipted_row}
-use Rattle.demo_script.specs.declared.section.Section.{Section}
-use Rattle.demo_script.specs.declared.section.Section.TheVariants as sections
-use Rattle.dispenser_sim.specs.declared.end.DispenserFault.{DispenserFault}
-use Rattle.dispenser_sim.specs.declared.script.Step.{Step}
-use Rattle.dispenser_sim.specs.declared.dispenser.TheConstants.{METERS}
-use Rattle.dispenser_sim.specs.Reports.{DispenserFacts, IsNew, Runs}
+use Rattle.demo.specs.declared.section.Section.{Section}
+use Rattle.demo.specs.declared.section.Section.TheVariants as sections
+use Rattle.demo.specs.declared.end.DispenserFault.{DispenserFault}
+use Rattle.demo.specs.declared.steps.Step.{Step}
+use Rattle.demo.specs.declared.dispenser.TheConstants.{METERS}
+use Rattle.demo.specs.Reports.{DispenserFacts, IsNew, Runs}
 use Rattle.site_base.specs.declared.row.Row.{Row}
 use Rattle.site_base.specs.Configured.{Configured}
 use Rattle.till_session.specs.declared.session.SessionEnd.{SessionEnd}

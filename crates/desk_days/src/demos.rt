@@ -14,7 +14,7 @@ use crate::over_memory::run_over_memory;
 use crate::server::PARTS;
 use counter_desk::{Desk, ListEnd, Naming, OpenGate, Root, Settled, settle_all, work};
 use day_base::{DayFault, put_report};
-use demo_script::DemoScript;
+use demo::DemoScript;
 use devices::{Counted, WriteFault};
 use site_base::SiteConfig;
 use std::alloc::Global;

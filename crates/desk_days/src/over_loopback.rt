@@ -10,7 +10,7 @@ use crate::section::work_at;
 use crate::workers::{Anything, Worker, join_all, room_for};
 use app_message::Messages;
 use counter_desk::{Desk, Naming, OpenGate, Root, WORKERS};
-use demo_script::Section;
+use demo::Section;
 use site_base::SiteConfig;
 use std::alloc::Global;
 use std::net::{Ipv4Addr, Net, SocketAddr, SocketAddrV4, TcpListener, TcpStream};

@@ -6,7 +6,7 @@ use crate::demo_fault::DemoFault;
 use crate::section::work_at;
 use crate::workers::{Anything, Worker, join_all, room_for};
 use counter_desk::{Desk, Naming, Root};
-use demo_script::Section;
+use demo::Section;
 use site_base::SiteConfig;
 use std::alloc::Global;
 use std::sync::ledger::Ledger;

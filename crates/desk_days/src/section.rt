@@ -5,9 +5,8 @@ ghost use Rattle.desk_days.specs.Sections.{AreServed, IsWorkedAt, octets_of};
 
 use app_message::{Messages, encode_into};
 use counter_desk::{Desk, Naming, OpenGate, Root, Share};
-use demo_script::Section;
+use demo::{Dispenser, DispenserEnd, DispenserFault, Section};
 use devices::Counted;
-use dispenser_sim::{Dispenser, DispenserEnd, DispenserFault};
 use site_base::{NoMemory, SiteConfig};
 use std::alloc::Global;
 use std::sync::ledger::Ledger;
