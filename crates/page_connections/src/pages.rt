@@ -13,7 +13,6 @@ use mio::{Registry, Token};
 use site_base::NoMemory;
 use site_book::{SiteBook, UnpaidSales};
 use site_page::Page;
-use station::PEERS;
 use std::alloc::Global;
 use std::hash::RandomState;
 use std::time::Instant;
@@ -26,6 +25,8 @@ pub struct Pages {
     keys: RandomState,
     listener: TcpListener,
     links: Vec<Option<PageLink>>,
+    /// The key of the connection at place 0; the others' follow.
+    first_key: usize,
     /// Connections may wait to be accepted.
     has_callers: bool,
     /// A connection has a turn in this round.
@@ -33,8 +34,13 @@ pub struct Pages {
 }
 
 impl Pages {
-    /// No connections yet.
-    pub fn new(alloc: Global, keys: RandomState, listener: TcpListener) -> Result<Pages, NoMemory> {
+    /// No connections yet. Their keys are those from this one on.
+    pub fn new(
+        alloc: Global,
+        keys: RandomState,
+        listener: TcpListener,
+        first_key: usize,
+    ) -> Result<Pages, NoMemory> {
         let mut links = Vec::with_capacity(alloc, PAGE_CONNECTIONS)?;
         for _ in 0..PAGE_CONNECTIONS {
             links.push(None)?;
@@ -44,9 +50,18 @@ impl Pages {
             keys,
             listener,
             links,
+            first_key,
             has_callers: false,
             is_due: false,
         })
+    }
+
+    /// Closes the listener, and each connection that is left.
+    pub fn close(self) {}
+
+    /// What the connection at this place is reported under.
+    fn token_of(&self, place: usize) -> Token {
+        Token(self.first_key.saturating_add(place))
     }
 
     /// Is there a connection that may be late, or one that waits to be accepted?
@@ -61,7 +76,7 @@ impl Pages {
 
     /// The connection of this key is ready.
     pub fn make_due(&mut self, key: usize) {
-        if let Some(place) = key.checked_sub(PEERS) {
+        if let Some(place) = key.checked_sub(self.first_key) {
             if let Some(Some(link)) = self.links.get_mut(place) {
                 link.is_due = true;
                 self.is_due = true;
@@ -119,6 +134,7 @@ impl Pages {
     /// The connection at this place has its turn, if it is ready. Where that is over before it
     /// waits for its peer, it is reported once more.
     fn take_turn(&mut self, registry: &Registry, page: &Page, place: usize, now: Instant) {
+        let token = self.token_of(place);
         let Some(Some(link)) = self.links.get_mut(place) else {
             return;
         };
@@ -129,9 +145,9 @@ impl Pages {
         match link.take_turn(page, now) {
             Ok(Progress::Waits) => {}
             Ok(Progress::GoesOn) => {
-                let _ = registry.reregister(&mut link.stream, token_of(place), both_ways());
+                let _ = registry.reregister(&mut link.stream, token, both_ways());
             }
-            Ok(Progress::Over) | Err(NoMemory) => self.close(place),
+            Ok(Progress::Over) | Err(NoMemory) => self.close_at(place),
         }
     }
 
@@ -139,15 +155,15 @@ impl Pages {
     fn close_due(&mut self) {
         for slot in &mut self.links {
             if slot.as_ref().is_some_and(|link| link.is_due) {
-                let _ = slot.take();
+                close(slot);
             }
         }
     }
 
     /// Closes the connection at this place.
-    fn close(&mut self, place: usize) {
+    fn close_at(&mut self, place: usize) {
         if let Some(slot) = self.links.get_mut(place) {
-            let _ = slot.take();
+            close(slot);
         }
     }
 
@@ -155,7 +171,7 @@ impl Pages {
     fn close_late(&mut self, now: Instant) {
         for slot in &mut self.links {
             if slot.as_ref().is_some_and(|link| link.is_late(now)) {
-                let _ = slot.take();
+                close(slot);
             }
         }
     }
@@ -185,7 +201,7 @@ impl Pages {
         };
         let _ = stream.set_nodelay(true);
         let is_watched = registry
-            .register(&mut stream, token_of(place), both_ways())
+            .register(&mut stream, self.token_of(place), both_ways())
             .is_ok();
         if !is_watched || place >= self.links.len() {
             return;
@@ -212,7 +228,7 @@ fn page_of(
     Page::of_book(alloc, book, unpaid.as_slice(), connections)
 }
 
-/// What the connection at this place is reported under.
-fn token_of(place: usize) -> Token {
-    Token(PEERS.saturating_add(place))
+/// Closes a connection, if there is one.
+fn close(slot: &mut Option<PageLink>) {
+    let _ = slot.take();
 }

@@ -55,6 +55,9 @@ impl<D: Disk> Connections<D> {
         })
     }
 
+    /// Closes the connections that are left, and lets the station go.
+    pub fn close(self) {}
+
     /// The book of the station.
     pub fn book(&self) -> &SiteBook
         ensures { result.now ≡ self.now.stored.station.book }

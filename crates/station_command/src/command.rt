@@ -12,6 +12,7 @@ use day_base::{DayFault, ReportForm, StationPlan, exit_day};
 use devices::{Counted, WriteFault};
 use journal::Opened;
 use journal_files::JournalFile;
+use peer_connections::Connections;
 use program_io::{COMMAND_LINE, TURNS, exit_with, read_site_file};
 use station_days::{station_day, tell_fault};
 use station_server::{ServerFault, StationServer};
@@ -75,31 +76,115 @@ fn serve_on<R: StationHost, T: Threads + Wait + Sync, I: Read + Send + Drop + 's
     requires alone { opened.station.station ≡ opening_station opened.station.station.book }
     requires off { HasNobodyOn opened.station.station.book }
 {
-    let mut server = listen(rt, plan).map_err(tell_fault)?;
-    let watch = if options.detached {
-        None
-    } else {
-        let waker = server.waker().map_err(tell_fault)?;
-        Some(InputWatch::start(threads, rt.alloc(), waker, input)?)
-    };
-    print_rows(rt, opened.rows)?;
+    let rows = opened.rows;
+    let mut connections = Connections::new(rt.alloc(), opened.station)?;
+    let end = serve_peers(rt, threads, input, rows, &mut connections, plan, options);
+    connections.close();
+    end
+}
+
+/// Listens, and serves a day of the station of these connections, whose journal had so many rows.
+fn serve_peers<R: StationHost, T: Threads + Wait + Sync, I: Read + Send + Drop + 'static>(
+    rt: &R,
+    threads: &T,
+    input: I,
+    rows: u64,
+    connections: &mut Connections<JournalFile<'_, R>>,
+    plan: StationPlan,
+    options: StationOptions<'_>,
+) -> Result<(), DayFault>
+    requires alone { connections.old.stored.station
+        ≡ opening_station connections.old.stored.station.book }
+    requires off { HasNobodyOn connections.old.stored.station.book }
+{
+    match listen(rt, plan) {
+        Ok(mut server) => {
+            let end = serve_until_end(
+                rt,
+                threads,
+                input,
+                rows,
+                connections,
+                &mut server,
+                plan,
+                options,
+            );
+            server.close();
+            end
+        }
+        Err(fault) => Err(tell_fault(fault)),
+    }
+}
+
+/// Serves a day on this server: until its input ends, or detached, until the system stops it.
+fn serve_until_end<R: StationHost, T: Threads + Wait + Sync, I: Read + Send + Drop + 'static>(
+    rt: &R,
+    threads: &T,
+    input: I,
+    rows: u64,
+    connections: &mut Connections<JournalFile<'_, R>>,
+    server: &mut StationServer,
+    plan: StationPlan,
+    options: StationOptions<'_>,
+) -> Result<(), DayFault>
+    requires alone { connections.old.stored.station
+        ≡ opening_station connections.old.stored.station.book }
+    requires off { HasNobodyOn connections.old.stored.station.book }
+{
+    if options.detached {
+        return serve_day(
+            rt,
+            threads,
+            rows,
+            connections,
+            server,
+            plan.idle,
+            options.json,
+        );
+    }
+    let waker = server.waker().map_err(tell_fault)?;
+    let watch = InputWatch::start(threads, rt.alloc(), waker, input)?;
+    let end = serve_day(
+        rt,
+        threads,
+        rows,
+        connections,
+        server,
+        plan.idle,
+        options.json,
+    );
+    watch.end(threads, end.is_ok());
+    end
+}
+
+/// Says how many rows the journal had, if it had some, and serves a day.
+fn serve_day<R: StationHost, T: Wait>(
+    rt: &R,
+    threads: &T,
+    rows: u64,
+    connections: &mut Connections<JournalFile<'_, R>>,
+    server: &mut StationServer,
+    idle: Option<u64>,
+    json: bool,
+) -> Result<(), DayFault>
+    requires alone { connections.old.stored.station
+        ≡ opening_station connections.old.stored.station.book }
+    requires off { HasNobodyOn connections.old.stored.station.book }
+{
+    print_rows(rt, rows)?;
     let mut writer = Counted::new(io::writer(rt));
     let mut left = TURNS;
     station_day(
         threads,
         rt,
         rt.alloc(),
-        opened.station,
-        &mut server,
-        plan.idle,
-        report_form(options.json),
+        connections,
+        server,
+        idle,
+        report_form(json),
         &mut left,
         &mut writer,
-    )?;
-    if let Some(watch) = watch {
-        watch.join(threads);
-    }
-    Ok(())
+    )
 }
 
 /// Listens for peers, and for browsers if there is a page.

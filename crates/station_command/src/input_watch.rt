@@ -36,10 +36,13 @@ impl InputWatch {
         }
     }
 
-    /// Waits for the thread's end.
-    pub fn join<T: Threads>(self, threads: &T) {
+    /// Lets the thread go, and first waits for its end if the day ended well: its input has ended
+    /// then.
+    pub fn end<T: Threads>(self, threads: &T, is_well: bool) {
         let InputWatch { thread, waker } = self;
-        thread.join(threads);
+        if is_well {
+            thread.join(threads);
+        }
         drop(waker);
     }
 }

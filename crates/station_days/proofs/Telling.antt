@@ -3,7 +3,7 @@ use Rattle.std.proofs.Common.{◌≡◌, ℕ, Bool, true, false, List, [], Optio
 use Rattle.std.proofs.Common.{ap, subst, ◌∙◌}
 use Rattle.std.specs.Io.KnownBytes.{Appends}
 use Rattle.devices.specs.Devices.{AppendsFront}
-use Rattle.devices.proofs.KnownBytes.{Appends-front, Appends-none, Appends-then}
+use Rattle.devices.proofs.KnownBytes.{Appends-front, Appends-then}
 use Rattle.devices.proofs.KnownBytes.{AppendsFront-longer}
 use Rattle.written_site.specs.SiteState.{is_signed_on}
 use Rattle.site_book.specs.Book.{Book, site_of_book}
@@ -92,17 +92,4 @@ tells_station_line opens u v said port page_said page form same also line = reco
   told = AppendsFront-longer u v (places_text port page) (report_in form (day_book opens []))
       (subst (λ (o : Option ℕ). AppendsFront u v (places_text port o)) also
       (subst (λ (n : ℕ). AppendsFront u v (places_text n page_said)) same line));
-}
-
--- nothing yet
-pub tells_station_nothing : (opens : Book) (u : Option (List ℕ)) (port : ℕ) (page : Option ℕ)
-    (form : ReportForm) → TellsFront opens port page form u u
-tells_station_nothing opens u port page form = record {
-  moves = [];
-  told = record {
-    front = [];
-    rest = station_text opens port page form [];
-    parts = refl;
-    written = Appends-none u;
-  };
 }

@@ -91,13 +91,19 @@ impl StationServer {
     ) -> Result<(), ServerFault> {
         match listen_for_page(net, rt, &self.poll, port) {
             Ok((listener, port, keys)) => {
-                self.pages = Some(Pages::new(self.alloc, keys, listener)?);
+                let pages = Pages::new(self.alloc, keys, listener, PEERS)?;
+                if let Some(earlier) = self.pages.replace(pages) {
+                    earlier.close();
+                }
                 self.page_port = Some(port);
                 Ok(())
             }
             Err(_) => Err(ServerFault::NoConnection),
         }
     }
+
+    /// Listens no more.
+    pub fn close(self) {}
 
     /// The port on which it listens.
     pub fn port(&self) -> u16
