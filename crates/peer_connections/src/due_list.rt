@@ -18,10 +18,12 @@ pub(crate) struct DueList {
 impl DueList {
     /// Nobody is due.
     pub(crate) fn new(alloc: Global) -> Result<DueList, NoMemory> {
+        let keys = Vec::from_elem(alloc, 0, PEERS)?;
+        let is_due = Vec::from_elem(alloc, false, PEERS)?;
         Ok(DueList {
-            keys: Vec::from_elem(alloc, 0, PEERS)?,
+            keys,
             count: 0,
-            is_due: Vec::from_elem(alloc, false, PEERS)?,
+            is_due,
         })
     }
 
