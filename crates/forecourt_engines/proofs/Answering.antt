@@ -1,7 +1,7 @@
 -- What is said to a message over a book is its answer.
-use Rattle.std.proofs.Common.{◌≡◌, ◌++◌, Bool, true, false, List, Option, Some, None, Result, Ok, Err}
+use Rattle.std.proofs.Common.{◌≡◌, ◌++◌, Bool, true, false, List, Result, Ok, Err}
 use Rattle.std.proofs.Common.{refl, sym, ap, subst, ◌∙◌, append-nil, append_assoc, ℕ}
-use Rattle.std.specs.Prelude.{if◌then◌else◌, OnOk}
+use Rattle.std.specs.Prelude.{OnOk}
 use Rattle.site_base.specs.declared.actor.Actor.{Actor}
 use Rattle.site_base.specs.declared.event.Event.{Event}
 use Rattle.site_base.specs.declared.refusal.NoRow.TheVariants as norow
@@ -12,7 +12,7 @@ use Rattle.device_map.specs.Replies.{number_message}
 use Rattle.device_map.specs.Requests.{request_at}
 use Rattle.hex_lines.specs.Lines.{line_of}
 use Rattle.site_book.specs.Book.{Book, book_reply, is_full}
-use Rattle.peer_talk.specs.Exchanges.{Outcome, row_made}
+use Rattle.peer_talk.specs.Exchanges.{Outcome}
 use Rattle.peer_talk.specs.Text.{as_meaning, outcome_message}
 use Rattle.conversation.specs.Books.{IsAskedOf, outcome_at, with_outcome}
 use Rattle.conversation.specs.Saying.{IsAskedFor, meaning_of, said_message}

@@ -3,12 +3,11 @@
 -- Where memory is wanting nothing is half done: a request makes no row, or a message isn't told
 -- anything and its session ends. `Granted` and `Grants` say where memory was had.
 use Rattle.std.specs.Prelude.{ℕ, Bool, true, false, ◌&&◌, is_none, nat_lt, List, [], ◌∷◌}
-use Rattle.std.specs.Prelude.{◌++◌, length, Option, Some, None, Ok, Err, if◌then◌else◌}
+use Rattle.std.specs.Prelude.{◌++◌, length, Option, Some, None, if◌then◌else◌}
 use Rattle.site_base.specs.declared.actor.Actor.{Actor}
 use Rattle.site_base.specs.declared.actor.Actor.TheVariants.{Till}
 use Rattle.site_base.specs.declared.event.Event.{Event}
 use Rattle.site_base.specs.declared.event.Event.TheVariants.{SignOff}
-use Rattle.site_base.specs.declared.refusal.NoRow.TheVariants as norow
 use Rattle.devices.specs.Devices.{one_more}
 use Rattle.app_message.specs.declared.fault.StreamFault.{StreamFault}
 use Rattle.app_message.specs.Spelling.{spelling}
@@ -17,7 +16,7 @@ use Rattle.app_message.specs.Telegram.{Telegram}
 use Rattle.device_map.specs.Faults.{map_number}
 use Rattle.device_map.specs.Replies.{fault_message}
 use Rattle.written_site.specs.SiteState.{is_signed_on}
-use Rattle.site_book.specs.Book.{Book, book_reply, is_full, site_of_book, with_row_of}
+use Rattle.site_book.specs.Book.{Book, site_of_book, with_row_of}
 use Rattle.peer_talk.specs.declared.fault.TalkFault.{TalkFault}
 use Rattle.peer_talk.specs.declared.fault.TalkFault.TheVariants as talk
 use Rattle.peer_talk.specs.declared.fault.TheConstants.{ORIGINATOR_CHANGED}

@@ -1,9 +1,9 @@
 use Rattle.std.proofs.Common.{◌∙◌, ◌++◌, ℕ, List, Option, ap, false, true}
 use Rattle.app_message.specs.Spelling.{spelling}
 use Rattle.conversation.specs.Saying.{said_message}
-use Rattle.station.specs.Hearing.{end_behind, turn_of}
+use Rattle.station.specs.Hearing.{end_behind}
 use Rattle.station.specs.PeerViews.{sessions_of}
-use Rattle.station.specs.Sessions.{Session, Turn, end_session, no_memory, opening_text, with_text}
+use Rattle.station.specs.Sessions.{Session, end_session, no_memory, opening_text, with_text}
 use Rattle.station.proofs.Answering.{answers_said, heard_turn, said_lost, said_put}
 use Rattle.station.proofs.hearing.answer.Goals as goal
 
