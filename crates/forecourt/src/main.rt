@@ -1,14 +1,16 @@
 //! The forecourt site controller's program: it reads the words of the command line, and runs the
 //! command that they name. The words are parsed in `command_line`; the commands stand in
-//! `offline_commands` and `day_commands`, their files, texts and exit statuses in `program_io`.
+//! `offline_commands`, `desk_commands` and `station_command`, their files, texts and exit statuses in
+//! `program_io`.
 #![tactic(auto)]
 
 use command_line::{Command, NoCommand, parse};
-use day_commands::{run_demo, run_serve, run_station};
+use desk_commands::{run_demo, run_serve};
 use offline_commands::{
     run_check, run_explain, run_replay, run_replay_here, run_report, run_sales, run_spell,
 };
 use program_io::{COMMAND_LINE, exit_no_memory, exit_unwritten, exit_with};
+use station_command::run_station;
 use std::env;
 use std::io::ErrorKind;
 use std::process::ExitCode;

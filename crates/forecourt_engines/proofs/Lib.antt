@@ -1,4 +1,5 @@
 pub mod AnsweredStreams
+pub mod Answering
 pub mod Lines
 pub mod NozzleCount
 pub mod Numerals

@@ -1,17 +1,15 @@
 //! Messages answered over a book.
 
 ghost use Rattle.std.specs.Prelude.{◌≡◌, ◌++◌, OnOk};
-ghost use Rattle.hex_lines.specs.Lines.{line_of};
-ghost use Rattle.forecourt_engines.specs.Answers.{change_line, lines_for, after_message};
-ghost use Rattle.forecourt_engines.specs.Answers.{answers_to, after_messages};
-ghost use Rattle.device_map.specs.Changes.{change_of};
-ghost use Rattle.device_map.specs.Replies.{number_message, reply_message};
+ghost use Rattle.forecourt_engines.specs.Answers.{after_message, after_messages, answers_to};
+ghost use Rattle.forecourt_engines.specs.Answers.{change_line, change_said, lacks_memory, lines_for};
 
 use app_message::{Message, SpelledMessage};
-use device_map::{change_of, request_in};
+use conversation::{Said, hear_anyone};
+use device_map::change_of;
 use hex_lines::put_line;
 use peer_talk::ReplyWriter;
-use site_base::{Answer, NoMemory, NoRow, Reply, Row};
+use site_base::{NoMemory, NoRow, Row};
 use site_book::SiteBook;
 use std::alloc::Global;
 use std::marker::Model;
@@ -78,75 +76,44 @@ impl Answerer {
             ++ lines_for self.old message.now) }
         ensures state { OnOk result (self.new ≡ after_message self.old message.now) }
     {
-        let (actor, event) = match request_in(message) {
-            Err(fault) => return self.refuse(message, fault.number(), out),
-            Ok(request) => request,
-        };
-        let mut row = Row {
-            actor,
-            event,
-            reply: Ok(Answer::Done),
-        };
-        match self.book.answer(&mut row) {
-            Ok(()) => {}
-            Err(NoRow::BookFull) => return self.refuse(message, NoRow::BookFull.number(), out),
-            Err(NoRow::NoMemory) => return Err(NoMemory),
+        let said = &hear_anyone(&mut self.book, message);
+        if lacks_memory(said) {
+            return Err(NoMemory);
         }
-        self.tell_reply(message, &row.reply, out)?;
-        if self.changes {
-            return put_change(self.alloc, &row, out);
-        }
-        Ok(())
-    }
-
-    /// Appends the message that tells a reply as a line.
-    #[inline(always)]
-    fn tell_reply(
-        &mut self,
-        message: &SpelledMessage<'_>,
-        reply: &Reply,
-        out: &mut Vec<u8>,
-    ) -> Result<(), NoMemory>
-        ensures same { self.new ≡ self.old }
-        ensures text { OnOk result (out.new.items ≡ out.old.items
-            ++ line_of (reply_message message.now reply.now)) }
-    {
-        let answer = self.writer.write_reply(message, reply)?;
-        self.tell(answer, out)
-    }
-
-    /// Appends the message that tells a number in place of a reply as a line.
-    fn refuse(
-        &mut self,
-        message: &SpelledMessage<'_>,
-        number: u8,
-        out: &mut Vec<u8>,
-    ) -> Result<(), NoMemory>
-        ensures same { self.new ≡ self.old }
-        ensures text { OnOk result (out.new.items ≡ out.old.items
-            ++ line_of (number_message message.now number)) }
-    {
-        let refusal = self.writer.write_number(message, number)?;
-        self.tell(refusal, out)
-    }
-
-    /// Appends an answer as a line, and gives its buffer back.
-    #[inline(always)]
-    fn tell(&mut self, answer: Message, out: &mut Vec<u8>) -> Result<(), NoMemory>
-        ensures same { self.new ≡ self.old }
-        ensures text { OnOk result (out.new.items ≡ out.old.items ++ line_of answer) }
-    {
+        let answer = said.write(&mut self.writer, message)?;
         put_line(out, &answer)?;
         self.writer.give_back(answer);
+        if self.changes {
+            return put_change(self.alloc, said, out);
+        }
         Ok(())
     }
 }
 
-/// Appends the change that a row stands for as a line, if it stands for one.
-fn put_change(alloc: Global, row: &Row, out: &mut Vec<u8>) -> Result<(), NoMemory>
-    ensures { OnOk result (out.new.items ≡ out.old.items ++ change_line (change_of row.now)) }
+/// Had a request no row for want of memory?
+#[inline(always)]
+fn lacks_memory(said: &Said) -> bool
+    ensures { result ≡ lacks_memory said.now }
 {
-    match change_of(alloc, row)? {
+    match said {
+        Said::Outcome(_, _, Err(NoRow::NoMemory)) => true,
+        _ => false,
+    }
+}
+
+/// Appends the change of the row that a request made as a line, if it made one that has a change.
+fn put_change(alloc: Global, said: &Said, out: &mut Vec<u8>) -> Result<(), NoMemory>
+    ensures { OnOk result (out.new.items ≡ out.old.items ++ change_line (change_said said.now)) }
+{
+    let Said::Outcome(actor, event, Ok(reply)) = said else {
+        return Ok(());
+    };
+    let row = Row {
+        actor: *actor,
+        event: *event,
+        reply: *reply,
+    };
+    match change_of(alloc, &row)? {
         None => Ok(()),
         Some(change) => put_line(out, &change),
     }

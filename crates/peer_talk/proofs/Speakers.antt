@@ -1,6 +1,6 @@
 -- Who speaks in a session, and which till it signed on.
 use Rattle.std.proofs.Common.{◌≡◌, ℕ, Bool, true, false, not, List, Option, Some, None, Ok}
-use Rattle.std.proofs.Common.{Err, Result, refl, sym, ap, ◌∙◌}
+use Rattle.std.proofs.Common.{Err, Result, refl, ap, ◌∙◌}
 use Rattle.std.specs.Prelude.{◌&&◌, ◌==◌, if◌then◌else◌, slice_index}
 use Rattle.site_base.specs.declared.actor.Actor.{Actor}
 use Rattle.site_base.specs.declared.actor.Actor.TheVariants.{Till, Dispenser}

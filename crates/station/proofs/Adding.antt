@@ -33,7 +33,8 @@ use Rattle.station.specs.Reads.{is_read_at, is_read_of}
 use Rattle.station.specs.Runs.{Arrives, Finishes, Leaves as Gone, Move, Says, Takes, after_move}
 use Rattle.station.specs.Runs.{arrive}
 use Rattle.station.specs.Sessions.{Granted, Grants, Session, Turn, answer, answer_meaning, ask}
-use Rattle.station.specs.Sessions.{end_session, finish, hear, is_read, no_memory, outcome_at}
+use Rattle.conversation.specs.Books.{outcome_at}
+use Rattle.station.specs.Sessions.{end_session, finish, hear, is_read, no_memory}
 use Rattle.station.specs.Sessions.{refuse_by, serve, tell, tell_last, with_text, without_till}
 use Rattle.station.proofs.Keeping.{by_fault, by_lasting, by_memory, by_message, ended_lasts}
 use Rattle.station.proofs.Keeping.{holding, read_lasts}

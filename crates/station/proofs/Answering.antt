@@ -1,18 +1,17 @@
 -- How a message is answered, and messages one after another, from what each call ensures.
 use Rattle.std.proofs.Common.{◌≡◌, ℕ, ◌+◌, ◌<◌, Bool, true, false, List, [], ◌∷◌, ◌++◌, length}
 use Rattle.std.proofs.Common.{take, get_or, Option, Some, None, Ok, Err, refl, ap, sym, subst, ◌∙◌}
-use Rattle.std.proofs.Common.{arith, length-append}
+use Rattle.std.proofs.Common.{arith, append-nil, length-append}
 use Rattle.std.specs.Prelude.{if◌then◌else◌, is_none}
 use Rattle.std.proofs.lemmas.List.{take_more}
 use Rattle.site_base.specs.declared.actor.Actor.{Actor}
 use Rattle.site_base.specs.declared.event.Event.{Event}
 use Rattle.site_base.specs.declared.event.Event.TheVariants as events
-use Rattle.devices.specs.Devices.{one_more}
 use Rattle.site_base.specs.Events.{point_named}
 use Rattle.app_message.specs.declared.fault.StreamFault.{StreamFault}
+use Rattle.app_message.specs.Spelling.{spelling}
 use Rattle.app_message.specs.Stream.{Held, fed_by, held_part}
 use Rattle.app_message.specs.Telegram.{Telegram}
-use Rattle.device_map.specs.declared.fault.MapFault.{MapFault}
 use Rattle.device_map.specs.Changes.{change_by}
 use Rattle.device_map.specs.Faults.{map_number}
 use Rattle.site_book.specs.Book.{Book}
@@ -21,22 +20,26 @@ use Rattle.peer_talk.specs.declared.fault.TheConstants.{ORIGINATOR_CHANGED}
 use Rattle.peer_talk.specs.declared.talk.Meaning.{Meaning}
 use Rattle.peer_talk.specs.declared.talk.Meaning.TheVariants as meanings
 use Rattle.peer_talk.specs.Exchanges.{Outcome, row_made, signed_by}
-use Rattle.peer_talk.specs.Talks.{TalkState}
-use Rattle.peer_talk.specs.Text.{meaning_at, number_text, outcome_text, peer_after}
+use Rattle.peer_talk.specs.Text.{is_another, meaning_at, number_text, outcome_text}
 use Rattle.peer_talk.proofs.Speakers.{another_meant, same_peer}
+use Rattle.conversation.specs.Books.{with_outcome}
+use Rattle.conversation.specs.declared.said.Said.{Said}
+use Rattle.conversation.specs.declared.said.Said.TheVariants as says
+use Rattle.conversation.specs.Saying.{IsAskedFor, meaning_of, said_message, talk_after}
 use Rattle.station.specs.declared.peer.Peer.{Peer}
 use Rattle.station.specs.declared.peer_end.PeerEnd.{PeerEnd}
 use Rattle.station.specs.declared.peer_end.PeerEnd.TheVariants as ends
-use Rattle.station.specs.Hearing.{Answers, AnswersAll, AnswersRequest, Hears, turn_of}
+use Rattle.station.specs.Hearing.{Among, Answers, AnswersAll, Hears, IsAskedAmong, among}
+use Rattle.station.specs.Hearing.{end_behind, turn_of}
 use Rattle.station.specs.Moves.{StationState, rows_since, with_octets}
 use Rattle.station.specs.Papers.{IsChangeTo}
 use Rattle.station.specs.Peers.{with_notices}
 use Rattle.station.specs.PeerViews.{session_of}
 use Rattle.station.specs.Reads.{is_read_at}
 use Rattle.station.specs.Sessions.{Granted, Grants, Session, Turn, all_granted, answer}
-use Rattle.station.specs.Sessions.{answer_all, answer_meaning, ask, end_session, full_grant, hear}
-use Rattle.station.specs.Sessions.{no_memory, opening_text, outcome_at, with_text, refuse_by, serve}
-use Rattle.station.specs.Sessions.{tell, tell_last, with_outcome, without_till}
+use Rattle.station.specs.Sessions.{answer_all, answer_meaning, answer_so, ask, end_session}
+use Rattle.station.specs.Sessions.{full_grant, hear, no_memory, opening_text, refuse_by, serve}
+use Rattle.station.specs.Sessions.{tell, tell_last, with_text, without_till}
 use Rattle.station.proofs.Adding.{octets_unheard}
 use Rattle.station.proofs.Keeping.{by_fault}
 use Rattle.station.proofs.Notices.{with_notices-none, with_notices-unchanged}
@@ -75,31 +78,6 @@ untold actor event (Ok (Err refusal)) peers none =
 
 -- ---- a request
 
-noted : (a b : TalkState) (on : Option ℕ) (n : ℕ) → b.peer ≡ a.peer → b.on ≡ on → b.asked ≡ n
-    → b ≡ record a { on = on; asked = n }
-noted a b on n peer signed counted =
-    ap (λ p. let t : TalkState = record { peer = p; on = b.on; asked = b.asked } in t) peer
-    ∙ ap (λ o. let t : TalkState = record { peer = a.peer; on = o; asked = b.asked } in t) signed
-    ∙ ap (λ k. let t : TalkState = record { peer = a.peer; on = on; asked = k } in t) counted
-
--- a request was asked, and noted
-pub was_asked : (actor : Actor) (event : Event) (outcome : Outcome) (b b' : Book) (p : Peer)
-    (talked : TalkState) → b' ≡ with_outcome actor event outcome b → talked.peer ≡ p.talk.peer
-    → talked.on ≡ signed_by actor event outcome p.talk.on → talked.asked ≡ one_more p.talk.asked
-    → (let t : Turn = record { book = b'; session = record (session_of p) { talk = talked } } in t)
-    ≡ ask actor event outcome (turn_of b p)
-was_asked actor event outcome b b' p talked book peer on counted =
-    ap (λ (k : Book). let t : Turn = record {
-      book = k;
-      session = record (session_of p) { talk = talked };
-    } in t) book
-    ∙ ap (λ (s : TalkState). let t : Turn = record {
-      book = with_outcome actor event outcome b;
-      session = record (session_of p) { talk = s };
-    } in t)
-    (noted p.talk talked (signed_by actor event outcome p.talk.on) (one_more p.talk.asked) peer on
-    counted)
-
 made_told : (actor : Actor) (event : Event) (outcome : Outcome) (b : Book)
     (others others' : List (Option Session))
     → others' ≡ with_notices (row_made actor event outcome) others
@@ -123,30 +101,6 @@ request_told false text actor event outcome t others others' is =
     (outcome-grows actor event outcome t.book) (left-grows on made)
     (made_told actor event outcome t.book others others' is) (left-told on made others')
 
-pub answers_request : (row memory : Bool) (m : Telegram) (actor : Actor) (event : Event)
-    (outcome : Outcome) (before : Option (List ℕ)) (t t' : Turn)
-    (others others' : List (Option Session))
-    → outcome ≡ outcome_at row t.book actor event
-    → others' ≡ with_notices (row_made actor event outcome) others
-    → t' ≡ tell memory (outcome_text m outcome
-    ++ opening_text before m.from (with_outcome actor event outcome t.book))
-    (ask actor event outcome t)
-    → AnswersRequest m actor event before t t' others others'
-answers_request row memory m actor event outcome before t t' others others' is told_is turn =
-    let text = outcome_text m outcome
-    ++ opening_text before m.from (with_outcome actor event outcome t.book) in
-    record {
-      memory = record { row = row; text = memory };
-      turn =
-          turn
-          ∙ ap (λ (o : Outcome). tell memory (outcome_text m o
-          ++ opening_text before m.from (with_outcome actor event o t.book))
-          (ask actor event o t)) is;
-      told =
-          request_told memory text actor event outcome t others others' told_is
-          ∙ ap (λ (u : Turn). with_notices (rows_since t.book u.book) others) (sym turn);
-    }
-
 -- ---- a message that is refused
 
 lasting : (g : Granted) (m : Telegram) (t : Turn) (meaning : Meaning) → t.session.end ≡ None
@@ -161,66 +115,111 @@ last_told : (memory : Bool) (text : List ℕ) (end : PeerEnd) (t : Turn)
 last_told true text end t others = left-told t.session.talk.on t.book others
 last_told false text end t others = left-told t.session.talk.on t.book others
 
-pub answers_another : (memory : Bool) (m : Telegram) (b : Book) (p : Peer) (talked : TalkState)
-    (t' : Turn) (others : List (Option Session))
-    → p.end ≡ None → meaning_at p.talk.peer m ≡ meanings.Another
-    → talked ≡ record p.talk { peer = peer_after p.talk.peer m.from }
-    → t' ≡ tell_last memory (number_text m ORIGINATOR_CHANGED)
-    (ends.Talk talk.OriginatorChanged)
-    (record { book = b; session = record (session_of p) { talk = talked } })
-    → Answers m (turn_of b p) t' others others
-answers_another memory m b p talked t' others lasts is met turn =
-    let end : PeerEnd = ends.Talk talk.OriginatorChanged in
-    let text = number_text m ORIGINATOR_CHANGED in
-    let same : talked ≡ p.talk =
-    met ∙ ap (λ q. record p.talk { peer = q })
-    (same_peer p.talk.peer m.from (another_meant p.talk.peer m is)) in
-    let now : t' ≡ tell_last memory text end (turn_of b p) =
-    turn ∙ ap (λ (s : TalkState). tell_last memory text end
-    (record { book = b; session = record (session_of p) { talk = s } })) same in
-    record {
-      memory = record { row = true; text = memory };
-      turn =
-          now
-          ∙ sym (lasting (record { row = true; text = memory }) m (turn_of b p) meanings.Another
-          lasts is);
-      told =
-          last_told memory text end (turn_of b p) others
-          ∙ ap (λ (u : Turn). with_notices (rows_since b u.book) others) (sym now);
-    }
-
 refusal_told : (memory : Bool) (text : List ℕ) (t : Turn) (others : List (Option Session))
     → others ≡ with_notices (rows_since t.book (tell memory text t).book) others
 refusal_told true text t others = told_none t.book others
 refusal_told false text t others = left-told t.session.talk.on t.book others
 
-pub answers_fault : (memory : Bool) (m : Telegram) (f : MapFault) (number : ℕ)
-    (before : Option (List ℕ)) (b : Book) (p : Peer) (talked : TalkState) (t' : Turn)
-    (others : List (Option Session))
-    → p.end ≡ None → meaning_at p.talk.peer m ≡ meanings.Fault f → number ≡ map_number f
-    → before ≡ p.talk.peer
-    → talked ≡ record p.talk { peer = peer_after p.talk.peer m.from }
-    → t' ≡ tell memory (number_text m number ++ opening_text before m.from b)
-    (record { book = b; session = record (session_of p) { talk = talked } })
-    → Answers m (turn_of b p) t' others others
-answers_fault memory m f number before b p talked t' others lasts is numbered was met turn =
+-- ---- a message, from what is said to it
+
+-- the session behind what is said to a message: without memory for that it ends
+abbrev pub said_so : Bool → Telegram → Said → Option (List ℕ) → Turn → Turn
+said_so memory m says.Another before t =
+    tell_last memory (number_text m ORIGINATOR_CHANGED ++ opening_text before m.from t.book)
+    (ends.Talk talk.OriginatorChanged) t
+said_so memory m said before t =
+    tell memory (spelling (said_message m said) ++ opening_text before m.from t.book) t
+
+pub said_lost : (m : Telegram) (said : Said) (before : Option (List ℕ)) (t : Turn)
+    → end_session no_memory t ≡ said_so false m said before t
+said_lost m says.Another before t = refl
+said_lost m (says.Fault f) before t = refl
+said_lost m (says.Outcome actor event outcome) before t = refl
+
+pub said_put : (m : Telegram) (said : Said) (before : Option (List ℕ)) (t : Turn)
+    → end_behind said (with_text
+    (spelling (said_message m said) ++ opening_text before m.from t.book) t)
+    ≡ said_so true m said before t
+said_put m says.Another before t = refl
+said_put m (says.Fault f) before t = refl
+said_put m (says.Outcome actor event outcome) before t = refl
+
+-- another originator speaks behind a first message
+no_opening : (peer : Option (List ℕ)) (from : List ℕ) (b : Book) → is_another peer from ≡ true
+    → opening_text peer from b ≡ []
+no_opening None from b other = absurd cc
+no_opening (Some node) from b other = refl
+
+-- the turn of a peer whose message this is said to, at this book
+abbrev pub heard_turn : Book → Peer → List ℕ → Said → Turn
+heard_turn b p from said =
+    record { book = b; session = record (session_of p) { talk = talk_after from said p.talk } }
+
+pub answers_said : (memory : Bool) (m : Telegram) (said : Said) (b b' : Book) (p : Peer) (t' : Turn)
+    (others others' : List (Option Session))
+    → p.end ≡ None → meaning_of said ≡ meaning_at p.talk.peer m
+    → IsAskedFor IsAskedAmong (among b others) said (among b' others')
+    → t' ≡ said_so memory m said p.talk.peer (heard_turn b' p m.from said)
+    → Answers m (turn_of b p) t' others others'
+answers_said memory m says.Another b b' p t' others others' lasts is asked turn =
+    let end : PeerEnd = ends.Talk talk.OriginatorChanged in
+    let text = number_text m ORIGINATOR_CHANGED in
+    let grant : Granted = record { row = true; text = memory } in
+    let other = another_meant p.talk.peer m (sym is) in
+    let book : b' ≡ b = ap (λ (a : Among). a.book) asked in
+    let alone : others' ≡ others = ap (λ (a : Among). a.others) asked in
+    let now : t' ≡ tell_last memory text end (turn_of b p) =
+    turn
+    ∙ ap (λ o. tell_last memory (text ++ o) end (heard_turn b' p m.from says.Another))
+    (no_opening p.talk.peer m.from b' other)
+    ∙ ap (λ o. tell_last memory o end (heard_turn b' p m.from says.Another)) (append-nil text)
+    ∙ ap (λ q. tell_last memory text end (record {
+      book = b';
+      session = record (session_of p) { talk = record p.talk { peer = q } };
+    })) (same_peer p.talk.peer m.from other)
+    ∙ ap (λ (k : Book). tell_last memory text end (turn_of k p)) book in
+    record {
+      memory = grant;
+      turn = now ∙ sym (lasting grant m (turn_of b p) meanings.Another lasts (sym is));
+      told =
+          alone ∙ last_told memory text end (turn_of b p) others
+          ∙ ap (λ (u : Turn). with_notices (rows_since b u.book) others) (sym now);
+    }
+answers_said memory m (says.Fault f) b b' p t' others others' lasts is asked turn =
+    let grant : Granted = record { row = true; text = memory } in
+    let book : b' ≡ b = ap (λ (a : Among). a.book) asked in
+    let alone : others' ≡ others = ap (λ (a : Among). a.others) asked in
     let text = number_text m (map_number f) ++ opening_text p.talk.peer m.from b in
     let now : t' ≡ tell memory text (serve m.from (turn_of b p)) =
     turn
-    ∙ ap (λ n. tell memory (number_text m n ++ opening_text before m.from b)
-    (record { book = b; session = record (session_of p) { talk = talked } })) numbered
-    ∙ ap (λ q. tell memory (number_text m (map_number f) ++ opening_text q m.from b)
-    (record { book = b; session = record (session_of p) { talk = talked } })) was
-    ∙ ap (λ (s : TalkState). tell memory text
-    (record { book = b; session = record (session_of p) { talk = s } })) met in
+    ∙ ap (λ (k : Book). tell memory
+    (number_text m (map_number f) ++ opening_text p.talk.peer m.from k)
+    (heard_turn k p m.from (says.Fault f))) book in
     record {
-      memory = record { row = true; text = memory };
+      memory = grant;
+      turn = now ∙ sym (lasting grant m (turn_of b p) (meanings.Fault f) lasts (sym is));
+      told =
+          alone ∙ refusal_told memory text (serve m.from (turn_of b p)) others
+          ∙ ap (λ (u : Turn). with_notices (rows_since b u.book) others) (sym now);
+    }
+answers_said memory m (says.Outcome actor event outcome) b b' p t' others others' lasts is asked
+    turn =
+    let grant : Granted = record { row = asked.0.0.0; text = memory } in
+    let made = with_outcome actor event outcome b in
+    let served = serve m.from (turn_of b p) in
+    let text = outcome_text m outcome ++ opening_text p.talk.peer m.from made in
+    let now : t' ≡ tell memory text (ask actor event outcome served) =
+    turn
+    ∙ ap (λ (k : Book). tell memory (outcome_text m outcome ++ opening_text p.talk.peer m.from k)
+    (heard_turn k p m.from (says.Outcome actor event outcome))) asked.0.1 in
+    record {
+      memory = grant;
       turn =
           now
-          ∙ sym (lasting (record { row = true; text = memory }) m (turn_of b p)
-          (meanings.Fault f) lasts is);
+          ∙ ap (λ (o : Outcome). answer_so memory m actor event o p.talk.peer served) asked.0.0.1
+          ∙ sym (lasting grant m (turn_of b p) (meanings.Request actor event) lasts (sym is));
       told =
-          refusal_told memory text (serve m.from (turn_of b p)) others
+          request_told memory text actor event outcome served others others' asked.1
           ∙ ap (λ (u : Turn). with_notices (rows_since b u.book) others) (sym now);
     }
 
@@ -341,29 +340,3 @@ hears_piece piece b p decoder ms fault memory t t' others others' holds listed f
 pub unheard : (k : ℕ) (piece : List ℕ) (s : StationState) → is_read_at s k ≡ false
     → (memory : Grants) × (s ≡ with_octets memory k piece s)
 unheard k piece s unread = (all_granted, sym (octets_unheard s all_granted k piece unread))
-
--- ---- what was put for a request
-
-pub request_put : (text : Book → List ℕ) (b made : Book) (p p' : Peer) (talked : TalkState)
-    (t : Turn) → b ≡ made
-    → (let u : Turn = record { book = b; session = record (session_of p) { talk = talked } } in u)
-    ≡ t
-    → session_of p' ≡ record (session_of p) {
-      talk = talked;
-      owed = p.outbox ++ text b;
-    }
-    → turn_of b p' ≡ with_text (text made) t
-request_put text b made p p' talked t book asked_is put =
-    ap (λ (x : Session). let u : Turn = record { book = b; session = x } in u) put
-    ∙ ap (with_text (text b)) asked_is
-    ∙ ap (λ (k : Book). with_text (text k) t) book
-
-pub request_lost : (b : Book) (p p' : Peer) (talked : TalkState) (t t' : Turn)
-    → (let u : Turn = record { book = b; session = record (session_of p) { talk = talked } } in u)
-    ≡ t
-    → session_of p' ≡ record (session_of p) { talk = talked }
-    → t' ≡ end_session no_memory (turn_of b p') → t' ≡ end_session no_memory t
-request_lost b p p' talked t t' asked_is put turn =
-    turn
-    ∙ ap (λ (x : Session). end_session no_memory (record { book = b; session = x })) put
-    ∙ ap (end_session no_memory) asked_is

@@ -30,7 +30,8 @@ use Rattle.station.specs.Notices.{notice_at, row_notice}
 use Rattle.station.specs.Peers.{listener, tell_row, tell_rows, tell_notice, peer_at, with_notices}
 use Rattle.station.specs.Runs.{Move, after, after_move, opening_station}
 use Rattle.station.specs.Sessions.{Session, Turn, ask, end_session, finish, opening_session}
-use Rattle.station.specs.Sessions.{outcome_at, serve, with_text, without_till}
+use Rattle.conversation.specs.Books.{outcome_at}
+use Rattle.station.specs.Sessions.{serve, with_text, without_till}
 use Rattle.station.proofs.Keeping.{EachHolds, EachKeeps, HoldsAt, Keeps, Leads, after_input}
 use Rattle.station.proofs.Keeping.{each_keep, holding, heard_keeps, key_of, moved_keeps, turn_at}
 use Rattle.station.proofs.Notices.{nobody_noticed}

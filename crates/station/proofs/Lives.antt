@@ -36,8 +36,10 @@ use Rattle.station.specs.Notices.{notices_of, octets_of, row_notice}
 use Rattle.station.specs.Peers.{listener, tell_row, tell_rows, tell_notice}
 use Rattle.station.specs.Sessions.{Granted, Grants, Session, Turn, answer, answer_all}
 use Rattle.station.specs.Sessions.{answer_meaning, answer_so, end_by, end_session, finish, hear}
-use Rattle.station.specs.Sessions.{no_memory, opening_text, outcome_at, refuse_by, serve}
-use Rattle.station.specs.Sessions.{take_messages, tell, tell_last, with_outcome}
+use Rattle.conversation.specs.Books.{outcome_at}
+use Rattle.station.specs.Sessions.{no_memory, opening_text, refuse_by, serve}
+use Rattle.conversation.specs.Books.{with_outcome}
+use Rattle.station.specs.Sessions.{take_messages, tell, tell_last}
 use Rattle.station.specs.Stories.{AreAsked, Happening, asked_in, book_of, is_all_answered}
 use Rattle.station.specs.Stories.{is_whole, messages_in, refusal_by, rows_in, said_in, told_in}
 use Rattle.station.proofs.Keeping.{Keeps, all_keep, by_fault, by_lasting, by_memory, by_message}

@@ -23,7 +23,7 @@ use Rattle.peer_talk.specs.Exchanges.{row_made}
 use Rattle.peer_talk.specs.Talks.{IsSpokenBy}
 use Rattle.peer_talk.specs.Text.{is_same_node}
 use Rattle.station.specs.Notices.{notice_at, notices_of, octets_of, row_notice}
-use Rattle.station.specs.Sessions.{outcome_at}
+use Rattle.conversation.specs.Books.{outcome_at}
 
 -- ---- a change goes to a dispenser
 

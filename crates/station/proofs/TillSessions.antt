@@ -28,7 +28,8 @@ use Rattle.station.specs.Laws.{HasSession}
 use Rattle.station.specs.Moves.{StationState, rows_since, with_turn}
 use Rattle.station.specs.Peers.{tell_rows, peer_at, with_notices}
 use Rattle.station.specs.Runs.{Move, after, after_move, opening_station}
-use Rattle.station.specs.Sessions.{Session, Turn, ask, end_session, opening_session, outcome_at}
+use Rattle.conversation.specs.Books.{outcome_at}
+use Rattle.station.specs.Sessions.{Session, Turn, ask, end_session, opening_session}
 use Rattle.station.specs.Sessions.{without_till}
 use Rattle.station.proofs.Keeping.{Keeps, Leads, after_input, each_moved, heard_keeps, key_of}
 use Rattle.station.proofs.Keeping.{moved_keeps, turn_at, with_slot}

@@ -16,7 +16,8 @@ use Rattle.peer_talk.specs.Exchanges.{Outcome, row_made}
 use Rattle.station.specs.Moves.{rows_since}
 use Rattle.station.specs.Peers.{with_notices}
 use Rattle.station.specs.Sessions.{Granted, Session, Turn, answer, answer_all, refuse_by}
-use Rattle.station.specs.Sessions.{with_outcome, without_till}
+use Rattle.conversation.specs.Books.{with_outcome}
+use Rattle.station.specs.Sessions.{without_till}
 use Rattle.station.proofs.Keeping.{Input, Keeps, RowsKeep, after_input, all_keep, answered_keeps}
 use Rattle.station.proofs.Keeping.{heard_keeps, left_keeps, refused_keeps, rows_keep}
 use Rattle.station.proofs.Notices.{no_sign_off_change, with_notices-append, with_notices-none}

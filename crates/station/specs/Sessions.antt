@@ -3,12 +3,11 @@
 -- Where memory is wanting nothing is half done: a request makes no row, or a message isn't told
 -- anything and its session ends. `Granted` and `Grants` say where memory was had.
 use Rattle.std.specs.Prelude.{ℕ, Bool, true, false, ◌&&◌, is_none, nat_lt, List, [], ◌∷◌}
-use Rattle.std.specs.Prelude.{◌++◌, length, Option, Some, None, Ok, Err, if◌then◌else◌}
+use Rattle.std.specs.Prelude.{◌++◌, length, Option, Some, None, if◌then◌else◌}
 use Rattle.site_base.specs.declared.actor.Actor.{Actor}
 use Rattle.site_base.specs.declared.actor.Actor.TheVariants.{Till}
 use Rattle.site_base.specs.declared.event.Event.{Event}
 use Rattle.site_base.specs.declared.event.Event.TheVariants.{SignOff}
-use Rattle.site_base.specs.declared.refusal.NoRow.TheVariants as norow
 use Rattle.devices.specs.Devices.{one_more}
 use Rattle.app_message.specs.declared.fault.StreamFault.{StreamFault}
 use Rattle.app_message.specs.Spelling.{spelling}
@@ -17,13 +16,14 @@ use Rattle.app_message.specs.Telegram.{Telegram}
 use Rattle.device_map.specs.Faults.{map_number}
 use Rattle.device_map.specs.Replies.{fault_message}
 use Rattle.written_site.specs.SiteState.{is_signed_on}
-use Rattle.site_book.specs.Book.{Book, book_reply, is_full, site_of_book, with_row_of}
+use Rattle.site_book.specs.Book.{Book, site_of_book, with_row_of}
 use Rattle.peer_talk.specs.declared.fault.TalkFault.{TalkFault}
 use Rattle.peer_talk.specs.declared.fault.TalkFault.TheVariants as talk
 use Rattle.peer_talk.specs.declared.fault.TheConstants.{ORIGINATOR_CHANGED}
 use Rattle.peer_talk.specs.declared.talk.Meaning.{Meaning}
 use Rattle.peer_talk.specs.declared.talk.Meaning.TheVariants as meanings
-use Rattle.peer_talk.specs.Exchanges.{Outcome, row_made, signed_by}
+use Rattle.peer_talk.specs.Exchanges.{Outcome, signed_by}
+use Rattle.conversation.specs.Books.{outcome_at, with_outcome}
 use Rattle.peer_talk.specs.Talks.{TalkState, opening_talk}
 use Rattle.peer_talk.specs.Text.{left_over, meaning_at, number_text, outcome_text, peer_after}
 use Rattle.station.specs.declared.peer_end.PeerEnd.{PeerEnd}
@@ -88,16 +88,6 @@ pub record Granted : Type 0 where
 
 abbrev pub full_grant : Granted
 full_grant = record { row = true; text = true }
-
--- what a request is answered: there is no row where memory is wanting, or the book is full
-abbrev pub outcome_at : Bool → Book → Actor → Event → Outcome
-outcome_at false b actor event = Err norow.NoMemory
-outcome_at true b actor event =
-    if is_full b then Err norow.BookFull else Ok (book_reply b actor event)
-
--- the book with the row of a request that is answered so
-abbrev pub with_outcome : Actor → Event → Outcome → Book → Book
-with_outcome actor event outcome b = record b { rows = b.rows ++ row_made actor event outcome }
 
 -- the peer is owed these octets too
 abbrev pub with_text : List ℕ → Turn → Turn

@@ -1,35 +1,63 @@
 //! A request at the station's book, and who is told of its row.
 
-ghost use Rattle.std.specs.Prelude.{◌≡◌, ◌≤◌, Bool, length, Some, map, option_map};
+ghost use Rattle.std.specs.Prelude.{◌≡◌, ◌≤◌, length, Some, map, option_map};
+ghost use Rattle.conversation.specs.Books.{IsAskedOf};
 ghost use Rattle.device_map.specs.Changes.{change_by};
 ghost use Rattle.peer_talk.specs.Exchanges.{row_made};
 ghost use Rattle.station.specs.Papers.{IsChangeTo};
 ghost use Rattle.station.specs.declared.sizes.TheConstants.{NOTICE_OCTETS};
 ghost use Rattle.station.specs.Peers.{with_notices};
 ghost use Rattle.station.specs.PeerViews.{session_of, sessions_of, slot_noticed};
-ghost use Rattle.station.specs.Sessions.{outcome_at, with_outcome};
 
 use crate::paper::Paper;
 use crate::peer::Peer;
+use conversation::Asks;
 use site_base::{Actor, Event, FpNo, NoRow, Reply};
 use site_book::SiteBook;
 
+/// The book, as the messages of one peer ask it: the other peers are told of its rows.
+#[derive(Drop)]
+pub(crate) struct Listened<'a> {
+    pub(crate) book: &'a mut SiteBook,
+    pub(crate) others: &'a mut [Option<Peer>],
+    pub(crate) paper: &'a mut Paper,
+}
+
+impl<'a> Asks for Listened<'a> {
+    ghost use Rattle.std.specs.Prelude.{ℕ};
+    ghost use Rattle.conversation.specs.Lending.{Lent};
+    ghost use Rattle.station.specs.Hearing.{Among, IsAskedAmong, among};
+    ghost use Rattle.station.specs.PeerViews.{sessions_of};
+
+    ghost Seen = { Among × (ℕ × ℕ) };
+
+    ghost seen = { λ l. (
+      among l.book.now (sessions_of l.others.now),
+      (l.book.ghost_name, l.others.ghost_name),
+    ) };
+
+    ghost asked = { Lent IsAskedAmong };
+
+    fn ask(&mut self, actor: Actor, event: Event) -> Result<Reply, NoRow> {
+        ask(self.book, self.others, self.paper, actor, event)
+    }
+}
+
 /// Asks the book for a request. Where its row has a change, each of these peers that listens at the
 /// point is told it. The change is written first: without memory for that there is no row.
-pub(crate) fn ask(
+fn ask(
     book: &mut SiteBook,
     others: &mut [Option<Peer>],
     paper: &mut Paper,
     actor: Actor,
     event: Event,
 ) -> Result<Reply, NoRow>
-    ensures outcome { (memory : Bool) × (result ≡ outcome_at memory book.old actor event) }
-    ensures book { book.new ≡ with_outcome actor event result book.old }
+    ensures asked { IsAskedOf book.old actor event result book.new }
     ensures others { sessions_of others.new
         ≡ with_notices (row_made actor event result) (sessions_of others.old) }
 {
     match event.point() {
-        None => ask_book(book, actor, event),
+        None => book.ask(actor, event),
         Some(p) => ask_at(book, others, paper, &actor, &event, p),
     }
 }
@@ -43,13 +71,12 @@ fn ask_at(
     event: &Event,
     p: FpNo,
 ) -> Result<Reply, NoRow>
-    ensures outcome { (memory : Bool) × (result ≡ outcome_at memory book.old actor.now event.now) }
-    ensures book { book.new ≡ with_outcome actor.now event.now result book.old }
+    ensures asked { IsAskedOf book.old actor.now event.now result book.new }
     ensures others { sessions_of others.new
         ≡ with_notices (row_made actor.now event.now result) (sessions_of others.old) }
 {
     match paper.write_change(p, *event)? {
-        None => ask_book(book, *actor, *event),
+        None => book.ask(*actor, *event),
         Some(node) => ask_telling(book, others, &node, &paper.notice, *actor, *event),
     }
 }
@@ -65,12 +92,11 @@ fn ask_telling(
 ) -> Result<Reply, NoRow>
     requires change { IsChangeTo (change_by event) (Some node.now) notice.now }
     requires short { length notice.now ≤ NOTICE_OCTETS }
-    ensures outcome { (memory : Bool) × (result ≡ outcome_at memory book.old actor event) }
-    ensures book { book.new ≡ with_outcome actor event result book.old }
+    ensures asked { IsAskedOf book.old actor event result book.new }
     ensures others { sessions_of others.new
         ≡ with_notices (row_made actor event result) (sessions_of others.old) }
 {
-    let outcome = ask_book(book, actor, event);
+    let outcome = book.ask(actor, event);
     notice_accepted(others, *node, notice, &actor, &event, &outcome);
     outcome
 }
@@ -95,17 +121,6 @@ fn notice_accepted(
             Err(_) => {}
         },
         Err(_) => {}
-    }
-}
-
-/// Asks the book alone.
-fn ask_book(book: &mut SiteBook, actor: Actor, event: Event) -> Result<Reply, NoRow>
-    ensures outcome { (memory : Bool) × (result ≡ outcome_at memory book.old actor event) }
-    ensures book { book.new ≡ with_outcome actor event result book.old }
-{
-    match book.apply(actor, event) {
-        Ok(placed) => Ok(placed.reply),
-        Err(no_row) => Err(no_row),
     }
 }
 

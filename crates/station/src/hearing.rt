@@ -2,22 +2,22 @@
 
 ghost use Rattle.std.specs.Prelude.{◌≡◌, ◌++◌, Bool, None, Some, OnOk, OnErr};
 ghost use Rattle.app_message.specs.Spelling.{spelling};
+ghost use Rattle.conversation.specs.Saying.{IsAskedFor, meaning_of, said_message, talk_after};
 ghost use Rattle.device_map.specs.Replies.{fault_message};
-ghost use Rattle.peer_talk.specs.Talks.{IsSpokenBy};
-ghost use Rattle.peer_talk.specs.Text.{number_text, outcome_text};
-ghost use Rattle.station.specs.Hearing.{Answers, AnswersAll, AnswersRequest, Hears, finish_if};
-ghost use Rattle.station.specs.Hearing.{turn_of};
+ghost use Rattle.peer_talk.specs.Text.{meaning_at};
+ghost use Rattle.station.specs.Hearing.{Answers, AnswersAll, Hears, IsAskedAmong, among};
+ghost use Rattle.station.specs.Hearing.{end_behind, finish_if, turn_of};
 ghost use Rattle.station.specs.PeerViews.{session_of, sessions_of};
-ghost use Rattle.station.specs.Sessions.{end_session, finish, opening_text, refuse_by, tell};
-ghost use Rattle.station.specs.Sessions.{tell_last};
+ghost use Rattle.station.specs.Sessions.{end_session, finish, opening_text, refuse_by};
 
-use crate::asking::ask;
+use crate::asking::Listened;
 use crate::paper::Paper;
 use crate::peer::Peer;
 use crate::peer_end::PeerEnd;
 use app_message::{Message, Messages, StreamFault};
-use peer_talk::{Meaning, ORIGINATOR_CHANGED, TalkFault};
-use site_base::{Actor, Event, NoMemory, NoRow, Reply};
+use conversation::{Said, hear as hear_message};
+use peer_talk::TalkFault;
+use site_base::NoMemory;
 use site_book::SiteBook;
 
 /// A peer whose session lasts is heard: the messages that its piece brings are answered, and a
@@ -63,7 +63,8 @@ fn answer_all(
     }
 }
 
-/// Answers a message of a session that lasts.
+/// Answers a message of a session that lasts. Without memory for what is said to it the session
+/// ends.
 fn answer(
     peer: &mut Peer,
     book: &mut SiteBook,
@@ -76,129 +77,66 @@ fn answer(
         (sessions_of others.old) (sessions_of others.new) }
 {
     let before = peer.talk.peer();
-    match peer.talk.take_meaning(message) {
-        Meaning::Another => refuse_another(peer, book, paper, message),
-        Meaning::Fault(fault) => {
-            refuse_message(peer, book, paper, message, fault.number(), before);
-        }
-        Meaning::Request(actor, event) => {
-            answer_request(peer, book, others, paper, message, actor, event, before);
-        }
+    let said = &ask(peer, book, others, paper, message);
+    match tell(peer, book, paper, message, said, before) {
+        Err(_) => end_session(peer, book, PeerEnd::NoMemory),
+        Ok(()) => end_another(peer, book, said),
     }
 }
 
-/// Another originator is told that it is another, and the session ends.
-fn refuse_another(peer: &mut Peer, book: &mut SiteBook, paper: &mut Paper, message: &Message)
-    ensures { (memory : Bool) × (turn_of book.new peer.new ≡ tell_last memory
-        (number_text message.now ORIGINATOR_CHANGED)
-        (PeerEnd.Talk TalkFault.OriginatorChanged)
-        (turn_of book.old peer.old)) }
-{
-    let end = match put_number(peer, paper, message, ORIGINATOR_CHANGED) {
-        Ok(()) => PeerEnd::Talk(TalkFault::OriginatorChanged),
-        Err(_) => PeerEnd::NoMemory,
-    };
-    end_session(peer, book, end);
-}
-
-/// Puts a number that a message is told in place of a reply.
-fn put_number(
-    peer: &mut Peer,
-    paper: &mut Paper,
-    message: &Message,
-    number: u8,
-) -> Result<(), NoMemory>
-    ensures ok { OnOk result (session_of peer.new ≡ record (session_of peer.old) {
-      owed = peer.old.outbox ++ number_text message.now number;
-    }) }
-    ensures err { OnErr result (session_of peer.new ≡ session_of peer.old) }
-{
-    paper.write_number(message, number)?;
-    peer.outbox.put(&paper.text)
-}
-
-/// A message that means no event is told its fault. Without memory the session ends.
-fn refuse_message(
-    peer: &mut Peer,
-    book: &mut SiteBook,
-    paper: &mut Paper,
-    message: &Message,
-    number: u8,
-    before: Option<[u8; 2]>,
-)
-    ensures { (memory : Bool) × (turn_of book.new peer.new ≡ tell memory
-        (number_text message.now number ++ opening_text before message.now.from book.old)
-        (turn_of book.old peer.old)) }
-{
-    let told = match paper.write_number(message, number) {
-        Ok(()) => tell(peer, book, paper, message, before),
-        Err(e) => Err(e),
-    };
-    if told.is_err() {
-        end_session(peer, book, PeerEnd::NoMemory);
-    }
-}
-
-/// Asks a request, and tells what it is answered. Without memory for that the session ends.
-fn answer_request(
+/// Hears a message: the book is asked for a request, and the others that listen are told of its
+/// row.
+fn ask(
     peer: &mut Peer,
     book: &mut SiteBook,
     others: &mut [Option<Peer>],
     paper: &mut Paper,
     message: &Message,
-    actor: Actor,
-    event: Event,
-    before: Option<[u8; 2]>,
-)
-    requires { IsSpokenBy actor peer.old.talk.peer }
-    ensures { AnswersRequest message.now actor event before (turn_of book.old peer.old)
-        (turn_of book.new peer.new) (sessions_of others.old) (sessions_of others.new) }
+) -> Said
+    ensures means { meaning_of result ≡ meaning_at peer.old.talk.peer message.now }
+    ensures talk { session_of peer.new ≡ record (session_of peer.old) {
+      talk = talk_after message.now.from result peer.old.talk;
+    } }
+    ensures asked { IsAskedFor IsAskedAmong (among book.old (sessions_of others.old)) result
+        (among book.new (sessions_of others.new)) }
 {
-    let outcome = &ask(book, others, paper, actor, event);
-    peer.talk.note(&actor, &event, outcome);
-    match put_outcome(peer, book, paper, message, outcome, before) {
-        Ok(()) => {}
-        Err(_) => end_session(peer, book, PeerEnd::NoMemory),
-    }
+    let mut asked = Listened {
+        book: &mut *book,
+        others: &mut *others,
+        paper: &mut *paper,
+    };
+    hear_message(&mut peer.talk, &mut asked, message)
 }
 
-/// Puts what a request was answered, and behind the first message's the standing notices.
-fn put_outcome(
-    peer: &mut Peer,
-    book: &SiteBook,
-    paper: &mut Paper,
-    message: &Message,
-    outcome: &Result<Reply, NoRow>,
-    before: Option<[u8; 2]>,
-) -> Result<(), NoMemory>
-    ensures ok { OnOk result (session_of peer.new ≡ record (session_of peer.old) {
-      owed = peer.old.outbox ++ (outcome_text message.now outcome.now
-          ++ opening_text before message.now.from book.now);
-    }) }
-    ensures err { OnErr result (session_of peer.new ≡ session_of peer.old) }
-{
-    paper.write_outcome(message, outcome)?;
-    tell(peer, book, paper, message, before)
-}
-
-/// Tells what was written to a message, and behind the first one's the standing notices.
+/// Tells what is said to a message, and behind the first one's the standing notices.
 fn tell(
     peer: &mut Peer,
     book: &SiteBook,
     paper: &mut Paper,
     message: &Message,
+    said: &Said,
     before: Option<[u8; 2]>,
 ) -> Result<(), NoMemory>
     ensures ok { OnOk result (session_of peer.new ≡ record (session_of peer.old) {
-      owed = peer.old.outbox
-          ++ (paper.old.text.items ++ opening_text before message.now.from book.now);
+      owed = peer.old.outbox ++ (spelling (said_message message.now said.now)
+          ++ opening_text before message.now.from book.now);
     }) }
     ensures err { OnErr result (session_of peer.new ≡ session_of peer.old) }
 {
+    paper.write_said(message, said)?;
     if before.is_none() {
         paper.add_standing(book, message.from())?;
     }
     peer.outbox.put(&paper.text)
+}
+
+/// A session whose peer was told that another originator spoke ends with that.
+fn end_another(peer: &mut Peer, book: &mut SiteBook, said: &Said)
+    ensures { turn_of book.new peer.new ≡ end_behind said.now (turn_of book.old peer.old) }
+{
+    if let Said::Another = said {
+        end_session(peer, book, PeerEnd::Talk(TalkFault::OriginatorChanged));
+    }
 }
 
 /// Refuses a fault of the octets, if the session lasts; it ends with that.

@@ -3,17 +3,19 @@
 ghost use Rattle.std.specs.Prelude.{◌≡◌, ◌≤◌, ◌++◌, Ok, Some, IfOk, OnOk, length};
 ghost use Rattle.station.specs.declared.sizes.TheConstants.{NOTICE_OCTETS};
 ghost use Rattle.app_message.specs.Spelling.{spelling};
+ghost use Rattle.conversation.specs.Saying.{said_message};
 ghost use Rattle.device_map.specs.Changes.{change_by};
 ghost use Rattle.device_map.specs.Replies.{fault_message};
-ghost use Rattle.peer_talk.specs.Text.{is_same_node, number_text, outcome_text};
+ghost use Rattle.peer_talk.specs.Text.{is_same_node};
 ghost use Rattle.station.specs.Notices.{events_text, notice_at, octets_of, standing_text};
 ghost use Rattle.station.specs.Papers.{IsChangeTo};
 ghost use Rattle.station.specs.Standing.{release_of, standing_events, stop_of};
 
 use app_message::{Message, StreamFault, encode_into};
+use conversation::Said;
 use device_map::change_of;
 use peer_talk::ReplyWriter;
-use site_base::{Actor, Answer, Event, FpNo, NoMemory, NoRow, PointState, PointView, Reply, Row};
+use site_base::{Actor, Answer, Event, FpNo, NoMemory, PointState, PointView, Row};
 use site_book::SiteBook;
 use std::alloc::Global;
 
@@ -39,23 +41,11 @@ impl Paper {
         }
     }
 
-    /// The text is the number that a message is told in place of a reply.
-    pub(crate) fn write_number(&mut self, message: &Message, number: u8) -> Result<(), NoMemory>
-        ensures { OnOk result (self.new.text.items ≡ number_text message.now number) }
+    /// The text is what is said to a message.
+    pub(crate) fn write_said(&mut self, message: &Message, said: &Said) -> Result<(), NoMemory>
+        ensures { OnOk result (self.new.text.items ≡ spelling (said_message message.now said.now)) }
     {
-        let refusal = self.writer.write_number(&message.as_spelled(), number)?;
-        self.write(refusal)
-    }
-
-    /// The text is what a request was answered: its reply, or why there is no row.
-    pub(crate) fn write_outcome(
-        &mut self,
-        message: &Message,
-        outcome: &Result<Reply, NoRow>,
-    ) -> Result<(), NoMemory>
-        ensures { OnOk result (self.new.text.items ≡ outcome_text message.now outcome.now) }
-    {
-        let reply = self.writer.write_outcome(&message.as_spelled(), outcome)?;
+        let reply = said.write(&mut self.writer, &message.as_spelled())?;
         self.write(reply)
     }
 

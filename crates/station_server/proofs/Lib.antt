@@ -1,3 +1,1 @@
-pub mod Reaching
-pub mod Leaving
-pub mod Answering
+pub mod Rounds

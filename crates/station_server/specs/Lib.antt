@@ -1,3 +1,1 @@
-pub mod Calls
-pub mod Reaches
-pub mod Pages
+pub mod Faults

@@ -31,7 +31,7 @@ impl From<NoMemory> for ServerFault {
 
 impl From<DiskFault> for ServerFault {
     ghost use Rattle.std.specs.Prelude.{◌≡◌};
-    ghost use Rattle.station_server.specs.Reaches.{not_stored};
+    ghost use Rattle.station_server.specs.Faults.{not_stored};
 
     ghost from_gives = { λ f e. e ≡ not_stored f };
 

@@ -4,19 +4,17 @@ ghost use Rattle.std.specs.Prelude.{◌≡◌, OnOk, true};
 ghost use Rattle.site_book.specs.Unpaid.{GoesBy};
 ghost use Rattle.station.specs.Reads.{HasNoPeer};
 ghost use Rattle.journal.specs.Stored.{is_all_stored};
-ghost use Rattle.station_server.specs.Reaches.{Reaches};
+ghost use Rattle.peer_connections.specs.Reaches.{Reaches};
 
-use crate::accepting::{Caller, accept};
-use crate::connections::Connections;
 use crate::fault::ServerFault;
-use crate::pages::Pages;
-use crate::sizes::{
-    ACCEPTS_A_TURN, EVENTS_A_ROUND, ROUNDS_BEFORE_A_SWEEP, STALL_SECONDS, SWEEP_SECONDS,
-};
+use crate::sizes::{EVENTS_A_ROUND, ROUNDS_BEFORE_A_SWEEP, STALL_SECONDS, SWEEP_SECONDS};
+use connection_calls::{ACCEPTS_A_TURN, Caller, accept};
 use journal::Disk;
 use mio::event::Event;
 use mio::net::TcpListener;
 use mio::{Events, Interest, Poll, Token, Waker};
+use page_connections::Pages;
+use peer_connections::Connections;
 use site_book::UnpaidSales;
 use station::PEERS;
 use std::alloc::Global;
@@ -93,13 +91,19 @@ impl StationServer {
     ) -> Result<(), ServerFault> {
         match listen_for_page(net, rt, &self.poll, port) {
             Ok((listener, port, keys)) => {
-                self.pages = Some(Pages::new(self.alloc, keys, listener)?);
+                let pages = Pages::new(self.alloc, keys, listener, PEERS)?;
+                if let Some(earlier) = self.pages.replace(pages) {
+                    earlier.close();
+                }
                 self.page_port = Some(port);
                 Ok(())
             }
             Err(_) => Err(ServerFault::NoConnection),
         }
     }
+
+    /// Listens no more.
+    pub fn close(self) {}
 
     /// The port on which it listens.
     pub fn port(&self) -> u16
@@ -125,7 +129,7 @@ impl StationServer {
     /// connection takes it, and nobody is left; so too where waiting for connections fails, with
     /// `NoConnection`, and where the journal takes no more, with `NotStored`: then nobody is told
     /// anything more.
-    #[tactic(auto, using(crate::proofs::Reaching::moved))]
+    #[tactic(auto, using(crate::proofs::Rounds::moved))]
     pub fn serve<T: Wait, R: Clock + Eprint, D: Disk>(
         &mut self,
         threads: &T,
@@ -141,11 +145,12 @@ impl StationServer {
         let served = self.serve_rounds(threads, rt, connections, &mut unpaid, idle);
         let ended = connections.end_all(self.time);
         served?;
-        ended
+        ended?;
+        Ok(())
     }
 
     /// Serves connections until the day's end. The page tells of the sales that are kept as unpaid.
-    #[tactic(auto, using(crate::proofs::Reaching::moved))]
+    #[tactic(auto, using(crate::proofs::Rounds::moved))]
     fn serve_rounds<T: Wait, R: Clock + Eprint, D: Disk>(
         &mut self,
         threads: &T,
@@ -174,7 +179,7 @@ impl StationServer {
     }
 
     /// Waits until connections are ready, but no longer than this, and each of them has its turn.
-    #[tactic(auto, using(crate::proofs::Reaching::moved))]
+    #[tactic(auto, using(crate::proofs::Rounds::moved))]
     fn hear_round<C: Clock, D: Disk>(
         &mut self,
         rt: &C,
@@ -195,7 +200,7 @@ impl StationServer {
 
     /// Where idle sessions are about to be ended, first of all whoever has sent something is heard:
     /// the wait may have been interrupted, or more are ready than a round looks at.
-    #[tactic(auto, using(crate::proofs::Reaching::moved))]
+    #[tactic(auto, using(crate::proofs::Rounds::moved))]
     fn hear_before_sweep<C: Clock, D: Disk>(
         &mut self,
         rt: &C,
@@ -260,7 +265,7 @@ impl StationServer {
     }
 
     /// Each connection that is ready has its turn. One of the page has it behind those.
-    #[tactic(auto, using(crate::proofs::Reaching::moved))]
+    #[tactic(auto, using(crate::proofs::Rounds::moved))]
     fn take_turns<D: Disk>(&mut self, connections: &mut Connections<D>)
         ensures { Reaches connections.old.stored.station connections.new.stored.station }
     {
@@ -280,7 +285,7 @@ impl StationServer {
 
     /// Accepts the connections that wait. Where that fails it is told, once until all that wait are
     /// accepted, and tried again.
-    #[tactic(auto, using(crate::proofs::Reaching::moved))]
+    #[tactic(auto, using(crate::proofs::Rounds::moved))]
     fn accept_all<R: Eprint, D: Disk>(&mut self, rt: &R, connections: &mut Connections<D>)
         ensures { Reaches connections.old.stored.station connections.new.stored.station }
     {
@@ -316,7 +321,7 @@ impl StationServer {
 
     /// Stores the round's rows and sends what is owed, and each second does what waits for time to
     /// pass. Then each row is stored.
-    #[tactic(auto, using(crate::proofs::Reaching::moved))]
+    #[tactic(auto, using(crate::proofs::Rounds::moved))]
     fn send_all<R: Clock + Eprint, D: Disk>(
         &mut self,
         rt: &R,
@@ -334,7 +339,7 @@ impl StationServer {
     }
 
     /// Sweeps, where it is time to.
-    #[tactic(auto, using(crate::proofs::Reaching::moved))]
+    #[tactic(auto, using(crate::proofs::Rounds::moved))]
     fn sweep_if_due<R: Eprint, D: Disk>(
         &mut self,
         rt: &R,
@@ -350,11 +355,12 @@ impl StationServer {
         }
         self.swept_at = self.time;
         self.accept_again(rt, connections);
-        connections.sweep(self.poll.registry(), rt, idle, self.time)
+        connections.sweep(self.poll.registry(), rt, idle, self.time)?;
+        Ok(())
     }
 
     /// Accepts again, where that failed.
-    #[tactic(auto, using(crate::proofs::Reaching::moved))]
+    #[tactic(auto, using(crate::proofs::Rounds::moved))]
     fn accept_again<R: Eprint, D: Disk>(&mut self, rt: &R, connections: &mut Connections<D>)
         ensures { Reaches connections.old.stored.station connections.new.stored.station }
     {
@@ -389,7 +395,7 @@ impl StationServer {
 }
 
 /// A connection that is ready has its turn.
-#[tactic(auto, using(crate::proofs::Reaching::moved))]
+#[tactic(auto, using(crate::proofs::Rounds::moved))]
 fn take_turn<D: Disk>(connections: &mut Connections<D>, event: &Event, key: usize, now: Instant)
     ensures { Reaches connections.old.stored.station connections.new.stored.station }
 {
@@ -406,7 +412,7 @@ fn take_turn<D: Disk>(connections: &mut Connections<D>, event: &Event, key: usiz
 /// Who looks at the page is ready, or waits to be accepted.
 fn note_page(pages: &mut Pages, token: Token) {
     match token {
-        PAGE_LISTENER => pages.has_callers = true,
+        PAGE_LISTENER => pages.note_callers(),
         Token(key) => pages.make_due(key),
     }
 }

@@ -4,7 +4,7 @@ use Rattle.std.proofs.Common.{refl, sym, ◌∙◌}
 use Rattle.std.specs.Prelude.{◌&&◌, ◌==◌, IfSome}
 use Rattle.std.proofs.lemmas.Bool.{eq-eqb}
 use Rattle.site_base.specs.declared.actor.Actor.{Actor}
-use Rattle.site_base.specs.declared.actor.Actor.TheVariants.{Till, Dispenser}
+use Rattle.site_base.specs.declared.actor.Actor.TheVariants.{Till}
 use Rattle.site_base.specs.declared.event.Event.{Event}
 use Rattle.site_base.specs.declared.event.Event.TheVariants.{SignOn, SignOff}
 use Rattle.peer_talk.specs.Exchanges.{Outcome, signed_by}

@@ -1,38 +1,33 @@
 -- A session's talk: one message after another, and how it ends.
-use Rattle.std.proofs.Common.{◌≡◌, ℕ, ◌+◌, ◌<◌, ◌≤◌, Bool, true, false, List, [], ◌∷◌, ◌++◌, length}
-use Rattle.std.proofs.Common.{map, take, drop, get_or, Option, Some, None, Result, Ok, Err, refl}
+use Rattle.std.proofs.Common.{◌≡◌, ℕ, ◌+◌, ◌<◌, ◌≤◌, Bool, true, List, [], ◌∷◌, ◌++◌, length}
+use Rattle.std.proofs.Common.{take, drop, get_or, Option, Some, None, refl}
 use Rattle.std.proofs.Common.{sym, ap, subst, ◌∙◌, append_assoc, append-nil, arith}
 use Rattle.std.proofs.Common.{take-append-drop}
-use Rattle.std.specs.Prelude.{min, IfSome, IfErr, OnOk}
-use Rattle.std.specs.Result.{result_err}
+use Rattle.std.specs.Prelude.{min, IfSome}
 use Rattle.std.specs.Io.KnownBytes.{Appends}
-use Rattle.std.proofs.lemmas.List.{map-append, take_more}
+use Rattle.std.proofs.lemmas.List.{take_more}
 use Rattle.site_base.specs.declared.actor.Actor.{Actor}
 use Rattle.site_base.specs.declared.event.Event.{Event}
 use Rattle.site_base.specs.declared.row.Row.{Row}
 use Rattle.devices.specs.Devices.{AppendsFront, greatest_count, one_more}
 use Rattle.devices.proofs.KnownBytes.{Appends-then, Appends-none}
+use Rattle.app_message.specs.Spelling.{spelling}
 use Rattle.app_message.specs.Telegram.{Telegram}
-use Rattle.device_map.specs.declared.fault.MapFault.{MapFault}
-use Rattle.device_map.specs.Faults.{map_number}
-use Rattle.device_map.specs.Requests.{request_at}
-use Rattle.peer_talk.specs.declared.fault.TheConstants.{ORIGINATOR_CHANGED}
-use Rattle.till_session.specs.declared.fault.SessionFault.{SessionFault}
-use Rattle.till_session.specs.declared.fault.SessionFault.TheVariants as faults
 use Rattle.peer_talk.specs.declared.fault.TalkFault.TheVariants.{OriginatorChanged}
-use Rattle.peer_talk.specs.Exchanges.{Asked, Outcome, outcome_given}
-use Rattle.till_session.specs.Counters.{is_the_one, owed_by}
-use Rattle.peer_talk.specs.Exchanges.{request_asked, row_made, rows_made, signed_by}
+use Rattle.peer_talk.specs.Exchanges.{Asked, Outcome, row_made, rows_made, signed_by}
 use Rattle.peer_talk.specs.Exchanges.{signed_on_after}
-use Rattle.peer_talk.specs.Talks.{GoesOn, IsCut, IsOver, IsSpokenBy}
-use Rattle.till_session.specs.Course.{AreHeard, AsksOnce}
-use Rattle.peer_talk.specs.Talks.{TalkState}
-use Rattle.till_session.specs.Course.{Talked, asked_more, ends_early}
-use Rattle.peer_talk.specs.Text.{is_another, messages_text, number_text, outcome_text}
-use Rattle.peer_talk.specs.Text.{peer_after, requests_in}
-use Rattle.peer_talk.proofs.Speakers.{spoken_by}
+use Rattle.peer_talk.specs.Talks.{GoesOn, IsCut, IsOver, IsOwn, TalkState}
+use Rattle.peer_talk.specs.Text.{meaning_at, peer_after}
+use Rattle.peer_talk.proofs.Speakers.{another_meant, fault_meant, own_met, request_meant, spoken_by}
 use Rattle.peer_talk.proofs.Courses.{another_over, answered_on, cut_longer, cut_then, on_cut, on_none}
 use Rattle.peer_talk.proofs.Courses.{on_then, over_cut, over_longer, over_then, refused_on}
+use Rattle.conversation.specs.declared.said.Said.{Said}
+use Rattle.conversation.specs.declared.said.Said.TheVariants as says
+use Rattle.conversation.specs.Saying.{IsAskedFor, meaning_of, said_message, talk_after}
+use Rattle.till_session.specs.declared.fault.SessionFault.{SessionFault}
+use Rattle.till_session.specs.declared.fault.SessionFault.TheVariants as faults
+use Rattle.till_session.specs.Counters.{Counts, IsAskedAt, counts, owed_by}
+use Rattle.till_session.specs.Course.{AreHeard, Talked, asked_more, end_with, ends_early}
 use Rattle.till_session.proofs.Debts.{still_alone, still_owed}
 
 -- ---- messages one after another
@@ -56,8 +51,6 @@ cut_heard : (f : SessionFault) (p q : Option (List ℕ)) (ms : List Telegram) (a
     → ends_early f ≡ true → IsCut p ms a s → AreHeard (Some f) p q ms a s
 cut_heard (faults.Talk OriginatorChanged) p q ms a s early cut = absurd cc
 cut_heard f p q ms a s early cut = cut
-
--- ---- one message
 
 -- ---- a talk in its course
 
@@ -145,137 +138,141 @@ talked_longer f a b ms ns u v x y i j talked = record {
   alone = talked.alone;
 }
 
--- ---- a message that is refused: nothing is asked
+-- ---- one message
 
-unasked : (f : Option SessionFault) (st : TalkState) (q : Option (List ℕ)) (m : Telegram)
-    (u v : Option (List ℕ)) (rows : List Row) (owes : ℕ → Bool) (said : List ℕ)
-    → AreHeard f st.peer q (m ∷ []) [] said → Appends u v said
-    → Talked f st (record st { peer = q }) (m ∷ []) u v rows rows owes owes
-unasked f st q m u v rows owes said heard written = record {
+-- the request that was asked, if one was
+abbrev asked_of : Said → List Asked
+asked_of (says.Outcome actor event outcome) =
+    record { actor = actor; event = event; outcome = outcome } ∷ []
+asked_of said = []
+
+-- all of it was said
+heard_whole : (peer : Option (List ℕ)) (m : Telegram) (said : Said)
+    → meaning_of said ≡ meaning_at peer m
+    → AreHeard (end_with said) peer (peer_after peer m.from) (m ∷ []) (asked_of said)
+    (spelling (said_message m said))
+heard_whole peer m says.Another is = another_over peer m (another_meant peer m (sym is))
+heard_whole peer m (says.Fault f) is =
+    let means = fault_meant peer m f (sym is) in refused_on peer m f means.0 means.1
+heard_whole peer m (says.Outcome actor event outcome) is =
+    let means = request_meant peer m actor event (sym is) in
+    answered_on peer m (record { actor = actor; event = event; outcome = outcome }) means.0 means.1
+
+-- .. or a front of it
+heard_front : (e : SessionFault) (peer : Option (List ℕ)) (m : Telegram) (said : Said)
+    (front rest : List ℕ)
+    → ends_early e ≡ true → meaning_of said ≡ meaning_at peer m
+    → spelling (said_message m said) ≡ front ++ rest
+    → AreHeard (Some e) peer (peer_after peer m.from) (m ∷ []) (asked_of said) front
+heard_front e peer m says.Another front rest early is parts =
+    cut_heard e peer (peer_after peer m.from) (m ∷ []) [] front early
+    (over_cut peer (m ∷ []) [] front rest
+    (subst (λ t. IsOver peer (m ∷ []) [] t) parts (heard_whole peer m says.Another is)))
+heard_front e peer m (says.Fault f) front rest early is parts =
+    let q = peer_after peer m.from in
+    cut_heard e peer q (m ∷ []) [] front early
+    (on_cut peer q (m ∷ []) [] front rest
+    (subst (λ t. GoesOn peer q (m ∷ []) [] t) parts (heard_whole peer m (says.Fault f) is)))
+heard_front e peer m (says.Outcome actor event outcome) front rest early is parts =
+    let q = peer_after peer m.from in
+    let asked = asked_of (says.Outcome actor event outcome) in
+    cut_heard e peer q (m ∷ []) asked front early
+    (on_cut peer q (m ∷ []) asked front rest
+    (subst (λ t. GoesOn peer q (m ∷ []) asked t) parts
+    (heard_whole peer m (says.Outcome actor event outcome) is)))
+
+still_there : (on : Option ℕ) (old new : ℕ → Bool) → ((t : ℕ) → new t ≡ old t)
+    → IfSome on (λ t. old t ≡ true) → IfSome on (λ t. new t ≡ true)
+still_there None old new same owed = tt
+still_there (Some t) old new same owed = same t ∙ owed
+
+unasked : (f : Option SessionFault) (st : TalkState) (m : Telegram) (u v : Option (List ℕ))
+    (s t : Counts) (text : List ℕ)
+    → t ≡ s → AreHeard f st.peer (peer_after st.peer m.from) (m ∷ []) [] text → Appends u v text
+    → Talked f st (record st { peer = peer_after st.peer m.from }) (m ∷ []) u v s.rows t.rows s.owes
+    t.owes
+unasked f st m u v s t text same heard written = record {
   asked = [];
-  said = said;
+  said = text;
   heard = heard;
   written = written;
-  recorded = sym (append-nil rows);
+  recorded = ap (λ (k : Counts). k.rows) same ∙ sym (append-nil s.rows);
   counted = refl;
   on = refl;
-  owed = λ owed. owed;
-  alone = λ alone. alone;
+  owed = λ owed. still_there st.on s.owes t.owes same_debts owed;
+  alone = λ alone x. same_debts x ∙ alone x;
 }
+  where
+    same_debts : (x : ℕ) → t.owes x ≡ s.owes x
+    same_debts x = ap (λ (k : Counts). k.owes x) same
 
--- another originator was told so, or in part
-pub talked_another : (st : TalkState) (m : Telegram) (u v : Option (List ℕ)) (rows : List Row)
-    (owes : ℕ → Bool)
-    → is_another st.peer m.from ≡ true → Appends u v (number_text m ORIGINATOR_CHANGED)
-    → Talked (Some (faults.Talk OriginatorChanged)) st st (m ∷ []) u v rows rows owes owes
-talked_another st m u v rows owes other written =
-    unasked (Some (faults.Talk OriginatorChanged)) st st.peer m u v rows owes
-    (number_text m ORIGINATOR_CHANGED) (another_over st.peer m other) written
-
-pub talked_another_cut : (f : SessionFault) (st : TalkState) (m : Telegram) (u v : Option (List ℕ))
-    (rows : List Row) (owes : ℕ → Bool)
-    → ends_early f ≡ true → is_another st.peer m.from ≡ true
-    → AppendsFront u v (number_text m ORIGINATOR_CHANGED)
-    → Talked (Some f) st st (m ∷ []) u v rows rows owes owes
-talked_another_cut f st m u v rows owes early other front =
-    let over = subst (λ t. IsOver st.peer (m ∷ []) [] t) front.parts
-    (another_over st.peer m other) in
-    unasked (Some f) st st.peer m u v rows owes front.front
-    (cut_heard f st.peer st.peer (m ∷ []) [] front.front early
-    (over_cut st.peer (m ∷ []) [] front.front front.rest over))
-    front.written
-
--- a message that means no event was told so, or in part
-pub talked_refused : (r : Result (Unit {0}) SessionFault) (st : TalkState) (m : Telegram)
-    (f : MapFault) (u v : Option (List ℕ)) (rows : List Row) (owes : ℕ → Bool)
-    → is_another st.peer m.from ≡ false → request_at m ≡ Err f
-    → OnOk r (Appends u v (number_text m (map_number f)))
-    → AppendsFront u v (number_text m (map_number f))
-    → IfErr r (λ e. ends_early e ≡ true)
-    → Talked (result_err r) st (record st { peer = peer_after st.peer m.from }) (m ∷ []) u v rows
-    rows owes owes
-talked_refused (Ok x) st m f u v rows owes same is written front early =
-    unasked None st (peer_after st.peer m.from) m u v rows owes (number_text m (map_number f))
-    (refused_on st.peer m f same is) written
-talked_refused (Err e) st m f u v rows owes same is written front early =
-    let q = peer_after st.peer m.from in
-    let on = subst (λ t. GoesOn st.peer q (m ∷ []) [] t) front.parts
-    (refused_on st.peer m f same is) in
-    unasked (Some e) st q m u v rows owes front.front
-    (cut_heard e st.peer q (m ∷ []) [] front.front early
-    (on_cut st.peer q (m ∷ []) [] front.front front.rest on))
-    front.written
-
--- ---- a request that is asked
-
-asked_once : (f : Option SessionFault) (st met new : TalkState) (actor : Actor) (event : Event)
-    (m : Telegram) (u v : Option (List ℕ)) (x y : List Row) (i j : ℕ → Bool) (said : List ℕ)
-    → (asks : AsksOnce f met new actor event m u v x y i j)
-    → met ≡ record st { peer = peer_after st.peer m.from } → IsSpokenBy actor met.peer
-    → AreHeard f st.peer new.peer (m ∷ [])
-    (record { actor = actor; event = event; outcome = asks.outcome } ∷ []) said
-    → Appends u v said
-    → Talked f st new (m ∷ []) u v x y i j
-asked_once f st met new actor event m u v x y i j said asks is spoken heard written =
-    let on : met.on ≡ st.on = ap (λ (s : TalkState). s.on) is in
-    let count : met.asked ≡ st.asked = ap (λ (s : TalkState). s.asked) is in
-    let asked : Asked = record { actor = actor; event = event; outcome = asks.outcome } in
+talked_so : (f : Option SessionFault) (st : TalkState) (m : Telegram) (said : Said)
+    (u v : Option (List ℕ)) (s t : Counts) (text : List ℕ)
+    → meaning_of said ≡ meaning_at st.peer m → IsOwn st.on st.peer
+    → IsAskedFor IsAskedAt s said t
+    → AreHeard f st.peer (peer_after st.peer m.from) (m ∷ []) (asked_of said) text
+    → Appends u v text
+    → Talked f st (talk_after m.from said st) (m ∷ []) u v s.rows t.rows s.owes t.owes
+talked_so f st m (says.Outcome actor event outcome) u v s t text is own asked heard written =
+    let means = request_meant st.peer m actor event (sym is) in
     record {
-      asked = asked ∷ [];
-      said = said;
+      asked = asked_of (says.Outcome actor event outcome);
+      said = text;
       heard = heard;
       written = written;
-      recorded = asks.recorded ∙ ap (λ rs. x ++ rs)
-          (sym (append-nil (row_made actor event asks.outcome)));
-      counted = asks.counted ∙ ap one_more count;
-      on = asks.signed ∙ ap (signed_by actor event asks.outcome) on;
+      recorded = asked.0 ∙ ap (λ rs. s.rows ++ rs)
+          (sym (append-nil (row_made actor event outcome)));
+      counted = refl;
+      on = refl;
       owed = λ owed.
-          let still = still_owed actor event asks.outcome met.on i
-          (subst (λ o. IfSome o (λ t. i t ≡ true)) (sym on) owed) in
-          owed_there new.on (signed_by actor event asks.outcome met.on)
-          (owed_by actor event asks.outcome i) j asks.signed asks.debt still;
-      alone = λ alone t.
-          asks.debt t
-          ∙ still_alone actor event asks.outcome met.on met.peer i asks.own spoken
-          (λ s. alone s ∙ ap (λ o. is_the_one o s) (sym on)) t
-          ∙ ap (λ o. is_the_one o t) (sym asks.signed);
+          still_there (signed_by actor event outcome st.on)
+          (owed_by actor event outcome s.owes) t.owes asked.1
+          (still_owed actor event outcome st.on s.owes owed);
+      alone = λ alone x.
+          asked.1 x
+          ∙ still_alone actor event outcome st.on (peer_after st.peer m.from) s.owes
+          (own_met st.on st.peer m.from own)
+          (spoken_by st.peer m actor event means.0 means.1) alone x;
     }
-  where
-    owed_there : (on other : Option ℕ) (old new : ℕ → Bool) → on ≡ other → ((t : ℕ) → new t ≡ old t)
-        → IfSome other (λ t. old t ≡ true) → IfSome on (λ t. new t ≡ true)
-    owed_there None other old new is same owed = tt
-    owed_there (Some t) None old new is same owed = absurd cc
-    owed_there (Some t) (Some s) old new is same owed =
-        same t ∙ (let one : t ≡ s = cc in ap old one) ∙ owed
+talked_so f st m says.Another u v s t text is own asked heard written =
+    unasked f st m u v s t text asked heard written
+talked_so f st m (says.Fault fault) u v s t text is own asked heard written =
+    unasked f st m u v s t text asked heard written
 
-pub talked_asked : (r : Result (Unit {0}) SessionFault) (st met new : TalkState) (actor : Actor)
-    (event : Event) (m : Telegram) (u v : Option (List ℕ)) (x y : List Row) (i j : ℕ → Bool)
-    → is_another st.peer m.from ≡ false → request_at m ≡ Ok (actor, event)
-    → met ≡ record st { peer = peer_after st.peer m.from }
-    → AsksOnce (result_err r) met new actor event m u v x y i j
-    → IfErr r (λ e. ends_early e ≡ true)
-    → Talked (result_err r) st new (m ∷ []) u v x y i j
-talked_asked (Ok ok) st met new actor event m u v x y i j same is there asks early =
-    let q = peer_after st.peer m.from in
-    let peer : met.peer ≡ q = ap (λ (s : TalkState). s.peer) there in
-    let spoken = subst (IsSpokenBy actor) (sym peer) (spoken_by st.peer m actor event same is) in
-    let asked : Asked = record { actor = actor; event = event; outcome = asks.outcome } in
-    let on = subst (λ p. GoesOn st.peer p (m ∷ []) (asked ∷ []) (outcome_text m asks.outcome))
-    (sym (asks.peer ∙ peer)) (answered_on st.peer m asked same is) in
-    asked_once None st met new actor event m u v x y i j (outcome_text m asks.outcome) asks there
-    spoken on asks.told
-talked_asked (Err e) st met new actor event m u v x y i j same is there asks early =
-    let q = peer_after st.peer m.from in
-    let peer : met.peer ≡ q = ap (λ (s : TalkState). s.peer) there in
-    let spoken = subst (IsSpokenBy actor) (sym peer) (spoken_by st.peer m actor event same is) in
-    let asked : Asked = record { actor = actor; event = event; outcome = asks.outcome } in
-    let front : AppendsFront u v (outcome_text m asks.outcome) = asks.told in
-    let on = subst (λ t. GoesOn st.peer q (m ∷ []) (asked ∷ []) t) front.parts
-    (answered_on st.peer m asked same is) in
-    asked_once (Some e) st met new actor event m u v x y i j front.front asks there spoken
-    (cut_heard e st.peer new.peer (m ∷ []) (asked ∷ []) front.front early
-    (on_cut st.peer q (m ∷ []) (asked ∷ []) front.front front.rest on))
-    front.written
+-- what is said to a message was written
+pub talked_said : (f : Option SessionFault) (st new : TalkState) (m : Telegram) (said : Said)
+    (u v : Option (List ℕ)) (s t : Counts)
+    → f ≡ end_with said → meaning_of said ≡ meaning_at st.peer m
+    → new ≡ talk_after m.from said st → IsOwn st.on st.peer → IsAskedFor IsAskedAt s said t
+    → Appends u v (spelling (said_message m said))
+    → Talked f st new (m ∷ []) u v s.rows t.rows s.owes t.owes
+talked_said f st new m said u v s t ends is talk own asked written =
+    subst (λ n. Talked f st n (m ∷ []) u v s.rows t.rows s.owes t.owes) (sym talk)
+    (subst (λ e. Talked e st (talk_after m.from said st) (m ∷ []) u v s.rows t.rows s.owes t.owes)
+    (sym ends)
+    (talked_so (end_with said) st m said u v s t (spelling (said_message m said)) is own asked
+    (heard_whole st.peer m said is) written))
+
+-- .. or a front of it, since the session ends early
+pub talked_front : (e : SessionFault) (st new : TalkState) (m : Telegram) (said : Said)
+    (u v : Option (List ℕ)) (s t : Counts)
+    → ends_early e ≡ true → meaning_of said ≡ meaning_at st.peer m
+    → new ≡ talk_after m.from said st → IsOwn st.on st.peer → IsAskedFor IsAskedAt s said t
+    → AppendsFront u v (spelling (said_message m said))
+    → Talked (Some e) st new (m ∷ []) u v s.rows t.rows s.owes t.owes
+talked_front e st new m said u v s t early is talk own asked front =
+    subst (λ n. Talked (Some e) st n (m ∷ []) u v s.rows t.rows s.owes t.owes) (sym talk)
+    (talked_so (Some e) st m said u v s t front.front is own asked
+    (heard_front e st.peer m said front.front front.rest early is front.parts) front.written)
+
+-- the reply to a request was noted
+pub asked_noted : (actor : Actor) (event : Event) (outcome : Outcome) (s t : Counts)
+    (rows : List Row) (owes : ℕ → Bool)
+    → IsAskedFor IsAskedAt s (says.Outcome actor event outcome) t → rows ≡ t.rows
+    → ((x : ℕ) → owes x ≡ t.owes x)
+    → IsAskedFor IsAskedAt s (says.Outcome actor event outcome) (counts rows owes)
+asked_noted actor event outcome s t rows owes asked same owed =
+    (same ∙ asked.0, λ x. owed x ∙ asked.1 x)
 
 -- nothing was written
 pub front_none : (u : Option (List ℕ)) (text : List ℕ) → AppendsFront u u text

@@ -6,7 +6,7 @@ use Rattle.site_base.specs.declared.event.Event.{Event}
 use Rattle.site_base.specs.declared.row.Row.{Row}
 use Rattle.site_base.specs.declared.signing.SignChange.{SignChange}
 use Rattle.site_base.specs.declared.signing.SignChange.TheVariants.{On, Off}
-use Rattle.peer_talk.specs.Exchanges.{Outcome, change_by, sign_off_row}
+use Rattle.peer_talk.specs.Exchanges.{Outcome, change_by, row_made, sign_off_row}
 
 -- a till was left: there is one row more, its sign-off; or none, where it wasn't signed on any more
 abbrev pub IsLeft : ℕ → List Row → List Row → Type 0
@@ -31,3 +31,17 @@ owed_by actor event outcome owes = owed_with (change_by actor event outcome) owe
 abbrev pub is_the_one : Option ℕ → ℕ → Bool
 is_the_one None u = false
 is_the_one (Some t) u = u == t
+
+-- what is seen of a counter: its record, and which tills it owes
+pub record Counts : Type 0 where
+  pub rows : List Row
+  pub owes : ℕ → Bool
+
+abbrev pub counts : List Row → (ℕ → Bool) → Counts
+counts rows owes = record { rows = rows; owes = owes }
+
+-- a request was asked at a counter, which has its row, and owes what it makes it owe
+abbrev pub IsAskedAt : Counts → Actor → Event → Outcome → Counts → Type 0
+IsAskedAt old actor event outcome new =
+    (new.rows ≡ old.rows ++ row_made actor event outcome)
+    × ((t : ℕ) → new.owes t ≡ owed_by actor event outcome old.owes t)

@@ -2,23 +2,22 @@
 use Rattle.std.specs.Prelude.{◌≡◌, ℕ, true, false, List, [], ◌∷◌, ◌++◌, Bool}
 use Rattle.std.specs.Prelude.{Option, Some, None, IfSome}
 use Rattle.std.specs.Io.KnownBytes.{Appends}
-use Rattle.site_base.specs.declared.actor.Actor.{Actor}
-use Rattle.site_base.specs.declared.event.Event.{Event}
 use Rattle.site_base.specs.declared.row.Row.{Row}
-use Rattle.devices.specs.Devices.{one_more, AppendsFront}
+use Rattle.devices.specs.Devices.{one_more}
 use Rattle.app_message.specs.declared.fault.StreamFault.{StreamFault}
 use Rattle.app_message.specs.Spelling.{spelling}
 use Rattle.app_message.specs.Telegram.{Telegram}
 use Rattle.device_map.specs.Replies.{fault_message}
 use Rattle.peer_talk.specs.declared.fault.TalkFault.TheVariants as talk
 use Rattle.peer_talk.specs.declared.fault.TalkFault.TheVariants.{OriginatorChanged}
-use Rattle.peer_talk.specs.Exchanges.{Asked, Outcome, row_made, rows_made, signed_by}
+use Rattle.peer_talk.specs.Exchanges.{Asked, rows_made}
 use Rattle.peer_talk.specs.Exchanges.{signed_on_after}
-use Rattle.peer_talk.specs.Talks.{GoesOn, IsCut, IsOver, IsOwn, TalkState}
-use Rattle.peer_talk.specs.Text.{outcome_text}
+use Rattle.peer_talk.specs.Talks.{GoesOn, IsCut, IsOver, TalkState}
+use Rattle.conversation.specs.declared.said.Said.{Said}
+use Rattle.conversation.specs.declared.said.Said.TheVariants as says
 use Rattle.till_session.specs.declared.fault.SessionFault.{SessionFault}
 use Rattle.till_session.specs.declared.fault.SessionFault.TheVariants as faults
-use Rattle.till_session.specs.Counters.{is_the_one, owed_by}
+use Rattle.till_session.specs.Counters.{is_the_one}
 
 -- it ends a session in the middle of a reply: a failed allocation, a writer that takes no more
 abbrev pub ends_early : SessionFault → Bool
@@ -50,23 +49,10 @@ abbrev pub asked_more : ℕ → List Asked → ℕ
 asked_more n [] = n
 asked_more n (a ∷ asked) = asked_more (one_more n) asked
 
--- what was written of a reply: all of it, unless the session ends early
-abbrev pub IsTold : Option SessionFault → Option (List ℕ) → Option (List ℕ) → List ℕ → Type 0
-IsTold None holds holds' text = Appends holds holds' text
-IsTold (Some fault) holds holds' text = AppendsFront holds holds' text
-
--- a request was asked once, and what was answered was written
-pub record AsksOnce (fault : Option SessionFault) (old new : TalkState) (actor : Actor)
-    (event : Event) (m : Telegram) (holds holds' : Option (List ℕ)) (rows rows' : List Row)
-    (owes owes' : ℕ → Bool) : Type 0 where
-  pub outcome : Outcome
-  pub told : IsTold fault holds holds' (outcome_text m outcome)
-  pub recorded : rows' ≡ rows ++ row_made actor event outcome
-  pub debt : (t : ℕ) → owes' t ≡ owed_by actor event outcome owes t
-  pub peer : new.peer ≡ old.peer
-  pub own : IsOwn old.on old.peer
-  pub signed : new.on ≡ signed_by actor event outcome old.on
-  pub counted : new.asked ≡ one_more old.asked
+-- how a session goes on behind what was said to a message, which was written
+abbrev pub end_with : Said → Option SessionFault
+end_with says.Another = Some (faults.Talk OriginatorChanged)
+end_with said = None
 
 -- Some messages were heard, some requests were asked, and this was said, which was written. The
 -- counter has the rows of these requests. Where it owed just the till that the session signed on,

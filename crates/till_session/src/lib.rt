@@ -7,6 +7,7 @@
 #![tactic(auto)]
 
 mod accept;
+mod asking;
 mod counter;
 mod desk_counter;
 mod fault;

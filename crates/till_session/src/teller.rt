@@ -4,25 +4,23 @@ ghost use Rattle.std.specs.Prelude.{◌≡◌, ◌≤◌, ◌++◌, ℕ, true, [
 ghost use Rattle.std.specs.Result.{IsErrOf, result_err};
 ghost use Rattle.std.specs.Io.KnownBytes.{Appends};
 ghost use Rattle.devices.specs.Counted.{device_of, failures_of};
-ghost use Rattle.devices.specs.Devices.{AppendsFront, Rose, one_more};
+ghost use Rattle.devices.specs.Devices.{AppendsFront, Rose};
 ghost use Rattle.app_message.specs.Spelling.{spelling};
+ghost use Rattle.conversation.specs.Saying.{IsAskedFor, meaning_of, talk_after};
 ghost use Rattle.device_map.specs.Replies.{fault_message};
-ghost use Rattle.peer_talk.specs.Exchanges.{row_made, signed_by};
-ghost use Rattle.till_session.specs.Counters.{owed_by};
-ghost use Rattle.peer_talk.specs.Talks.{opening_talk};
-ghost use Rattle.till_session.specs.Course.{ends_early, ends_talk, AsksOnce};
-ghost use Rattle.till_session.specs.Course.{EndsStream};
-ghost use Rattle.peer_talk.specs.Talks.{IsOwn, IsRequestOf, IsSpokenBy};
-ghost use Rattle.till_session.specs.Course.{Talked};
-ghost use Rattle.peer_talk.specs.Text.{is_another, meaning_at, peer_after, outcome_text};
-ghost use Rattle.peer_talk.specs.Text.{number_text};
+ghost use Rattle.peer_talk.specs.Talks.{IsOwn, opening_talk};
+ghost use Rattle.peer_talk.specs.Text.{meaning_at};
+ghost use Rattle.till_session.specs.Counters.{IsAskedAt, counts};
+ghost use Rattle.till_session.specs.Course.{EndsStream, Talked, ends_early, ends_talk};
 
+use crate::asking::AtCounter;
 use crate::counter::Counter;
 use crate::fault::SessionFault;
 use app_message::{Message, StreamFault, encode_into};
+use conversation::{Said, hear};
 use devices::{Counted, WriteFault, write_whole};
-use peer_talk::{Meaning, ORIGINATOR_CHANGED, ReplyWriter, Talk, TalkFault};
-use site_base::{Actor, Event, NoRow, Reply, TillNo};
+use peer_talk::{ReplyWriter, Talk, TalkFault};
+use site_base::TillNo;
 use std::alloc::Global;
 use std::io::Write;
 use std::marker::Model;
@@ -117,9 +115,8 @@ impl Teller {
         Err(SessionFault::Talk(TalkFault::Stream(fault.fault)))
     }
 
-    /// Answers a message. One of another originator than the first one's is refused, and ends the
-    /// session; one that means no event is refused; else the counter is asked, its reply is
-    /// written, and the counter is told so.
+    /// Answers a message: it is heard, and what is said to it is written whole. One of another
+    /// originator than the first one's ends the session with that.
     fn answer<C: Counter, W: Write>(
         &mut self,
         counter: &mut C,
@@ -136,124 +133,32 @@ impl Teller {
             → Rose (failures_of writer.old) (failures_of writer.new) }
         ensures turns { turns.new ≤ turns.old }
     {
-        match self.take_meaning(message) {
-            Meaning::Another => {
-                self.refuse(writer, message, ORIGINATOR_CHANGED, turns)?;
-                Err(SessionFault::Talk(TalkFault::OriginatorChanged))
-            }
-            Meaning::Fault(fault) => self.refuse(writer, message, fault.number(), turns),
-            Meaning::Request(actor, event) => {
-                self.serve(counter, writer, message, actor, event, turns)
+        let said = &self.ask(counter, message);
+        let reply = said.write(&mut self.writer, &message.as_spelled())?;
+        self.tell(writer, reply, turns)?;
+        match said {
+            Said::Another => Err(SessionFault::Talk(TalkFault::OriginatorChanged)),
+            Said::Fault(_) => Ok(()),
+            Said::Outcome(actor, _, _) => {
+                counter.note_written(*actor);
+                Ok(())
             }
         }
     }
 
-    /// Takes what a message means.
-    fn take_meaning(&mut self, message: &Message) -> Meaning
-        ensures meaning { result ≡ meaning_at self.old.peer message.now }
-        ensures peer { self.new
-            ≡ record self.old { peer = peer_after self.old.peer message.now.from } }
-        ensures spoken { IsRequestOf self.new.peer result }
-    {
-        self.talk.take_meaning(message)
-    }
-
-    /// Tells a number in place of a reply to a message.
-    fn refuse<W: Write>(
-        &mut self,
-        writer: &mut Counted<W>,
-        message: &Message,
-        number: u8,
-        turns: &mut u64,
-    ) -> Result<(), SessionFault>
-        ensures same { self.new ≡ self.old }
-        ensures ok { OnOk result (Appends (W.contents (device_of writer.old))
-            (W.contents (device_of writer.new))
-            (number_text message.now number)) }
-        ensures front { AppendsFront (W.contents (device_of writer.old))
-            (W.contents (device_of writer.new))
-            (number_text message.now number) }
-        ensures ends { IfErr result (λ fault. ends_early fault ≡ true) }
-        ensures counted { OnOk result (failures_of writer.new ≡ failures_of writer.old) }
-        ensures failed { IsErrOf result (SessionFault.Write WriteFault.Failed)
-            → Rose (failures_of writer.old) (failures_of writer.new) }
-        ensures turns { turns.new ≤ turns.old }
-    {
-        let refusal = self.writer.write_number(&message.as_spelled(), number)?;
-        self.tell(writer, refusal, turns)
-    }
-
-    /// Asks the counter for a request, writes its reply, and tells the counter so.
-    fn serve<C: Counter, W: Write>(
-        &mut self,
-        counter: &mut C,
-        writer: &mut Counted<W>,
-        message: &Message,
-        actor: Actor,
-        event: Event,
-        turns: &mut u64,
-    ) -> Result<(), SessionFault>
-        requires { IsSpokenBy actor self.old.peer }
-        ensures asked { AsksOnce (result_err result) self.old self.new actor event message.now
-            (W.contents (device_of writer.old)) (W.contents (device_of writer.new))
-            (C.rows counter.old) (C.rows counter.new) (C.owes counter.old) (C.owes counter.new) }
-        ensures ends { IfErr result (λ fault. ends_early fault ≡ true) }
-        ensures counted { OnOk result (failures_of writer.new ≡ failures_of writer.old) }
-        ensures failed { IsErrOf result (SessionFault.Write WriteFault.Failed)
-            → Rose (failures_of writer.old) (failures_of writer.new) }
-        ensures turns { turns.new ≤ turns.old }
-    {
-        let outcome = &self.ask(counter, &actor, &event);
-        self.tell_outcome(writer, message, outcome, turns)?;
-        counter.note_written(actor);
-        Ok(())
-    }
-
-    /// Tells what a request was answered.
-    fn tell_outcome<W: Write>(
-        &mut self,
-        writer: &mut Counted<W>,
-        message: &Message,
-        outcome: &Result<Reply, NoRow>,
-        turns: &mut u64,
-    ) -> Result<(), SessionFault>
-        ensures same { self.new ≡ self.old }
-        ensures ok { OnOk result (Appends (W.contents (device_of writer.old))
-            (W.contents (device_of writer.new))
-            (outcome_text message.now outcome.now)) }
-        ensures front { AppendsFront (W.contents (device_of writer.old))
-            (W.contents (device_of writer.new))
-            (outcome_text message.now outcome.now) }
-        ensures ends { IfErr result (λ fault. ends_early fault ≡ true) }
-        ensures counted { OnOk result (failures_of writer.new ≡ failures_of writer.old) }
-        ensures failed { IsErrOf result (SessionFault.Write WriteFault.Failed)
-            → Rose (failures_of writer.old) (failures_of writer.new) }
-        ensures turns { turns.new ≤ turns.old }
-    {
-        let reply = self.writer.write_outcome(&message.as_spelled(), outcome)?;
-        self.tell(writer, reply, turns)
-    }
-
-    /// Asks the counter for a request.
-    fn ask<C: Counter>(
-        &mut self,
-        counter: &mut C,
-        actor: &Actor,
-        event: &Event,
-    ) -> Result<Reply, NoRow>
-        requires { IsSpokenBy actor.now self.old.peer }
-        ensures rows { C.rows counter.new ≡ C.rows counter.old
-            ++ row_made actor.now event.now result }
-        ensures owes { (t : ℕ) → C.owes counter.new t
-            ≡ owed_by actor.now event.now result (C.owes counter.old) t }
-        ensures peer { self.new.peer ≡ self.old.peer }
+    /// Hears a message: the counter is asked for a request.
+    fn ask<C: Counter>(&mut self, counter: &mut C, message: &Message) -> Said
+        ensures means { meaning_of result ≡ meaning_at self.old.peer message.now }
+        ensures talk { self.new ≡ talk_after message.now.from result self.old }
         ensures own { IsOwn self.old.on self.old.peer }
-        ensures on { self.new.on ≡ signed_by actor.now event.now result self.old.on }
-        ensures counted { self.new.asked ≡ one_more self.old.asked }
+        ensures asked { IsAskedFor IsAskedAt
+            (counts (C.rows counter.old) (C.owes counter.old)) result
+            (counts (C.rows counter.new) (C.owes counter.new)) }
     {
-        let outcome = counter.ask(*actor, *event);
-        self.talk.note(actor, event, &outcome);
-        outcome
+        let mut asked = AtCounter {
+            counter: &mut *counter,
+        };
+        hear(&mut self.talk, &mut asked, message)
     }
 
     /// Writes the whole message.

@@ -1,8 +1,8 @@
 //! How a program ends whose day has a fault: its text, and its exit status.
 
 use counter_desk::SettleFault;
+use day_base::DayFault;
 use devices::WriteFault;
-use forecourt_days::DayFault;
 use std::test::Fail;
 
 #[test]

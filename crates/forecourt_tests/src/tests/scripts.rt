@@ -1,3 +1,3 @@
-//! demo_script: allocations that fail.
+//! demo: allocations that fail.
 
 mod out_of_memory;

@@ -1,7 +1,6 @@
 //! A case: a script with its name.
 
-use demo_script::{DemoScript, Section, read_script};
-use dispenser_sim::Step;
+use demo::{DemoScript, Section, Step, read_script};
 use std::alloc::{AllocError, Global};
 
 /// A case of the table: its name, and the text of its script so far.

@@ -3,7 +3,7 @@
 use super::site::{call, leave, lift, one_point, point, pump, till};
 use crate::tests::day::{Day, run_day, say_failed};
 use counter_desk::{Desk, Naming, Share};
-use dispenser_sim::{Dispenser, DispenserEnd, DispenserFault, Script, Step};
+use demo::{Dispenser, DispenserEnd, DispenserFault, Script, Step};
 use site_base::{Event, NoMemory, PointState, Preset, SiteConfig};
 use std::alloc::{AllocError, Global};
 use std::process::Abort;

@@ -3,7 +3,7 @@
 use super::site::{call, leave, lift, one_point, point, pump};
 use crate::tests::day::{Day, run_day};
 use counter_desk::{Desk, Naming, Settled, Share};
-use dispenser_sim::{Dispenser, DispenserEnd, DispenserFault, Script, Step};
+use demo::{Dispenser, DispenserEnd, DispenserFault, Script, Step};
 use site_base::{Event, NoMemory, PointState, Preset, SiteConfig};
 use std::alloc::Global;
 use std::process::Abort;

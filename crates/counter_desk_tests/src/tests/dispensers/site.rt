@@ -1,7 +1,7 @@
 //! The site of the tests, and the calls that set it up.
 
 use counter_desk::{Desk, Naming, Share};
-use dispenser_sim::Step;
+use demo::Step;
 use site_base::{
     Actor, Event, FpNo, Listing, Millilitres, Mills, NoMemory, NoRow, NozzleEntry, NozzleNo,
     PointEntry, ProductEntry, ProductName, ProductNo, SiteConfig, TillNo,

@@ -1,8 +1,7 @@
 //! Made for runs in which one allocation fails: the call says so, and the same call then answers
 //! as ever.
 
-use demo_script::{DemoScript, ScriptFault, Section, read_script};
-use dispenser_sim::Step;
+use demo::{DemoScript, ScriptFault, Section, Step, read_script};
 use site_base::{Actor, Event, Millilitres, NozzleNo, PointState, TillNo};
 use std::alloc::Global;
 use std::process::Abort;

@@ -5,5 +5,5 @@ use Rattle.station.proofs.asking.ask.Goals as goal
 
 pub returns-in-None-clause-others : goal.returns-in-None-clause-others
 returns-in-None-clause-others c =
-    untold c.args.actor c.args.event c.ask_book.result (sessions_of c.args.others.now)
+    untold c.args.actor c.args.event c.ask.result (sessions_of c.args.others.now)
     (pointless c.args.event (sym c.point.ensures ∙ c.in-None.is))

@@ -13,5 +13,5 @@ returns-in_err-write_change-clause-others c =
 pub returns-in-None-clause-others : goal.returns-in-None-clause-others
 returns-in-None-clause-others c =
     let change = rw c.in-None.is at c.in_ok-write_change.ensures.change in
-    untold c.args.actor.now c.args.event.now c.ask_book.result (sessions_of c.args.others.now)
+    untold c.args.actor.now c.args.event.now c.ask.result (sessions_of c.args.others.now)
     (no_change _ _ change)

@@ -1,16 +1,38 @@
-use Rattle.std.proofs.Common.{◌∙◌, sym}
-use Rattle.station.proofs.Answering.{answers_another, answers_fault}
+use Rattle.std.proofs.Common.{◌∙◌, ◌++◌, ℕ, List, Option, ap, false, true}
+use Rattle.app_message.specs.Spelling.{spelling}
+use Rattle.conversation.specs.Saying.{said_message}
+use Rattle.station.specs.Hearing.{end_behind}
+use Rattle.station.specs.PeerViews.{sessions_of}
+use Rattle.station.specs.Sessions.{Session, end_session, no_memory, opening_text, with_text}
+use Rattle.station.proofs.Answering.{answers_said, heard_turn, said_lost, said_put}
 use Rattle.station.proofs.hearing.answer.Goals as goal
 
-pub returns-in-Another : goal.returns-in-Another
-returns-in-Another c =
-    answers_another c.refuse_another.ensures.0 c.args.message.now c.args.book.now c.args.peer.now
-    c.take_meaning.new.self _ _ c.requires (sym c.take_meaning.ensures.meaning ∙ c.in-Another.is)
-    c.take_meaning.ensures.peer c.refuse_another.ensures.1
+pub returns-in-Err : goal.returns-in-Err
+returns-in-Err c =
+    let m = c.args.message.now in
+    let p = c.args.peer.now in
+    let b = c.ask.new.book in
+    answers_said false m c.ask.result c.args.book.now b p _ (sessions_of c.args.others.now)
+    (sessions_of c.ask.new.others) c.requires c.ask.ensures.means c.ask.ensures.asked
+    (c.end_session.ensures
+    ∙ ap (λ (x : Session). end_session no_memory (record { book = b; session = x }))
+    (c.in-Err.ensures.err ∙ c.ask.ensures.talk)
+    ∙ said_lost m c.ask.result p.talk.peer (heard_turn b p m.from c.ask.result))
 
-pub returns-in-Fault : goal.returns-in-Fault
-returns-in-Fault c =
-    answers_fault c.refuse_message.ensures.0 c.args.message.now c.in-Fault.fault c.number.result
-    c.peer-before.result c.args.book.now c.args.peer.now c.take_meaning.new.self _ _ c.requires
-    (sym c.take_meaning.ensures.meaning ∙ c.in-Fault.is) c.number.ensures c.peer-before.ensures
-    c.take_meaning.ensures.peer c.refuse_message.ensures.1
+pub returns-in-Ok : goal.returns-in-Ok
+returns-in-Ok c =
+    let m = c.args.message.now in
+    let p = c.args.peer.now in
+    let b = c.ask.new.book in
+    let said = c.ask.result in
+    let text : Option (List ℕ) → List ℕ =
+    λ q. spelling (said_message m said) ++ opening_text q m.from b in
+    answers_said true m said c.args.book.now b p _ (sessions_of c.args.others.now)
+    (sessions_of c.ask.new.others) c.requires c.ask.ensures.means c.ask.ensures.asked
+    (c.end_another.ensures
+    ∙ ap (λ (x : Session). end_behind said (record { book = b; session = x })) c.in-Ok.ensures.ok
+    ∙ ap (λ (x : Session). end_behind said (with_text (text c.peer-before.result)
+    (record { book = b; session = x }))) c.ask.ensures.talk
+    ∙ ap (λ q. end_behind said (with_text (text q) (heard_turn b p m.from said)))
+    c.peer-before.ensures
+    ∙ said_put m said p.talk.peer (heard_turn b p m.from said))

@@ -9,7 +9,7 @@ returns-in-Ok-clause-spoken c =
     let st = c.args.self.now in
     let m = c.args.message.now in
     let same : is_another st.peer m.from ≡ false =
-    ap (is_another st.peer) (sym c.from.ensures) ∙ sym c.if-is_another.ensures in
+    ap (is_another st.peer) (sym c.from.ensures) ∙ sym c.if-is_another.ensures.another in
     let peer : c.bind_peer.new.self.peer ≡ peer_after st.peer m.from =
     ap (λ (s : TalkState). s.peer) c.bind_peer.ensures
     ∙ ap (peer_after st.peer) c.from-2.ensures in

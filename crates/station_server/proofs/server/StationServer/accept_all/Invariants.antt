@@ -1,4 +1,4 @@
-use Rattle.station_server.specs.Reaches.{Reaches}
+use Rattle.peer_connections.specs.Reaches.{Reaches}
 use Rattle.station_server.proofs.server.StationServer.accept_all.Given as goal
 
 abbrev pub invariant-loop : goal.invariant-loop

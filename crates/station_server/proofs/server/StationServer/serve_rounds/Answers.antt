@@ -1,4 +1,5 @@
-use Rattle.station_server.proofs.Reaching.{goes_further, reaches_then}
+use Rattle.peer_connections.proofs.Reaching.{reaches_then}
+use Rattle.station_server.proofs.Rounds.{goes_further}
 use Rattle.station_server.proofs.server.StationServer.serve_rounds.Goals as goal
 
 pub returns-in_err-hear_before_sweep : goal.returns-in_err-hear_before_sweep

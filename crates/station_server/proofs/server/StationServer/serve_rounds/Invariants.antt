@@ -1,5 +1,5 @@
 use Rattle.site_book.specs.Unpaid.{GoesBy}
-use Rattle.station_server.specs.Reaches.{Reaches}
+use Rattle.peer_connections.specs.Reaches.{Reaches}
 use Rattle.station_server.proofs.server.StationServer.serve_rounds.Given as goal
 
 abbrev pub invariant-loop : goal.invariant-loop

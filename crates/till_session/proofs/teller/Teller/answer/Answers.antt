@@ -1,53 +1,79 @@
-use Rattle.std.proofs.Common.{◌≡◌, ◌∙◌, ap, sym, true}
+use Rattle.std.proofs.Common.{◌∙◌, ap, refl, sym}
 use Rattle.std.proofs.lemmas.Result.{err_from_is_err_and}
-use Rattle.till_session.specs.Course.{ends_early}
-use Rattle.peer_talk.proofs.Speakers.{another_meant, fault_meant, request_meant, same_peer}
-use Rattle.till_session.proofs.Talks.{talked_another, talked_another_cut, talked_asked}
-use Rattle.till_session.proofs.Talks.{talked_refused}
+use Rattle.conversation.specs.declared.said.Said.TheVariants as says
+use Rattle.conversation.specs.Saying.{said_message}
+use Rattle.till_session.specs.Counters.{counts}
+use Rattle.till_session.specs.Course.{end_with, ends_early}
+use Rattle.till_session.proofs.Talks.{asked_noted, front_none, talked_front, talked_said}
 use Rattle.till_session.proofs.teller.Teller.answer.Goals as goal
 
-pub returns-in_err-refuse-in-Another-clause-talked :
-    goal.returns-in_err-refuse-in-Another-clause-talked
-returns-in_err-refuse-in-Another-clause-talked g c =
-    let st = c.args.self.now in
-    let other = another_meant st.peer c.args.message.now
-    (sym c.take_meaning.ensures.meaning ∙ c.in-Another.is) in
+pub returns-in_err-reply-clause-talked : goal.returns-in_err-reply-clause-talked
+returns-in_err-reply-clause-talked g c =
     let p = err_from_is_err_and c.from_residual.result c.from_residual.ensures.1 in
-    let early : ends_early p.0 ≡ true =
-    ap ends_early p.2 ∙ c.in_err-refuse-in-Another.ensures.ends in
-    let met = c.take_meaning.ensures.peer
-    ∙ ap (λ q. record st { peer = q }) (same_peer st.peer c.args.message.now.from other) in
-    rw (p.1, c.refuse.ensures.same, met)
-    (talked_another_cut p.0 st c.args.message.now _ _ _ _ early other
-    c.in_err-refuse-in-Another.ensures.front)
+    rw p.1
+    (talked_front p.0 c.args.self.now _ c.args.message.now c.ask.result _ _
+    (counts (g.C.Counter.rows c.args.counter.now) (g.C.Counter.owes c.args.counter.now))
+    (counts (g.C.Counter.rows c.ask.new.counter) (g.C.Counter.owes c.ask.new.counter))
+    (ap ends_early p.2) c.ask.ensures.means (c.self.view_is ∙ c.ask.ensures.talk)
+    c.ask.ensures.own c.ask.ensures.asked (front_none _ _))
 
-pub returns-in_ok-refuse-in-Another-clause-talked :
-    goal.returns-in_ok-refuse-in-Another-clause-talked
-returns-in_ok-refuse-in-Another-clause-talked g c =
-    let st = c.args.self.now in
-    let other = another_meant st.peer c.args.message.now
-    (sym c.take_meaning.ensures.meaning ∙ c.in-Another.is) in
-    let met = c.take_meaning.ensures.peer
-    ∙ ap (λ q. record st { peer = q }) (same_peer st.peer c.args.message.now.from other) in
-    rw (c.refuse.ensures.same, met)
-    (talked_another st c.args.message.now _ _ _ _ other c.in_ok-refuse-in-Another.ensures.ok)
+pub returns-in_err-tell-clause-talked : goal.returns-in_err-tell-clause-talked
+returns-in_err-tell-clause-talked g c =
+    let p = err_from_is_err_and c.from_residual-in_err-tell.result
+    c.from_residual-in_err-tell.ensures.1 in
+    let says_it = c.in_ok-reply.ensures
+    ∙ ap (λ m. said_message m c.ask.result) c.as_spelled.ensures in
+    let front = rw says_it at c.in_err-tell.ensures.front in
+    rw p.1
+    (talked_front p.0 c.args.self.now _ c.args.message.now c.ask.result _ _
+    (counts (g.C.Counter.rows c.args.counter.now) (g.C.Counter.owes c.args.counter.now))
+    (counts (g.C.Counter.rows c.ask.new.counter) (g.C.Counter.owes c.ask.new.counter))
+    (ap ends_early p.2 ∙ c.in_err-tell.ensures.ends) c.ask.ensures.means
+    (c.tell.ensures.same ∙ c.self.view_is ∙ c.ask.ensures.talk) c.ask.ensures.own
+    c.ask.ensures.asked front)
 
-pub returns-in-Request-clause-talked : goal.returns-in-Request-clause-talked
-returns-in-Request-clause-talked g c =
-    let st = c.args.self.now in
-    let asks = request_meant st.peer c.args.message.now c.in-Request.actor c.in-Request.event
-    (sym c.take_meaning.ensures.meaning ∙ c.in-Request.is) in
-    talked_asked c.serve.result st c.take_meaning.new.self c.serve.new.self c.in-Request.actor
-    c.in-Request.event c.args.message.now _ _ _ _ _ _ asks.0 asks.1 c.take_meaning.ensures.peer
-    c.serve.ensures.asked c.serve.ensures.ends
+pub returns-in-Another-clause-talked : goal.returns-in-Another-clause-talked
+returns-in-Another-clause-talked g c =
+    let says_it = c.in_ok-reply.ensures
+    ∙ ap (λ m. said_message m c.ask.result) c.as_spelled.ensures in
+    let written = rw says_it at c.in_ok-tell.ensures.ok in
+    talked_said _ c.args.self.now _ c.args.message.now c.ask.result _ _
+    (counts (g.C.Counter.rows c.args.counter.now) (g.C.Counter.owes c.args.counter.now))
+    (counts (g.C.Counter.rows c.ask.new.counter) (g.C.Counter.owes c.ask.new.counter))
+    (sym (ap end_with c.in-Another.is)) c.ask.ensures.means
+    (c.tell.ensures.same ∙ c.self.view_is ∙ c.ask.ensures.talk) c.ask.ensures.own
+    c.ask.ensures.asked written
 
 pub returns-in-Fault-clause-talked : goal.returns-in-Fault-clause-talked
 returns-in-Fault-clause-talked g c =
-    let st = c.args.self.now in
-    let means = fault_meant st.peer c.args.message.now c.in-Fault.fault
-    (sym c.take_meaning.ensures.meaning ∙ c.in-Fault.is) in
-    let written = rw c.number.ensures at c.refuse-in-Fault.ensures.ok in
-    let front = rw c.number.ensures at c.refuse-in-Fault.ensures.front in
-    rw (c.refuse-in-Fault.ensures.same, c.take_meaning.ensures.peer)
-    (talked_refused c.refuse-in-Fault.result st c.args.message.now c.in-Fault.fault _ _ _ _ means.0
-    means.1 written front c.refuse-in-Fault.ensures.ends)
+    let says_it = c.in_ok-reply.ensures
+    ∙ ap (λ m. said_message m c.ask.result) c.as_spelled.ensures in
+    let written = rw says_it at c.in_ok-tell.ensures.ok in
+    talked_said _ c.args.self.now _ c.args.message.now c.ask.result _ _
+    (counts (g.C.Counter.rows c.args.counter.now) (g.C.Counter.owes c.args.counter.now))
+    (counts (g.C.Counter.rows c.ask.new.counter) (g.C.Counter.owes c.ask.new.counter))
+    (sym (ap end_with c.in-Fault.is)) c.ask.ensures.means
+    (c.tell.ensures.same ∙ c.self.view_is ∙ c.ask.ensures.talk) c.ask.ensures.own
+    c.ask.ensures.asked written
+
+pub returns-in-Outcome-clause-talked : goal.returns-in-Outcome-clause-talked
+returns-in-Outcome-clause-talked g c =
+    let says_it = c.in_ok-reply.ensures
+    ∙ ap (λ m. said_message m c.ask.result) c.as_spelled.ensures
+    ∙ ap (said_message c.args.message.now) c.in-Outcome.is in
+    let written = rw says_it at c.in_ok-tell.ensures.ok in
+    let means = rw c.in-Outcome.is at c.ask.ensures.means in
+    let talk = rw c.in-Outcome.is at c.ask.ensures.talk in
+    let asked = rw c.in-Outcome.is at c.ask.ensures.asked in
+    let before =
+    counts (g.C.Counter.rows c.args.counter.now) (g.C.Counter.owes c.args.counter.now) in
+    let then = counts (g.C.Counter.rows c.ask.new.counter) (g.C.Counter.owes c.ask.new.counter) in
+    let rows = g.C.Counter.rows c.note_written.new.self in
+    let owes = g.C.Counter.owes c.note_written.new.self in
+    talked_said _ c.args.self.now _ c.args.message.now
+    (says.Outcome c.in-Outcome.actor c.in-Outcome.field-1 c.in-Outcome.field-2) _ _ before
+    (counts rows owes) refl means (c.tell.ensures.same ∙ c.self.view_is ∙ talk)
+    c.ask.ensures.own
+    (asked_noted c.in-Outcome.actor c.in-Outcome.field-1 c.in-Outcome.field-2 before then rows owes
+    asked c.note_written.ensures.rows c.note_written.ensures.owes)
+    written

@@ -1,0 +1,39 @@
+//! One call of a connection.
+
+ghost use Rattle.connection_calls.specs.Stops.{IsStop};
+
+use mio::Interest;
+use std::io::{self, ErrorKind};
+
+/// What became of a call.
+#[derive(Clone, Copy, Debug, PartialEq, Eq)]
+pub enum Call {
+    /// So many octets passed.
+    Passed(usize),
+    /// It was interrupted, and may be made again.
+    Interrupted,
+    /// No octet can pass for now.
+    Waits,
+    /// The peer sends no more.
+    Ended,
+    /// The connection failed.
+    Failed,
+}
+
+impl Call {
+    /// What became of a call that passed no octet, and answered this error.
+    pub fn of_error(error: &io::Error) -> Call
+        ensures { IsStop result }
+    {
+        match error.kind() {
+            ErrorKind::WouldBlock => Call::Waits,
+            ErrorKind::Interrupted => Call::Interrupted,
+            _ => Call::Failed,
+        }
+    }
+}
+
+/// The interest of a connection: it is read from, and written to.
+pub fn both_ways() -> Interest {
+    Interest::READABLE | Interest::WRITABLE
+}

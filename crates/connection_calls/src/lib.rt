@@ -1,0 +1,11 @@
+//! The calls of connections, each made when it is ready: what became of one, who waits at a listener,
+//! and how much is done before others have their turn.
+#![tactic(auto)]
+
+mod accepting;
+mod call;
+mod sizes;
+
+pub use accepting::{Caller, accept};
+pub use call::{Call, both_ways};
+pub use sizes::{ACCEPTS_A_TURN, CALLS_A_TURN, PIECE_OCTETS};

@@ -1,0 +1,95 @@
+//! Why a day ends without its report.
+
+ghost use Rattle.std.specs.Prelude.{◌≡◌};
+ghost use Rattle.day_base.specs.Ends.{day_status};
+
+use counter_desk::{Naming, SettleFault, Unsettled};
+use devices::WriteFault;
+use site_base::NoMemory;
+use std::sync::ledger::Ledger;
+use thiserror::Error;
+
+/// Why a day, of a server or of a demo, ends without its report. A session's fault ends that
+/// session alone, and so does a worker's its own work.
+#[derive(Clone, Copy, Debug, PartialEq, Eq, Error)]
+pub enum DayFault {
+    /// An allocation failed.
+    #[error("fault 31")]
+    NoMemory,
+    /// It can't listen, or a connection couldn't be made.
+    #[error("fault 63")]
+    NoConnection,
+    /// A worker of a demo couldn't be started.
+    #[error("fault 64")]
+    NoWorker,
+    /// A write of what the day tells, or of its journal, failed, or was interrupted too often.
+    #[error("fault {}", .0.number())]
+    Write(WriteFault),
+    /// The day isn't settled: the receipt of this place is strange, or a share is out, and there
+    /// are so many rows.
+    #[error("unsettled 60 place {0}")]
+    Unsettled(u64),
+}
+
+impl DayFault {
+    /// The exit status of a program that ends with this fault: 3 where the day isn't settled, 4 for
+    /// want of memory, else 1.
+    pub fn exit_status(self) -> u8
+        ensures { result ≡ day_status self }
+    {
+        match self {
+            DayFault::NoMemory => 4,
+            DayFault::Unsettled(_) => 3,
+            DayFault::NoConnection => 1,
+            DayFault::NoWorker => 1,
+            DayFault::Write(_) => 1,
+        }
+    }
+}
+
+impl From<NoMemory> for DayFault {
+    ghost use Rattle.std.specs.Prelude.{◌≡◌};
+    ghost use Rattle.day_base.specs.declared.fault.DayFault.{DayFault};
+
+    ghost from_gives = { λ _ e. e ≡ DayFault.NoMemory };
+
+    fn from(_e: NoMemory) -> DayFault {
+        DayFault::NoMemory
+    }
+}
+
+impl From<WriteFault> for DayFault {
+    ghost use Rattle.std.specs.Prelude.{◌≡◌};
+    ghost use Rattle.day_base.specs.declared.fault.DayFault.{DayFault};
+
+    ghost from_gives = { λ f e. e ≡ DayFault.Write f };
+
+    fn from(fault: WriteFault) -> DayFault {
+        DayFault::Write(fault)
+    }
+}
+
+impl From<SettleFault> for DayFault {
+    ghost use Rattle.std.specs.Prelude.{◌≡◌};
+    ghost use Rattle.day_base.specs.Ends.{unsettled_by};
+
+    ghost from_gives = { λ f e. e ≡ unsettled_by f };
+
+    fn from(fault: SettleFault) -> DayFault {
+        match fault {
+            SettleFault::StrangeReceipt(place) => DayFault::Unsettled(place),
+            SettleFault::NoMemory => DayFault::NoMemory,
+        }
+    }
+}
+
+impl<L: Ledger, C: Naming> From<Unsettled<L, C>> for DayFault {
+    ghost use Rattle.std.specs.Prelude.{◌≡◌};
+    ghost use Rattle.day_base.specs.Ends.{unsettled_by};
+
+    ghost from_gives = { λ unsettled e. e ≡ unsettled_by unsettled.fault };
+
+    fn from(unsettled: Unsettled<L, C>) -> DayFault {
+        DayFault::from(unsettled.fault)
+    }
+}

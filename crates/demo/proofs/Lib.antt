@@ -1,0 +1,6 @@
+pub mod FirstLines
+pub mod Messages
+pub mod NumberPairs
+pub mod ReadLines
+pub mod StepsTaken
+pub mod Unique

@@ -1,5 +1,0 @@
-pub mod FirstLines
-pub mod Messages
-pub mod NumberPairs
-pub mod ReadLines
-pub mod Unique

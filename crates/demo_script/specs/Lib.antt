@@ -1,3 +1,0 @@
-pub mod Lines
-pub mod Script
-pub mod Reading

@@ -1,0 +1,11 @@
+//! The commands that open a desk for a day: `serve` and `demo`.
+//!
+//! Each `run_..` takes what the command line says, reads the site file, runs the day and gives the
+//! status that the program exits with. What a day is stands in `desk_days`.
+#![tactic(auto)]
+
+mod demo_command;
+mod serve;
+
+pub use demo_command::run_demo;
+pub use serve::run_serve;

@@ -1,0 +1,4 @@
+pub mod Days
+pub mod Demos
+pub mod Faults
+pub mod Sections

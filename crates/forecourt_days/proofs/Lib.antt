@@ -1,3 +1,0 @@
-mod Serving
-mod Telling
-pub mod StationTelling

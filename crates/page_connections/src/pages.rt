@@ -1,0 +1,234 @@
+//! The page's listener, and its connections.
+
+ghost use Rattle.std.specs.Prelude.{◌≡◌, IfOk};
+ghost use Rattle.serde_json.specs.Written.{compact_text};
+ghost use Rattle.site_json.specs.SiteData.{site_data};
+ghost use Rattle.site_book.specs.Unpaid.{GoesBy, unpaid_sales};
+
+use crate::page_link::{PageLink, Progress};
+use crate::sizes::PAGE_CONNECTIONS;
+use connection_calls::{ACCEPTS_A_TURN, Caller, accept, both_ways};
+use mio::net::{TcpListener, TcpStream};
+use mio::{Registry, Token};
+use site_base::NoMemory;
+use site_book::{SiteBook, UnpaidSales};
+use site_page::Page;
+use std::alloc::Global;
+use std::hash::RandomState;
+use std::time::Instant;
+
+/// The page's listener, and its connections by their places. They are lent the book, and can't
+/// change it.
+#[derive(Drop)]
+pub struct Pages {
+    alloc: Global,
+    keys: RandomState,
+    listener: TcpListener,
+    links: Vec<Option<PageLink>>,
+    /// The key of the connection at place 0; the others' follow.
+    first_key: usize,
+    /// Connections may wait to be accepted.
+    has_callers: bool,
+    /// A connection has a turn in this round.
+    is_due: bool,
+}
+
+impl Pages {
+    /// No connections yet. Their keys are those from this one on.
+    pub fn new(
+        alloc: Global,
+        keys: RandomState,
+        listener: TcpListener,
+        first_key: usize,
+    ) -> Result<Pages, NoMemory> {
+        let mut links = Vec::with_capacity(alloc, PAGE_CONNECTIONS)?;
+        for _ in 0..PAGE_CONNECTIONS {
+            links.push(None)?;
+        }
+        Ok(Pages {
+            alloc,
+            keys,
+            listener,
+            links,
+            first_key,
+            has_callers: false,
+            is_due: false,
+        })
+    }
+
+    /// Closes the listener, and each connection that is left.
+    pub fn close(self) {}
+
+    /// What the connection at this place is reported under.
+    fn token_of(&self, place: usize) -> Token {
+        Token(self.first_key.saturating_add(place))
+    }
+
+    /// Is there a connection that may be late, or one that waits to be accepted?
+    pub fn is_busy(&self) -> bool {
+        self.has_callers || self.links.iter().any(|link| link.is_some())
+    }
+
+    /// Connections may wait to be accepted.
+    pub fn note_callers(&mut self) {
+        self.has_callers = true;
+    }
+
+    /// The connection of this key is ready.
+    pub fn make_due(&mut self, key: usize) {
+        if let Some(place) = key.checked_sub(self.first_key) {
+            if let Some(Some(link)) = self.links.get_mut(place) {
+                link.is_due = true;
+                self.is_due = true;
+            }
+        }
+    }
+
+    /// Those that wait are accepted, each connection that is ready has its turn, and those whose
+    /// peers were waited for too long are closed. `connections` is how many peers the station has.
+    pub fn serve(
+        &mut self,
+        registry: &Registry,
+        book: &SiteBook,
+        unpaid: &mut UnpaidSales,
+        connections: usize,
+        now: Instant,
+    )
+        ensures { GoesBy unpaid.old book.now → GoesBy unpaid.new book.now }
+    {
+        if self.has_callers {
+            self.accept_all(registry, now);
+        }
+        self.answer_due(registry, book, unpaid, connections, now);
+        self.close_late(now);
+    }
+
+    /// Each connection that is ready has its turn with the page of the book.
+    fn answer_due(
+        &mut self,
+        registry: &Registry,
+        book: &SiteBook,
+        unpaid: &mut UnpaidSales,
+        connections: usize,
+        now: Instant,
+    )
+        ensures { GoesBy unpaid.old book.now → GoesBy unpaid.new book.now }
+    {
+        if !self.is_due {
+            return;
+        }
+        self.is_due = false;
+        match page_of(self.alloc, book, unpaid, connections) {
+            Ok(page) => self.take_turns(registry, &page, now),
+            Err(NoMemory) => self.close_due(),
+        }
+    }
+
+    /// Each connection that is ready has its turn with this page.
+    fn take_turns(&mut self, registry: &Registry, page: &Page, now: Instant) {
+        for place in 0..self.links.len() {
+            self.take_turn(registry, page, place, now);
+        }
+    }
+
+    /// The connection at this place has its turn, if it is ready. Where that is over before it
+    /// waits for its peer, it is reported once more.
+    fn take_turn(&mut self, registry: &Registry, page: &Page, place: usize, now: Instant) {
+        let token = self.token_of(place);
+        let Some(Some(link)) = self.links.get_mut(place) else {
+            return;
+        };
+        if !link.is_due {
+            return;
+        }
+        link.is_due = false;
+        match link.take_turn(page, now) {
+            Ok(Progress::Waits) => {}
+            Ok(Progress::GoesOn) => {
+                let _ = registry.reregister(&mut link.stream, token, both_ways());
+            }
+            Ok(Progress::Over) | Err(NoMemory) => self.close_at(place),
+        }
+    }
+
+    /// Where memory is wanting, whoever asks is sent away.
+    fn close_due(&mut self) {
+        for slot in &mut self.links {
+            if slot.as_ref().is_some_and(|link| link.is_due) {
+                close(slot);
+            }
+        }
+    }
+
+    /// Closes the connection at this place.
+    fn close_at(&mut self, place: usize) {
+        if let Some(slot) = self.links.get_mut(place) {
+            close(slot);
+        }
+    }
+
+    /// Closes the connections whose peers were waited for too long.
+    fn close_late(&mut self, now: Instant) {
+        for slot in &mut self.links {
+            if slot.as_ref().is_some_and(|link| link.is_late(now)) {
+                close(slot);
+            }
+        }
+    }
+
+    /// Accepts the connections that wait; where that fails it is tried again.
+    fn accept_all(&mut self, registry: &Registry, now: Instant) {
+        for _ in 0..ACCEPTS_A_TURN {
+            match accept(&self.listener) {
+                Caller::Came(stream) => self.welcome(registry, stream, now),
+                Caller::Gone => {}
+                Caller::None => {
+                    self.has_callers = false;
+                    return;
+                }
+                Caller::Failed(_) => {
+                    self.has_callers = true;
+                    return;
+                }
+            }
+        }
+    }
+
+    /// A peer has come. Where 64 are there, or memory is wanting, its connection is closed.
+    fn welcome(&mut self, registry: &Registry, mut stream: TcpStream, now: Instant) {
+        let Some(place) = self.links.iter().position(|link| link.is_none()) else {
+            return;
+        };
+        let _ = stream.set_nodelay(true);
+        let is_watched = registry
+            .register(&mut stream, self.token_of(place), both_ways())
+            .is_ok();
+        if !is_watched || place >= self.links.len() {
+            return;
+        }
+        if let Ok(link) = PageLink::new(self.alloc, self.keys, stream, now) {
+            self.links[place] = Some(link);
+            self.is_due = true;
+        }
+    }
+}
+
+/// The page of a book, with so many connections. The sales that go by the book still do.
+fn page_of(
+    alloc: Global,
+    book: &SiteBook,
+    unpaid: &mut UnpaidSales,
+    connections: usize,
+) -> Result<Page, NoMemory>
+    ensures page { IfOk result (λ page. GoesBy unpaid.old book.now → page.site
+        ≡ compact_text (site_data book.now (unpaid_sales book.now) connections)) }
+    ensures kept { GoesBy unpaid.old book.now → GoesBy unpaid.new book.now }
+{
+    unpaid.read(alloc, book)?;
+    Page::of_book(alloc, book, unpaid.as_slice(), connections)
+}
+
+/// Closes a connection, if there is one.
+fn close(slot: &mut Option<PageLink>) {
+    let _ = slot.take();
+}

@@ -1,0 +1,7 @@
+//! The sizes of the page's connections, each written once.
+
+/// So many connections of the page there are at once, at most.
+pub const PAGE_CONNECTIONS: usize = 64;
+
+/// A peer of the page has so many seconds, behind an answer, to ask anew and take the next one.
+pub const PAGE_SECONDS: u64 = 10;

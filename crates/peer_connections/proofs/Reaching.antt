@@ -1,0 +1,106 @@
+-- Moves of a station, one after another.
+use Rattle.std.proofs.Common.{◌≡◌, ℕ, List, [], ◌∷◌, ◌++◌, Option, Some, None, refl, sym, ap, ◌∙◌}
+use Rattle.std.proofs.Common.{subst}
+use Rattle.station.specs.Moves.{StationState, with_end, with_octets, with_taken}
+use Rattle.station.specs.Moves.{without_peer}
+use Rattle.station.specs.Reads.{Arrives as GetsKey}
+use Rattle.station.specs.Runs.{Arrives, Finishes, Leaves, Move, Says, Takes, after, after_move}
+use Rattle.station.specs.Runs.{arrive}
+use Rattle.station.specs.Sessions.{Grants}
+use Rattle.journal.specs.Stored.{StoredState, with_station}
+use Rattle.connection_calls.specs.declared.call.Call.{Call}
+use Rattle.connection_calls.specs.declared.call.Call.TheVariants.{Ended, Failed, Interrupted}
+use Rattle.connection_calls.specs.declared.call.Call.TheVariants.{Passed, Waits}
+use Rattle.peer_connections.specs.Calls.{HearsCall, SendsCall}
+use Rattle.peer_connections.specs.Reaches.{Reaches}
+
+-- moves, and then more
+after_both : (ms more : List Move) (s : StationState)
+    → after (ms ++ more) s ≡ after more (after ms s)
+after_both [] more s = refl
+after_both (m ∷ ms) more s = after_both ms more (after_move m s)
+
+-- nothing was done
+pub reaches_same : (s t : StationState) → t ≡ s → Reaches s t
+reaches_same s t same = record { moves = []; lead = same }
+
+-- one thing after another
+pub reaches_then : (s t u : StationState) → Reaches s t → Reaches t u → Reaches s u
+reaches_then s t u first last = record {
+  moves = first.moves ++ last.moves;
+  lead = last.lead ∙ ap (after last.moves) first.lead
+      ∙ sym (after_both first.moves last.moves s);
+}
+
+-- one move
+reaches_by : (m : Move) (s t : StationState) → t ≡ after_move m s → Reaches s t
+reaches_by m s t moved = record { moves = m ∷ []; lead = moved }
+
+pub reaches_heard : (g : Grants) (k : ℕ) (octets : List ℕ) (s t : StationState)
+    → t ≡ with_octets g k octets s → Reaches s t
+reaches_heard g k octets s t heard = reaches_by (Says g k octets) s t heard
+
+pub reaches_taken : (k n : ℕ) (s t : StationState) → t ≡ with_taken k n s → Reaches s t
+reaches_taken k n s t taken = reaches_by (Takes k n) s t taken
+
+pub reaches_end : (k : ℕ) (s t : StationState) → t ≡ with_end k s → Reaches s t
+reaches_end k s t end = reaches_by (Finishes k) s t end
+
+pub reaches_left : (k : ℕ) (s t : StationState) → t ≡ without_peer k s → Reaches s t
+reaches_left k s t left = reaches_by (Leaves k) s t left
+
+-- a peer came, if there was a key for it
+pub reaches_arrival : (key : Option ℕ) (s t : StationState) → GetsKey key s t → Reaches s t
+reaches_arrival None s t gets = reaches_same s t gets.0
+reaches_arrival (Some k) s t gets =
+    reaches_by (Arrives k) s t (gets.2 ∙ ap (λ x. arrive k x s) (sym gets.1))
+
+-- a call at a connection
+pub reaches_read : (call : Call) (k : ℕ) (left left' : Option (List ℕ)) (s t : StationState)
+    → HearsCall call k left left' s t → Reaches s t
+reaches_read (Passed n) k left left' s t hears =
+    reaches_heard hears.memory k hears.octets s t hears.heard
+reaches_read Ended k left left' s t hears = reaches_end k s t hears.1
+reaches_read Interrupted k left left' s t hears = reaches_same s t hears.1
+reaches_read Waits k left left' s t hears = reaches_same s t hears.1
+reaches_read Failed k left left' s t hears = reaches_end k s t hears.1
+
+-- ---- of a station with its journal
+
+-- it stays
+pub reaches_kept : (s t : StoredState) → t ≡ s → Reaches s.station t.station
+reaches_kept s t same = reaches_same s.station t.station (ap (λ (x : StoredState). x.station) same)
+
+pub reaches_finished : (k : ℕ) (s t : StoredState) → t ≡ with_station (with_end k s.station) s
+    → Reaches s.station t.station
+reaches_finished k s t end =
+    reaches_end k s.station t.station (ap (λ (x : StoredState). x.station) end)
+
+pub reaches_gone : (k : ℕ) (s t : StoredState) → t ≡ with_station (without_peer k s.station) s
+    → Reaches s.station t.station
+reaches_gone k s t left =
+    reaches_left k s.station t.station (ap (λ (x : StoredState). x.station) left)
+
+pub reaches_written : (call : Call) (k : ℕ) (got got' : Option (List ℕ)) (s t : StoredState)
+    → SendsCall call k got got' s t → Reaches s.station t.station
+reaches_written (Passed n) k got got' s t sends =
+    reaches_taken k n s.station t.station (ap (λ (x : StoredState). x.station) sends.1)
+reaches_written Ended k got got' s t sends = absurd sends
+reaches_written Interrupted k got got' s t sends = reaches_kept s t sends.1
+reaches_written Waits k got got' s t sends = reaches_kept s t sends.1
+reaches_written Failed k got got' s t sends = reaches_kept s t sends.1
+
+-- ---- what a round is made of
+
+pub ruleset moved = (
+  reaches_same,
+  reaches_then,
+  reaches_left,
+  reaches_end,
+  reaches_arrival,
+  reaches_read,
+  reaches_written,
+  reaches_kept,
+  reaches_finished,
+  reaches_gone,
+)

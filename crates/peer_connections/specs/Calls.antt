@@ -1,0 +1,37 @@
+-- What a call at a peer's connection does: to what the peer sent, to what it got, and to the
+-- station.
+use Rattle.std.specs.Prelude.{◌≡◌, ℕ, List, [], length, take, Option}
+use Rattle.std.specs.Io.KnownBytes.{Appends, Consumes, IsAtEnd, Keeps}
+use Rattle.station.specs.Moves.{StationState, with_end, with_octets, with_taken}
+use Rattle.journal.specs.Stored.{StoredState, told_at, with_station}
+use Rattle.station.specs.Sessions.{Grants}
+use Rattle.connection_calls.specs.declared.call.Call.{Call}
+use Rattle.connection_calls.specs.declared.call.Call.TheVariants.{Ended, Failed, Passed}
+
+-- so many octets that the peer sent were heard
+pub record HearsOctets (n key : ℕ) (left left' : Option (List ℕ)) (s s' : StationState)
+    : Type 0 where
+  pub octets : List ℕ
+  pub memory : Grants
+  pub size : length octets ≡ n
+  pub read : Consumes left left' octets
+  pub heard : s' ≡ with_octets memory key octets s
+
+-- a read: octets were heard, or that no more come, or can come; else nothing was read, and nothing
+-- is changed
+abbrev pub HearsCall : Call → ℕ → Option (List ℕ) → Option (List ℕ) → StationState → StationState
+    → Type 0
+HearsCall (Passed n) key left left' s s' = HearsOctets n key left left' s s'
+HearsCall Ended key left left' s s' = IsAtEnd left' × (s' ≡ with_end key s)
+HearsCall Failed key left left' s s' = Keeps left left' × (s' ≡ with_end key s)
+HearsCall call key left left' s s' = Keeps left left' × (s' ≡ s)
+
+-- a write: the peer got the front of what it may be told, and is owed the rest; else it got
+-- nothing, and nothing is changed
+abbrev pub SendsCall : Call → ℕ → Option (List ℕ) → Option (List ℕ) → StoredState → StoredState
+    → Type 0
+SendsCall (Passed n) key got got' s s' =
+    Appends got got' (take n (told_at s key))
+    × (s' ≡ with_station (with_taken key n s.station) s)
+SendsCall Ended key got got' s s' = ⊥
+SendsCall call key got got' s s' = Appends got got' [] × (s' ≡ s)

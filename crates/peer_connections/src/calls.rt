@@ -1,0 +1,72 @@
+//! One call of a connection: octets that a peer sent are heard, octets that it may be told are
+//! sent.
+
+ghost use Rattle.std.specs.Prelude.{◌≡◌, ◌<◌, length, true};
+ghost use Rattle.station.specs.Reads.{is_read_at};
+ghost use Rattle.peer_connections.specs.Calls.{HearsCall, SendsCall};
+
+use connection_calls::Call;
+use journal::{Disk, StoredStation};
+use std::io::{Read, Write};
+
+/// Reads once from the connection of a peer that is read from, and has the station hear what came:
+/// octets, or that no more come, or can come. Where nothing came, the station stays as it is.
+pub fn read_once<R: Read, D: Disk>(
+    reader: &mut R,
+    stored: &mut StoredStation<D>,
+    key: usize,
+    piece: &mut [u8],
+) -> Call
+    requires some { 0 < length piece.old }
+    requires read { is_read_at stored.old.station key ≡ true }
+    ensures station { HearsCall result key (R.remaining reader.old) (R.remaining reader.new)
+        stored.old.station stored.new.station }
+    ensures journal { stored.new.journal ≡ stored.old.journal }
+{
+    match reader.read(piece) {
+        Ok(0) => {
+            stored.finish(key);
+            Call::Ended
+        }
+        Ok(n) => {
+            stored.hear(key, &piece[..n]);
+            Call::Passed(n)
+        }
+        Err(error) => {
+            let call = Call::of_error(&error);
+            if call == Call::Failed {
+                stored.finish(key);
+            }
+            call
+        }
+    }
+}
+
+/// Reads once from a connection what nobody hears.
+pub(crate) fn read_ignored<R: Read>(reader: &mut R, piece: &mut [u8]) -> Call {
+    match reader.read(piece) {
+        Ok(0) => Call::Ended,
+        Ok(n) => Call::Passed(n),
+        Err(error) => Call::of_error(&error),
+    }
+}
+
+/// Writes once to the connection of a peer what it may be told: what it is owed, while each row is
+/// stored. What was taken is no longer owed; where nothing was, the station stays as it is.
+pub fn write_once<W: Write, D: Disk>(
+    writer: &mut W,
+    stored: &mut StoredStation<D>,
+    key: usize,
+) -> Call
+    ensures { SendsCall result key (W.contents writer.old) (W.contents writer.new) stored.old
+        stored.new }
+{
+    match writer.write(stored.told_octets(key)) {
+        Ok(0) => Call::Failed,
+        Ok(n) => {
+            stored.take(key, n);
+            Call::Passed(n)
+        }
+        Err(error) => Call::of_error(&error),
+    }
+}

@@ -1,0 +1,15 @@
+//! The connections of a station's peers: what they send is heard, what they are owed is sent.
+//!
+//! What `Connections` does with the station is made of the station's own moves alone
+//! (`specs/Reaches.antt`), so each law of `station` holds of what it serves. One call of a
+//! connection is exact (`specs/Calls.antt`).
+#![tactic(auto)]
+
+mod calls;
+mod connections;
+mod due_list;
+mod link;
+mod naming;
+mod sizes;
+
+pub use connections::Connections;

@@ -1,0 +1,163 @@
+//! A peer's connection.
+
+ghost use Rattle.std.specs.Prelude.{◌<◌, length};
+ghost use Rattle.peer_connections.specs.Reaches.{Reaches};
+
+use crate::calls::{read_ignored, read_once, write_once};
+use connection_calls::{CALLS_A_TURN, Call};
+use journal::{Disk, StoredStation};
+use mio::net::TcpStream;
+use std::net::Shutdown;
+use std::time::Instant;
+
+/// A connection, and how far its session has come.
+#[derive(Drop)]
+pub(crate) struct Link {
+    pub(crate) stream: TcpStream,
+    /// When octets came last.
+    pub(crate) heard_at: Instant,
+    /// Since its session has ended: when the peer last took octets.
+    pub(crate) closing_since: Option<Instant>,
+    /// Reading stopped before the peer had no more.
+    pub(crate) is_unread: bool,
+    /// It takes no octets for now.
+    pub(crate) is_full: bool,
+    /// The peer was told that nothing more will come.
+    is_shut: bool,
+    /// What the peer may still do.
+    pub(crate) channel: Channel,
+}
+
+/// What a peer can still do.
+#[derive(Clone, Copy, Debug, PartialEq, Eq)]
+pub(crate) enum Channel {
+    /// Send and take.
+    Open,
+    /// Take alone: it sends no more.
+    HalfClosed,
+    /// Nothing: the connection failed.
+    Failed,
+}
+
+impl Link {
+    /// The connection of a peer that has just come.
+    pub(crate) fn new(stream: TcpStream, now: Instant) -> Link {
+        Link {
+            stream,
+            heard_at: now,
+            closing_since: None,
+            is_unread: false,
+            is_full: false,
+            is_shut: false,
+            channel: Channel::Open,
+        }
+    }
+
+    /// Reads from the peer, and has the station hear it: until there is no more for now, the peer
+    /// isn't read from, or its turn is over. With `to_end` it is known that the peer sends no more.
+    #[tactic(auto, using(crate::proofs::Reaching::moved))]
+    pub(crate) fn hear<D: Disk>(
+        &mut self,
+        stored: &mut StoredStation<D>,
+        key: usize,
+        piece: &mut [u8],
+        to_end: bool,
+        now: Instant,
+    )
+        requires { 0 < length piece.old }
+        ensures { Reaches stored.old.station stored.new.station }
+    {
+        self.is_unread = true;
+        for _ in 0..CALLS_A_TURN {
+            if !stored.is_read(key) {
+                return;
+            }
+            let size = piece.len();
+            match read_once(&mut self.stream, stored, key, piece) {
+                Call::Passed(n) => {
+                    self.heard_at = now;
+                    if n < size && !to_end {
+                        self.is_unread = false;
+                        return;
+                    }
+                }
+                Call::Interrupted => {}
+                Call::Waits => {
+                    self.is_unread = false;
+                    return;
+                }
+                Call::Ended => {
+                    self.channel = Channel::HalfClosed;
+                    return;
+                }
+                Call::Failed => {
+                    self.channel = Channel::Failed;
+                    return;
+                }
+            }
+        }
+    }
+
+    /// Sends what the peer may be told, as far as its connection takes it for now.
+    #[tactic(auto, using(crate::proofs::Reaching::moved))]
+    pub(crate) fn send<D: Disk>(&mut self, stored: &mut StoredStation<D>, key: usize, now: Instant)
+        ensures { Reaches stored.old.station stored.new.station }
+    {
+        for _ in 0..CALLS_A_TURN {
+            if stored.told_octets(key).is_empty() {
+                return;
+            }
+            match write_once(&mut self.stream, stored, key) {
+                Call::Passed(_) => self.note_taken(now),
+                Call::Interrupted => {}
+                Call::Waits => {
+                    self.is_full = true;
+                    return;
+                }
+                Call::Ended | Call::Failed => {
+                    self.channel = Channel::Failed;
+                    return;
+                }
+            }
+        }
+    }
+
+    /// The peer has taken octets.
+    fn note_taken(&mut self, now: Instant) {
+        if self.closing_since.is_some() {
+            self.closing_since = Some(now);
+        }
+    }
+
+    /// Reads what a peer sends whose session has ended, and has nobody hear it: until there is no
+    /// more for now, or its turn is over.
+    pub(crate) fn ignore(&mut self, piece: &mut [u8]) {
+        self.is_unread = true;
+        for _ in 0..CALLS_A_TURN {
+            match read_ignored(&mut self.stream, piece) {
+                Call::Passed(_) | Call::Interrupted => {}
+                Call::Waits => {
+                    self.is_unread = false;
+                    return;
+                }
+                Call::Ended => {
+                    self.is_unread = false;
+                    self.channel = Channel::HalfClosed;
+                    return;
+                }
+                Call::Failed => {
+                    self.channel = Channel::Failed;
+                    return;
+                }
+            }
+        }
+    }
+
+    /// Tells the peer, once, that nothing more will come.
+    pub(crate) fn shut(&mut self) {
+        if !self.is_shut {
+            self.is_shut = true;
+            let _ = self.stream.shutdown(Shutdown::Write);
+        }
+    }
+}

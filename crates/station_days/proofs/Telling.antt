@@ -1,0 +1,95 @@
+-- What a station's day tells, from its two writes.
+use Rattle.std.proofs.Common.{◌≡◌, ℕ, Bool, true, false, List, [], Option, Some, None, refl, sym}
+use Rattle.std.proofs.Common.{ap, subst, ◌∙◌}
+use Rattle.std.specs.Io.KnownBytes.{Appends}
+use Rattle.devices.specs.Devices.{AppendsFront}
+use Rattle.devices.proofs.KnownBytes.{Appends-front, Appends-then}
+use Rattle.devices.proofs.KnownBytes.{AppendsFront-longer}
+use Rattle.written_site.specs.SiteState.{is_signed_on}
+use Rattle.site_book.specs.Book.{Book, site_of_book}
+use Rattle.station.specs.Moves.{StationState}
+use Rattle.station.specs.Reads.{HasNoPeer}
+use Rattle.station.specs.Runs.{Move, after, opening_station}
+use Rattle.station.proofs.TillSessions.{tills_have}
+use Rattle.journal.specs.Opening.{HasNobodyOn}
+use Rattle.peer_connections.specs.Reaches.{Reaches}
+use Rattle.day_base.specs.declared.plan.ReportForm.{ReportForm}
+use Rattle.station_days.specs.StationDays.{TellsDay, TellsFront, day_book, day_station}
+use Rattle.station_days.specs.StationDays.{station_text}
+use Rattle.day_base.specs.Texts.{places_text, report_in}
+
+-- what a station comes to that was opened at this book
+reached_station : (opens : Book) (s t : StationState) → s ≡ opening_station opens
+    → (r : Reaches s t) → t ≡ day_station opens r.moves
+reached_station opens s t begins r = r.lead ∙ ap (after r.moves) begins
+
+-- its book
+reached_book : (opens x : Book) (s t : StationState) → s ≡ opening_station opens
+    → (r : Reaches s t) → x ≡ t.book → x ≡ day_book opens r.moves
+reached_book opens x s t begins r is =
+    is ∙ ap (λ (u : StationState). u.book) (reached_station opens s t begins r)
+
+-- where nobody is left, no till is signed on
+nobody_signed : (opens : Book) (moves : List Move) → HasNobodyOn opens
+    → HasNoPeer (day_station opens moves)
+    → (t : ℕ) → is_signed_on (site_of_book (day_book opens moves)) t ≡ false
+nobody_signed opens moves off left t =
+    by_test (is_signed_on (site_of_book (day_book opens moves)) t) refl
+  where
+    by_test : (on : Bool) → is_signed_on (site_of_book (day_book opens moves)) t ≡ on
+        → is_signed_on (site_of_book (day_book opens moves)) t ≡ false
+    by_test false is = is
+    by_test true is =
+        let held = tills_have opens moves off t is in
+        absurd (let never : None ≡ Some held.session = sym (left held.key) ∙ held.there in cc)
+
+-- where it listens was written, and then the report
+pub tells_station : (opens : Book) (u v w : Option (List ℕ)) (said port : ℕ)
+    (page_said page : Option ℕ) (form : ReportForm) (x : Book) (s t : StationState)
+    → said ≡ port → page_said ≡ page → s ≡ opening_station opens
+    → HasNobodyOn opens
+    → Reaches s t → HasNoPeer t → x ≡ t.book → Appends u v (places_text said page_said)
+    → Appends v w (report_in form x) → TellsDay opens port page form u w
+tells_station opens u v w said port page_said page form x s t same also begins off r left is line
+    report =
+    record {
+      moves = r.moves;
+      left = subst HasNoPeer (reached_station opens s t begins r) left;
+      off = nobody_signed opens r.moves off
+          (subst HasNoPeer (reached_station opens s t begins r) left);
+      told = Appends-then u v w (places_text port page) (report_in form (day_book opens r.moves))
+          (subst (λ (o : Option ℕ). Appends u v (places_text port o)) also
+          (subst (λ (n : ℕ). Appends u v (places_text n page_said)) same line))
+          (subst (λ (y : Book). Appends v w (report_in form y))
+          (reached_book opens x s t begins r is) report);
+    }
+
+-- .. and then a front of it
+pub tells_station_front : (opens : Book) (u v w : Option (List ℕ)) (said port : ℕ)
+    (page_said page : Option ℕ) (form : ReportForm) (x : Book) (s t : StationState)
+    → said ≡ port → page_said ≡ page → s ≡ opening_station opens
+    → Reaches s t → x ≡ t.book → Appends u v (places_text said page_said)
+    → AppendsFront v w (report_in form x)
+    → TellsFront opens port page form u w
+tells_station_front opens u v w said port page_said page form x s t same also begins r is line
+    report =
+    record {
+      moves = r.moves;
+      told = Appends-front u v w (places_text port page) (report_in form (day_book opens r.moves))
+          (subst (λ (o : Option ℕ). Appends u v (places_text port o)) also
+          (subst (λ (n : ℕ). Appends u v (places_text n page_said)) same line))
+          (subst (λ (y : Book). AppendsFront v w (report_in form y))
+          (reached_book opens x s t begins r is) report);
+    }
+
+-- a front of the lines
+pub tells_station_line : (opens : Book) (u v : Option (List ℕ)) (said port : ℕ)
+    (page_said page : Option ℕ) (form : ReportForm)
+    → said ≡ port → page_said ≡ page → AppendsFront u v (places_text said page_said)
+    → TellsFront opens port page form u v
+tells_station_line opens u v said port page_said page form same also line = record {
+  moves = [];
+  told = AppendsFront-longer u v (places_text port page) (report_in form (day_book opens []))
+      (subst (λ (o : Option ℕ). AppendsFront u v (places_text port o)) also
+      (subst (λ (n : ℕ). AppendsFront u v (places_text n page_said)) same line));
+}

@@ -1,0 +1,49 @@
+-- What a station's day writes.
+use Rattle.std.specs.Prelude.{◌≡◌, ℕ, false, List, ◌++◌, Option}
+use Rattle.std.specs.Io.KnownBytes.{Appends}
+use Rattle.devices.specs.declared.transfer.WriteFault.TheVariants as writes
+use Rattle.devices.specs.Devices.{AppendsFront}
+use Rattle.written_site.specs.SiteState.{is_signed_on}
+use Rattle.site_book.specs.Book.{Book, site_of_book}
+use Rattle.station_server.specs.declared.fault.ServerFault.{ServerFault}
+use Rattle.station_server.specs.declared.fault.ServerFault.TheVariants as servers
+use Rattle.day_base.specs.declared.fault.DayFault.{DayFault}
+use Rattle.day_base.specs.declared.fault.DayFault.TheVariants.{NoConnection, NoMemory, Write}
+use Rattle.day_base.specs.declared.plan.ReportForm.{ReportForm}
+use Rattle.day_base.specs.Texts.{places_text, report_in}
+use Rattle.station.specs.Moves.{StationState}
+use Rattle.station.specs.Reads.{HasNoPeer}
+use Rattle.station.specs.Runs.{Move, after, opening_station}
+
+-- the station after these moves, of a day that opens at this book
+abbrev pub day_station : Book → List Move → StationState
+day_station opens moves = after moves (opening_station opens)
+
+-- its book
+abbrev pub day_book : Book → List Move → Book
+day_book opens moves = (day_station opens moves).book
+
+-- where it listens, and the report of the book that the day's moves led to
+abbrev pub station_text : Book → ℕ → Option ℕ → ReportForm → List Move → List ℕ
+station_text opens port page form moves =
+    places_text port page ++ report_in form (day_book opens moves)
+
+-- how a day ends whose server ends so
+abbrev pub ended_by : ServerFault → DayFault
+ended_by servers.NoMemory = NoMemory
+ended_by servers.NoConnection = NoConnection
+ended_by servers.NotStored = Write writes.Failed
+
+-- the whole text of a day was written, at whose end nobody is there, and no till is signed on
+pub record TellsDay (opens : Book) (port : ℕ) (page : Option ℕ) (form : ReportForm)
+    (holds holds' : Option (List ℕ)) : Type 0 where
+  pub moves : List Move
+  pub left : HasNoPeer (day_station opens moves)
+  pub off : (t : ℕ) → is_signed_on (site_of_book (day_book opens moves)) t ≡ false
+  pub told : Appends holds holds' (station_text opens port page form moves)
+
+-- a front of the text of a day was written
+pub record TellsFront (opens : Book) (port : ℕ) (page : Option ℕ) (form : ReportForm)
+    (holds holds' : Option (List ℕ)) : Type 0 where
+  pub moves : List Move
+  pub told : AppendsFront holds holds' (station_text opens port page form moves)

@@ -1,0 +1,81 @@
+//! A day of a station.
+
+ghost use Rattle.std.specs.Prelude.{◌≡◌, OnOk, false, true};
+ghost use Rattle.std.specs.Io.KnownBytes.{Appends};
+ghost use Rattle.day_base.specs.Texts.{report_in};
+ghost use Rattle.devices.specs.Counted.{device_of};
+ghost use Rattle.devices.specs.Devices.{AppendsFront};
+ghost use Rattle.journal.specs.Opening.{HasNobodyOn};
+ghost use Rattle.journal.specs.Stored.{is_all_stored};
+ghost use Rattle.station.specs.Runs.{opening_station};
+ghost use Rattle.station_days.specs.StationDays.{TellsDay, TellsFront};
+
+use crate::fault::tell_fault;
+use day_base::{DayFault, ReportForm, put_book_report, put_places};
+use devices::Counted;
+use journal::Disk;
+use peer_connections::Connections;
+use station_server::StationServer;
+use std::alloc::Global;
+use std::io::Write;
+use std::sync::Wait;
+use std::time::Clock;
+
+/// A day of a station that was opened at this book, with its journal if it has one, and whose
+/// server listens already: it writes where, and where its page is, serves until the day's end, ends
+/// the sessions that are left, so that nobody is there, and writes the report of its book in this
+/// form, by the book's audit. Sessions of which nothing comes for so many seconds are ended. Where
+/// waiting for connections fails the day ends so, with `NoConnection` behind the report; where the
+/// journal takes no more it ends with `Write`, without a report, since that would tell of rows that
+/// aren't stored. However it ends, what it wrote is a front of that text.
+pub fn station_day<W: Write, T: Wait, R: Clock + Eprint, D: Disk>(
+    threads: &T,
+    rt: &R,
+    alloc: Global,
+    connections: &mut Connections<D>,
+    server: &mut StationServer,
+    idle: Option<u64>,
+    form: ReportForm,
+    turns: &mut u64,
+    writer: &mut Counted<W>,
+) -> Result<(), DayFault>
+    requires alone { connections.old.stored.station
+        ≡ opening_station connections.old.stored.station.book }
+    requires off { HasNobodyOn connections.old.stored.station.book }
+    ensures told { OnOk result (TellsDay connections.old.stored.station.book server.old.port
+        server.old.page_port form (W.contents (device_of writer.old))
+        (W.contents (device_of writer.new))) }
+    ensures front { TellsFront connections.old.stored.station.book server.old.port
+        server.old.page_port form (W.contents (device_of writer.old))
+        (W.contents (device_of writer.new)) }
+{
+    put_places(alloc, server.port(), server.page_port(), writer, turns)?;
+    let served = server.serve(threads, rt, connections, idle);
+    put_stored_report(alloc, connections, form, writer, turns)?;
+    match served {
+        Ok(()) => Ok(()),
+        Err(fault) => Err(tell_fault(fault)),
+    }
+}
+
+/// Writes the report of the book, where each of its rows is stored; else nothing.
+fn put_stored_report<W: Write, D: Disk>(
+    alloc: Global,
+    connections: &Connections<D>,
+    form: ReportForm,
+    writer: &mut Counted<W>,
+    turns: &mut u64,
+) -> Result<(), DayFault>
+    ensures written { is_all_stored connections.now.stored ≡ true → OnOk result
+        (Appends (W.contents (device_of writer.old)) (W.contents (device_of writer.new))
+        (report_in form connections.now.stored.station.book)) }
+    ensures front { AppendsFront (W.contents (device_of writer.old))
+        (W.contents (device_of writer.new)) (report_in form connections.now.stored.station.book) }
+    ensures untold { is_all_stored connections.now.stored ≡ false → writer.new ≡ writer.old }
+{
+    if connections.is_all_stored() {
+        put_book_report(alloc, connections.book(), form, writer, turns)
+    } else {
+        Ok(())
+    }
+}

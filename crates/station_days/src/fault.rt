@@ -1,0 +1,19 @@
+//! Why a station's day ends without its report.
+
+ghost use Rattle.std.specs.Prelude.{◌≡◌};
+ghost use Rattle.station_days.specs.StationDays.{ended_by};
+
+use day_base::DayFault;
+use devices::WriteFault;
+use station_server::ServerFault;
+
+/// The fault with which a day ends whose server ends so.
+pub fn tell_fault(fault: ServerFault) -> DayFault
+    ensures { result ≡ ended_by fault }
+{
+    match fault {
+        ServerFault::NoMemory => DayFault::NoMemory,
+        ServerFault::NoConnection => DayFault::NoConnection,
+        ServerFault::NotStored => DayFault::Write(WriteFault::Failed),
+    }
+}

@@ -1,0 +1,11 @@
+//! Days of a station, from where it listens to the report of its book.
+//!
+//! `station_day` has a station serve until its day's end, and writes the report of its book:
+//! `specs/StationDays.antt` says what is written.
+#![tactic(auto)]
+
+mod day;
+mod fault;
+
+pub use day::station_day;
+pub use fault::tell_fault;

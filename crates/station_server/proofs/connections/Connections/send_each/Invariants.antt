@@ -1,5 +1,0 @@
-use Rattle.station_server.specs.Reaches.{Reaches}
-use Rattle.station_server.proofs.connections.Connections.send_each.Given as goal
-
-abbrev pub invariant-loop-at : goal.invariant-loop-at
-invariant-loop-at g l = Reaches l.fn.self.stored.station l.self.stored.station

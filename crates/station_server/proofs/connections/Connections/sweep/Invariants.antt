@@ -1,5 +1,0 @@
-use Rattle.station_server.specs.Reaches.{Reaches}
-use Rattle.station_server.proofs.connections.Connections.sweep.Given as goal
-
-abbrev pub invariant-loop-key : goal.invariant-loop-key
-invariant-loop-key g l = Reaches l.fn.self.stored.station l.self.stored.station

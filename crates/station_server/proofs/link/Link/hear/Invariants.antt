@@ -1,9 +1,0 @@
-use Rattle.std.proofs.Common.{◌<◌, length}
-use Rattle.station_server.specs.Reaches.{Reaches}
-use Rattle.station_server.proofs.link.Link.hear.Given as goal
-
-abbrev pub invariant-loop : goal.invariant-loop
-invariant-loop g l = record {
-  reached : Reaches l.fn.stored.station l.stored.station;
-  some : 0 < length l.piece;
-}

@@ -1,0 +1,27 @@
+//! A counter, as a conversation asks it.
+
+use crate::counter::Counter;
+use conversation::Asks;
+use site_base::{Actor, Event, NoRow, Reply};
+
+/// A counter, as a conversation asks it.
+#[derive(Drop)]
+pub(crate) struct AtCounter<'a, C: Counter> {
+    pub(crate) counter: &'a mut C,
+}
+
+impl<'a, C: Counter> Asks for AtCounter<'a, C> {
+    ghost use Rattle.std.specs.Prelude.{ℕ};
+    ghost use Rattle.conversation.specs.Lending.{Lent};
+    ghost use Rattle.till_session.specs.Counters.{Counts, IsAskedAt, counts};
+
+    ghost Seen = { Counts × ℕ };
+
+    ghost seen = { λ a. (counts (C.rows a.counter.now) (C.owes a.counter.now), a.counter.ghost_name) };
+
+    ghost asked = { Lent IsAskedAt };
+
+    fn ask(&mut self, actor: Actor, event: Event) -> Result<Reply, NoRow> {
+        self.counter.ask(actor, event)
+    }
+}
