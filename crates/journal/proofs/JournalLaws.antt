@@ -16,11 +16,9 @@ use Rattle.hex_lines.specs.Lines.{IsLine}
 use Rattle.written_site.specs.SiteRun.{events_of}
 use Rattle.site_book.specs.Book.{Book}
 use Rattle.station.specs.Moves.{StationState}
-use Rattle.station.specs.Peers.{peer_at}
 use Rattle.station.specs.Reads.{owed_at}
-use Rattle.station.specs.Runs.{Arrives, Finishes, Leaves, Move, Says, Takes, after, after_move}
-use Rattle.station.specs.Runs.{arrive, opening_station}
-use Rattle.station.specs.Sessions.{Session}
+use Rattle.station.specs.Runs.{Move, after, opening_station}
+use Rattle.station.proofs.Keeping.{books_keep}
 use Rattle.journal.specs.History.{IsMadeAgain, all_made_again, and_then, empty_book}
 use Rattle.journal.specs.JournalLines.{TellsWhole, requests_in, whole_lines}
 use Rattle.journal.specs.JournalText.{CanBeSpelled, row_line, rows_text}
@@ -35,28 +33,15 @@ use Rattle.journal.specs.Stored.{is_all_stored, told_at}
 use Rattle.journal.proofs.Fronts.{begins_then}
 use Rattle.journal.proofs.Lines.{line_ends, lines_both, none_ends, one_line}
 use Rattle.journal.proofs.Lines.{requests_apart, requests_both, requests_front}
-use Rattle.journal.proofs.Made.{Adds, adds_same, adds_then, made_both, made_with}
-use Rattle.journal.proofs.Moves.{adds_end, adds_left, adds_nothing, adds_octets}
+use Rattle.journal.proofs.Made.{Adds, adds_same, made_both, made_with}
+use Rattle.journal.proofs.Moves.{rows_add}
 use Rattle.journal.proofs.Readings.{lines_behind, rows_again, same_tail}
 use Rattle.journal.proofs.Requests.{events_both, line_of_row, lines_of_both, no_lines}
 
 -- ---- a station's rows are made again
 
-arrived : (k : ℕ) (o : Option Session) (s : StationState) → (arrive k o s).book ≡ s.book
-arrived k None s = refl
-arrived k (Some x) s = refl
-
-move_adds : (m : Move) (s : StationState) → Adds s.book (after_move m s).book
-move_adds (Arrives k) s = adds_same s.book _ (arrived k (peer_at s.peers k) s)
-move_adds (Says memory k octets) s = adds_octets memory k octets s
-move_adds (Takes k n) s = adds_nothing k n s
-move_adds (Finishes k) s = adds_end k s
-move_adds (Leaves k) s = adds_left k s
-
 pub moves_add : (ms : List Move) (s : StationState) → Adds s.book (after ms s).book
-moves_add [] s = adds_same s.book s.book refl
-moves_add (m ∷ ms) s =
-    adds_then s.book (after_move m s).book _ (move_adds m s) (moves_add ms (after_move m s))
+moves_add ms s = books_keep (rows_add s.book) ms s (adds_same s.book s.book refl)
 
 pub stations_are_made_again : StationsAreMadeAgain
 stations_are_made_again b ms made = made_with b _ made (moves_add ms (opening_station b))

@@ -4,7 +4,7 @@ use Rattle.std.proofs.Common.{◌∷◌, ◌++◌}
 use Rattle.std.proofs.Common.{drop, length, take}
 use Rattle.std.proofs.Common.{Option, Some, None, refl, sym, ap, ◌∙◌}
 use Rattle.std.proofs.Common.{arith, subst}
-use Rattle.std.specs.Prelude.{◌≤◌, OnSome, if◌then◌else◌, is_ok, is_some, unwrap_or}
+use Rattle.std.specs.Prelude.{◌≤◌, OnSome, if◌then◌else◌, is_some}
 use Rattle.std.specs.Ordering.{nat_cmp}
 use Rattle.std.specs.FinSet as set
 use Rattle.std.proofs.lemmas.Bool.{eq-eqb}
@@ -17,19 +17,17 @@ use Rattle.site_base.specs.declared.limits.TheConstants.{TILLS}
 use Rattle.site_base.specs.declared.row.Row.{Row}
 use Rattle.site_base.specs.Configured.{Configured}
 use Rattle.device_map.proofs.Results.{equal}
-use Rattle.written_site.specs.RowWords.{signing_said}
 use Rattle.written_site.specs.SiteRun.{IsLegal, site_of_rows}
 use Rattle.written_site.specs.SiteState.{SiteState, is_signed_on, opening}
 use Rattle.written_site.specs.SiteStep.{site_after}
-use Rattle.written_site.proofs.Histories.{site_of_rows-push}
-use Rattle.written_site.proofs.SigningLaws.{signed_row}
-use Rattle.site_book.specs.Book.{AreActors, AreRowsInRange, Book, next_row, site_of_book}
+use Rattle.site_book.specs.Book.{AreActors, AreRowsInRange, Book, site_of_book}
 use Rattle.site_book.specs.Book.{with_row_of}
 use Rattle.site_book.specs.SignedOn.{AreTills}
 use Rattle.site_book.proofs.SignedTills.{tills_row}
 use Rattle.station.specs.Runs.{opening_station}
 use Rattle.station.specs.Sessions.{without_till}
 use Rattle.station.proofs.Leaving.{signed_off}
+use Rattle.station.proofs.TillSessions.{still_on}
 use Rattle.journal.specs.Disks.{DiskFile, Grows, Keeps, OfFile, OfFiles}
 use Rattle.journal.specs.History.{empty_book}
 use Rattle.journal.specs.Opening.{HasNobodyOn, Resumes, all_off, tills_off}
@@ -37,26 +35,6 @@ use Rattle.journal.specs.JournalText.{CanBeSpelled, rows_text}
 use Rattle.journal.specs.Stored.{HoldsRows, IsJournalOf, JournalState, StoredState}
 use Rattle.journal.proofs.Made.{Adds, adds_same, adds_then}
 use Rattle.journal.proofs.Moves.{adds_leaving}
-
--- the sign-off of another till changes nothing of this one
-others_stay : (b : Book) (v u : ℕ) → (v == u) ≡ false
-    → is_signed_on (site_of_book (without_till (Some v) b)) u ≡ is_signed_on (site_of_book b) u
-others_stay b v u other = by_test (is_signed_on (site_of_book b) v)
-  where
-    unsaid : (ok before : Bool)
-        → unwrap_or (if ok then signing_said u (Till v) SignOff else None) before ≡ before
-    unsaid true before = rw other refl
-    unsaid false before = refl
-
-    by_test : (on : Bool)
-        → is_signed_on (site_of_book (if on then with_row_of b (Till v) SignOff else b)) u
-        ≡ is_signed_on (site_of_book b) u
-    by_test true =
-        ap (λ (s : SiteState). is_signed_on s u)
-        (site_of_rows-push (opening b.config) b.rows (next_row b (Till v) SignOff))
-        ∙ signed_row u (site_of_book b) (next_row b (Till v) SignOff) refl
-        ∙ unsaid (is_ok (next_row b (Till v) SignOff).reply) (is_signed_on (site_of_book b) u)
-    by_test false = refl
 
 -- sign-offs only add rows
 pub off_adds : (n : ℕ) (b : Book) → Adds b (tills_off n b)
@@ -87,7 +65,7 @@ one_more_off b n off t least less = by_test (n == t) refl
     by_test true is =
         subst (λ (u : ℕ). is_signed_on (site_of_book (without_till (Some n) b)) u ≡ false)
         (equal n t is) (signed_off b n)
-    by_test false is = others_stay b n t is ∙ off t least (grind (arith, nat_tests))
+    by_test false is = still_on b n t is ∙ off t least (grind (arith, nat_tests))
 
 -- ---- no other till is signed on
 

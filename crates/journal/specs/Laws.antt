@@ -1,5 +1,5 @@
 -- What holds of every journal: what is found again after a crash, and what its text tells.
-use Rattle.std.specs.Prelude.{◌≡◌, ◌≤◌, ℕ, Bool, true, List, [], ◌∷◌, ◌++◌, length, take, Some, None}
+use Rattle.std.specs.Prelude.{◌≡◌, ◌≤◌, ℕ, true, List, [], ◌∷◌, ◌++◌, length, take, Some}
 use Rattle.std.specs.List.{AllByRecursion}
 use Rattle.site_base.specs.declared.actor.Actor.TheVariants.{Till}
 use Rattle.site_base.specs.declared.event.Event.TheVariants.{SignOff}
@@ -10,9 +10,9 @@ use Rattle.written_site.specs.SiteState.{is_signed_on, opening}
 use Rattle.site_book.specs.Book.{Book, site_of_book, with_row_of}
 use Rattle.station.specs.Runs.{Move, after, opening_station}
 use Rattle.journal.specs.Disks.{BeginsWith, DiskFile}
-use Rattle.journal.specs.History.{IsMadeAgain, empty_book}
+use Rattle.journal.specs.History.{IsMadeAgain}
 use Rattle.journal.specs.JournalLines.{TellsWhole}
-use Rattle.journal.specs.JournalText.{CanBeSpelled, IsSent, header_of, journal_text}
+use Rattle.journal.specs.JournalText.{CanBeSpelled, IsSent, journal_text}
 use Rattle.journal.specs.Readings.{IsRead, TellsBook, TellsNothing}
 use Rattle.journal.specs.RowLines.{AreLines}
 use Rattle.journal.specs.Stored.{IsStored, JournalState, StoredState, told_at}

@@ -1,8 +1,9 @@
 -- One walk over the station's machine for every law.
 --
--- A law of the book shows that a row keeps it (`RowsKeep`, `books_keep`), a law of a session's turns
--- four steps (`Keeps`, `heard_keeps`), a law of every session three facts beside (`EachKeeps`,
--- `each_keep`), and any other law of the station five cases of a move (`Leads`, `moved_keeps`).
+-- A law of the book shows that a row keeps it (`RowsKeep`, `books_keep`), a law of a session's
+-- turns four steps (`Keeps`, `heard_keeps`), a law of every session three facts beside
+-- (`EachKeeps`, `each_keep`), and any other law of the station five cases of a move (`Leads`,
+-- `moved_keeps`).
 use Rattle.std.proofs.Common.{◌≡◌, ℕ, Bool, true, false, List, [], ◌∷◌, ◌++◌, Option, Some, None}
 use Rattle.std.proofs.Common.{Ok, Err, drop, refl, ap, sym, subst, ◌∙◌, append-nil}
 use Rattle.std.specs.Prelude.{◌&&◌, if◌then◌else◌, is_none, length, nat_lt, option_map}
@@ -205,8 +206,8 @@ turn_at s x = record { book = s.book; session = x }
 abbrev pub with_slot : ℕ → Option Session → StationState → StationState
 with_slot k y s = record s { peers = with_peer k y s.peers }
 
--- Q holds wherever a move of key k leads: where nothing changes, where a peer comes, behind a turn of
--- a session that lasts, where octets are taken, and where a session that has ended is gone.
+-- Q holds wherever a move of key k leads: where nothing changes, where a peer comes, behind a turn
+-- of a session that lasts, where octets are taken, and where a session that has ended is gone.
 pub record Leads (Q : StationState → Type 0) (k : ℕ) (s : StationState) : Type 0 where
   pub stays : Q s
   pub comes : peer_at s.peers k ≡ None → Q (with_arrival k s)

@@ -48,7 +48,7 @@ row_signed b actor event u =
     ∙ signed_row u (site_of_book b) (next_row b actor event) refl
 
 -- the sign-off of another till changes nothing of this one
-still_on : (b : Book) (v u : ℕ) → (v == u) ≡ false
+pub still_on : (b : Book) (v u : ℕ) → (v == u) ≡ false
     → is_signed_on (site_of_book (without_till (Some v) b)) u ≡ is_signed_on (site_of_book b) u
 still_on b v u other = by_test (is_signed_on (site_of_book b) v)
   where

@@ -1,7 +1,8 @@
 use Rattle.std.proofs.Common.{subst, sym}
 use Rattle.station.specs.Moves.{StationState}
+use Rattle.station.specs.Runs.{Finishes}
 use Rattle.journal.proofs.Made.{Adds, stored_with}
-use Rattle.journal.proofs.Moves.{adds_end}
+use Rattle.journal.proofs.Moves.{move_adds}
 use Rattle.journal.proofs.stored_station.StoredStation.finish.Goals as goal
 
 pub invariant_of-self : goal.invariant_of-self
@@ -10,4 +11,4 @@ invariant_of-self g c =
     stored_with (record { station = station; journal = c.self.inside.journal }) c.finish.new.self
     c.self.invariant
     (subst (λ (t : StationState). Adds station.book t.book) (sym c.finish.ensures)
-    (adds_end c.args.key station))
+    (move_adds (Finishes c.args.key) station))

@@ -1,7 +1,8 @@
 use Rattle.std.proofs.Common.{subst, sym}
 use Rattle.station.specs.Moves.{StationState}
+use Rattle.station.specs.Runs.{Says}
 use Rattle.journal.proofs.Made.{Adds, stored_with}
-use Rattle.journal.proofs.Moves.{adds_octets}
+use Rattle.journal.proofs.Moves.{move_adds}
 use Rattle.journal.proofs.stored_station.StoredStation.hear.Goals as goal
 
 pub invariant_of-self : goal.invariant_of-self
@@ -10,4 +11,4 @@ invariant_of-self g c =
     stored_with (record { station = station; journal = c.self.inside.journal }) c.hear.new.self
     c.self.invariant
     (subst (λ (t : StationState). Adds station.book t.book) (sym c.hear.ensures.1)
-    (adds_octets c.hear.ensures.0 c.args.key c.args.octets.now station))
+    (move_adds (Says c.hear.ensures.0 c.args.key c.args.octets.now) station))

@@ -1,7 +1,8 @@
 use Rattle.std.proofs.Common.{subst, sym}
 use Rattle.station.specs.Moves.{StationState}
+use Rattle.station.specs.Runs.{Leaves}
 use Rattle.journal.proofs.Made.{Adds, stored_with}
-use Rattle.journal.proofs.Moves.{adds_left}
+use Rattle.journal.proofs.Moves.{move_adds}
 use Rattle.journal.proofs.stored_station.StoredStation.leave.Goals as goal
 
 pub invariant_of-self : goal.invariant_of-self
@@ -10,4 +11,4 @@ invariant_of-self g c =
     stored_with (record { station = station; journal = c.self.inside.journal }) c.leave.new.self
     c.self.invariant
     (subst (λ (t : StationState). Adds station.book t.book) (sym c.leave.ensures)
-    (adds_left c.args.key station))
+    (move_adds (Leaves c.args.key) station))
