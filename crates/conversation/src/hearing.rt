@@ -13,9 +13,9 @@ use device_map::request_in;
 use peer_talk::{Meaning, Talk};
 use site_base::{Actor, Event};
 
-/// Hears a message of a talk, which serves the originator of its first one. A request is asked once,
-/// and noted; nothing is asked for a message of another originator, nor for one that means no
-/// event.
+/// Hears a message of a talk, which serves the originator of its first one. A request is asked
+/// once, and noted; nothing is asked for a message of another originator, nor for one that means
+/// no event.
 pub fn hear<A: Asks>(talk: &mut Talk, asks: &mut A, message: &Message) -> Said
     ensures means { meaning_of result ≡ meaning_at talk.old.peer message.now }
     ensures talk { talk.new ≡ talk_after message.now.from result talk.old }

@@ -2,7 +2,8 @@
 
 ghost use Rattle.std.specs.Prelude.{◌≡◌, ◌++◌, OnOk};
 ghost use Rattle.forecourt_engines.specs.Answers.{after_message, after_messages, answers_to};
-ghost use Rattle.forecourt_engines.specs.Answers.{change_line, change_said, lacks_memory, lines_for};
+ghost use Rattle.forecourt_engines.specs.Answers.{change_line, change_said, lacks_memory};
+ghost use Rattle.forecourt_engines.specs.Answers.{lines_for};
 
 use app_message::{Message, SpelledMessage};
 use conversation::{Said, hear_anyone};

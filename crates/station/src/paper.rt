@@ -19,8 +19,8 @@ use site_base::{Actor, Answer, Event, FpNo, NoMemory, PointState, PointView, Row
 use site_book::SiteBook;
 use std::alloc::Global;
 
-/// What writes replies, and two buffers that stay: for the octets that a peer is to be told, and for
-/// a notice.
+/// What writes replies, and two buffers that stay: for the octets that a peer is to be told, and
+/// for a notice.
 #[derive(Drop)]
 pub struct Paper {
     alloc: Global,

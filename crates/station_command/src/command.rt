@@ -194,7 +194,10 @@ fn listen<R: Net + Clock + RandomSource + AllocGlobal>(
 ) -> Result<StationServer, ServerFault> {
     let mut server = StationServer::bind(rt, rt, rt.alloc(), plan.port)?;
     if let Some(port) = plan.page {
-        server.bind_page(rt, rt, port)?;
+        if let Err(fault) = server.bind_page(rt, rt, port) {
+            server.close();
+            return Err(fault);
+        }
     }
     Ok(server)
 }

@@ -19,8 +19,8 @@ use Rattle.peer_talk.specs.Exchanges.{signed_on_after}
 use Rattle.peer_talk.specs.Talks.{GoesOn, IsCut, IsOver, IsOwn, TalkState}
 use Rattle.peer_talk.specs.Text.{meaning_at, peer_after}
 use Rattle.peer_talk.proofs.Speakers.{another_meant, fault_meant, own_met, request_meant, spoken_by}
-use Rattle.peer_talk.proofs.Courses.{another_over, answered_on, cut_longer, cut_then, on_cut, on_none}
-use Rattle.peer_talk.proofs.Courses.{on_then, over_cut, over_longer, over_then, refused_on}
+use Rattle.peer_talk.proofs.Courses.{another_over, answered_on, cut_longer, cut_then, on_cut}
+use Rattle.peer_talk.proofs.Courses.{on_none, on_then, over_cut, over_longer, over_then, refused_on}
 use Rattle.conversation.specs.declared.said.Said.{Said}
 use Rattle.conversation.specs.declared.said.Said.TheVariants as says
 use Rattle.conversation.specs.Saying.{IsAskedFor, meaning_of, said_message, talk_after}

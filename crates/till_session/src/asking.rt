@@ -17,7 +17,10 @@ impl<'a, C: Counter> Asks for AtCounter<'a, C> {
 
     ghost Seen = { Counts × ℕ };
 
-    ghost seen = { λ a. (counts (C.rows a.counter.now) (C.owes a.counter.now), a.counter.ghost_name) };
+    ghost seen = { λ a. (
+      counts (C.rows a.counter.now) (C.owes a.counter.now),
+      a.counter.ghost_name,
+    ) };
 
     ghost asked = { Lent IsAskedAt };
 

@@ -4,7 +4,8 @@ use Rattle.hex_lines.specs.Lines.{line_of}
 use Rattle.site_book.specs.Book.{Book}
 use Rattle.forecourt_engines.specs.Answers.{Answerer, after_message, change_line, change_said}
 use Rattle.forecourt_engines.specs.Answers.{lines_for}
-use Rattle.forecourt_engines.proofs.Answering.{lines_told, lines_with_change, said_answer, then_on_ok}
+use Rattle.forecourt_engines.proofs.Answering.{lines_told, lines_with_change, said_answer}
+use Rattle.forecourt_engines.proofs.Answering.{then_on_ok}
 use Rattle.forecourt_engines.proofs.answers.Answerer.answer.Goals as goal
 
 pub returns-then-self-clause-text : goal.returns-then-self-clause-text
