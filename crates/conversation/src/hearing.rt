@@ -33,7 +33,7 @@ pub fn hear<A: Asks>(talk: &mut Talk, asks: &mut A, message: &Message) -> Said
     }
 }
 
-/// Hears a message of anyone, whom no talk serves: of a replay, and of a journal.
+/// Hears a message of anyone, whom no talk serves: of a replay.
 #[inline(always)]
 pub fn hear_anyone<A: Asks>(asks: &mut A, message: &SpelledMessage<'_>) -> Said
     ensures means { meaning_of result ≡ as_meaning (request_at message.now) }
