@@ -142,7 +142,10 @@ fn serve_until_end<R: StationHost, T: Threads + Wait + Sync, I: Read + Send + Dr
             options.json,
         );
     }
-    let waker = server.waker().map_err(tell_fault)?;
+    let waker = match server.waker() {
+        Ok(waker) => waker,
+        Err(fault) => return Err(tell_fault(fault)),
+    };
     let watch = InputWatch::start(threads, rt.alloc(), waker, input)?;
     let end = serve_day(
         rt,

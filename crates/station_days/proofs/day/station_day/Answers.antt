@@ -29,8 +29,8 @@ returns-in-Ok-clause-front g c =
     c.in_ok-put_stored_report.ensures.front
 
 -- the server ended before the day did
-pub returns-clause-front : goal.returns-clause-front
-returns-clause-front g c =
+pub returns-in-Err-clause-front : goal.returns-in-Err-clause-front
+returns-in-Err-clause-front g c =
     tells_station_front _ _ _ _ _ _ _ _ _ _ _ _ c.port.ensures c.page_port.ensures
     c.requires.alone c.serve-served.ensures.moves refl c.in_ok-put_places.ensures.written
     c.in_ok-put_stored_report.ensures.front
