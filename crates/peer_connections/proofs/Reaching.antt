@@ -1,6 +1,5 @@
 -- Moves of a station, one after another.
 use Rattle.std.proofs.Common.{◌≡◌, ℕ, List, [], ◌∷◌, ◌++◌, Option, Some, None, refl, sym, ap, ◌∙◌}
-use Rattle.std.proofs.Common.{subst}
 use Rattle.station.specs.Moves.{StationState, with_end, with_octets, with_taken}
 use Rattle.station.specs.Moves.{without_peer}
 use Rattle.station.specs.Reads.{Arrives as GetsKey}

@@ -15,7 +15,6 @@ use Rattle.journal.specs.Opening.{HasNobodyOn}
 use Rattle.peer_connections.specs.Reaches.{Reaches}
 use Rattle.day_base.specs.declared.plan.ReportForm.{ReportForm}
 use Rattle.station_days.specs.StationDays.{TellsDay, TellsFront, day_book, day_station}
-use Rattle.station_days.specs.StationDays.{station_text}
 use Rattle.day_base.specs.Texts.{places_text, report_in}
 
 -- what a station comes to that was opened at this book
