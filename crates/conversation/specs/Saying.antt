@@ -1,4 +1,4 @@
--- What is said to a message, what is asked for it, and the talk behind it.
+-- What is said to a message, what is asked for it, and the talk after it.
 use Rattle.std.specs.Prelude.{◌≡◌, ℕ, List}
 use Rattle.site_base.specs.declared.actor.Actor.{Actor}
 use Rattle.site_base.specs.declared.event.Event.{Event}

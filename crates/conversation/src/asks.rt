@@ -3,7 +3,7 @@
 use site_base::{Actor, Answer, Event, NoRow, Reply, Row};
 use site_book::SiteBook;
 
-/// Who answers requests: a book, a desk, a book whose rows are told to others.
+/// What answers requests: a book, a desk, or a station's book, which notifies other peers.
 pub trait Asks {
     ghost use Rattle.site_base.specs.declared.actor.Actor.{Actor};
     ghost use Rattle.site_base.specs.declared.event.Event.{Event};

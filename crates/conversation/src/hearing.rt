@@ -19,7 +19,10 @@ use site_base::{Actor, Event};
 pub fn hear<A: Asks>(talk: &mut Talk, asks: &mut A, message: &Message) -> Said
     ensures means { meaning_of result ≡ meaning_at talk.old.peer message.now }
     ensures talk { talk.new ≡ talk_after message.now.from result talk.old }
+
+    // The type's invariant, for callers' proofs.
     ensures own { IsOwn talk.old.on talk.old.peer }
+
     ensures asked { IsAskedFor A.asked (A.seen asks.old) result (A.seen asks.new) }
 {
     match talk.take_meaning(message) {

@@ -1,4 +1,4 @@
-//! What is said to a message.
+//! The answers to a message, and how each is written.
 
 ghost use Rattle.std.specs.Prelude.{◌≡◌, IfOk};
 ghost use Rattle.conversation.specs.Saying.{said_message};
@@ -11,12 +11,12 @@ use site_base::{Actor, Event, NoMemory, NoRow, Reply};
 /// What is said to a message.
 #[derive(Clone, Copy, Debug, PartialEq, Eq)]
 pub enum Said {
-    /// Another originator than the first message's is told that it is another. The conversation
-    /// ends with that.
+    /// The message came from another originator than the first. It is answered with 57, and the
+    /// conversation ends.
     Another,
-    /// A message that means no event is told its fault.
+    /// The message means no event. It is answered with its fault's number.
     Fault(MapFault),
-    /// The actor that asked for the event is told the outcome.
+    /// The actor asked for the event. It is answered with the reply, or why there is no row.
     Outcome(Actor, Event, Result<Reply, NoRow>),
 }
 
@@ -33,7 +33,8 @@ impl Said {
         match self {
             Said::Another => writer.write_number(request, ORIGINATOR_CHANGED),
             Said::Fault(fault) => writer.write_number(request, fault.number()),
-            Said::Outcome(_, _, outcome) => writer.write_outcome(request, outcome),
+            Said::Outcome(_, _, Ok(reply)) => writer.write_reply(request, reply),
+            Said::Outcome(_, _, Err(no_row)) => writer.write_number(request, no_row.number()),
         }
     }
 }

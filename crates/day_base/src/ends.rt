@@ -7,7 +7,7 @@ ghost use Rattle.day_base.specs.Ends.{day_status};
 use crate::fault::DayFault;
 use std::process::ExitCode;
 
-/// Prints why the day ended without its report, if it did.
+/// Prints the fault that a day ended with, if there is one.
 pub fn exit_day<E: Drop>(rt: &impl Eprint, end: Result<E, DayFault>) -> ExitCode
     ensures done { OnOk end (exit_status result ≡ 0) }
     ensures fault { IfErr end (λ fault. exit_status result ≡ day_status fault) }

@@ -1,4 +1,4 @@
-//! Why a day ends without its report.
+//! Why a day ends with a fault.
 
 ghost use Rattle.std.specs.Prelude.{◌≡◌};
 ghost use Rattle.day_base.specs.Ends.{day_status};
@@ -9,7 +9,7 @@ use site_base::NoMemory;
 use std::sync::ledger::Ledger;
 use thiserror::Error;
 
-/// Why a day, of a server or of a demo, ends without its report. A session's fault ends that
+/// Why a day of a server, of a demo or of a station ends with a fault. A session's fault ends that
 /// session alone, and so does a worker's its own work.
 #[derive(Clone, Copy, Debug, PartialEq, Eq, Error)]
 pub enum DayFault {
@@ -19,7 +19,7 @@ pub enum DayFault {
     /// It can't listen, or a connection couldn't be made.
     #[error("fault 63")]
     NoConnection,
-    /// A worker of a demo couldn't be started.
+    /// A worker, or the thread that waits for a station's input, couldn't be started.
     #[error("fault 64")]
     NoWorker,
     /// A write of what the day tells, or of its journal, failed, or was interrupted too often.

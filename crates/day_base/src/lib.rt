@@ -3,7 +3,7 @@
 //! `ServerPlan::read` and `StationPlan::read` read what the command line asks of them:
 //! `specs/Plans.antt`. `put_listening` and `put_places` write where a day listens, `put_report` the
 //! report of a day that is settled, `put_book_report` that of a book: `specs/Texts.antt`.
-//! `DayFault` says why a day ends without its report, and `exit_day` ends the program with it:
+//! `DayFault` says why a day ends with a fault, and `exit_day` ends the program with it:
 //! `specs/Ends.antt`.
 #![tactic(auto)]
 

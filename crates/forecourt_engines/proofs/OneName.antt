@@ -31,7 +31,8 @@ abbrev first_named : ℕ → List EventName → Option EventName
 first_named n [] = None
 first_named n (name ∷ rest) = if n == number (name_word name) then Some name else first_named n rest
 
--- each name is the first that its word is, by computing: a catch-all is one copy for each name
+-- each name is the first of the list with its word; naming one variant has the prover compute the
+-- others apart
 found : (name : EventName) → first_named (number (name_word name)) all_names ≡ Some name
 found (names.Alone lone.SignOn) = refl
 found (names.Alone name) = refl

@@ -76,7 +76,7 @@ after_messages a (m ∷ ms) = after_messages (after_message a m) ms
 
 -- ---- from what is said to a message
 
--- a request had no row for want of memory
+-- a request has no row because memory ran out
 abbrev pub lacks_memory : Said → Bool
 lacks_memory (says.Outcome actor event (Err NoMemory)) = true
 lacks_memory said = false

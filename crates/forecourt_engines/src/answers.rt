@@ -91,7 +91,7 @@ impl Answerer {
     }
 }
 
-/// Had a request no row for want of memory?
+/// Is there no row because memory ran out?
 #[inline(always)]
 fn lacks_memory(said: &Said) -> bool
     ensures { result ≡ lacks_memory said.now }

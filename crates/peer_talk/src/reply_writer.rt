@@ -2,11 +2,10 @@
 
 ghost use Rattle.std.specs.Prelude.{◌≡◌, IfOk};
 ghost use Rattle.device_map.specs.Replies.{fault_message, number_message, reply_message};
-ghost use Rattle.peer_talk.specs.Text.{outcome_message};
 
 use app_message::{Message, SpelledMessage, StreamFault};
 use device_map::{refusal_in, reply_in, stream_refusal};
-use site_base::{NoMemory, NoRow, Reply};
+use site_base::{NoMemory, Reply};
 use std::alloc::Global;
 use std::mem;
 
@@ -23,20 +22,6 @@ impl ReplyWriter {
         ReplyWriter {
             alloc,
             buffer: Vec::new(alloc),
-        }
-    }
-
-    /// The message that tells what a request was answered: its reply, or why there is no row.
-    pub fn write_outcome(
-        &mut self,
-        request: &SpelledMessage<'_>,
-        outcome: &Result<Reply, NoRow>,
-    ) -> Result<Message, NoMemory>
-        ensures { IfOk result (λ message. message ≡ outcome_message request.now outcome.now) }
-    {
-        match outcome {
-            Ok(reply) => self.write_reply(request, reply),
-            Err(no_row) => self.write_number(request, no_row.number()),
         }
     }
 

@@ -85,6 +85,8 @@ impl Talk {
         ensures peer { self.new
             ≡ record self.old { peer = peer_after self.old.peer message.now.from } }
         ensures spoken { IsRequestOf self.new.peer result }
+
+        // The type's invariant, for callers' proofs.
         ensures own { IsOwn self.old.on self.old.peer }
     {
         if self.is_another(message.from()) {
@@ -100,6 +102,8 @@ impl Talk {
     /// Does it come from another originator than the one that the session serves?
     fn is_another(&self, from: [u8; 2]) -> bool
         ensures another { result ≡ is_another self.now.peer from }
+
+        // The type's invariant, for callers' proofs.
         ensures own { IsOwn self.now.on self.now.peer }
     {
         match self.peer {

@@ -39,9 +39,8 @@ use Rattle.station.specs.Runs.{Arrives, Finishes, Leaves, Move, Says, Takes, aft
 use Rattle.station.specs.Runs.{arrive}
 use Rattle.station.specs.Sessions.{Granted, Grants, Session, Turn, answer, answer_all}
 use Rattle.station.specs.Sessions.{answer_meaning, ask, end_by, end_session, finish, full_grant}
-use Rattle.conversation.specs.Books.{outcome_at}
+use Rattle.conversation.specs.Books.{outcome_at, with_outcome}
 use Rattle.station.specs.Sessions.{hear, is_read, no_memory, opening_session}
-use Rattle.conversation.specs.Books.{with_outcome}
 use Rattle.station.specs.Sessions.{refuse_by, serve, take_messages, tell, tell_last}
 use Rattle.station.specs.Sessions.{with_text, without_till}
 use Rattle.station.proofs.Notices.{nobody_noticed}

@@ -38,7 +38,7 @@ IsAskedAmong old actor event outcome new =
     IsAskedOf old.book actor event outcome new.book
     × (new.others ≡ with_notices (row_made actor event outcome) old.others)
 
--- behind what was said to a message the session goes on; where another originator spoke, it ends
+-- after what was said to a message the session goes on; if another originator spoke, it ends
 abbrev pub end_behind : Said → Turn → Turn
 end_behind says.Another t = end_session (ends.Talk talk.OriginatorChanged) t
 end_behind said t = t

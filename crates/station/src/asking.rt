@@ -15,15 +15,15 @@ use conversation::Asks;
 use site_base::{Actor, Event, FpNo, NoRow, Reply};
 use site_book::SiteBook;
 
-/// The book, as the messages of one peer ask it: the other peers are told of its rows.
+/// The book as one peer's messages ask it: the other peers are notified of its rows.
 #[derive(Drop)]
-pub(crate) struct Listened<'a> {
+pub(crate) struct AtStation<'a> {
     pub(crate) book: &'a mut SiteBook,
     pub(crate) others: &'a mut [Option<Peer>],
     pub(crate) paper: &'a mut Paper,
 }
 
-impl<'a> Asks for Listened<'a> {
+impl<'a> Asks for AtStation<'a> {
     ghost use Rattle.std.specs.Prelude.{ℕ};
     ghost use Rattle.conversation.specs.Lending.{Lent};
     ghost use Rattle.station.specs.Hearing.{Among, IsAskedAmong, among};

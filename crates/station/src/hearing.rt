@@ -10,12 +10,12 @@ ghost use Rattle.station.specs.Hearing.{end_behind, finish_if, turn_of};
 ghost use Rattle.station.specs.PeerViews.{session_of, sessions_of};
 ghost use Rattle.station.specs.Sessions.{end_session, finish, opening_text, refuse_by};
 
-use crate::asking::Listened;
+use crate::asking::AtStation;
 use crate::paper::Paper;
 use crate::peer::Peer;
 use crate::peer_end::PeerEnd;
 use app_message::{Message, Messages, StreamFault};
-use conversation::{Said, hear as hear_message};
+use conversation::Said;
 use peer_talk::TalkFault;
 use site_base::NoMemory;
 use site_book::SiteBook;
@@ -77,7 +77,7 @@ fn answer(
         (sessions_of others.old) (sessions_of others.new) }
 {
     let before = peer.talk.peer();
-    let said = &ask(peer, book, others, paper, message);
+    let said = &hear_message(peer, book, others, paper, message);
     match tell(peer, book, paper, message, said, before) {
         Err(_) => end_session(peer, book, PeerEnd::NoMemory),
         Ok(()) => end_another(peer, book, said),
@@ -86,7 +86,7 @@ fn answer(
 
 /// Hears a message: the book is asked for a request, and the others that listen are told of its
 /// row.
-fn ask(
+fn hear_message(
     peer: &mut Peer,
     book: &mut SiteBook,
     others: &mut [Option<Peer>],
@@ -100,15 +100,16 @@ fn ask(
     ensures asked { IsAskedFor IsAskedAmong (among book.old (sessions_of others.old)) result
         (among book.new (sessions_of others.new)) }
 {
-    let mut asked = Listened {
+    let mut asks = AtStation {
         book: &mut *book,
         others: &mut *others,
         paper: &mut *paper,
     };
-    hear_message(&mut peer.talk, &mut asked, message)
+    conversation::hear(&mut peer.talk, &mut asks, message)
 }
 
-/// Tells what is said to a message, and behind the first one's the standing notices.
+/// Puts what is said to a message into the peer's outbox, and after the first one the standing
+/// notices.
 fn tell(
     peer: &mut Peer,
     book: &SiteBook,

@@ -1,4 +1,4 @@
-//! Why a station's day ends without its report.
+//! A server's fault, as the day's.
 
 ghost use Rattle.std.specs.Prelude.{◌≡◌};
 ghost use Rattle.station_days.specs.StationDays.{ended_by};

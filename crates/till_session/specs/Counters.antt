@@ -1,4 +1,4 @@
--- Counters: which tills one owes a sign-off.
+-- Counters: what is seen of one, what a request does to it, and which tills it owes a sign-off.
 use Rattle.std.specs.Prelude.{◌≡◌, ℕ, ◌⊎◌, Bool, true, false, List, [], ◌∷◌, ◌++◌, ◌==◌, Option}
 use Rattle.std.specs.Prelude.{Some, None, if◌then◌else◌}
 use Rattle.site_base.specs.declared.actor.Actor.{Actor}

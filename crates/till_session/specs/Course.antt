@@ -49,7 +49,7 @@ abbrev pub asked_more : ℕ → List Asked → ℕ
 asked_more n [] = n
 asked_more n (a ∷ asked) = asked_more (one_more n) asked
 
--- how a session goes on behind what was said to a message, which was written
+-- how a session goes on after what was said to a message, which was written
 abbrev pub end_with : Said → Option SessionFault
 end_with says.Another = Some (faults.Talk OriginatorChanged)
 end_with said = None

@@ -1,4 +1,4 @@
-//! A counter, as a conversation asks it.
+//! How a conversation asks a counter.
 
 use crate::counter::Counter;
 use conversation::Asks;

@@ -133,7 +133,7 @@ impl Teller {
             → Rose (failures_of writer.old) (failures_of writer.new) }
         ensures turns { turns.new ≤ turns.old }
     {
-        let said = &self.ask(counter, message);
+        let said = &self.hear_message(counter, message);
         let reply = said.write(&mut self.writer, &message.as_spelled())?;
         self.tell(writer, reply, turns)?;
         match said {
@@ -147,7 +147,7 @@ impl Teller {
     }
 
     /// Hears a message: the counter is asked for a request.
-    fn ask<C: Counter>(&mut self, counter: &mut C, message: &Message) -> Said
+    fn hear_message<C: Counter>(&mut self, counter: &mut C, message: &Message) -> Said
         ensures means { meaning_of result ≡ meaning_at self.old.peer message.now }
         ensures talk { self.new ≡ talk_after message.now.from result self.old }
         ensures own { IsOwn self.old.on self.old.peer }
@@ -155,10 +155,10 @@ impl Teller {
             (counts (C.rows counter.old) (C.owes counter.old)) result
             (counts (C.rows counter.new) (C.owes counter.new)) }
     {
-        let mut asked = AtCounter {
+        let mut asks = AtCounter {
             counter: &mut *counter,
         };
-        hear(&mut self.talk, &mut asked, message)
+        hear(&mut self.talk, &mut asks, message)
     }
 
     /// Writes the whole message.
