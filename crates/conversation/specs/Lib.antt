@@ -1,3 +1,4 @@
+pub mod Asking
 pub mod Books
 pub mod Lending
 pub mod Saying

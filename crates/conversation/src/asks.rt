@@ -1,6 +1,7 @@
 //! What a conversation asks.
 
-use site_base::{Actor, Answer, Event, NoRow, Reply, Row};
+use device_map::MapFault;
+use site_base::{NoRow, Row};
 use site_book::SiteBook;
 
 /// What answers requests: a book, a desk, or a station's book, which notifies other peers.
@@ -8,6 +9,7 @@ pub trait Asks {
     ghost use Rattle.site_base.specs.declared.actor.Actor.{Actor};
     ghost use Rattle.site_base.specs.declared.event.Event.{Event};
     ghost use Rattle.peer_talk.specs.Exchanges.{Outcome};
+    ghost use Rattle.conversation.specs.Asking.{outcome_of};
 
     // What is seen of it; of one that borrows, what it borrows and the borrow's name.
     ghost Seen: { Type 0 };
@@ -17,9 +19,21 @@ pub trait Asks {
     // The request of an actor, asked so, had this outcome, and led from one state to the other.
     ghost asked: { Seen → Actor → Event → Outcome → Seen → Type 0 };
 
-    /// One event of one actor: the site's reply, with a row, or why there is no row.
-    fn ask(&mut self, actor: Actor, event: Event) -> Result<Reply, NoRow>
-        ensures { asked (seen self.old) actor event result (seen self.new) };
+    /// Asks for the event of a row by its actor, and fills in the site's reply; or says why there
+    /// is no row.
+    fn ask(&mut self, row: &mut Row) -> Result<(), NoRow>
+        ensures asked { asked (seen self.old) row.old.actor row.old.event (outcome_of row.new result)
+            (seen self.new) }
+        ensures request { row.new ≡ record row.old { reply = row.new.reply } };
+}
+
+/// Why a message of anyone has no row.
+#[derive(Clone, Copy, Debug, PartialEq, Eq)]
+pub enum NoReply {
+    /// It means no event.
+    Fault(MapFault),
+    /// Its request made none.
+    NoRow(NoRow),
 }
 
 impl Asks for SiteBook {
@@ -33,15 +47,7 @@ impl Asks for SiteBook {
     ghost asked = { IsAskedOf };
 
     #[inline(always)]
-    fn ask(&mut self, actor: Actor, event: Event) -> Result<Reply, NoRow> {
-        let mut row = Row {
-            actor,
-            event,
-            reply: Ok(Answer::Done),
-        };
-        match self.answer(&mut row) {
-            Ok(()) => Ok(row.reply),
-            Err(no_row) => Err(no_row),
-        }
+    fn ask(&mut self, row: &mut Row) -> Result<(), NoRow> {
+        self.answer(row)
     }
 }

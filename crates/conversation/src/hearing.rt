@@ -1,17 +1,17 @@
 //! A message is heard: what it means is asked.
 
 ghost use Rattle.std.specs.Prelude.{◌≡◌};
+ghost use Rattle.conversation.specs.Asking.{IsHeard};
 ghost use Rattle.conversation.specs.Saying.{IsAskedFor, meaning_of, talk_after};
-ghost use Rattle.device_map.specs.Requests.{request_at};
 ghost use Rattle.peer_talk.specs.Talks.{IsOwn};
-ghost use Rattle.peer_talk.specs.Text.{as_meaning, meaning_at};
+ghost use Rattle.peer_talk.specs.Text.{meaning_at};
 
-use crate::asks::Asks;
+use crate::asks::{Asks, NoReply};
 use crate::said::Said;
 use app_message::{Message, SpelledMessage};
 use device_map::request_in;
 use peer_talk::{Meaning, Talk};
-use site_base::{Actor, Event};
+use site_base::{Actor, Answer, Event, NoRow, Reply, Row};
 
 /// Hears a message of a talk, which serves the originator of its first one. A request is asked
 /// once, and noted; nothing is asked for a message of another originator, nor for one that means
@@ -29,31 +29,50 @@ pub fn hear<A: Asks>(talk: &mut Talk, asks: &mut A, message: &Message) -> Said
         Meaning::Another => Said::Another,
         Meaning::Fault(fault) => Said::Fault(fault),
         Meaning::Request(actor, event) => {
-            let outcome = asks.ask(actor, event);
+            let outcome = ask(asks, actor, event);
             talk.note(&actor, &event, &outcome);
             Said::Outcome(actor, event, outcome)
         }
     }
 }
 
-/// Hears a message of anyone, whom no talk serves: of a replay.
+/// Hears a message of anyone, whom no talk serves: of a replay. Its request is asked once, and has
+/// this row.
 #[inline(always)]
-pub fn hear_anyone<A: Asks>(asks: &mut A, message: &SpelledMessage<'_>) -> Said
-    ensures means { meaning_of result ≡ as_meaning (request_at message.now) }
-    ensures asked { IsAskedFor A.asked (A.seen asks.old) result (A.seen asks.new) }
+pub fn hear_anyone<A: Asks>(asks: &mut A, message: &SpelledMessage<'_>) -> Result<Row, NoReply>
+    ensures { IsHeard A.asked (A.seen asks.old) message.now result (A.seen asks.new) }
 {
-    match request_in(message) {
-        Err(fault) => Said::Fault(fault),
-        Ok((actor, event)) => ask(asks, &actor, &event),
+    let (actor, event) = match request_in(message) {
+        Err(fault) => return Err(NoReply::Fault(fault)),
+        Ok(request) => request,
+    };
+    let mut row = asking(actor, event);
+    match asks.ask(&mut row) {
+        Ok(()) => Ok(row),
+        Err(no_row) => Err(NoReply::NoRow(no_row)),
     }
 }
 
-/// Asks for an event of an actor.
+/// Asks for an event of an actor: the site's reply, with a row, or why there is no row.
 #[inline(always)]
-fn ask<A: Asks>(asks: &mut A, actor: &Actor, event: &Event) -> Said
-    ensures request { meaning_of result ≡ Meaning.Request actor.now event.now }
-    ensures asked { IsAskedFor A.asked (A.seen asks.old) result (A.seen asks.new) }
+pub fn ask<A: Asks>(asks: &mut A, actor: Actor, event: Event) -> Result<Reply, NoRow>
+    ensures { A.asked (A.seen asks.old) actor event result (A.seen asks.new) }
 {
-    let outcome = asks.ask(*actor, *event);
-    Said::Outcome(*actor, *event, outcome)
+    let mut row = asking(actor, event);
+    match asks.ask(&mut row) {
+        Ok(()) => Ok(row.reply),
+        Err(no_row) => Err(no_row),
+    }
+}
+
+/// The row of a request that is still to be asked.
+#[inline(always)]
+fn asking(actor: Actor, event: Event) -> Row
+    ensures { result ≡ record { actor = actor; event = event; reply = Ok Answer.Done } }
+{
+    Row {
+        actor,
+        event,
+        reply: Ok(Answer::Done),
+    }
 }

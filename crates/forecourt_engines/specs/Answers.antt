@@ -3,7 +3,7 @@ use Rattle.std.specs.Prelude.{ℕ, Bool, true, false, List, [], ◌∷◌, ◌++
 use Rattle.std.specs.Prelude.{Result, Ok, Err, if◌then◌else◌}
 use Rattle.site_base.specs.declared.actor.Actor.{Actor}
 use Rattle.site_base.specs.declared.event.Event.{Event}
-use Rattle.site_base.specs.declared.refusal.NoRow.TheVariants.{BookFull, NoMemory}
+use Rattle.site_base.specs.declared.refusal.NoRow.TheVariants.{BookFull}
 use Rattle.site_base.specs.Refusals.{no_row_number}
 use Rattle.app_message.specs.Telegram.{Telegram}
 use Rattle.hex_lines.specs.Lines.{line_of}
@@ -13,8 +13,6 @@ use Rattle.device_map.specs.Faults.{map_number}
 use Rattle.device_map.specs.Requests.{request_at}
 use Rattle.device_map.specs.Replies.{reply_message, number_message}
 use Rattle.site_book.specs.Book.{Book, is_full, book_reply, next_row, with_row_of}
-use Rattle.conversation.specs.declared.said.Said.{Said}
-use Rattle.conversation.specs.declared.said.Said.TheVariants as says
 
 -- the answer to a request that means this: the mapping's fault, a full book, or the reply
 abbrev pub answer_meaning : Book → Telegram → Result (Actor × Event) MapFault → Telegram
@@ -73,16 +71,3 @@ answers_to a (m ∷ ms) = lines_for a m ++ answers_to (after_message a m) ms
 abbrev pub after_messages : Answerer → List Telegram → Answerer
 after_messages a [] = a
 after_messages a (m ∷ ms) = after_messages (after_message a m) ms
-
--- ---- from what is said to a message
-
--- a request has no row because memory ran out
-abbrev pub lacks_memory : Said → Bool
-lacks_memory (says.Outcome actor event (Err NoMemory)) = true
-lacks_memory said = false
-
--- the change of the row that a request made, if it made one
-abbrev pub change_said : Said → Option Telegram
-change_said (says.Outcome actor event (Ok reply)) =
-    change_of (record { actor = actor; event = event; reply = reply })
-change_said said = None

@@ -1,12 +1,14 @@
 //! Messages answered over a book.
 
 ghost use Rattle.std.specs.Prelude.{◌≡◌, ◌++◌, OnOk};
+ghost use Rattle.hex_lines.specs.Lines.{line_of};
+ghost use Rattle.device_map.specs.Changes.{change_of};
+ghost use Rattle.device_map.specs.Replies.{number_message};
 ghost use Rattle.forecourt_engines.specs.Answers.{after_message, after_messages, answers_to};
-ghost use Rattle.forecourt_engines.specs.Answers.{change_line, change_said, lacks_memory};
-ghost use Rattle.forecourt_engines.specs.Answers.{lines_for};
+ghost use Rattle.forecourt_engines.specs.Answers.{change_line, lines_for};
 
 use app_message::{Message, SpelledMessage};
-use conversation::{Said, hear_anyone};
+use conversation::{NoReply, hear_anyone};
 use device_map::change_of;
 use hex_lines::put_line;
 use peer_talk::ReplyWriter;
@@ -77,44 +79,54 @@ impl Answerer {
             ++ lines_for self.old message.now) }
         ensures state { OnOk result (self.new ≡ after_message self.old message.now) }
     {
-        let said = &hear_anyone(&mut self.book, message);
-        if lacks_memory(said) {
-            return Err(NoMemory);
+        let row = match hear_anyone(&mut self.book, message) {
+            Ok(row) => row,
+            Err(NoReply::Fault(fault)) => return self.tell_number(message, fault.number(), out),
+            Err(NoReply::NoRow(NoRow::NoMemory)) => return Err(NoMemory),
+            Err(NoReply::NoRow(NoRow::BookFull)) => {
+                return self.tell_number(message, NoRow::BookFull.number(), out);
+            }
+        };
+        let answer = self.writer.write_reply(message, &row.reply)?;
+        self.tell(answer, out)?;
+        if self.changes {
+            return put_change(self.alloc, &row, out);
         }
-        let answer = said.write(&mut self.writer, message)?;
+        Ok(())
+    }
+
+    /// Appends the message that tells a number in place of a reply as a line.
+    fn tell_number(
+        &mut self,
+        message: &SpelledMessage<'_>,
+        number: u8,
+        out: &mut Vec<u8>,
+    ) -> Result<(), NoMemory>
+        ensures same { self.new ≡ self.old }
+        ensures text { OnOk result (out.new.items ≡ out.old.items
+            ++ line_of (number_message message.now number)) }
+    {
+        let answer = self.writer.write_number(message, number)?;
+        self.tell(answer, out)
+    }
+
+    /// Appends an answer as a line, and gives its buffer back.
+    #[inline(always)]
+    fn tell(&mut self, answer: Message, out: &mut Vec<u8>) -> Result<(), NoMemory>
+        ensures same { self.new ≡ self.old }
+        ensures text { OnOk result (out.new.items ≡ out.old.items ++ line_of answer) }
+    {
         put_line(out, &answer)?;
         self.writer.give_back(answer);
-        if self.changes {
-            return put_change(self.alloc, said, out);
-        }
         Ok(())
     }
 }
 
-/// Is there no row because memory ran out?
-#[inline(always)]
-fn lacks_memory(said: &Said) -> bool
-    ensures { result ≡ lacks_memory said.now }
+/// Appends the change that a row stands for as a line, if it stands for one.
+fn put_change(alloc: Global, row: &Row, out: &mut Vec<u8>) -> Result<(), NoMemory>
+    ensures { OnOk result (out.new.items ≡ out.old.items ++ change_line (change_of row.now)) }
 {
-    match said {
-        Said::Outcome(_, _, Err(NoRow::NoMemory)) => true,
-        _ => false,
-    }
-}
-
-/// Appends the change of the row that a request made as a line, if it made one that has a change.
-fn put_change(alloc: Global, said: &Said, out: &mut Vec<u8>) -> Result<(), NoMemory>
-    ensures { OnOk result (out.new.items ≡ out.old.items ++ change_line (change_said said.now)) }
-{
-    let Said::Outcome(actor, event, Ok(reply)) = said else {
-        return Ok(());
-    };
-    let row = Row {
-        actor: *actor,
-        event: *event,
-        reply: *reply,
-    };
-    match change_of(alloc, &row)? {
+    match change_of(alloc, row)? {
         None => Ok(()),
         Some(change) => put_line(out, &change),
     }

@@ -13,7 +13,7 @@ ghost use Rattle.journal.specs.Readings.{TellsBook, TellsNothing};
 use crate::disk::DiskFault;
 use crate::header::names_a_site;
 use crate::request_line::LineReader;
-use conversation::Asks;
+use conversation::ask;
 use memchr::memchr;
 use site_base::{Actor, Event, NoMemory, NoRow, SiteConfig};
 use site_book::SiteBook;
@@ -174,7 +174,7 @@ fn make_again(book: &mut SiteBook, actor: &Actor, event: &Event) -> Result<bool,
     ensures { IfOk result (λ is.
         IsMade is (made_again book.old actor.now event.now) book.old book.new) }
 {
-    match book.ask(*actor, *event) {
+    match ask(book, *actor, *event) {
         Ok(_) => Ok(true),
         Err(NoRow::NoMemory) => Err(NoMemory),
         Err(NoRow::BookFull) => Ok(make_beyond(book, actor, event)),

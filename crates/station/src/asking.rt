@@ -11,8 +11,8 @@ ghost use Rattle.station.specs.PeerViews.{session_of, sessions_of, slot_noticed}
 
 use crate::paper::Paper;
 use crate::peer::Peer;
-use conversation::Asks;
-use site_base::{Actor, Event, FpNo, NoRow, Reply};
+use conversation::{Asks, ask};
+use site_base::{Actor, Event, FpNo, NoRow, Reply, Row};
 use site_book::SiteBook;
 
 /// The book as one peer's messages ask it: the other peers are notified of its rows.
@@ -38,14 +38,15 @@ impl<'a> Asks for AtStation<'a> {
 
     ghost asked = { Lent IsAskedAmong };
 
-    fn ask(&mut self, actor: Actor, event: Event) -> Result<Reply, NoRow> {
-        ask(self.book, self.others, self.paper, actor, event)
+    fn ask(&mut self, row: &mut Row) -> Result<(), NoRow> {
+        row.reply = ask_among(self.book, self.others, self.paper, row.actor, row.event)?;
+        Ok(())
     }
 }
 
 /// Asks the book for a request. Where its row has a change, each of these peers that listens at the
 /// point is told it. The change is written first: without memory for that there is no row.
-fn ask(
+fn ask_among(
     book: &mut SiteBook,
     others: &mut [Option<Peer>],
     paper: &mut Paper,
@@ -57,7 +58,7 @@ fn ask(
         ≡ with_notices (row_made actor event result) (sessions_of others.old) }
 {
     match event.point() {
-        None => book.ask(actor, event),
+        None => ask(book, actor, event),
         Some(p) => ask_at(book, others, paper, &actor, &event, p),
     }
 }
@@ -76,7 +77,7 @@ fn ask_at(
         ≡ with_notices (row_made actor.now event.now result) (sessions_of others.old) }
 {
     match paper.write_change(p, *event)? {
-        None => book.ask(*actor, *event),
+        None => ask(book, *actor, *event),
         Some(node) => ask_telling(book, others, &node, &paper.notice, *actor, *event),
     }
 }
@@ -96,7 +97,7 @@ fn ask_telling(
     ensures others { sessions_of others.new
         ≡ with_notices (row_made actor event result) (sessions_of others.old) }
 {
-    let outcome = book.ask(actor, event);
+    let outcome = ask(book, actor, event);
     notice_accepted(others, *node, notice, &actor, &event, &outcome);
     outcome
 }

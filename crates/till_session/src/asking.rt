@@ -2,7 +2,7 @@
 
 use crate::counter::Counter;
 use conversation::Asks;
-use site_base::{Actor, Event, NoRow, Reply};
+use site_base::{NoRow, Row};
 
 /// A counter, as a conversation asks it.
 #[derive(Drop)]
@@ -24,7 +24,8 @@ impl<'a, C: Counter> Asks for AtCounter<'a, C> {
 
     ghost asked = { Lent IsAskedAt };
 
-    fn ask(&mut self, actor: Actor, event: Event) -> Result<Reply, NoRow> {
-        self.counter.ask(actor, event)
+    fn ask(&mut self, row: &mut Row) -> Result<(), NoRow> {
+        row.reply = self.counter.ask(row.actor, row.event)?;
+        Ok(())
     }
 }

@@ -1,7 +1,7 @@
 use Rattle.std.proofs.Common.{◌∙◌, sym}
 use Rattle.station.specs.PeerViews.{sessions_of}
 use Rattle.station.proofs.Answering.{pointless, untold}
-use Rattle.station.proofs.asking.ask.Goals as goal
+use Rattle.station.proofs.asking.ask_among.Goals as goal
 
 pub returns-in-None-clause-others : goal.returns-in-None-clause-others
 returns-in-None-clause-others c =
