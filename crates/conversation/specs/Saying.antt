@@ -34,13 +34,13 @@ IsAskedFor R old (says.Outcome actor event outcome) new = R old actor event outc
 IsAskedFor R old said new = new ≡ old
 
 -- a talk where this was said: a request is counted, and may sign its till on or off
-abbrev pub noted : Said → TalkState → TalkState
-noted (says.Outcome actor event outcome) t = record t {
+abbrev pub talk_with : Said → TalkState → TalkState
+talk_with (says.Outcome actor event outcome) t = record t {
   on = signed_by actor event outcome t.on;
   asked = one_more t.asked;
 }
-noted said t = t
+talk_with said t = t
 
 -- .. to a message from this node: it serves the originator of its first message
 abbrev pub talk_after : List ℕ → Said → TalkState → TalkState
-talk_after from said t = noted said (record t { peer = peer_after t.peer from })
+talk_after from said t = talk_with said (record t { peer = peer_after t.peer from })

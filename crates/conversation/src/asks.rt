@@ -22,8 +22,8 @@ pub trait Asks {
     /// Asks for the event of a row by its actor, and fills in the site's reply; or says why there
     /// is no row.
     fn ask(&mut self, row: &mut Row) -> Result<(), NoRow>
-        ensures asked { asked (seen self.old) row.old.actor row.old.event (outcome_of row.new result)
-            (seen self.new) }
+        ensures asked { asked (seen self.old) row.old.actor row.old.event
+            (outcome_of row.new result) (seen self.new) }
         ensures request { row.new ≡ record row.old { reply = row.new.reply } };
 }
 

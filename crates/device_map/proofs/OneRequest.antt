@@ -24,7 +24,7 @@ use Rattle.device_map.specs.Addresses.{database_at}
 use Rattle.device_map.specs.Commands.{Shape, commands, reading_of}
 use Rattle.device_map.specs.Requests.{some_known, shape_of}
 use Rattle.device_map.specs.Requests.{command_in, read_by, event_at, request_at}
-use Rattle.device_map.specs.Laws.{may_ask, is_in_range, Asks, IsOneRequest}
+use Rattle.device_map.specs.Laws.{may_ask, is_in_range, AsksFor, IsOneRequest}
 use Rattle.device_map.specs.declared.way.Content.{Content}
 use Rattle.device_map.specs.declared.way.Content.TheVariants.{Nothing, Limit, Payment, Meter}
 use Rattle.device_map.specs.declared.way.Content.TheVariants.{Price}
@@ -167,7 +167,7 @@ asks token actor event own fit =
 
 pub there : (token : ℕ) (actor : Actor) (event : Event) → token < 32
     → may_ask actor (reported_by event) ≡ true → is_in_range event ≡ true
-    → Asks token actor event (request_by token actor (way_to event))
+    → AsksFor token actor event (request_by token actor (way_to event))
 there token actor event short own fit =
     let sent : may_send actor (way_to event).kind ≡ true = sym (sender_there actor event) ∙ own in
     record {
@@ -275,7 +275,8 @@ all_told token actor event m d told to from number address =
     (items_of told.command told.content) to from refl number address told.items_are
     ∙ ap (request_by token actor) (sym told.way)
 
-pub alone : (token : ℕ) (actor : Actor) (event : Event) (m : Telegram) → Asks token actor event m
+pub alone : (token : ℕ) (actor : Actor) (event : Event) (m : Telegram)
+    → AsksFor token actor event m
     → m ≡ request_by token actor (way_to event)
 unfolding request_at
 alone token actor event m is =

@@ -73,7 +73,7 @@ abbrev pub is_own : Actor → Event → Bool
 is_own actor event = may_ask actor (reported_by event) && is_in_range event
 
 -- a message that can be spelled, with this token, and asks for the event of the actor
-pub record Asks (token : ℕ) (actor : Actor) (event : Event) (m : Telegram) : Type 0 where
+pub record AsksFor (token : ℕ) (actor : Actor) (event : Event) (m : Telegram) : Type 0 where
   pub message : IsMessage m
   pub told : m.token ≡ token
   pub asks : request_at m ≡ Ok (actor, event)
@@ -81,8 +81,8 @@ pub record Asks (token : ℕ) (actor : Actor) (event : Event) (m : Telegram) : T
 -- one message asks so, and no other
 pub record HasOneRequest (token : ℕ) (actor : Actor) (event : Event) : Type 0 where
   pub request : Telegram
-  pub there : Asks token actor event request
-  pub alone : (m : Telegram) → Asks token actor event m → m ≡ request
+  pub there : AsksFor token actor event request
+  pub alone : (m : Telegram) → AsksFor token actor event m → m ≡ request
 
 -- for each token, each event with an actor of its own kind has one request
 abbrev pub IsOneRequest : Type 0

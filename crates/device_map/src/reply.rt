@@ -3,7 +3,8 @@
 ghost use Rattle.std.specs.Prelude.{◌≡◌, ◌≤◌, [], length, unwrap_or, IfOk, OnOk};
 ghost use Rattle.app_message.specs.Telegram.{telegram};
 ghost use Rattle.app_message.specs.Bodies.{with_items};
-ghost use Rattle.device_map.specs.Replies.{answer_kind, preset_items, prepaid_items, point_items, test_items};
+ghost use Rattle.device_map.specs.Replies.{answer_kind, preset_items, prepaid_items};
+ghost use Rattle.device_map.specs.Replies.{point_items, test_items};
 ghost use Rattle.device_map.specs.Replies.{standing_items};
 ghost use Rattle.device_map.specs.Replies.{transaction_items, product_items, site_items, outcome};
 ghost use Rattle.device_map.specs.Replies.{answer_items, refusal_items};

@@ -1,5 +1,4 @@
 pub mod AnsweredStreams
-pub mod Answering
 pub mod Lines
 pub mod NozzleCount
 pub mod Numerals

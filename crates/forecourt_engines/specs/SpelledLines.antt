@@ -4,7 +4,7 @@ use Rattle.std.specs.Prelude.{Option, Some, None, nat_lt, unwrap_or, if◌then�
 use Rattle.site_base.specs.declared.actor.Actor.{Actor}
 use Rattle.site_base.specs.declared.event.Event.{Event}
 use Rattle.app_message.specs.Telegram.{Telegram}
-use Rattle.device_map.specs.Laws.{Asks, is_own}
+use Rattle.device_map.specs.Laws.{AsksFor, is_own}
 use Rattle.hex_lines.specs.Lines.{line_of}
 use Rattle.forecourt_engines.specs.AskedText.{IsAskedText}
 use Rattle.forecourt_engines.specs.LineWords.{is_comment}
@@ -45,7 +45,7 @@ pub record SpellsRequest (line : List ℕ) (next after : ℕ) (old new : List �
   pub token : Option ℕ
   pub request : Telegram
   pub said : IsAskedText line actor event token
-  pub asks : Asks (unwrap_or token next) actor event request
+  pub asks : AsksFor (unwrap_or token next) actor event request
   pub text : new ≡ old ++ line_of request
   pub rises : after ≡ token_then token next
 

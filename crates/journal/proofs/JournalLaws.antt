@@ -101,7 +101,8 @@ holds_all : (rows : List Row) (j : JournalState) (f : DiskFile) → IsJournalOf 
     → (j.stored == length rows) ≡ true → j.file ≡ Some f → HoldsRows j.header rows j.failed f
 holds_all rows j f is all there =
     let whole : take j.stored rows ≡ rows =
-    take_all j.stored rows (let size = eqb-true j.stored (length rows) all in omega (arith, size)) in
+    take_all j.stored rows
+    (let size = eqb-true j.stored (length rows) all in omega (arith, size)) in
     subst (λ (rs : List Row). HoldsRows j.header rs j.failed f) whole
     (subst (OfFile (HoldsRows j.header (take j.stored rows) j.failed)) there is.holds)
 

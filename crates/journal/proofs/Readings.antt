@@ -196,7 +196,8 @@ lines_behind header front rest octets events t parts =
 lines_on : (header octets rest : List ℕ) (b : Book) (number : ℕ)
     → (r : ReadsOn header octets rest b number)
     → whole_lines octets ≡ header ∷ r.tells.tells.lines ++ whole_lines rest
-lines_on header octets rest b number r = lines_behind header r.done rest octets r.events r.tells r.parts
+lines_on header octets rest b number r =
+    lines_behind header r.done rest octets r.events r.tells r.parts
 
 pub lines_in_parts : (rest line others : List ℕ) → rest ≡ (line ++ 10 ∷ []) ++ others → IsLine line
     → whole_lines rest ≡ line ∷ whole_lines others

@@ -16,7 +16,7 @@ use Rattle.app_message.specs.Spelling.{IsMessage, spelling}
 use Rattle.app_message.specs.Stream.{fed_by, held_after, stream_of, walk}
 use Rattle.app_message.specs.Telegram.{Telegram}
 use Rattle.app_message.proofs.Again.{read_again}
-use Rattle.device_map.specs.Laws.{Asks}
+use Rattle.device_map.specs.Laws.{AsksFor}
 use Rattle.device_map.specs.Requests.{request_at}
 use Rattle.hex_lines.specs.Lines.{IsLine}
 use Rattle.written_site.specs.SiteRun.{events_of}
@@ -85,7 +85,7 @@ lines_of_both a b x y first second = record {
 }
 
 -- the line of a row
-pub line_of_row : (r : Row) → Asks 0 r.actor r.event (row_request r)
+pub line_of_row : (r : Row) → AsksFor 0 r.actor r.event (row_request r)
     → AreLines (r ∷ []) (row_line r)
 line_of_row r asks =
     let line = encode_lower (spelling (row_request r)) in

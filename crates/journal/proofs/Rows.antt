@@ -6,7 +6,7 @@ use Rattle.std.specs.List.{AllByRecursion}
 use Rattle.std.proofs.lemmas.List.{drop-append-le, length-take-le, take_all}
 use Rattle.std.proofs.lemmas.Option.{none-some, same_Some}
 use Rattle.site_base.specs.declared.row.Row.{Row}
-use Rattle.device_map.specs.Laws.{Asks}
+use Rattle.device_map.specs.Laws.{AsksFor}
 use Rattle.journal.specs.JournalText.{CanBeSpelled, row_line, row_request}
 use Rattle.journal.specs.RowLines.{AreLines}
 use Rattle.journal.proofs.Fronts.{all_both}
@@ -56,7 +56,7 @@ one_behind rows from n r high within is =
 -- the line of one row more
 pub line_behind : (rows : List Row) (from n : ℕ) (r : Row) (text : List ℕ) → from ≤ n
     → n < length rows → slice_get rows n ≡ Some r → AreLines (drop from (take n rows)) text
-    → Asks 0 r.actor r.event (row_request r)
+    → AsksFor 0 r.actor r.event (row_request r)
     → AreLines (drop from (take (n + 1) rows)) (text ++ row_line r)
 line_behind rows from n r text high within is lines asks =
     subst (λ (rs : List Row). AreLines rs (text ++ row_line r))
@@ -65,10 +65,10 @@ line_behind rows from n r text high within is lines asks =
 
 pub spelled_behind : (rows : List Row) (from n : ℕ) (r : Row) → from ≤ n → n < length rows
     → slice_get rows n ≡ Some r → CanBeSpelled (drop from (take n rows))
-    → Asks 0 r.actor r.event (row_request r) → CanBeSpelled (drop from (take (n + 1) rows))
+    → AsksFor 0 r.actor r.event (row_request r) → CanBeSpelled (drop from (take (n + 1) rows))
 spelled_behind rows from n r high within is spelled asks =
     subst CanBeSpelled (sym (one_behind rows from n r high within is))
-    (all_both (λ (x : Row). Asks 0 x.actor x.event (row_request x)) (drop from (take n rows))
+    (all_both (λ (x : Row). AsksFor 0 x.actor x.event (row_request x)) (drop from (take n rows))
     (r ∷ []) spelled (asks, tt))
 
 -- all of them

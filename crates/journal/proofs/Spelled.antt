@@ -15,7 +15,7 @@ use Rattle.app_message.specs.Stream.{stream_of, walk}
 use Rattle.app_message.specs.Telegram.{Telegram}
 use Rattle.app_message.proofs.SpelledStreams.{octets_are_spelled}
 use Rattle.device_map.specs.declared.fault.MapFault.{MapFault}
-use Rattle.device_map.specs.Laws.{Asks}
+use Rattle.device_map.specs.Laws.{AsksFor}
 use Rattle.device_map.specs.Requests.{request_at}
 use Rattle.device_map.specs.Ways.{request_by, way_to}
 use Rattle.device_map.proofs.OneRequest.{alone}
@@ -31,7 +31,7 @@ use Rattle.journal.proofs.Readings.{rows_again}
 
 -- the request, with token 0, can be spelled
 abbrev IsSpelled : Actor × Event → Type 0
-IsSpelled e = Asks 0 e.0 e.1 (request_by 0 e.0 (way_to e.1))
+IsSpelled e = AsksFor 0 e.0 e.1 (request_by 0 e.0 (way_to e.1))
 
 -- whatever token it was told with
 told_again : (m : Telegram) (actor : Actor) (event : Event) → IsMessage m
@@ -39,7 +39,7 @@ told_again : (m : Telegram) (actor : Actor) (event : Event) → IsMessage m
 unfolding request_at
 told_again m actor event valid is =
     let told : Telegram = record m { token = 0 } in
-    let asks : Asks 0 actor event told = record {
+    let asks : AsksFor 0 actor event told = record {
       message = record {
         head = record {
           to_size = valid.head.to_size;
@@ -58,7 +58,7 @@ told_again m actor event valid is =
       told = refl;
       asks = is;
     } in
-    subst (λ (x : Telegram). Asks 0 actor event x) (alone 0 actor event told asks) asks
+    subst (λ (x : Telegram). AsksFor 0 actor event x) (alone 0 actor event told asks) asks
 
 meant_spelled : (m : Telegram) (r : Result (Actor × Event) MapFault) (e : Actor × Event)
     → IsMessage m → request_at m ≡ r → request_meant r ≡ Some e → IsSpelled e

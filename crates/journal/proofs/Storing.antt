@@ -7,7 +7,7 @@ use Rattle.std.proofs.Math.Seq.{drop-length}
 use Rattle.site_base.specs.declared.actor.Actor.{Actor}
 use Rattle.site_base.specs.declared.event.Event.{Event}
 use Rattle.site_base.specs.declared.row.Row.{Row}
-use Rattle.device_map.specs.Laws.{Asks}
+use Rattle.device_map.specs.Laws.{AsksFor}
 use Rattle.written_site.specs.SiteRun.{events_of}
 use Rattle.journal.specs.Disks.{Appends, DiskFile, Grows, Keeps, OfFile, OfFiles, Syncs}
 use Rattle.journal.specs.JournalLines.{TellsWhole, unfinished_from, whole_lines}
@@ -152,7 +152,7 @@ journal_stored rows j text b c count is whole lines spelled wrote synced all =
     record {
       few = omega (arith, all);
       spelled = subst CanBeSpelled same
-          (all_both (λ (r : Row). Asks 0 r.actor r.event (row_request r)) (take j.stored rows)
+          (all_both (λ (r : Row). AsksFor 0 r.actor r.event (row_request r)) (take j.stored rows)
           (drop j.stored rows) is.spelled spelled);
       holds = subst (λ (rs : List Row). OfFile (HoldsRows j.header rs false) c) same file;
     }

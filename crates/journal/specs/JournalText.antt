@@ -6,7 +6,7 @@ use Rattle.hex.specs.Hex.{encode_lower}
 use Rattle.sha2.specs.Sha256.{sha256}
 use Rattle.site_base.specs.declared.row.Row.{Row}
 use Rattle.app_message.specs.Telegram.{Telegram}
-use Rattle.device_map.specs.Laws.{Asks}
+use Rattle.device_map.specs.Laws.{AsksFor}
 use Rattle.device_map.specs.Ways.{request_by, sends, way_to}
 use Rattle.hex_lines.specs.Lines.{line_of}
 
@@ -19,8 +19,8 @@ title = codes "# witsomar journal of site "
 abbrev pub header_of : List ℕ → List ℕ
 header_of site_file = title ++ encode_lower (sha256 site_file)
 
--- a line begins with the title and is as long as a journal's first line, whatever its last 64 octets
--- are
+-- a line begins with the title and is as long as a journal's first line, whatever its last 64
+-- octets are
 abbrev pub names_a_site : List ℕ → Bool
 names_a_site line =
     (length line == length title + 64) && starts_with (λ a b. a == b) line title
@@ -47,4 +47,4 @@ IsSent r = sends r.actor (way_to r.event).kind ≡ true
 
 -- each row's request is a message that can be spelled, and asks for its actor's event
 abbrev pub CanBeSpelled : List Row → Type 0
-CanBeSpelled rows = AllByRecursion (λ r. Asks 0 r.actor r.event (row_request r)) rows
+CanBeSpelled rows = AllByRecursion (λ r. AsksFor 0 r.actor r.event (row_request r)) rows

@@ -15,7 +15,7 @@ use journal::{Disk, DiskFault, StoredStation};
 use mio::net::TcpStream;
 use mio::{Registry, Token};
 use site_base::NoMemory;
-use site_book::SiteBook;
+use site_book::{SiteBook, is_changing};
 use station::{PEERS, PeerEnd};
 use std::alloc::Global;
 use std::time::Instant;
@@ -180,8 +180,10 @@ impl<D: Disk> Connections<D> {
         let first = self.rows_seen;
         self.rows_seen = self.stored.book().len();
         for place in first..self.rows_seen {
-            if is_change(self.stored.book(), place) {
-                return true;
+            if let Some(row) = self.stored.book().row(place) {
+                if is_changing(&row) {
+                    return true;
+                }
             }
         }
         false
@@ -453,14 +455,6 @@ impl<D: Disk> Connections<D> {
             link.shut();
             link.ignore(&mut self.piece);
         }
-    }
-}
-
-/// Is the row at this place one that a dispenser may be told of?
-fn is_change(book: &SiteBook, place: u64) -> bool {
-    match book.row(place) {
-        Some(row) => row.reply.is_ok() && row.event.has_change(),
-        None => false,
     }
 }
 

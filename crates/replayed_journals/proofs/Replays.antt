@@ -1,6 +1,7 @@
 -- A journal's text, read by a replay.
-use Rattle.std.proofs.Common.{◌≡◌, ℕ, zero, suc, ◌+◌, ◌-◌, ◌*◌, ◌<◌, ◌≤◌, Bool, true, false, List, []}
-use Rattle.std.proofs.Common.{◌∷◌, ◌++◌, drop, length, take, Option, Some, None, Ok, refl, sym, ap, ◌∙◌}
+use Rattle.std.proofs.Common.{◌≡◌, ℕ, zero, suc, ◌+◌, ◌-◌, ◌*◌, ◌<◌, ◌≤◌, Bool, true, false}
+use Rattle.std.proofs.Common.{List, [], ◌∷◌, ◌++◌, drop, length, take, Option, Some, None, Ok}
+use Rattle.std.proofs.Common.{refl, sym, ap, ◌∙◌}
 use Rattle.std.proofs.Common.{arith, eqb, inl, inr}
 use Rattle.std.specs.Prelude.{◌&&◌, if◌then◌else◌, nat_lt, slice_index}
 use Rattle.std.specs.Io.BufRead.{ends_with_byte, strip_last}
@@ -189,7 +190,8 @@ rows_read [] changes number b last spelled made =
     (number, ap (replays changes number) (same_Some b last made))
 rows_read (r ∷ rows) changes number b last spelled made =
     by_first (made_again b r.actor r.event)
-    (λ next others. rows_read rows changes (next_number number) next last spelled.1 others) refl made
+    (λ next others. rows_read rows changes (next_number number) next last spelled.1 others)
+    refl made
   where
     read : (next : Book) → made_again b r.actor r.event ≡ Some next
         → after (replays changes number b) (row_line r)
@@ -251,7 +253,8 @@ header_read site_file a =
 
 -- ---- the end
 
-ended_there : (changes : Bool) (number : ℕ) (b : Book) → last_fault (replays changes number b) ≡ None
+ended_there : (changes : Bool) (number : ℕ) (b : Book)
+    → last_fault (replays changes number b) ≡ None
 unfolding walk
 ended_there changes number b = refl
 
@@ -263,7 +266,8 @@ pub journals_are_replayed : JournalsAreReplayed
 journals_are_replayed site_file b changes made spelled =
     let st = start (record { book = empty_book b.config; changes = changes }) in
     let text = journal_text (header_of site_file) b.rows in
-    let rows = rows_read b.rows changes (next_number 1) (empty_book b.config) b spelled made.again in
+    let rows =
+    rows_read b.rows changes (next_number 1) (empty_book b.config) b spelled made.again in
     let none : empty_book b.config ≡ within_limit (empty_book b.config) =
     ap (λ (rs : List Row). record { config = b.config; rows = rs })
     (sym (take_all b.config.rows [] (omega arith))) in

@@ -62,8 +62,8 @@ fn add_change(changes: &mut Vec<Row>, row: &Row) -> Result<(), NoMemory>
     Ok(())
 }
 
-/// Has the row a change?
-fn is_changing(row: &Row) -> bool
+/// Has the row a change, of which a dispenser may be told?
+pub fn is_changing(row: &Row) -> bool
     ensures { result ≡ is_changing row.now }
 {
     row.reply.is_ok() && row.event.has_change()

@@ -1,6 +1,6 @@
 //! The book of a site: its history, row by row, with the site that the rows lead to. An auditor
-//! replays it and counts every figure anew; the counter desk holds it under its lock. A list of rows
-//! keeps each in 64 octets, and the unpaid transactions are kept while the book goes on.
+//! replays it and counts every figure anew; the counter desk holds it under its lock. A list of
+//! rows keeps each in 64 octets, and the unpaid transactions are kept while the book goes on.
 #![tactic(auto)]
 
 mod audit;
@@ -19,6 +19,7 @@ mod unpaid_sales;
 
 pub use audit::audit_rows;
 pub use book::SiteBook;
+pub use changes::is_changing;
 pub use draw::Draw;
 pub use draws::Draws;
 pub use named_sale::NamedSale;

@@ -14,7 +14,7 @@ use journal::Opened;
 use journal_files::JournalFile;
 use peer_connections::Connections;
 use program_io::{COMMAND_LINE, TURNS, exit_with, read_site_file};
-use station_days::{station_day, tell_fault};
+use station_days::{station_day, to_day_fault};
 use station_server::{ServerFault, StationServer};
 use std::fs::File;
 use std::io;
@@ -112,7 +112,7 @@ fn serve_peers<R: StationHost, T: Threads + Wait + Sync, I: Read + Send + Drop +
             server.close();
             end
         }
-        Err(fault) => Err(tell_fault(fault)),
+        Err(fault) => Err(to_day_fault(fault)),
     }
 }
 
@@ -144,7 +144,7 @@ fn serve_until_end<R: StationHost, T: Threads + Wait + Sync, I: Read + Send + Dr
     }
     let waker = match server.waker() {
         Ok(waker) => waker,
-        Err(fault) => return Err(tell_fault(fault)),
+        Err(fault) => return Err(to_day_fault(fault)),
     };
     let watch = InputWatch::start(threads, rt.alloc(), waker, input)?;
     let end = serve_day(

@@ -10,7 +10,7 @@ ghost use Rattle.journal.specs.Stored.{is_all_stored};
 ghost use Rattle.station.specs.Runs.{opening_station};
 ghost use Rattle.station_days.specs.StationDays.{TellsDay, TellsFront};
 
-use crate::fault::tell_fault;
+use crate::fault::to_day_fault;
 use day_base::{DayFault, ReportForm, put_book_report, put_places};
 use devices::Counted;
 use journal::Disk;
@@ -54,7 +54,7 @@ pub fn station_day<W: Write, T: Wait, R: Clock + Eprint, D: Disk>(
     put_stored_report(alloc, connections, form, writer, turns)?;
     match served {
         Ok(()) => Ok(()),
-        Err(fault) => Err(tell_fault(fault)),
+        Err(fault) => Err(to_day_fault(fault)),
     }
 }
 

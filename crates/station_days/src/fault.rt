@@ -8,7 +8,7 @@ use devices::WriteFault;
 use station_server::ServerFault;
 
 /// The fault with which a day ends whose server ends so.
-pub fn tell_fault(fault: ServerFault) -> DayFault
+pub fn to_day_fault(fault: ServerFault) -> DayFault
     ensures { result ≡ ended_by fault }
 {
     match fault {

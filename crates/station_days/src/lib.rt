@@ -8,4 +8,4 @@ mod day;
 mod fault;
 
 pub use day::station_day;
-pub use fault::tell_fault;
+pub use fault::to_day_fault;

@@ -1,4 +1,5 @@
-//! fuelling_point: what no clause says of `Claims`, that a till's points are told where there is memory for them.
+//! fuelling_point: what no clause says of `Claims`, that a till's points are told where there is
+//! memory for them.
 
 mod out_of_memory;
 

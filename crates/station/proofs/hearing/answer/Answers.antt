@@ -13,7 +13,8 @@ returns-in-Err c =
     let p = c.args.peer.now in
     let b = c.hear_message.new.book in
     answers_said false m c.hear_message.result c.args.book.now b p _ (sessions_of c.args.others.now)
-    (sessions_of c.hear_message.new.others) c.requires c.hear_message.ensures.means c.hear_message.ensures.asked
+    (sessions_of c.hear_message.new.others) c.requires c.hear_message.ensures.means
+    c.hear_message.ensures.asked
     (c.end_session.ensures
     ∙ ap (λ (x : Session). end_session no_memory (record { book = b; session = x }))
     (c.in-Err.ensures.err ∙ c.hear_message.ensures.talk)
@@ -28,7 +29,8 @@ returns-in-Ok c =
     let text : Option (List ℕ) → List ℕ =
     λ q. spelling (said_message m said) ++ opening_text q m.from b in
     answers_said true m said c.args.book.now b p _ (sessions_of c.args.others.now)
-    (sessions_of c.hear_message.new.others) c.requires c.hear_message.ensures.means c.hear_message.ensures.asked
+    (sessions_of c.hear_message.new.others) c.requires c.hear_message.ensures.means
+    c.hear_message.ensures.asked
     (c.end_another.ensures
     ∙ ap (λ (x : Session). end_behind said (record { book = b; session = x })) c.in-Ok.ensures.ok
     ∙ ap (λ (x : Session). end_behind said (with_text (text c.peer-before.result)

@@ -13,7 +13,8 @@ returns-in_err-reply-clause-talked g c =
     rw p.1
     (talked_front p.0 c.args.self.now _ c.args.message.now c.hear_message.result _ _
     (counts (g.C.Counter.rows c.args.counter.now) (g.C.Counter.owes c.args.counter.now))
-    (counts (g.C.Counter.rows c.hear_message.new.counter) (g.C.Counter.owes c.hear_message.new.counter))
+    (counts (g.C.Counter.rows c.hear_message.new.counter)
+    (g.C.Counter.owes c.hear_message.new.counter))
     (ap ends_early p.2) c.hear_message.ensures.means (c.self.view_is ∙ c.hear_message.ensures.talk)
     c.hear_message.ensures.own c.hear_message.ensures.asked (front_none _ _))
 
@@ -27,7 +28,8 @@ returns-in_err-tell-clause-talked g c =
     rw p.1
     (talked_front p.0 c.args.self.now _ c.args.message.now c.hear_message.result _ _
     (counts (g.C.Counter.rows c.args.counter.now) (g.C.Counter.owes c.args.counter.now))
-    (counts (g.C.Counter.rows c.hear_message.new.counter) (g.C.Counter.owes c.hear_message.new.counter))
+    (counts (g.C.Counter.rows c.hear_message.new.counter)
+    (g.C.Counter.owes c.hear_message.new.counter))
     (ap ends_early p.2 ∙ c.in_err-tell.ensures.ends) c.hear_message.ensures.means
     (c.tell.ensures.same ∙ c.self.view_is ∙ c.hear_message.ensures.talk) c.hear_message.ensures.own
     c.hear_message.ensures.asked front)
@@ -39,7 +41,8 @@ returns-in-Another-clause-talked g c =
     let written = rw says_it at c.in_ok-tell.ensures.ok in
     talked_said _ c.args.self.now _ c.args.message.now c.hear_message.result _ _
     (counts (g.C.Counter.rows c.args.counter.now) (g.C.Counter.owes c.args.counter.now))
-    (counts (g.C.Counter.rows c.hear_message.new.counter) (g.C.Counter.owes c.hear_message.new.counter))
+    (counts (g.C.Counter.rows c.hear_message.new.counter)
+    (g.C.Counter.owes c.hear_message.new.counter))
     (sym (ap end_with c.in-Another.is)) c.hear_message.ensures.means
     (c.tell.ensures.same ∙ c.self.view_is ∙ c.hear_message.ensures.talk) c.hear_message.ensures.own
     c.hear_message.ensures.asked written
@@ -51,7 +54,8 @@ returns-in-Fault-clause-talked g c =
     let written = rw says_it at c.in_ok-tell.ensures.ok in
     talked_said _ c.args.self.now _ c.args.message.now c.hear_message.result _ _
     (counts (g.C.Counter.rows c.args.counter.now) (g.C.Counter.owes c.args.counter.now))
-    (counts (g.C.Counter.rows c.hear_message.new.counter) (g.C.Counter.owes c.hear_message.new.counter))
+    (counts (g.C.Counter.rows c.hear_message.new.counter)
+    (g.C.Counter.owes c.hear_message.new.counter))
     (sym (ap end_with c.in-Fault.is)) c.hear_message.ensures.means
     (c.tell.ensures.same ∙ c.self.view_is ∙ c.hear_message.ensures.talk) c.hear_message.ensures.own
     c.hear_message.ensures.asked written
@@ -67,7 +71,8 @@ returns-in-Outcome-clause-talked g c =
     let asked = rw c.in-Outcome.is at c.hear_message.ensures.asked in
     let before =
     counts (g.C.Counter.rows c.args.counter.now) (g.C.Counter.owes c.args.counter.now) in
-    let then = counts (g.C.Counter.rows c.hear_message.new.counter) (g.C.Counter.owes c.hear_message.new.counter) in
+    let then = counts (g.C.Counter.rows c.hear_message.new.counter)
+    (g.C.Counter.owes c.hear_message.new.counter) in
     let rows = g.C.Counter.rows c.note_written.new.self in
     let owes = g.C.Counter.owes c.note_written.new.self in
     talked_said _ c.args.self.now _ c.args.message.now
