@@ -3,7 +3,7 @@
 ghost use Rattle.std.specs.Prelude.{◌≡◌, ◌≤◌, [], false, length, IfNone, IfOk, IfSome, OnOk};
 ghost use Rattle.app_message.specs.Bodies.{with_items};
 ghost use Rattle.app_message.specs.Telegram.{telegram};
-ghost use Rattle.device_map.specs.Laws.{Asks, is_own};
+ghost use Rattle.device_map.specs.Laws.{AsksFor, is_own};
 ghost use Rattle.device_map.specs.Nodes.{site_node};
 ghost use Rattle.device_map.specs.Ways.{address_of, content_items, items_of, may_send, node_of};
 ghost use Rattle.device_map.specs.Ways.{sends, way_to};
@@ -25,7 +25,7 @@ pub fn encode_request(
     actor: Actor,
     event: Event,
 ) -> Result<Option<Message>, NoMemory>
-    ensures found { IfOk result (λ found. IfSome found (λ m. Asks token actor event m)) }
+    ensures found { IfOk result (λ found. IfSome found (λ m. AsksFor token actor event m)) }
     ensures other { IfOk result (λ found. IfNone found (is_own actor event ≡ false)) }
     ensures kind { IfOk result (λ found. IfNone found
         (sends actor (way_to event).kind ≡ false)) }

@@ -1,7 +1,7 @@
 //! The lines of rows.
 
 ghost use Rattle.std.specs.Prelude.{◌≡◌, ◌≤◌, ◌++◌, drop, length, OnOk};
-ghost use Rattle.device_map.specs.Laws.{Asks};
+ghost use Rattle.device_map.specs.Laws.{AsksFor};
 ghost use Rattle.journal.specs.History.{IsMadeAgain};
 ghost use Rattle.journal.specs.JournalText.{CanBeSpelled, IsSent, row_line, row_request};
 ghost use Rattle.journal.specs.RowLines.{AreLines};
@@ -40,7 +40,7 @@ pub(crate) fn put_rows(
 pub fn put_row_line(alloc: Global, row: &Row, text: &mut Vec<u8>) -> Result<(), NoMemory>
     requires { IsSent row.now }
     ensures line { OnOk result (text.new.items ≡ text.old.items ++ row_line row.now) }
-    ensures asks { OnOk result (Asks 0 row.now.actor row.now.event (row_request row.now)) }
+    ensures asks { OnOk result (AsksFor 0 row.now.actor row.now.event (row_request row.now)) }
 {
     let token = Token::new(0).unwrap();
     let Some(request) = encode_request(alloc, token, row.actor, row.event)? else {
