@@ -6,6 +6,7 @@ use site_book::SiteBook;
 
 /// What answers requests: a book, a desk, or a station's book, which notifies other peers.
 pub trait Asks {
+    ghost use Rattle.std.specs.Prelude.{◌≡◌};
     ghost use Rattle.site_base.specs.declared.actor.Actor.{Actor};
     ghost use Rattle.site_base.specs.declared.event.Event.{Event};
     ghost use Rattle.peer_talk.specs.Exchanges.{Outcome};
