@@ -1,7 +1,10 @@
 //! What a conversation asks.
 
+ghost use Rattle.std.specs.Prelude.{◌≡◌};
+ghost use Rattle.conversation.specs.Asking.{outcome_of};
+
 use device_map::MapFault;
-use site_base::{NoRow, Row};
+use site_base::{NoRow, Reply, Row};
 use site_book::SiteBook;
 
 /// What answers requests: a book, a desk, or a station's book, which notifies other peers.
@@ -50,5 +53,19 @@ impl Asks for SiteBook {
     #[inline(always)]
     fn ask(&mut self, row: &mut Row) -> Result<(), NoRow> {
         self.answer(row)
+    }
+}
+
+/// Fills in the reply of a row's request that had this outcome; or says why there is no row.
+pub fn fill(row: &mut Row, outcome: &Result<Reply, NoRow>) -> Result<(), NoRow>
+    ensures outcome { outcome_of row.new result ≡ outcome.now }
+    ensures request { row.new ≡ record row.old { reply = row.new.reply } }
+{
+    match outcome {
+        Ok(reply) => {
+            row.reply = *reply;
+            Ok(())
+        }
+        Err(no_row) => Err(*no_row),
     }
 }

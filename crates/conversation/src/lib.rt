@@ -10,6 +10,6 @@ mod asks;
 mod hearing;
 mod said;
 
-pub use asks::{Asks, NoReply};
+pub use asks::{Asks, NoReply, fill};
 pub use hearing::{ask, hear, hear_anyone};
 pub use said::Said;

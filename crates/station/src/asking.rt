@@ -11,7 +11,7 @@ ghost use Rattle.station.specs.PeerViews.{session_of, sessions_of, slot_noticed}
 
 use crate::paper::Paper;
 use crate::peer::Peer;
-use conversation::{Asks, ask};
+use conversation::{Asks, ask, fill};
 use site_base::{Actor, Event, FpNo, NoRow, Reply, Row};
 use site_book::SiteBook;
 
@@ -39,8 +39,8 @@ impl<'a> Asks for AtStation<'a> {
     ghost asked = { Lent IsAskedAmong };
 
     fn ask(&mut self, row: &mut Row) -> Result<(), NoRow> {
-        row.reply = ask_among(self.book, self.others, self.paper, row.actor, row.event)?;
-        Ok(())
+        let outcome = ask_among(self.book, self.others, self.paper, row.actor, row.event);
+        fill(row, &outcome)
     }
 }
 

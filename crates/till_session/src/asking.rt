@@ -1,7 +1,7 @@
 //! How a conversation asks a counter.
 
 use crate::counter::Counter;
-use conversation::Asks;
+use conversation::{Asks, fill};
 use site_base::{NoRow, Row};
 
 /// A counter, as a conversation asks it.
@@ -25,7 +25,7 @@ impl<'a, C: Counter> Asks for AtCounter<'a, C> {
     ghost asked = { Lent IsAskedAt };
 
     fn ask(&mut self, row: &mut Row) -> Result<(), NoRow> {
-        row.reply = self.counter.ask(row.actor, row.event)?;
-        Ok(())
+        let outcome = self.counter.ask(row.actor, row.event);
+        fill(row, &outcome)
     }
 }
