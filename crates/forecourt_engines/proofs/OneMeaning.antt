@@ -23,7 +23,7 @@ use Rattle.site_base.specs.Words.{actor_word, event_words, id_word, limit_words,
 use Rattle.site_base.specs.Words.{sale_word}
 use Rattle.app_message.specs.Telegram.{Telegram}
 use Rattle.device_map.proofs.OneRequest.{alone}
-use Rattle.device_map.specs.Laws.{Asks, is_in_range, is_meter, is_preset, is_sale}
+use Rattle.device_map.specs.Laws.{AsksFor, is_in_range, is_meter, is_preset, is_sale}
 use Rattle.hex_lines.specs.Lines.{line_of}
 use Rattle.forecourt_engines.specs.AskedText.{IsTokenText}
 use Rattle.forecourt_engines.specs.EventNames.{IsRequestText, behind_first, name_said, name_word}
@@ -280,13 +280,13 @@ spelled_alike true line next after later old new other one two =
 spelled_alike false line next after later old new other one two =
     let same = one_thing line one.actor two.actor one.event two.event one.token two.token one.said
     two.said in
-    let by_actor = subst (λ (a : Actor). Asks (unwrap_or two.token next) a two.event two.request)
+    let by_actor = subst (λ (a : Actor). AsksFor (unwrap_or two.token next) a two.event two.request)
     (sym same.0) two.asks in
     let by_event =
-    subst (λ (x : Event). Asks (unwrap_or two.token next) one.actor x two.request)
+    subst (λ (x : Event). AsksFor (unwrap_or two.token next) one.actor x two.request)
     (sym same.1) by_actor in
     let by_token =
-    subst (λ (t : Option ℕ). Asks (unwrap_or t next) one.actor one.event two.request)
+    subst (λ (t : Option ℕ). AsksFor (unwrap_or t next) one.actor one.event two.request)
     (sym same.2) by_event in
     let request : one.request ≡ two.request =
     alone _ _ _ one.request one.asks ∙ sym (alone _ _ _ two.request by_token) in (
