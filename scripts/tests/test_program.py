@@ -6,6 +6,7 @@ says of numbers is compared with docs/PROFILE.md."""
 
 import collections
 import csv
+import hashlib
 import json
 import re
 import subprocess
@@ -628,6 +629,32 @@ def greatest_site():
 """
     end = forecourt("replay", station.GREATEST_SITE, given=asked)
     expect_end("the last point, the last till and the last dispenser", end, 0, replied)
+
+
+@test_each
+def texts_of_a_site():
+    """A journal and a chapter of a history name their site file, above their first message: on
+    another one they are refused, and nothing is printed; on their own they are as without."""
+    own, other = (
+        hashlib.sha256(site.read_bytes()).hexdigest() for site in (KNOWN_SITE, FIVE_POINTS)
+    )
+    heads = {
+        "journal": "# witsomar journal of site {}\n",
+        "history": "# witsomar history 1 chapter 2\n\n# site {}\n# after " + "0" * 64 + "\n",
+    }
+    rows = STORED.read_text()
+    for command in ("replay", "report", "sales"):
+        plain = forecourt(command, KNOWN_SITE, given=rows)
+        for text, head in heads.items():
+            name = f"{command} of a {text}"
+            end = forecourt(command, KNOWN_SITE, given=head.format(own) + rows)
+            expect_end(f"{name} of this site", end, 0, plain.out)
+            end = forecourt(command, KNOWN_SITE, given=head.format(other) + rows)
+            expect_end(f"{name} of another site", end, 1, b"", f"{text} of another site")
+            end = forecourt(command, KNOWN_SITE, given=rows + head.format(other))
+            expect_end(f"{name} that names it too late", end, 0, plain.out)
+            end = forecourt(command, KNOWN_SITE, given=head.format(own[1:]) + rows)
+            expect_end(f"{name} that names none", end, 0, plain.out)
 
 
 def fold(path):

@@ -49,7 +49,8 @@ fn station<'a>(alloc: Global) -> Result<Command<'a>, AllocError>
 {
     let about = "Serves every till and dispenser of a site on 127.0.0.1 until standard input ends, \
                  and prints the report of the day";
-    let example = "Example: forecourt station examples/five_points.toml --port 4001\n";
+    let example = "Example: forecourt station examples/five_points.toml --port 4001 \
+                   --journal day.journal\n";
     let command = start(alloc, "station", about, example);
     let command = add_argument(command, site_file(alloc))?;
     let command = add_argument(command, required(alloc, "port", "N", ANY_PORT))?;

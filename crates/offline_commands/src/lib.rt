@@ -7,6 +7,7 @@
 
 mod check;
 mod explain;
+mod named_site;
 mod replay;
 mod report;
 mod sales;

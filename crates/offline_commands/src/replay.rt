@@ -1,10 +1,11 @@
 //! `forecourt replay FILE`, and the program without words.
 
+use crate::named_site::open_input;
 use command_line::ReplayOptions;
 use devices::Counted;
 use forecourt_engines::known_site;
 use forecourt_engines::replay::replay;
-use program_io::{TURNS, exit_no_memory, exit_replay, read_site};
+use program_io::{TURNS, exit_no_memory, exit_replay};
 use site_base::SiteConfig;
 use std::io;
 use std::io::Read;
@@ -17,8 +18,8 @@ pub fn run_replay<R: Files + Print + Eprint + AllocGlobal, I: Read + Drop>(
     input: I,
     options: ReplayOptions<'_>,
 ) -> ExitCode {
-    match read_site(rt, options.site) {
-        Ok(config) => replay_on(rt, input, &config, options.changes),
+    match open_input(rt, options.site, input) {
+        Ok((config, input)) => replay_on(rt, input, &config, options.changes),
         Err(status) => status,
     }
 }

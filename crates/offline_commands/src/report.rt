@@ -1,5 +1,6 @@
 //! `forecourt report FILE [--human | --json]`.
 
+use crate::named_site::open_input;
 use crate::silent::{ends_its_text, replay_silently};
 use command_line::{ReportForm, ReportOptions};
 use day_report::{report_as_json, report_for_people};
@@ -7,7 +8,7 @@ use devices::{Counted, write_whole};
 use forecourt_engines::replay::ReplayEnd;
 use forecourt_engines::reporting::replay_to_report;
 use forecourt_engines::{ReplayFault, SiteBook};
-use program_io::{TURNS, exit_no_memory, exit_replay, read_site};
+use program_io::{TURNS, exit_no_memory, exit_replay};
 use site_base::{NoMemory, SiteConfig};
 use std::alloc::Global;
 use std::io;
@@ -21,8 +22,8 @@ pub fn run_report<R: Files + Print + Eprint + AllocGlobal, I: Read + Drop>(
     input: I,
     options: ReportOptions<'_>,
 ) -> ExitCode {
-    let config = match read_site(rt, options.site) {
-        Ok(config) => config,
+    let (config, input) = match open_input(rt, options.site, input) {
+        Ok(opened) => opened,
         Err(status) => return status,
     };
     match options.form {

@@ -1,10 +1,11 @@
 //! `forecourt sales FILE`.
 
+use crate::named_site::open_input;
 use crate::silent::{ends_its_text, replay_silently};
 use command_line::SalesOptions;
 use devices::Counted;
 use forecourt_engines::{ReplayFault, SiteBook};
-use program_io::{TURNS, exit_replay, read_site};
+use program_io::{TURNS, exit_replay};
 use sales_table::{Form, TableFault, write_draws, write_sales};
 use site_base::SiteConfig;
 use std::io;
@@ -18,8 +19,8 @@ pub fn run_sales<R: Files + Print + Eprint + AllocGlobal, I: Read + Drop>(
     input: I,
     options: SalesOptions<'_>,
 ) -> ExitCode {
-    match read_site(rt, options.site) {
-        Ok(config) => print_sold(rt, input, &config, options),
+    match open_input(rt, options.site, input) {
+        Ok((config, input)) => print_sold(rt, input, &config, options),
         Err(status) => status,
     }
 }
