@@ -20,7 +20,8 @@
  *   FAIL_RENAME=K      the Kth file that is to be named anew isn't
  *   FAIL_RECEIVE=K     the Kth read of a socket fails
  *   FAIL_SEND=K        the Kth write to a socket fails
- *   BLOCK_SEND=K       the Kth write to a socket would block
+ *   BLOCK_SEND=K       the Kth write to a socket would block, and so would each later one while
+ *                      the file of MET is there
  *   SHORT_SEND=M       a write to a socket takes at most M octets
  *   FAIL_SOCKET=K      the Kth socket isn't made
  *   FAIL_BIND=K        the Kth socket gets no address
@@ -293,6 +294,16 @@ ssize_t recv(int socket, void *to, size_t size, int flags)
     return syscall(SYS_recvfrom, socket, to, size, flags, NULL, NULL);
 }
 
+/* Would this write to a socket block? */
+static int would_block(void)
+{
+    long wanted = number("BLOCK_SEND");
+    const char *path = getenv("MET");
+    if (fails("BLOCK_SEND", &blocked))
+        return 1;
+    return wanted && blocked > wanted && path && access(path, F_OK) == 0;
+}
+
 ssize_t send(int socket, const void *text, size_t size, int flags)
 {
     if (interrupts(&sent_before))
@@ -301,7 +312,7 @@ ssize_t send(int socket, const void *text, size_t size, int flags)
         errno = EIO;
         return -1;
     }
-    if (fails("BLOCK_SEND", &blocked)) {
+    if (would_block()) {
         errno = EAGAIN;
         return -1;
     }

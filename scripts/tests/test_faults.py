@@ -63,7 +63,6 @@ STORED, NOTHING = FOLDER / "stdin", pathlib.Path(os.devnull)
 MODULE = "out_of_memory"  # of the tests whose allocations fail
 AT_ONCE = 32  # runs
 MOST = 10_000  # runs in turn
-BLOCKED_SENDS = 20  # until one waits for the end of the day
 JOURNAL, MOVED, COPY = "journal", "moved", "journal.starting"
 
 
@@ -813,9 +812,10 @@ def fail_allocations_of_stored_station():
     return count_some_in_turn("the station with a journal", one)
 
 
-def block_a_send():
-    """Whether a till heard nothing where the send of its reply would block, until the day's end;
-    and what it had heard then, and the report."""
+@test
+def block_a_send_of_station():
+    """A reply that its connection doesn't take, and of which the system tells no more, is sent at
+    the day's end, and its till is left."""
     pipe = subprocess.PIPE
     words = [PROGRAM, "station", KNOWN_SITE, "--port=0"]
     with PLACE.prepare({"BLOCK_SEND": 1}) as (how, met):
@@ -826,26 +826,16 @@ def block_a_send():
                 before = time.monotonic()
                 while not met.exists() and time.monotonic() < before + PATIENCE:
                     time.sleep(0.01)
-                is_silent = met.exists() and not select.select([till], [], [], 0.1)[0]
+                is_silent = not select.select([till], [], [], 0.1)[0]
+                # From here on the connection takes octets; nothing tells the station so.
+                met.unlink()
                 program.stdin.close()
                 program.stdin = None
                 got = receive_all(till)
             out, _ = program.communicate(timeout=PATIENCE)
-    return is_silent, got, out
-
-
-@test
-def block_a_send_of_station():
-    """A reply that its connection doesn't take, and of which the system tells no more, is sent at
-    the day's end, and its till is left. On a busy machine the system may tell once more: then the
-    reply is sent at once, and it is tried again."""
-    for _ in range(BLOCKED_SENDS):
-        is_silent, got, out = block_a_send()
-        if got != parse(SIGNED_ON) or not out.startswith(b"rows 2\n"):
-            raise Failed(f"the station whose send would block: {got}, {out}")
-        if is_silent:
-            return 1
-    raise Failed(f"the system told of each of {BLOCKED_SENDS} sends that would block")
+    if not is_silent or got != parse(SIGNED_ON) or not out.startswith(b"rows 2\n"):
+        raise Failed(f"the station whose send would block: {is_silent}, {got}, {out}")
+    return 1
 
 
 @test

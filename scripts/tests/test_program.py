@@ -651,10 +651,28 @@ def texts_of_a_site():
             expect_end(f"{name} of this site", end, 0, plain.out)
             end = forecourt(command, KNOWN_SITE, given=head.format(other) + rows)
             expect_end(f"{name} of another site", end, 1, b"", f"{text} of another site")
-            end = forecourt(command, KNOWN_SITE, given=rows + head.format(other))
-            expect_end(f"{name} that names it too late", end, 0, plain.out)
-            end = forecourt(command, KNOWN_SITE, given=head.format(own[1:]) + rows)
-            expect_end(f"{name} that names none", end, 0, plain.out)
+            refused = (1, b"", f"{text} of another site")
+            for kind, given in {
+                "with CRLF": head.format(other).replace("\n", "\r\n") + rows,
+                "in upper case": head.format(other.upper()) + rows,
+                "behind a comment and empty lines": "# a day\n\n  \r\n" + head.format(other) + rows,
+                "without a row": head.format(other),
+                "without its line feed": head.split("{}")[0] + other,
+            }.items():
+                end = forecourt(command, KNOWN_SITE, given=given)
+                expect_end(f"{name} of another site, {kind}", end, *refused)
+            for kind, given in {
+                "below a row": rows + head.format(other),
+                "in the octets after the first 256": "#" * 255 + "\n" + head.format(other) + rows,
+                "with a digit too few": head.format(other[1:]) + rows,
+                "with other letters": head.format("x" * 64) + rows,
+                "of its own, in upper case": head.format(own.upper()) + rows,
+            }.items():
+                end = forecourt(command, KNOWN_SITE, given=given)
+                expect_end(f"{name} named {kind}", end, 0, plain.out)
+        comment = f"# site {other}\n"
+        end = forecourt(command, KNOWN_SITE, given=comment + rows)
+        expect_end(f"{command} of a comment like a history's line", end, 0, plain.out)
 
 
 def fold(path):

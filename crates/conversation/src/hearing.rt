@@ -36,8 +36,8 @@ pub fn hear<A: Asks>(talk: &mut Talk, asks: &mut A, message: &Message) -> Said
     }
 }
 
-/// Hears a message of anyone, whom no talk serves: of a replay. Its request is asked once, and has
-/// this row.
+/// Hears a message of anyone, whom no talk serves: of a replay. Its request is asked once: this is
+/// its row, or why there is none.
 #[inline(always)]
 pub fn hear_anyone<A: Asks>(asks: &mut A, message: &SpelledMessage<'_>) -> Result<Row, NoReply>
     ensures { IsHeard A.asked (A.seen asks.old) message.now result (A.seen asks.new) }

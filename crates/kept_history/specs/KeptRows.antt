@@ -13,9 +13,10 @@ is_read (ReadProduct q) = true
 is_read (ReadTransaction p id) = true
 is_read event = false
 
--- accepted or refused: a refusal of another request shows who tried what
+-- every row but a read's is kept; refusals of other requests too, since they show who tried what
 abbrev pub is_kept : Row → Bool
 is_kept r = not (is_read r.event)
 
+-- the rows that are kept, in order
 abbrev pub kept_rows : List Row → List Row
 kept_rows rows = filter is_kept rows

@@ -1,33 +1,40 @@
-//! An input that names the site file which it belongs to, and is read on another one: a journal's
-//! first line and a history's second do.
+//! Refuses an input that names another site file than the one that it is read on. A journal names
+//! its own in its first line, a chapter of a history in its second.
 
-ghost use Rattle.std.specs.Prelude.{◌≡◌, ◌+◌, ◌<◌, drop, length};
-ghost use Rattle.offline_commands.specs.NamedSites.{names_another, other_text};
+ghost use Rattle.std.specs.Prelude.{◌≡◌, ◌≢◌, ◌+◌, ◌<◌, drop, length, IfSome, None, Some};
+ghost use Rattle.offline_commands.specs.NamedSites.{Names};
 
 use devices::{Counted, PIECE_OCTETS, ReadFault, read_piece};
 use forecourt_engines::ReplayFault;
+use hex_lines::text_of;
 use memchr::memchr;
 use program_io::{FAULT, TURNS, exit_fault, exit_replay, read_site_file};
 use sha2::{Digest, Sha256};
 use site_base::{NoMemory, SiteConfig};
 use std::alloc::Global;
-use std::io::{Chain, Cursor, Read};
+use std::io::{Chain, Cursor, Read, Take};
 use std::process::ExitCode;
 use std::rt::Files;
 use thiserror::Error;
 
-/// A site may be named within so many octets at an input's front.
+/// A site's name is looked for in so many octets at an input's front.
 const NAME_OCTETS: usize = 256;
 
 /// What a journal's first line begins with; the digits of its site file's SHA-256 follow.
 const OF_JOURNAL: &[u8] = b"# witsomar journal of site ";
 
-/// What the line of a history that names its site begins with; the same digits follow.
+/// What the first line of a history's chapter begins with.
+const HISTORY: &[u8] = b"# witsomar history ";
+
+/// What the line of a chapter that names its site begins with; the same digits follow.
 const OF_HISTORY: &[u8] = b"# site ";
 
-/// The text that belongs to another site file.
+/// The octets of a SHA-256.
+const DIGEST: usize = 32;
+
+/// A text that names its site file.
 #[derive(Clone, Copy, Debug, PartialEq, Eq, Error)]
-enum OtherText {
+enum NamedText {
     /// A journal.
     #[error("journal of another site")]
     Journal,
@@ -39,10 +46,10 @@ enum OtherText {
 /// Why an input isn't replayed.
 #[derive(Clone, Copy, Debug, PartialEq, Eq)]
 enum NoInput {
-    /// It ended before it was known what it names.
+    /// A read failed, or memory ran out, before it was known which site it names.
     Ended(ReplayFault),
     /// It names another site.
-    Another(OtherText),
+    Another(NamedText),
 }
 
 impl From<NoMemory> for NoInput {
@@ -57,49 +64,91 @@ impl From<ReadFault> for NoInput {
     }
 }
 
-/// The site of the file of this name, and an input for it. Or how the program ends: the file can't
-/// be read or has a fault, the input can't be read, or it names another site file.
+/// An input whose front was read.
+pub type FrontRead<I> = Chain<Cursor<Vec<u8>>, Take<Counted<I>>>;
+
+/// The site of the file of this name, an input for it, and the turns that are left to read it. Or
+/// how the program ends: the file can't be read or has a fault, the input can't be read, or it
+/// names another site file.
 pub fn open_input<R: Files + Eprint + AllocGlobal, I: Read + Drop>(
     rt: &R,
     name: &str,
     input: I,
-) -> Result<(SiteConfig, Chain<Cursor<Vec<u8>>, Counted<I>>), ExitCode> {
+) -> Result<(SiteConfig, FrontRead<I>, u64), ExitCode> {
     let (config, site_file) = read_site_file(rt, name)?;
-    let mut reader = Counted::new(input);
-    match read_front(rt.alloc(), &mut reader, &site_file) {
-        Ok(front) => Ok((config, Cursor::new(front).chain(reader))),
+    let (mut reader, mut turns) = (Counted::new(input), TURNS);
+    match read_named(rt.alloc(), &mut reader, &mut turns, &site_file) {
+        Ok(front) => {
+            // An input that has ended isn't read again: at a terminal more may be typed.
+            let left = if front.is_ended { 0 } else { u64::MAX };
+            let input = Cursor::new(front.octets).chain(reader.take(left));
+            Ok((config, input, turns))
+        }
         Err(NoInput::Ended(fault)) => Err(exit_replay(rt, Some(fault))),
         Err(NoInput::Another(text)) => Err(exit_fault(rt, text, FAULT)),
     }
 }
 
-/// The front of an input, read as far as it may name a site: this file's, if it names one.
+/// Reads an input as far as it may name a site, and fails if that is another one.
+fn read_named<I: Read>(
+    alloc: Global,
+    reader: &mut Counted<I>,
+    turns: &mut u64,
+    site_file: &[u8],
+) -> Result<Front, NoInput> {
+    let front = read_front(alloc, reader, turns)?;
+    let text = judged_text(alloc, &front)?;
+    let digest = Sha256::digest(site_file);
+    match find_another(&text, &digest) {
+        Some(text) => Err(NoInput::Another(text)),
+        None => Ok(front),
+    }
+}
+
+/// The octets that were read of an input, and whether it ended with them.
+#[derive(Drop)]
+struct Front {
+    octets: Vec<u8>,
+    is_ended: bool,
+}
+
+/// Reads an input as far as it may name a site.
 fn read_front<I: Read>(
     alloc: Global,
     reader: &mut Counted<I>,
-    site_file: &[u8],
-) -> Result<Vec<u8>, NoInput> {
-    let mut front = Vec::new(alloc);
+    turns: &mut u64,
+) -> Result<Front, NoInput> {
+    let mut octets = Vec::new(alloc);
     let mut piece = [0u8; PIECE_OCTETS];
-    let mut turns = TURNS;
+    let mut is_ended = false;
     for _ in 0..NAME_OCTETS {
-        if front.len() >= NAME_OCTETS || !has_comments_alone(&front) {
+        if is_ended || octets.len() >= NAME_OCTETS || !has_comments_alone(&octets) {
             break;
         }
-        let n = read_piece(reader, &mut piece, &mut turns)?;
-        if n == 0 {
-            break;
-        }
-        extend(&mut front, &piece[..n])?;
+        let n = read_piece(reader, &mut piece, turns)?;
+        is_ended = n == 0;
+        extend(&mut octets, &piece[..n])?;
     }
-    check_name(alloc, &front, site_file)?;
-    Ok(front)
+    Ok(Front { octets, is_ended })
 }
 
-/// Puts octets behind others.
-fn extend(front: &mut Vec<u8>, octets: &[u8]) -> Result<(), NoMemory> {
-    front.extend_from_slice(octets)?;
+/// Puts octets after others.
+fn extend(text: &mut Vec<u8>, octets: &[u8]) -> Result<(), NoMemory> {
+    text.extend_from_slice(octets)?;
     Ok(())
+}
+
+/// The octets in which a name is looked for. The last line of an input is ended.
+fn judged_text(alloc: Global, front: &Front) -> Result<Vec<u8>, NoMemory> {
+    let mut text = Vec::new(alloc);
+    extend(
+        &mut text,
+        &front.octets[..front.octets.len().min(NAME_OCTETS)],
+    )?;
+    if front.is_ended {
+        extend(&mut text, b"\n")?;
+    }
+    Ok(text)
 }
 
 /// Is each line a comment, or empty?
@@ -112,37 +161,57 @@ fn has_comments_alone(text: &[u8]) -> bool {
         if !is_comment(&rest[..end]) {
             return false;
         }
-        rest = behind_line(rest, end);
+        rest = after_line(rest, end);
     }
     is_comment(rest)
 }
 
-/// Is a line a comment, or empty?
+/// Is a line a comment, or empty, as a replay skips them?
 fn is_comment(line: &[u8]) -> bool {
-    line.is_empty() || line.starts_with(b"#")
+    for octet in text_of(line) {
+        if *octet != b' ' {
+            return *octet == b'#';
+        }
+    }
+    true
 }
 
-/// Fails where a line above the first message names another site file than this one.
-fn check_name(alloc: Global, text: &[u8], site_file: &[u8]) -> Result<(), NoInput> {
-    let digits = &digits_of(alloc, site_file)?;
-    let mut rest = text;
+/// The text whose site another file is, if the first site that a line above the first message
+/// names isn't this file's.
+fn find_another(text: &[u8], digest: &[u8; DIGEST]) -> Option<NamedText> {
+    let (mut rest, mut in_history) = (text, false);
     for _ in 0..text.len() {
         let Some(end) = memchr(b'\n', rest) else {
             break;
         };
-        if !is_comment(&rest[..end]) {
+        let line = text_of(&rest[..end]);
+        if let Some(site) = &site_named(OF_JOURNAL, line) {
+            return unless_same(NamedText::Journal, site, digest);
+        }
+        if in_history {
+            if let Some(site) = &site_named(OF_HISTORY, line) {
+                return unless_same(NamedText::History, site, digest);
+            }
+        }
+        if !is_comment(line) {
             break;
         }
-        if let Some(another) = other_text(&rest[..end], digits) {
-            return Err(NoInput::Another(another));
-        }
-        rest = behind_line(rest, end);
+        in_history = in_history || line.starts_with(HISTORY);
+        rest = after_line(rest, end);
     }
-    Ok(())
+    None
 }
 
-/// What stands behind the line that ends here.
-fn behind_line(text: &[u8], end: usize) -> &[u8]
+/// This text, unless the site that it names is the file's.
+fn unless_same(text: NamedText, site: &[u8; DIGEST], digest: &[u8; DIGEST]) -> Option<NamedText>
+    ensures same { site.now ≡ digest.now → result ≡ None }
+    ensures another { site.now ≢ digest.now → result ≡ Some text }
+{
+    if *site == *digest { None } else { Some(text) }
+}
+
+/// The rest of a text after the line that ends here.
+fn after_line(text: &[u8], end: usize) -> &[u8]
     requires { end < length text.now }
     ensures { result.now ≡ drop (end + 1) text.now }
 {
@@ -150,27 +219,17 @@ fn behind_line(text: &[u8], end: usize) -> &[u8]
     &others[1..]
 }
 
-/// The digits of a file's SHA-256.
-fn digits_of(alloc: Global, octets: &[u8]) -> Result<Vec<u8>, NoMemory> {
-    Ok(hex::encode(alloc, Sha256::digest(octets))?.into_bytes())
-}
-
-/// Which text this line names the site of, if that site has other digits than these.
-fn other_text(line: &[u8], digits: &[u8]) -> Option<OtherText>
-    ensures { result ≡ other_text digits.now line.now }
+/// The site that a line names after this title: the SHA-256 of its file, of which the line has the
+/// digits, in either case.
+fn site_named(title: &[u8], line: &[u8]) -> Option<[u8; DIGEST]>
+    ensures { IfSome result (λ site. Names title.now site line.now) }
 {
-    if names_another(OF_JOURNAL, line, digits) {
-        return Some(OtherText::Journal);
+    if !line.starts_with(title) {
+        return None;
     }
-    if names_another(OF_HISTORY, line, digits) {
-        return Some(OtherText::History);
+    let mut site = [0u8; DIGEST];
+    match hex::decode_to_slice(&line[title.len()..], &mut site) {
+        Ok(()) => Some(site),
+        Err(_) => None,
     }
-    None
-}
-
-/// Do other digits than these stand behind this title, as many?
-fn names_another(title: &[u8], line: &[u8], digits: &[u8]) -> bool
-    ensures { result ≡ names_another title.now digits.now line.now }
-{
-    line.len() == title.len() + digits.len() && line.starts_with(title) && !line.ends_with(digits)
 }

@@ -19,7 +19,7 @@ pub fn run_replay<R: Files + Print + Eprint + AllocGlobal, I: Read + Drop>(
     options: ReplayOptions<'_>,
 ) -> ExitCode {
     match open_input(rt, options.site, input) {
-        Ok((config, input)) => replay_on(rt, input, &config, options.changes),
+        Ok((config, input, turns)) => replay_on(rt, input, turns, &config, options.changes),
         Err(status) => status,
     }
 }
@@ -30,7 +30,7 @@ pub fn run_replay_here<R: Print + Eprint + AllocGlobal, I: Read + Drop>(
     input: I,
 ) -> ExitCode {
     match known_site(rt.alloc()) {
-        Ok(config) => replay_on(rt, input, &config, false),
+        Ok(config) => replay_on(rt, input, TURNS, &config, false),
         Err(_) => exit_no_memory(rt),
     }
 }
@@ -39,11 +39,12 @@ pub fn run_replay_here<R: Print + Eprint + AllocGlobal, I: Read + Drop>(
 fn replay_on<R: Print + Eprint + AllocGlobal, I: Read + Drop>(
     rt: &R,
     input: I,
+    turns: u64,
     config: &SiteConfig,
     changes: bool,
 ) -> ExitCode {
     let mut reader = Counted::new(input);
     let mut writer = Counted::new(io::writer(rt));
-    let end = replay(rt.alloc(), config, &mut reader, &mut writer, TURNS, changes);
+    let end = replay(rt.alloc(), config, &mut reader, &mut writer, turns, changes);
     exit_replay(rt, end.fault)
 }

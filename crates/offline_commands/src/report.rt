@@ -22,14 +22,14 @@ pub fn run_report<R: Files + Print + Eprint + AllocGlobal, I: Read + Drop>(
     input: I,
     options: ReportOptions<'_>,
 ) -> ExitCode {
-    let (config, input) = match open_input(rt, options.site, input) {
+    let (config, input, turns) = match open_input(rt, options.site, input) {
         Ok(opened) => opened,
         Err(status) => return status,
     };
     match options.form {
-        ReportForm::Lines => report_lines(rt, input, &config),
-        ReportForm::People => report_after(rt, input, &config, BookText::People),
-        ReportForm::Json => report_after(rt, input, &config, BookText::Json),
+        ReportForm::Lines => report_lines(rt, input, turns, &config),
+        ReportForm::People => report_after(rt, input, turns, &config, BookText::People),
+        ReportForm::Json => report_after(rt, input, turns, &config, BookText::Json),
     }
 }
 
@@ -38,11 +38,12 @@ pub fn run_report<R: Files + Print + Eprint + AllocGlobal, I: Read + Drop>(
 fn report_lines<R: Print + Eprint + AllocGlobal, I: Read + Drop>(
     rt: &R,
     input: I,
+    turns: u64,
     config: &SiteConfig,
 ) -> ExitCode {
     let mut reader = Counted::new(input);
     let mut writer = Counted::new(io::writer(rt));
-    let end = replay_to_report(rt.alloc(), config, &mut reader, &mut writer, TURNS);
+    let end = replay_to_report(rt.alloc(), config, &mut reader, &mut writer, turns);
     exit_replay(rt, end.err())
 }
 
@@ -60,10 +61,11 @@ enum BookText {
 fn report_after<R: Print + Eprint + AllocGlobal, I: Read + Drop>(
     rt: &R,
     input: I,
+    turns: u64,
     config: &SiteConfig,
     wanted: BookText,
 ) -> ExitCode {
-    let ReplayEnd { fault, book } = replay_silently(rt.alloc(), input, config);
+    let ReplayEnd { fault, book } = replay_silently(rt.alloc(), input, turns, config);
     let Some(book) = book else {
         return exit_replay(rt, fault);
     };

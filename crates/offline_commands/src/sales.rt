@@ -20,7 +20,7 @@ pub fn run_sales<R: Files + Print + Eprint + AllocGlobal, I: Read + Drop>(
     options: SalesOptions<'_>,
 ) -> ExitCode {
     match open_input(rt, options.site, input) {
-        Ok((config, input)) => print_sold(rt, input, &config, options),
+        Ok((config, input, turns)) => print_sold(rt, input, turns, &config, options),
         Err(status) => status,
     }
 }
@@ -30,10 +30,11 @@ pub fn run_sales<R: Files + Print + Eprint + AllocGlobal, I: Read + Drop>(
 fn print_sold<R: Print + Eprint + AllocGlobal, I: Read + Drop>(
     rt: &R,
     input: I,
+    turns: u64,
     config: &SiteConfig,
     options: SalesOptions<'_>,
 ) -> ExitCode {
-    let end = replay_silently(rt.alloc(), input, config);
+    let end = replay_silently(rt.alloc(), input, turns, config);
     let Some(book) = &end.book else {
         return exit_replay(rt, end.fault);
     };

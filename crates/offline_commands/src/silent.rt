@@ -3,17 +3,21 @@
 use devices::Counted;
 use forecourt_engines::ReplayFault;
 use forecourt_engines::replay::{ReplayEnd, replay};
-use program_io::TURNS;
 use site_base::SiteConfig;
 use std::alloc::Global;
 use std::io;
 use std::io::Read;
 
 /// Replays this input on this site without its answers.
-pub fn replay_silently<I: Read + Drop>(alloc: Global, input: I, config: &SiteConfig) -> ReplayEnd {
+pub fn replay_silently<I: Read + Drop>(
+    alloc: Global,
+    input: I,
+    turns: u64,
+    config: &SiteConfig,
+) -> ReplayEnd {
     let mut reader = Counted::new(input);
     let mut sink = Counted::new(io::sink());
-    replay(alloc, config, &mut reader, &mut sink, TURNS, false)
+    replay(alloc, config, &mut reader, &mut sink, turns, false)
 }
 
 /// Is this the end of the input, or a fault of its text? After another one nothing is reported.
