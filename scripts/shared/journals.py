@@ -7,7 +7,7 @@ import typing
 from shared.checks import Failed
 from shared.running import run
 from shared.station import (
-    ACKNOWLEDGE, DISPENSER, NOTICE, OPEN, PREPAY, RELEASE, RESULT, SIGN_OFF, SUSPEND, TERMINATE,
+    ACKNOWLEDGE, DISPENSER, NOTICE, OPEN, PREPAY, READ, RELEASE, RESULT, SIGN_OFF, SUSPEND, TERMINATE,
     TEST_RELEASE, TILL, WRITE, decode,
 )  # fmt: skip
 
@@ -51,6 +51,11 @@ def split_messages(octets):
 
 def is_notice(octets):
     return octets[5] >> 5 == NOTICE
+
+
+def is_read(octets):
+    """Whether it is a request that only reads: its row isn't kept."""
+    return octets[5] >> 5 == READ
 
 
 def read_items(octets):
@@ -115,6 +120,14 @@ class Session(typing.NamedTuple):
     @property
     def replies(self):
         return [one for one in self.came if not is_notice(one)]
+
+    def without_reads(self):
+        """The session without reads, and without what they were answered."""
+        asked, came = iter(self.sent), []
+        for one in self.came:
+            if is_notice(one) or not is_read(next(asked)):
+                came.append(one)
+        return Session([one for one in self.sent if not is_read(one)], came)
 
 
 class Told:
@@ -200,7 +213,7 @@ class Told:
         one place to another, if they can't: None where all is well."""
         own = self.places(node, begin, end)
         cursors = self.leaves(node, own, {0})
-        for number, session in enumerate(sessions, 1):
+        for number, session in enumerate(map(Session.without_reads, sessions), 1):
             ends = [self.goes_on(node, session, own, at, end) for at in cursors]
             before, cursors = cursors, self.leaves(node, own, set().union(*ends))
             if not cursors:

@@ -42,6 +42,14 @@ def list_addresses(process):
     return bound
 
 
+def read_status(day, name):
+    """A figure of the process that the system tells: kilobytes."""
+    for line in pathlib.Path(f"/proc/{day.process.pid}/status").read_text().splitlines():
+        if line.startswith(name):
+            return int(line.split()[1])
+    raise Failed(f"no {name}")
+
+
 # ---- the program
 
 

@@ -15,15 +15,16 @@ import signal
 import socket
 import stat
 import subprocess
+import threading
 import time
 
 from shared.checks import Failed, Skipped, expect
 from shared.journals import (
-    Told, find_untold, first_line, is_notice, is_sign_off, read_journal, split_messages,
+    Told, find_untold, first_line, is_notice, is_read, is_sign_off, read_journal, split_messages,
     whole_lines, without_token, write_rows,
 )  # fmt: skip
 from shared.running import run
-from shared.serving import WAIT, send_reset, start_day, wait_until
+from shared.serving import WAIT, read_status, send_reset, start_day, wait_until
 from shared.station import (
     ACKNOWLEDGE, CLEAR, CLOSE, DISPENSER, FLOW, HANG_UP, KNOWN_SITE, LIFT, LOCK, OPEN, RELEASE,
     RESULT, SITE, TILL, WRITE, address_point, command_point, command_sale, decode, encode, parse,
@@ -41,6 +42,7 @@ NOBODY = 65_534
 LINES = 150
 AT_ONCE = 6  # stations
 MANY = 200  # rows, and messages, until a disk is full
+MOST_KILOBYTES = 16_384  # of a station that forgets rows
 LISTENING = re.compile(rb"listening 127\.0\.0\.1:\d+\n")
 # Till 2 releases point 1, which till 1 opened, and its dispenser sells ten litres.
 DAY = [
@@ -147,26 +149,26 @@ def it_goes_on():
         got = b"".join(without_token(receive_message(till)) for _ in more)
         told = end(day)
         expect("no more is told", receive_all(till), b"")
-    after = path.read_bytes()
-    expect("the journal", after, DAY_TEXT + OFF_1 + write_rows(*more) + OFF_1)
-    replayed = [row.reply for row in read_journal(PROGRAM, KNOWN_SITE, after)]
-    expect("the replies", got, b"".join(replayed[len(DAY) + 1 : -1]))
+    after, kept = path.read_bytes(), [one for one in more if not is_read(one)]
+    expect("the journal", after, DAY_TEXT + OFF_1 + write_rows(*kept) + OFF_1)
+    all_rows = read_journal(PROGRAM, KNOWN_SITE, DAY_TEXT + OFF_1 + write_rows(*more))
+    expect("the replies", got, b"".join(row.reply for row in all_rows[len(DAY) + 1 :]))
     expect("the report", told.encode(), report_of(after))
 
 
 @test
 def lines_are_rows():
     """What makes no row makes no line: a message that means no event, a stranger's, and what ends a
-    session. A refusal is a row."""
+    session. Nor does a read, whose row isn't kept. A refusal is a row."""
     path = write_journal(b"")
     stranger = encode((SITE, 1), (9, 9), 0, 0, address_point(1))
     empty = encode((SITE, 1), (TILL, 1), WRITE, 0, address_point(1))
-    read = read_point(1, 0, 1)
+    read, refused = read_point(1, 0, 1), command_point(1, 0, 1, OPEN)
     with start_station(path) as day:
-        for sent in (stranger, empty, b"\xff" * 8, b"", read[:5], empty + read + empty):
+        for sent in (stranger, empty, b"\xff" * 8, b"", read[:5], empty + read + refused + empty):
             day.ask(sent)
         told = end(day, None)
-    expect("the journal", path.read_bytes(), FIRST + write_rows(read))
+    expect("the journal", path.read_bytes(), FIRST + write_rows(refused))
     expect("the report", told, write_report(1, 0))
 
 
@@ -243,8 +245,8 @@ def mutate(chance, octets):
 
 @test
 def random_lines(seed):
-    """A line is a journal's just where a replay answers it by one reply of a row: requests of all
-    kinds, and what random changes make of them."""
+    """A line is a journal's just where a replay answers it by one reply of a row, and it is no
+    read: requests of all kinds, and what random changes make of them."""
     chance, counts = start_chance(seed, "lines"), [0, 0]
     kinds = [*DAY, *map(parse, (
         "01 01 02 01 00 4B 00 07 04 21 21 00 01 81 00",
@@ -261,7 +263,10 @@ def random_lines(seed):
         line = one.hex().encode() + b"\n"
         answered = run(PROGRAM, "replay", KNOWN_SITE, given=line)
         replies = [bytes.fromhex(text.decode()) for text in answered.out.splitlines()]
-        is_row = answered.status == 0 and len(replies) == 1 and not is_number(replies[0])
+        is_row = (
+            answered.status == 0 and len(replies) == 1 and not is_number(replies[0])
+            and not is_read(one)
+        )  # fmt: skip
         counts[is_row] += 1
         if is_row:
             signed = [n for n in range(1, 33) if without_token(one) == without_token(sign_on(n))]
@@ -308,36 +313,69 @@ def other_spellings():
 
 
 @test
-def full_books():
-    """Behind the row that fills the book there are the sign-offs of who is signed on, and nothing
-    else; a station that goes on there answers each request by 30. Its own report counts these
-    sign-offs; to `report` they are requests that a full book has no row for."""
-    site = HERE / "few.toml"
-    site.write_bytes(b"rows = 4\n" + KNOWN_SITE.read_bytes())
-    four = [sign_on(1), sign_on(2), say(1), command_point(1, 0, 1, OPEN)]
-    first = first_line(site)
-    full, offs = first + write_rows(*four), write_rows(sign_off(1), sign_off(2))
-    six, one_off = write_report(6, 0).encode(), full + write_rows(sign_off(2))
-    expect_opened("full", full, full, 4, offs, site, six)
-    expect_opened("one is off", one_off, one_off, 5, write_rows(sign_off(1)), site, six)
-    expect_opened("both are off", full + offs, full + offs, 6, b"", site, six)
-    expect("to a report", report_of(full + offs, site), write_report(4, 0).encode())
-    lift = report(1, 0, LIFT, 0)
-    for one in (sign_off(3), sign_on(3), sign_on(1), read_point(1, 0, 1), say(1), lift):
-        expect_line("beyond a full book", full + write_rows(one), 6, site)
-        expect_line("beyond its sign-offs", full + offs + write_rows(one), 8, site)
-    expect_line("a second sign-off", full + offs + write_rows(sign_off(1)), 8, site)
-    path = write_journal(full)
-    with start_station(path, site=site) as day, day.connect() as till, day.connect() as pump:
-        for peer, asked, wanted in (
-            (till, sign_on(1), parse("02 01 01 01 00 E1 00 05 01 01 01 01 1E")),
-            (pump, say(1), parse("03 01 01 01 00 E3 00 05 01 21 01 01 1E 03 01 01 01 00 80 00 04")
-             + parse("01 21 3C 00")),
-        ):  # fmt: skip
-            peer.sendall(asked)
-            expect("no row, and what stands", receive(peer, len(wanted)), wanted)
-        expect("the report", end(day).splitlines()[0], "rows 6")
-    expect("the journal", path.read_bytes(), full + offs)
+def long_histories():
+    """A journal of more rows than the site file allows in memory is read again, and goes on. To
+    `report` the rows behind those that it allows are none."""
+    site, limit = HERE / "few.toml", 1_024
+    site.write_bytes(b"rows = %d\n" % limit + KNOWN_SITE.read_bytes())
+    for count in (limit, limit + 1, 3_000):
+        rows = write_rows(sign_on(1), *(
+            command_point(1, 0, 1, (OPEN, CLOSE)[n % 2]) for n in range(count - 1)
+        ))  # fmt: skip
+        text = first_line(site) + rows
+        expect_opened(f"{count} rows", text, text, count, OFF_1, site, report_of(rows + OFF_1))
+        expect("to a report", report_of(text, site), write_report(limit, 0).encode())
+    path = HERE / "journal"
+    with start_station(path, site=site) as day, day.connect() as till:
+        expect("rows", day.rows, 3_001)
+        till.sendall(sign_on(1) + command_point(1, 0, 1, OPEN))
+        expect("what stands", receive(till, 16 + 13)[:16], parse(
+            "02 01 01 01 00 E1 00 08 01 01 01 01 00 03 01 00"
+        ))  # fmt: skip
+        expect("the report", end(day).splitlines()[0], "rows 3004")
+
+
+@test
+def reads_are_not_stored():
+    """Reads, and what refuses them, write nothing: neither a line nor a flush."""
+    path = write_journal(b"")
+    with start_station(path) as day, day.connect() as till:
+        till.sendall(sign_on(1))
+        expect("a reply", len(receive_message(till)), 16)
+        before, changed = path.read_bytes(), path.stat().st_mtime_ns
+        reads = [read_point(1, 0, 1), read_point(1, 0, 9), read_sale(1, 0, 1, 1)]
+        for one in reads:
+            till.sendall(one)
+            receive_message(till)
+        expect("the journal", (path.read_bytes(), path.stat().st_mtime_ns), (before, changed))
+        expect("the report", end(day).splitlines()[0], "rows 2")
+    expect("the journal", path.read_bytes(), before + OFF_1)
+    for one in reads:
+        expect_line("a read", FIRST + write_rows(sign_on(1), one), 3)
+
+
+@test
+def five_million_reads():
+    """A till that looks five million times is answered each time, never that the book is full. The
+    journal doesn't grow, and the rows in memory are forgotten."""
+    path, piece = write_journal(b""), b"".join(read_point(1, n % 32, 1) for n in range(3_200))
+    with start_station(path) as day, day.connect() as till:
+        till.sendall(sign_on(1))
+        expect("a reply", len(receive_message(till)), 16)
+        before = path.read_bytes()
+        till.sendall(piece)
+        wanted = receive(till, 3_200 * 38)
+        expect("no other number", sorted({one[5] >> 5 for one in split_messages(wanted)}), [1])
+        turns = 5_000_000 // 3_200
+        sender = threading.Thread(target=lambda: [till.sendall(piece) for _ in range(turns)])
+        sender.start()
+        for turn in range(turns):
+            expect(f"replies of turn {turn}", receive(till, len(wanted)) == wanted, True)
+        sender.join()
+        expect("the journal", path.read_bytes(), before)
+        memory = read_status(day, "VmHWM")
+        expect(f"{memory} kB", memory < MOST_KILOBYTES, True)
+        expect("the report", end(day).splitlines()[0], "rows 2")
 
 
 # ---- files

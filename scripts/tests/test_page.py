@@ -110,7 +110,7 @@ def asks_nothing_of_others():
 
 
 # The members of site.json, and of what is in it.
-SITE_MEMBERS = ["connections", "limit", "points", "products", "rows", "shift", "tills",
+SITE_MEMBERS = ["connections", "points", "products", "rows", "shift", "tills",
                 "transactions"]  # fmt: skip
 POINT = ["fuelling", "holder", "nozzle", "number", "product", "state", "state name"]
 FUELLING = ["cents", "ending", "millilitres", "mills", "prepaid", "preset cents",
@@ -440,7 +440,7 @@ def rows_of_the_journal():
     journal = HERE / "stored.journal"
     with start_page("--journal", str(journal)) as page, connect(page.port) as peer:
         asking = threading.Thread(
-            target=lambda: page.tell(*(read_point(1, n % 32, 1) for n in range(READS)))
+            target=lambda: page.tell(*(command_point(1, n % 32, 1, OPEN) for n in range(READS)))
         )
         asking.start()
         told = 0

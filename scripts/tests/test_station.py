@@ -20,8 +20,9 @@ import threading
 import time
 
 from shared.checks import Failed, expect
+from shared.journals import is_read
 from shared.running import close_input, run
-from shared.serving import LOOK, WAIT, send_reset, send_until, start_day
+from shared.serving import LOOK, WAIT, read_status, send_reset, send_until, start_day
 from shared.station import (
     ASSIGN, CLEAR, CLOSE, DISPENSER, EXAMPLES, FIVE_POINTS, FLOW, HANG_UP, KNOWN_SITE, LIFT, LOCK,
     NOTICE, OPEN, PREPAY, RELEASE, REPORT, RESUME, SITE, SUSPEND, TERMINATE, TEST_RELEASE, TILL,
@@ -112,14 +113,6 @@ def expect_quiet_program(day):
         raise Failed(f"{read_ticks(day) - before} hundredths of a second in half a second")
 
 
-def read_status(day, name):
-    """A figure of the process that the system tells: kilobytes."""
-    for line in pathlib.Path(f"/proc/{day.process.pid}/status").read_text().splitlines():
-        if line.startswith(name):
-            return int(line.split()[1])
-    raise Failed(f"no {name}")
-
-
 def read_ticks(day):
     """The processor time of the process, in hundredths of a second."""
     fields = pathlib.Path(f"/proc/{day.process.pid}/stat").read_text().rsplit(")", 1)[1].split()
@@ -149,7 +142,7 @@ def expect_as_fast(day, before):
         raise Failed(f"half of the replies took {now:.6f} seconds, and {before:.6f} before")
 
 
-ROWS_OF_FAST = 102
+ROWS_OF_FAST = 2
 
 
 # ---- what tills and dispensers are told
@@ -302,7 +295,7 @@ def a_million_octets():
     wanted = replay(sent)
     with start_station() as day:
         expect("replies", day.ask(sent), wanted)
-        expect("report", end(day), write_report(100_002, 0))
+        expect("report", end(day), write_report(2, 0))
 
 
 @test
@@ -481,7 +474,7 @@ def descriptors_spent():
         expect("told again", os.read(day.process.stderr.fileno(), 4_096).decode(), told)
         for peer in more:
             peer.close()
-        expect("report", end(day), write_report(5, 0))
+        expect("report", end(day), write_report(4, 0))
 
 
 @test
@@ -499,10 +492,8 @@ def silent_peers():
         half.sendall(sign_on(3)[:5])
         ask(second, sign_on(2), SIGNED_ON[2])
         ends = time.monotonic() + 4
-        rows = 0
         while time.monotonic() < ends:
             ask(second, read_point(2, 1, 3), wanted)
-            rows += 1
             time.sleep(0.1)
         for peer in (first, half):
             expect("a silent peer is closed", is_closed(peer), True)
@@ -512,7 +503,7 @@ def silent_peers():
         day.wait_until_left(port)
         with day.connect() as again:
             ask(again, sign_on(1), SIGNED_ON[1])
-            expect("report", end(day, told), write_report(rows + 6, 0))
+            expect("report", end(day, told), write_report(6, 0))
 
 
 @test
@@ -532,7 +523,7 @@ def a_stop_longer_than_idle():
         expect("it is heard", receive(first, len(wanted)), wanted)
         expect("who was silent", is_closed(second), True)
         ask(first, read_point(1, 1, 3), wanted)
-        expect("report", end(day, told), write_report(6, 0))
+        expect("report", end(day, told), write_report(4, 0))
 
 
 @test
@@ -712,8 +703,8 @@ def thirty_two_tills_and_sixty_four_dispensers(seed):
     for peer in (*tills, *pumps.values()):
         expect(f"node {peer.node}", peer.told, told[peer.node])
     left = b"".join(sign_off(n) for n in range(1, 33))
-    wanted = run(PROGRAM, "report", site, given=lines + write_lines(left)).out.decode()
-    expect("report", got, wanted)
+    kept = write_lines(b"".join(one for one in order.sent if not is_read(one)) + left)
+    expect("report", got, run(PROGRAM, "report", site, given=kept).out.decode())
     expect("requests", len(order.sent), 96 + 32 * STEPS)
 
 
@@ -737,7 +728,7 @@ def examples():
         expect("its notices", lines[:-1], ["point 1 is open", "point 1 is released"])
         expect("the till", said[1], "point 1 is released\ncleared 10000 ml for 1500 cents\n")
         rows = end(day).split()[1]
-        expect("rows", int(rows) >= 20, True)
+        expect("rows", int(rows) >= 10, True)
 
 
 # ---- how a day ends
@@ -777,7 +768,7 @@ def other_ends():
 @test
 def what_is_owed_at_the_end():
     """The day ends beside a peer that doesn't read what it is owed: what it gets then are the
-    first replies, in order, and no more of them than rows were made."""
+    first replies, in order."""
     with start_station() as day, day.connect() as till:
         ask(till, sign_on(1), SIGNED_ON[1])
         till.setblocking(False)
@@ -791,12 +782,10 @@ def what_is_owed_at_the_end():
             sender.join()
         till.setblocking(True)
         got = receive(till, 38 * 10_000)
-        report = end(day, None)
+        expect("report", end(day, None), write_report(2, 0))
         with contextlib.suppress(ConnectionError):
             got += receive_all(till)
         expect_tokens(got)
-        rows = int(report.split()[1])
-        expect("no more than were asked", len(got) // 38 <= rows - 2, True)
 
 
 def expect_tokens(got):
@@ -805,23 +794,58 @@ def expect_tokens(got):
     expect("replies in order", tokens, [n % 6_000 % 32 for n in range(len(tokens))])
 
 
-@test
-def a_full_book():
-    """A book of three rows: the fourth request has none, the day goes on, and the tills are
-    signed off all the same."""
-    site = HERE / "full.toml"
+def write_limit(rows):
+    """The known site, whose book may have so many rows in memory."""
+    site = HERE / f"{rows}_rows.toml"
     lines = KNOWN_SITE.read_text().splitlines()
     rest = [line for line in lines if not line.startswith("rows")]
-    site.write_text("\n".join(["rows = 3", *rest, ""]))
-    full = parse("02 01 01 01 00 E3 00 05 01 21 01 01 1E")
-    with start_station(site=site) as day, day.connect() as till, day.connect() as pump:
-        ask(till, sign_on(1), SIGNED_ON[1])
+    site.write_text("\n".join([f"rows = {rows}", *rest, ""]))
+    return site
+
+
+@test
+def too_few_rows():
+    """A station's book has to have room for the rows of one read."""
+    for rows in (1, 1_023):
+        ended = run(PROGRAM, "station", write_limit(rows), "--port", "0", given=b"")
+        got = (ended.status, ended.out, ended.err)
+        expect(f"{rows} rows", got, (1, b"", "fault 74 rows\n"))
+
+
+@test
+def never_full():
+    """Ten times the rows that the site file allows, in full reads of several peers at once: no
+    request is answered that the book is full, dispensers are told each change, and the report is
+    that of all rows."""
+    site, turns = write_limit(1_024), 1_300
+    asked = [command_point(1, n % 32, 1, (OPEN, CLOSE)[n % 2]) for n in range(2 * turns)]
+    wanted = replay(sign_on(1) + b"".join(asked))
+    others = range(2, 6)
+    with start_station(site=site) as day, day.connect() as pump, contextlib.ExitStack() as stack:
         ask(pump, say(1), refuse(1, 2))
-        ask(till, command_point(1, 2, 1, OPEN), DONE)
-        expect("the notice", receive(pump, len(OPENED)), OPENED)
-        ask(till, command_point(1, 3, 1, RELEASE), full)
-        ask(pump, say(1), parse("03 01 01 01 00 E3 00 05 01 21 01 01 1E"))
-        expect("report", end(day), write_report(4, 0))
+        tills = {n: stack.enter_context(day.connect()) for n in others}
+        for n, till in tills.items():
+            ask(till, sign_on(n), SIGNED_ON[n])
+        senders = [
+            threading.Thread(target=till.sendall, args=(sign_on(n) * 2_000,))
+            for n, till in tills.items()
+        ]
+        for sender in senders:
+            sender.start()
+        expect("replies", day.ask(sign_on(1) + b"".join(asked)), wanted)
+        notices = receive(pump, 2 * turns * len(OPENED))
+        expect("notices", len(set(split_octets(notices, len(OPENED)))), 2)
+        for n, till in tills.items():
+            again = replay(sign_on(n) * 2)[len(SIGNED_ON[n]):]
+            expect(f"till {n}", receive(till, 2_000 * len(again)), 2_000 * again)
+        for sender in senders:
+            sender.join()
+        rows = 1 + 1 + 2 * turns + 1 + 4 * 2_001 + 4
+        expect("report", end(day), write_report(rows, 0))
+
+
+def split_octets(octets, size):
+    return [octets[at : at + size] for at in range(0, len(octets), size)]
 
 
 @test

@@ -46,7 +46,11 @@ pub fn hear_anyone<A: Asks>(asks: &mut A, message: &SpelledMessage<'_>) -> Resul
         Err(fault) => return Err(NoReply::Fault(fault)),
         Ok(request) => request,
     };
-    let mut row = asking(actor, event);
+    let mut row = Row {
+        actor,
+        event,
+        reply: Ok(Answer::Done),
+    };
     match asks.ask(&mut row) {
         Ok(()) => Ok(row),
         Err(no_row) => Err(NoReply::NoRow(no_row)),
@@ -58,21 +62,13 @@ pub fn hear_anyone<A: Asks>(asks: &mut A, message: &SpelledMessage<'_>) -> Resul
 pub fn ask<A: Asks>(asks: &mut A, actor: Actor, event: Event) -> Result<Reply, NoRow>
     ensures { A.asked (A.seen asks.old) actor event result (A.seen asks.new) }
 {
-    let mut row = asking(actor, event);
-    match asks.ask(&mut row) {
-        Ok(()) => Ok(row.reply),
-        Err(no_row) => Err(no_row),
-    }
-}
-
-/// The row of a request that is still to be asked.
-#[inline(always)]
-fn asking(actor: Actor, event: Event) -> Row
-    ensures { result ≡ record { actor = actor; event = event; reply = Ok Answer.Done } }
-{
-    Row {
+    let mut row = Row {
         actor,
         event,
         reply: Ok(Answer::Done),
+    };
+    match asks.ask(&mut row) {
+        Ok(()) => Ok(row.reply),
+        Err(no_row) => Err(no_row),
     }
 }

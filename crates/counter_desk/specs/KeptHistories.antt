@@ -14,14 +14,15 @@ use Rattle.written_site.specs.ShiftLaws.{AreClearsCounted}
 use Rattle.written_site.specs.SiteRun.{IsLegal}
 use Rattle.written_site.specs.SiteState.{opening, view_point}
 use Rattle.written_site.specs.VolumeLaws.{AreVolumesConserved}
-use Rattle.site_book.specs.Book.{Book, is_full, site_at}
+use Rattle.site_book.specs.Book.{Book, is_full, site_at, whole_book}
 use Rattle.site_book.specs.Figures.{AreFiguresOf}
 
--- Whenever the lock is free: the book is of the desk's configuration, its rows are a legal history,
--- and the ledger of calls stands at as many as there are rows. That the site is the one that the
--- rows lead to is the book's own.
+-- Whenever the lock is free: the book is of the desk's configuration and has forgotten no row, its
+-- rows are a legal history, and the ledger of calls stands at as many as there are rows. That the
+-- site is the one that the rows lead to is the book's own.
 pub record IsKept (config : Configured) (book : Book) (calls : ℕ) : Type 0 where
   pub of : book.config ≡ config
+  pub whole : book.forgotten ≡ 0
   pub legal : IsLegal (opening config) book.rows
   pub counted : calls ≡ length book.rows
 
@@ -45,20 +46,16 @@ abbrev pub IsKeptSound : Type 0
 IsKeptSound = (config : Configured) (book : Book) (calls : ℕ) → IsKept config book calls
     → IsSoundHistory config book.rows
 
--- a book of this configuration with these rows
-abbrev pub book_of : Configured → List Row → Book
-book_of config rows = record { config = config; rows = rows }
-
 -- the figures of some legal history of this configuration
 abbrev pub AreFiguresInLegal : Configured → Totals → Type 0
 AreFiguresInLegal config totals =
     (rows : List Row) × IsLegal (opening config) rows
-    × AreFiguresOf (book_of config rows) totals
+    × AreFiguresOf (whole_book config rows) totals
 
 -- some legal history of this configuration has as many rows as it allows
 abbrev pub IsFullInLegal : Configured → Type 0
 IsFullInLegal config =
-    (rows : List Row) × IsLegal (opening config) rows × (is_full (book_of config rows) ≡ true)
+    (rows : List Row) × IsLegal (opening config) rows × (is_full (whole_book config rows) ≡ true)
 
 -- the point as some legal history of this configuration shows it
 abbrev pub IsShownInLegal : Configured → ℕ → Option PointView → Type 0

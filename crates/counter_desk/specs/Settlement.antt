@@ -15,7 +15,8 @@ use Rattle.counter_desk.specs.declared.receipt.Receipt.{Receipt}
 use Rattle.counter_desk.specs.declared.settlement.Settled.{Settled}
 use Rattle.counter_desk.specs.declared.settlement.SettleFault.{SettleFault}
 use Rattle.counter_desk.specs.declared.settlement.SettleFault.TheVariants.{StrangeReceipt, NoMemory}
-use Rattle.counter_desk.specs.KeptHistories.{IsSoundHistory, book_of}
+use Rattle.site_book.specs.Book.{whole_book}
+use Rattle.counter_desk.specs.KeptHistories.{IsSoundHistory}
 use Rattle.counter_desk.specs.Receipts.{cents_receipted, growth_receipted, StandsAt}
 use Rattle.counter_desk.specs.Roots.{calls_in}
 
@@ -102,7 +103,7 @@ pub record AddsUp (config : Configured) (history : List Row) (lists : List (List
   pub metered : settled.millilitres ≡ all_metered (site_at config history)
   pub millilitres_booked : settled.millilitres ≡ metered_in settled.book
   pub shares : settled.shares ≡ length lists
-  pub book : AreFiguresOf (book_of config history) settled.book
+  pub book : AreFiguresOf (whole_book config history) settled.book
   pub products : length settled.book.products ≡ length config.products
 
 -- the shares add up to a legal history of this configuration

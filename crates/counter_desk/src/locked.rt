@@ -8,9 +8,8 @@ ghost use Rattle.site_base.specs.declared.config.TheConstants.{GREATEST_ROWS};
 ghost use Rattle.written_site.specs.SiteRun.{IsLegal};
 ghost use Rattle.written_site.specs.SiteState.{is_signed_on, opening, view_point};
 ghost use Rattle.written_site.specs.SiteStep.{reply_to};
-ghost use Rattle.site_book.specs.Book.{is_full, site_at};
+ghost use Rattle.site_book.specs.Book.{is_full, site_at, whole_book};
 ghost use Rattle.site_book.specs.Figures.{AddUp, AreFiguresOf};
-ghost use Rattle.counter_desk.specs.KeptHistories.{book_of};
 ghost use Rattle.counter_desk.specs.Receipts.{receipt_of, receipted_row, StandsAt};
 ghost use Rattle.counter_desk.specs.Roots.{calls_in};
 ghost use Rattle.counter_desk.specs.Shares.{owed_after, owes, receipts_asked, IsAsBefore};
@@ -52,7 +51,7 @@ impl<L: Ledger, C: Naming> Model for Locked<L, C> {
 impl<L: Ledger, C: Naming> Locked<L, C> {
     /// A book without rows, and a ledger without calls.
     pub(crate) fn new(book: SiteBook, calls: Book<L>) -> Self
-        requires book { book ≡ record { config = C.config; rows = [] } }
+        requires book { book ≡ whole_book C.config [] }
         requires calls { calls.total ≡ 0 }
         ensures { result ≡ [] }
     {
@@ -84,8 +83,8 @@ impl<L: Ledger, C: Naming> Locked<L, C> {
             share.new.owed ≡ owed_after actor.now event.now placed.reply share.old.owed) }
         ensures stands { IfOk result (λ placed. StandsAt self.new
             (receipt_of placed actor.now event.now)) }
-        ensures full { IsErrOf result NoRow.BookFull → is_full (book_of C.config self.old) ≡ true }
-        ensures told_full { is_full (book_of C.config self.old) ≡ true
+        ensures full { IsErrOf result NoRow.BookFull → is_full (whole_book C.config self.old) ≡ true }
+        ensures told_full { is_full (whole_book C.config self.old) ≡ true
             → IsErrOf result NoRow.BookFull }
         ensures rows_stay { OnErr result (self.new ≡ self.old) }
         ensures share_stays { OnErr result (IsAsBefore share.old share.new) }
@@ -168,10 +167,10 @@ impl<L: Ledger, C: Naming> Locked<L, C> {
     /// The figures of the rows, which add up to what the rows tell.
     pub(crate) fn totals(&self, alloc: Global) -> Result<Totals, NoMemory>
         ensures totals { IfOk result (λ totals.
-            AreFiguresOf (book_of C.config self.now) totals) }
+            AreFiguresOf (whole_book C.config self.now) totals) }
         ensures products { IfOk result (λ totals.
             length totals.products ≡ length C.config.products) }
-        ensures sums { IfOk result (λ totals. AddUp (book_of C.config self.now) totals) }
+        ensures sums { IfOk result (λ totals. AddUp (whole_book C.config self.now) totals) }
         ensures legal { IsLegal (opening C.config) self.now }
     {
         self.book.totals(alloc)

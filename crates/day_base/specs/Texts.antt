@@ -1,7 +1,10 @@
 -- What a day writes: where it listens, and the report of its book.
-use Rattle.std.specs.Prelude.{ℕ, List, ◌++◌, Option, Some, None, codes, decimal}
+use Rattle.std.specs.Prelude.{ℕ, List, ◌++◌, Option, Some, None, codes, decimal, length}
+use Rattle.site_base.specs.declared.totals.Totals.{Totals}
 use Rattle.day_report.specs.Json.{json_text}
-use Rattle.forecourt_engines.specs.Reporting.{book_report, book_totals}
+use Rattle.day_report.specs.Text.{report_text}
+use Rattle.forecourt_engines.specs.Reporting.{book_totals}
+use Rattle.kept_history.specs.KeptRows.{kept_rows}
 use Rattle.site_book.specs.Book.{Book}
 use Rattle.day_base.specs.declared.plan.ReportForm.{ReportForm}
 use Rattle.day_base.specs.declared.plan.ReportForm.TheVariants.{Json, Text}
@@ -19,7 +22,11 @@ abbrev pub places_text : ℕ → Option ℕ → List ℕ
 places_text port None = listening_line port
 places_text port (Some page) = listening_line port ++ page_line page
 
--- the report of a book, as text or as JSON
+-- the figures of a station's book: its rows are those that a history keeps
+abbrev pub kept_totals : Book → Totals
+kept_totals b = record (book_totals b) { rows = length (kept_rows b.rows) }
+
+-- the report of a station's book, as text or as JSON
 abbrev pub report_in : ReportForm → Book → List ℕ
-report_in Text b = book_report b
-report_in Json b = json_text b.config.products (book_totals b) 0
+report_in Text b = report_text b.config (kept_totals b) 0
+report_in Json b = json_text b.config.products (kept_totals b) 0

@@ -23,6 +23,7 @@ abbrev one_row : Book
 one_row = record {
   config = record { rows = 2; managers = []; products = []; points = [] };
   rows = signed_on 1 ∷ [];
+  forgotten = 0;
 }
 
 abbrev two_rows : Book

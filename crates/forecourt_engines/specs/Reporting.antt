@@ -6,7 +6,7 @@ use Rattle.devices.specs.Devices.{AppendsFront}
 use Rattle.site_base.specs.declared.totals.Totals.{Totals}
 use Rattle.day_report.specs.Text.{report_text}
 use Rattle.written_site.specs.ShiftFigures.{product_totals, till_totals}
-use Rattle.site_book.specs.Book.{Book, site_of_book}
+use Rattle.site_book.specs.Book.{Book, site_of_book, whole_book}
 use Rattle.forecourt_engines.specs.declared.fault.ReplayFault.{ReplayFault}
 use Rattle.devices.specs.declared.transfer.TheConstants.{PIECE_OCTETS}
 use Rattle.forecourt_engines.specs.Replay.{is_early, as_fault, StopsThere}
@@ -14,7 +14,7 @@ use Rattle.forecourt_engines.specs.Text.{State, start, fault_of, book_of}
 
 -- a replay of this configuration before its first octet, which tells no changes
 abbrev pub opening_state : Configured → State
-opening_state c = start (record { book = record { config = c; rows = [] }; changes = false })
+opening_state c = start (record { book = whole_book c []; changes = false })
 
 -- the figures of a book's rows
 abbrev pub book_totals : Book → Totals

@@ -1,12 +1,14 @@
 //! The replay: lines of messages in, lines of answers out.
 
-ghost use Rattle.std.specs.Prelude.{◌≡◌, ◌≤◌, ◌⊎◌, [], Some, None, true, IfErr, IfOk, OnOk};
+ghost use Rattle.std.specs.Prelude.{◌≡◌, ◌≤◌, ◌⊎◌, [], Some, None, true, false, IfErr, IfOk, IfSome};
+ghost use Rattle.std.specs.Prelude.{OnOk};
 ghost use Rattle.std.specs.Result.{IsErrOf};
 ghost use Rattle.std.specs.Io.KnownBytes.{IsAtEnd};
 ghost use Rattle.devices.specs.Counted.{device_of, failures_of};
 ghost use Rattle.devices.specs.Devices.{Rose};
+ghost use Rattle.site_book.specs.Book.{whole_book};
 ghost use Rattle.forecourt_engines.specs.Text.{start};
-ghost use Rattle.forecourt_engines.specs.Replay.{Replayed, ended_with, is_unwritten};
+ghost use Rattle.forecourt_engines.specs.Replay.{Replayed, ended_with, is_early, is_unwritten};
 
 use crate::engine::Engine;
 use crate::fault::{ReplayFault, TextFault};
@@ -42,7 +44,7 @@ pub fn replay<R: Read, W: Write>(
     changes: bool,
 ) -> ReplayEnd
     ensures told { Replayed turns (start
-        (record { book = record { config = config.now; rows = [] }; changes = changes }))
+        (record { book = whole_book config.now []; changes = changes }))
         (R.remaining (device_of reader.old)) (R.remaining (device_of reader.new))
         (W.contents (device_of writer.old)) (W.contents (device_of writer.new))
         result.fault result.book }
@@ -51,6 +53,10 @@ pub fn replay<R: Read, W: Write>(
         → (result.fault ≡ Some (ReplayFault.Read ReadFault.TurnLimit))
         ⊎ (result.fault ≡ Some ReplayFault.NoMemory) }
     ensures unopened { result.book ≡ None → result.fault ≡ Some ReplayFault.NoMemory }
+
+    // Where the text ended, its book has forgotten no row.
+    ensures whole { is_early result.fault ≡ false
+        → IfSome result.book (λ b. b.forgotten ≡ 0) }
     ensures read_failed { result.fault ≡ Some (ReplayFault.Read ReadFault.Failed)
         → Rose (failures_of reader.old) (failures_of reader.new) }
     ensures write_failed { result.fault ≡ Some (ReplayFault.Write WriteFault.Failed)

@@ -68,7 +68,8 @@ fn put_report<W: Write>(
     writer: &mut Counted<W>,
     turns: &mut u64,
 ) -> Result<(), ReplayFault>
-    requires { book.now.config ≡ config.now }
+    requires config { book.now.config ≡ config.now }
+    requires whole { book.now.forgotten ≡ 0 }
     ensures told { WritesReport (as_fault fault) book.now
         (W.contents (device_of writer.old))
         (W.contents (device_of writer.new)) (result_err result) }
@@ -88,12 +89,9 @@ fn put_report<W: Write>(
 }
 
 /// The report of a book of this configuration, by its audit: that no share settled.
-pub fn report_of_book(
-    alloc: Global,
-    config: &SiteConfig,
-    book: &SiteBook,
-) -> Result<String, NoMemory>
-    requires { book.now.config ≡ config.now }
+fn report_of_book(alloc: Global, config: &SiteConfig, book: &SiteBook) -> Result<String, NoMemory>
+    requires config { book.now.config ≡ config.now }
+    requires whole { book.now.forgotten ≡ 0 }
     ensures { IfOk result (λ text. string_bytes text ≡ book_report book.now) }
 {
     let totals = book.audit(alloc)?;

@@ -1,6 +1,7 @@
 pub mod Fronts
 pub mod Lines
 pub mod Octets
+pub mod Kept
 pub mod Requests
 pub mod Rows
 pub mod Sent
@@ -14,4 +15,3 @@ pub mod Results
 pub mod SigningOff
 pub mod Reopening
 pub mod Spelled
-pub mod Histories

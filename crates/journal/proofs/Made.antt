@@ -1,8 +1,7 @@
--- Books whose rows are made again.
-use Rattle.std.proofs.Common.{◌≡◌, ℕ, Bool, true, false, List, [], ◌∷◌, ◌++◌}
-use Rattle.std.proofs.Common.{Option, Some, None, refl, sym, ap, ◌∙◌, append_assoc, append-nil}
-use Rattle.std.proofs.Common.{arith, subst}
-use Rattle.std.specs.Prelude.{IfSome, if◌then◌else◌}
+-- Rows that requests make, books with more rows, and what a station with a journal keeps of them.
+use Rattle.std.proofs.Common.{◌≡◌, ◌≤◌, ℕ, true, List, [], ◌∷◌, ◌++◌, length, Option, Some, None, refl, sym, ap}
+use Rattle.std.proofs.Common.{◌∙◌, append_assoc, append-nil, arith, subst}
+use Rattle.std.specs.Prelude.{IfSome}
 use Rattle.std.specs.List.{AllByRecursion}
 use Rattle.std.proofs.lemmas.List.{length-append, take-append-le}
 use Rattle.site_base.specs.declared.actor.Actor.{Actor}
@@ -12,131 +11,139 @@ use Rattle.site_base.specs.declared.event.Event.TheVariants.{SignOff}
 use Rattle.site_base.specs.declared.row.Row.{Row}
 use Rattle.site_base.specs.Configured.{Configured}
 use Rattle.device_map.specs.Ways.{sends, way_to}
-use Rattle.written_site.specs.SiteRun.{events_of}
-use Rattle.written_site.specs.SiteState.{is_signed_on}
-use Rattle.site_book.specs.Book.{Book, is_full, next_row, site_of_book, with_row_of}
+use Rattle.kept_history.specs.KeptRows.{kept_rows}
+use Rattle.written_site.specs.SiteRun.{IsLegal, events_of, row_to, site_of_rows}
+use Rattle.written_site.specs.SiteState.{SiteState, opening}
+use Rattle.written_site.specs.SiteStep.{reply_to, site_after}
+use Rattle.written_site.proofs.Histories.{IsLegal-push}
+use Rattle.site_book.specs.Book.{Book, next_row, with_row_of}
+use Rattle.site_book.proofs.Growing.{goes_on}
 use Rattle.station.specs.Moves.{StationState}
 use Rattle.journal.specs.Disks.{OfFile}
-use Rattle.journal.specs.History.{IsMadeAgain, all_made_again, and_then, beyond, empty_book}
-use Rattle.journal.specs.History.{made_again, sign_off_if}
+use Rattle.journal.specs.History.{IsHistory, IsMadeOf, rows_asked}
 use Rattle.journal.specs.JournalText.{CanBeSpelled, IsSent}
 use Rattle.journal.specs.Stored.{HoldsRows, IsJournalOf, IsStored, JournalState, StoredState}
-use Rattle.journal.specs.Stored.{with_station}
+use Rattle.journal.specs.Stored.{kept_first, with_station}
 use Rattle.journal.proofs.Fronts.{all_both}
-use Rattle.journal.proofs.Requests.{events_both}
 
--- requests, and then more
-pub made_both : (b : Book) (es fs : List (Actor × Event))
-    → all_made_again b (es ++ fs)
-    ≡ and_then (all_made_again b es) (λ after. all_made_again after fs)
-made_both b [] fs = refl
-made_both b (e ∷ es) fs = by_first (made_again b e.0 e.1) (λ after. made_both after es fs)
-  where
-    by_first : (o : Option Book)
-        → ((after : Book) → all_made_again after (es ++ fs)
-        ≡ and_then (all_made_again after es) (λ last. all_made_again last fs))
-        → and_then o (λ after. all_made_again after (es ++ fs))
-        ≡ and_then (and_then o (λ after. all_made_again after es))
-        (λ after. all_made_again after fs)
-    by_first None others = refl
-    by_first (Some after) others = others after
+-- ---- the rows of requests
 
--- a book has more rows, which a station makes again of their requests
+-- of some, and then of more
+pub asked_both : (s : SiteState) (es fs : List (Actor × Event))
+    → rows_asked s (es ++ fs)
+    ≡ rows_asked s es ++ rows_asked (site_of_rows s (rows_asked s es)) fs
+asked_both s [] fs = refl
+asked_both s (e ∷ es) fs =
+    ap (λ (rows : List Row). row_to s e.0 e.1 ∷ rows) (asked_both (site_after s e.0 e.1) es fs)
+
+-- they are a legal history
+pub asked_legal : (s : SiteState) (es : List (Actor × Event)) → IsLegal s (rows_asked s es)
+asked_legal s [] = tt
+asked_legal s (e ∷ es) = (refl, asked_legal (site_after s e.0 e.1) es)
+
+-- .. of just these requests
+pub asked_events : (s : SiteState) (es : List (Actor × Event)) → events_of (rows_asked s es) ≡ es
+asked_events s [] = refl
+asked_events s (e ∷ es) =
+    ap (λ (xs : List (Actor × Event)). e ∷ xs) (asked_events (site_after s e.0 e.1) es)
+
+-- the row of the written step is the one that is there
+same_row : (s : SiteState) (r : Row) → r.reply ≡ reply_to s r.actor r.event
+    → row_to s r.actor r.event ≡ r
+same_row s r is = ap (λ reply. record r { reply = reply }) (sym is)
+
+-- a legal history is that of its requests
+pub asked_again : (s : SiteState) (rows : List Row) → IsLegal s rows
+    → rows_asked s (events_of rows) ≡ rows
+asked_again s [] legal = refl
+asked_again s (r ∷ rows) legal =
+    ap (λ (x : Row). x ∷ rows_asked (site_after s r.actor r.event) (events_of rows))
+    (same_row s r legal.0)
+    ∙ ap (λ (rest : List Row). r ∷ rest)
+    (asked_again (site_after s r.actor r.event) rows legal.1)
+
+-- a book with the row of one request more
+pub made_more : (b after : Book) (events : List (Actor × Event)) (actor : Actor) (event : Event)
+    → IsMadeOf b events → after.config ≡ b.config
+    → after.rows ≡ b.rows ++ next_row b actor event ∷ []
+    → IsMadeOf after (events ++ (actor, event) ∷ [])
+made_more b after events actor event made same rows =
+    rows
+    ∙ ap (λ (rs : List Row).
+    rs ++ row_to (site_of_rows (opening b.config) rs) actor event ∷ []) made
+    ∙ sym (asked_both (opening b.config) events ((actor, event) ∷ []))
+    ∙ ap (λ (c : Configured). rows_asked (opening c) (events ++ (actor, event) ∷ [])) (sym same)
+
+-- what was made is that of its requests
+pub made_events : (b : Book) (events : List (Actor × Event)) → IsMadeOf b events
+    → events_of b.rows ≡ events
+made_events b events made = ap events_of made ∙ asked_events (opening b.config) events
+
+pub made_legal : (b : Book) (events : List (Actor × Event)) → IsMadeOf b events → IsHistory b
+made_legal b events made =
+    subst (IsLegal (opening b.config)) (sym made) (asked_legal (opening b.config) events)
+
+-- ---- a book with more rows
+
+-- it has more rows, each of them sent by its actor, and has forgotten none
 pub record Adds (old new : Book) : Type 0 where
-  pub events : List (Actor × Event)
-  pub made : all_made_again old events ≡ Some new
   pub later : List Row
   pub rows : new.rows ≡ old.rows ++ later
   pub same : new.config ≡ old.config
-  pub asked : events_of later ≡ events
+  pub memory : new.forgotten ≡ old.forgotten
   pub sent : AllByRecursion IsSent later
+  pub legal : IsHistory old → IsHistory new
 
 pub adds_same : (old new : Book) → new ≡ old → Adds old new
 adds_same old new is = record {
-  events = [];
-  made = ap Some (sym is);
   later = [];
   rows = ap (λ (b : Book). b.rows) is ∙ sym (append-nil old.rows);
   same = ap (λ (b : Book). b.config) is;
-  asked = refl;
+  memory = ap (λ (b : Book). b.forgotten) is;
   sent = tt;
+  legal = λ legal. subst IsHistory (sym is) legal;
 }
 
 pub adds_then : (a b c : Book) → Adds a b → Adds b c → Adds a c
 adds_then a b c one two = record {
-  events = one.events ++ two.events;
-  made =
-      made_both a one.events two.events
-      ∙ ap (λ (o : Option Book). and_then o (λ after. all_made_again after two.events)) one.made
-      ∙ two.made;
   later = one.later ++ two.later;
   rows = two.rows ∙ ap (λ (rs : List Row). rs ++ two.later) one.rows
       ∙ append_assoc a.rows one.later two.later;
   same = two.same ∙ one.same;
-  asked =
-      events_both one.later two.later
-      ∙ ap (λ (es : List (Actor × Event)). es ++ events_of two.later) one.asked
-      ∙ ap (λ (es : List (Actor × Event)). one.events ++ es) two.asked;
+  memory = two.memory ∙ one.memory;
   sent = all_both IsSent one.later two.later one.sent two.sent;
+  legal = λ legal. two.legal (one.legal legal);
 }
 
--- one row, where a station makes it
-adds_made : (b : Book) (actor : Actor) (event : Event)
-    → made_again b actor event ≡ Some (with_row_of b actor event)
+pub adds_row : (b : Book) (actor : Actor) (event : Event)
     → sends actor (way_to event).kind ≡ true → Adds b (with_row_of b actor event)
-adds_made b actor event made sent = record {
-  events = (actor, event) ∷ [];
-  made = ap (λ (o : Option Book). and_then o (λ after. Some after)) made;
+adds_row b actor event sent = record {
   later = next_row b actor event ∷ [];
   rows = refl;
   same = refl;
-  asked = refl;
+  memory = refl;
   sent = (sent, tt);
+  legal = λ legal. IsLegal-push (opening b.config) b.rows (next_row b actor event) legal refl;
 }
 
-pub adds_row : (b : Book) (actor : Actor) (event : Event) → is_full b ≡ false
-    → sends actor (way_to event).kind ≡ true → Adds b (with_row_of b actor event)
-adds_row b actor event room sent =
-    adds_made b actor event
-    (ap (λ (full : Bool). if full then beyond b actor event else Some (with_row_of b actor event))
-    room) sent
-
--- a till that is signed on signs off, behind a full book too
-pub adds_sign_off : (b : Book) (t : ℕ) → is_signed_on (site_of_book b) t ≡ true
-    → Adds b (with_row_of b (Till t) SignOff)
-adds_sign_off b t on = adds_made b (Till t) SignOff (by_room (is_full b)) refl
-  where
-    by_room : (full : Bool)
-        → (if full then beyond b (Till t) SignOff else Some (with_row_of b (Till t) SignOff))
-        ≡ Some (with_row_of b (Till t) SignOff)
-    by_room true = ap (λ (is : Bool). sign_off_if is t b) on
-    by_room false = refl
-
--- what is made of it is made again
-pub made_with : (old new : Book) → IsMadeAgain old → Adds old new → IsMadeAgain new
-made_with old new is adds = record {
-  again =
-      ap (λ (c : Configured). all_made_again (empty_book c) (events_of new.rows)) adds.same
-      ∙ ap (λ (rs : List Row). all_made_again (empty_book old.config) (events_of rs)) adds.rows
-      ∙ ap (all_made_again (empty_book old.config)) (events_both old.rows adds.later
-      ∙ ap (λ (es : List (Actor × Event)). events_of old.rows ++ es) adds.asked)
-      ∙ made_both (empty_book old.config) (events_of old.rows) adds.events
-      ∙ ap (λ (o : Option Book). and_then o (λ after. all_made_again after adds.events)) is.again
-      ∙ adds.made;
-  sent = subst (AllByRecursion IsSent) (sym adds.rows)
-      (all_both IsSent old.rows adds.later is.sent adds.sent);
-}
+pub adds_sign_off : (b : Book) (t : ℕ) → Adds b (with_row_of b (Till t) SignOff)
+adds_sign_off b t = adds_row b (Till t) SignOff refl
 
 -- ---- the journal of a book with more rows
+
+-- the first rows are the same
+first_stay : (rows later : List Row) (n : ℕ) → n ≤ length rows
+    → kept_first n (rows ++ later) ≡ kept_first n rows
+first_stay rows later n few = ap kept_rows (take-append-le n rows later few)
 
 pub journal_stays : (rows later : List Row) (j : JournalState) → IsJournalOf rows j
     → IsJournalOf (rows ++ later) j
 journal_stays rows later j is = record {
   few = omega (arith, is.few, length-append rows later);
-  spelled = subst CanBeSpelled (sym (take-append-le j.stored rows later is.few)) is.spelled;
+  spelled = subst CanBeSpelled (sym (first_stay rows later j.stored is.few)) is.spelled;
   holds =
       subst (λ (rs : List Row). OfFile (HoldsRows j.header rs j.failed) j.file)
-      (sym (take-append-le j.stored rows later is.few)) is.holds;
+      (sym (first_stay rows later j.stored is.few)) is.holds;
 }
 
 journals_stay : (rows later : List Row) (j : Option JournalState) → IfSome j (IsJournalOf rows)
@@ -144,10 +151,21 @@ journals_stay : (rows later : List Row) (j : Option JournalState) → IfSome j (
 journals_stay rows later None is = tt
 journals_stay rows later (Some j) is = journal_stays rows later j is
 
+behind_stays : (old new : ℕ) (j : Option JournalState) → new ≡ old
+    → IfSome j (λ (x : JournalState). old ≤ x.stored)
+    → IfSome j (λ (x : JournalState). new ≤ x.stored)
+behind_stays old new None same is = tt
+behind_stays old new (Some j) same is = omega (arith, same, is)
+
 pub stored_with : (s : StoredState) (new : StationState) → IsStored s
     → Adds s.station.book new.book → IsStored (with_station new s)
 stored_with s new is adds = record {
-  made = made_with s.station.book new.book is.made adds;
+  legal = adds.legal is.legal;
+  sent = subst (AllByRecursion IsSent) (sym adds.rows)
+      (all_both IsSent s.station.book.rows adds.later is.sent adds.sent);
+  unpaid = goes_on s.unpaid s.station.book new.book adds.later adds.same adds.rows
+      (omega (arith, adds.memory, is.unpaid.behind)) is.unpaid;
   journal = subst (λ (rows : List Row). IfSome s.journal (IsJournalOf rows)) (sym adds.rows)
       (journals_stay s.station.book.rows adds.later s.journal is.journal);
+  behind = behind_stays s.station.book.forgotten new.book.forgotten s.journal adds.memory is.behind;
 }

@@ -2,7 +2,7 @@
 use Rattle.std.proofs.Common.{◌≡◌, ℕ, ◌+◌, Bool, true, false, List, [], ◌∷◌, ◌++◌}
 use Rattle.std.proofs.Common.{length, take, drop, Option, Some, None, Result, Ok, Err, refl, sym}
 use Rattle.std.proofs.Common.{ap}
-use Rattle.std.proofs.Common.{◌∙◌, subst, append_assoc, append-nil, arith, eqb, not, inl, inr}
+use Rattle.std.proofs.Common.{◌∙◌, subst, append_assoc, arith, eqb, not, inl, inr}
 use Rattle.std.specs.Prelude.{◌&&◌, if◌then◌else◌}
 use Rattle.std.specs.List.{AllByRecursion, list_all}
 use Rattle.std.proofs.lemmas.List.{length-append}
@@ -11,11 +11,8 @@ use Rattle.std.proofs.Math.Seq.{drop-append_seam, take-append_seam}
 use Rattle.hex.specs.Hex.{decode_of}
 use Rattle.hex.specs.declared.error.FromHexError.{FromHexError}
 use Rattle.site_base.specs.declared.actor.Actor.{Actor}
-use Rattle.site_base.specs.declared.actor.Actor.TheVariants.{Till}
 use Rattle.site_base.specs.declared.event.Event.{Event}
-use Rattle.site_base.specs.declared.event.Event.TheVariants.{SignOff}
 use Rattle.site_base.specs.declared.row.Row.{Row}
-use Rattle.site_base.specs.Configured.{Configured}
 use Rattle.app_message.specs.declared.fault.StreamFault.{StreamFault}
 use Rattle.app_message.specs.Stream.{fed_by, held_after}
 use Rattle.app_message.specs.Telegram.{Telegram}
@@ -24,93 +21,45 @@ use Rattle.device_map.specs.Requests.{request_at}
 use Rattle.device_map.specs.Ways.{sends, way_to}
 use Rattle.hex_lines.specs.Lines.{IsLine}
 use Rattle.written_site.specs.SiteRun.{events_of}
-use Rattle.written_site.specs.SiteState.{is_signed_on}
-use Rattle.site_book.specs.Book.{Book, is_full, next_row, site_of_book, with_row_of}
+use Rattle.kept_history.specs.KeptRows.{is_read, kept_rows}
+use Rattle.site_book.specs.Book.{Book, next_row}
 use Rattle.journal.specs.declared.reading.OpenFault.{OpenFault}
 use Rattle.journal.specs.declared.reading.OpenFault.TheVariants.{AnotherSite, Line}
 use Rattle.journal.specs.Disks.{BeginsWith}
-use Rattle.journal.specs.Faults.{IsAnother, IsWrongRow, Names, first_fault, made_of_line}
-use Rattle.journal.specs.History.{IsMadeAgain, all_made_again, and_then, beyond, empty_book}
-use Rattle.journal.specs.History.{made_again, sign_off_if}
-use Rattle.journal.specs.JournalLines.{Tells, TellsWhole, lines_from, request_alone}
+use Rattle.journal.specs.Faults.{IsAnother, IsWrongRow, Names, first_fault}
+use Rattle.journal.specs.History.{IsMadeOf}
+use Rattle.journal.specs.JournalLines.{Tells, TellsWhole, if_kept, lines_from, request_alone}
 use Rattle.journal.specs.JournalLines.{request_decoded}
 use Rattle.journal.specs.JournalLines.{request_in, request_meant, requests_in, unfinished_from}
 use Rattle.journal.specs.JournalLines.{whole_lines, with_request}
 use Rattle.journal.specs.JournalText.{IsSent, names_a_site}
-use Rattle.journal.specs.Readings.{IsLineEnd, IsReadBack, TellsBook, TellsNothing}
+use Rattle.journal.specs.Readings.{IsLineEnd, IsReadBack, TellsNothing}
 use Rattle.journal.proofs.Lines.{led, line_ends, lines_both, none_ends, one_line}
 use Rattle.journal.proofs.Lines.{requests_apart, requests_both, unfinished_both}
-use Rattle.journal.proofs.Made.{made_both}
+use Rattle.journal.proofs.Made.{made_events, made_more}
 use Rattle.journal.proofs.Sent.{request_sends}
-
--- ---- rows that are made again
-
-signs_off : (on : Bool) (t : ℕ) (b after : Book) → sign_off_if on t b ≡ Some after
-    → after ≡ with_row_of b (Till t) SignOff
-signs_off true t b after is = sym (same_Some (with_row_of b (Till t) SignOff) after is)
-signs_off false t b after is = absurd (none-some after is)
-
-row_beyond : (b after : Book) (actor : Actor) (event : Event) → beyond b actor event ≡ Some after
-    → after ≡ with_row_of b actor event
-row_beyond b after (Till t) SignOff is = signs_off (is_signed_on (site_of_book b) t) t b after is
-row_beyond b after actor event is = absurd (none-some after is)
-
--- a row that is made again is the book's next one
-pub row_again : (b after : Book) (actor : Actor) (event : Event)
-    → made_again b actor event ≡ Some after → after ≡ with_row_of b actor event
-row_again b after actor event is = by_room (is_full b) is
-  where
-    by_room : (full : Bool)
-        → (if full then beyond b actor event else Some (with_row_of b actor event)) ≡ Some after
-        → after ≡ with_row_of b actor event
-    by_room true made = row_beyond b after actor event made
-    by_room false made = sym (same_Some (with_row_of b actor event) after made)
-
--- a book, and one whose rows behind it were made of these requests
-pub record Made (b after : Book) (events : List (Actor × Event)) : Type 0 where
-  pub more : List Row
-  pub rows : after.rows ≡ b.rows ++ more
-  pub same : after.config ≡ b.config
-  pub asked : events_of more ≡ events
-
-pub rows_again : (b after : Book) (events : List (Actor × Event))
-    → all_made_again b events ≡ Some after → Made b after events
-rows_again b after [] is =
-    let same = same_Some b after is in
-    record {
-      more = [];
-      rows = ap (λ (x : Book). x.rows) (sym same) ∙ sym (append-nil b.rows);
-      same = ap (λ (x : Book). x.config) (sym same);
-      asked = refl;
-    }
-rows_again b after (e ∷ es) is =
-    by_first (made_again b e.0 e.1) (λ next rest. rows_again next after es rest) refl is
-  where
-    by_first : (o : Option Book)
-        → ((next : Book) → all_made_again next es ≡ Some after → Made next after es)
-        → made_again b e.0 e.1 ≡ o → and_then o (λ next. all_made_again next es) ≡ Some after
-        → Made b after (e ∷ es)
-    by_first None others made all = absurd (none-some after all)
-    by_first (Some next) others made all =
-        let rest = others next all in
-        let one = row_again b next e.0 e.1 made in
-        record {
-          more = next_row b e.0 e.1 ∷ rest.more;
-          rows = rest.rows ∙ ap (λ (x : Book). x.rows ++ rest.more) one
-              ∙ append_assoc b.rows (next_row b e.0 e.1 ∷ []) rest.more;
-          same = rest.same ∙ ap (λ (x : Book). x.config) one;
-          asked = ap (λ (xs : List (Actor × Event)). e ∷ xs) rest.asked;
-        }
 
 -- ---- whoever sent the requests of lines
 
 abbrev SendsOne : Actor × Event → Type 0
 SendsOne e = sends e.0 (way_to e.1).kind ≡ true
 
+-- a request whose row is kept is no read
+pub kept_alone : (request e : Actor × Event) → if_kept request ≡ Some e
+    → (request ≡ e) × (is_read e.1 ≡ false)
+kept_alone request e is = by_test (is_read request.1) refl is
+  where
+    by_test : (read : Bool) → is_read request.1 ≡ read
+        → (if read then None else Some request) ≡ Some e → (request ≡ e) × (is_read e.1 ≡ false)
+    by_test true reads some = absurd (none-some e some)
+    by_test false reads some =
+        let same = same_Some request e some in
+        (same, subst (λ (x : Actor × Event). is_read x.1 ≡ false) same reads)
+
 meant_sends : (m : Telegram) (r : Result (Actor × Event) MapFault) (e : Actor × Event)
     → request_at m ≡ r → request_meant r ≡ Some e → SendsOne e
 meant_sends m (Ok request) e at is =
-    subst SendsOne (same_Some request e is) (request_sends m request.0 request.1 at)
+    subst SendsOne (kept_alone request e is).0 (request_sends m request.0 request.1 at)
 meant_sends m (Err f) e at is = absurd (none-some e is)
 
 alone_sends : (ms : List Telegram) (rest : List ℕ) (fault : Option StreamFault)
@@ -141,16 +90,52 @@ rows_sent (r ∷ rows) all = (all.0, rows_sent rows all.1)
 
 -- a book that was made of a journal's lines
 pub made_of_lines : (b : Book) (lines : List (List ℕ)) (events : List (Actor × Event))
-    → requests_in lines ≡ Some events → all_made_again (empty_book b.config) events ≡ Some b
-    → IsMadeAgain b
+    → requests_in lines ≡ Some events → IsMadeOf b events → AllByRecursion IsSent b.rows
 made_of_lines b lines events requests made =
-    let is = rows_again (empty_book b.config) b events made in
-    let asked : events_of b.rows ≡ events = ap events_of is.rows ∙ is.asked in
-    record {
-      again = ap (all_made_again (empty_book b.config)) asked ∙ made;
-      sent = rows_sent b.rows (subst (AllByRecursion SendsOne) (sym asked)
-          (lines_send lines events requests));
-    }
+    rows_sent b.rows (subst (AllByRecursion SendsOne) (sym (made_events b events made))
+    (lines_send lines events requests))
+
+-- ---- lines are no reads
+
+abbrev ReadsNone : Actor × Event → Type 0
+ReadsNone e = is_read e.1 ≡ false
+
+alone_kept : (ms : List Telegram) (rest : List ℕ) (fault : Option StreamFault)
+    (e : Actor × Event) → request_alone ms rest fault ≡ Some e → ReadsNone e
+alone_kept (m ∷ []) [] None e is = by_request (request_at m) is
+  where
+    by_request : (r : Result (Actor × Event) MapFault) → request_meant r ≡ Some e → ReadsNone e
+    by_request (Ok request) kept = (kept_alone request e kept).1
+    by_request (Err f) kept = absurd (none-some e kept)
+alone_kept ms rest fault e is = absurd (none-some e is)
+
+line_kept : (r : Result (List ℕ) FromHexError) (e : Actor × Event) → request_decoded r ≡ Some e
+    → ReadsNone e
+line_kept (Ok octets) e is =
+    let s = fed_by (held_after []) octets in alone_kept s.messages s.rest s.fault e is
+line_kept (Err f) e is = absurd (none-some e is)
+
+lines_kept : (lines : List (List ℕ)) (events : List (Actor × Event))
+    → requests_in lines ≡ Some events → AllByRecursion ReadsNone events
+lines_kept [] events is = subst (AllByRecursion ReadsNone) (same_Some [] events is) tt
+lines_kept (line ∷ lines) events is =
+    let l = led (request_in line) (requests_in lines) events is in
+    subst (AllByRecursion ReadsNone) (sym l.whole) (
+      line_kept (decode_of line) l.first l.is_first,
+      lines_kept lines l.others l.are_others,
+    )
+
+rows_kept : (rows : List Row) → AllByRecursion ReadsNone (events_of rows) → kept_rows rows ≡ rows
+rows_kept [] all = refl
+rows_kept (r ∷ rows) all =
+    rw (all.0) (ap (λ (rest : List Row). r ∷ rest) (rows_kept rows all.1))
+
+-- so each row of a book that was made of them is kept
+pub kept_of_lines : (b : Book) (lines : List (List ℕ)) (events : List (Actor × Event))
+    → requests_in lines ≡ Some events → IsMadeOf b events → kept_rows b.rows ≡ b.rows
+kept_of_lines b lines events requests made =
+    rows_kept b.rows (subst (AllByRecursion ReadsNone) (sym (made_events b events made))
+    (lines_kept lines events requests))
 
 -- ---- line after line
 
@@ -160,11 +145,8 @@ pub record ReadsOn (header octets rest : List ℕ) (b : Book) (number : ℕ) : T
   pub events : List (Actor × Event)
   pub parts : octets ≡ done ++ rest
   pub tells : TellsWhole header done events
-  pub made : all_made_again (empty_book b.config) events ≡ Some b
+  pub made : IsMadeOf b events
   pub count : number ≡ length tells.tells.lines + 1
-
-no_rows : (b : Book) → b.rows ≡ [] → empty_book b.config ≡ b
-no_rows b none = ap (λ (rows : List Row). record b { rows = rows }) (sym none)
 
 pub begins_reading : (end : ℕ) (octets : List ℕ) (b : Book) → IsLineEnd end octets → b.rows ≡ []
     → ReadsOn (take end octets) octets (drop (end + 1) octets) b 1
@@ -180,7 +162,7 @@ begins_reading end octets b line none = record {
     };
     whole = line_ends [] (take end octets);
   };
-  made = ap Some (no_rows b none);
+  made = none;
   count = refl;
 }
 
@@ -211,10 +193,10 @@ lines_in_parts rest line others parts plain =
 pub reads_line : (header octets rest line others : List ℕ) (b after : Book) (actor : Actor)
     (event : Event) (number : ℕ) → ReadsOn header octets rest b number
     → rest ≡ (line ++ 10 ∷ []) ++ others → IsLine line
-    → request_in line ≡ Some (actor, event) → made_again b actor event ≡ Some after
+    → request_in line ≡ Some (actor, event) → after.config ≡ b.config
+    → after.rows ≡ b.rows ++ next_row b actor event ∷ []
     → ReadsOn header octets others after (number + 1)
-reads_line header octets rest line others b after actor event number r parts plain is made =
-    let same = ap (λ (x : Book). x.config) (row_again b after actor event made) in
+reads_line header octets rest line others b after actor event number r parts plain is same rows =
     record {
       done = r.done ++ (line ++ 10 ∷ []);
       events = r.events ++ (actor, event) ∷ [];
@@ -236,13 +218,7 @@ reads_line header octets rest line others b after actor event number r parts pla
             unfinished_both [] r.done (line ++ 10 ∷ [])
             ∙ line_ends (unfinished_from [] r.done) line;
       };
-      made =
-          made_both (empty_book after.config) r.events ((actor, event) ∷ [])
-          ∙ ap (λ (c : Configured). and_then (all_made_again (empty_book c) r.events)
-          (λ x. all_made_again x ((actor, event) ∷ []))) same
-          ∙ ap (λ (o : Option Book). and_then o (λ x. all_made_again x ((actor, event) ∷ [])))
-          r.made
-          ∙ ap (λ (o : Option Book). and_then o (λ x. Some x)) made;
+      made = made_more b after r.events actor event r.made same rows;
       count = omega (arith, r.count, length-append r.tells.tells.lines (line ∷ []));
     }
 
@@ -292,43 +268,22 @@ next_request header octets rest line others b number events r parts plain t =
     requests_apart r.tells.tells.lines (line ∷ whole_lines others) r.events events
     r.tells.tells.requests (ap requests_in (sym tail) ∙ t.requests)
 
--- where a line is no request, the file tells no book
-pub no_request : (header octets rest line others : List ℕ) (b told : Book) (number : ℕ)
+-- where a line is no request whose row is kept, the file tells none
+pub no_request : (header octets rest line others : List ℕ) (b : Book) (number : ℕ)
+    (events : List (Actor × Event))
     → ReadsOn header octets rest b number → rest ≡ (line ++ 10 ∷ []) ++ others → IsLine line
-    → request_in line ≡ None → TellsBook header octets told → ⊥
-no_request header octets rest line others b told number r parts plain none t =
-    let next = next_request header octets rest line others b number t.events r parts plain
-    t.tells in
+    → request_in line ≡ None → Tells header octets events → ⊥
+no_request header octets rest line others b number events r parts plain none t =
+    let next = next_request header octets rest line others b number events r parts plain t in
     let l = led (request_in line) (requests_in (whole_lines others)) next.0 next.1 in
     none-some l.first (sym none ∙ l.is_first)
 
--- .. nor where its row isn't made again
-pub no_row : (header octets rest line others : List ℕ) (b told : Book) (actor : Actor)
-    (event : Event) (number : ℕ) → ReadsOn header octets rest b number
-    → rest ≡ (line ++ 10 ∷ []) ++ others → IsLine line
-    → request_in line ≡ Some (actor, event) → made_again b actor event ≡ None
-    → told.config ≡ b.config → TellsBook header octets told → ⊥
-no_row header octets rest line others b told actor event number r parts plain is none same t =
-    let next = next_request header octets rest line others b number t.events r parts plain
-    t.tells in
-    let l = led (request_in line) (requests_in (whole_lines others)) next.0 next.1 in
-    let first : l.first ≡ (actor, event) = same_Some l.first (actor, event) (sym l.is_first ∙ is) in
-    let events : t.events ≡ r.events ++ (actor, event) ∷ l.others =
-    next.2 ∙ ap (λ (es : List (Actor × Event)). r.events ++ es)
-    (l.whole ∙ ap (λ (x : Actor × Event). x ∷ l.others) first) in
-    none-some told (sym (made_both (empty_book b.config) r.events ((actor, event) ∷ l.others)
-    ∙ ap (λ (o : Option Book). and_then o (λ x. all_made_again x ((actor, event) ∷ l.others)))
-    r.made
-    ∙ ap (λ (o : Option Book). and_then o (λ x. all_made_again x l.others)) none)
-    ∙ ap (all_made_again (empty_book b.config)) (sym events)
-    ∙ ap (λ (c : Configured). all_made_again (empty_book c) t.events) (sym same) ∙ t.made)
-
 -- .. and it is the one that is named
 pub wrong_row : (header octets rest line others : List ℕ) (b : Book) (number : ℕ)
-    (config : Configured) → ReadsOn header octets rest b number
-    → rest ≡ (line ++ 10 ∷ []) ++ others → IsLine line → made_of_line b line ≡ None
-    → b.config ≡ config → IsWrongRow header octets config (number + 1)
-wrong_row header octets rest line others b number config r parts plain none same = record {
+    → ReadsOn header octets rest b number
+    → rest ≡ (line ++ 10 ∷ []) ++ others → IsLine line → request_in line ≡ None
+    → IsWrongRow header octets (number + 1)
+wrong_row header octets rest line others b number r parts plain none = record {
   before = r.tells.tells.lines;
   line = line;
   others = whole_lines others;
@@ -339,8 +294,6 @@ wrong_row header octets rest line others b number config r parts plain none same
   place = omega (arith, r.count);
   events = r.events;
   requests = r.tells.tells.requests;
-  book = b;
-  made = ap (λ (c : Configured). all_made_again (empty_book c) r.events) (sym same) ∙ r.made;
   none = none;
 }
 
@@ -399,33 +352,31 @@ longer_too a b c begins = record {
 }
 
 -- where no line is whole, and the line doesn't begin with the octets
-pub nothing_begun : (header octets : List ℕ) (config : Configured) → IsLine octets
-    → (BeginsWith octets header → ⊥) → TellsNothing header octets config
-nothing_begun header octets config plain other = record {
+pub nothing_begun : (header octets : List ℕ) → IsLine octets
+    → (BeginsWith octets header → ⊥) → TellsNothing header octets
+nothing_begun header octets plain other = record {
   unbegun = λ unended. other (within_line octets header plain unended.front);
-  untold = λ b same told.
-      no_line header told.tells.lines (sym (none_ends [] octets plain) ∙ told.tells.first);
+  untold = λ events told. no_line header told.lines (sym (none_ends [] octets plain) ∙ told.first);
 }
 
 -- where the first line is another one
-pub another_line : (header octets first others : List ℕ) (config : Configured)
+pub another_line : (header octets first others : List ℕ)
     → octets ≡ (first ++ 10 ∷ []) ++ others → IsLine first → (first ≡ header → ⊥)
-    → TellsNothing header octets config
-another_line header octets first others config parts plain other =
+    → TellsNothing header octets
+another_line header octets first others parts plain other =
     let lines = lines_in_parts octets first others parts plain in
     record {
       unbegun = λ unended. no_line first (whole_lines others) (sym unended.none_ends ∙ lines);
-      untold = λ b same told.
-          other (same_head first header _ _ (sym lines ∙ told.tells.first));
+      untold = λ events told. other (same_head first header _ _ (sym lines ∙ told.first));
     }
 
 -- .. that one is named
-pub another_named : (header octets first others : List ℕ) (config : Configured) (fault : OpenFault)
+pub another_named : (header octets first others : List ℕ) (fault : OpenFault)
     → octets ≡ (first ++ 10 ∷ []) ++ others → IsLine first → (first ≡ header → ⊥)
     → fault ≡ first_fault first
-    → Names header octets config fault
-another_named header octets first others config fault parts plain other is =
-    subst (Names header octets config) (sym is) (by_test (names_a_site first) refl)
+    → Names header octets fault
+another_named header octets first others fault parts plain other is =
+    subst (Names header octets) (sym is) (by_test (names_a_site first) refl)
   where
     another : (t : Bool) → names_a_site first ≡ t → IsAnother t header octets
     another t named = record {
@@ -437,21 +388,21 @@ another_named header octets first others config fault parts plain other is =
     }
 
     by_test : (t : Bool) → names_a_site first ≡ t
-        → Names header octets config (if t then AnotherSite else Line 1)
+        → Names header octets (if t then AnotherSite else Line 1)
     by_test true named = another true named
     by_test false named = inl (refl, inr (another false named))
 
 -- where the rows aren't told
-pub rows_refused : (header octets : List ℕ) (end : ℕ) (config : Configured)
+pub rows_refused : (header octets : List ℕ) (end : ℕ)
     → IsLineEnd end octets → take end octets ≡ header
-    → ((b : Book) → b.config ≡ config → TellsBook (take end octets) octets b → ⊥)
-    → TellsNothing header octets config
-rows_refused header octets end config line is untold =
+    → ((events : List (Actor × Event)) → Tells (take end octets) octets events → ⊥)
+    → TellsNothing header octets
+rows_refused header octets end line is untold =
     let lines = lines_in_parts octets (take end octets) (drop (end + 1) octets)
     (line.parts ∙ sym (append_assoc (take end octets) (10 ∷ []) (drop (end + 1) octets)))
     line.plain in
     record {
       unbegun = λ unended. no_line (take end octets) _ (sym unended.none_ends ∙ lines);
-      untold = λ b same told.
-          untold b same (subst (λ (h : List ℕ). TellsBook h octets b) (sym is) told);
+      untold = λ events told.
+          untold events (subst (λ (h : List ℕ). Tells h octets events) (sym is) told);
     }

@@ -10,7 +10,7 @@ use Rattle.std.proofs.lemmas.List.{drop-append-le, nil_from_length}
 use Rattle.site_base.specs.declared.actor.Actor.{Actor}
 use Rattle.site_base.specs.declared.event.Event.{Event}
 use Rattle.site_base.specs.declared.row.Row.{Row}
-use Rattle.site_base.specs.Configured.{Configured}
+use Rattle.kept_history.specs.KeptRows.{kept_rows}
 use Rattle.written_site.specs.SiteRun.{events_of}
 use Rattle.site_book.specs.Book.{Book}
 use Rattle.hex_lines.specs.Lines.{IsLine}
@@ -18,7 +18,6 @@ use Rattle.journal.specs.Disks.{BeginsWith, BeginsWithEither, DiskFile, Keeps, K
 use Rattle.journal.specs.Disks.{OfFiles, Reads, Renews, IsUntouched}
 use Rattle.journal.specs.declared.reading.OpenFault.{OpenFault}
 use Rattle.journal.specs.Faults.{Names, NamesIn}
-use Rattle.journal.specs.History.{IsMadeAgain, all_made_again, empty_book}
 use Rattle.journal.specs.JournalLines.{TellsWhole, lines_from, unfinished, unfinished_from}
 use Rattle.journal.specs.JournalLines.{whole_lines}
 use Rattle.journal.specs.JournalText.{IsSent}
@@ -29,7 +28,8 @@ use Rattle.journal.specs.Stored.{HoldsRows}
 use Rattle.journal.proofs.Fronts.{all_each, begins_then, front_of_cut, keeps_none, keeps_on}
 use Rattle.journal.proofs.JournalLaws.{first_alone}
 use Rattle.journal.proofs.Lines.{lines_both, unfinished_both}
-use Rattle.journal.proofs.Readings.{made_of_lines, rows_again}
+use Rattle.journal.proofs.Made.{made_events}
+use Rattle.journal.proofs.Readings.{kept_of_lines, made_of_lines}
 
 -- ---- what takes the file's place
 
@@ -67,17 +67,19 @@ renewed_then left (Some a) (Some b) None stays renewed = absurd renewed
 
 -- ---- the book
 
--- what is read is made again
-pub read_made : (header octets : List ℕ) (whole : ℕ) (b : Book) → IsRead header octets whole b
-    → IsMadeAgain b
-read_made header octets whole b (inl begun) = record {
-  again =
-      ap (λ (rows : List Row). all_made_again (empty_book b.config) (events_of rows)) begun.rows
-      ∙ ap (λ (rows : List Row). Some (record b { rows = rows })) (sym begun.rows);
-  sent = subst (AllByRecursion IsSent) (sym begun.rows) tt;
-}
-read_made header octets whole b (inr back) =
+-- each row that is read is sent by its actor
+pub read_sent : (header octets : List ℕ) (whole : ℕ) (b : Book) → IsRead header octets whole b
+    → AllByRecursion IsSent b.rows
+read_sent header octets whole b (inl begun) = subst (AllByRecursion IsSent) (sym begun.rows) tt
+read_sent header octets whole b (inr back) =
     made_of_lines b back.tells.tells.lines back.events back.tells.tells.requests back.made
+
+-- .. and is kept
+pub read_kept : (header octets : List ℕ) (whole : ℕ) (b : Book) → IsRead header octets whole b
+    → kept_rows b.rows ≡ b.rows
+read_kept header octets whole b (inl begun) = ap kept_rows begun.rows ∙ sym begun.rows
+read_kept header octets whole b (inr back) =
+    kept_of_lines b back.tells.tells.lines back.events back.tells.tells.requests back.made
 
 pub read_in : (header octets : List ℕ) (whole : ℕ) (b : Book) (file : Option DiskFile)
     → OfFile (Reads octets) file → IsRead header octets whole b
@@ -89,19 +91,19 @@ read_in header octets whole b (Some f) reads is =
       read = subst (λ (xs : List ℕ). IsRead header xs whole b) reads.0 is;
     }
 
-pub tells_nothing_in : (header octets : List ℕ) (config : Configured) (file : Option DiskFile)
-    → OfFile (Reads octets) file → TellsNothing header octets config
-    → OfFile (TellsNothingIn header config) file
-tells_nothing_in header octets config None reads nothing = tt
-tells_nothing_in header octets config (Some f) reads nothing =
-    subst (λ (xs : List ℕ). TellsNothing header xs config) reads.0 nothing
+pub tells_nothing_in : (header octets : List ℕ) (file : Option DiskFile)
+    → OfFile (Reads octets) file → TellsNothing header octets
+    → OfFile (TellsNothingIn header) file
+tells_nothing_in header octets None reads nothing = tt
+tells_nothing_in header octets (Some f) reads nothing =
+    subst (λ (xs : List ℕ). TellsNothing header xs) reads.0 nothing
 
-pub names_in : (header octets : List ℕ) (config : Configured) (fault : OpenFault)
-    (file : Option DiskFile) → OfFile (Reads octets) file → Names header octets config fault
-    → OfFile (NamesIn header config fault) file
-names_in header octets config fault None reads names = tt
-names_in header octets config fault (Some f) reads names =
-    subst (λ (xs : List ℕ). Names header xs config fault) reads.0 names
+pub names_in : (header octets : List ℕ) (fault : OpenFault)
+    (file : Option DiskFile) → OfFile (Reads octets) file → Names header octets fault
+    → OfFile (NamesIn header fault) file
+names_in header octets fault None reads names = tt
+names_in header octets fault (Some f) reads names =
+    subst (λ (xs : List ℕ). Names header xs fault) reads.0 names
 
 -- whole lines that tell a line are some octets
 some_lines : (header : List ℕ) (octets : List ℕ) (n : ℕ) (events : List (Actor × Event))
@@ -136,11 +138,10 @@ holds_read header octets whole b old new plain same (inr back) settled =
     let left : settled_octets (header ++ 10 ∷ []) whole old.octets ≡ take whole octets =
     ap (λ (t : Bool). if t then header ++ 10 ∷ [] else take whole old.octets) some
     ∙ ap (take whole) (sym same) in
-    let made = rows_again (empty_book b.config) b back.events back.made in
     record {
       front = take whole octets;
       tells = subst (TellsWhole header (take whole octets))
-          (sym (ap events_of made.rows ∙ made.asked)) back.tells;
+          (sym (made_events b back.events back.made)) back.tells;
       there = record {
         rest = [];
         parts = settled.1 ∙ settled.0 ∙ left ∙ sym (append-nil (take whole octets));

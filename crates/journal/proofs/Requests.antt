@@ -1,5 +1,5 @@
 -- The line of a row is read again as its request.
-use Rattle.std.proofs.Common.{◌≡◌, ℕ, true, not, List, [], ◌∷◌, ◌++◌}
+use Rattle.std.proofs.Common.{◌≡◌, ℕ, true, false, not, List, [], ◌∷◌, ◌++◌}
 use Rattle.std.proofs.Common.{Some, None, Ok, refl, sym, ap, ◌∙◌, append-nil, eqb}
 use Rattle.std.proofs.Common.{inl, inr, subst}
 use Rattle.std.proofs.lemmas.Bool.{cases_eq, ne_eqb}
@@ -19,11 +19,13 @@ use Rattle.app_message.proofs.Again.{read_again}
 use Rattle.device_map.specs.Laws.{AsksFor}
 use Rattle.device_map.specs.Requests.{request_at}
 use Rattle.hex_lines.specs.Lines.{IsLine}
+use Rattle.kept_history.specs.KeptRows.{is_kept, is_read}
 use Rattle.written_site.specs.SiteRun.{events_of}
 use Rattle.journal.specs.JournalLines.{lines_from, request_decoded, request_in}
 use Rattle.journal.specs.JournalLines.{requests_in, unfinished_from}
 use Rattle.journal.specs.JournalText.{row_line, row_request, rows_text}
 use Rattle.journal.specs.RowLines.{AreLines}
+use Rattle.journal.proofs.Kept.{no_read}
 use Rattle.journal.proofs.Lines.{line_ends, lines_both, one_line, requests_both, unfinished_both}
 use Rattle.journal.proofs.Octets.{spelled_octets}
 
@@ -54,11 +56,11 @@ alone_read m valid =
 
 -- .. is read as its request
 pub request_read : (m : Telegram) (actor : Actor) (event : Event) → IsMessage m
-    → request_at m ≡ Ok (actor, event)
+    → request_at m ≡ Ok (actor, event) → is_read event ≡ false
     → request_in (encode_lower (spelling m)) ≡ Some (actor, event)
-request_read m actor event valid asks =
+request_read m actor event valid asks kept =
     ap request_decoded (decode_of-encode_lower (spelling m) (spelled_octets m valid))
-    ∙ rw (alone_read m valid, asks) refl
+    ∙ rw (alone_read m valid, asks, kept) refl
 
 pub events_both : (a b : List Row) → events_of (a ++ b) ≡ events_of a ++ events_of b
 events_both a b = map-append (λ r. (r.actor, r.event)) a b
@@ -84,10 +86,10 @@ lines_of_both a b x y first second = record {
       ∙ second.whole;
 }
 
--- the line of a row
-pub line_of_row : (r : Row) → AsksFor 0 r.actor r.event (row_request r)
+-- the line of a row that is kept
+pub line_of_row : (r : Row) → is_kept r ≡ true → AsksFor 0 r.actor r.event (row_request r)
     → AreLines (r ∷ []) (row_line r)
-line_of_row r asks =
+line_of_row r kept asks =
     let line = encode_lower (spelling (row_request r)) in
     let one : lines_from [] (row_line r) ≡ line ∷ [] =
     one_line line (spelled_plain (row_request r) asks.message) in
@@ -95,7 +97,8 @@ line_of_row r asks =
       spelled = sym (append-nil (row_line r));
       requests =
           ap requests_in one
-          ∙ rw (request_read (row_request r) r.actor r.event asks.message asks.asks) refl;
+          ∙ rw (request_read (row_request r) r.actor r.event asks.message asks.asks
+          (no_read r kept)) refl;
       whole = line_ends [] line;
     }
 

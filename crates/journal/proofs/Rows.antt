@@ -1,15 +1,18 @@
 -- Rows by their places, and the lines of more and more of them.
 use Rattle.std.proofs.Common.{◌≡◌, ℕ, zero, suc, ◌+◌, ◌<◌, List, [], ◌∷◌, ◌++◌, length, take, drop}
-use Rattle.std.proofs.Common.{Some, None, refl, sym, ap, ◌∙◌, subst, arith}
-use Rattle.std.specs.Prelude.{◌≤◌, slice_get}
+use Rattle.std.proofs.Common.{Bool, true, false, Some, None, refl, sym, ap, ◌∙◌, append-nil, subst, arith}
+use Rattle.std.specs.Prelude.{◌≤◌, if◌then◌else◌, slice_get}
 use Rattle.std.specs.List.{AllByRecursion}
 use Rattle.std.proofs.lemmas.List.{drop-append-le, length-take-le, take_all}
 use Rattle.std.proofs.lemmas.Option.{none-some, same_Some}
 use Rattle.site_base.specs.declared.row.Row.{Row}
 use Rattle.device_map.specs.Laws.{AsksFor}
-use Rattle.journal.specs.JournalText.{CanBeSpelled, row_line, row_request}
+use Rattle.kept_history.specs.KeptRows.{is_kept, kept_rows}
+use Rattle.journal.specs.JournalText.{CanBeSpelled, row_line, row_request, rows_text}
+use Rattle.journal.specs.Stored.{kept_behind}
 use Rattle.journal.specs.RowLines.{AreLines}
 use Rattle.journal.proofs.Fronts.{all_both}
+use Rattle.journal.proofs.Kept.{kept_both}
 use Rattle.journal.proofs.Requests.{line_of_row, lines_of_both, no_lines}
 
 pub take_more : {X : Type 0} (xs : List X) (n : ℕ) (x : X) → slice_get xs n ≡ Some x
@@ -37,12 +40,13 @@ none_behind (x ∷ xs) zero = refl
 none_behind (x ∷ xs) (suc n) = none_behind xs n
 
 -- no rows, no lines
-pub none_yet : (rows : List Row) (from : ℕ) → AreLines (drop from (take from rows)) []
+pub none_yet : (rows : List Row) (from : ℕ) → AreLines (kept_behind from (take from rows)) []
 none_yet rows from =
-    subst (λ (rs : List Row). AreLines rs []) (sym (none_behind rows from)) no_lines
+    subst (λ (rs : List Row). AreLines (kept_rows rs) []) (sym (none_behind rows from)) no_lines
 
-pub none_spelled : (rows : List Row) (from : ℕ) → CanBeSpelled (drop from (take from rows))
-none_spelled rows from = subst CanBeSpelled (sym (none_behind rows from)) tt
+pub none_spelled : (rows : List Row) (from : ℕ) → CanBeSpelled (kept_behind from (take from rows))
+none_spelled rows from =
+    subst (λ (rs : List Row). CanBeSpelled (kept_rows rs)) (sym (none_behind rows from)) tt
 
 one_behind : (rows : List Row) (from n : ℕ) (r : Row) → from ≤ n → n < length rows
     → slice_get rows n ≡ Some r
@@ -53,31 +57,52 @@ one_behind rows from n r high within is =
     ap (drop from) (ap (λ (m : ℕ). take m rows) next ∙ take_more rows n r is)
     ∙ drop-append-le from (take n rows) (r ∷ []) (omega (arith, size, high))
 
--- the line of one row more
+kept_more : (rows : List Row) (from n : ℕ) (r : Row) → from ≤ n → n < length rows
+    → slice_get rows n ≡ Some r
+    → kept_behind from (take (n + 1) rows)
+    ≡ kept_behind from (take n rows) ++ kept_rows (r ∷ [])
+kept_more rows from n r high within is =
+    ap kept_rows (one_behind rows from n r high within is)
+    ∙ kept_both (drop from (take n rows)) (r ∷ [])
+
+-- the line of a row, if it is kept
+pub line_if_kept : (r : Row) → CanBeSpelled (kept_rows (r ∷ []))
+    → AreLines (kept_rows (r ∷ [])) (rows_text (kept_rows (r ∷ [])))
+line_if_kept r spelled = by_test (is_kept r) refl spelled
+  where
+    by_test : (kept : Bool) → is_kept r ≡ kept
+        → CanBeSpelled (if kept then r ∷ [] else [])
+        → AreLines (if kept then r ∷ [] else []) (rows_text (if kept then r ∷ [] else []))
+    by_test true is spelled =
+        subst (AreLines (r ∷ [])) (sym (append-nil (row_line r))) (line_of_row r is spelled.0)
+    by_test false is spelled = no_lines
+
+-- one row more
 pub line_behind : (rows : List Row) (from n : ℕ) (r : Row) (text : List ℕ) → from ≤ n
-    → n < length rows → slice_get rows n ≡ Some r → AreLines (drop from (take n rows)) text
-    → AsksFor 0 r.actor r.event (row_request r)
-    → AreLines (drop from (take (n + 1) rows)) (text ++ row_line r)
-line_behind rows from n r text high within is lines asks =
-    subst (λ (rs : List Row). AreLines rs (text ++ row_line r))
-    (sym (one_behind rows from n r high within is))
-    (lines_of_both (drop from (take n rows)) (r ∷ []) text (row_line r) lines (line_of_row r asks))
+    → n < length rows → slice_get rows n ≡ Some r → AreLines (kept_behind from (take n rows)) text
+    → CanBeSpelled (kept_rows (r ∷ []))
+    → AreLines (kept_behind from (take (n + 1) rows)) (text ++ rows_text (kept_rows (r ∷ [])))
+line_behind rows from n r text high within is lines spelled =
+    subst (λ (rs : List Row). AreLines rs (text ++ rows_text (kept_rows (r ∷ []))))
+    (sym (kept_more rows from n r high within is))
+    (lines_of_both (kept_behind from (take n rows)) (kept_rows (r ∷ [])) text
+    (rows_text (kept_rows (r ∷ []))) lines (line_if_kept r spelled))
 
 pub spelled_behind : (rows : List Row) (from n : ℕ) (r : Row) → from ≤ n → n < length rows
-    → slice_get rows n ≡ Some r → CanBeSpelled (drop from (take n rows))
-    → AsksFor 0 r.actor r.event (row_request r) → CanBeSpelled (drop from (take (n + 1) rows))
-spelled_behind rows from n r high within is spelled asks =
-    subst CanBeSpelled (sym (one_behind rows from n r high within is))
-    (all_both (λ (x : Row). AsksFor 0 x.actor x.event (row_request x)) (drop from (take n rows))
-    (r ∷ []) spelled (asks, tt))
+    → slice_get rows n ≡ Some r → CanBeSpelled (kept_behind from (take n rows))
+    → CanBeSpelled (kept_rows (r ∷ [])) → CanBeSpelled (kept_behind from (take (n + 1) rows))
+spelled_behind rows from n r high within is spelled one =
+    subst CanBeSpelled (sym (kept_more rows from n r high within is))
+    (all_both (λ (x : Row). AsksFor 0 x.actor x.event (row_request x))
+    (kept_behind from (take n rows)) (kept_rows (r ∷ [])) spelled one)
 
 -- all of them
 pub all_lines : (rows : List Row) (from n : ℕ) (text : List ℕ) → length rows ≤ n
-    → AreLines (drop from (take n rows)) text → AreLines (drop from rows) text
+    → AreLines (kept_behind from (take n rows)) text → AreLines (kept_behind from rows) text
 all_lines rows from n text long lines =
-    subst (λ (rs : List Row). AreLines (drop from rs) text) (take_all n rows long) lines
+    subst (λ (rs : List Row). AreLines (kept_behind from rs) text) (take_all n rows long) lines
 
 pub all_spelled : (rows : List Row) (from n : ℕ) → length rows ≤ n
-    → CanBeSpelled (drop from (take n rows)) → CanBeSpelled (drop from rows)
+    → CanBeSpelled (kept_behind from (take n rows)) → CanBeSpelled (kept_behind from rows)
 all_spelled rows from n long spelled =
-    subst (λ (rs : List Row). CanBeSpelled (drop from rs)) (take_all n rows long) spelled
+    subst (λ (rs : List Row). CanBeSpelled (kept_behind from rs)) (take_all n rows long) spelled

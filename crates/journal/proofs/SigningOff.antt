@@ -1,7 +1,7 @@
 -- Tills that are signed off, one after another.
 use Rattle.std.proofs.Common.{◌≡◌, ℕ, zero, suc, ◌+◌, ◌-◌, ◌<◌, ◌==◌, Bool, true, false, List, []}
 use Rattle.std.proofs.Common.{◌∷◌, ◌++◌}
-use Rattle.std.proofs.Common.{drop, length, take}
+use Rattle.std.proofs.Common.{length, take}
 use Rattle.std.proofs.Common.{Option, Some, None, refl, sym, ap, ◌∙◌}
 use Rattle.std.proofs.Common.{arith, subst}
 use Rattle.std.specs.Prelude.{◌≤◌, OnSome, if◌then◌else◌, is_some}
@@ -23,6 +23,10 @@ use Rattle.written_site.specs.SiteStep.{site_after}
 use Rattle.site_book.specs.Book.{AreActors, AreRowsInRange, Book, site_of_book}
 use Rattle.site_book.specs.Book.{with_row_of}
 use Rattle.site_book.specs.SignedOn.{AreTills}
+use Rattle.site_book.specs.Unpaid.{GoesBy, Kept}
+use Rattle.site_book.proofs.Growing.{goes_on}
+use Rattle.kept_history.specs.KeptRows.{kept_rows}
+use Rattle.std.specs.List.{AllByRecursion}
 use Rattle.site_book.proofs.SignedTills.{tills_row}
 use Rattle.station.specs.Runs.{opening_station}
 use Rattle.station.specs.Sessions.{without_till}
@@ -31,8 +35,10 @@ use Rattle.station.proofs.TillSessions.{still_on}
 use Rattle.journal.specs.Disks.{DiskFile, Grows, Keeps, OfFile, OfFiles}
 use Rattle.journal.specs.History.{empty_book}
 use Rattle.journal.specs.Opening.{HasNobodyOn, Resumes, all_off, tills_off}
-use Rattle.journal.specs.JournalText.{CanBeSpelled, rows_text}
-use Rattle.journal.specs.Stored.{HoldsRows, IsJournalOf, JournalState, StoredState}
+use Rattle.journal.specs.JournalText.{CanBeSpelled, IsSent, rows_text}
+use Rattle.journal.specs.Stored.{HoldsRows, IsJournalOf, JournalState, StoredState, kept_behind}
+use Rattle.journal.specs.Stored.{kept_first}
+use Rattle.journal.proofs.Fronts.{all_both}
 use Rattle.journal.proofs.Made.{Adds, adds_same, adds_then}
 use Rattle.journal.proofs.Moves.{adds_leaving}
 
@@ -99,16 +105,18 @@ nobody_yet config = λ t. set.contains-empty nat_cmp t
 
 -- ---- the journal of what was recovered
 
+-- each row that was recovered is kept, and stored
 pub journal_begun : (header : List ℕ) (recovered b : Book) (file : Option DiskFile) (stored : ℕ)
-    → OfFile (HoldsRows header recovered.rows false) file → CanBeSpelled recovered.rows
+    → OfFile (HoldsRows header recovered.rows false) file → kept_rows recovered.rows ≡ recovered.rows
+    → CanBeSpelled recovered.rows
     → stored ≡ length recovered.rows → b ≡ all_off recovered
     → IsJournalOf b.rows (record { header = header; stored = stored; failed = false; file = file })
-journal_begun header recovered b file stored holds spelled size off =
+journal_begun header recovered b file stored holds kept spelled size off =
     let adds = subst (Adds recovered) (sym off) (off_adds TILLS recovered) in
-    let front : take stored b.rows ≡ recovered.rows =
-    ap (take stored) adds.rows
+    let front : kept_first stored b.rows ≡ recovered.rows =
+    ap kept_rows (ap (take stored) adds.rows
     ∙ ap (λ (n : ℕ). take n (recovered.rows ++ adds.later)) size
-    ∙ take-append_seam recovered.rows adds.later in
+    ∙ take-append_seam recovered.rows adds.later) ∙ kept in
     let all : length b.rows ≡ length recovered.rows + length adds.later =
     ap length adds.rows ∙ length-append recovered.rows adds.later in
     record {
@@ -117,13 +125,37 @@ journal_begun header recovered b file stored holds spelled size off =
       holds = subst (λ (rs : List Row). OfFile (HoldsRows header rs false) file) (sym front) holds;
     }
 
+-- what goes by the recovered book goes by it with its sign-offs
+pub unpaid_off : (kept : Kept) (recovered b : Book) → b ≡ all_off recovered
+    → GoesBy kept recovered → GoesBy kept b
+unpaid_off kept recovered b off goes =
+    let adds = subst (Adds recovered) (sym off) (off_adds TILLS recovered) in
+    goes_on kept recovered b adds.later adds.same adds.rows
+    (omega (arith, adds.memory, goes.behind)) goes
+
+pub sent_off : (recovered b : Book) → b ≡ all_off recovered
+    → AllByRecursion IsSent recovered.rows → AllByRecursion IsSent b.rows
+sent_off recovered b off sent =
+    let adds = subst (Adds recovered) (sym off) (off_adds TILLS recovered) in
+    subst (AllByRecursion IsSent) (sym adds.rows)
+    (all_both IsSent recovered.rows adds.later sent adds.sent)
+
+-- .. and it forgets no more than was recovered
+pub behind_off : (recovered b : Book) → b ≡ all_off recovered
+    → recovered.forgotten ≤ length recovered.rows → b.forgotten ≤ length recovered.rows
+behind_off recovered b off few =
+    let adds = subst (Adds recovered) (sym off) (off_adds TILLS recovered) in
+    omega (arith, adds.memory, few)
+
 -- a station that begins with it, each row of which is stored
-pub resumes : (header : List ℕ) (recovered b : Book) (file : Option DiskFile) (j : JournalState)
-    (s : StoredState) → s ≡ record { station = opening_station b; journal = Some j }
+pub resumes : (header : List ℕ) (recovered b : Book) (unpaid : Kept) (file : Option DiskFile)
+    (j : JournalState)
+    (s : StoredState)
+    → s ≡ record { station = opening_station b; unpaid = unpaid; journal = Some j }
     → b ≡ all_off recovered → HasNobodyOn b → j.stored ≡ length b.rows → j.header ≡ header
-    → OfFiles (Grows (rows_text (drop (length recovered.rows) b.rows))) file j.file
+    → OfFiles (Grows (rows_text (kept_behind (length recovered.rows) b.rows))) file j.file
     → OfFiles Keeps file j.file → Resumes header recovered file s
-resumes header recovered b file j s is signed off all named lines keeps =
+resumes header recovered b unpaid file j s is signed off all named lines keeps =
     subst (Resumes header recovered file) (sym is) (record {
       alone = refl;
       rows = signed;

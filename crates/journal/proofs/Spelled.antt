@@ -1,6 +1,6 @@
 -- A request that was read can be spelled.
 use Rattle.std.proofs.Common.{◌≡◌, ℕ, List, [], ◌∷◌, Option, Some, None, Result, Ok, Err, refl, sym}
-use Rattle.std.proofs.Common.{ap, ◌∙◌, arith, inl, inr, subst}
+use Rattle.std.proofs.Common.{arith, inl, inr, subst}
 use Rattle.std.specs.List.{AllByRecursion}
 use Rattle.std.proofs.lemmas.Option.{none-some, same_Some}
 use Rattle.hex.specs.Hex.{decode_of}
@@ -21,13 +21,13 @@ use Rattle.device_map.specs.Ways.{request_by, way_to}
 use Rattle.device_map.proofs.OneRequest.{alone}
 use Rattle.written_site.specs.SiteRun.{events_of}
 use Rattle.site_book.specs.Book.{Book}
-use Rattle.journal.specs.History.{empty_book}
 use Rattle.journal.specs.JournalLines.{request_alone, request_decoded, request_in, request_meant}
 use Rattle.journal.specs.JournalLines.{requests_in}
 use Rattle.journal.specs.JournalText.{CanBeSpelled}
 use Rattle.journal.specs.Readings.{IsRead}
 use Rattle.journal.proofs.Lines.{led}
-use Rattle.journal.proofs.Readings.{rows_again}
+use Rattle.journal.proofs.Made.{made_events}
+use Rattle.journal.proofs.Readings.{kept_alone}
 
 -- the request, with token 0, can be spelled
 abbrev IsSpelled : Actor × Event → Type 0
@@ -63,7 +63,7 @@ told_again m actor event valid is =
 meant_spelled : (m : Telegram) (r : Result (Actor × Event) MapFault) (e : Actor × Event)
     → IsMessage m → request_at m ≡ r → request_meant r ≡ Some e → IsSpelled e
 meant_spelled m (Ok request) e valid at is =
-    subst IsSpelled (same_Some request e is) (told_again m request.0 request.1 valid at)
+    subst IsSpelled (kept_alone request e is).0 (told_again m request.0 request.1 valid at)
 meant_spelled m (Err f) e valid at is = absurd (none-some e is)
 
 alone_spelled : (ms : List Telegram) (rest : List ℕ) (fault : Option StreamFault)
@@ -100,7 +100,6 @@ pub read_spelled : (header octets : List ℕ) (whole : ℕ) (b : Book) → IsRea
     → CanBeSpelled b.rows
 read_spelled header octets whole b (inl begun) = subst CanBeSpelled (sym begun.rows) tt
 read_spelled header octets whole b (inr back) =
-    let again = rows_again (empty_book b.config) b back.events back.made in
-    let asked : events_of b.rows ≡ back.events = ap events_of again.rows ∙ again.asked in
-    rows_spelled b.rows (subst (AllByRecursion IsSpelled) (sym asked)
+    rows_spelled b.rows
+    (subst (AllByRecursion IsSpelled) (sym (made_events b back.events back.made))
     (lines_spelled back.tells.tells.lines back.events back.tells.tells.requests))

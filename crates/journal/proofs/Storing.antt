@@ -1,8 +1,9 @@
 -- What storing rows makes of a journal's file.
-use Rattle.std.proofs.Common.{◌≡◌, ℕ, true, false, List, [], ◌++◌, length, take, drop, Option}
+use Rattle.std.proofs.Common.{◌≡◌, ℕ, true, false, List, [], ◌∷◌, ◌++◌, length, drop, Option}
 use Rattle.std.proofs.Common.{Some, None, refl, sym, ap, ◌∙◌, append-nil, arith, subst}
 use Rattle.std.specs.Prelude.{Bool}
-use Rattle.std.proofs.lemmas.List.{take-append-drop, take_all}
+use Rattle.std.proofs.lemmas.List.{take_all}
+use Rattle.std.proofs.lemmas.Option.{same_Some}
 use Rattle.std.proofs.Math.Seq.{drop-length}
 use Rattle.site_base.specs.declared.actor.Actor.{Actor}
 use Rattle.site_base.specs.declared.event.Event.{Event}
@@ -10,10 +11,13 @@ use Rattle.site_base.specs.declared.row.Row.{Row}
 use Rattle.device_map.specs.Laws.{AsksFor}
 use Rattle.written_site.specs.SiteRun.{events_of}
 use Rattle.journal.specs.Disks.{Appends, DiskFile, Grows, Keeps, OfFile, OfFiles, Syncs}
-use Rattle.journal.specs.JournalLines.{TellsWhole, unfinished_from, whole_lines}
+use Rattle.journal.specs.JournalLines.{TellsWhole, requests_in, unfinished_from, whole_lines}
 use Rattle.journal.specs.JournalText.{CanBeSpelled, row_request, rows_text}
 use Rattle.journal.specs.RowLines.{AreLines}
 use Rattle.journal.specs.Stored.{GrowsByLines, HoldsRows, IsJournalOf, JournalState}
+use Rattle.journal.specs.Stored.{kept_behind, kept_first}
+use Rattle.kept_history.specs.KeptRows.{kept_rows}
+use Rattle.journal.proofs.Kept.{kept_parts}
 use Rattle.journal.proofs.Fronts.{all_both, begins_then}
 use Rattle.journal.proofs.Lines.{requests_both, unfinished_both}
 use Rattle.journal.proofs.Readings.{lines_behind}
@@ -54,10 +58,11 @@ grown_file xs ys (Some a) (Some b) None is wrote synced = absurd synced
 
 -- the rows that weren't stored were written and synced
 pub lines_written : (rows : List Row) (j k : JournalState) (text : List ℕ) (b : Option DiskFile)
-    → AreLines (drop j.stored rows) text → OfFiles (Appends text) j.file b
+    → AreLines (kept_behind j.stored rows) text → OfFiles (Appends text) j.file b
     → OfFiles Syncs b k.file → GrowsByLines rows j k
 lines_written rows j k text b lines wrote synced =
-    grown_file text (rows_text (drop j.stored rows)) j.file b k.file lines.spelled wrote synced
+    grown_file text (rows_text (kept_behind j.stored rows)) j.file b k.file lines.spelled wrote
+    synced
 
 -- .. or there are none
 grown_none : (xs : List ℕ) (a : Option DiskFile) → xs ≡ [] → OfFiles (Grows xs) a a
@@ -65,13 +70,27 @@ grown_none xs None is = tt
 grown_none xs (Some a) is =
     sym (append-nil a.octets) ∙ ap (λ (zs : List ℕ). a.octets ++ zs) (sym is)
 
-pub lines_none : (rows : List Row) (j k : JournalState) → j.stored ≡ length rows → k ≡ j
-    → GrowsByLines rows j k
-lines_none rows j k all is =
-    let none : drop j.stored rows ≡ [] =
-    ap (λ (n : ℕ). drop n rows) all ∙ drop-length rows in
-    subst (λ (x : JournalState). GrowsByLines rows j x) (sym is)
-    (grown_none (rows_text (drop j.stored rows)) j.file (ap rows_text none))
+pub lines_none : (rows : List Row) (j k : JournalState) → kept_behind j.stored rows ≡ []
+    → k.file ≡ j.file → GrowsByLines rows j k
+lines_none rows j k none is =
+    subst (λ (f : Option DiskFile).
+    OfFiles (Grows (rows_text (kept_behind j.stored rows))) j.file f) (sym is)
+    (grown_none (rows_text (kept_behind j.stored rows)) j.file (ap rows_text none))
+
+-- behind the last row there are none
+pub none_left : (rows : List Row) (j : JournalState) → j.stored ≡ length rows
+    → kept_behind j.stored rows ≡ []
+none_left rows j all = ap kept_rows (ap (λ (n : ℕ). drop n rows) all ∙ drop-length rows)
+
+nil_cons : {X : Type 0} (x : X) (xs : List X) → [] ≡ x ∷ xs → ⊥
+nil_cons x xs is = cc
+
+-- no text has no row
+pub no_text : (rows : List Row) (text : List ℕ) → AreLines rows text → text ≡ [] → rows ≡ []
+no_text [] text lines none = refl
+no_text (r ∷ rows) text lines none =
+    absurd (nil_cons _ _ (same_Some [] (events_of (r ∷ rows))
+    (ap (λ (t : List ℕ). requests_in (whole_lines t)) (sym none) ∙ lines.requests)))
 
 -- ---- what it holds
 
@@ -101,7 +120,7 @@ pub journal_failed : (rows : List Row) (j : JournalState) (b : Option DiskFile)
 journal_failed rows j b is keeps = record {
   few = is.few;
   spelled = is.spelled;
-  holds = failed_file j.header (take j.stored rows) j.failed j.file b is.holds keeps;
+  holds = failed_file j.header (kept_first j.stored rows) j.failed j.file b is.holds keeps;
 }
 
 -- rows were written behind others, and synced
@@ -135,24 +154,47 @@ stored_file header text rows more None (Some b) c holds lines wrote synced = abs
 stored_file header text rows more (Some a) None c holds lines wrote synced = absurd wrote
 stored_file header text rows more (Some a) (Some b) None holds lines wrote synced = absurd synced
 
+-- all rows are those that were stored, and those behind them
+all_kept : (rows : List Row) (n count : ℕ) → count ≡ length rows
+    → kept_first n rows ++ kept_behind n rows ≡ kept_first count rows
+all_kept rows n count all =
+    sym (kept_parts n rows)
+    ∙ ap kept_rows (sym (take_all count rows (omega (arith, all))))
+
 -- a journal that has stored all rows
 pub journal_stored : (rows : List Row) (j : JournalState) (text : List ℕ) (b c : Option DiskFile)
-    (count : ℕ) → IsJournalOf rows j → j.failed ≡ false → AreLines (drop j.stored rows) text
-    → CanBeSpelled (drop j.stored rows) → OfFiles (Appends text) j.file b → OfFiles Syncs b c
-    → count ≡ length rows
+    (count : ℕ) → IsJournalOf rows j → j.failed ≡ false
+    → AreLines (kept_behind j.stored rows) text
+    → CanBeSpelled (kept_behind j.stored rows) → OfFiles (Appends text) j.file b
+    → OfFiles Syncs b c → count ≡ length rows
     → IsJournalOf rows (record { header = j.header; stored = count; failed = false; file = c })
 journal_stored rows j text b c count is whole lines spelled wrote synced all =
     let holds =
-    subst (λ (failed : Bool). OfFile (HoldsRows j.header (take j.stored rows) failed) j.file)
+    subst (λ (failed : Bool). OfFile (HoldsRows j.header (kept_first j.stored rows) failed) j.file)
     whole is.holds in
-    let file = stored_file j.header text (take j.stored rows) (drop j.stored rows) j.file b c holds
-    lines wrote synced in
-    let same : take j.stored rows ++ drop j.stored rows ≡ take count rows =
-    take-append-drop j.stored rows ∙ sym (take_all count rows (omega (arith, all))) in
+    let file = stored_file j.header text (kept_first j.stored rows) (kept_behind j.stored rows)
+    j.file b c holds lines wrote synced in
+    let same = all_kept rows j.stored count all in
     record {
       few = omega (arith, all);
       spelled = subst CanBeSpelled same
-          (all_both (λ (r : Row). AsksFor 0 r.actor r.event (row_request r)) (take j.stored rows)
-          (drop j.stored rows) is.spelled spelled);
+          (all_both (λ (r : Row). AsksFor 0 r.actor r.event (row_request r))
+          (kept_first j.stored rows) (kept_behind j.stored rows) is.spelled spelled);
       holds = subst (λ (rs : List Row). OfFile (HoldsRows j.header rs false) c) same file;
+    }
+
+-- .. where only reads were left
+pub journal_quiet : (rows : List Row) (j : JournalState) (count : ℕ) → IsJournalOf rows j
+    → kept_behind j.stored rows ≡ [] → count ≡ length rows
+    → IsJournalOf rows (record j { stored = count })
+journal_quiet rows j count is none all =
+    let same : kept_first j.stored rows ≡ kept_first count rows =
+    sym (append-nil (kept_first j.stored rows))
+    ∙ ap (λ (rs : List Row). kept_first j.stored rows ++ rs) (sym none)
+    ∙ all_kept rows j.stored count all in
+    record {
+      few = omega (arith, all);
+      spelled = subst CanBeSpelled same is.spelled;
+      holds =
+          subst (λ (rs : List Row). OfFile (HoldsRows j.header rs j.failed) j.file) same is.holds;
     }

@@ -10,6 +10,7 @@ use Rattle.app_message.specs.Stream.{fed_by, held_after}
 use Rattle.app_message.specs.Telegram.{Telegram}
 use Rattle.device_map.specs.declared.fault.MapFault.{MapFault}
 use Rattle.device_map.specs.Requests.{request_at}
+use Rattle.kept_history.specs.KeptRows.{is_read}
 
 -- the lines that end with a line feed, without it, of octets whose first line begins so
 abbrev pub lines_from : List ℕ → List ℕ → List (List ℕ)
@@ -33,8 +34,12 @@ unfinished file = unfinished_from [] file
 
 -- ---- what a line asks for
 
+-- a request whose row is kept: any but a read
+abbrev pub if_kept : Actor × Event → Option (Actor × Event)
+if_kept request = if is_read request.1 then None else Some request
+
 abbrev pub request_meant : Result (Actor × Event) MapFault → Option (Actor × Event)
-request_meant (Ok request) = Some request
+request_meant (Ok request) = if_kept request
 request_meant (Err fault) = None
 
 -- the request that one message alone is
@@ -51,7 +56,8 @@ abbrev pub request_decoded : Result (List ℕ) FromHexError → Option (Actor ×
 request_decoded (Ok octets) = request_in_octets octets
 request_decoded (Err e) = None
 
--- the request that a line is, in hexadecimal: its actor and its event; None where it is none
+-- the request that a line is, in hexadecimal: its actor and its event; None where it is none, or a
+-- read, whose row isn't kept
 abbrev pub request_in : List ℕ → Option (Actor × Event)
 request_in line = request_decoded (decode_of line)
 

@@ -5,6 +5,7 @@ pub mod History
 pub mod RowLines
 pub mod Readings
 pub mod Faults
+pub mod Memory
 pub mod Stored
 pub mod Recovering
 pub mod Opening

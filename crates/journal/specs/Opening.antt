@@ -1,5 +1,5 @@
 -- A station that goes on where its journal ended.
-use Rattle.std.specs.Prelude.{◌≡◌, ℕ, zero, suc, true, false, List, drop, length, Option, Some}
+use Rattle.std.specs.Prelude.{◌≡◌, ℕ, zero, suc, true, false, List, length, Option, Some}
 use Rattle.site_base.specs.declared.limits.TheConstants.{TILLS}
 use Rattle.site_base.specs.Configured.{Configured}
 use Rattle.written_site.specs.SiteState.{is_signed_on}
@@ -9,7 +9,7 @@ use Rattle.station.specs.Sessions.{without_till}
 use Rattle.journal.specs.Disks.{DiskFile, Grows, Keeps, OfFile, OfFiles}
 use Rattle.journal.specs.JournalText.{rows_text}
 use Rattle.journal.specs.Recovering.{IsReadIn, KeepsWholeLines}
-use Rattle.journal.specs.Stored.{JournalState, StoredState, is_all_stored}
+use Rattle.journal.specs.Stored.{JournalState, StoredState, is_all_stored, kept_behind}
 
 -- no till is signed on
 abbrev pub HasNobodyOn : Book → Type 0
@@ -35,7 +35,8 @@ pub record Resumes (header : List ℕ) (recovered : Book) (file : Option DiskFil
   pub journal : JournalState
   pub there : s.journal ≡ Some journal
   pub named : journal.header ≡ header
-  pub lines : OfFiles (Grows (rows_text (drop (length recovered.rows) s.station.book.rows))) file
+  pub lines : OfFiles
+      (Grows (rows_text (kept_behind (length recovered.rows) s.station.book.rows))) file
       journal.file
   pub moments : OfFiles Keeps file journal.file
 

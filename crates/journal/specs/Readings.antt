@@ -1,22 +1,21 @@
 -- What is read back of a journal's octets.
-use Rattle.std.specs.Prelude.{◌≡◌, ℕ, ◌≤◌, List, [], ◌∷◌, ◌++◌, ◌⊎◌, length, take, drop, Some}
-use Rattle.std.specs.Prelude.{◌+◌, ◌<◌, ◌==◌, ⊤, Bool, true, false, not, Option, None}
+use Rattle.std.specs.Prelude.{◌≡◌, ℕ, ◌≤◌, List, [], ◌∷◌, ◌++◌, ◌⊎◌, length, take, drop}
+use Rattle.std.specs.Prelude.{◌+◌, ◌<◌, ◌==◌, ⊤, true, not}
 use Rattle.std.specs.List.{list_all}
 use Rattle.site_base.specs.declared.actor.Actor.{Actor}
 use Rattle.site_base.specs.declared.event.Event.{Event}
-use Rattle.site_base.specs.Configured.{Configured}
 use Rattle.site_book.specs.Book.{Book}
 use Rattle.journal.specs.declared.reading.OpenFault.{OpenFault}
 use Rattle.journal.specs.declared.reading.OpenFault.TheVariants.{AnotherSite, Line, Unread}
 use Rattle.journal.specs.Disks.{BeginsWith}
-use Rattle.journal.specs.History.{all_made_again, empty_book}
+use Rattle.journal.specs.History.{IsMadeOf}
 use Rattle.journal.specs.JournalLines.{Tells, TellsWhole, whole_lines}
 
 -- the octets tell the requests whose rows, made again, are the book
 pub record TellsBook (header octets : List ℕ) (b : Book) : Type 0 where
   pub events : List (Actor × Event)
   pub tells : Tells header octets events
-  pub made : all_made_again (empty_book b.config) events ≡ Some b
+  pub made : IsMadeOf b events
 
 -- no line is whole yet, and the octets are a beginning of the first line
 pub record IsUnended (header octets : List ℕ) : Type 0 where
@@ -35,16 +34,16 @@ pub record IsReadBack (header octets : List ℕ) (whole : ℕ) (b : Book) : Type
   pub events : List (Actor × Event)
   pub few : whole ≤ length octets
   pub tells : TellsWhole header (take whole octets) events
-  pub made : all_made_again (empty_book b.config) events ≡ Some b
+  pub made : IsMadeOf b events
   pub behind : whole_lines (drop whole octets) ≡ []
 
 abbrev pub IsRead : List ℕ → List ℕ → ℕ → Book → Type 0
 IsRead header octets whole b = IsBegun header octets whole b ⊎ IsReadBack header octets whole b
 
--- the octets are no beginning of a journal of this site, and tell no book of it
-pub record TellsNothing (header octets : List ℕ) (config : Configured) : Type 0 where
+-- the octets are no beginning of a journal of this site, and tell no requests
+pub record TellsNothing (header octets : List ℕ) : Type 0 where
   pub unbegun : IsUnended header octets → ⊥
-  pub untold : (b : Book) → b.config ≡ config → TellsBook header octets b → ⊥
+  pub untold : (events : List (Actor × Event)) → Tells header octets events → ⊥
 
 -- a fault of what the octets say
 abbrev pub IsOfText : OpenFault → Type 0
@@ -56,11 +55,6 @@ IsOfText fault = ⊥
 abbrev pub IsRefusal : OpenFault → Type 0
 IsRefusal Unread = ⊤
 IsRefusal fault = IsOfText fault
-
--- a row was made again, or none was, and the book is as before
-abbrev pub IsMade : Bool → Option Book → Book → Book → Type 0
-IsMade true made old new = made ≡ Some new
-IsMade false made old new = (made ≡ None) × (new ≡ old)
 
 -- the first line ends at this place, with its line feed there
 pub record IsLineEnd (end : ℕ) (octets : List ℕ) : Type 0 where

@@ -1,6 +1,5 @@
 -- What recovery makes of a disk's file.
 use Rattle.std.specs.Prelude.{◌≡◌, ℕ, ◌==◌, List, [], take, if◌then◌else◌}
-use Rattle.site_base.specs.Configured.{Configured}
 use Rattle.site_book.specs.Book.{Book}
 use Rattle.journal.specs.Disks.{BeginsWith, DiskFile, KeepsFront}
 use Rattle.journal.specs.JournalLines.{unfinished}
@@ -12,8 +11,8 @@ pub record IsReadIn (header : List ℕ) (b : Book) (file : DiskFile) : Type 0 wh
   pub read : IsRead header file.octets whole b
 
 -- a file's octets tell no book of this site
-abbrev pub TellsNothingIn : List ℕ → Configured → DiskFile → Type 0
-TellsNothingIn header config file = TellsNothing header file.octets config
+abbrev pub TellsNothingIn : List ℕ → DiskFile → Type 0
+TellsNothingIn header file = TellsNothing header file.octets
 
 -- whole lines that were on the disk stay there, at each moment
 abbrev pub KeepsWholeLines : DiskFile → DiskFile → Type 0

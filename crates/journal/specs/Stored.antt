@@ -1,14 +1,17 @@
 -- A station with its journal: what is stored, and what may be told.
 use Rattle.std.specs.Prelude.{◌≡◌, ℕ, ◌≤◌, ◌==◌, Bool, true, false, List, [], length, take, drop}
 use Rattle.std.specs.Prelude.{Option, Some, None, IfSome, if◌then◌else◌, ⊤}
+use Rattle.std.specs.List.{AllByRecursion}
 use Rattle.site_base.specs.declared.row.Row.{Row}
+use Rattle.kept_history.specs.KeptRows.{kept_rows}
+use Rattle.site_book.specs.Unpaid.{GoesBy, Kept}
 use Rattle.written_site.specs.SiteRun.{events_of}
 use Rattle.station.specs.Moves.{StationState}
 use Rattle.station.specs.Reads.{owed_at}
 use Rattle.journal.specs.Disks.{BeginsWith, DiskFile, Grows, Keeps, OfFile, OfFiles}
-use Rattle.journal.specs.History.{IsMadeAgain}
+use Rattle.journal.specs.History.{IsHistory}
 use Rattle.journal.specs.JournalLines.{TellsWhole}
-use Rattle.journal.specs.JournalText.{CanBeSpelled, rows_text}
+use Rattle.journal.specs.JournalText.{CanBeSpelled, IsSent, rows_text}
 
 -- a journal's first line, how many rows it has stored, whether a write or a flush has failed, and
 -- its file, where that is known
@@ -18,9 +21,10 @@ pub record JournalState : Type 0 where
   pub failed : Bool
   pub file : Option DiskFile
 
--- a station, and its journal if it has one
+-- a station, the unpaid transactions as far as they were read, and its journal if it has one
 pub record StoredState : Type 0 where
   pub station : StationState
+  pub unpaid : Kept
   pub journal : Option JournalState
 
 -- what is on the disk begins with a front that tells just these rows; unless a write has failed,
@@ -33,16 +37,30 @@ pub record HoldsRows (header : List ℕ) (rows : List Row) (failed : Bool) (file
   pub settled :
       failed ≡ false → (file.octets ≡ front) × (file.synced ≡ front) × (file.sound ≡ true)
 
--- the journal has stored the first of the book's rows, and each of these can be spelled
+-- the rows that a journal keeps of the first ones, so many
+abbrev pub kept_first : ℕ → List Row → List Row
+kept_first n rows = kept_rows (take n rows)
+
+-- .. and of those behind them
+abbrev pub kept_behind : ℕ → List Row → List Row
+kept_behind n rows = kept_rows (drop n rows)
+
+-- the journal has stored the first of the book's rows: all but those of reads, and each of these can
+-- be spelled
 pub record IsJournalOf (rows : List Row) (j : JournalState) : Type 0 where
   pub few : j.stored ≤ length rows
-  pub spelled : CanBeSpelled (take j.stored rows)
-  pub holds : OfFile (HoldsRows j.header (take j.stored rows) j.failed) j.file
+  pub spelled : CanBeSpelled (kept_first j.stored rows)
+  pub holds : OfFile (HoldsRows j.header (kept_first j.stored rows) j.failed) j.file
 
--- what a station with a journal always keeps
+-- what a station with a journal always keeps: its rows are a legal history, each of them one that
+-- its actor sends; what is kept of unpaid transactions goes by its book; and no row is forgotten
+-- that the journal hasn't stored
 pub record IsStored (s : StoredState) : Type 0 where
-  pub made : IsMadeAgain s.station.book
+  pub legal : IsHistory s.station.book
+  pub sent : AllByRecursion IsSent s.station.book.rows
+  pub unpaid : GoesBy s.unpaid s.station.book
   pub journal : IfSome s.journal (IsJournalOf s.station.book.rows)
+  pub behind : IfSome s.journal (λ j. s.station.book.forgotten ≤ j.stored)
 
 abbrev pub has_stored : ℕ → Option JournalState → Bool
 has_stored count None = true
@@ -56,7 +74,7 @@ JournalGoesOn a b = ⊥
 
 -- behind what the journal's file had stand the lines of the rows that it hadn't stored
 abbrev pub GrowsByLines : List Row → JournalState → JournalState → Type 0
-GrowsByLines rows a b = OfFiles (Grows (rows_text (drop a.stored rows))) a.file b.file
+GrowsByLines rows a b = OfFiles (Grows (rows_text (kept_behind a.stored rows))) a.file b.file
 
 abbrev pub WritesLines : List Row → Option JournalState → Option JournalState → Type 0
 WritesLines rows None None = ⊤

@@ -1,9 +1,10 @@
 //! A journal that is written.
 
-ghost use Rattle.std.specs.Prelude.{◌≡◌, false, length, OnOk};
+ghost use Rattle.std.specs.Prelude.{◌≡◌, ◌≤◌, [], false, length, OnOk};
+ghost use Rattle.std.specs.List.{AllByRecursion};
 ghost use Rattle.journal.specs.Disks.{Keeps, OfFiles};
-ghost use Rattle.journal.specs.History.{IsMadeAgain};
-ghost use Rattle.journal.specs.Stored.{GrowsByLines, IsJournalOf};
+ghost use Rattle.journal.specs.JournalText.{IsSent};
+ghost use Rattle.journal.specs.Stored.{GrowsByLines, IsJournalOf, kept_behind};
 
 use crate::disk::{Disk, DiskFault};
 use crate::row_lines::put_rows;
@@ -71,16 +72,21 @@ impl<D: Disk> Journal<D> {
         self.stored
     }
 
-    /// Stores the rows of the book that aren't stored yet: they are written behind the others by
-    /// one call, and synced by another. Where the disk fails the journal takes no more; where there
-    /// is no memory for the lines nothing is written, and it may be asked again.
+    /// Stores the rows of the book that aren't stored yet, but for those of reads: they are written
+    /// behind the others by one call, and synced by another. Where there are only reads, nothing is
+    /// written or synced. Where the disk fails the journal takes no more; where there is no memory
+    /// for the lines nothing is written, and it may be asked again.
     pub(crate) fn store(&mut self, book: &SiteBook) -> Result<(), DiskFault>
         requires journal { IsJournalOf book.now.rows self.old }
-        requires made { IsMadeAgain book.now }
+        requires sent { AllByRecursion IsSent book.now.rows }
+        requires memory { book.now.forgotten ≤ self.old.stored }
         ensures stored { OnOk result (self.new.stored ≡ length book.now.rows) }
+        ensures none_lost { self.old.stored ≤ self.new.stored }
         ensures journal { IsJournalOf book.now.rows self.new }
         ensures header { self.new.header ≡ self.old.header }
         ensures lines { OnOk result (GrowsByLines book.now.rows self.old self.new) }
+        ensures quiet { kept_behind self.old.stored book.now.rows ≡ []
+            → self.new.file ≡ self.old.file }
         ensures moments { OfFiles Keeps self.old.file self.new.file }
     {
         if self.has_failed {
@@ -91,6 +97,10 @@ impl<D: Disk> Journal<D> {
             return Ok(());
         }
         put_rows(self.alloc, book, self.stored, &mut self.text)?;
+        if self.text.is_empty() {
+            self.stored = count;
+            return Ok(());
+        }
         self.has_failed = true;
         self.disk.append(&self.text)?;
         self.disk.sync()?;

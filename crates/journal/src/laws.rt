@@ -2,7 +2,7 @@
 
 ghost use Rattle.journal.specs.Laws.{BeginningsAreRead, HistoriesAreMadeAgain};
 ghost use Rattle.journal.specs.Laws.{JournalsTellTheirHistory};
-ghost use Rattle.journal.specs.Laws.{StationsAreMadeAgain, StoredRowsAreFoundAgain};
+ghost use Rattle.journal.specs.Laws.{StationsRowsAreSent, StoredRowsAreFoundAgain};
 ghost use Rattle.journal.specs.Laws.{ToldRowsAreFoundAgain};
 
 /// Of a file that begins with what is on the disk only a book is read that begins with the rows
@@ -32,7 +32,7 @@ pub fn histories_are_made_again()
     ensures { HistoriesAreMadeAgain }
 {}
 
-/// A station's rows can be made again of their requests.
-pub fn stations_are_made_again()
-    ensures { StationsAreMadeAgain }
+/// Each row of a station is one that its actor sends.
+pub fn stations_rows_are_sent()
+    ensures { StationsRowsAreSent }
 {}

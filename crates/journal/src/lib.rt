@@ -14,6 +14,7 @@ mod disk;
 mod header;
 mod journal;
 mod laws;
+mod memory;
 mod opening;
 mod reading;
 mod recovery;
@@ -25,8 +26,9 @@ pub use disk::{Disk, DiskFault};
 pub use journal::Journal;
 pub use laws::{
     beginnings_are_read, histories_are_made_again, journals_tell_their_history,
-    stations_are_made_again, stored_rows_are_found_again, told_rows_are_found_again,
+    stations_rows_are_sent, stored_rows_are_found_again, told_rows_are_found_again,
 };
+pub use memory::{LEAST_ROWS, ROWS_IN_MEMORY};
 pub use opening::{Opened, Unopened, open_journal, resume};
 pub use reading::OpenFault;
 pub use recovery::{Recovered, recover};

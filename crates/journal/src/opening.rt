@@ -5,8 +5,11 @@ ghost use Rattle.station.specs.Sessions.{without_till};
 ghost use Rattle.station.specs.Runs.{opening_station};
 ghost use Rattle.journal.specs.Disks.{Keeps, OfFile, OfFiles, IsUntouched};
 ghost use Rattle.journal.specs.Faults.{NamesIn};
-ghost use Rattle.journal.specs.History.{IsMadeAgain};
-ghost use Rattle.journal.specs.JournalText.{CanBeSpelled, header_of};
+ghost use Rattle.std.specs.List.{AllByRecursion};
+ghost use Rattle.kept_history.specs.KeptRows.{kept_rows};
+ghost use Rattle.site_book.specs.Unpaid.{GoesBy};
+ghost use Rattle.journal.specs.History.{IsHistory};
+ghost use Rattle.journal.specs.JournalText.{CanBeSpelled, IsSent, header_of};
 ghost use Rattle.journal.specs.Opening.{HasNobodyOn, Reopens, Resumes, all_off};
 ghost use Rattle.journal.specs.Readings.{IsOfText, IsRefusal};
 ghost use Rattle.journal.specs.Recovering.{KeepsWholeLines, TellsNothingIn};
@@ -61,9 +64,9 @@ pub fn open_journal<D: Disk>(
     // A refused file tells no book of this site, and the fault names its first wrong line. Nothing
     // is done to it, nor to one that can't be read.
     ensures refused { IfErr result (λ u. IsOfText u.fault → OfFile
-        (TellsNothingIn (header_of site_file.now) config.now) (D.file disk)) }
+        (TellsNothingIn (header_of site_file.now)) (D.file disk)) }
     ensures named { IfErr result (λ u. IsOfText u.fault → OfFile
-        (NamesIn (header_of site_file.now) config.now u.fault) (D.file disk)) }
+        (NamesIn (header_of site_file.now) u.fault) (D.file disk)) }
     ensures stays { IfErr result (λ u. IsRefusal u.fault → OfFiles
         IsUntouched (D.file disk) (D.file u.disk)) }
 
@@ -89,8 +92,10 @@ pub fn resume<D: Disk>(
     recovered: Recovered,
     disk: D,
 ) -> Result<StoredStation<D>, Unopened<D>>
-    requires made { IsMadeAgain recovered.book }
+    requires sent { AllByRecursion IsSent recovered.book.rows }
+    requires kept { kept_rows recovered.book.rows ≡ recovered.book.rows }
     requires spelled { CanBeSpelled recovered.book.rows }
+    requires unpaid { GoesBy recovered.unpaid recovered.book }
     requires settled { OfFile (HoldsRows recovered.header.items recovered.book.rows false)
         (D.file disk) }
     ensures resumed { IfOk result
@@ -103,7 +108,7 @@ pub fn resume<D: Disk>(
     sign_off_all(&mut book);
     let mut journal = Journal::new(alloc, disk, recovered.header, rows);
     match journal.store(&book) {
-        Ok(()) => Ok(StoredStation::with_journal(alloc, book, journal)),
+        Ok(()) => Ok(StoredStation::with_journal(alloc, book, recovered.unpaid, journal)),
         Err(fault) => Err(Unopened {
             fault: fault_of(fault),
             disk: journal.into_disk(),
@@ -124,7 +129,7 @@ fn fault_of(fault: DiskFault) -> OpenFault
 /// Signs off each till that is signed on.
 fn sign_off_all(book: &mut SiteBook)
     ensures rows { book.new ≡ all_off book.old }
-    ensures made { IsMadeAgain book.old → IsMadeAgain book.new }
+    ensures legal { IsHistory book.new }
     ensures off { HasNobodyOn book.new }
 {
     for number in 1..TILLS + 1 {

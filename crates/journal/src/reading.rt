@@ -1,22 +1,23 @@
 //! A journal's octets, read back.
 
-ghost use Rattle.std.specs.Prelude.{◌≡◌, [], IfErr, IfNone, IfOk, IfSome, false, take, true};
-ghost use Rattle.site_base.specs.Configured.{Configured};
+ghost use Rattle.std.specs.Prelude.{◌≡◌, ◌++◌, ◌∷◌, [], IfErr, IfNone, IfOk, IfSome, List, OnOk};
+ghost use Rattle.std.specs.Prelude.{false, take, true};
+ghost use Rattle.site_base.specs.declared.actor.Actor.{Actor as Asker};
+ghost use Rattle.site_base.specs.declared.event.Event.{Event as Asked};
+ghost use Rattle.site_book.specs.Book.{next_row};
+ghost use Rattle.site_book.specs.Unpaid.{GoesBy};
 ghost use Rattle.journal.specs.Disks.{BeginsWith};
-ghost use Rattle.site_book.specs.Book.{Book};
 ghost use Rattle.journal.specs.Faults.{Names, first_fault};
-ghost use Rattle.journal.specs.History.{beyond, made_again};
-ghost use Rattle.journal.specs.Readings.{IsLineEnd, IsMade, IsOfText, IsRead, IsReadBack};
-ghost use Rattle.journal.specs.Readings.{IsUnended};
-ghost use Rattle.journal.specs.Readings.{TellsBook, TellsNothing};
+ghost use Rattle.journal.specs.JournalLines.{Tells};
+ghost use Rattle.journal.specs.Readings.{IsLineEnd, IsOfText, IsRead, IsReadBack, IsUnended};
+ghost use Rattle.journal.specs.Readings.{TellsNothing};
 
-use crate::disk::DiskFault;
 use crate::header::names_a_site;
+use crate::memory::most_in_memory;
 use crate::request_line::LineReader;
-use conversation::ask;
 use memchr::memchr;
-use site_base::{Actor, Event, NoMemory, NoRow, SiteConfig};
-use site_book::SiteBook;
+use site_base::{Actor, Event, NoMemory, SiteConfig};
+use site_book::{SiteBook, UnpaidSales};
 use std::alloc::Global;
 use thiserror::Error;
 
@@ -54,8 +55,10 @@ impl From<NoMemory> for OpenFault {
 /// What a journal's octets tell.
 #[derive(Drop)]
 pub(crate) struct ReadBack {
-    /// The book of its rows, made again.
+    /// The book of its rows, made again; it may have forgotten them.
     pub(crate) book: SiteBook,
+    /// Those of its transactions that may be unpaid.
+    pub(crate) unpaid: UnpaidSales,
     /// So many octets are whole lines.
     pub(crate) whole: usize,
 }
@@ -69,13 +72,15 @@ pub(crate) fn read_back(
 ) -> Result<ReadBack, OpenFault>
     ensures read { IfOk result (λ read. IsRead header.now octets.now read.whole read.book) }
     ensures config { IfOk result (λ read. read.book.config ≡ config.now) }
+    ensures unpaid { IfOk result (λ read. GoesBy read.unpaid read.book) }
     ensures refused { IfErr result (λ fault. IsOfText fault
-        → TellsNothing header.now octets.now config.now) }
-    ensures named { IfErr result (Names header.now octets.now config.now) }
+        → TellsNothing header.now octets.now) }
+    ensures named { IfErr result (Names header.now octets.now) }
 {
     match find_first_line(header, octets)? {
         None => Ok(ReadBack {
             book: SiteBook::try_open(alloc, config)?,
+            unpaid: UnpaidSales::new(alloc),
             whole: 0,
         }),
         Some(end) => read_rows(alloc, SiteBook::try_open(alloc, config)?, octets, end),
@@ -88,10 +93,9 @@ fn find_first_line(header: &[u8], octets: &[u8]) -> Result<Option<usize>, OpenFa
     ensures unended { IfOk result (λ end. IfNone end (IsUnended header.now octets.now)) }
     ensures ends { IfOk result (λ end. IfSome end (λ n. IsLineEnd n octets.now)) }
     ensures header { IfOk result (λ end. IfSome end (λ n. take n octets.now ≡ header.now)) }
-    ensures refused { IfErr result (λ fault. IsOfText fault → (config : Configured)
-        → TellsNothing header.now octets.now config) }
-    ensures named { IfErr result (λ fault. (config : Configured)
-        → Names header.now octets.now config fault) }
+    ensures refused { IfErr result (λ fault. IsOfText fault
+        → TellsNothing header.now octets.now) }
+    ensures named { IfErr result (Names header.now octets.now) }
 {
     let Some(end) = memchr(b'\n', octets) else {
         if begins_with(header, octets) {
@@ -141,15 +145,18 @@ fn read_rows(
     first: usize,
 ) -> Result<ReadBack, OpenFault>
     requires rows { book.rows ≡ [] }
+    requires whole { book.forgotten ≡ 0 }
     requires first { IsLineEnd first octets.now }
     ensures read { IfOk result (λ read. IsReadBack (take first octets.now) octets.now read.whole
         read.book) }
     ensures config { IfOk result (λ read. read.book.config ≡ book.config) }
-    ensures refused { IfErr result (λ fault. IsOfText fault → (b : Book) → b.config ≡ book.config
-        → TellsBook (take first octets.now) octets.now b → ⊥) }
-    ensures named { IfErr result (Names (take first octets.now) octets.now book.config) }
+    ensures unpaid { IfOk result (λ read. GoesBy read.unpaid read.book) }
+    ensures refused { IfErr result (λ fault. IsOfText fault → (events : List (Asker × Asked))
+        → Tells (take first octets.now) octets.now events → ⊥) }
+    ensures named { IfErr result (Names (take first octets.now) octets.now) }
 {
     let mut reader = LineReader::new(alloc);
+    let mut unpaid = UnpaidSales::new(alloc);
     let mut rest = &octets[first + 1..];
     let mut number = 1_u64;
     while let Some(end) = memchr(b'\n', rest) {
@@ -158,38 +165,36 @@ fn read_rows(
         let Some((actor, event)) = reader.read(line)? else {
             return Err(OpenFault::Line(number));
         };
-        if !make_again(&mut book, &actor, &event)? {
-            return Err(OpenFault::Line(number));
-        }
+        add_row(alloc, &mut book, &mut unpaid, &actor, &event)?;
         rest = &others[1..];
     }
     Ok(ReadBack {
         book,
+        unpaid,
         whole: octets.len() - rest.len(),
     })
 }
 
-/// Makes the row of a request again. False where a station makes none: behind a full book.
-fn make_again(book: &mut SiteBook, actor: &Actor, event: &Event) -> Result<bool, NoMemory>
-    ensures { IfOk result (λ is.
-        IsMade is (made_again book.old actor.now event.now) book.old book.new) }
+/// Adds the row of a request; where the book may be full soon, its rows are forgotten first. Behind
+/// 2^62 rows it is full, and fails as for want of memory.
+fn add_row(
+    alloc: Global,
+    book: &mut SiteBook,
+    unpaid: &mut UnpaidSales,
+    actor: &Actor,
+    event: &Event,
+) -> Result<(), NoMemory>
+    requires { GoesBy unpaid.old book.old }
+    ensures row { OnOk result (book.new.rows
+        ≡ book.old.rows ++ next_row book.old actor.now event.now ∷ []) }
+    ensures config { book.new.config ≡ book.old.config }
+    ensures unpaid { GoesBy unpaid.new book.new }
 {
-    match ask(book, *actor, *event) {
-        Ok(_) => Ok(true),
-        Err(NoRow::NoMemory) => Err(NoMemory),
-        Err(NoRow::BookFull) => Ok(make_beyond(book, actor, event)),
+    if book.rows_in_memory() >= most_in_memory(book.config()) {
+        unpaid.forget_rows(alloc, book)?;
     }
-}
-
-/// The same behind a full book: a till that is signed on signs off.
-fn make_beyond(book: &mut SiteBook, actor: &Actor, event: &Event) -> bool
-    ensures { IsMade result (beyond book.old actor.now event.now) book.old book.new }
-{
-    match actor {
-        Actor::Till(till) => match event {
-            Event::SignOff => book.sign_off(*till).is_some(),
-            _ => false,
-        },
-        Actor::Dispenser(_) => false,
+    match book.apply(*actor, *event) {
+        Ok(_) => Ok(()),
+        Err(_) => Err(NoMemory),
     }
 }

@@ -3,8 +3,10 @@
 ghost use Rattle.std.specs.Prelude.{◌≡◌, ◌≤◌, ◌∷◌, ◌++◌, [], IfErr, IfOk, OnOk, false, length};
 ghost use Rattle.journal.specs.Disks.{OfFile, OfFiles, IsUntouched};
 ghost use Rattle.journal.specs.Faults.{NamesIn};
-ghost use Rattle.journal.specs.History.{IsMadeAgain};
-ghost use Rattle.journal.specs.JournalText.{CanBeSpelled, header_of};
+ghost use Rattle.std.specs.List.{AllByRecursion};
+ghost use Rattle.kept_history.specs.KeptRows.{kept_rows};
+ghost use Rattle.site_book.specs.Unpaid.{GoesBy};
+ghost use Rattle.journal.specs.JournalText.{CanBeSpelled, IsSent, header_of};
 ghost use Rattle.journal.specs.Readings.{IsOfText, IsRefusal};
 ghost use Rattle.journal.specs.Recovering.{IsReadIn, KeepsWholeLines, TellsNothingIn};
 ghost use Rattle.journal.specs.Recovering.{settled_octets};
@@ -14,7 +16,7 @@ use crate::disk::{Disk, DiskFault};
 use crate::header::header_of;
 use crate::reading::{OpenFault, read_back};
 use site_base::{NoMemory, SiteConfig};
-use site_book::SiteBook;
+use site_book::{SiteBook, UnpaidSales};
 use std::alloc::Global;
 
 /// What was recovered of a journal: its first line, and the book of its rows.
@@ -22,8 +24,10 @@ use std::alloc::Global;
 pub struct Recovered {
     /// The first line.
     pub header: Vec<u8>,
-    /// The book of the rows, made again.
+    /// The book of the rows, made again; it may have forgotten them.
     pub book: SiteBook,
+    /// Those of its transactions that may be unpaid.
+    pub unpaid: UnpaidSales,
 }
 
 /// Recovers a journal of this site from a disk's file, whatever a crash has left there. What was
@@ -42,8 +46,10 @@ pub fn recover<D: Disk>(
 ) -> Result<Recovered, OpenFault>
     ensures header { IfOk result (λ r. r.header.items ≡ header_of site_file.now) }
     ensures config { IfOk result (λ r. r.book.config ≡ config.now) }
-    ensures made { IfOk result (λ r. IsMadeAgain r.book) }
+    ensures sent { IfOk result (λ r. AllByRecursion IsSent r.book.rows) }
+    ensures kept { IfOk result (λ r. kept_rows r.book.rows ≡ r.book.rows) }
     ensures spelled { IfOk result (λ r. CanBeSpelled r.book.rows) }
+    ensures unpaid { IfOk result (λ r. GoesBy r.unpaid r.book) }
 
     // The book is what the octets tell, and the file tells it, on the disk.
     ensures read { IfOk result (λ r.
@@ -54,9 +60,9 @@ pub fn recover<D: Disk>(
     // A refused file tells no book of this site, and the fault names its first wrong line. Nothing
     // is done to it, nor to one that can't be read.
     ensures refused { IfErr result (λ fault. IsOfText fault → OfFile
-        (TellsNothingIn (header_of site_file.now) config.now) (D.file disk.old)) }
+        (TellsNothingIn (header_of site_file.now)) (D.file disk.old)) }
     ensures named { IfErr result (λ fault. IsOfText fault → OfFile
-        (NamesIn (header_of site_file.now) config.now fault) (D.file disk.old)) }
+        (NamesIn (header_of site_file.now) fault) (D.file disk.old)) }
     ensures stays { IfErr result (λ fault. IsRefusal fault → OfFiles
         IsUntouched (D.file disk.old) (D.file disk.new)) }
 
@@ -82,6 +88,7 @@ pub fn recover<D: Disk>(
     Ok(Recovered {
         header,
         book: read.book,
+        unpaid: read.unpaid,
     })
 }
 

@@ -1,19 +1,22 @@
 //! The lines of rows.
 
-ghost use Rattle.std.specs.Prelude.{◌≡◌, ◌≤◌, ◌++◌, drop, length, OnOk};
+ghost use Rattle.std.specs.Prelude.{◌≡◌, ◌≤◌, ◌++◌, ◌∷◌, [], length, OnOk};
+ghost use Rattle.std.specs.List.{AllByRecursion};
 ghost use Rattle.device_map.specs.Laws.{AsksFor};
-ghost use Rattle.journal.specs.History.{IsMadeAgain};
-ghost use Rattle.journal.specs.JournalText.{CanBeSpelled, IsSent, row_line, row_request};
+ghost use Rattle.kept_history.specs.KeptRows.{kept_rows};
+ghost use Rattle.journal.specs.JournalText.{CanBeSpelled, IsSent, row_line, row_request, rows_text};
 ghost use Rattle.journal.specs.RowLines.{AreLines};
+ghost use Rattle.journal.specs.Stored.{kept_behind};
 
 use app_message::Token;
 use device_map::encode_request;
 use hex_lines::put_line;
 use site_base::{NoMemory, Row};
-use site_book::SiteBook;
+use site_book::{SiteBook, is_kept};
 use std::alloc::Global;
 
-/// Puts the lines of the book's rows from a place on, in place of what the text holds.
+/// Puts the lines of the book's rows from a place on, but for those of reads, in place of what the
+/// text holds.
 pub(crate) fn put_rows(
     alloc: Global,
     book: &SiteBook,
@@ -21,16 +24,30 @@ pub(crate) fn put_rows(
     text: &mut Vec<u8>,
 ) -> Result<(), NoMemory>
     requires place { from ≤ length book.now.rows }
-    requires made { IsMadeAgain book.now }
-    ensures lines { OnOk result (AreLines (drop from book.now.rows) text.new.items) }
-    ensures spelled { OnOk result (CanBeSpelled (drop from book.now.rows)) }
+    requires memory { book.now.forgotten ≤ from }
+    requires sent { AllByRecursion IsSent book.now.rows }
+    ensures lines { OnOk result (AreLines (kept_behind from book.now.rows) text.new.items) }
+    ensures spelled { OnOk result (CanBeSpelled (kept_behind from book.now.rows)) }
 {
     text.clear();
     for place in from..book.len() {
         let Some(row) = book.row(place) else {
             unreachable!();
         };
-        put_row_line(alloc, &row, text)?;
+        put_kept(alloc, &row, text)?;
+    }
+    Ok(())
+}
+
+/// Appends the line of a row, if it is kept.
+fn put_kept(alloc: Global, row: &Row, text: &mut Vec<u8>) -> Result<(), NoMemory>
+    requires { IsSent row.now }
+    ensures line { OnOk result (text.new.items
+        ≡ text.old.items ++ rows_text (kept_rows (row.now ∷ []))) }
+    ensures asks { OnOk result (CanBeSpelled (kept_rows (row.now ∷ []))) }
+{
+    if is_kept(row) {
+        put_row_line(alloc, row, text)?;
     }
     Ok(())
 }

@@ -9,24 +9,32 @@ ghost use Rattle.station.specs.Reads.{Arrives, IsNextOwed, NoneIsOwed, end_at, i
 ghost use Rattle.station.specs.Reads.{node_at, owed_at};
 ghost use Rattle.station.specs.Runs.{opening_station};
 ghost use Rattle.station.specs.Sessions.{Grants};
-ghost use Rattle.journal.specs.History.{IsMadeAgain, empty_book};
+ghost use Rattle.std.specs.List.{AllByRecursion};
+ghost use Rattle.site_book.specs.Unpaid.{GoesBy, unpaid_sales};
+ghost use Rattle.journal.specs.History.{IsHistory, empty_book};
+ghost use Rattle.journal.specs.JournalText.{IsSent};
+ghost use Rattle.journal.specs.Memory.{HasRoomToMake, IsSameOrForgets};
 ghost use Rattle.journal.specs.Opening.{HasNobodyOn};
 ghost use Rattle.journal.specs.Stored.{IsJournalOf, JournalGoesOn, is_all_stored, told_at};
 ghost use Rattle.journal.specs.Stored.{WritesLines, with_station};
 
 use crate::disk::{Disk, DiskFault};
 use crate::journal::Journal;
+use crate::memory::most_in_memory;
 use site_base::{NoMemory, SiteConfig};
-use site_book::SiteBook;
+use site_book::{NamedSale, SiteBook, UnpaidSales};
 use station::{PeerEnd, Station};
 use std::alloc::Global;
 use std::marker::Model;
 
 /// A station, and its journal if it has one. Its moves are the station's own; what a peer is owed
-/// is handed out only while each row is stored.
+/// is handed out only while each row is stored. The rows in memory are forgotten once they are
+/// stored, and what is unpaid among them was read.
 #[derive(Drop)]
 pub struct StoredStation<D: Disk> {
+    alloc: Global,
     station: Station,
+    unpaid: UnpaidSales,
     journal: Option<Journal<D>>,
 }
 
@@ -35,9 +43,10 @@ impl<D: Disk> Model for StoredStation<D> {
 
     ghost Value = { StoredState };
 
-    ghost view = { λ s. record { station = s.station; journal = s.journal } };
+    ghost view = { λ s. record { station = s.station; unpaid = s.unpaid; journal = s.journal } };
 
-    ghost invariant = { λ s. IsStored (record { station = s.station; journal = s.journal }) };
+    ghost invariant = { λ s.
+        IsStored (record { station = s.station; unpaid = s.unpaid; journal = s.journal }) };
 }
 
 impl<D: Disk> StoredStation<D> {
@@ -49,7 +58,9 @@ impl<D: Disk> StoredStation<D> {
     {
         let book = SiteBook::try_open(alloc, config)?;
         Ok(StoredStation {
+            alloc,
             station: Station::new(alloc, book),
+            unpaid: UnpaidSales::new(alloc),
             journal: None,
         })
     }
@@ -58,16 +69,58 @@ impl<D: Disk> StoredStation<D> {
     pub(crate) fn with_journal(
         alloc: Global,
         book: SiteBook,
+        unpaid: UnpaidSales,
         journal: Journal<D>,
     ) -> StoredStation<D>
-        requires made { IsMadeAgain book }
+        requires legal { IsHistory book }
+        requires sent { AllByRecursion IsSent book.rows }
+        requires unpaid { GoesBy unpaid book }
         requires journal { IsJournalOf book.rows journal }
-        ensures { result ≡ record { station = opening_station book; journal = Some journal } }
+        requires behind { book.forgotten ≤ journal.stored }
+        ensures { result ≡ record {
+          station = opening_station book;
+          unpaid = unpaid;
+          journal = Some journal;
+        } }
     {
         StoredStation {
+            alloc,
             station: Station::new(alloc, book),
+            unpaid,
             journal: Some(journal),
         }
+    }
+
+    /// Makes room in the book for the rows of one read: where there may be none, each row is
+    /// stored, and all are forgotten. The site goes on, and so does what is unpaid. Where storing
+    /// fails, or memory is wanting, nothing is forgotten.
+    pub fn make_room(&mut self) -> Result<(), DiskFault>
+        ensures moves { IsSameOrForgets self.old.station self.new.station }
+        ensures journal { JournalGoesOn self.old.journal self.new.journal }
+        ensures room { OnOk result (HasRoomToMake self.new.station.book) }
+    {
+        if self.book().rows_in_memory() < most_in_memory(self.book().config()) {
+            return Ok(());
+        }
+        self.store()?;
+        self.station.forget_rows(&mut self.unpaid)?;
+        Ok(())
+    }
+
+    /// Looks up which transactions of the book are unpaid.
+    pub fn read_unpaid(&mut self) -> Result<(), NoMemory>
+        ensures station { self.new.station ≡ self.old.station }
+        ensures journal { self.new.journal ≡ self.old.journal }
+        ensures unpaid { OnOk result (self.new.unpaid.sales ≡ unpaid_sales self.new.station.book) }
+    {
+        self.unpaid.read(self.alloc, self.station.book())
+    }
+
+    /// The transactions that were unpaid when they were looked up last.
+    pub fn unpaid(&self) -> &[NamedSale]
+        ensures { result.now ≡ self.now.unpaid.sales }
+    {
+        self.unpaid.as_slice()
     }
 
     /// The book of the station. No key above 1,023 is given, by the station's type.

@@ -1,5 +1,7 @@
 //! `forecourt report FILE [--human | --json]`.
 
+ghost use Rattle.std.specs.Prelude.{◌≡◌};
+
 use crate::named_site::open_input;
 use crate::silent::{ends_its_text, replay_silently};
 use command_line::{ReportForm, ReportOptions};
@@ -82,7 +84,9 @@ fn report_after<R: Print + Eprint + AllocGlobal, I: Read + Drop>(
 }
 
 /// This text of a book, by its audit.
-fn text_of(alloc: Global, book: &SiteBook, wanted: BookText) -> Result<Vec<u8>, NoMemory> {
+fn text_of(alloc: Global, book: &SiteBook, wanted: BookText) -> Result<Vec<u8>, NoMemory>
+    requires { book.now.forgotten ≡ 0 }
+{
     let totals = book.audit(alloc)?;
     let products = book.config().products();
     match wanted {

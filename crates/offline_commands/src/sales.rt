@@ -1,5 +1,7 @@
 //! `forecourt sales FILE`.
 
+ghost use Rattle.std.specs.Prelude.{◌≡◌};
+
 use crate::named_site::open_input;
 use crate::silent::{ends_its_text, replay_silently};
 use command_line::SalesOptions;
@@ -53,7 +55,9 @@ fn print_table<R: Print + AllocGlobal>(
     rt: &R,
     book: &SiteBook,
     options: SalesOptions<'_>,
-) -> Result<(), TableFault> {
+) -> Result<(), TableFault>
+    requires { book.now.forgotten ≡ 0 }
+{
     let form = if options.json { Form::Json } else { Form::Csv };
     let (mut writer, mut turns) = (Counted::new(io::writer(rt)), TURNS);
     if options.draws {

@@ -1,5 +1,8 @@
 //! Replays whose answers aren't printed.
 
+ghost use Rattle.std.specs.Prelude.{◌≡◌, IfSome, false, not};
+ghost use Rattle.forecourt_engines.specs.Replay.{is_early};
+
 use devices::Counted;
 use forecourt_engines::ReplayFault;
 use forecourt_engines::replay::{ReplayEnd, replay};
@@ -14,13 +17,18 @@ pub fn replay_silently<I: Read + Drop>(
     input: I,
     turns: u64,
     config: &SiteConfig,
-) -> ReplayEnd {
+) -> ReplayEnd
+    ensures whole { is_early result.fault ≡ false
+        → IfSome result.book (λ b. b.forgotten ≡ 0) }
+{
     let mut reader = Counted::new(input);
     let mut sink = Counted::new(io::sink());
     replay(alloc, config, &mut reader, &mut sink, turns, false)
 }
 
 /// Is this the end of the input, or a fault of its text? After another one nothing is reported.
-pub fn ends_its_text(fault: &Option<ReplayFault>) -> bool {
+pub fn ends_its_text(fault: &Option<ReplayFault>) -> bool
+    ensures { result ≡ not (is_early fault.now) }
+{
     matches!(fault, None | Some(ReplayFault::Text(_)))
 }

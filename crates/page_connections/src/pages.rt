@@ -3,7 +3,7 @@
 ghost use Rattle.std.specs.Prelude.{◌≡◌, IfOk};
 ghost use Rattle.serde_json.specs.Written.{compact_text};
 ghost use Rattle.site_json.specs.SiteData.{site_data};
-ghost use Rattle.site_book.specs.Unpaid.{GoesBy, unpaid_sales};
+ghost use Rattle.site_book.specs.Unpaid.{unpaid_sales};
 
 use crate::page_link::{PageLink, Progress};
 use crate::sizes::PAGE_CONNECTIONS;
@@ -11,7 +11,7 @@ use connection_calls::{ACCEPTS_A_TURN, Caller, accept, both_ways};
 use mio::net::{TcpListener, TcpStream};
 use mio::{Registry, Token};
 use site_base::NoMemory;
-use site_book::{SiteBook, UnpaidSales};
+use site_book::{NamedSale, SiteBook};
 use site_page::Page;
 use std::alloc::Global;
 use std::hash::RandomState;
@@ -84,39 +84,26 @@ impl Pages {
         }
     }
 
-    /// Those that wait are accepted, each connection that is ready has its turn, and those whose
-    /// peers were waited for too long are closed. `connections` is how many peers the station has.
-    pub fn serve(
-        &mut self,
-        registry: &Registry,
-        book: &SiteBook,
-        unpaid: &mut UnpaidSales,
-        connections: usize,
-        now: Instant,
-    )
-        ensures { GoesBy unpaid.old book.now → GoesBy unpaid.new book.now }
-    {
+    /// Those that wait are accepted. Has then a connection a turn in this round?
+    pub fn accept_waiting(&mut self, registry: &Registry, now: Instant) -> bool {
         if self.has_callers {
             self.accept_all(registry, now);
         }
-        self.answer_due(registry, book, unpaid, connections, now);
-        self.close_late(now);
+        self.is_due
     }
 
-    /// Each connection that is ready has its turn with the page of the book.
-    fn answer_due(
+    /// Each connection that is ready has its turn with the page of the book, of which these are
+    /// the unpaid transactions. `connections` is how many peers the station has.
+    pub fn answer_due(
         &mut self,
         registry: &Registry,
         book: &SiteBook,
-        unpaid: &mut UnpaidSales,
+        unpaid: &[NamedSale],
         connections: usize,
         now: Instant,
     )
-        ensures { GoesBy unpaid.old book.now → GoesBy unpaid.new book.now }
+        requires { unpaid.now ≡ unpaid_sales book.now }
     {
-        if !self.is_due {
-            return;
-        }
         self.is_due = false;
         match page_of(self.alloc, book, unpaid, connections) {
             Ok(page) => self.take_turns(registry, &page, now),
@@ -152,7 +139,8 @@ impl Pages {
     }
 
     /// Where memory is wanting, whoever asks is sent away.
-    fn close_due(&mut self) {
+    pub fn close_due(&mut self) {
+        self.is_due = false;
         for slot in &mut self.links {
             if slot.as_ref().is_some_and(|link| link.is_due) {
                 close(slot);
@@ -168,7 +156,7 @@ impl Pages {
     }
 
     /// Closes the connections whose peers were waited for too long.
-    fn close_late(&mut self, now: Instant) {
+    pub fn close_late(&mut self, now: Instant) {
         for slot in &mut self.links {
             if slot.as_ref().is_some_and(|link| link.is_late(now)) {
                 close(slot);
@@ -213,19 +201,18 @@ impl Pages {
     }
 }
 
-/// The page of a book, with so many connections. The sales that go by the book still do.
+/// The page of a book with these unpaid transactions, and with so many connections.
 fn page_of(
     alloc: Global,
     book: &SiteBook,
-    unpaid: &mut UnpaidSales,
+    unpaid: &[NamedSale],
     connections: usize,
 ) -> Result<Page, NoMemory>
-    ensures page { IfOk result (λ page. GoesBy unpaid.old book.now → page.site
+    requires { unpaid.now ≡ unpaid_sales book.now }
+    ensures { IfOk result (λ page. page.site
         ≡ compact_text (site_data book.now (unpaid_sales book.now) connections)) }
-    ensures kept { GoesBy unpaid.old book.now → GoesBy unpaid.new book.now }
 {
-    unpaid.read(alloc, book)?;
-    Page::of_book(alloc, book, unpaid.as_slice(), connections)
+    Page::of_book(alloc, book, unpaid, connections)
 }
 
 /// Closes a connection, if there is one.

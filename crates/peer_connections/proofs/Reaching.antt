@@ -1,11 +1,13 @@
 -- Moves of a station, one after another.
 use Rattle.std.proofs.Common.{◌≡◌, ℕ, List, [], ◌∷◌, ◌++◌, Option, Some, None, refl, sym, ap, ◌∙◌}
+use Rattle.std.proofs.Common.{inl, inr, true}
 use Rattle.station.specs.Moves.{StationState, with_end, with_octets, with_taken}
 use Rattle.station.specs.Moves.{without_peer}
-use Rattle.station.specs.Reads.{Arrives as GetsKey}
-use Rattle.station.specs.Runs.{Arrives, Finishes, Leaves, Move, Says, Takes, after, after_move}
-use Rattle.station.specs.Runs.{arrive}
+use Rattle.station.specs.Reads.{Arrives as GetsKey, is_read_at}
+use Rattle.station.specs.Runs.{Arrives, Finishes, Forgets, Leaves, Move, Says, Takes, after}
+use Rattle.station.specs.Runs.{after_move, arrive}
 use Rattle.station.specs.Sessions.{Grants}
+use Rattle.journal.specs.Memory.{IsSameOrForgets}
 use Rattle.journal.specs.Stored.{StoredState, with_station}
 use Rattle.connection_calls.specs.declared.call.Call.{Call}
 use Rattle.connection_calls.specs.declared.call.Call.TheVariants.{Ended, Failed, Interrupted}
@@ -47,6 +49,17 @@ reaches_end k s t end = reaches_by (Finishes k) s t end
 
 pub reaches_left : (k : ℕ) (s t : StationState) → t ≡ without_peer k s → Reaches s t
 reaches_left k s t left = reaches_by (Leaves k) s t left
+
+-- nothing was done, or rows were forgotten
+pub reaches_room : (s t : StationState) → IsSameOrForgets s t → Reaches s t
+reaches_room s t (inl same) = reaches_same s t same
+reaches_room s t (inr forgets) = reaches_by Forgets s t forgets
+
+-- .. and who was read from still is
+pub still_read : (k : ℕ) (s t : StationState) → IsSameOrForgets s t → is_read_at s k ≡ true
+    → is_read_at t k ≡ true
+still_read k s t (inl same) read = ap (λ (x : StationState). is_read_at x k) same ∙ read
+still_read k s t (inr forgets) read = ap (λ (x : StationState). is_read_at x k) forgets ∙ read
 
 -- a peer came, if there was a key for it
 pub reaches_arrival : (key : Option ℕ) (s t : StationState) → GetsKey key s t → Reaches s t

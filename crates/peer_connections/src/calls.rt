@@ -4,7 +4,9 @@
 ghost use Rattle.std.specs.Prelude.{◌≡◌, ◌<◌, length, true};
 ghost use Rattle.station.specs.Reads.{is_read_at};
 ghost use Rattle.peer_connections.specs.Calls.{HearsCall, SendsCall};
+ghost use Rattle.peer_connections.specs.Reaches.{Reaches};
 
+use crate::change_watch::ChangeWatch;
 use connection_calls::Call;
 use journal::{Disk, StoredStation};
 use std::io::{Read, Write};
@@ -40,6 +42,24 @@ pub fn read_once<R: Read, D: Disk>(
             call
         }
     }
+}
+
+/// Makes room in the book for the rows of one read, and reads once. The rows so far are looked at
+/// before they are forgotten. Where no room can be made, the round's store says why.
+pub(crate) fn read_with_room<R: Read, D: Disk>(
+    reader: &mut R,
+    stored: &mut StoredStation<D>,
+    changes: &mut ChangeWatch,
+    key: usize,
+    piece: &mut [u8],
+) -> Call
+    requires some { 0 < length piece.old }
+    requires read { is_read_at stored.old.station key ≡ true }
+    ensures { Reaches stored.old.station stored.new.station }
+{
+    changes.look(stored.book());
+    let _ = stored.make_room();
+    read_once(reader, stored, key, piece)
 }
 
 /// Reads once from a connection what nobody hears.

@@ -1,11 +1,13 @@
 //! The connections of all peers, and the station that they speak with.
 
 ghost use Rattle.std.specs.Prelude.{◌≡◌, ◌<◌, length, IfOk, OnOk, true};
+ghost use Rattle.site_book.specs.Unpaid.{unpaid_sales};
 ghost use Rattle.station.specs.Moves.{without_peer};
 ghost use Rattle.station.specs.Reads.{HasNoPeer};
 ghost use Rattle.journal.specs.Stored.{is_all_stored};
 ghost use Rattle.peer_connections.specs.Reaches.{Reaches};
 
+use crate::change_watch::ChangeWatch;
 use crate::due_list::DueList;
 use crate::link::{Channel, Link};
 use crate::naming::{EndedSession, PeerName};
@@ -15,7 +17,7 @@ use journal::{Disk, DiskFault, StoredStation};
 use mio::net::TcpStream;
 use mio::{Registry, Token};
 use site_base::NoMemory;
-use site_book::{SiteBook, is_changing};
+use site_book::{NamedSale, SiteBook};
 use station::{PEERS, PeerEnd};
 use std::alloc::Global;
 use std::time::Instant;
@@ -30,8 +32,8 @@ pub struct Connections<D: Disk> {
     due: DueList,
     /// So many sessions have ended whose connections haven't.
     closing: usize,
-    /// Of so many rows it was looked whether a dispenser is told of them.
-    rows_seen: u64,
+    /// Whether a dispenser is told of a row, and those that are owed octets aren't sent them yet.
+    changes: ChangeWatch,
     ghost some: { 0 < length piece.items },
 }
 
@@ -40,7 +42,7 @@ impl<D: Disk> Connections<D> {
     pub fn new(alloc: Global, stored: StoredStation<D>) -> Result<Connections<D>, NoMemory>
         ensures { IfOk result (λ c. c.stored ≡ stored) }
     {
-        let rows_seen = stored.book().len();
+        let changes = ChangeWatch::new(stored.book());
         let mut links = Vec::with_capacity(alloc, PEERS)?;
         for _ in 0..PEERS {
             links.push(None)?;
@@ -51,7 +53,7 @@ impl<D: Disk> Connections<D> {
             piece: Vec::from_elem(alloc, 0, PIECE_OCTETS)?,
             due: DueList::new(alloc)?,
             closing: 0,
-            rows_seen,
+            changes,
         })
     }
 
@@ -63,6 +65,23 @@ impl<D: Disk> Connections<D> {
         ensures { result.now ≡ self.now.stored.station.book }
     {
         self.stored.book()
+    }
+
+    /// Looks up which transactions of the station are unpaid.
+    pub fn read_unpaid(&mut self) -> Result<(), NoMemory>
+        ensures station { self.new.stored.station ≡ self.old.stored.station }
+        ensures journal { self.new.stored.journal ≡ self.old.stored.journal }
+        ensures unpaid { OnOk result (self.new.stored.unpaid.sales
+            ≡ unpaid_sales self.new.stored.station.book) }
+    {
+        self.stored.read_unpaid()
+    }
+
+    /// The transactions that were unpaid when they were looked up last.
+    pub fn unpaid(&self) -> &[NamedSale]
+        ensures { result.now ≡ self.now.stored.unpaid.sales }
+    {
+        self.stored.unpaid()
     }
 
     /// How many connections there are.
@@ -131,7 +150,8 @@ impl<D: Disk> Connections<D> {
             if link.closing_since.is_some() {
                 link.ignore(&mut self.piece);
             } else {
-                link.hear(&mut self.stored, key, &mut self.piece, to_end, now);
+                let changes = &mut self.changes;
+                link.hear(&mut self.stored, changes, key, &mut self.piece, to_end, now);
             }
         }
     }
@@ -158,7 +178,8 @@ impl<D: Disk> Connections<D> {
     pub fn make_owed_due(&mut self)
         ensures { self.new.stored ≡ self.old.stored }
     {
-        if !self.has_changes() {
+        self.changes.look(self.stored.book());
+        if !self.changes.take() {
             return;
         }
         let mut from = 0;
@@ -171,22 +192,6 @@ impl<D: Disk> Connections<D> {
             }
             from = key + 1;
         }
-    }
-
-    /// Is there a row, since this was asked last, that a dispenser may be told of?
-    fn has_changes(&mut self) -> bool
-        ensures { self.new.stored ≡ self.old.stored }
-    {
-        let first = self.rows_seen;
-        self.rows_seen = self.stored.book().len();
-        for place in first..self.rows_seen {
-            if let Some(row) = self.stored.book().row(place) {
-                if is_changing(&row) {
-                    return true;
-                }
-            }
-        }
-        false
     }
 
     /// Does the connection of a peer take octets, or has its session ended just now?

@@ -6,6 +6,7 @@
 #![tactic(auto)]
 
 mod calls;
+mod change_watch;
 mod connections;
 mod due_list;
 mod link;

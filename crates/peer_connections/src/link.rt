@@ -3,7 +3,8 @@
 ghost use Rattle.std.specs.Prelude.{◌<◌, length};
 ghost use Rattle.peer_connections.specs.Reaches.{Reaches};
 
-use crate::calls::{read_ignored, read_once, write_once};
+use crate::calls::{read_ignored, read_with_room, write_once};
+use crate::change_watch::ChangeWatch;
 use connection_calls::{CALLS_A_TURN, Call};
 use journal::{Disk, StoredStation};
 use mio::net::TcpStream;
@@ -59,6 +60,7 @@ impl Link {
     pub(crate) fn hear<D: Disk>(
         &mut self,
         stored: &mut StoredStation<D>,
+        changes: &mut ChangeWatch,
         key: usize,
         piece: &mut [u8],
         to_end: bool,
@@ -73,7 +75,7 @@ impl Link {
                 return;
             }
             let size = piece.len();
-            match read_once(&mut self.stream, stored, key, piece) {
+            match read_with_room(&mut self.stream, stored, changes, key, piece) {
                 Call::Passed(n) => {
                     self.heard_at = now;
                     if n < size && !to_end {

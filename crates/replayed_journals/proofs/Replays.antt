@@ -1,7 +1,7 @@
 -- A journal's text, read by a replay.
 use Rattle.std.proofs.Common.{◌≡◌, ℕ, zero, suc, ◌+◌, ◌-◌, ◌*◌, ◌<◌, ◌≤◌, Bool, true, false}
 use Rattle.std.proofs.Common.{List, [], ◌∷◌, ◌++◌, drop, length, take, Option, Some, None, Ok}
-use Rattle.std.proofs.Common.{refl, sym, ap, ◌∙◌}
+use Rattle.std.proofs.Common.{refl, sym, ap, ◌∙◌, append-nil, append_assoc, subst}
 use Rattle.std.proofs.Common.{arith, eqb, inl, inr}
 use Rattle.std.specs.Prelude.{◌&&◌, if◌then◌else◌, nat_lt, slice_index}
 use Rattle.std.specs.Io.BufRead.{ends_with_byte, strip_last}
@@ -9,13 +9,10 @@ use Rattle.std.specs.List.{AllByRecursion}
 use Rattle.std.proofs.lemmas.Bool.{cases_eq, cases_lt, le-leb, lt-leb, ne_eqb}
 use Rattle.std.proofs.lemmas.List.{length-append, length-take-le, take-append-le, take_all}
 use Rattle.std.proofs.lemmas.List.Elements.{recursion_from_All}
-use Rattle.std.proofs.lemmas.Option.{none-some, same_Some}
 use Rattle.hex.specs.Hex.{encode_lower, is_hex_digit, lower_digits}
 use Rattle.hex.proofs.HexLemmas.{decode_of-encode_lower, decode_of-ok, length-encode_with}
 use Rattle.sha2.specs.Sha256.{sha256}
 use Rattle.sha2.proofs.Facts256.{length-sha256}
-use Rattle.site_base.specs.declared.actor.Actor.{Actor}
-use Rattle.site_base.specs.declared.event.Event.{Event}
 use Rattle.site_base.specs.declared.row.Row.{Row}
 use Rattle.std.specs.Int.{to_be_bytes, w16}
 use Rattle.app_message.specs.Spelling.{IsMessage, body, head_text, kind_code, spelling}
@@ -32,14 +29,17 @@ use Rattle.hex_lines.specs.Lines.{without_spaces}
 use Rattle.forecourt_engines.specs.Text.{start, stream_effect}
 use Rattle.forecourt_engines.proofs.Lines.{line_says}
 use Rattle.forecourt_engines.proofs.Running.{after-append}
-use Rattle.written_site.specs.SiteRun.{events_of}
-use Rattle.site_book.specs.Book.{Book, next_row, with_row_of}
-use Rattle.journal.specs.History.{all_made_again, and_then, empty_book, made_again}
+use Rattle.site_base.specs.Configured.{Configured}
+use Rattle.written_site.specs.SiteRun.{IsLegal, row_to}
+use Rattle.written_site.specs.SiteState.{SiteState, opening}
+use Rattle.written_site.specs.SiteStep.{reply_to}
+use Rattle.written_site.proofs.Histories.{site_of_rows-push}
+use Rattle.site_book.specs.Book.{Book, site_at, whole_book, with_row_of}
+use Rattle.journal.specs.History.{empty_book}
 use Rattle.journal.specs.JournalText.{CanBeSpelled, header_of, journal_text, row_line, row_request}
 use Rattle.journal.specs.JournalText.{rows_text, title}
-use Rattle.replayed_journals.specs.Laws.{JournalsAreReplayed, within_limit}
+use Rattle.replayed_journals.specs.Laws.{JournalsAreReplayed, limited_book}
 use Rattle.journal.proofs.Octets.{header_plain, spelled_octets}
-use Rattle.journal.proofs.Readings.{row_again}
 use Rattle.journal.proofs.Requests.{alone_read, spelled_plain}
 
 -- ---- digits say themselves
@@ -139,86 +139,83 @@ row_read number a m valid =
 
 -- ---- the row that it makes
 
-room_left : (b : Book) (actor : Actor) (event : Event) → length b.rows < b.config.rows
-    → book_meaning (within_limit b) (Ok (actor, event)) ≡ within_limit (with_row_of b actor event)
-room_left b actor event room =
-    let all : within_limit b ≡ b =
-    ap (λ (rows : List Row). record b { rows = rows })
-    (take_all b.config.rows b.rows (omega (arith, room))) in
-    let more : length (b.rows ++ next_row b actor event ∷ []) ≤ b.config.rows =
-    omega (arith, room, length-append b.rows (next_row b actor event ∷ [])) in
-    ap (λ (x : Book). book_meaning x (Ok (actor, event))) all
-    ∙ ap (λ (full : Bool). if full then b else with_row_of b actor event)
-    (lt-leb b.config.rows (length b.rows) room)
-    ∙ ap (λ (rows : List Row). record b { rows = rows })
-    (sym (take_all b.config.rows (b.rows ++ next_row b actor event ∷ []) more))
+-- the row of the written step is the one that is there
+same_row : (s : SiteState) (r : Row) → r.reply ≡ reply_to s r.actor r.event
+    → row_to s r.actor r.event ≡ r
+same_row s r is = ap (λ reply. record r { reply = reply }) (sym is)
 
-none_left : (b : Book) (actor : Actor) (event : Event) → b.config.rows ≤ length b.rows
-    → book_meaning (within_limit b) (Ok (actor, event)) ≡ within_limit (with_row_of b actor event)
-none_left b actor event full =
-    let size : length (take b.config.rows b.rows) ≡ b.config.rows =
-    length-take-le b.config.rows b.rows full in
-    ap (λ (is : Bool). if is then within_limit b else with_row_of (within_limit b) actor event)
-    (le-leb b.config.rows (length (take b.config.rows b.rows)) (omega (arith, size)))
-    ∙ ap (λ (rows : List Row). record b { rows = rows })
-    (sym (take-append-le b.config.rows b.rows (next_row b actor event ∷ []) full))
+room_left : (config : Configured) (before : List Row) (r : Row)
+    → r.reply ≡ reply_to (site_at config before) r.actor r.event → length before < config.rows
+    → book_meaning (limited_book config before) (Ok (r.actor, r.event))
+    ≡ limited_book config (before ++ r ∷ [])
+room_left config before r replies room =
+    let b = whole_book config before in
+    let all : limited_book config before ≡ b =
+    ap (whole_book config) (take_all config.rows before (omega (arith, room))) in
+    let more : length (before ++ r ∷ []) ≤ config.rows =
+    omega (arith, room, length-append before (r ∷ [])) in
+    ap (λ (x : Book). book_meaning x (Ok (r.actor, r.event))) all
+    ∙ ap (λ (full : Bool). if full then b else with_row_of b r.actor r.event)
+    (lt-leb (0 + config.rows) (length before) (omega (arith, room)))
+    ∙ ap (λ (x : Row). whole_book config (before ++ x ∷ []))
+    (same_row (site_at config before) r replies)
+    ∙ ap (whole_book config) (sym (take_all config.rows (before ++ r ∷ []) more))
 
-limit_kept : (b next : Book) (actor : Actor) (event : Event)
-    → made_again b actor event ≡ Some next
-    → book_meaning (within_limit b) (Ok (actor, event)) ≡ within_limit next
-limit_kept b next actor event made =
-    by_room ∙ ap within_limit (sym (row_again b next actor event made))
-  where
-    by_room : book_meaning (within_limit b) (Ok (actor, event))
-        ≡ within_limit (with_row_of b actor event)
-    by_room = elim (cases_lt (length b.rows) b.config.rows) [
-      | inl room ↦ room_left b actor event room
-      | inr full ↦ none_left b actor event full
-    ]
+none_left : (config : Configured) (before : List Row) (r : Row) → config.rows ≤ length before
+    → book_meaning (limited_book config before) (Ok (r.actor, r.event))
+    ≡ limited_book config (before ++ r ∷ [])
+none_left config before r full =
+    let b = limited_book config before in
+    let size : length (take config.rows before) ≡ config.rows =
+    length-take-le config.rows before full in
+    ap (λ (is : Bool). if is then b else with_row_of b r.actor r.event)
+    (le-leb (0 + config.rows) (length (take config.rows before)) (omega (arith, size)))
+    ∙ ap (whole_book config) (sym (take-append-le config.rows before (r ∷ []) full))
+
+limit_kept : (config : Configured) (before : List Row) (r : Row)
+    → r.reply ≡ reply_to (site_at config before) r.actor r.event
+    → book_meaning (limited_book config before) (Ok (r.actor, r.event))
+    ≡ limited_book config (before ++ r ∷ [])
+limit_kept config before r replies = elim (cases_lt (length before) config.rows) [
+  | inl room ↦ room_left config before r replies room
+  | inr full ↦ none_left config before r full
+]
 
 -- ---- all of them
 
--- a replay between two lines, whose book is that of a station so far
-abbrev replays : Bool → ℕ → Book → State
-replays changes number b =
-    between_lines number (held_after []) (record { book = within_limit b; changes = changes })
+-- a replay between two lines, behind these rows
+abbrev replays : Bool → ℕ → Configured → List Row → State
+replays changes number config rows =
+    between_lines number (held_after [])
+    (record { book = limited_book config rows; changes = changes })
 
-rows_read : (rows : List Row) (changes : Bool) (number : ℕ) (b last : Book) → CanBeSpelled rows
-    → all_made_again b (events_of rows) ≡ Some last
-    → (n : ℕ) × (after (replays changes number b) (rows_text rows) ≡ replays changes n last)
-rows_read [] changes number b last spelled made =
-    (number, ap (replays changes number) (same_Some b last made))
-rows_read (r ∷ rows) changes number b last spelled made =
-    by_first (made_again b r.actor r.event)
-    (λ next others. rows_read rows changes (next_number number) next last spelled.1 others)
-    refl made
+rows_read : (rows : List Row) (changes : Bool) (number : ℕ) (config : Configured)
+    (before : List Row) → CanBeSpelled rows → IsLegal (site_at config before) rows
+    → (n : ℕ) × (after (replays changes number config before) (rows_text rows)
+    ≡ replays changes n config (before ++ rows))
+rows_read [] changes number config before spelled legal =
+    (number, ap (replays changes number config) (sym (append-nil before)))
+rows_read (r ∷ rows) changes number config before spelled legal =
+    let next = before ++ r ∷ [] in
+    let site = site_of_rows-push (opening config) before r in
+    let rest = rows_read rows changes (next_number number) config next spelled.1
+    (subst (λ (s : SiteState). IsLegal s rows) (sym site) legal.1) in (
+      rest.0,
+      after-append (replays changes number config before) (row_line r) (rows_text rows)
+          ∙ ap (λ (st : State). after st (rows_text rows)) read
+          ∙ rest.1
+          ∙ ap (replays changes rest.0 config) (append_assoc before (r ∷ []) rows),
+    )
   where
-    read : (next : Book) → made_again b r.actor r.event ≡ Some next
-        → after (replays changes number b) (row_line r)
-        ≡ replays changes (next_number number) next
-    read next is =
-        row_read number (record { book = within_limit b; changes = changes }) (row_request r)
-        spelled.0.message
+    read : after (replays changes number config before) (row_line r)
+        ≡ replays changes (next_number number) config (before ++ r ∷ [])
+    read =
+        row_read number (record { book = limited_book config before; changes = changes })
+        (row_request r) spelled.0.message
         ∙ ap (λ (x : Book).
         between_lines (next_number number) (held_after []) (record { book = x; changes = changes }))
-        (ap (book_meaning (within_limit b)) spelled.0.asks
-        ∙ limit_kept b next r.actor r.event is)
-
-    by_first : (o : Option Book)
-        → ((next : Book) → all_made_again next (events_of rows) ≡ Some last
-        → (n : ℕ) × (after (replays changes (next_number number) next) (rows_text rows)
-        ≡ replays changes n last))
-        → made_again b r.actor r.event ≡ o
-        → and_then o (λ next. all_made_again next (events_of rows)) ≡ Some last
-        → (n : ℕ) × (after (replays changes number b) (rows_text (r ∷ rows))
-        ≡ replays changes n last)
-    by_first None others is all = absurd (none-some last all)
-    by_first (Some next) others is all =
-        let rest = others next all in (
-          rest.0,
-          after-append (replays changes number b) (row_line r) (rows_text rows)
-              ∙ ap (λ (st : State). after st (rows_text rows)) (read next is) ∙ rest.1,
-        )
+        (ap (book_meaning (limited_book config before)) spelled.0.asks
+        ∙ limit_kept config before r legal.0)
 
 -- ---- the first line
 
@@ -253,32 +250,30 @@ header_read site_file a =
 
 -- ---- the end
 
-ended_there : (changes : Bool) (number : ℕ) (b : Book)
-    → last_fault (replays changes number b) ≡ None
+ended_there : (changes : Bool) (number : ℕ) (config : Configured) (rows : List Row)
+    → last_fault (replays changes number config rows) ≡ None
 unfolding walk
-ended_there changes number b = refl
+ended_there changes number config rows = refl
 
-book_there : (changes : Bool) (number : ℕ) (b : Book)
-    → (end_input (replays changes number b)).answerer.book ≡ within_limit b
-book_there changes number b = refl
+book_there : (changes : Bool) (number : ℕ) (config : Configured) (rows : List Row)
+    → (end_input (replays changes number config rows)).answerer.book ≡ limited_book config rows
+book_there changes number config rows = refl
 
 pub journals_are_replayed : JournalsAreReplayed
-journals_are_replayed site_file b changes made spelled =
-    let st = start (record { book = empty_book b.config; changes = changes }) in
-    let text = journal_text (header_of site_file) b.rows in
-    let rows =
-    rows_read b.rows changes (next_number 1) (empty_book b.config) b spelled made.again in
-    let none : empty_book b.config ≡ within_limit (empty_book b.config) =
-    ap (λ (rs : List Row). record { config = b.config; rows = rs })
-    (sym (take_all b.config.rows [] (omega arith))) in
-    let begun : st ≡ replays changes 1 (empty_book b.config) =
+journals_are_replayed site_file config all changes legal spelled =
+    let st = start (record { book = empty_book config; changes = changes }) in
+    let text = journal_text (header_of site_file) all in
+    let rows = rows_read all changes (next_number 1) config [] spelled legal in
+    let none : empty_book config ≡ limited_book config [] =
+    ap (whole_book config) (sym (take_all config.rows [] (omega arith))) in
+    let begun : st ≡ replays changes 1 config [] =
     ap (λ (x : Book). start (record { book = x; changes = changes })) none in
-    let read : after st text ≡ replays changes rows.0 b =
+    let read : after st text ≡ replays changes rows.0 config all =
     ap (λ (s : State). after s text) begun
-    ∙ after-append (replays changes 1 (empty_book b.config)) (header_of site_file ++ 10 ∷ [])
-    (rows_text b.rows)
-    ∙ ap (λ (s : State). after s (rows_text b.rows)) (header_read site_file _) ∙ rows.1 in
+    ∙ after-append (replays changes 1 config []) (header_of site_file ++ 10 ∷ []) (rows_text all)
+    ∙ ap (λ (s : State). after s (rows_text all)) (header_read site_file _) ∙ rows.1 in
     record {
-      fault = ap last_fault read ∙ ended_there changes rows.0 b;
-      book = ap (λ (s : State). (end_input s).answerer.book) read ∙ book_there changes rows.0 b;
+      fault = ap last_fault read ∙ ended_there changes rows.0 config all;
+      book = ap (λ (s : State). (end_input s).answerer.book) read
+          ∙ book_there changes rows.0 config all;
     }

@@ -22,6 +22,7 @@ use std::io::Write;
 /// were sold, each as it stands at the end of the rows. It is written in pieces, so memory doesn't
 /// grow with the sales. A call of the writer that is interrupted takes one of the turns. Fails with
 /// `NoMemory`, or as `write_whole` does; a front of the table is written then, which may be empty.
+/// The book has forgotten no row.
 pub fn write_sales<W: Write>(
     alloc: Global,
     book: &SiteBook,
@@ -29,6 +30,7 @@ pub fn write_sales<W: Write>(
     writer: &mut Counted<W>,
     turns: &mut u64,
 ) -> Result<(), TableFault>
+    requires whole { book.now.forgotten ≡ 0 }
     ensures written { OnOk result (Appends (W.contents (device_of writer.old))
         (W.contents (device_of writer.new)) (sales_text form book.now)) }
     ensures front { AppendsFront (W.contents (device_of writer.old))
@@ -48,7 +50,8 @@ pub fn write_sales<W: Write>(
 }
 
 /// Writes the table of a book's draws: a line for each draw of a test in the order in which they
-/// were drawn. It is written as the sales are; the rows are replayed as it goes.
+/// were drawn. It is written as the sales are; the rows are replayed as it goes. The book has
+/// forgotten no row.
 pub fn write_draws<W: Write>(
     alloc: Global,
     book: &SiteBook,
@@ -56,6 +59,7 @@ pub fn write_draws<W: Write>(
     writer: &mut Counted<W>,
     turns: &mut u64,
 ) -> Result<(), TableFault>
+    requires whole { book.now.forgotten ≡ 0 }
     ensures written { OnOk result (Appends (W.contents (device_of writer.old))
         (W.contents (device_of writer.new)) (draws_text form book.now)) }
     ensures front { AppendsFront (W.contents (device_of writer.old))

@@ -225,12 +225,15 @@ fn fault_of_run(number: u8) -> Option<(&'static str, &'static str)>
             "the shares don't add up to the book (place: a row's; the rows' number if one is out)",
         ),
         61 => ("ReadFault", "the input can't be read"),
-        62 => ("WriteFault", "the output takes no more"),
+        62 => (
+            "WriteFault",
+            "the output, or what a station stores, takes no more",
+        ),
         63 => (
             "AcceptFault",
             "it can't listen there, or a connection couldn't be made",
         ),
-        64 => ("NoWorker", "a worker couldn't be started"),
+        64 => ("NoWorker", "a worker, or a thread, couldn't be started"),
         65 => (
             "PollsSpent",
             "a dispenser waited for a state that didn't come",

@@ -1,7 +1,7 @@
 -- What is kept goes on going by its book while the book grows.
 use Rattle.std.proofs.Common.{◌≡◌, ℕ, zero, suc, Bool, true, false, List, [], ◌∷◌, ◌++◌, take}
 use Rattle.std.proofs.Common.{drop, length, length-append, Option, Some, None, is_some, refl, sym}
-use Rattle.std.proofs.Common.{subst, ap, ◌∙◌, arith}
+use Rattle.std.proofs.Common.{subst, ap, ◌∙◌, arith, ◌≤◌, nat_le, append-nil, if◌then◌else◌}
 use Rattle.std.specs.Prelude.{filter, filter_map, IsSome, option_and_then, option_map}
 use Rattle.std.specs.List.{AllByRecursion, cons_option}
 use Rattle.std.proofs.lemmas.List.{take-append-drop, take-append-le}
@@ -17,7 +17,9 @@ use Rattle.written_site.specs.SiteStep.{site_after}
 use Rattle.written_site.proofs.RowFacts.{known_first}
 use Rattle.written_site.proofs.SoundTables.{told_once}
 use Rattle.site_book.specs.declared.named_sale.NamedSale.{NamedSale}
-use Rattle.site_book.specs.Book.{Book, site_at, site_of_book}
+use Rattle.site_book.specs.declared.book.TheConstants.{FORGOTTEN_ROWS}
+use Rattle.site_book.specs.Book.{Book, site_at, site_of_book, with_rows_forgotten}
+use Rattle.site_book.proofs.Books.{forgets_alone}
 use Rattle.site_book.specs.BookSales.{sale_made, sale_named, with_name}
 use Rattle.site_book.specs.Unpaid.{GoesBy, IsOfSite, Kept, as_they_stand, is_due, name_of}
 use Rattle.site_book.proofs.Staying.{AllByRecursion-weaker, AllStay, Has, IsSoldThere, Stays}
@@ -157,10 +159,11 @@ first_sold_there b i legal =
     stay = subst (λ (s : SiteState). AllStay first.sales s.sales) (sym leads)
         (all_stay first (drop i b.rows))
 
--- What goes by a book goes by it once it has grown.
+-- What goes by a book goes by it once it has grown, and has forgotten at most rows that were read.
 pub goes_on : (kept : Kept) (b b' : Book) (more : List Row) → b'.config ≡ b.config
-    → b'.rows ≡ b.rows ++ more → GoesBy kept b → GoesBy kept b'
-goes_on kept b b' more config rows goes = record {
+    → b'.rows ≡ b.rows ++ more → b'.forgotten ≤ kept.place → GoesBy kept b → GoesBy kept b'
+goes_on kept b b' more config rows behind goes = record {
+  behind = behind;
   within =
       let long = ap (λ (l : List Row). length l) rows ∙ length-append b.rows more in
       omega (arith, long, goes.within);
@@ -207,3 +210,19 @@ goes_on kept b b' more config rows goes = record {
 
     stay : AllStay now.sales later.sales
     stay = subst (λ (s : SiteState). AllStay now.sales s.sales) (sym grown) (all_stay now more)
+
+-- .. and once it has forgotten the rows that were read
+pub forgets_read : (kept : Kept) (b : Book) → length b.rows ≤ kept.place → GoesBy kept b
+    → GoesBy kept (with_rows_forgotten b)
+forgets_read kept b read goes =
+    let alone = forgets_alone b in
+    goes_on kept b (with_rows_forgotten b) [] alone.config
+    (alone.rows ∙ sym (append-nil b.rows)) behind goes
+  where
+    behind : (with_rows_forgotten b).forgotten ≤ kept.place
+    behind = by (nat_le (length b.rows) FORGOTTEN_ROWS)
+      where
+        by : (t : Bool)
+            → (if t then record b { forgotten = length b.rows } else b).forgotten ≤ kept.place
+        by true = read
+        by false = goes.behind

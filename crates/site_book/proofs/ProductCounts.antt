@@ -1,5 +1,7 @@
 -- A book's figures have one member for each product of its configuration, in its order.
-use Rattle.std.proofs.Common.{◌≡◌, ℕ, List, length, sym, ap, ◌∙◌}
+use Rattle.std.proofs.Common.{◌≡◌, ℕ, List, length, sym, ap, ◌∙◌, Result, Ok, Err}
+use Rattle.std.specs.Prelude.{IfOk}
+use Rattle.site_base.specs.declared.memory.NoMemory.{NoMemory}
 use Rattle.std.proofs.lemmas.List.{length-map}
 use Rattle.site_base.specs.declared.config.ProductEntry.{ProductEntry}
 use Rattle.site_base.specs.declared.totals.Totals.{Totals}
@@ -19,3 +21,9 @@ one_for_each_product b totals are =
     ∙ sym (length-map s.prices (λ (e : ℕ × ℕ). e.0))
     ∙ ap (λ (ns : List ℕ). length ns) (product_numbers b.config b.rows)
     ∙ length-map b.config.products (λ (p : ProductEntry). p.number)
+
+-- .. where they are counted
+pub one_for_each_counted : (b : Book) (r : Result Totals NoMemory) → IfOk r (AreFiguresOf b)
+    → IfOk r (λ totals. length totals.products ≡ length b.config.products)
+one_for_each_counted b (Ok totals) are = one_for_each_product b totals are
+one_for_each_counted b (Err e) are = tt

@@ -1,7 +1,8 @@
 -- The unpaid transactions of a book, row after row.
 use Rattle.std.proofs.Common.{◌≡◌, ℕ, ◌+◌, ◌≤◌, Bool, true, false, List, [], ◌∷◌, ◌++◌, take}
 use Rattle.std.proofs.Common.{length, slice_get, Option, Some, None, refl, sym, ap, ◌∙◌, append-nil}
-use Rattle.std.proofs.Common.{◌<◌, ◌⊎◌, inl, inr, get_or, is_some, subst, arith}
+use Rattle.std.proofs.Common.{◌<◌, ◌⊎◌, inl, inr, get_or, is_some, subst, arith, nat_lt}
+use Rattle.std.proofs.lemmas.Bool.Decides.{nat_tests}
 use Rattle.std.specs.Prelude.{filter, filter_map, option_and_then, option_map}
 use Rattle.std.specs.List.{AllByRecursion, cons_option}
 use Rattle.std.proofs.lemmas.List.{take-append-drop, take_more}
@@ -20,7 +21,7 @@ use Rattle.written_site.proofs.SlotRows.{moment_at}
 use Rattle.site_book.specs.declared.named_sale.NamedSale.{NamedSale}
 use Rattle.site_book.specs.Book.{Book, site_of_book}
 use Rattle.site_book.specs.BookSales.{sale_made, sale_named, with_name}
-use Rattle.site_book.proofs.BookDraws.{legal_take}
+use Rattle.site_book.proofs.BookDraws.{legal_take, not_missing}
 use Rattle.site_book.proofs.BookSales.{moment_there, moments_over}
 use Rattle.site_book.specs.Unpaid.{GoesBy, IsOfSite, Kept, as_they_stand, is_due, name_of}
 use Rattle.site_book.specs.Unpaid.{unpaid_before, unpaid_sales}
@@ -186,6 +187,7 @@ pub row_kept : (b : Book) (kept : Kept) (r : Row) (sold : Option NamedSale) (nex
       sales = kept.sales ++ cons_option sold [];
     }) b
 row_kept b kept r sold next found legal is opens goes = record {
+  behind = let behind = goes.behind in omega (arith, behind);
   within = omega (arith, slice_get_within b.rows kept.place r found);
   legal = legal_take (kept.place + 1) (opening b.config) b.rows legal;
   shift = opens goes.shift;
@@ -221,6 +223,7 @@ all_read b kept due over is goes =
     ap (as_they_stand s) is ∙ again s kept.sales ∙ sym is in (
       is ∙ goes.unpaid ∙ all_before b kept.place over,
       record {
+        behind = goes.behind;
         within = goes.within;
         legal = goes.legal;
         shift = goes.shift;
@@ -229,6 +232,20 @@ all_read b kept due over is goes =
             ∙ twice (as_they_stand s kept.sales) ∙ goes.unpaid;
       },
     )
+
+-- a row that the book tells stands at its place
+pub told_there : (b : Book) (i : ℕ) (found : Option Row) (r : Row)
+    → (b.forgotten ≤ i → found ≡ slice_get b.rows i) → (i < b.forgotten → found ≡ None)
+    → found ≡ Some r → slice_get b.rows i ≡ Some r
+told_there b i found r kept forgotten is = by (nat_lt i b.forgotten) refl
+  where
+    by : (t : Bool) → nat_lt i b.forgotten ≡ t → slice_get b.rows i ≡ Some r
+    by false not_before =
+        let behind : b.forgotten ≤ i = grind (arith, nat_tests) in
+        sym (kept behind) ∙ is
+    by true before =
+        let earlier : i < b.forgotten = grind (arith, nat_tests) in
+        absurd (not_missing found r is (forgotten earlier))
 
 -- where there is no row, all are read
 pub none_left : (b : Book) (i : ℕ) → ((x : Row) → slice_get b.rows i ≡ Some x → ⊥)
@@ -242,16 +259,20 @@ none_left b i none = by (slice_get_cases b.rows i).1
 
 -- the same of what is seen where no row is found any more
 pub whole : (b : Book) (seen kept : Kept) (row : Option Row) (sales due : List NamedSale)
-    → row ≡ slice_get b.rows seen.place → ((x : Row) → row ≡ Some x → ⊥) → seen ≡ kept
+    → (b.forgotten ≤ seen.place → row ≡ slice_get b.rows seen.place)
+    → ((x : Row) → row ≡ Some x → ⊥) → seen ≡ kept
     → sales ≡ kept.sales → due ≡ filter is_due (as_they_stand (site_of_book b) sales)
     → GoesBy kept b
     → (due ≡ unpaid_sales b)
     × GoesBy (record { place = kept.place; shift = kept.shift; sales = due }) b
+    × (length b.rows ≤ kept.place)
 whole b seen kept row sales due found none same kept_sales is goes =
-    all_read b kept due
-    (none_left b kept.place (λ x there. none x
-    (found ∙ ap (λ (k : Kept). slice_get b.rows k.place) same ∙ there)))
+    let left = none_left b kept.place (λ x there. none x
+    (found (subst (λ (k : Kept). b.forgotten ≤ k.place) (sym same) goes.behind)
+    ∙ ap (λ (k : Kept). slice_get b.rows k.place) same ∙ there)) in
+    let all = all_read b kept due left
     (is
     ∙ ap (λ (xs : List NamedSale). filter is_due (as_they_stand (site_of_book b) xs))
     kept_sales)
-    goes
+    goes in
+    (all.0, all.1, left)

@@ -2,7 +2,6 @@
 use Rattle.std.specs.Prelude.{◌≡◌, ℕ, ◌≤◌, Bool, List, [], length, take, drop, filter, filter_map}
 use Rattle.std.specs.Prelude.{Option, option_and_then, option_map}
 use Rattle.std.specs.List.{cons_option}
-use Rattle.site_base.specs.declared.row.Row.{Row}
 use Rattle.transaction_buffer.specs.Sales.{Key, Sale, key, sale_of, same_key}
 use Rattle.written_site.specs.Histories.{Moment, moments_of}
 use Rattle.written_site.specs.RowWords.{open_after}
@@ -41,7 +40,9 @@ is_under k x = same_key k (key x.shift x.point x.number)
 abbrev pub AreAllSales : List NamedSale → SiteState → Type 0
 AreAllSales told s = (k : Key) → filter (is_under k) told ≡ cons_option (sale_named s k) []
 
--- the rows before this place are read, after which shift h is open
-pub record IsReadTo (place h : ℕ) (rows : List Row) : Type 0 where
-  pub within : place ≤ length rows
-  pub shift : h ≡ open_after (take place rows)
+-- of a book that has forgotten no row, the rows before this place are read, after which shift h is
+-- open
+pub record IsReadTo (place h : ℕ) (b : Book) : Type 0 where
+  pub whole : b.forgotten ≡ 0
+  pub within : place ≤ length b.rows
+  pub shift : h ≡ open_after (take place b.rows)

@@ -3,6 +3,7 @@ pub mod BookDraws
 pub mod BookSales
 pub mod Changes
 pub mod Figures
+pub mod KeptCounts
 pub mod KeptRows
 pub mod Readings
 pub mod RowLists

@@ -41,10 +41,11 @@ as_they_stand s sales = filter_map (λ x. sale_named s (name_of x)) sales
 abbrev pub IsOfSite : SiteState → NamedSale → Type 0
 IsOfSite s x = IsSome (sale_named s (name_of x))
 
--- What is kept goes by this book: so many of its rows are read, they are a legal history, and that
--- shift is open after them. The site has each transaction that is kept, and of what these rows sold
--- just the transactions that are kept may be unpaid.
+-- What is kept goes by this book: so many of its rows are read, the forgotten ones among them, they
+-- are a legal history, and that shift is open after them. The site has each transaction that is
+-- kept, and of what these rows sold just the transactions that are kept may be unpaid.
 pub record GoesBy (kept : Kept) (b : Book) : Type 0 where
+  pub behind : b.forgotten ≤ kept.place
   pub within : kept.place ≤ length b.rows
   pub legal : IsLegal (opening b.config) (take kept.place b.rows)
   pub shift : kept.shift ≡ open_after (take kept.place b.rows)

@@ -2,6 +2,7 @@
 
 ghost use Rattle.std.specs.Prelude.{◌≡◌, ◌∷◌, [], IfOk, OnOk};
 ghost use Rattle.written_site.specs.SiteRun.{site_of_rows};
+ghost use Rattle.site_book.specs.Book.{whole_book};
 ghost use Rattle.site_book.specs.Figures.{AreFiguresOf};
 
 use crate::rows::Rows;
@@ -13,7 +14,7 @@ use std::alloc::Global;
 /// each row's event, and what it then has is counted. It has no other site to read from.
 pub fn audit_rows(alloc: Global, config: &SiteConfig, rows: &Rows) -> Result<Totals, NoMemory>
     ensures { IfOk result (λ totals.
-        AreFiguresOf (record { config = config.now; rows = rows.now.rows }) totals) }
+        AreFiguresOf (whole_book config.now rows.now.rows) totals) }
 {
     let mut site = Site::try_open(alloc, config)?;
     run_again(&mut site, rows)?;

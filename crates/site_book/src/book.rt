@@ -1,11 +1,13 @@
-//! The book: its rows and its site, and how a row is added.
+//! The book: its rows and its site, how a row is added, and how rows are forgotten.
 
 ghost use Rattle.std.specs.Prelude.{◌≡◌, ◌+◌, ◌<◌, ◌≤◌, [], ◌∷◌, ◌++◌, length, slice_get, true};
 ghost use Rattle.std.specs.Prelude.{false, Ok, IfOk, IfSome, OnOk, OnErr, OnSome, IsErrOf, is_some};
+ghost use Rattle.std.specs.Prelude.{None};
 ghost use Rattle.site_base.specs.declared.limits.TheConstants.{TILLS};
 ghost use Rattle.site_base.specs.declared.config.TheConstants.{GREATEST_ROWS};
 ghost use Rattle.site_base.specs.declared.amounts.TheConstants.{GROWTH_LIMIT};
 ghost use Rattle.site_base.specs.Events.{growth_in_reply};
+ghost use Rattle.kept_history.specs.KeptRows.{kept_rows};
 ghost use Rattle.site_core.specs.Views.{HasRoom};
 ghost use Rattle.written_site.specs.SiteRun.{IsLegal};
 ghost use Rattle.written_site.specs.SiteState.{is_signed_on, opening, view_point};
@@ -13,43 +15,63 @@ ghost use Rattle.written_site.specs.SiteStep.{Steps};
 ghost use Rattle.written_site.specs.Sound.{InRange};
 ghost use Rattle.site_book.specs.SignedOn.{IsTillActor};
 ghost use Rattle.site_book.specs.Book.{AreRowsInRange, book_reply, is_full, site_of_book};
-ghost use Rattle.site_book.specs.Book.{with_row_of};
+ghost use Rattle.site_book.specs.Book.{whole_book, with_row_of, with_rows_forgotten};
 
+use crate::kept::kept_with;
 use crate::rows::Rows;
 use crate::tills::tills_with;
+use http_server::Log;
 use site_base::{
-    Actor, Answer, Event, FpNo, NoMemory, NoRow, Placed, PointView, Row, SignChange, SiteConfig,
-    TillNo, sign_change,
+    Actor, Answer, Event, FpNo, NoMemory, NoRow, Placed, PointView, Reply, Row, SignChange,
+    SiteConfig, TillNo, sign_change,
 };
 use site_core::Site;
 use std::alloc::Global;
 use std::marker::Model;
 
+/// So many rows can be forgotten: places are numbers of 64 bits.
+const FORGOTTEN_ROWS: u64 = 1 << 62;
+
 /// The history of a site, and the site that its rows lead to from the opening site. The rows are a
-/// legal history: each reply is the written step's.
+/// legal history: each reply is the written step's. The book may forget its first rows: then they
+/// stand in proofs alone, and in the site that goes on from them.
 #[derive(Drop)]
 pub struct SiteBook {
     pub(crate) config: SiteConfig,
     pub(crate) site: Site,
+    // The rows behind the forgotten ones.
     pub(crate) rows: Rows,
+    // The forgotten rows, list after list. It takes no memory.
+    earlier: Log<Rows, ()>,
+    // So many rows are forgotten.
+    forgotten: u64,
+    // So many rows, forgotten ones included, aren't those of reads.
+    kept: u64,
     // How many tills are signed on. A row is reserved for the sign-off of each.
     on: usize,
 }
 
 impl Model for SiteBook {
+    ghost use Rattle.std.specs.Prelude.{◌++◌, length};
     ghost use Rattle.site_book.specs.Book.{Book, IsBook};
+    ghost use Rattle.site_book.specs.RowLists.{rows_forgotten};
 
     ghost Value = { Book };
 
-    ghost view = { λ b. record { config = b.config; rows = b.rows.rows } };
+    ghost view = { λ b. record {
+      config = b.config;
+      rows = rows_forgotten b.earlier.items ++ b.rows.rows;
+      forgotten = length (rows_forgotten b.earlier.items);
+    } };
 
-    ghost invariant = { λ b. IsBook b.config b.rows.rows b.site.site b.on b.rows.room };
+    ghost invariant = { λ b. IsBook b.config (rows_forgotten b.earlier.items) b.rows.rows
+        b.site.site b.on b.rows.room b.forgotten b.kept };
 }
 
 impl SiteBook {
     /// The book of the opening site of this configuration, without rows.
     pub fn try_open(alloc: Global, config: &SiteConfig) -> Result<SiteBook, NoMemory>
-        ensures { IfOk result (λ b. b ≡ record { config = config.now; rows = [] }) }
+        ensures { IfOk result (λ b. b ≡ whole_book config.now []) }
     {
         let site = Site::try_open(alloc, config)?;
         let config = config.copy(alloc)?;
@@ -57,14 +79,17 @@ impl SiteBook {
             config,
             site,
             rows: Rows::new(alloc),
+            earlier: Log::new(),
+            forgotten: 0,
+            kept: 0,
             on: 0,
         })
     }
 
     /// One event of one actor, as one row. `BookFull` comes exactly where the book has as many rows
-    /// as its configuration allows, or more, then `NoMemory` where an allocation fails; neither
-    /// makes a row or changes the site. Else the row has the written step's reply, and is answered
-    /// with its place. A SignOn that is accepted reserves the row of the till's sign-off.
+    /// in memory as its configuration allows, or more, then `NoMemory` where an allocation fails;
+    /// neither makes a row or changes the site. Else the row has the written step's reply, and is
+    /// answered with its place. A SignOn that is accepted reserves the row of the till's sign-off.
     #[inline(always)]
     pub fn apply(&mut self, actor: Actor, event: Event) -> Result<Placed, NoRow>
         ensures row { OnOk result (self.new ≡ with_row_of self.old actor event) }
@@ -76,7 +101,7 @@ impl SiteBook {
         ensures told_full { is_full self.old ≡ true → IsErrOf result NoRow.BookFull }
         ensures err { OnErr result (self.new ≡ self.old) }
     {
-        let place = self.rows.len() as u64;
+        let place = self.len();
         let mut row = Row {
             actor,
             event,
@@ -113,6 +138,7 @@ impl SiteBook {
         self.site.prepare(row.actor, &row.event)?;
         add_row(&mut self.site, &mut self.rows, row);
         self.on = tills_with(&sign_change(&row.actor, &row.event, &row.reply), self.on);
+        self.kept = kept_with(&row.event, self.kept);
         Ok(())
     }
 
@@ -128,22 +154,56 @@ impl SiteBook {
         if !self.site.signed_on(t) {
             return None;
         }
-        let placed = add_sign_off(&mut self.site, &mut self.rows, &t);
+        let place = self.len();
+        let reply = add_sign_off(&mut self.site, &mut self.rows, &t);
         self.on = tills_with(&Some(SignChange::Off(t)), self.on);
-        Some(placed)
+        self.kept = kept_with(&Event::SignOff, self.kept);
+        Some(Placed { place, reply })
     }
 
-    /// How many rows there are: as many as the configuration allows, and one more for each till
-    /// that is signed off beyond. They are a legal history of the configuration's site.
+    /// Forgets the rows that are in memory, so that the book isn't full any more: the site goes on,
+    /// and the sign-off of each till that is signed on has its room. It takes no memory. Behind
+    /// 2^62 rows it forgets none any more.
+    pub fn forget_rows(&mut self)
+        ensures { self.new ≡ with_rows_forgotten self.old }
+    {
+        let count = self.len();
+        if count <= FORGOTTEN_ROWS {
+            self.earlier = self.earlier.and(&self.rows, &());
+            self.rows.clear();
+            self.forgotten = count;
+        }
+    }
+
+    /// How many rows there are, forgotten ones included. Beside these they are as many as the
+    /// configuration allows, and one more for each till that is signed off beyond. They are a legal
+    /// history of the configuration's site.
     pub fn len(&self) -> u64
         ensures rows { result ≡ length self.now.rows }
         ensures legal { IsLegal (opening self.now.config) self.now.rows }
-        ensures few { length self.now.rows ≤ self.now.config.rows + TILLS }
+        ensures few { length self.now.rows
+            ≤ self.now.forgotten + self.now.config.rows + TILLS }
+        ensures forgotten { self.now.forgotten ≤ length self.now.rows }
+        ensures lasts { self.now.forgotten ≤ FORGOTTEN_ROWS }
         ensures allowed { self.now.config.rows ≤ GREATEST_ROWS }
         ensures ranges { AreRowsInRange self.now.rows }
     {
         let _ = self.config.rows();
-        self.rows.len() as u64
+        self.forgotten + self.rows.len() as u64
+    }
+
+    /// How many rows are kept by a history: all but those of reads, forgotten ones included.
+    pub fn kept_len(&self) -> u64
+        ensures { result ≡ length (kept_rows self.now.rows) }
+    {
+        self.kept
+    }
+
+    /// How many rows are in memory: those that aren't forgotten.
+    pub fn rows_in_memory(&self) -> usize
+        ensures { self.now.forgotten + result ≡ length self.now.rows }
+    {
+        self.rows.len()
     }
 
     /// The configuration of the site.
@@ -153,11 +213,15 @@ impl SiteBook {
         &self.config
     }
 
-    /// The row at a place, counted from 0.
+    /// The row at a place, counted from 0. None of a forgotten row.
     pub fn row(&self, place: u64) -> Option<Row>
-        ensures { result ≡ slice_get self.now.rows place }
+        ensures kept { self.now.forgotten ≤ place → result ≡ slice_get self.now.rows place }
+        ensures forgotten { place < self.now.forgotten → result ≡ None }
     {
-        self.rows.get(place as usize)
+        if place < self.forgotten {
+            return None;
+        }
+        self.rows.get((place - self.forgotten) as usize)
     }
 
     /// The point as a read shows it. None where the site has no such point.
@@ -191,20 +255,19 @@ fn add_row(site: &mut Site, rows: &mut Rows, row: &mut Row)
     rows.push(row);
 }
 
-/// Signs off a till that is signed on, and adds the row. Room for it was made; it takes no memory.
-fn add_sign_off(site: &mut Site, rows: &mut Rows, t: &TillNo) -> Placed
+/// Signs off a till that is signed on, and adds the row: its reply. Room for it was made; it takes
+/// no memory.
+fn add_sign_off(site: &mut Site, rows: &mut Rows, t: &TillNo) -> Reply
     requires on { is_signed_on site.old.site t.now ≡ true }
     requires row { 0 < rows.old.room }
-    ensures step { Steps site.old.site (Actor.Till t.now) Event.SignOff site.new.site result.reply }
+    ensures step { Steps site.old.site (Actor.Till t.now) Event.SignOff site.new.site result }
     ensures rows { rows.new.rows ≡ rows.old.rows
-        ++ record { actor = Actor.Till t.now; event = Event.SignOff; reply = result.reply } ∷ [] }
+        ++ record { actor = Actor.Till t.now; event = Event.SignOff; reply = result } ∷ [] }
     ensures room { rows.new.room + 1 ≡ rows.old.room }
-    ensures place { result.place ≡ length rows.old.rows }
-    ensures reply { result.reply ≡ Ok Answer.Done }
+    ensures reply { result ≡ Ok Answer.Done }
     ensures till { (1 ≤ t.now) × (t.now ≤ TILLS) }
 {
     let _ = t.get();
-    let place = rows.len() as u64;
     site.sign_off(*t);
     let signing_off = &Row {
         actor: Actor::Till(*t),
@@ -212,8 +275,5 @@ fn add_sign_off(site: &mut Site, rows: &mut Rows, t: &TillNo) -> Placed
         reply: Ok(Answer::Done),
     };
     rows.push(signing_off);
-    Placed {
-        place,
-        reply: signing_off.reply,
-    }
+    signing_off.reply
 }

@@ -1,6 +1,6 @@
 //! The rows that dispensers are told of.
 
-ghost use Rattle.std.specs.Prelude.{◌≡◌, [], ◌∷◌, ◌++◌, filter, IfOk, OnOk};
+ghost use Rattle.std.specs.Prelude.{◌≡◌, ◌≤◌, [], ◌∷◌, ◌++◌, filter, IfOk, OnOk};
 ghost use Rattle.site_book.specs.Changes.{changes_from, is_changing};
 
 use crate::book::SiteBook;
@@ -36,12 +36,13 @@ impl SiteBook {
     /// The rows from this place on, counted from 0, that have a change: accepted events that the
     /// dispenser of their point is told of. No row where the place is behind the last one.
     pub fn changes_since(&self, alloc: Global, place: u64) -> Result<Vec<Row>, NoMemory>
+        requires { self.now.forgotten ≤ place }
         ensures { IfOk result (λ changes. changes.items ≡ changes_from place self.now.rows) }
     {
         let _told: Option<Told> = None;
         let mut changes = Vec::new(alloc);
-        for at in place..self.rows.len() as u64 {
-            match self.rows.get(at as usize) {
+        for at in place..self.len() {
+            match self.row(at) {
                 Some(row) => add_change(&mut changes, &row)?,
                 None => {}
             }

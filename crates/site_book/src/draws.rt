@@ -42,8 +42,9 @@ impl<'a> Model for Draws<'a> {
 }
 
 impl SiteBook {
-    /// All draws of the book in the order in which they were drawn.
+    /// All draws of the book in the order in which they were drawn. The book has forgotten no row.
     pub fn draws(&self, alloc: Global) -> Result<Draws<'_>, NoMemory>
+        requires whole { self.now.forgotten ≡ 0 }
         ensures { IfOk result (λ draws. draws ≡ book_draws self.now) }
     {
         let site = Site::try_open(alloc, &self.config)?;

@@ -19,13 +19,14 @@ impl SiteBook {
         ensures sums { IfOk result (λ totals. AddUp self.now totals) }
     {
         self.sums();
-        self.site.totals(alloc, self.rows.len() as u64)
+        self.site.totals(alloc, self.len())
     }
 
     /// The figures of the rows, computed again from the configuration and the rows alone, as
-    /// `audit_rows` does; the site that the book keeps isn't read.
+    /// `audit_rows` does; the site that the book keeps isn't read. The book has forgotten no row.
     #[tactic(auto, using(crate::proofs::ProductCounts::one_for_each_product))]
     pub fn audit(&self, alloc: Global) -> Result<Totals, NoMemory>
+        requires whole { self.now.forgotten ≡ 0 }
         ensures figures { IfOk result (λ totals. AreFiguresOf self.now totals) }
         ensures products { IfOk result (λ totals.
             length totals.products ≡ length self.now.config.products) }

@@ -10,8 +10,8 @@ use site_base::{NoMemory, Reply, Row};
 use std::alloc::Global;
 use std::marker::Model;
 
-/// A list of rows that only grows, and the room that is reserved for more of them. A row takes 64
-/// octets, and one that answers with a product's figures 48 more, beside it.
+/// A list of rows, and the room that is reserved for more of them. A row takes 64 octets, and one
+/// that answers with a product's figures 48 more, beside it.
 #[derive(Drop)]
 pub struct Rows {
     kept: Vec<KeptRow>,
@@ -45,6 +45,15 @@ impl Rows {
             figures: Vec::new(alloc),
             room: 0,
         }
+    }
+
+    /// Drops all rows. The room that was reserved stays, and the memory of all.
+    pub fn clear(&mut self)
+        ensures rows { self.new.rows ≡ [] }
+        ensures room { self.new.room ≡ self.old.room }
+    {
+        self.kept.clear();
+        self.figures.clear();
     }
 
     /// How many rows there are.

@@ -40,7 +40,7 @@ impl<'a> Model for Sales<'a> {
 
     ghost view = { λ x. sales_from x.place x.book.now };
 
-    ghost invariant = { λ x. IsReadTo x.place x.shift x.book.now.rows };
+    ghost invariant = { λ x. IsReadTo x.place x.shift x.book.now };
 }
 
 impl SiteBook {
@@ -53,8 +53,9 @@ impl SiteBook {
     }
 
     /// All sales of the site, each once, in the order in which its rows sold them, and as it stands
-    /// at the end of the rows.
+    /// at the end of the rows. The book has forgotten no row.
     pub fn sales(&self) -> Sales<'_>
+        requires whole { self.now.forgotten ≡ 0 }
         ensures told { result ≡ book_sales self.now }
         ensures all { AreAllSales result (site_of_book self.now) }
     {
@@ -141,8 +142,8 @@ struct Found {
 
 /// The first sale that the rows from this place on made.
 fn find_sale(book: &SiteBook, place: u64, shift: ShiftNo) -> Found
-    requires { IsReadTo place shift book.now.rows }
-    ensures read { IsReadTo result.place result.shift book.now.rows }
+    requires { IsReadTo place shift book.now }
+    ensures read { IsReadTo result.place result.shift book.now }
     ensures next { IsNext (sales_from place book.now) result.sale
         (sales_from result.place book.now) }
 {
@@ -168,9 +169,9 @@ fn find_sale(book: &SiteBook, place: u64, shift: ShiftNo) -> Found
 /// The sale that the row at this place made, if it made one, and the shift that is open after it.
 fn read_row(book: &SiteBook, at: u64, shift: ShiftNo) -> (Option<NamedSale>, ShiftNo)
     requires within { at < length book.now.rows }
-    requires read { IsReadTo at shift book.now.rows }
+    requires read { IsReadTo at shift book.now }
     ensures sale { sales_from at book.now ≡ cons_option result.0 (sales_from (at + 1) book.now) }
-    ensures read { IsReadTo (at + 1) result.1 book.now.rows }
+    ensures read { IsReadTo (at + 1) result.1 book.now }
 {
     match &book.row(at) {
         Some(row) => (book.sale_made(row, shift), book.shift_after(at, row, shift)),

@@ -1,13 +1,14 @@
 //! The unpaid transactions, kept while the book goes on.
 
-ghost use Rattle.std.specs.Prelude.{◌≡◌, ◌+◌, ◌++◌, ◌∷◌, [], List, take, filter, IfOk, OnOk, OnErr};
+ghost use Rattle.std.specs.Prelude.{◌≡◌, ◌+◌, ◌≤◌, ◌++◌, ◌∷◌, [], List, take, filter, IfOk, OnOk};
+ghost use Rattle.std.specs.Prelude.{OnErr, length};
 ghost use Rattle.std.specs.Prelude.{Some, option_and_then, slice_get};
 ghost use Rattle.std.specs.List.{cons_option};
 ghost use Rattle.site_base.specs.declared.row.Row.{Row as RowFacts};
 ghost use Rattle.site_base.specs.Events.{point_named};
 ghost use Rattle.written_site.specs.RowWords.{closes_shift, open_after};
 ghost use Rattle.written_site.specs.SaleWords.{key_sold, number_sold};
-ghost use Rattle.site_book.specs.Book.{Book, site_of_book};
+ghost use Rattle.site_book.specs.Book.{Book, site_of_book, with_rows_forgotten};
 ghost use Rattle.site_book.specs.BookSales.{sale_named};
 ghost use Rattle.site_book.specs.Unpaid.{GoesBy, as_they_stand, is_due, unpaid_sales};
 
@@ -18,8 +19,8 @@ use std::alloc::Global;
 use std::marker::Model;
 
 /// The transactions of a book that aren't cleared, in the order in which they were sold. It reads
-/// each row of the book once, so a book that goes on costs it no more than its new rows and the
-/// transactions that are unpaid.
+/// each row of the book once, before the book forgets it, so a book that goes on costs it no more
+/// than its new rows and the transactions that are unpaid.
 #[derive(Drop)]
 pub struct UnpaidSales {
     // The rows before this place are read.
@@ -38,9 +39,9 @@ impl Model for UnpaidSales {
 }
 
 impl UnpaidSales {
-    /// Of a book no row of which is read. It takes no memory.
+    /// Of a book no row of which is read, nor forgotten. It takes no memory.
     pub fn new(alloc: Global) -> Self
-        ensures { (b : Book) → GoesBy result b }
+        ensures { (b : Book) → b.forgotten ≡ 0 → GoesBy result b }
     {
         UnpaidSales {
             place: 0,
@@ -56,11 +57,25 @@ impl UnpaidSales {
         ensures kept { GoesBy self.old book.now → GoesBy self.new book.now }
         ensures all { OnOk result
             (GoesBy self.old book.now → self.new.sales ≡ unpaid_sales book.now) }
+        ensures read { OnOk result
+            (GoesBy self.old book.now → length book.now.rows ≤ self.new.place) }
     {
         while let Some(row) = &book.row(self.place) {
             self.read_row(book, row)?;
         }
         self.sales = due_sales(alloc, book, &self.sales)?;
+        Ok(())
+    }
+
+    /// Reads the rows of the book that aren't read yet; then the book forgets all its rows. After
+    /// `NoMemory` it has forgotten none.
+    pub fn forget_rows(&mut self, alloc: Global, book: &mut SiteBook) -> Result<(), NoMemory>
+        ensures kept { GoesBy self.old book.old → GoesBy self.new book.new }
+        ensures forgets { OnOk result (book.new ≡ with_rows_forgotten book.old) }
+        ensures err { OnErr result (book.new ≡ book.old) }
+    {
+        self.read(alloc, book)?;
+        book.forget_rows();
         Ok(())
     }
 

@@ -7,6 +7,7 @@ use Rattle.site_book.specs.Book.{Book, site_of_book}
 use Rattle.written_site.specs.ShiftFigures.{product_totals}
 use Rattle.written_site.specs.SiteState.{open_shift}
 use Rattle.day_report.specs.Figures.{figure, listed}
+use Rattle.kept_history.specs.KeptRows.{kept_rows}
 use Rattle.site_json.specs.Points.{points_data}
 use Rattle.day_report.specs.Products.{products_data}
 use Rattle.site_json.specs.Tills.{tills_data}
@@ -17,14 +18,13 @@ abbrev pub whole_data : Book → ℕ → Data → Data → Data → Data → Dat
 whole_data b connections points products tills transactions =
     object
     (member (codes "connections") (figure connections)
-    (member (codes "limit") (figure b.config.rows)
     (member (codes "points") points
     (member (codes "products") products
-    (member (codes "rows") (figure (length b.rows))
+    (member (codes "rows") (figure (length (kept_rows b.rows)))
     (member (codes "shift") (figure (open_shift (site_of_book b)))
     (member (codes "tills") tills
     (member (codes "transactions") transactions
-    no_members))))))))
+    no_members)))))))
 
 -- the site of a book, with these transactions and so many connections
 abbrev pub site_data : Book → List NamedSale → ℕ → Data

@@ -71,12 +71,10 @@ fn whole_value(
     ensures { IfOk result (λ value. view value ≡ whole_data book.now connections
         (view points) (view products) (view tills) (view transactions)) }
 {
-    let limit = book.config().rows();
-    let rows = book.len();
+    let rows = book.kept_len();
     let shift = book.open_shift().get();
     json!(in alloc; {
         "connections": connections,
-        "limit": limit,
         "points": points,
         "products": products,
         "rows": rows,

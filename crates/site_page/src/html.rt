@@ -216,7 +216,7 @@ function show(site) {
   fill(at('tills'), 'span', site.tills.filter(till => till['signed on'] || till.clears > 0),
     showTill);
   put(at('shift'), 'shift ' + site.shift);
-  put(at('rows'), site.rows + ' of ' + site.limit + ' rows');
+  put(at('rows'), site.rows + ' rows');
   put(at('peers'), site.connections + ' connections');
   const unpaid = site.transactions.length;
   put(at('state'), unpaid + ' unpaid');

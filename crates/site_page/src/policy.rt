@@ -6,5 +6,5 @@ pub const POLICY: &str = concat!(
     "default-src 'none'; base-uri 'none'; form-action 'none'; frame-ancestors 'none'; ",
     "connect-src 'self'; ",
     "style-src 'sha256-33Yay0cbrQwu1TZwBaJsKYBPMgO5dgfhjLanTIfB+Js='; ",
-    "script-src 'sha256-zIl4l1Ibk44xjW4a0K1gZZtjiKuApT6wYsRFE8hvhb4='",
+    "script-src 'sha256-lbp+coltS7y3XZcMQEW43o2uwgqS/fRyGy2IiTrom4c='",
 );

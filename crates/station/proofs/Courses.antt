@@ -11,19 +11,20 @@ use Rattle.peer_talk.specs.Exchanges.{outcome_given}
 use Rattle.peer_talk.specs.Text.{messages_text, refusal_text}
 use Rattle.peer_talk.proofs.Courses.{on_none}
 use Rattle.site_book.specs.Book.{Book}
+use Rattle.site_book.proofs.Books.{forgets_alone}
 use Rattle.station.specs.declared.peer_end.PeerEnd.{PeerEnd}
 use Rattle.station.specs.declared.sizes.TheConstants.{READ_LIMIT}
 use Rattle.station.specs.Moves.{StationState, finish_at, hear_from, rows_since, take_by}
-use Rattle.station.specs.Moves.{with_arrival, with_turn}
+use Rattle.station.specs.Moves.{with_arrival, with_turn, without_old_rows}
 use Rattle.station.specs.Peers.{tell_rows, peer_at, with_peer, with_notices}
-use Rattle.station.specs.Runs.{Arrives, Finishes, Leaves, Move, Says, Stays, Takes, after}
+use Rattle.station.specs.Runs.{Arrives, Finishes, Forgets, Leaves, Move, Says, Stays, Takes, after}
 use Rattle.station.specs.Runs.{after_move, heard_of, heard_with, stays_with, taken_with, text_to}
 use Rattle.station.specs.Reads.{is_read_at, owed_at}
 use Rattle.station.specs.Sessions.{Grants, Session, Turn, finish, hear, is_read, opening_session}
 use Rattle.station.specs.Stories.{IsTold, asked_in, is_all_answered, is_whole, messages_in}
 use Rattle.station.specs.Stories.{refusal_by, rows_in, said_in, told_in}
 use Rattle.station.proofs.Keeping.{Leads, after_input, key_of, moved_keeps, turn_at}
-use Rattle.station.proofs.Lives.{InCourse, finishes, hears, rows_come}
+use Rattle.station.proofs.Lives.{InCourse, finishes, hears, rows_come, same_course}
 use Rattle.station.proofs.Peers.{other_key, peer_at-map, peer_at-other, peer_at-same}
 use Rattle.station.proofs.Stories.{notices_are_due}
 use Rattle.station.proofs.Turns.{Grows, input-grows, since}
@@ -178,6 +179,19 @@ own_takes c before had sent k n s seen = record {
       },
     )
 
+-- rows are forgotten
+rows_forgotten_seen : (c : Configured) (before : List Row) (had sent : List ℕ) (k : ℕ)
+    (s : StationState) → IsSeen c before had sent k s
+    → IsSeen c before had sent k (without_old_rows s)
+rows_forgotten_seen c before had sent k s seen =
+    let alone = forgets_alone s.book in
+    record {
+      session = seen.session;
+      there = seen.there;
+      course = same_course c before had sent s.book (without_old_rows s).book seen.session
+          alone.config alone.rows seen.course;
+    }
+
 -- ---- any move
 
 -- a move of another key
@@ -222,6 +236,8 @@ own_moves c before had sent k (Finishes j) s own stays seen =
     (own_ends c before had sent k s seen)
 own_moves c before had sent k (Leaves j) s own stays seen =
     absurd (let no : false ≡ true = sym (ap (λ b. if b then false else true) own) ∙ stays in cc)
+own_moves c before had sent k Forgets s own stays seen =
+    rw (append-nil had, append-nil sent) (rows_forgotten_seen c before had sent k s seen)
 
 pub moves : (c : Configured) (before : List Row) (had sent : List ℕ) (k : ℕ) (m : Move)
     (s : StationState) → stays_with k m ≡ true → IsSeen c before had sent k s
@@ -235,7 +251,8 @@ moves c before had sent k m s stays seen = by_key (key_of m == k) refl
         let other = other_key (key_of m) k is in
         rw (untaken k m s is, unheard k m s is, append-nil had, append-nil sent)
         (moved_keeps (IsSeen c before had sent k) m s
-        (other_leads c before had sent k (key_of m) s other seen))
+        (other_leads c before had sent k (key_of m) s other seen)
+        (λ is. rows_forgotten_seen c before had sent k s seen))
 
 -- ---- what it is told
 

@@ -1,5 +1,5 @@
 -- The book's rows are one history: each move adds rows that the written step makes.
-use Rattle.std.proofs.Common.{refl, subst}
+use Rattle.std.proofs.Common.{refl, subst, sym}
 use Rattle.std.specs.Prelude.{List}
 use Rattle.site_base.specs.declared.actor.Actor.{Actor}
 use Rattle.site_base.specs.declared.actor.Actor.TheVariants.{Till}
@@ -9,14 +9,15 @@ use Rattle.site_base.specs.Configured.{Configured}
 use Rattle.written_site.specs.SiteRun.{IsLegal}
 use Rattle.written_site.specs.SiteState.{opening}
 use Rattle.written_site.proofs.Histories.{IsLegal-push}
-use Rattle.site_book.specs.Book.{Book, next_row, with_row_of}
+use Rattle.site_book.specs.Book.{Book, next_row, with_row_of, with_rows_forgotten}
+use Rattle.site_book.proofs.Books.{forgets_alone}
 use Rattle.station.specs.Moves.{StationState}
 use Rattle.station.specs.Runs.{Move, after, opening_station}
-use Rattle.station.proofs.Keeping.{RowsKeep, books_keep}
-use Rattle.station.proofs.Turns.{Grows, grows_none, more_rows}
+use Rattle.station.proofs.Keeping.{ForgetsKeep, RowsKeep, books_keep}
+use Rattle.station.proofs.Turns.{Grows, forgets_none, grows_none, more_rows}
 
 pub books_grow : (ms : List Move) (s : StationState) → Grows s.book (after ms s).book
-books_grow ms s = books_keep (more_rows s.book) ms s (grows_none s.book)
+books_grow ms s = books_keep (more_rows s.book) (forgets_none s.book) ms s (grows_none s.book)
 
 abbrev IsHistory : Book → Type 0
 IsHistory b = IsLegal (opening b.config) b.rows
@@ -32,9 +33,15 @@ rows_go_on = record {
   left = λ b t on. row_goes_on b (Till t) SignOff;
 }
 
+forgets_go_on : ForgetsKeep IsHistory
+forgets_go_on b legal =
+    let alone = forgets_alone b in
+    subst (λ (c : Configured). IsLegal (opening c) (with_rows_forgotten b).rows) (sym alone.config)
+    (subst (IsLegal (opening b.config)) (sym alone.rows) legal)
+
 pub always_legal : (b : Book) (ms : List Move) → IsHistory b
     → IsLegal (opening b.config) (after ms (opening_station b)).book.rows
 always_legal b ms legal =
     let s = opening_station b in
     subst (λ (c : Configured). IsLegal (opening c) (after ms s).book.rows) (books_grow ms s).same
-    (books_keep rows_go_on ms s legal)
+    (books_keep rows_go_on forgets_go_on ms s legal)

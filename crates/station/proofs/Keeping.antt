@@ -20,6 +20,7 @@ use Rattle.app_message.specs.Telegram.{Telegram}
 use Rattle.device_map.specs.Replies.{fault_message}
 use Rattle.device_map.specs.Requests.{request_at}
 use Rattle.site_book.specs.Book.{Book, book_reply, is_full, site_of_book, with_row_of}
+use Rattle.site_book.specs.Book.{with_rows_forgotten}
 use Rattle.written_site.specs.SiteState.{is_signed_on}
 use Rattle.peer_talk.specs.declared.fault.TalkFault.TheVariants as talk
 use Rattle.peer_talk.specs.declared.talk.Meaning.{Meaning}
@@ -31,11 +32,12 @@ use Rattle.station.specs.declared.peer_end.PeerEnd.{PeerEnd}
 use Rattle.station.specs.declared.peer_end.PeerEnd.TheVariants as ends
 use Rattle.station.specs.declared.sizes.TheConstants.{NOTICE_LIMIT, READ_LIMIT}
 use Rattle.station.specs.Moves.{StationState, finish_at, free, hear_from, rows_since, take_by}
-use Rattle.station.specs.Moves.{with_arrival, with_end, with_turn}
+use Rattle.station.specs.Moves.{with_arrival, with_end, with_turn, without_old_rows}
 use Rattle.station.specs.Notices.{row_notice}
 use Rattle.station.specs.Peers.{listener, peer_at, tell_notice, tell_row, tell_rows, with_notices}
 use Rattle.station.specs.Peers.{with_peer}
-use Rattle.station.specs.Runs.{Arrives, Finishes, Leaves, Move, Says, Takes, after, after_move}
+use Rattle.station.specs.Runs.{Arrives, Finishes, Forgets, Leaves, Move, Says, Takes, after}
+use Rattle.station.specs.Runs.{after_move}
 use Rattle.station.specs.Runs.{arrive}
 use Rattle.station.specs.Sessions.{Granted, Grants, Session, Turn, answer, answer_all}
 use Rattle.station.specs.Sessions.{answer_meaning, ask, end_by, end_session, finish, full_grant}
@@ -189,13 +191,14 @@ module _ {P : Turn → Type 0} (keeps : Keeps P) where
 
 -- ---- where a move leads
 
--- whose move it is
+-- whose move it is; nobody's is the first key's, which has no part in it
 abbrev pub key_of : Move → ℕ
 key_of (Arrives k) = k
 key_of (Says memory k octets) = k
 key_of (Takes k n) = k
 key_of (Finishes k) = k
 key_of (Leaves k) = k
+key_of Forgets = 0
 
 -- a session at the station's book
 abbrev pub turn_at : StationState → Session → Turn
@@ -274,33 +277,42 @@ module _ {Q : StationState → Type 0} (k : ℕ) (s : StationState) (leads : Lea
   leave None later there over q = q
   leave (Some x) later there over q = leads.leaves later x there over q
 
+-- .. and where rows are forgotten, if they are
 pub moved_keeps : (Q : StationState → Type 0) (m : Move) (s : StationState) → Leads Q (key_of m) s
-    → Q (after_move m s)
-moved_keeps Q (Arrives k) s leads = come k s leads (peer_at s.peers k) refl
-moved_keeps Q (Says memory k octets) s leads = say k s leads memory octets (peer_at s.peers k) refl
-moved_keeps Q (Takes k n) s leads = take k s leads n (peer_at s.peers k) refl
-moved_keeps Q (Finishes k) s leads = end k s leads (peer_at s.peers k) refl
-moved_keeps Q (Leaves k) s leads =
+    → (m ≡ Forgets → Q (without_old_rows s)) → Q (after_move m s)
+moved_keeps Q (Arrives k) s leads forgets = come k s leads (peer_at s.peers k) refl
+moved_keeps Q (Says memory k octets) s leads forgets =
+    say k s leads memory octets (peer_at s.peers k) refl
+moved_keeps Q (Takes k n) s leads forgets = take k s leads n (peer_at s.peers k) refl
+moved_keeps Q (Finishes k) s leads forgets = end k s leads (peer_at s.peers k) refl
+moved_keeps Q (Leaves k) s leads forgets =
     leave k s leads (peer_at (with_end k s).peers k) (with_end k s) refl
     (finished_over k (peer_at s.peers k) s refl) (end k s leads (peer_at s.peers k) refl)
+moved_keeps Q Forgets s leads forgets = forgets refl
 
 -- what any move keeps
 pub moves_keep : (Q : StationState → Type 0)
     → ((k : ℕ) (s : StationState) → Q s → Leads Q k s)
+    → ((s : StationState) → Q s → Q (without_old_rows s))
     → (ms : List Move) (s : StationState) → Q s → Q (after ms s)
-moves_keep Q leads [] s q = q
-moves_keep Q leads (m ∷ ms) s q =
-    moves_keep Q leads ms (after_move m s) (moved_keeps Q m s (leads (key_of m) s q))
+moves_keep Q leads forgets [] s q = q
+moves_keep Q leads forgets (m ∷ ms) s q =
+    moves_keep Q leads forgets ms (after_move m s)
+    (moved_keeps Q m s (leads (key_of m) s q) (λ is. forgets s q))
 
 -- ---- a law of the book
 
--- A book gets rows alone, and each keeps B: that of a request, where there is room, and that of a
--- till that is left.
+-- A book gets rows, and each keeps B: that of a request, where there is room, and that of a till
+-- that is left.
 pub record RowsKeep (B : Book → Type 0) : Type 0 where
   pub asked : (b : Book) (m : Telegram) (actor : Actor) (event : Event)
       → request_at m ≡ Ok (actor, event) → is_full b ≡ false → B b → B (with_row_of b actor event)
   pub left : (b : Book) (t : ℕ) → is_signed_on (site_of_book b) t ≡ true → B b
       → B (with_row_of b (Till t) SignOff)
+
+-- .. and so do rows that are forgotten
+abbrev pub ForgetsKeep : (Book → Type 0) → Type 0
+ForgetsKeep B = (b : Book) → B b → B (with_rows_forgotten b)
 
 module _ {B : Book → Type 0} (rows : RowsKeep B) where
   pub left_keeps : (on : Option ℕ) (b : Book) → B b → B (without_till on b)
@@ -336,17 +348,26 @@ module _ {B : Book → Type 0} (rows : RowsKeep B) where
     ends = λ end t lasts kept. left_keeps t.session.talk.on t.book kept;
   }
 
-  pub books_keep : (ms : List Move) (s : StationState) → B s.book → B (after ms s).book
-  books_keep =
-      moves_keep (λ s. B s.book)
-      (λ k s kept. record {
-        stays = kept;
-        comes = λ none. kept;
-        turns = λ input x there lasts.
-            heard_keeps rows_keep input (turn_at s x) lasts (λ h. kept);
-        takes = λ n x there. kept;
-        leaves = λ later x there over still. still;
-      })
+  book_leads : (k : ℕ) (s : StationState) → B s.book → Leads (λ later. B later.book) k s
+  book_leads k s kept = record {
+    stays = kept;
+    comes = λ none. kept;
+    turns = λ input x there lasts.
+        heard_keeps rows_keep input (turn_at s x) lasts (λ h. kept);
+    takes = λ n x there. kept;
+    leaves = λ later x there over still. still;
+  }
+
+  -- a move that forgets nothing
+  pub book_moved : (m : Move) (s : StationState) → (m ≡ Forgets → ⊥) → B s.book
+      → B (after_move m s).book
+  book_moved m s other kept =
+      moved_keeps (λ later. B later.book) m s (book_leads (key_of m) s kept)
+      (λ is. absurd (other is))
+
+  pub books_keep : ForgetsKeep B → (ms : List Move) (s : StationState) → B s.book
+      → B (after ms s).book
+  books_keep forgets = moves_keep (λ s. B s.book) book_leads (λ s kept. forgets s.book kept)
 
 -- ---- a law of each session
 
@@ -420,7 +441,8 @@ module _ {S : Session → Type 0} (keeps : EachKeeps S) where
   }
 
   pub each_moved : (m : Move) (s : StationState) → EachHolds S s → EachHolds S (after_move m s)
-  each_moved m s each = moved_keeps (EachHolds S) m s (each_leads (key_of m) s each)
+  each_moved m s each =
+      moved_keeps (EachHolds S) m s (each_leads (key_of m) s each) (λ is. each)
 
   pub each_keep : (ms : List Move) (s : StationState) → EachHolds S s → EachHolds S (after ms s)
-  each_keep = moves_keep (EachHolds S) each_leads
+  each_keep = moves_keep (EachHolds S) each_leads (λ s each. each)

@@ -18,14 +18,14 @@ use Rattle.written_site.specs.SiteChecks.{first_refusal}
 use Rattle.written_site.specs.SiteState.{SiteState, is_signed_on, opening}
 use Rattle.written_site.specs.SiteStep.{accepted_site, site_after}
 use Rattle.written_site.proofs.Histories.{site_of_rows-push}
-use Rattle.site_book.specs.Book.{Book, next_row, site_of_book, with_row_of}
+use Rattle.site_book.specs.Book.{Book, next_row, site_of_book, with_row_of, with_rows_forgotten}
 use Rattle.peer_talk.specs.Talks.{IsOwn, TalkState}
 use Rattle.peer_talk.proofs.Speakers.{own_met, own_signed}
 use Rattle.station.specs.declared.peer_end.PeerEnd.{PeerEnd}
 use Rattle.station.specs.declared.peer_end.PeerEnd.TheVariants as ends
 use Rattle.station.specs.declared.sizes.TheConstants.{NOTICE_LIMIT}
 use Rattle.station.specs.Moves.{StationState, finish_at, free, rows_since, with_end, with_turn}
-use Rattle.station.specs.Moves.{without_peer}
+use Rattle.station.specs.Moves.{without_old_rows, without_peer}
 use Rattle.station.specs.Notices.{notice_at, row_notice}
 use Rattle.station.specs.Peers.{listener, tell_row, tell_rows, tell_notice, peer_at, with_notices}
 use Rattle.station.specs.Runs.{Move, after, after_move, opening_station}
@@ -231,7 +231,9 @@ pub ends_leave : (m : Move) (s : StationState) (j : ℕ) (x y : Session) (end : 
 ends_leave m s j x y end u own there lasts is =
     subst (HaveLeft (after_move m s).book) is
     (moved_keeps (λ later. HaveLeft later.book (peer_at later.peers j)) m s
-    (ends_lead j (key_of m) s x there (own_at s j x own there) lasts)) end u
+    (ends_lead j (key_of m) s x there (own_at s j x own there) lasts)
+    (λ is. subst (HaveLeft (with_rows_forgotten s.book)) (sym there)
+    (lasting_left (turn_at (without_old_rows s) x) lasts))) end u
 
 pub freed_book : (k : ℕ) (slot : Option Session) (s : StationState) → (free k slot s).book ≡ s.book
 freed_book k None s = refl

@@ -1,4 +1,5 @@
 pub mod Peers
+pub mod NeverFull
 pub mod Notices
 pub mod Keeping
 pub mod Turns

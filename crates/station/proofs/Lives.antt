@@ -40,7 +40,7 @@ use Rattle.conversation.specs.Books.{outcome_at}
 use Rattle.station.specs.Sessions.{no_memory, opening_text, refuse_by, serve}
 use Rattle.conversation.specs.Books.{with_outcome}
 use Rattle.station.specs.Sessions.{take_messages, tell, tell_last}
-use Rattle.station.specs.Stories.{AreAsked, Happening, asked_in, book_of, is_all_answered}
+use Rattle.station.specs.Stories.{AreAsked, Happening, asked_in, is_all_answered}
 use Rattle.station.specs.Stories.{is_whole, messages_in, refusal_by, rows_in, said_in, told_in}
 use Rattle.station.proofs.Keeping.{Keeps, all_keep, by_fault, by_lasting, by_memory, by_message}
 use Rattle.station.proofs.Keeping.{ended_lasts}
@@ -575,16 +575,41 @@ row_comes c before had sent b x r (inr d) =
           (record { more = r ∷ []; rows = refl; same = refl }),
     ))
 
-same_book : (b b' : Book) → b'.config ≡ b.config → b'.rows ≡ b.rows → b' ≡ b
-same_book b b' same rows =
-    ap (λ cf. book_of cf b'.rows) same ∙ ap (λ rs. book_of b.config rs) rows
+-- what a book has forgotten doesn't matter to a session's course
+pub same_course : (c : Configured) (before : List Row) (had sent : List ℕ) (b b' : Book)
+    (x : Session) → b'.config ≡ b.config → b'.rows ≡ b.rows → InCourse c before had sent b x
+    → InCourse c before had sent b' x
+same_course c before had sent b b' x same rows (inl h) =
+    let l = h.living in
+    inl (record {
+      living = record {
+        story = l.story;
+        config = same ∙ l.config;
+        rows = rows ∙ l.rows;
+        told = l.told;
+        peer = l.peer;
+        signed = l.signed;
+        said = l.said;
+        messages = l.messages;
+        asked = l.asked;
+        quiet = l.quiet;
+        lasts = l.lasts;
+      };
+      holds = h.holds;
+      sound = h.sound;
+    })
+same_course c before had sent b b' x same rows (inr d) =
+    inr (
+      d.0,
+      later_rows c before had _ _ d.0 b b' x d.1
+          (record { more = []; rows = rows ∙ sym (append-nil b.rows); same = same }),
+    )
 
 pub rows_come : (c : Configured) (before : List Row) (had sent : List ℕ) (more : List Row)
     (b b' : Book) (x : Session) → b'.config ≡ b.config → b'.rows ≡ b.rows ++ more
     → InCourse c before had sent b x → InCourse c before had sent b' (tell_rows more x)
 rows_come c before had sent [] b b' x same rows course =
-    subst (λ bk. InCourse c before had sent bk x)
-    (sym (same_book b b' same (rows ∙ append-nil b.rows))) course
+    same_course c before had sent b b' x same (rows ∙ append-nil b.rows) course
 rows_come c before had sent (r ∷ more) b b' x same rows course =
     rows_come c before had sent more (record b { rows = b.rows ++ r ∷ [] }) b' (tell_row r x) same
     (rows ∙ sym (append_assoc b.rows (r ∷ []) more)) (row_comes c before had sent b x r course)

@@ -4,7 +4,7 @@ use Rattle.std.proofs.Common.{Some, None, refl, ap, sym, ◌∙◌, append_assoc
 use Rattle.site_base.specs.declared.row.Row.{Row}
 use Rattle.site_base.specs.Configured.{Configured}
 use Rattle.app_message.specs.Telegram.{Telegram}
-use Rattle.site_book.specs.Book.{Book}
+use Rattle.site_book.specs.Book.{Book, whole_book}
 use Rattle.peer_talk.specs.Exchanges.{Asked, outcome_given, rows_made, signed_by, signed_on_after}
 use Rattle.peer_talk.specs.Talks.{GoesOn, TalkState}
 use Rattle.peer_talk.specs.Text.{messages_text, peer_after}
@@ -12,7 +12,7 @@ use Rattle.peer_talk.proofs.Courses.{on_then}
 use Rattle.station.specs.Notices.{notices_of, octets_of, row_notice}
 use Rattle.station.specs.Sessions.{Session, opening_text}
 use Rattle.station.specs.Stories.{AreAsked, Happening, IsAskedBy, Passes, Speaks, asked_in}
-use Rattle.station.specs.Stories.{book_of, messages_in}
+use Rattle.station.specs.Stories.{messages_in}
 use Rattle.station.specs.Stories.{notices_due, notices_in, peer_in, reply_to_one, rows_in, said_in}
 use Rattle.station.specs.Stories.{told_in}
 use Rattle.station.proofs.Notices.{nobody_noticed}
@@ -27,7 +27,7 @@ told-more c rows peer [] h = ap (λ rs. told_in c rs peer (h ∷ [])) (sym (appe
 told-more c rows peer (Speaks m asked ∷ story) h =
     let behind = rows ++ rows_made asked in
     let q = peer_after peer m.from in
-    let front = reply_to_one peer m asked ++ opening_text peer m.from (book_of c behind) in
+    let front = reply_to_one peer m asked ++ opening_text peer m.from (whole_book c behind) in
     let last = λ (rs : List Row). told_in c rs (peer_in q story) (h ∷ []) in
     ap (λ t. front ++ t) (told-more c behind q story h)
     ∙ sym (append_assoc front (told_in c behind q story) (last (behind ++ rows_in story)))
@@ -143,7 +143,7 @@ pub notices_are_due : (c : Configured) (rows : List Row) (story : List Happening
 notices_are_due c rows [] quiet = refl
 notices_are_due c rows (Speaks m asked ∷ story) quiet =
     let behind = rows ++ rows_made asked in
-    ap (λ t. opening_text None m.from (book_of c behind) ++ t)
+    ap (λ t. opening_text None m.from (whole_book c behind) ++ t)
     (all_due c behind m.from story quiet.1)
 notices_are_due c rows (Passes r ∷ story) quiet =
     ap (λ t. t ++ notices_in c (rows ++ r ∷ []) None story) (ap octets_of (nobody_noticed r))
@@ -222,6 +222,12 @@ one_said p q m asked text on =
     ∙ whole ∙ append-nil text)
 
 -- the peer speaks, and goes on
+-- what opens a session tells of the site alone, whatever the book has forgotten
+opens_alike : (p : Option (List ℕ)) (from : List ℕ) (b : Book)
+    → opening_text p from b ≡ opening_text p from (whole_book b.config b.rows)
+opens_alike None from b = refl
+opens_alike (Some peer) from b = refl
+
 pub speaks : (c : Configured) (before : List Row) (had : List ℕ) (ms : List Telegram)
     (b b' : Book) (x x' : Session) (m : Telegram) (asked : List Asked) (text : List ℕ)
     → (l : IsLiving c before had ms b x)
@@ -237,8 +243,9 @@ speaks c before had ms b b' x x' m asked text l on same more peer lasts owed qui
     let p = x.talk.peer in
     let behind = (before ++ rows_in l.story) ++ rows_made asked in
     let rows : b'.rows ≡ behind = more ∙ ap (λ rs. rs ++ rows_made asked) l.rows in
-    let book : b' ≡ book_of c behind =
-    ap (λ cf. book_of cf b'.rows) (same ∙ l.config) ∙ ap (λ rs. book_of c rs) rows in
+    let opening : opening_text p m.from b' ≡ opening_text p m.from (whole_book c behind) =
+    opens_alike p m.from b' ∙ ap (λ cf. opening_text p m.from (whole_book cf b'.rows)) (same ∙ l.config)
+    ∙ ap (λ rs. opening_text p m.from (whole_book c rs)) rows in
     let replied = one_said p (peer_after p m.from) m asked text on in
     record {
       story = l.story ++ h ∷ [];
@@ -251,11 +258,11 @@ speaks c before had ms b b' x x' m asked text l on same more peer lasts owed qui
       told =
           ap (λ o. had ++ o) owed
           ∙ grown c before had x.owed (text ++ opening_text p m.from b') l.story h l.told
-          (ap (λ bk. text ++ opening_text p m.from bk) book
-          ∙ ap (λ t. t ++ opening_text p m.from (book_of c behind)) replied
-          ∙ ap (λ q. reply_to_one q m asked ++ opening_text q m.from (book_of c behind)) l.peer
+          (ap (λ t. text ++ t) opening
+          ∙ ap (λ t. t ++ opening_text p m.from (whole_book c behind)) replied
+          ∙ ap (λ q. reply_to_one q m asked ++ opening_text q m.from (whole_book c behind)) l.peer
           ∙ sym (append-nil (reply_to_one (peer_in None l.story) m asked
-          ++ opening_text (peer_in None l.story) m.from (book_of c behind))));
+          ++ opening_text (peer_in None l.story) m.from (whole_book c behind))));
       peer =
           peer ∙ ap (λ q. peer_after q m.from) l.peer
           ∙ sym (peer-more None l.story h);

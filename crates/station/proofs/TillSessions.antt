@@ -21,11 +21,12 @@ use Rattle.written_site.specs.SiteState.{SiteState, is_signed_on, opening}
 use Rattle.written_site.proofs.Histories.{site_of_rows-push}
 use Rattle.written_site.proofs.SigningLaws.{signed_row}
 use Rattle.site_book.specs.Book.{Book, book_reply, is_full, next_row, site_of_book, with_row_of}
+use Rattle.site_book.proofs.Books.{forgets_alone}
 use Rattle.peer_talk.specs.Exchanges.{signed_with}
 use Rattle.peer_talk.specs.Talks.{IsOwn, IsSpokenBy}
 use Rattle.station.specs.declared.peer_end.PeerEnd.{PeerEnd}
 use Rattle.station.specs.Laws.{HasSession}
-use Rattle.station.specs.Moves.{StationState, rows_since, with_turn}
+use Rattle.station.specs.Moves.{StationState, rows_since, with_turn, without_old_rows}
 use Rattle.station.specs.Peers.{tell_rows, peer_at, with_notices}
 use Rattle.station.specs.Runs.{Move, after, after_move, opening_station}
 use Rattle.conversation.specs.Books.{outcome_at}
@@ -300,11 +301,24 @@ have_lead k s own all = record {
       ∙ ap (λ e. is_none e) h.lasts)));
 }
 
+-- rows that are forgotten sign nobody on
+forgets_have : (s : StationState) → TillsHave s → TillsHave (without_old_rows s)
+forgets_have s all u signed =
+    let h = all u (ap (λ (x : SiteState). is_signed_on x u) (sym (forgets_alone s.book).site)
+    ∙ signed) in
+    record {
+      key = h.key;
+      session = h.session;
+      there = h.there;
+      lasts = h.lasts;
+      on = h.on;
+    }
+
 moves_have : (ms : List Move) (s : StationState) → AreOwn s → TillsHave s → TillsHave (after ms s)
 moves_have [] s own all = all
 moves_have (m ∷ ms) s own all =
     moves_have ms (after_move m s) (each_moved each_own m s own)
-    (moved_keeps TillsHave m s (have_lead (key_of m) s own all))
+    (moved_keeps TillsHave m s (have_lead (key_of m) s own all) (λ is. forgets_have s all))
 
 pub tills_have : (b : Book) (ms : List Move)
     → ((u : ℕ) → is_signed_on (site_of_book b) u ≡ false)

@@ -10,7 +10,8 @@ use Rattle.site_base.specs.declared.event.Event.TheVariants.{SignOff}
 use Rattle.site_base.specs.declared.row.Row.{Row}
 use Rattle.app_message.specs.declared.fault.StreamFault.{StreamFault}
 use Rattle.app_message.specs.Telegram.{Telegram}
-use Rattle.site_book.specs.Book.{Book, next_row, with_row_of, site_of_book}
+use Rattle.site_book.specs.Book.{Book, next_row, site_of_book, with_row_of, with_rows_forgotten}
+use Rattle.site_book.proofs.Books.{forgets_alone}
 use Rattle.written_site.specs.SiteState.{is_signed_on}
 use Rattle.peer_talk.specs.Exchanges.{Outcome, row_made}
 use Rattle.station.specs.Moves.{rows_since}
@@ -18,6 +19,7 @@ use Rattle.station.specs.Peers.{with_notices}
 use Rattle.station.specs.Sessions.{Granted, Session, Turn, answer, answer_all, refuse_by}
 use Rattle.conversation.specs.Books.{with_outcome}
 use Rattle.station.specs.Sessions.{without_till}
+use Rattle.station.proofs.Keeping.{ForgetsKeep}
 use Rattle.station.proofs.Keeping.{Input, Keeps, RowsKeep, after_input, all_keep, answered_keeps}
 use Rattle.station.proofs.Keeping.{heard_keeps, left_keeps, refused_keeps, rows_keep}
 use Rattle.station.proofs.Notices.{no_sign_off_change, with_notices-append, with_notices-none}
@@ -74,6 +76,13 @@ abbrev pub with_row-grows : (b : Book) (actor : Actor) (event : Event)
     → Grows b (with_row_of b actor event)
 with_row-grows b actor event =
     record { more = next_row b actor event ∷ []; rows = refl; same = refl }
+
+-- a book that has forgotten rows has as many
+pub forgets_none : (b : Book) → ForgetsKeep (Grows b)
+forgets_none b c g =
+    let alone = forgets_alone c in
+    grows_then b c (with_rows_forgotten c) g
+    (record { more = []; rows = alone.rows ∙ sym (append-nil c.rows); same = alone.config })
 
 pub more_rows : (b : Book) → RowsKeep (Grows b)
 more_rows b = record {

@@ -2,7 +2,7 @@
 use Rattle.std.specs.Prelude.{ℕ, is_none, List, length, drop}
 use Rattle.std.specs.Prelude.{Option, Some, None, if◌then◌else◌}
 use Rattle.site_base.specs.declared.row.Row.{Row}
-use Rattle.site_book.specs.Book.{Book}
+use Rattle.site_book.specs.Book.{Book, with_rows_forgotten}
 use Rattle.station.specs.Sessions.{Grants, Session, Turn, finish, hear, is_read}
 use Rattle.station.specs.Sessions.{opening_session}
 use Rattle.station.specs.Peers.{peer_at, with_notices, with_peer}
@@ -58,6 +58,10 @@ abbrev pub take_by : ℕ → ℕ → Option Session → StationState → Station
 take_by k n None s = s
 take_by k n (Some x) s =
     record s { peers = with_peer k (Some (record x { owed = drop n x.owed })) s.peers }
+
+-- the book's rows in memory are forgotten
+abbrev pub without_old_rows : StationState → StationState
+without_old_rows s = record s { book = with_rows_forgotten s.book }
 
 -- a key's peer has taken so many of the octets that it is owed
 abbrev pub with_taken : ℕ → ℕ → StationState → StationState

@@ -3,7 +3,7 @@ use Rattle.std.specs.Prelude.{◌≡◌, ℕ, ◌==◌, Bool, true, false, List,
 use Rattle.std.specs.Prelude.{Option, Some, None, if◌then◌else◌}
 use Rattle.site_book.specs.Book.{Book}
 use Rattle.station.specs.Moves.{StationState, with_arrival, with_end, with_octets, with_taken}
-use Rattle.station.specs.Moves.{without_peer}
+use Rattle.station.specs.Moves.{without_old_rows, without_peer}
 use Rattle.station.specs.Peers.{peer_at}
 use Rattle.station.specs.Reads.{is_read_at, owed_at}
 use Rattle.station.specs.Sessions.{Grants, Session}
@@ -15,6 +15,7 @@ pub data Move : Type 0 where
   Takes : (key : ℕ) (n : ℕ) → Move
   Finishes : (key : ℕ) → Move
   Leaves : (key : ℕ) → Move
+  Forgets : Move
 
 -- a key that nobody has is given
 abbrev pub arrive : ℕ → Option Session → StationState → StationState
@@ -28,6 +29,7 @@ after_move (Says memory k octets) s = with_octets memory k octets s
 after_move (Takes k n) s = with_taken k n s
 after_move (Finishes k) s = with_end k s
 after_move (Leaves k) s = without_peer k s
+after_move Forgets s = without_old_rows s
 
 -- .. and after moves, one after another
 abbrev pub after : List Move → StationState → StationState

@@ -13,7 +13,7 @@ use Rattle.app_message.specs.Stream.{stream_of}
 use Rattle.app_message.specs.Telegram.{Telegram}
 use Rattle.device_map.specs.declared.fault.MapFault.{MapFault}
 use Rattle.device_map.specs.Requests.{request_at}
-use Rattle.site_book.specs.Book.{Book}
+use Rattle.site_book.specs.Book.{whole_book}
 use Rattle.peer_talk.specs.Exchanges.{Asked, outcome_given, request_asked, rows_made}
 use Rattle.peer_talk.specs.Exchanges.{signed_on_after}
 use Rattle.peer_talk.specs.declared.fault.TalkFault.TheVariants as talk
@@ -30,9 +30,6 @@ use Rattle.station.specs.Sessions.{opening_text}
 pub data Happening : Type 0 where
   Speaks : (message : Telegram) (asked : List Asked) → Happening
   Passes : (row : Row) → Happening
-
-abbrev pub book_of : Configured → List Row → Book
-book_of c rows = record { config = c; rows = rows }
 
 -- what is said to a message: its part of the session text
 abbrev pub reply_to_one : Option (List ℕ) → Telegram → List Asked → List ℕ
@@ -86,7 +83,7 @@ said_in peer (Passes r ∷ story) = said_in peer story
 abbrev pub notices_in : Configured → List Row → Option (List ℕ) → List Happening → List ℕ
 notices_in c rows peer [] = []
 notices_in c rows peer (Speaks m asked ∷ story) =
-    opening_text peer m.from (book_of c (rows ++ rows_made asked))
+    opening_text peer m.from (whole_book c (rows ++ rows_made asked))
     ++ notices_in c (rows ++ rows_made asked) (peer_after peer m.from) story
 notices_in c rows peer (Passes r ∷ story) =
     octets_of (row_notice peer r) ++ notices_in c (rows ++ r ∷ []) peer story
@@ -97,7 +94,7 @@ abbrev pub told_in : Configured → List Row → Option (List ℕ) → List Happ
 told_in c rows peer [] = []
 told_in c rows peer (Speaks m asked ∷ story) =
     let behind = rows ++ rows_made asked in
-    reply_to_one peer m asked ++ opening_text peer m.from (book_of c behind)
+    reply_to_one peer m asked ++ opening_text peer m.from (whole_book c behind)
     ++ told_in c behind (peer_after peer m.from) story
 told_in c rows peer (Passes r ∷ story) =
     octets_of (row_notice peer r) ++ told_in c (rows ++ r ∷ []) peer story
@@ -107,7 +104,7 @@ told_in c rows peer (Passes r ∷ story) =
 abbrev pub notices_due : Configured → List Row → List Happening → List ℕ
 notices_due c rows [] = []
 notices_due c rows (Speaks m asked ∷ story) =
-    standing_text (book_of c (rows ++ rows_made asked)) m.from
+    standing_text (whole_book c (rows ++ rows_made asked)) m.from
     ++ notices_of (Some m.from) (rows_in story)
 notices_due c rows (Passes r ∷ story) = notices_due c (rows ++ r ∷ []) story
 

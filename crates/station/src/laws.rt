@@ -3,7 +3,8 @@
 ghost use Rattle.station.specs.Laws.{EachPeerIsToldItsStory, EndsLeaveTheirTill};
 ghost use Rattle.station.specs.Laws.{PeersLeaveTheirTill, RequestsAreAskedInOrder};
 ghost use Rattle.station.specs.Laws.{RowsAreOneHistory, StandingNoticesAreChanges};
-ghost use Rattle.station.specs.Laws.{StandingNoticesTellWhatWasMissed, TillsHaveSessions};
+ghost use Rattle.station.specs.Laws.{StandingNoticesTellWhatWasMissed, StationsAreNeverFull};
+ghost use Rattle.station.specs.Laws.{TillsHaveSessions};
 
 /// A peer is told its story: the session text of what was heard of it, with the answers that its
 /// requests were given, and between the notices of its point, each in its place.
@@ -34,6 +35,11 @@ pub fn tills_have_sessions()
 /// Requests are asked in the order in which they are heard.
 pub fn requests_are_asked_in_order()
     ensures { RequestsAreAskedInOrder }
+{}
+
+/// A station that makes room in its book before it hears a peer is never full.
+pub fn stations_are_never_full()
+    ensures { StationsAreNeverFull }
 {}
 
 /// What a dispenser that comes back is told are changes of its point.

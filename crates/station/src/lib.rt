@@ -24,8 +24,8 @@ mod station;
 pub use laws::{
     each_peer_is_told_its_story, ends_leave_their_till, peers_leave_their_till,
     requests_are_asked_in_order, rows_are_one_history, standing_notices_are_changes,
-    standing_notices_tell_what_was_missed, tills_have_sessions,
+    standing_notices_tell_what_was_missed, stations_are_never_full, tills_have_sessions,
 };
 pub use peer_end::PeerEnd;
-pub use sizes::{NOTICE_LIMIT, PEERS, READ_LIMIT};
+pub use sizes::{HEARD_OCTETS, NOTICE_LIMIT, PEERS, PIECE_ROWS, READ_LIMIT};
 pub use station::Station;

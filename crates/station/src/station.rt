@@ -1,8 +1,10 @@
 //! The station: a book and its peers.
 
-ghost use Rattle.std.specs.Prelude.{◌≡◌, ◌<◌, ℕ, [], length, IfNone, IfOk, IfSome, OnErr};
+ghost use Rattle.std.specs.Prelude.{◌≡◌, ◌<◌, ℕ, [], length, IfNone, IfOk, IfSome, OnErr, OnOk};
 ghost use Rattle.std.specs.Prelude.{◌≤◌, None, IsSome};
-ghost use Rattle.station.specs.Moves.{with_end, with_octets, with_taken, without_peer};
+ghost use Rattle.site_book.specs.Unpaid.{GoesBy};
+ghost use Rattle.station.specs.Moves.{with_end, with_octets, with_taken, without_old_rows};
+ghost use Rattle.station.specs.Moves.{without_peer};
 ghost use Rattle.station.specs.Peers.{peer_at};
 ghost use Rattle.station.specs.Reads.{Arrives, IsNextOwed, NoneIsOwed, end_at, is_read_at};
 ghost use Rattle.station.specs.Reads.{node_at, owed_at};
@@ -17,7 +19,7 @@ use crate::sizes::PEERS;
 use crate::slots::{find_peer, free_key, next_owed, put_peer, take_peer};
 use app_message::Messages;
 use site_base::NoMemory;
-use site_book::SiteBook;
+use site_book::{SiteBook, UnpaidSales};
 use std::alloc::Global;
 use std::marker::Model;
 
@@ -68,6 +70,16 @@ impl Station {
         ensures keys { (k : ℕ) → PEERS ≤ k → peer_at self.now.peers k ≡ None }
     {
         &self.book
+    }
+
+    /// The rows in memory are forgotten, once what is unpaid among them is read: the book isn't
+    /// full any more, and its site goes on. After `NoMemory` none is forgotten.
+    pub fn forget_rows(&mut self, unpaid: &mut UnpaidSales) -> Result<(), NoMemory>
+        ensures forgets { OnOk result (self.new ≡ without_old_rows self.old) }
+        ensures err { OnErr result (self.new ≡ self.old) }
+        ensures unpaid { GoesBy unpaid.old self.old.book → GoesBy unpaid.new self.new.book }
+    {
+        unpaid.forget_rows(self.alloc, &mut self.book)
     }
 
     /// A peer arrives, and gets a key that no other has; None where 1,024 peers are there. Nothing

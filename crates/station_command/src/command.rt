@@ -7,13 +7,14 @@ ghost use Rattle.journal.specs.Opening.{HasNobodyOn};
 
 use crate::input_watch::InputWatch;
 use crate::journals::open_station;
+use crate::station_site::read_station_site;
 use command_line::StationOptions;
 use day_base::{DayFault, ReportForm, StationPlan, exit_day};
 use devices::{Counted, WriteFault};
 use journal::Opened;
 use journal_files::JournalFile;
 use peer_connections::Connections;
-use program_io::{COMMAND_LINE, TURNS, exit_with, read_site_file};
+use program_io::{COMMAND_LINE, TURNS, exit_with};
 use station_days::{station_day, to_day_fault};
 use station_server::{ServerFault, StationServer};
 use std::fs::File;
@@ -51,7 +52,7 @@ pub fn run_station<R: StationHost, T: Threads + Wait + Sync, I: Read + Send + Dr
         Ok(plan) => plan,
         Err(fault) => return exit_with(eprintln!(rt; "error: {fault}"), COMMAND_LINE),
     };
-    let (config, site_file) = match read_site_file(rt, options.site) {
+    let (config, site_file) = match read_station_site(rt, options.site) {
         Ok(site) => site,
         Err(status) => return status,
     };

@@ -8,5 +8,6 @@
 mod command;
 mod input_watch;
 mod journals;
+mod station_site;
 
 pub use command::{StationHost, run_station};

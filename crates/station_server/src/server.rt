@@ -1,7 +1,6 @@
 //! The server: it waits until connections are ready, round after round.
 
 ghost use Rattle.std.specs.Prelude.{◌≡◌, OnOk, true};
-ghost use Rattle.site_book.specs.Unpaid.{GoesBy};
 ghost use Rattle.station.specs.Reads.{HasNoPeer};
 ghost use Rattle.journal.specs.Stored.{is_all_stored};
 ghost use Rattle.peer_connections.specs.Reaches.{Reaches};
@@ -15,7 +14,6 @@ use mio::net::TcpListener;
 use mio::{Events, Interest, Poll, Token, Waker};
 use page_connections::Pages;
 use peer_connections::Connections;
-use site_book::UnpaidSales;
 use station::PEERS;
 use std::alloc::Global;
 use std::hash::RandomState;
@@ -141,25 +139,22 @@ impl StationServer {
         ensures left { HasNoPeer connections.new.stored.station }
         ensures stored { OnOk result (is_all_stored connections.new.stored ≡ true) }
     {
-        let mut unpaid = UnpaidSales::new(self.alloc);
-        let served = self.serve_rounds(threads, rt, connections, &mut unpaid, idle);
+        let served = self.serve_rounds(threads, rt, connections, idle);
         let ended = connections.end_all(self.time);
         served?;
         ended?;
         Ok(())
     }
 
-    /// Serves connections until the day's end. The page tells of the sales that are kept as unpaid.
+    /// Serves connections until the day's end.
     #[tactic(auto, using(crate::proofs::Rounds::moved))]
     fn serve_rounds<T: Wait, R: Clock + Eprint, D: Disk>(
         &mut self,
         threads: &T,
         rt: &R,
         connections: &mut Connections<D>,
-        unpaid: &mut UnpaidSales,
         idle: Option<u64>,
     ) -> Result<(), ServerFault>
-        requires { GoesBy unpaid.old connections.old.stored.station.book }
         ensures { Reaches connections.old.stored.station connections.new.stored.station }
     {
         for _ in threads.forever() {
@@ -170,7 +165,7 @@ impl StationServer {
                 return Ok(());
             }
             self.send_all(rt, connections, idle)?;
-            self.serve_page(connections, unpaid);
+            self.serve_page(connections);
             if self.callers == Callers::Waiting {
                 self.accept_all(rt, connections);
             }
@@ -223,21 +218,27 @@ impl StationServer {
 
     /// The connections of the page that are ready have their turn. Each row is stored: so it tells
     /// of no other.
-    fn serve_page<D: Disk>(&mut self, connections: &Connections<D>, unpaid: &mut UnpaidSales)
-        requires { is_all_stored connections.now.stored ≡ true }
-        ensures { GoesBy unpaid.old connections.now.stored.station.book
-            → GoesBy unpaid.new connections.now.stored.station.book }
+    fn serve_page<D: Disk>(&mut self, connections: &mut Connections<D>)
+        requires { is_all_stored connections.old.stored ≡ true }
+        ensures { connections.new.stored.station ≡ connections.old.stored.station }
     {
-        if let Some(pages) = &mut self.pages {
-            let count = connections.count();
-            pages.serve(
-                self.poll.registry(),
-                connections.book(),
-                unpaid,
-                count,
-                self.time,
-            );
+        let Some(pages) = &mut self.pages else {
+            return;
+        };
+        let registry = self.poll.registry();
+        if pages.accept_waiting(registry, self.time) {
+            match connections.read_unpaid() {
+                Ok(()) => pages.answer_due(
+                    registry,
+                    connections.book(),
+                    connections.unpaid(),
+                    connections.count(),
+                    self.time,
+                ),
+                Err(_) => pages.close_due(),
+            }
         }
+        pages.close_late(self.time);
     }
 
     /// How long it waits for the next round: as long as it takes, or until the next sweep.

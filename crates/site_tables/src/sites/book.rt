@@ -1,5 +1,7 @@
 //! The book of a table.
 
+ghost use Rattle.std.specs.Prelude.{◌≡◌, true};
+
 use anyhow::{bail, ensure};
 use site_base::{Actor, Event, NoMemory, NoRow, Placed, Reply, Row, SiteConfig, TillNo, Totals};
 use site_book::SiteBook;
@@ -108,6 +110,7 @@ pub fn print_changes(
     book: &SiteBook,
     place: u64,
 ) -> anyhow::Result<()> {
+    ensure!(has_all_rows(book), "rows are forgotten");
     let changes = book.changes_since(alloc, place)?;
     for row in &changes {
         println!(rt; "change {row}")?;
@@ -116,8 +119,16 @@ pub fn print_changes(
     Ok(())
 }
 
+/// Has the book forgotten no row?
+fn has_all_rows(book: &SiteBook) -> bool
+    ensures { result ≡ true → book.now.forgotten ≡ 0 }
+{
+    book.rows_in_memory() as u64 == book.len()
+}
+
 /// The figures that the book keeps, which have to be those of its audit.
 pub fn audit(alloc: Global, book: &SiteBook) -> anyhow::Result<Totals> {
+    ensure!(has_all_rows(book), "rows are forgotten");
     let totals = book.totals(alloc)?;
     let audit = &book.audit(alloc)?;
     ensure!(

@@ -3,7 +3,7 @@ use Rattle.std.proofs.lemmas.List.{length-map}
 use Rattle.site_base.specs.declared.row.Row.{Row}
 use Rattle.site_base.specs.Events.{cents_in_reply, growth_in_reply}
 use Rattle.written_site.specs.RowWords.{total}
-use Rattle.counter_desk.specs.KeptHistories.{book_of}
+use Rattle.site_book.specs.Book.{whole_book}
 use Rattle.counter_desk.specs.Marks.{AreAllMarked}
 use Rattle.counter_desk.specs.Receipts.{ReceiptList, cents_receipted, growth_receipted}
 use Rattle.counter_desk.specs.Roots.{lists_of}
@@ -26,8 +26,8 @@ returns-clause-ok g c =
     let grown = millilitres ∙ adds_up (λ (r : Row). growth_in_reply r.reply) rows marks lists all
     as_long c.requires in
     let config = g.C.Naming.config in
-    let sound = c.kept_histories_are_sound.ensures config (book_of config rows) (length rows)
-    (record { of = refl; legal = c.len-rows.ensures.legal; counted = refl }) in
+    let sound = c.kept_histories_are_sound.ensures config (whole_book config rows) (length rows)
+    (record { of = refl; whole = refl; legal = c.len-rows.ensures.legal; counted = refl }) in
     record {
       sound = sound;
       dealt = dealt rows marks lists all as_long c.requires;

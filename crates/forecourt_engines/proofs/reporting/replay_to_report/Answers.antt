@@ -22,8 +22,11 @@ put_report-requires g c =
     let begins : c.new-engine.result ≡ opening_state c.args.config.now =
     c.new-engine.ensures
     ∙ ap (λ (b : Book). start (record { book = b; changes = false })) c.in_ok-book.ensures in
-    ap (λ (b : Book). b.config) c.into_book-book.ensures
-    ∙ config_there _ _ _ _ _ _ _ begins c.in-Ok.ensures.told
+    let there = config_there _ _ _ _ _ _ _ begins c.in-Ok.ensures.told in
+    record {
+      config = ap (λ (b : Book). b.config) c.into_book-book.ensures ∙ there.0;
+      whole = ap (λ (b : Book). b.forgotten) c.into_book-book.ensures ∙ there.1;
+    }
 
 pub returns-in-Ok-clause-told : goal.returns-in-Ok-clause-told
 returns-in-Ok-clause-told g c =

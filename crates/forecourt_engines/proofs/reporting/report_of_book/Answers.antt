@@ -5,4 +5,4 @@ use Rattle.forecourt_engines.proofs.reporting.report_of_book.Goals as goal
 pub report_as_text-requires : goal.report_as_text-requires
 report_as_text-requires c =
     c.in_ok-totals.ensures.products
-    ∙ ap (λ (config : Configured). length config.products) c.requires
+    ∙ ap (λ (config : Configured). length config.products) c.requires.config

@@ -1,16 +1,45 @@
-use Rattle.std.proofs.Common.{◌∙◌, ℕ, Option, ap, drop, subst, sym}
+use Rattle.std.proofs.Common.{◌∙◌, ℕ, Option, ap, arith, subst, sym}
 use Rattle.journal.specs.Disks.{DiskFile, Grows, Keeps, OfFiles}
 use Rattle.journal.specs.JournalText.{rows_text}
-use Rattle.journal.specs.Stored.{GrowsByLines, IsJournalOf, JournalState}
-use Rattle.journal.proofs.SigningOff.{journal_begun, resumes}
+use Rattle.journal.specs.Stored.{GrowsByLines, IsJournalOf, JournalState, kept_behind}
+use Rattle.journal.proofs.SigningOff.{behind_off, journal_begun, resumes, sent_off, unpaid_off}
 use Rattle.journal.proofs.opening.resume.Goals as goal
 
 pub store-requires-clause-journal : goal.store-requires-clause-journal
 store-requires-clause-journal g c =
     subst (IsJournalOf c.sign_off_all.new.book.rows) (sym c.new-journal.ensures)
     (journal_begun c.args.recovered.header.items c.args.recovered.book c.sign_off_all.new.book
-    (g.D.Disk.file c.args.disk) c.len-rows.result c.requires.settled c.requires.spelled
-    c.len-rows.ensures.rows c.sign_off_all.ensures.rows)
+    (g.D.Disk.file c.args.disk) c.len-rows.result c.requires.settled c.requires.kept
+    c.requires.spelled c.len-rows.ensures.rows c.sign_off_all.ensures.rows)
+
+pub store-requires-clause-sent : goal.store-requires-clause-sent
+store-requires-clause-sent g c =
+    sent_off c.args.recovered.book c.sign_off_all.new.book c.sign_off_all.ensures.rows
+    c.requires.sent
+
+pub store-requires-clause-memory : goal.store-requires-clause-memory
+store-requires-clause-memory g c =
+    let few = behind_off c.args.recovered.book c.sign_off_all.new.book c.sign_off_all.ensures.rows
+    c.len-rows.ensures.forgotten in
+    let stored = ap (λ (j : JournalState). j.stored) c.new-journal.ensures in
+    omega (arith, few, stored, c.len-rows.ensures.rows)
+
+pub with_journal-requires-clause-unpaid : goal.with_journal-requires-clause-unpaid
+with_journal-requires-clause-unpaid g c =
+    unpaid_off c.args.recovered.unpaid c.args.recovered.book c.sign_off_all.new.book
+    c.sign_off_all.ensures.rows c.requires.unpaid
+
+pub with_journal-requires-clause-sent : goal.with_journal-requires-clause-sent
+with_journal-requires-clause-sent g c =
+    sent_off c.args.recovered.book c.sign_off_all.new.book c.sign_off_all.ensures.rows
+    c.requires.sent
+
+pub with_journal-requires-clause-behind : goal.with_journal-requires-clause-behind
+with_journal-requires-clause-behind g c =
+    let few = behind_off c.args.recovered.book c.sign_off_all.new.book c.sign_off_all.ensures.rows
+    c.len-rows.ensures.forgotten in
+    let stored = ap (λ (j : JournalState). j.stored) c.new-journal.ensures in
+    omega (arith, few, stored, c.len-rows.ensures.rows, c.store.ensures.none_lost)
 
 pub returns-in-Ok-clause-resumed : goal.returns-in-Ok-clause-resumed
 returns-in-Ok-clause-resumed g c =
@@ -20,10 +49,11 @@ returns-in-Ok-clause-resumed g c =
     let written = subst (λ (j : JournalState). GrowsByLines rows j c.store.new.self)
     c.new-journal.ensures c.in-Ok.ensures.lines in
     resumes c.args.recovered.header.items c.args.recovered.book c.sign_off_all.new.book
+    c.args.recovered.unpaid
     (g.D.Disk.file c.args.disk) c.store.new.self c.with_journal.result c.with_journal.ensures
     c.sign_off_all.ensures.rows c.sign_off_all.ensures.off c.in-Ok.ensures.stored
     (c.store.ensures.header ∙ ap (λ (j : JournalState). j.header) c.new-journal.ensures)
     (subst (λ (n : ℕ).
-    OfFiles (Grows (rows_text (drop n rows))) (g.D.Disk.file c.args.disk) file)
+    OfFiles (Grows (rows_text (kept_behind n rows))) (g.D.Disk.file c.args.disk) file)
     c.len-rows.ensures.rows written)
     (subst (λ (f : Option DiskFile). OfFiles Keeps f file) was c.store.ensures.moments)

@@ -3,10 +3,7 @@ use Rattle.site_base.specs.declared.limits.TheConstants.{TILLS}
 use Rattle.written_site.specs.SiteState.{is_signed_on}
 use Rattle.site_book.specs.Book.{Book, site_of_book}
 use Rattle.station.specs.Sessions.{without_till}
-use Rattle.journal.specs.History.{IsMadeAgain}
 use Rattle.journal.specs.Opening.{tills_off}
-use Rattle.journal.proofs.Made.{made_with}
-use Rattle.journal.proofs.Moves.{adds_leaving}
 use Rattle.journal.proofs.SigningOff.{nobody_on, one_more, one_more_off}
 use Rattle.journal.proofs.opening.sign_off_all.Goals as goal
 
@@ -15,7 +12,6 @@ loop-number-init c = record {
   least = omega arith;
   most = omega arith;
   rows = refl;
-  made = λ was. was;
   off = λ t least less. absurd (omega (arith, least, less));
 }
 
@@ -32,9 +28,6 @@ loop-number-preserved c =
       rows = left
           ∙ one_more number c.args.book.now book c.loop-number.invariant.rows
           c.loop-number.invariant.least;
-      made = λ was. subst IsMadeAgain (sym left)
-          (made_with book (without_till (Some number) book) (c.loop-number.invariant.made was)
-          (adds_leaving (Some number) book));
       off = λ t least less.
           subst (λ (b : Book). is_signed_on (site_of_book b) t ≡ false) (sym left)
           (one_more_off book number c.loop-number.invariant.off t least less);

@@ -13,18 +13,18 @@ returns-then-begins_with-clause-unended c = record {
 }
 
 pub returns-in_default-clause-refused : goal.returns-in_default-clause-refused
-returns-in_default-clause-refused c = λ of_text config.
-    nothing_begun c.args.header.now c.args.octets.now config
+returns-in_default-clause-refused c = λ of_text.
+    nothing_begun c.args.header.now c.args.octets.now
     (absent 10 c.args.octets.now c.in_default.ensures)
     (c.begins_with.ensures.no c.if-begins_with.false)
 
 pub returns-in_default-clause-named : goal.returns-in_default-clause-named
-returns-in_default-clause-named c = λ config. inl (
+returns-in_default-clause-named c = inl (
   refl,
   inl (record {
     none_ends = none_ends [] c.args.octets.now (absent 10 c.args.octets.now c.in_default.ensures);
     other =
-        (nothing_begun c.args.header.now c.args.octets.now config
+        (nothing_begun c.args.header.now c.args.octets.now
         (absent 10 c.args.octets.now c.in_default.ensures)
         (c.begins_with.ensures.no c.if-begins_with.false)).unbegun;
   }),
@@ -44,18 +44,18 @@ returns-then-is_same-clause-ends c =
     }
 
 pub returns-clause-refused : goal.returns-clause-refused
-returns-clause-refused c = λ of_text config.
+returns-clause-refused c = λ of_text.
     let octets = c.args.octets.now in
     let at = found 10 octets c.in-Some.end c.in-Some.ensures in
     another_line c.args.header.now octets (take c.in-Some.end octets)
-    (drop (suc c.in-Some.end) octets) config at.parts at.before
+    (drop (suc c.in-Some.end) octets) at.parts at.before
     (λ is. c.is_same.ensures.no c.if-is_same.false (c.split_at.ensures.front ∙ is))
 
 pub returns-clause-named : goal.returns-clause-named
-returns-clause-named c = λ config.
+returns-clause-named c =
     let octets = c.args.octets.now in
     let at = found 10 octets c.in-Some.end c.in-Some.ensures in
     another_named c.args.header.now octets (take c.in-Some.end octets)
-    (drop (suc c.in-Some.end) octets) config _ at.parts at.before
+    (drop (suc c.in-Some.end) octets) _ at.parts at.before
     (λ is. c.is_same.ensures.no c.if-is_same.false (c.split_at.ensures.front ∙ is))
     (rw (← c.split_at.ensures.front) c.refuse_first.ensures)

@@ -1,15 +1,9 @@
-use Rattle.std.proofs.Common.{◌≡◌, ◌∙◌, ◌-◌, Bool, ℕ, List, Some, None, ap, arith, drop, length}
-use Rattle.std.proofs.Common.{subst}
+use Rattle.std.proofs.Common.{◌≡◌, ◌∙◌, ◌-◌, ℕ, List, Some, None, ap, arith, drop, length}
 use Rattle.std.proofs.Common.{◌+◌, inr, refl, suc, sym, take}
 use Rattle.std.proofs.lemmas.List.{length-drop, take_all}
 use Rattle.hex_lines.proofs.Bytes.{absent, behind_byte, found}
-use Rattle.site_book.specs.Book.{Book}
-use Rattle.journal.specs.Faults.{made_of}
-use Rattle.journal.specs.History.{made_again}
 use Rattle.journal.specs.JournalLines.{request_in}
-use Rattle.journal.specs.Readings.{IsMade}
-use Rattle.journal.proofs.Readings.{begins_reading, no_request, no_row, reads_all, reads_line}
-use Rattle.journal.proofs.Readings.{row_again, wrong_row}
+use Rattle.journal.proofs.Readings.{begins_reading, no_request, reads_all, reads_line, wrong_row}
 use Rattle.journal.proofs.reading.read_rows.Goals as goal
 
 -- what stands from a place on
@@ -23,6 +17,7 @@ loop-end-init c =
       reads = begins_reading c.args.first octets c.args.book c.requires.first c.requires.rows;
       few = omega (arith, c.requires.first.within, length-drop (c.args.first + 1) octets);
       same = refl;
+      unpaid = c.new-unpaid.ensures c.args.book c.requires.whole;
     })
 
 pub loop-end-preserved : goal.loop-end-preserved
@@ -35,32 +30,28 @@ loop-end-preserved c =
     let event = c.in-Some-2.event in
     let asked : request_in (take c.in-Some.end rest) ≡ Some (actor, event) =
     ap request_in (sym c.split_at.ensures.front) ∙ sym c.in_ok-actor.ensures ∙ c.in-Some-2.is in
-    let made = subst (λ (is : Bool).
-    IsMade is (made_again c.loop-end.book actor event) c.loop-end.book c.make_again.new.book)
-    c.if-not-branch.false c.in_ok-make_again.ensures in
     rw (c.split_at.ensures.back, others) (record {
       reads = reads_line (take c.args.first octets) octets rest (take c.in-Some.end rest)
-          (drop (suc c.in-Some.end) rest) c.loop-end.book c.make_again.new.book actor event
-          c.loop-end.number c.loop-end.invariant.reads at.parts at.before asked made;
+          (drop (suc c.in-Some.end) rest) c.loop-end.book c.add_row.new.book actor event
+          c.loop-end.number c.loop-end.invariant.reads at.parts at.before asked
+          c.add_row.ensures.config c.in_ok-add_row.ensures.row;
       few = omega
           (arith, c.loop-end.invariant.few, at.within, length-drop (suc c.in-Some.end) rest);
-      same =
-          ap (λ (b : Book). b.config)
-          (row_again c.loop-end.book c.make_again.new.book actor event made)
-          ∙ c.loop-end.invariant.same;
+      same = c.add_row.ensures.config ∙ c.loop-end.invariant.same;
+      unpaid = c.add_row.ensures.unpaid;
     })
 
--- a line that is no request
+-- a line that is no request whose row is kept
 pub returns-in_default-2-clause-refused : goal.returns-in_default-2-clause-refused
-returns-in_default-2-clause-refused c = λ of_text b same told.
+returns-in_default-2-clause-refused c = λ of_text events told.
     let octets = c.args.octets.now in
     let rest = c.loop-end.rest.now in
     let at = found 10 rest c.in-Some.end c.in-Some.ensures in
     let none : request_in (take c.in-Some.end rest) ≡ None =
     ap request_in (sym c.split_at.ensures.front) ∙ sym c.in_ok-actor.ensures ∙ c.in_default-2.is in
     no_request (take c.args.first octets) octets rest (take c.in-Some.end rest)
-    (drop (suc c.in-Some.end) rest) c.loop-end.book b c.loop-end.number c.loop-end.invariant.reads
-    at.parts at.before none told
+    (drop (suc c.in-Some.end) rest) c.loop-end.book c.loop-end.number events
+    c.loop-end.invariant.reads at.parts at.before none told
 
 pub returns-in_default-2-clause-named : goal.returns-in_default-2-clause-named
 returns-in_default-2-clause-named c =
@@ -70,44 +61,8 @@ returns-in_default-2-clause-named c =
     let none : request_in (take c.in-Some.end rest) ≡ None =
     ap request_in (sym c.split_at.ensures.front) ∙ sym c.in_ok-actor.ensures ∙ c.in_default-2.is in
     inr (wrong_row (take c.args.first octets) octets rest (take c.in-Some.end rest)
-    (drop (suc c.in-Some.end) rest) c.loop-end.book c.loop-end.number c.args.book.config
-    c.loop-end.invariant.reads at.parts at.before (ap (made_of c.loop-end.book) none)
-    c.loop-end.invariant.same)
-
--- one whose row no station makes
-pub returns-then-not-branch-clause-refused : goal.returns-then-not-branch-clause-refused
-returns-then-not-branch-clause-refused c = λ of_text b same told.
-    let octets = c.args.octets.now in
-    let rest = c.loop-end.rest.now in
-    let at = found 10 rest c.in-Some.end c.in-Some.ensures in
-    let actor = c.in-Some-2.actor in
-    let event = c.in-Some-2.event in
-    let asked : request_in (take c.in-Some.end rest) ≡ Some (actor, event) =
-    ap request_in (sym c.split_at.ensures.front) ∙ sym c.in_ok-actor.ensures ∙ c.in-Some-2.is in
-    let made = subst (λ (is : Bool).
-    IsMade is (made_again c.loop-end.book actor event) c.loop-end.book c.make_again.new.book)
-    c.if-not-branch.true c.in_ok-make_again.ensures in
-    no_row (take c.args.first octets) octets rest (take c.in-Some.end rest)
-    (drop (suc c.in-Some.end) rest) c.loop-end.book b actor event c.loop-end.number
-    c.loop-end.invariant.reads at.parts at.before asked made.0
-    (same ∙ sym c.loop-end.invariant.same) told
-
-pub returns-then-not-branch-clause-named : goal.returns-then-not-branch-clause-named
-returns-then-not-branch-clause-named c =
-    let octets = c.args.octets.now in
-    let rest = c.loop-end.rest.now in
-    let at = found 10 rest c.in-Some.end c.in-Some.ensures in
-    let actor = c.in-Some-2.actor in
-    let event = c.in-Some-2.event in
-    let asked : request_in (take c.in-Some.end rest) ≡ Some (actor, event) =
-    ap request_in (sym c.split_at.ensures.front) ∙ sym c.in_ok-actor.ensures ∙ c.in-Some-2.is in
-    let made = subst (λ (is : Bool).
-    IsMade is (made_again c.loop-end.book actor event) c.loop-end.book c.make_again.new.book)
-    c.if-not-branch.true c.in_ok-make_again.ensures in
-    inr (wrong_row (take c.args.first octets) octets rest (take c.in-Some.end rest)
-    (drop (suc c.in-Some.end) rest) c.loop-end.book c.loop-end.number c.args.book.config
-    c.loop-end.invariant.reads at.parts at.before (ap (made_of c.loop-end.book) asked ∙ made.0)
-    c.loop-end.invariant.same)
+    (drop (suc c.in-Some.end) rest) c.loop-end.book c.loop-end.number
+    c.loop-end.invariant.reads at.parts at.before none)
 
 pub returns-clause-read : goal.returns-clause-read
 returns-clause-read c =

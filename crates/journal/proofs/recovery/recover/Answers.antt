@@ -4,31 +4,35 @@ use Rattle.journal.specs.Faults.{NamesIn}
 use Rattle.journal.specs.Recovering.{IsReadIn, TellsNothingIn}
 use Rattle.hex_lines.specs.Lines.{IsLine}
 use Rattle.journal.proofs.Octets.{header_plain}
-use Rattle.journal.proofs.Recovering.{holds_read_in, lines_stay_in, names_in, read_in, read_made}
+use Rattle.journal.proofs.Recovering.{holds_read_in, lines_stay_in, names_in, read_in, read_kept}
+use Rattle.journal.proofs.Recovering.{read_sent}
 use Rattle.journal.proofs.Recovering.{renewed_file, renewed_then, tells_nothing_in}
 use Rattle.journal.proofs.Spelled.{read_spelled}
 use Rattle.journal.proofs.recovery.recover.Goals as goal
 
-pub returns-clause-made : goal.returns-clause-made
-returns-clause-made g c = read_made _ _ _ _ c.in-Ok-read_back.ensures.read
+pub returns-clause-sent : goal.returns-clause-sent
+returns-clause-sent g c = read_sent _ _ _ _ c.in-Ok-read_back.ensures.read
+
+pub returns-clause-kept : goal.returns-clause-kept
+returns-clause-kept g c = read_kept _ _ _ _ c.in-Ok-read_back.ensures.read
 
 pub returns-in-Err-clause-refused : goal.returns-in-Err-clause-refused
 returns-in-Err-clause-refused g c = λ of_text.
     let nothing =
     rw (c.deref.ensures.value, c.deref-2.ensures.value) at c.in-Err.ensures.refused in
     subst (λ (h : List ℕ).
-    OfFile (TellsNothingIn h c.args.config.now) (g.D.Disk.file c.args.disk.now))
+    OfFile (TellsNothingIn h) (g.D.Disk.file c.args.disk.now))
     c.in_ok-header.ensures
-    (tells_nothing_in c.in_ok-header.header.items c.in-Ok.octets.items c.args.config.now
+    (tells_nothing_in c.in_ok-header.header.items c.in-Ok.octets.items
     (g.D.Disk.file c.args.disk.now) c.in-Ok.ensures.octets (nothing of_text))
 
 pub returns-in-Err-clause-named : goal.returns-in-Err-clause-named
 returns-in-Err-clause-named g c = λ of_text.
     let named = rw (c.deref.ensures.value, c.deref-2.ensures.value) at c.in-Err.ensures.named in
     subst (λ (h : List ℕ).
-    OfFile (NamesIn h c.args.config.now c.in-Err.fault) (g.D.Disk.file c.args.disk.now))
+    OfFile (NamesIn h c.in-Err.fault) (g.D.Disk.file c.args.disk.now))
     c.in_ok-header.ensures
-    (names_in c.in_ok-header.header.items c.in-Ok.octets.items c.args.config.now c.in-Err.fault
+    (names_in c.in_ok-header.header.items c.in-Ok.octets.items c.in-Err.fault
     (g.D.Disk.file c.args.disk.now) c.in-Ok.ensures.octets named)
 
 pub returns-clause-spelled : goal.returns-clause-spelled

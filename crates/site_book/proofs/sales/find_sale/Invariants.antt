@@ -4,7 +4,7 @@ use Rattle.site_book.proofs.sales.find_sale.Given as goal
 
 abbrev pub invariant-loop-at : goal.invariant-loop-at
 invariant-loop-at l = record {
-  read : IsReadTo l.at l.shift l.book.rows;
+  read : IsReadTo l.at l.shift l.book;
   none : sales_from l.place l.book ≡ sales_from l.at l.book;
   end : l.at-end ≡ length l.book.rows;
 }

@@ -1,6 +1,6 @@
-use Rattle.std.proofs.Common.{subst, sym}
+use Rattle.std.proofs.Common.{◌≡◌, subst, sym}
 use Rattle.station.specs.Moves.{StationState}
-use Rattle.station.specs.Runs.{Leaves}
+use Rattle.station.specs.Runs.{Forgets, Leaves}
 use Rattle.journal.proofs.Made.{Adds, stored_with}
 use Rattle.journal.proofs.Moves.{move_adds}
 use Rattle.journal.proofs.stored_station.StoredStation.leave.Goals as goal
@@ -8,7 +8,10 @@ use Rattle.journal.proofs.stored_station.StoredStation.leave.Goals as goal
 pub invariant_of-self : goal.invariant_of-self
 invariant_of-self g c =
     let station = c.self.inside.station in
-    stored_with (record { station = station; journal = c.self.inside.journal }) c.leave.new.self
+    stored_with
+    (record { station = station; unpaid = c.self.inside.unpaid; journal = c.self.inside.journal })
+    c.leave.new.self
     c.self.invariant
     (subst (λ (t : StationState). Adds station.book t.book) (sym c.leave.ensures)
-    (move_adds (Leaves c.args.key) station))
+    (move_adds (Leaves c.args.key) station
+    (λ is. absurd (let no : Leaves c.args.key ≡ Forgets = is in cc))))

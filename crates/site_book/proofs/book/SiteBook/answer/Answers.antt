@@ -9,8 +9,9 @@ use Rattle.site_base.specs.declared.limits.TheConstants.{TILLS}
 use Rattle.site_base.specs.SignChanges.{sign_change}
 use Rattle.written_site.specs.SiteStep.{reply_to}
 use Rattle.site_book.specs.Book.{IsBook, book_reply}
+use Rattle.site_book.specs.RowLists.{rows_forgotten}
 use Rattle.site_book.specs.SignedOn.{tills_on}
-use Rattle.site_book.proofs.Books.{IsBook-push, tills_with-most}
+use Rattle.site_book.proofs.Books.{IsBook-push, kept_fits, tills_with-most}
 use Rattle.written_site.proofs.Growths.{growth_fits}
 use Rattle.site_book.proofs.SignedTills.{no_more}
 use Rattle.site_book.proofs.book.SiteBook.answer.Goals as goal
@@ -24,14 +25,21 @@ tills_with-self-inside-requires c =
 pub invariant_of-self-2 : goal.invariant_of-self-2
 invariant_of-self-2 c =
     let on : ℕ = c.self.inside.on in
-    let book : IsBook c.self.inside.config c.reserve.new.self.rows c.prepare.new.self.site on
-    c.self.inside.rows.room =
+    let earlier = rows_forgotten c.self.inside.earlier.items in
+    let book : IsBook c.self.inside.config earlier c.reserve.new.self.rows c.prepare.new.self.site
+    on c.self.inside.rows.room c.self.inside.forgotten c.self.inside.kept =
     rw (c.in_ok-reserve.ensures.rows, c.in_ok-prepare.ensures.site) c.self.invariant in
     let row : Row = c.add_row.new.row in
-    rw (c.add_row.ensures.rows, c.tills_with-self-inside.ensures, c.sign_change.ensures)
+    rw (
+      c.add_row.ensures.rows,
+      c.tills_with-self-inside.ensures,
+      c.sign_change.ensures,
+      c.kept_with-self-inside.ensures,
+    )
     (
-    IsBook-push c.self.inside.config c.reserve.new.self.rows c.prepare.new.self.site
-    c.add_row.new.site.site on c.self.inside.rows.room c.add_row.new.rows.room row
+    IsBook-push c.self.inside.config earlier c.reserve.new.self.rows c.prepare.new.self.site
+    c.add_row.new.site.site on c.self.inside.rows.room c.add_row.new.rows.room
+    c.self.inside.forgotten c.self.inside.kept row
     book c.add_row.ensures.step c.add_row.ensures.range
     c.add_row.ensures.till
     (omega (
@@ -65,3 +73,10 @@ pub returns-clause-growth : goal.returns-clause-growth
 returns-clause-growth c =
     rw c.add_row.ensures.step.replies
     (growth_fits c.prepare.new.self.site c.add_row.new.row.actor c.add_row.new.row.event)
+
+pub kept_with-self-inside-requires : goal.kept_with-self-inside-requires
+kept_with-self-inside-requires c =
+    let inside = c.self.inside in
+    let fits = kept_fits inside.config (rows_forgotten inside.earlier.items) inside.rows.rows
+    inside.site.site inside.on inside.rows.room inside.forgotten inside.kept c.self.invariant in
+    omega (arith, fits, c.self.invariant.lasts, c.rows.ensures.value, c.rows.ensures.range)

@@ -1,9 +1,5 @@
-use Rattle.site_book.specs.Unpaid.{GoesBy}
 use Rattle.peer_connections.specs.Reaches.{Reaches}
 use Rattle.station_server.proofs.server.StationServer.serve_rounds.Given as goal
 
 abbrev pub invariant-loop : goal.invariant-loop
-invariant-loop g l = record {
-  reached : Reaches l.fn.connections.stored.station l.connections.stored.station;
-  kept : GoesBy l.unpaid l.connections.stored.station.book;
-}
+invariant-loop g l = Reaches l.fn.connections.stored.station l.connections.stored.station

@@ -1,0 +1,27 @@
+//! How many rows stay in memory.
+
+ghost use Rattle.std.specs.Prelude.{◌≡◌};
+ghost use Rattle.journal.specs.Memory.{most_in_memory};
+
+use site_base::SiteConfig;
+use station::PIECE_ROWS;
+
+/// So many rows are in memory at most before those of one read more, where the site file allows
+/// them: 4 MiB.
+pub const ROWS_IN_MEMORY: usize = 65_536;
+
+/// A site file allows a station's book so many rows at least.
+pub const LEAST_ROWS: usize = 1_024;
+
+/// With so many rows in memory, or more, the next read of a peer may fill the book: they are
+/// forgotten first.
+pub(crate) fn most_in_memory(config: &SiteConfig) -> usize
+    ensures { result ≡ most_in_memory config.now.rows }
+{
+    let room = (config.rows() as usize).saturating_sub(PIECE_ROWS) + 1;
+    if room < ROWS_IN_MEMORY {
+        room
+    } else {
+        ROWS_IN_MEMORY
+    }
+}
