@@ -19,6 +19,7 @@ use Rattle.written_site.proofs.Histories.{IsLegal-push}
 use Rattle.site_book.specs.Book.{Book, next_row, with_row_of}
 use Rattle.site_book.proofs.Growing.{goes_on}
 use Rattle.station.specs.Moves.{StationState}
+use Rattle.journal.specs.declared.memory.TheConstants.{LEAST_ROWS}
 use Rattle.journal.specs.Disks.{OfFile}
 use Rattle.journal.specs.History.{IsHistory, IsMadeOf, rows_asked}
 use Rattle.journal.specs.JournalText.{CanBeSpelled, IsSent}
@@ -168,4 +169,5 @@ stored_with s new is adds = record {
   journal = subst (λ (rows : List Row). IfSome s.journal (IsJournalOf rows)) (sym adds.rows)
       (journals_stay s.station.book.rows adds.later s.journal is.journal);
   behind = behind_stays s.station.book.forgotten new.book.forgotten s.journal adds.memory is.behind;
+  enough = subst (λ (c : Configured). LEAST_ROWS ≤ c.rows) (sym adds.same) is.enough;
 }

@@ -147,6 +147,12 @@ behind_off recovered b off few =
     let adds = subst (Adds recovered) (sym off) (off_adds TILLS recovered) in
     omega (arith, adds.memory, few)
 
+-- .. and is allowed as many
+pub allowed_off : (recovered b : Book) → b ≡ all_off recovered → b.config ≡ recovered.config
+allowed_off recovered b off =
+    let adds = subst (Adds recovered) (sym off) (off_adds TILLS recovered) in
+    adds.same
+
 -- a station that begins with it, each row of which is stored
 pub resumes : (header : List ℕ) (recovered b : Book) (unpaid : Kept) (file : Option DiskFile)
     (j : JournalState)

@@ -2,9 +2,9 @@
 use Rattle.std.specs.Prelude.{◌≡◌, ◌≤◌, ◌⊎◌, ◌+◌, ◌-◌, ◌^◌, ℕ, length, nat_lt, if◌then◌else◌}
 use Rattle.site_book.specs.Book.{Book}
 use Rattle.station.specs.declared.sizes.TheConstants.{PIECE_ROWS}
-use Rattle.station.specs.Adding.{HasRoomFor}
+use Rattle.station.specs.Room.{HasRoomFor}
 use Rattle.station.specs.Moves.{StationState, without_old_rows}
-use Rattle.journal.specs.declared.memory.TheConstants.{LEAST_ROWS, ROWS_IN_MEMORY}
+use Rattle.journal.specs.declared.memory.TheConstants.{ROWS_IN_MEMORY}
 
 -- of a configuration that allows so many rows: with so many in memory, or more, they are forgotten
 -- before a peer is read from
@@ -18,8 +18,6 @@ most_in_memory rows =
 abbrev pub IsSameOrForgets : StationState → StationState → Type 0
 IsSameOrForgets old new = (new ≡ old) ⊎ (new ≡ without_old_rows old)
 
--- the book has room for the rows of one read, where its configuration allows a station, and there
--- are no more rows than can be forgotten
-abbrev pub HasRoomToMake : Book → Type 0
-HasRoomToMake b = LEAST_ROWS ≤ b.config.rows → length b.rows ≤ 2 ^ 62
-    → HasRoomFor PIECE_ROWS b
+-- the book has room for the rows of one read, while there are no more rows than can be forgotten
+abbrev pub HasRoomToHear : Book → Type 0
+HasRoomToHear b = length b.rows ≤ 2 ^ 62 → HasRoomFor PIECE_ROWS b

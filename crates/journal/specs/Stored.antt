@@ -8,6 +8,7 @@ use Rattle.site_book.specs.Unpaid.{GoesBy, Kept}
 use Rattle.written_site.specs.SiteRun.{events_of}
 use Rattle.station.specs.Moves.{StationState}
 use Rattle.station.specs.Reads.{owed_at}
+use Rattle.journal.specs.declared.memory.TheConstants.{LEAST_ROWS}
 use Rattle.journal.specs.Disks.{BeginsWith, DiskFile, Grows, Keeps, OfFile, OfFiles}
 use Rattle.journal.specs.History.{IsHistory}
 use Rattle.journal.specs.JournalLines.{TellsWhole}
@@ -53,14 +54,15 @@ pub record IsJournalOf (rows : List Row) (j : JournalState) : Type 0 where
   pub holds : OfFile (HoldsRows j.header (kept_first j.stored rows) j.failed) j.file
 
 -- what a station with a journal always keeps: its rows are a legal history, each of them one that
--- its actor sends; what is kept of unpaid transactions goes by its book; and no row is forgotten
--- that the journal hasn't stored
+-- its actor sends; what is kept of unpaid transactions goes by its book; no row is forgotten that
+-- the journal hasn't stored; and its configuration allows so many rows as a station has to have
 pub record IsStored (s : StoredState) : Type 0 where
   pub legal : IsHistory s.station.book
   pub sent : AllByRecursion IsSent s.station.book.rows
   pub unpaid : GoesBy s.unpaid s.station.book
   pub journal : IfSome s.journal (IsJournalOf s.station.book.rows)
   pub behind : IfSome s.journal (λ j. s.station.book.forgotten ≤ j.stored)
+  pub enough : LEAST_ROWS ≤ s.station.book.config.rows
 
 abbrev pub has_stored : ℕ → Option JournalState → Bool
 has_stored count None = true
@@ -80,6 +82,12 @@ abbrev pub WritesLines : List Row → Option JournalState → Option JournalStat
 WritesLines rows None None = ⊤
 WritesLines rows (Some a) (Some b) = GrowsByLines rows a b
 WritesLines rows a b = ⊥
+
+-- where the rows that the journal hadn't stored are those of reads alone, nothing is done to its
+-- file
+abbrev pub LeavesReadsOut : List Row → Option JournalState → Option JournalState → Type 0
+LeavesReadsOut rows (Some a) (Some b) = kept_behind a.stored rows ≡ [] → b.file ≡ a.file
+LeavesReadsOut rows a b = ⊤
 
 -- each row is stored, where there is a journal
 abbrev pub is_all_stored : StoredState → Bool

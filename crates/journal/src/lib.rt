@@ -1,10 +1,10 @@
 //! The journal of a station: what was told is stored.
 //!
 //! A journal is one text file for one day: a line that names the site file, and then a line for
-//! each row, its request (`specs/JournalText.antt`). A `StoredStation` is a station with its
-//! journal. It hands out what a peer is owed only while each row is stored, so that no octet tells
-//! of a row that a crash could lose (`specs/Stored.antt`). `open_journal` makes the station again
-//! of a file that a crash may have left (`specs/Opening.antt`, `Faults.antt`).
+//! each row but those of reads, its request (`specs/JournalText.antt`). A `StoredStation` is a
+//! station with its journal. It hands out what a peer is owed only while each row is stored, so
+//! that no octet tells of a row that a crash could lose (`specs/Stored.antt`). `open_journal` makes
+//! the station again of a file that a crash may have left (`specs/Opening.antt`, `Faults.antt`).
 //!
 //! A `Disk` is what a journal lies on: `specs/Disks.antt` says what its calls do to its file, at
 //! each moment. The laws (`specs/Laws.antt`) say what is found again.

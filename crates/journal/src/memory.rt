@@ -7,10 +7,10 @@ use site_base::SiteConfig;
 use station::PIECE_ROWS;
 
 /// So many rows are in memory at most before those of one read more, where the site file allows
-/// them: 4 MiB.
+/// them: they take 4 MiB, and 7 MiB where each tells what was drawn of a product.
 pub const ROWS_IN_MEMORY: usize = 65_536;
 
-/// A site file allows a station's book so many rows at least.
+/// A site file allows a station's book so many rows at least: there is room for those of one read.
 pub const LEAST_ROWS: usize = 1_024;
 
 /// With so many rows in memory, or more, the next read of a peer may fill the book: they are

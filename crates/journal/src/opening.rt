@@ -1,8 +1,9 @@
 //! A station that goes on where its journal ended.
 
-ghost use Rattle.std.specs.Prelude.{◌≡◌, IfErr, IfOk, Some, false};
+ghost use Rattle.std.specs.Prelude.{◌≡◌, ◌≤◌, IfErr, IfOk, Some, false};
 ghost use Rattle.station.specs.Sessions.{without_till};
 ghost use Rattle.station.specs.Runs.{opening_station};
+ghost use Rattle.journal.specs.declared.memory.TheConstants.{LEAST_ROWS};
 ghost use Rattle.journal.specs.Disks.{Keeps, OfFile, OfFiles, IsUntouched};
 ghost use Rattle.journal.specs.Faults.{NamesIn};
 ghost use Rattle.std.specs.List.{AllByRecursion};
@@ -55,6 +56,7 @@ pub fn open_journal<D: Disk>(
     site_file: &[u8],
     disk: D,
 ) -> Result<Opened<D>, Unopened<D>>
+    requires { LEAST_ROWS ≤ config.now.rows }
     ensures alone { IfOk result
         (λ o. o.station.station ≡ opening_station o.station.station.book) }
     ensures off { IfOk result (λ o. HasNobodyOn o.station.station.book) }
@@ -96,6 +98,7 @@ pub fn resume<D: Disk>(
     requires kept { kept_rows recovered.book.rows ≡ recovered.book.rows }
     requires spelled { CanBeSpelled recovered.book.rows }
     requires unpaid { GoesBy recovered.unpaid recovered.book }
+    requires enough { LEAST_ROWS ≤ recovered.book.config.rows }
     requires settled { OfFile (HoldsRows recovered.header.items recovered.book.rows false)
         (D.file disk) }
     ensures resumed { IfOk result

@@ -13,10 +13,11 @@ ghost use Rattle.std.specs.List.{AllByRecursion};
 ghost use Rattle.site_book.specs.Unpaid.{GoesBy, unpaid_sales};
 ghost use Rattle.journal.specs.History.{IsHistory, empty_book};
 ghost use Rattle.journal.specs.JournalText.{IsSent};
-ghost use Rattle.journal.specs.Memory.{HasRoomToMake, IsSameOrForgets};
+ghost use Rattle.journal.specs.declared.memory.TheConstants.{LEAST_ROWS};
+ghost use Rattle.journal.specs.Memory.{HasRoomToHear, IsSameOrForgets};
 ghost use Rattle.journal.specs.Opening.{HasNobodyOn};
-ghost use Rattle.journal.specs.Stored.{IsJournalOf, JournalGoesOn, is_all_stored, told_at};
-ghost use Rattle.journal.specs.Stored.{WritesLines, with_station};
+ghost use Rattle.journal.specs.Stored.{IsJournalOf, JournalGoesOn, LeavesReadsOut, is_all_stored};
+ghost use Rattle.journal.specs.Stored.{WritesLines, told_at, with_station};
 
 use crate::disk::{Disk, DiskFault};
 use crate::journal::Journal;
@@ -52,6 +53,7 @@ impl<D: Disk> Model for StoredStation<D> {
 impl<D: Disk> StoredStation<D> {
     /// A station on this site without a journal: whatever it owes may be told.
     pub fn open_without(alloc: Global, config: &SiteConfig) -> Result<StoredStation<D>, NoMemory>
+        requires { LEAST_ROWS ≤ config.now.rows }
         ensures station { IfOk result (λ s. s.station ≡ opening_station (empty_book config.now)) }
         ensures off { IfOk result (λ s. HasNobodyOn s.station.book) }
         ensures journal { IfOk result (λ s. s.journal ≡ None) }
@@ -77,6 +79,7 @@ impl<D: Disk> StoredStation<D> {
         requires unpaid { GoesBy unpaid book }
         requires journal { IsJournalOf book.rows journal }
         requires behind { book.forgotten ≤ journal.stored }
+        requires enough { LEAST_ROWS ≤ book.config.rows }
         ensures { result ≡ record {
           station = opening_station book;
           unpaid = unpaid;
@@ -97,7 +100,8 @@ impl<D: Disk> StoredStation<D> {
     pub fn make_room(&mut self) -> Result<(), DiskFault>
         ensures moves { IsSameOrForgets self.old.station self.new.station }
         ensures journal { JournalGoesOn self.old.journal self.new.journal }
-        ensures room { OnOk result (HasRoomToMake self.new.station.book) }
+        ensures room { OnOk result (HasRoomToHear self.new.station.book) }
+        ensures err { OnErr result (self.new.station ≡ self.old.station) }
     {
         if self.book().rows_in_memory() < most_in_memory(self.book().config()) {
             return Ok(());
@@ -123,10 +127,12 @@ impl<D: Disk> StoredStation<D> {
         self.unpaid.as_slice()
     }
 
-    /// The book of the station. No key above 1,023 is given, by the station's type.
+    /// The book of the station. No key above 1,023 is given, and its configuration allows 1,024 rows
+    /// or more, by the station's type.
     pub fn book(&self) -> &SiteBook
         ensures book { result.now ≡ self.now.station.book }
         ensures keys { (k : ℕ) → PEERS ≤ k → peer_at self.now.station.peers k ≡ None }
+        ensures enough { LEAST_ROWS ≤ self.now.station.book.config.rows }
     {
         self.station.book()
     }
@@ -165,6 +171,8 @@ impl<D: Disk> StoredStation<D> {
         ensures journal { JournalGoesOn self.old.journal self.new.journal }
         ensures lines { OnOk result
             (WritesLines self.old.station.book.rows self.old.journal self.new.journal) }
+        ensures quiet { LeavesReadsOut self.old.station.book.rows self.old.journal
+            self.new.journal }
     {
         match &mut self.journal {
             None => Ok(()),

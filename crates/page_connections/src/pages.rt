@@ -84,7 +84,7 @@ impl Pages {
         }
     }
 
-    /// Those that wait are accepted. Has then a connection a turn in this round?
+    /// Those that wait are accepted. Does a connection then have a turn in this round?
     pub fn accept_waiting(&mut self, registry: &Registry, now: Instant) -> bool {
         if self.has_callers {
             self.accept_all(registry, now);

@@ -12,7 +12,7 @@ use Rattle.journal.specs.Stored.{StoredState, with_station}
 use Rattle.connection_calls.specs.declared.call.Call.{Call}
 use Rattle.connection_calls.specs.declared.call.Call.TheVariants.{Ended, Failed, Interrupted}
 use Rattle.connection_calls.specs.declared.call.Call.TheVariants.{Passed, Waits}
-use Rattle.peer_connections.specs.Calls.{HearsCall, SendsCall}
+use Rattle.peer_connections.specs.Calls.{HearsCall, HearsWithRoom, SendsCall}
 use Rattle.peer_connections.specs.Reaches.{Reaches}
 
 -- moves, and then more
@@ -51,7 +51,7 @@ pub reaches_left : (k : ℕ) (s t : StationState) → t ≡ without_peer k s →
 reaches_left k s t left = reaches_by (Leaves k) s t left
 
 -- nothing was done, or rows were forgotten
-pub reaches_room : (s t : StationState) → IsSameOrForgets s t → Reaches s t
+reaches_room : (s t : StationState) → IsSameOrForgets s t → Reaches s t
 reaches_room s t (inl same) = reaches_same s t same
 reaches_room s t (inr forgets) = reaches_by Forgets s t forgets
 
@@ -68,7 +68,7 @@ reaches_arrival (Some k) s t gets =
     reaches_by (Arrives k) s t (gets.2 ∙ ap (λ x. arrive k x s) (sym gets.1))
 
 -- a call at a connection
-pub reaches_read : (call : Call) (k : ℕ) (left left' : Option (List ℕ)) (s t : StationState)
+reaches_read : (call : Call) (k : ℕ) (left left' : Option (List ℕ)) (s t : StationState)
     → HearsCall call k left left' s t → Reaches s t
 reaches_read (Passed n) k left left' s t hears =
     reaches_heard hears.memory k hears.octets s t hears.heard
@@ -76,6 +76,13 @@ reaches_read Ended k left left' s t hears = reaches_end k s t hears.1
 reaches_read Interrupted k left left' s t hears = reaches_same s t hears.1
 reaches_read Waits k left left' s t hears = reaches_same s t hears.1
 reaches_read Failed k left left' s t hears = reaches_end k s t hears.1
+
+-- .. for which room was made
+pub reaches_heard_with_room : (call : Call) (k : ℕ) (left left' : Option (List ℕ))
+    (s t : StationState) → HearsWithRoom call k left left' s t → Reaches s t
+reaches_heard_with_room call k left left' s t hears =
+    reaches_then s hears.ready t (reaches_room s hears.ready hears.makes)
+    (reaches_read call k left left' hears.ready t hears.hears)
 
 -- ---- of a station with its journal
 
@@ -110,7 +117,7 @@ pub ruleset moved = (
   reaches_left,
   reaches_end,
   reaches_arrival,
-  reaches_read,
+  reaches_heard_with_room,
   reaches_written,
   reaches_kept,
   reaches_finished,

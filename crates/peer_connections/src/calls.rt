@@ -1,14 +1,15 @@
 //! One call of a connection: octets that a peer sent are heard, octets that it may be told are
 //! sent.
 
-ghost use Rattle.std.specs.Prelude.{◌≡◌, ◌<◌, length, true};
+ghost use Rattle.std.specs.Prelude.{◌≡◌, ◌<◌, ◌≤◌, IfOk, OnErr, length, true};
+ghost use Rattle.station.specs.declared.sizes.TheConstants.{HEARD_OCTETS};
 ghost use Rattle.station.specs.Reads.{is_read_at};
-ghost use Rattle.peer_connections.specs.Calls.{HearsCall, SendsCall};
-ghost use Rattle.peer_connections.specs.Reaches.{Reaches};
+ghost use Rattle.journal.specs.Stored.{JournalGoesOn};
+ghost use Rattle.peer_connections.specs.Calls.{HearsCall, HearsWithRoom, SendsCall};
 
 use crate::change_watch::ChangeWatch;
 use connection_calls::Call;
-use journal::{Disk, StoredStation};
+use journal::{Disk, DiskFault, StoredStation};
 use std::io::{Read, Write};
 
 /// Reads once from the connection of a peer that is read from, and has the station hear what came:
@@ -20,6 +21,7 @@ pub fn read_once<R: Read, D: Disk>(
     piece: &mut [u8],
 ) -> Call
     requires some { 0 < length piece.old }
+    requires few { length piece.old ≤ HEARD_OCTETS }
     requires read { is_read_at stored.old.station key ≡ true }
     ensures station { HearsCall result key (R.remaining reader.old) (R.remaining reader.new)
         stored.old.station stored.new.station }
@@ -45,21 +47,25 @@ pub fn read_once<R: Read, D: Disk>(
 }
 
 /// Makes room in the book for the rows of one read, and reads once. The rows so far are looked at
-/// before they are forgotten. Where no room can be made, the round's store says why.
+/// before they are forgotten. Where no room can be made, nothing is read.
 pub(crate) fn read_with_room<R: Read, D: Disk>(
     reader: &mut R,
     stored: &mut StoredStation<D>,
     changes: &mut ChangeWatch,
     key: usize,
     piece: &mut [u8],
-) -> Call
+) -> Result<Call, DiskFault>
     requires some { 0 < length piece.old }
+    requires few { length piece.old ≤ HEARD_OCTETS }
     requires read { is_read_at stored.old.station key ≡ true }
-    ensures { Reaches stored.old.station stored.new.station }
+    ensures hears { IfOk result (λ call. HearsWithRoom call key (R.remaining reader.old)
+        (R.remaining reader.new) stored.old.station stored.new.station) }
+    ensures err { OnErr result (stored.new.station ≡ stored.old.station) }
+    ensures journal { JournalGoesOn stored.old.journal stored.new.journal }
 {
     changes.look(stored.book());
-    let _ = stored.make_room();
-    read_once(reader, stored, key, piece)
+    stored.make_room()?;
+    Ok(read_once(reader, stored, key, piece))
 }
 
 /// Reads once from a connection what nobody hears.

@@ -1,7 +1,8 @@
 //! The connections of all peers, and the station that they speak with.
 
-ghost use Rattle.std.specs.Prelude.{◌≡◌, ◌<◌, length, IfOk, OnOk, true};
+ghost use Rattle.std.specs.Prelude.{◌≡◌, length, IfOk, OnOk, true};
 ghost use Rattle.site_book.specs.Unpaid.{unpaid_sales};
+ghost use Rattle.station.specs.declared.sizes.TheConstants.{HEARD_OCTETS};
 ghost use Rattle.station.specs.Moves.{without_peer};
 ghost use Rattle.station.specs.Reads.{HasNoPeer};
 ghost use Rattle.journal.specs.Stored.{is_all_stored};
@@ -12,13 +13,13 @@ use crate::due_list::DueList;
 use crate::link::{Channel, Link};
 use crate::naming::{EndedSession, PeerName};
 use crate::sizes::CLOSING_SECONDS;
-use connection_calls::{PIECE_OCTETS, both_ways};
+use connection_calls::both_ways;
 use journal::{Disk, DiskFault, StoredStation};
 use mio::net::TcpStream;
 use mio::{Registry, Token};
 use site_base::NoMemory;
 use site_book::{NamedSale, SiteBook};
-use station::{PEERS, PeerEnd};
+use station::{HEARD_OCTETS, PEERS, PeerEnd};
 use std::alloc::Global;
 use std::time::Instant;
 
@@ -34,7 +35,7 @@ pub struct Connections<D: Disk> {
     closing: usize,
     /// Whether a dispenser is told of a row, and those that are owed octets aren't sent them yet.
     changes: ChangeWatch,
-    ghost some: { 0 < length piece.items },
+    ghost size: { length piece.items ≡ HEARD_OCTETS },
 }
 
 impl<D: Disk> Connections<D> {
@@ -50,7 +51,7 @@ impl<D: Disk> Connections<D> {
         Ok(Connections {
             stored,
             links,
-            piece: Vec::from_elem(alloc, 0, PIECE_OCTETS)?,
+            piece: Vec::from_elem(alloc, 0, HEARD_OCTETS)?,
             due: DueList::new(alloc)?,
             closing: 0,
             changes,
@@ -142,8 +143,9 @@ impl<D: Disk> Connections<D> {
     }
 
     /// A peer has sent something, or hung up. With `to_end` it is known that it sends no more.
+    /// Where the station's book can't be given room for what it sent, it isn't read from.
     #[tactic(auto, using(crate::proofs::Reaching::moved))]
-    pub fn hear(&mut self, key: usize, to_end: bool, now: Instant)
+    pub fn hear(&mut self, key: usize, to_end: bool, now: Instant) -> Result<(), DiskFault>
         ensures { Reaches self.old.stored.station self.new.stored.station }
     {
         if let Some(Some(link)) = self.links.get_mut(key) {
@@ -151,9 +153,10 @@ impl<D: Disk> Connections<D> {
                 link.ignore(&mut self.piece);
             } else {
                 let changes = &mut self.changes;
-                link.hear(&mut self.stored, changes, key, &mut self.piece, to_end, now);
+                link.hear(&mut self.stored, changes, key, &mut self.piece, to_end, now)?;
             }
         }
+        Ok(())
     }
 
     /// A peer's connection takes octets again.

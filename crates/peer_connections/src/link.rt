@@ -1,12 +1,13 @@
 //! A peer's connection.
 
-ghost use Rattle.std.specs.Prelude.{◌<◌, length};
+ghost use Rattle.std.specs.Prelude.{◌≡◌, length};
+ghost use Rattle.station.specs.declared.sizes.TheConstants.{HEARD_OCTETS};
 ghost use Rattle.peer_connections.specs.Reaches.{Reaches};
 
 use crate::calls::{read_ignored, read_with_room, write_once};
 use crate::change_watch::ChangeWatch;
 use connection_calls::{CALLS_A_TURN, Call};
-use journal::{Disk, StoredStation};
+use journal::{Disk, DiskFault, StoredStation};
 use mio::net::TcpStream;
 use std::net::Shutdown;
 use std::time::Instant;
@@ -56,6 +57,7 @@ impl Link {
 
     /// Reads from the peer, and has the station hear it: until there is no more for now, the peer
     /// isn't read from, or its turn is over. With `to_end` it is known that the peer sends no more.
+    /// Where the station's book can't be given room for a read, nothing more is read.
     #[tactic(auto, using(crate::proofs::Reaching::moved))]
     pub(crate) fn hear<D: Disk>(
         &mut self,
@@ -65,39 +67,40 @@ impl Link {
         piece: &mut [u8],
         to_end: bool,
         now: Instant,
-    )
-        requires { 0 < length piece.old }
+    ) -> Result<(), DiskFault>
+        requires { length piece.old ≡ HEARD_OCTETS }
         ensures { Reaches stored.old.station stored.new.station }
     {
         self.is_unread = true;
         for _ in 0..CALLS_A_TURN {
             if !stored.is_read(key) {
-                return;
+                return Ok(());
             }
             let size = piece.len();
-            match read_with_room(&mut self.stream, stored, changes, key, piece) {
+            match read_with_room(&mut self.stream, stored, changes, key, piece)? {
                 Call::Passed(n) => {
                     self.heard_at = now;
                     if n < size && !to_end {
                         self.is_unread = false;
-                        return;
+                        return Ok(());
                     }
                 }
                 Call::Interrupted => {}
                 Call::Waits => {
                     self.is_unread = false;
-                    return;
+                    return Ok(());
                 }
                 Call::Ended => {
                     self.channel = Channel::HalfClosed;
-                    return;
+                    return Ok(());
                 }
                 Call::Failed => {
                     self.channel = Channel::Failed;
-                    return;
+                    return Ok(());
                 }
             }
         }
+        Ok(())
     }
 
     /// Sends what the peer may be told, as far as its connection takes it for now.

@@ -38,7 +38,9 @@ use Rattle.site_book.specs.Book.{Book, site_at, whole_book, with_row_of}
 use Rattle.journal.specs.History.{empty_book}
 use Rattle.journal.specs.JournalText.{CanBeSpelled, header_of, journal_text, row_line, row_request}
 use Rattle.journal.specs.JournalText.{rows_text, title}
-use Rattle.replayed_journals.specs.Laws.{JournalsAreReplayed, limited_book}
+use Rattle.kept_history.specs.KeptRows.{kept_rows}
+use Rattle.kept_history.proofs.LeftOut.{left_out}
+use Rattle.replayed_journals.specs.Laws.{IsReplayedTo, JournalsAreReplayed, limited_book}
 use Rattle.journal.proofs.Octets.{header_plain, spelled_octets}
 use Rattle.journal.proofs.Requests.{alone_read, spelled_plain}
 
@@ -259,8 +261,12 @@ book_there : (changes : Bool) (number : ℕ) (config : Configured) (rows : List 
     → (end_input (replays changes number config rows)).answerer.book ≡ limited_book config rows
 book_there changes number config rows = refl
 
-pub journals_are_replayed : JournalsAreReplayed
-journals_are_replayed site_file config all changes legal spelled =
+text_replayed : (site_file : List ℕ) (config : Configured) (all : List Row) (changes : Bool)
+    → IsLegal (opening config) all → CanBeSpelled all
+    → IsReplayedTo (limited_book config all)
+    (start (record { book = empty_book config; changes = changes }))
+    (journal_text (header_of site_file) all)
+text_replayed site_file config all changes legal spelled =
     let st = start (record { book = empty_book config; changes = changes }) in
     let text = journal_text (header_of site_file) all in
     let rows = rows_read all changes (next_number 1) config [] spelled legal in
@@ -277,3 +283,8 @@ journals_are_replayed site_file config all changes legal spelled =
       book = ap (λ (s : State). (end_input s).answerer.book) read
           ∙ book_there changes rows.0 config all;
     }
+
+pub journals_are_replayed : JournalsAreReplayed
+journals_are_replayed site_file config rows changes legal spelled =
+    text_replayed site_file config (kept_rows rows) changes
+    (left_out (opening config) rows legal).legal spelled

@@ -1,27 +1,21 @@
 -- Which rows a move adds: those of the requests that were heard with it, in their order, and the
 -- sign-off of a till that was left.
-use Rattle.std.proofs.Common.{◌≡◌, ◌⊎◌, inl, inr, ℕ, suc, ◌+◌, Bool, true, false, List, [], ◌∷◌}
-use Rattle.std.proofs.Common.{◌++◌, map, length, length-append, arith, Err}
+use Rattle.std.proofs.Common.{◌≡◌, ◌⊎◌, inl, inr, ℕ, Bool, true, false, List, [], ◌∷◌, ◌++◌, map}
 use Rattle.std.proofs.Common.{Option, Some, None, refl, ap, sym, subst, ◌∙◌, append_assoc}
 use Rattle.std.proofs.Common.{append-nil}
 use Rattle.std.specs.Prelude.{if◌then◌else◌, is_none}
-use Rattle.std.specs.List.{AllByRecursion}
-use Rattle.std.proofs.lemmas.Bool.{lt-leb}
 use Rattle.std.proofs.lemmas.List.{map-append}
 use Rattle.site_base.specs.declared.actor.Actor.TheVariants.{Till}
-use Rattle.site_base.specs.declared.actor.Actor.{Actor}
-use Rattle.site_base.specs.declared.event.Event.{Event}
 use Rattle.site_base.specs.declared.answer.Answer.TheVariants.{Done}
 use Rattle.site_base.specs.declared.event.Event.TheVariants.{SignOff}
 use Rattle.site_base.specs.declared.refusal.Refusal.{Refusal}
-use Rattle.site_base.specs.declared.refusal.NoRow.TheVariants as norow
 use Rattle.site_base.specs.declared.row.Row.{Row}
 use Rattle.site_base.specs.Checks.{reply_or}
 use Rattle.app_message.specs.declared.fault.StreamFault.{StreamFault}
 use Rattle.app_message.specs.Stream.{fed_by, held_part}
 use Rattle.app_message.specs.Telegram.{Telegram}
-use Rattle.site_book.specs.Book.{Book, next_row, site_of_book, with_row_of}
 use Rattle.site_book.proofs.Books.{forgets_alone}
+use Rattle.site_book.specs.Book.{Book, next_row, site_of_book, with_row_of}
 use Rattle.written_site.specs.SiteState.{is_signed_on}
 use Rattle.peer_talk.specs.declared.talk.Meaning.{Meaning}
 use Rattle.peer_talk.specs.declared.talk.Meaning.TheVariants as meanings
@@ -31,8 +25,7 @@ use Rattle.peer_talk.specs.Talks.{TalkState}
 use Rattle.peer_talk.specs.Text.{meaning_at, peer_after, requests_in}
 use Rattle.peer_talk.proofs.Speakers.{fault_meant, request_meant}
 use Rattle.station.specs.declared.peer_end.PeerEnd.{PeerEnd}
-use Rattle.station.specs.Adding.{AddsRequests, AddsSignOff, HasRoomFor, IsLeaving, IsNotFull}
-use Rattle.station.specs.Adding.{is_silent, till_left}
+use Rattle.station.specs.Adding.{AddsRequests, AddsSignOff, IsLeaving, is_silent, till_left}
 use Rattle.station.specs.Adding.{till_of}
 use Rattle.station.specs.Moves.{StationState, finish_at, hear_from, take_by, with_end, with_octets}
 use Rattle.station.specs.Moves.{with_turn}
@@ -42,7 +35,7 @@ use Rattle.station.specs.Runs.{Arrives, Finishes, Forgets, Leaves as Gone, Move,
 use Rattle.station.specs.Runs.{after_move}
 use Rattle.station.specs.Runs.{arrive}
 use Rattle.station.specs.Sessions.{Granted, Grants, Session, Turn, answer, answer_meaning, ask}
-use Rattle.conversation.specs.Books.{outcome_at, with_outcome}
+use Rattle.conversation.specs.Books.{outcome_at}
 use Rattle.station.specs.Sessions.{end_session, finish, hear, is_read, no_memory}
 use Rattle.station.specs.Sessions.{refuse_by, serve, tell, tell_last, with_text, without_till}
 use Rattle.station.proofs.Keeping.{by_fault, by_lasting, by_memory, by_message, ended_lasts}
@@ -87,28 +80,6 @@ leaves_till (Some t) b = by_test (is_signed_on (site_of_book b) t) refl
     }
     by_test false is = none_left (Some t) b
 
--- ---- room
-
-each_more : {A : Type 0} (P : A → Type 0) (xs : List A) (x : A) → AllByRecursion P xs → P x
-    → AllByRecursion P (xs ++ x ∷ [])
-each_more P [] x all one = (one, tt)
-each_more P (y ∷ xs) x all one = (all.0, each_more P xs x all.1 one)
-
--- where there is room for one row more than these, a request takes at most one, and is answered
-asked_within : (memory : Bool) (b : Book) (actor : Actor) (event : Event) (n : ℕ)
-    → HasRoomFor (suc n) b
-    → HasRoomFor n (with_outcome actor event (outcome_at memory b actor event) b)
-    × (outcome_at memory b actor event ≡ Err norow.BookFull → ⊥)
-asked_within false b actor event n has = (
-  let none = ap (λ (rs : List Row). length rs) (append-nil b.rows) in omega (arith, has, none),
-  λ full. absurd (let no : Err norow.NoMemory ≡ Err norow.BookFull = full in cc),
-)
-asked_within true b actor event n has =
-    rw (lt-leb (b.forgotten + b.config.rows) (length b.rows) (omega (arith, has))) (
-      let one = length-append b.rows (next_row b actor event ∷ []) in omega (arith, has, one),
-      λ full. absurd cc,
-    )
-
 -- ---- messages
 
 rows_made-more : (asked : List Asked) (a : Asked)
@@ -128,8 +99,6 @@ module _ (peer : Option (List ℕ)) (on : Option ℕ) (all : List Telegram) (old
     rows : b.rows ≡ old.rows ++ rows_made asked
     requests : requests_in peer all ≡ map request_asked asked ++ requests_in talked.peer ms
     signed : talked.on ≡ signed_on_after on asked
-    room : HasRoomFor (length all) old
-        → HasRoomFor (length ms) b × AllByRecursion IsNotFull asked
 
   abbrev HasEnded : Turn → Type 0
   HasEnded t = (end : PeerEnd) × (t.session.end ≡ Some end) × AddsRequests peer on all old t.book
@@ -147,7 +116,6 @@ module _ (peer : Option (List ℕ)) (on : Option ℕ) (all : List Telegram) (old
     unasked = requests_in talked.peer ms;
     rows = l.rows ∙ ap (λ rs. rs ++ l.left) a.rows;
     requests = a.requests;
-    room = λ has. (a.room has).1;
   }
 
   ends_asking : (end : PeerEnd) (ms : List Telegram) (t : Turn)
@@ -182,7 +150,6 @@ module _ (peer : Option (List ℕ)) (on : Option ℕ) (all : List Telegram) (old
         rows = a.rows;
         requests = rw (meant.0, meant.1) at a.requests;
         signed = a.signed;
-        room = λ has. let left = a.room has in (omega (arith, left.0), left.1);
       })
   asks_meaning g m ms (meanings.Request actor event) t is lasts a =
       let meant = request_meant t.session.talk.peer m actor event is in
@@ -203,10 +170,6 @@ module _ (peer : Option (List ℕ)) (on : Option ℕ) (all : List Telegram) (old
         signed =
             ap (signed_by actor event outcome) a.signed
             ∙ sym (signed-append on a.asked (one ∷ []));
-        room = λ has.
-            let left = a.room has in
-            let within = asked_within g.row t.book actor event (length ms) left.0 in
-            (within.0, each_more IsNotFull a.asked one left.1 within.1);
       })
 
   next_asks : (g : Granted) (m : Telegram) (ms : List Telegram) (t : Turn) → Asks (m ∷ ms) t
@@ -245,7 +208,6 @@ piece_asks g piece t lasts =
       rows = sym (append-nil t.book.rows);
       requests = refl;
       signed = refl;
-      room = λ has. (has, tt);
     } in
     by_memory (λ u. AddsRequests peer on fed.messages t.book u.book) g piece t
     (refused_asks peer on fed.messages t.book g.refusal fed.fault _

@@ -1,8 +1,6 @@
 -- Which rows a move adds to the book.
-use Rattle.std.specs.Prelude.{◌≡◌, ◌⊎◌, ◌+◌, ◌≤◌, ℕ, Bool, true, false, List, [], ◌∷◌, ◌++◌, map}
-use Rattle.std.specs.Prelude.{Option, Some, None, Err, is_none, length, if◌then◌else◌}
-use Rattle.std.specs.List.{AllByRecursion}
-use Rattle.site_base.specs.declared.refusal.NoRow.TheVariants.{BookFull}
+use Rattle.std.specs.Prelude.{◌≡◌, ◌⊎◌, ℕ, Bool, true, false, List, [], ◌∷◌, ◌++◌, map, Option}
+use Rattle.std.specs.Prelude.{Some, None, is_none, if◌then◌else◌}
 use Rattle.site_base.specs.declared.actor.Actor.{Actor}
 use Rattle.site_base.specs.declared.event.Event.{Event}
 use Rattle.site_base.specs.declared.row.Row.{Row}
@@ -21,18 +19,9 @@ abbrev pub IsLeaving : Option ℕ → List Row → Type 0
 IsLeaving None left = left ≡ []
 IsLeaving (Some t) left = (left ≡ []) ⊎ (left ≡ sign_off_row t ∷ [])
 
--- the book has room for so many rows more
-abbrev pub HasRoomFor : ℕ → Book → Type 0
-HasRoomFor n b = length b.rows + n ≤ b.forgotten + b.config.rows
-
--- the request wasn't answered that the book is full
-abbrev pub IsNotFull : Asked → Type 0
-IsNotFull a = a.outcome ≡ Err BookFull → ⊥
-
 -- a session that serves this peer, and is signed on as this till, heard these messages: the first
 -- of their requests were asked, in order, and their rows were added, in that order; behind them at
--- most the sign-off of the till that the session is signed on as then. Where the book had room for
--- a row of each message, no request was answered that it is full
+-- most the sign-off of the till that the session is signed on as then
 pub record AddsRequests (peer : Option (List ℕ)) (on : Option ℕ) (ms : List Telegram)
     (old new : Book) : Type 0 where
   pub asked : List Asked
@@ -41,7 +30,6 @@ pub record AddsRequests (peer : Option (List ℕ)) (on : Option ℕ) (ms : List 
   pub unasked : List (Actor × Event)
   pub rows : new.rows ≡ (old.rows ++ rows_made asked) ++ left
   pub requests : requests_in peer ms ≡ map request_asked asked ++ unasked
-  pub room : HasRoomFor (length ms) old → AllByRecursion IsNotFull asked
 
 -- no octets are heard with a move
 abbrev pub is_silent : Move → Bool

@@ -1,5 +1,5 @@
 -- The laws of the station, over every list of moves, or over every legal history.
-use Rattle.std.specs.Prelude.{◌≡◌, ◌≤◌, ℕ, true, false, List, ◌++◌, Some, None, is_some, length}
+use Rattle.std.specs.Prelude.{◌≡◌, ◌<◌, ◌≤◌, ℕ, true, false, List, ◌++◌, Some, None, is_some, length}
 use Rattle.std.specs.List.{AllByRecursion}
 use Rattle.site_base.specs.declared.event.Event.{Event}
 use Rattle.site_base.specs.declared.row.Row.{Row}
@@ -9,17 +9,17 @@ use Rattle.site_base.specs.Events.{has_change, point_named}
 use Rattle.app_message.specs.Stream.{IsHeld, fed_by}
 use Rattle.written_site.specs.SiteRun.{IsLegal, site_of_rows}
 use Rattle.written_site.specs.SiteState.{is_signed_on, opening, view_point}
-use Rattle.site_book.specs.Book.{Book, site_of_book}
+use Rattle.site_book.specs.Book.{Book, is_full, site_of_book}
 use Rattle.station.specs.declared.peer_end.PeerEnd.{PeerEnd}
 use Rattle.station.specs.declared.sizes.TheConstants.{HEARD_OCTETS, PIECE_ROWS}
-use Rattle.station.specs.Adding.{AddsRequests, AddsSignOff, HasRoomFor, IsNotFull, is_silent}
-use Rattle.station.specs.Adding.{till_left}
+use Rattle.station.specs.Adding.{AddsRequests, AddsSignOff, is_silent, till_left}
 use Rattle.station.specs.Knowledge.{learn_all, learn_rows, only_nozzle}
 use Rattle.station.specs.Moves.{StationState, with_arrival, with_octets, without_peer}
 use Rattle.station.specs.Peers.{peer_at}
 use Rattle.station.specs.Reads.{is_read_at}
+use Rattle.station.specs.Room.{HasRoomFor, with_answers}
 use Rattle.station.specs.Runs.{Move, Stays, after, after_move, heard_of, opening_station, text_to}
-use Rattle.station.specs.Sessions.{Grants, Session, is_read}
+use Rattle.station.specs.Sessions.{Grants, Session, Turn, is_read}
 use Rattle.station.specs.Standing.{standing_events}
 use Rattle.station.specs.Stories.{IsTold}
 
@@ -97,16 +97,15 @@ pub record AreAskedInOrder (s : StationState) : Type 0 where
 abbrev pub RequestsAreAskedInOrder : Type 0
 RequestsAreAskedInOrder = (s : StationState) → AreAskedInOrder s
 
--- No request is answered that the book is full, whatever octets are heard in one read, where the
--- book had room for the rows of one: no move of a station that makes that room first. At most 1,031
--- octets are held of a message to come, and a message takes eight octets at least.
+-- No request is answered that the book is full, where it had room for the rows of one read: each
+-- message that a read brings to a session that lasts finds room for its row, whatever the octets
+-- are. At most 1,031 octets are held of a message to come, and a message takes eight at least.
 abbrev pub StationsAreNeverFull : Type 0
-StationsAreNeverFull = (s : StationState) (memory : Grants) (k : ℕ) (octets : List ℕ)
-    (x : Session)
-    → peer_at s.peers k ≡ Some x → is_read x ≡ true → IsHeld x.held
-    → length octets ≤ HEARD_OCTETS → HasRoomFor PIECE_ROWS s.book
-    → (adds : AddsRequests x.talk.peer x.talk.on (fed_by x.held octets).messages s.book
-    (with_octets memory k octets s).book) × AllByRecursion IsNotFull adds.asked
+StationsAreNeverFull = (t : Turn) (memory : Grants) (octets : List ℕ) (n : ℕ)
+    → IsHeld t.session.held → length octets ≤ HEARD_OCTETS → HasRoomFor PIECE_ROWS t.book
+    → n < length (fed_by t.session.held octets).messages
+    → (with_answers n memory octets t).session.end ≡ None
+    → is_full (with_answers n memory octets t).book ≡ false
 
 -- a change of point p, that its dispenser is told of
 abbrev pub IsChangeOf : ℕ → Event → Type 0

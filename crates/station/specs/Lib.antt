@@ -8,6 +8,7 @@ pub mod Peers
 pub mod Moves
 pub mod Hearing
 pub mod Reads
+pub mod Room
 pub mod Runs
 pub mod Stories
 pub mod Adding

@@ -37,7 +37,8 @@ pub fn requests_are_asked_in_order()
     ensures { RequestsAreAskedInOrder }
 {}
 
-/// A station that makes room in its book before it hears a peer is never full.
+/// A station whose book has room for the rows of one read answers none of its requests that the
+/// book is full.
 pub fn stations_are_never_full()
     ensures { StationsAreNeverFull }
 {}

@@ -1,7 +1,8 @@
 //! The station that a command opens, with its journal.
 
-ghost use Rattle.std.specs.Prelude.{◌≡◌, IfErr, IfNone, IfOk, IfSome, None, is_some, true};
+ghost use Rattle.std.specs.Prelude.{◌≡◌, ◌≤◌, IfErr, IfNone, IfOk, IfSome, None, is_some, true};
 ghost use Rattle.station.specs.Runs.{opening_station};
+ghost use Rattle.journal.specs.declared.memory.TheConstants.{LEAST_ROWS};
 ghost use Rattle.journal.specs.History.{empty_book};
 ghost use Rattle.journal.specs.JournalText.{header_of};
 ghost use Rattle.journal.specs.Opening.{HasNobodyOn, Reopens};
@@ -22,6 +23,7 @@ pub fn open_station<'a, R: Files<File = File> + Eprint + AllocGlobal>(
     site_file: &[u8],
     journal: Option<&str>,
 ) -> Result<Opened<JournalFile<'a, R>>, ExitCode>
+    requires { LEAST_ROWS ≤ config.now.rows }
     ensures alone { IfOk result
         (λ o. o.station.station ≡ opening_station o.station.station.book) }
     ensures off { IfOk result (λ o. HasNobodyOn o.station.station.book) }
@@ -48,6 +50,7 @@ fn open_with<'a, R: Files<File = File> + Eprint + AllocGlobal>(
     site_file: &[u8],
     name: &str,
 ) -> Result<Opened<JournalFile<'a, R>>, ExitCode>
+    requires { LEAST_ROWS ≤ config.now.rows }
     ensures alone { IfOk result
         (λ o. o.station.station ≡ opening_station o.station.station.book) }
     ensures off { IfOk result (λ o. HasNobodyOn o.station.station.book) }

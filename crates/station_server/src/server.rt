@@ -8,7 +8,7 @@ ghost use Rattle.peer_connections.specs.Reaches.{Reaches};
 use crate::fault::ServerFault;
 use crate::sizes::{EVENTS_A_ROUND, ROUNDS_BEFORE_A_SWEEP, STALL_SECONDS, SWEEP_SECONDS};
 use connection_calls::{ACCEPTS_A_TURN, Caller, accept};
-use journal::Disk;
+use journal::{Disk, DiskFault};
 use mio::event::Event;
 use mio::net::TcpListener;
 use mio::{Events, Interest, Poll, Token, Waker};
@@ -186,8 +186,7 @@ impl StationServer {
         match self.poll.poll(&mut self.events, timeout) {
             Ok(()) => {
                 self.look_at_clock(rt);
-                self.take_turns(connections);
-                Ok(())
+                self.take_turns(connections)
             }
             Err(_) => Err(ServerFault::NoConnection),
         }
@@ -267,14 +266,14 @@ impl StationServer {
 
     /// Each connection that is ready has its turn. One of the page has it behind those.
     #[tactic(auto, using(crate::proofs::Rounds::moved))]
-    fn take_turns<D: Disk>(&mut self, connections: &mut Connections<D>)
+    fn take_turns<D: Disk>(&mut self, connections: &mut Connections<D>) -> Result<(), ServerFault>
         ensures { Reaches connections.old.stored.station connections.new.stored.station }
     {
         for event in &self.events {
             match event.token() {
                 WAKER => self.has_ended = true,
                 LISTENER => self.callers = Callers::Waiting,
-                Token(key) if key < PEERS => take_turn(connections, event, key, self.time),
+                Token(key) if key < PEERS => take_turn(connections, event, key, self.time)?,
                 token => {
                     if let Some(pages) = &mut self.pages {
                         note_page(pages, token);
@@ -282,6 +281,7 @@ impl StationServer {
                 }
             }
         }
+        Ok(())
     }
 
     /// Accepts the connections that wait. Where that fails it is told, once until all that wait are
@@ -397,7 +397,12 @@ impl StationServer {
 
 /// A connection that is ready has its turn.
 #[tactic(auto, using(crate::proofs::Rounds::moved))]
-fn take_turn<D: Disk>(connections: &mut Connections<D>, event: &Event, key: usize, now: Instant)
+fn take_turn<D: Disk>(
+    connections: &mut Connections<D>,
+    event: &Event,
+    key: usize,
+    now: Instant,
+) -> Result<(), DiskFault>
     ensures { Reaches connections.old.stored.station connections.new.stored.station }
 {
     if event.is_writable() {
@@ -405,9 +410,10 @@ fn take_turn<D: Disk>(connections: &mut Connections<D>, event: &Event, key: usiz
     }
     let to_end = event.is_read_closed();
     if event.is_readable() || event.is_error() || to_end {
-        connections.hear(key, to_end, now);
+        connections.hear(key, to_end, now)?;
     }
     connections.make_due(key);
+    Ok(())
 }
 
 /// Who looks at the page is ready, or waits to be accepted.

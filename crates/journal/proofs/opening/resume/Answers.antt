@@ -1,8 +1,11 @@
-use Rattle.std.proofs.Common.{◌∙◌, ℕ, Option, ap, arith, subst, sym}
+use Rattle.std.proofs.Common.{◌∙◌, ◌≤◌, ℕ, Option, ap, arith, subst, sym}
+use Rattle.site_base.specs.Configured.{Configured}
+use Rattle.journal.specs.declared.memory.TheConstants.{LEAST_ROWS}
 use Rattle.journal.specs.Disks.{DiskFile, Grows, Keeps, OfFiles}
 use Rattle.journal.specs.JournalText.{rows_text}
 use Rattle.journal.specs.Stored.{GrowsByLines, IsJournalOf, JournalState, kept_behind}
-use Rattle.journal.proofs.SigningOff.{behind_off, journal_begun, resumes, sent_off, unpaid_off}
+use Rattle.journal.proofs.SigningOff.{allowed_off, behind_off, journal_begun, resumes, sent_off}
+use Rattle.journal.proofs.SigningOff.{unpaid_off}
 use Rattle.journal.proofs.opening.resume.Goals as goal
 
 pub store-requires-clause-journal : goal.store-requires-clause-journal
@@ -40,6 +43,12 @@ with_journal-requires-clause-behind g c =
     c.len-rows.ensures.forgotten in
     let stored = ap (λ (j : JournalState). j.stored) c.new-journal.ensures in
     omega (arith, few, stored, c.len-rows.ensures.rows, c.store.ensures.none_lost)
+
+pub with_journal-requires-clause-enough : goal.with_journal-requires-clause-enough
+with_journal-requires-clause-enough g c =
+    subst (λ (config : Configured). LEAST_ROWS ≤ config.rows)
+    (sym (allowed_off c.args.recovered.book c.sign_off_all.new.book c.sign_off_all.ensures.rows))
+    c.requires.enough
 
 pub returns-in-Ok-clause-resumed : goal.returns-in-Ok-clause-resumed
 returns-in-Ok-clause-resumed g c =

@@ -18,4 +18,5 @@ invariant_of-result g c =
       unpaid = c.new-2.ensures (empty_book c.args.config.now) refl;
       journal = tt;
       behind = tt;
+      enough = c.requires;
     })
