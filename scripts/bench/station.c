@@ -1,6 +1,8 @@
 /* The clients of scripts/bench/station, all on one thread:
  *
  *   station reads PORT CLIENTS REQUESTS     tills that read a fuelling point
+ *   station closes PORT CLIENTS REQUESTS    tills that close a closed point: refusals, whose rows
+ *                                           a journal keeps
  *   station echo PORT CLIENTS REQUESTS      the same octets, to a server that sends them back
  *   station ping PORT CLIENTS REQUESTS      PING, to Redis
  *   station sets PORT CLIENTS REQUESTS      SET of a value as long as a request, to Redis
@@ -70,13 +72,25 @@ static void prepare(const char *kind, int number, struct client *c)
     }
     if (number < TILLS)
         ask(c->stream, SIGN_ON, SIGNED_ON, number + 1, 0);
+    if (strcmp(kind, "closes") == 0) {
+        size = parse_octets("01 01 02 01 00 40 00 04 01 21 3D 00", request);
+        due = parse_octets("02 01 01 01 00 E0 00 0F 01 21 01 01 0A 02 08 00 00 00 00 00 00 00 02",
+                           reply);
+        return;
+    }
     due = parse_octets("02 01 01 01 00 20 00 1E 01 21 10 01 02 11 01 00 12 01 00 13 01 00"
                        " 72 04 00 00 00 00 73 08 00 00 00 00 00 00 00 00", reply);
 }
 
+/* Are these requests of tills? */
+static int is_of_tills(const char *kind)
+{
+    return strcmp(kind, "reads") == 0 || strcmp(kind, "closes") == 0;
+}
+
 static void send_request(const char *kind, int number, struct client *c)
 {
-    if (strcmp(kind, "reads") == 0)
+    if (is_of_tills(kind))
         request[3] = number % TILLS + 1;
     c->came = 0;
     c->asked = read_clock();
@@ -93,7 +107,7 @@ static int takes_reply(const char *kind, int number, struct client *c)
     c->came += more;
     if (c->came < due)
         return 0;
-    if (strcmp(kind, "reads") == 0)
+    if (is_of_tills(kind))
         reply[1] = number % TILLS + 1;
     if (memcmp(c->got, reply, due) != 0)
         fail("a reply isn't the one that is wanted");
@@ -169,7 +183,7 @@ int main(int count, char **words)
 {
     program = "bench/station";
     if (count != 5)
-        fail("reads|echo|ping|sets|notices PORT CLIENTS REQUESTS");
+        fail("reads|closes|echo|ping|sets|notices PORT CLIENTS REQUESTS");
     const char *kind = words[1];
     port = atoi(words[2]);
     int clients = atoi(words[3]), requests = atoi(words[4]);
