@@ -7,13 +7,14 @@ import typing
 from shared.checks import Failed
 from shared.running import run
 from shared.station import (
-    ACKNOWLEDGE, DISPENSER, NOTICE, OPEN, PREPAY, READ, RELEASE, RESULT, SIGN_OFF, SUSPEND, TERMINATE,
-    TEST_RELEASE, TILL, WRITE, decode,
+    ACKNOWLEDGE, DISPENSER, NOTICE, OPEN, PREPAY, READ, RELEASE, RESULT, SIGN_OFF, SITE_ADDRESS,
+    SUSPEND, TERMINATE, TEST_RELEASE, TILL, WRITE, decode,
 )  # fmt: skip
 
 TITLE = b"# witsomar journal of site "
 ACCEPTED, WRONG_STATE, NO_MEMORY, DETAIL = 0, 10, 31, 2
 RELEASES = (RELEASE, PREPAY, TEST_RELEASE)
+MOST_ROWS = 1_000_000  # of a replay
 
 
 def first_line(site):
@@ -56,6 +57,11 @@ def is_notice(octets):
 def is_read(octets):
     """Whether it is a request that only reads: its row isn't kept."""
     return octets[5] >> 5 == READ
+
+
+def database(octets):
+    """The octet that names the site, a product or a point, of which the request is."""
+    return octets[9]
 
 
 def read_items(octets):
@@ -125,18 +131,55 @@ class Session(typing.NamedTuple):
         """The session without reads, and without what they were answered."""
         asked, came = iter(self.sent), []
         for one in self.came:
-            if is_notice(one) or not is_read(next(asked)):
+            if is_notice(one):
+                came.append(one)
+                continue
+            request = next(asked, None)
+            if request is None:
+                raise Failed(f"a reply to no request: {one.hex()}")
+            if not is_read(request):
                 came.append(one)
         return Session([one for one in self.sent if not is_read(one)], came)
 
+    def answered_reads(self):
+        """Each read whose reply came: how many other requests were sent before it, the read, and
+        its reply."""
+        count, found = 0, []
+        for request, reply in zip(self.sent, self.replies):
+            if is_read(request):
+                found.append((count, request, reply))
+            else:
+                count += 1
+        return found
+
+
+class Look(typing.NamedTuple):
+    """A read, its reply, and how many rows may stand before it: the numbers from which on the
+    reply may be another one, in order, and the last number."""
+
+    request: bytes
+    reply: bytes
+    fronts: list
+    last: int
+
+    def next_place(self, replies, begin):
+        """How many rows may stand before it at least, from so many on, if the replies are these;
+        None where it would have another reply everywhere."""
+        for front, end in zip(self.fronts, [*self.fronts[1:], self.last + 1]):
+            if begin < end and replies[front, self.request] == self.reply:
+                return max(front, begin)
+        return None
+
 
 class Told:
-    """What peers may have been told, by a journal's rows."""
+    """What peers may have been told, by a journal's rows. `looks` has, of each session that was
+    explained, the looks of each place at which its rows may begin."""
 
     def __init__(self, rows):
-        self.rows, self.own, self.changes = rows, {}, {}
+        self.rows, self.own, self.changes, self.addressed, self.looks = rows, {}, {}, {}, []
         for place, row in enumerate(rows):
             self.own.setdefault(row.node, []).append(place)
+            self.addressed.setdefault(database(row.request), []).append(place)
             if row.notice:
                 node = tuple(row.notice[:2])
                 self.changes.setdefault(node, ([], []))
@@ -200,6 +243,22 @@ class Told:
             ends.add(at)
         return ends
 
+    def find_looks(self, session, own, at, begin, end):
+        """The looks of a session whose rows begin at this one of its node's own, `own`, which are
+        those from one place to another. A read stands behind the row of the request before it,
+        and before its node's next row; rows of other peers may stand on either side of it. Its
+        reply may change at rows of its own point, and at those of the site alone."""
+        looks, bounds = [], [begin - 1, *own, end]
+        for count, request, reply in session.answered_reads():
+            first, last = bounds[at + count] + 1, bounds[at + count + 1]
+            fronts = {first}
+            for address in (database(request), SITE_ADDRESS[0]):
+                places = self.addressed.get(address, [])
+                span = slice(bisect.bisect_left(places, first), bisect.bisect_left(places, last))
+                fronts.update(place + 1 for place in places[span])
+            looks.append(Look(request, reply, sorted(fronts), last))
+        return looks
+
     def leaves(self, node, own, begins):
         """Behind a session its till may have been signed off."""
         if node[0] != TILL:
@@ -213,9 +272,12 @@ class Told:
         one place to another, if they can't: None where all is well."""
         own = self.places(node, begin, end)
         cursors = self.leaves(node, own, {0})
-        for number, session in enumerate(map(Session.without_reads, sessions), 1):
-            ends = [self.goes_on(node, session, own, at, end) for at in cursors]
-            before, cursors = cursors, self.leaves(node, own, set().union(*ends))
+        for number, whole in enumerate(sessions, 1):
+            session = whole.without_reads()
+            ends = {at: self.goes_on(node, session, own, at, end) for at in cursors}
+            before, cursors = cursors, self.leaves(node, own, set().union(*ends.values()))
+            begins = [at for at, found in ends.items() if found]
+            self.looks.append([self.find_looks(whole, own, at, begin, end) for at in begins])
             if not cursors:
                 came = " ".join(one.hex() for one in session.came[:20])
                 return (
@@ -228,6 +290,53 @@ class Told:
         if len(own) not in cursors:
             return f"node {node}: {len(own)} rows, of which its sessions made {sorted(cursors)}"
         return None
+
+
+def answer_reads(program, site, rows, asked):
+    """What a replay of the rows answers to these reads, each where so many rows stand before it:
+    the replies by (how many, read)."""
+    requests, asked, replies = [row.request for row in rows], sorted(asked), {}
+    room = MOST_ROWS - len(rows)
+    for begin in range(0, len(asked), room):
+        messages, done = [], 0
+        for front, read in asked[begin : begin + room]:
+            messages += [*requests[done:front], read]
+            done = front
+        text = b"".join(one.hex().encode() + b"\n" for one in messages)
+        told = run(program, "replay", site, given=text).out.splitlines()
+        if len(told) != len(messages):
+            raise Failed(f"{len(messages)} rows and reads have {len(told)} replies")
+        for place, one in enumerate(asked[begin : begin + room]):
+            replies[one] = bytes.fromhex(told[one[0] + place].decode())
+    return replies
+
+
+def find_wrong(looks, replies):
+    """The first of a session's looks that has no place behind the one before it."""
+    place = 0
+    for look in looks:
+        place = look.next_place(replies, place)
+        if place is None:
+            return look
+    return None
+
+
+def expect_looks(program, site, told):
+    """Each read of the sessions that were explained has the reply that a replay of the rows gives
+    to it at one of the places where it may stand (find_looks), in the order in which its session
+    sent them. Returns how many reads that are."""
+    looks = [look for begins in told.looks for each in begins for look in each]
+    asked = {(front, look.request) for look in looks for front in look.fronts}
+    replies = answer_reads(program, site, told.rows, asked)
+    for begins in told.looks:
+        wrong = [find_wrong(each, replies) for each in begins]
+        if all(wrong):
+            one = wrong[0]
+            raise Failed(
+                f"the read {one.request.hex()} behind {one.fronts[0]} to {one.last} rows is"
+                f" answered by {one.reply.hex()}, which a replay doesn't"
+            )
+    return sum(len(begins[0]) for begins in told.looks)
 
 
 def find_untold(rows, node, came, begin=0):

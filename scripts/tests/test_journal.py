@@ -20,8 +20,8 @@ import time
 
 from shared.checks import Failed, Skipped, expect
 from shared.journals import (
-    Told, find_untold, first_line, is_notice, is_read, is_sign_off, read_journal, split_messages,
-    whole_lines, without_token, write_rows,
+    Told, expect_looks, find_untold, first_line, is_notice, is_read, is_sign_off, read_journal,
+    split_messages, whole_lines, without_token, write_rows,
 )  # fmt: skip
 from shared.running import run
 from shared.serving import WAIT, read_status, send_reset, start_day, wait_until
@@ -859,7 +859,7 @@ def run_and_kill(path, site, runs, seed):
 
 def expect_told(peers, rows, found):
     """Each peer's sessions, with all that came to it, are what the journal's rows tell, run by
-    run; and no row is of anybody else."""
+    run; and no row is of anybody else. What reads were answered is compared by `expect_looks`."""
     told, bounds = Told(rows), [*found, len(rows)]
     for peer in peers:
         for number, (begin, end_) in enumerate(zip(bounds, bounds[1:])):
@@ -868,6 +868,7 @@ def expect_told(peers, rows, found):
             if why:
                 raise Failed(f"run {number}, rows {begin} to {end_}: {why}")
     expect("whose rows", {*told.own} <= {peer.node for peer in peers}, True)
+    return told
 
 
 def expect_each_litre_once(peers, rows, report_text):
@@ -953,14 +954,14 @@ def killed_for_real(seed):
     expect("whole lines", whole_lines(text), text)
     expect("no copy is left", copy_of(path).exists(), False)
     rows = read_journal(PROGRAM, site, text)
-    expect_told(peers, rows, found)
+    looks = expect_looks(PROGRAM, site, expect_told(peers, rows, found))
     sales = expect_each_litre_once(peers, rows, told)
     expect("the report", told.encode(), report_of(text, site))
     came = [one for peer in peers for _, session in peer.sessions for one in session.came]
     notices = sum(map(is_notice, came))
     print(
         f"journal: {KILLS} kills in {took:.0f} seconds, {len(rows)} rows, {len(came) - notices}"
-        f" replies, {notices} notices, {sales} sales,"
+        f" replies, {looks} of reads, {notices} notices, {sales} sales,"
         f" {sum(len(peer.sessions) for peer in peers)} sessions",
         flush=True,
     )  # fmt: skip
