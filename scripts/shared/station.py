@@ -116,6 +116,14 @@ def read_point(till, token, point):
     return ask(till, READ, token, address_point(point))
 
 
+def read_site(till, token):
+    return ask(till, READ, token, SITE_ADDRESS)
+
+
+def read_product(till, token, product):
+    return ask(till, READ, token, bytes([0x80 + product]))
+
+
 def command_sale(till, token, point, number, command):
     return ask(till, WRITE, token, address_sale(point, number), (command, b""))
 

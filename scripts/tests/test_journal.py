@@ -28,8 +28,8 @@ from shared.serving import WAIT, read_status, send_reset, start_day, wait_until
 from shared.station import (
     ACKNOWLEDGE, CLEAR, CLOSE, DISPENSER, FLOW, HANG_UP, KNOWN_SITE, LIFT, LOCK, OPEN, RELEASE,
     RESULT, SITE, TILL, WRITE, address_point, command_point, command_sale, decode, encode, parse,
-    read_point, read_sale, receive, receive_all, receive_message, report, sign_off, sign_on,
-    write_report,
+    read_point, read_product, read_sale, read_site, receive, receive_all, receive_message, report,
+    sign_off, sign_on, write_report,
 )  # fmt: skip
 from tests.built import PROGRAM
 from tests.steady_peers import POINTS, Pump, Runs, Till, say
@@ -208,8 +208,9 @@ def unfinished_last_lines():
 
 @test
 def bad_lines():
-    """What is no request of a till or a dispenser, at each place of a journal."""
-    line = write_rows(read_point(1, 0, 1))[:-1]
+    """What is no request of a till or a dispenser, at each place of a journal; many are a line that
+    is accepted there, spoiled a little."""
+    line = write_rows(command_point(1, 0, 1, OPEN))[:-1]
     stranger = encode((SITE, 1), (9, 9), 0, 0, address_point(1))
     reply = parse("02 01 01 01 00 E2 00 08 01 21 01 01 00 03 01 00")
     bad = [
@@ -220,8 +221,10 @@ def bad_lines():
         b"00" * 40_000, line[:2] + b"+f" + line[4:], b"ff" * 8,
     ]  # fmt: skip
     lines = DAY_TEXT.splitlines(keepends=True)
-    for one in bad:
-        for place in (1, 5, len(lines)):
+    for place in (1, 5, len(lines)):
+        text = b"".join([*lines[:place], line + b"\n", *lines[place:]])
+        expect_opened(f"unspoiled at {place + 1}", text, text, len(DAY) + 1, OFF_1)
+        for one in bad:
             text = b"".join([*lines[:place], one + b"\n", *lines[place:]])
             expect_line(f"{one[:30]} at {place + 1}", text, place + 1)
     expect_line("the first of two", DAY_TEXT + b"\n#\n", len(lines) + 1)
@@ -329,21 +332,26 @@ def long_histories():
     with start_station(path, site=site) as day, day.connect() as till:
         expect("rows", day.rows, 3_001)
         till.sendall(sign_on(1) + command_point(1, 0, 1, OPEN))
-        expect("what stands", receive(till, 16 + 13)[:16], parse(
+        # The point was opened last, and is idle (3): opening it is refused.
+        wanted = parse(
             "02 01 01 01 00 E1 00 08 01 01 01 01 00 03 01 00"
-        ))  # fmt: skip
+            " 02 01 01 01 00 E0 00 0F 01 21 01 01 0A 02 08 00 00 00 00 00 00 00 03"
+        )
+        expect("what stands", receive(till, len(wanted)), wanted)
         expect("the report", end(day).splitlines()[0], "rows 3004")
 
 
 @test
 def reads_are_not_stored():
-    """Reads, and what refuses them, write nothing: neither a line nor a flush."""
+    """The four reads, and what refuses them, write nothing. That they aren't flushed is tested by
+    test_faults.py."""
     path = write_journal(b"")
     with start_station(path) as day, day.connect() as till:
         till.sendall(sign_on(1))
         expect("a reply", len(receive_message(till)), 16)
         before, changed = path.read_bytes(), path.stat().st_mtime_ns
-        reads = [read_point(1, 0, 1), read_point(1, 0, 9), read_sale(1, 0, 1, 1)]
+        reads = [read_site(1, 0), read_point(1, 0, 1), read_product(1, 0, 1), read_sale(1, 0, 1, 1)]
+        reads += [read_point(1, 0, 9), read_product(1, 0, 8)]
         for one in reads:
             till.sendall(one)
             receive_message(till)
@@ -805,17 +813,24 @@ PRICES = (1_500, 1_799)
 CUTS = 40
 
 
-def write_kill_site():
-    site = HERE / "killed.toml"
+def write_kill_sites():
+    """A site whose book forgets its rows again and again: fewer than 385 of them are in memory when
+    a peer is read from. And the same site with as many rows as a replay may make."""
+    site, wide = HERE / "killed.toml", HERE / "replayed.toml"
     nozzles = "nozzles = [{product = 1, reading = 0}, {product = 2, reading = 1000}]"
     text = "managers = [1]\n" + "".join(
         f'[[product]]\nnumber = {number}\nname = "{name}"\nprice = {price}\n'
         for number, name, price in zip((1, 2), ("diesel", "petrol"), PRICES)
     )
-    site.write_text(text + "".join(
-        f"[[point]]\nnumber = {number}\n{nozzles}\n" for number in range(1, POINTS + 1)
-    ))  # fmt: skip
-    return site
+    text += "".join(f"[[point]]\nnumber = {n}\n{nozzles}\n" for n in range(1, POINTS + 1))
+    site.write_text(f"rows = 1024\n{text}")
+    wide.write_text(text)
+    return site, wide
+
+
+def retitle(text, site):
+    """A journal's text as one of another site file."""
+    return first_line(site) + text.split(b"\n", 1)[1]
 
 
 def kill_start(path, site, chance):
@@ -898,7 +913,7 @@ def expect_each_litre_once(peers, rows, report_text):
     return len(cleared)
 
 
-def expect_fronts(text, site, seed):
+def expect_fronts(text, site, wide, seed):
     """A copy of the journal, cut at whatever octet, is opened with the rows of its whole lines."""
     chance, first = start_chance(seed, "cuts"), len(first_line(site))
     begins = [at + 1 for at in range(first, min(len(text), 40_000)) if text[at : at + 1] == b"\n"]
@@ -916,19 +931,21 @@ def expect_fronts(text, site, seed):
             raise Failed(f"cut to {place} octets: {ended}")
         after = path.read_bytes()
         expect(f"cut to {place} octets: its front", after[: len(kept)], kept)
-        offs = [row for row in read_journal(PROGRAM, site, after)[count:] if not is_sign_off(row)]
+        rows = read_journal(PROGRAM, wide, retitle(after, wide))
+        offs = [row for row in rows[count:] if not is_sign_off(row)]
         expect(f"cut to {place} octets: what else", offs, [])
-        if not ended.out.endswith(report_of(after, site)):
+        if not ended.out.endswith(report_of(retitle(after, wide), wide)):
             raise Failed(f"cut to {place} octets: the report is another one's")
 
 
 @test
 def killed_for_real(seed):
     """Eight tills and eight dispensers work at a station that is killed at any moment and started
-    again. Each reply that ever came is that of its row, each notice is of a row too, and all come
-    in the rows' order; each row is what its peer sent; and the station's last report is that of its
+    again, and that forgets its rows after each few hundred. Each reply that ever came is that of
+    its row, or for a read what a replay answers there; each notice is of a row too, and all come in
+    the rows' order; each row is what its peer sent; and the station's last report is that of its
     journal."""
-    site, runs = write_kill_site(), Runs()
+    (site, wide), runs = write_kill_sites(), Runs()
     path, begun = write_journal(b"", "killed"), time.monotonic()
     peers = [Till(runs, number, seed) for number in range(1, POINTS + 1)]
     peers += [Pump(runs, point, seed) for point in range(1, POINTS + 1)]
@@ -953,10 +970,10 @@ def killed_for_real(seed):
     text = path.read_bytes()
     expect("whole lines", whole_lines(text), text)
     expect("no copy is left", copy_of(path).exists(), False)
-    rows = read_journal(PROGRAM, site, text)
-    looks = expect_looks(PROGRAM, site, expect_told(peers, rows, found))
+    rows = read_journal(PROGRAM, wide, retitle(text, wide))
+    looks = expect_looks(PROGRAM, wide, expect_told(peers, rows, found))
     sales = expect_each_litre_once(peers, rows, told)
-    expect("the report", told.encode(), report_of(text, site))
+    expect("the report", told.encode(), report_of(retitle(text, wide), wide))
     came = [one for peer in peers for _, session in peer.sessions for one in session.came]
     notices = sum(map(is_notice, came))
     print(
@@ -965,4 +982,4 @@ def killed_for_real(seed):
         f" {sum(len(peer.sessions) for peer in peers)} sessions",
         flush=True,
     )  # fmt: skip
-    expect_fronts(text, site, seed)
+    expect_fronts(text, site, wide, seed)
