@@ -25,10 +25,10 @@ from shared.running import close_input, run
 from shared.serving import LOOK, WAIT, read_status, send_reset, send_until, start_day
 from shared.station import (
     ASSIGN, CLEAR, CLOSE, DISPENSER, EXAMPLES, FIVE_POINTS, FLOW, HANG_UP, KNOWN_SITE, LIFT, LOCK,
-    NOTICE, OPEN, PREPAY, RELEASE, REPORT, RESUME, SITE, SUSPEND, TERMINATE, TEST_RELEASE, TILL,
-    UNASSIGN, WRITE, address_point, command_point, command_sale, encode, parse, read_point,
-    receive, receive_all, receive_message, report, sign_off, sign_on, write_lines, write_report,
-    write_site,
+    NOTICE, OPEN, OUTCOME, PREPAY, RELEASE, REPORT, RESUME, SITE, SUSPEND, TERMINATE, TEST_RELEASE,
+    TILL, UNASSIGN, WRITE, address_point, command_point, command_sale, decode, encode, parse,
+    read_point, read_site, receive, receive_all, receive_message, report, sign_off, sign_on,
+    write_lines, write_report, write_site,
 )  # fmt: skip
 from tests.built import PROGRAM
 from tests.suite import make_folder, start_chance, test
@@ -55,6 +55,12 @@ CLEARED = parse(
     "02 01 01 01 00 E4 00 0B 04 21 21 00 01 01 01 00 03 01 09"
     " 02 01 01 01 00 E5 00 15 04 21 21 00 01 01 01 00 03 01 0B 75 08 00 00 00 00 00 00 05 DC"
 )
+# Sale 1 of point 2, ten litres at 1,500, is locked and cleared by till 2.
+CLEARED_BY_2 = parse(
+    "02 02 01 01 00 E4 00 0B 04 22 21 00 01 01 01 00 03 01 09"
+    " 02 02 01 01 00 E5 00 15 04 22 21 00 01 01 01 00 03 01 0B 75 08 00 00 00 00 00 00 05 DC"
+)
+LOOKS_OF_A_TILL = 4_000
 FULL_KILOBYTES = 32_000  # of memory, with 1,024 peers that say nothing
 FLOODED_KILOBYTES = 64_000  # .. and with floods that aren't read
 STEPS = 150  # requests of each till and its dispensers
@@ -812,40 +818,52 @@ def too_few_rows():
         expect(f"{rows} rows", got, (1, b"", "fault 74 rows\n"))
 
 
+def sell(day, till, point):
+    """Till 2 opens and releases a point, whose dispenser sells ten litres of diesel."""
+    for command in (OPEN, RELEASE):
+        ask(till, command_point(2, 0, point, command),
+            parse(f"02 02 01 01 00 E0 00 08 01 {0x20 + point:02X} 01 01 00 03 01 00"))  # fmt: skip
+    told = [report(point, 0, *how) for how in ((LIFT, 0), (FLOW, 4_000), (HANG_UP, 10_000))]
+    came = [one for one in decode(day.ask(b"".join(told))) if one.kind != NOTICE]
+    expect("Start, Flowed, Sold", [one.items[OUTCOME][0] for one in came], [2, 3, 6])
+
+
 @test
 def never_full():
-    """Ten times the rows that the site file allows, in full reads of several peers at once: no
-    request is answered that the book is full, dispensers are told each change, and the report is
-    that of all rows."""
+    """Many times the rows that the site file allows, in full reads of several peers at once: no
+    request is answered that the book is full, a dispenser is told each change, in order, and the
+    report is that of all rows but those of reads, with sales that were made before. The tills
+    read the site, by the shortest messages that make a row in memory: a read of 4,096 octets has
+    410 of them."""
     site, turns = write_limit(1_024), 1_300
     asked = [command_point(1, n % 32, 1, (OPEN, CLOSE)[n % 2]) for n in range(2 * turns)]
-    wanted = replay(sign_on(1) + b"".join(asked))
-    others = range(2, 6)
+    done = [DONE[:5] + bytes([0xE0 + n % 32]) + DONE[6:] for n in range(2 * turns)]
     with start_station(site=site) as day, day.connect() as pump, contextlib.ExitStack() as stack:
         ask(pump, say(1), refuse(1, 2))
-        tills = {n: stack.enter_context(day.connect()) for n in others}
+        tills = {n: stack.enter_context(day.connect()) for n in range(2, 6)}
         for n, till in tills.items():
             ask(till, sign_on(n), SIGNED_ON[n])
+        sell(day, tills[2], 2)
+        sell(day, tills[2], 3)
         senders = [
-            threading.Thread(target=till.sendall, args=(sign_on(n) * 2_000,))
+            threading.Thread(target=till.sendall, args=(read_site(n, 0) * LOOKS_OF_A_TILL,))
             for n, till in tills.items()
         ]
         for sender in senders:
             sender.start()
-        expect("replies", day.ask(sign_on(1) + b"".join(asked)), wanted)
-        notices = receive(pump, 2 * turns * len(OPENED))
-        expect("notices", len(set(split_octets(notices, len(OPENED)))), 2)
+        got = day.ask(sign_on(1) + b"".join(asked))
+        expect("replies", got == SIGNED_ON[1] + b"".join(done), True)
+        expect("notices", receive(pump, 2 * turns * len(OPENED)) == (OPENED + CLOSED) * turns, True)
         for n, till in tills.items():
-            again = replay(sign_on(n) * 2)[len(SIGNED_ON[n]):]
-            expect(f"till {n}", receive(till, 2_000 * len(again)), 2_000 * again)
+            view = parse(f"02 {n:02X} 01 01 00 20 00 10 01 01 75 08 {0:016X} 76 02 00 01")
+            expect(f"till {n}", receive(till, LOOKS_OF_A_TILL * len(view)), LOOKS_OF_A_TILL * view)
         for sender in senders:
             sender.join()
-        rows = 1 + 1 + 2 * turns + 1 + 4 * 2_001 + 4
-        expect("report", end(day), write_report(rows, 0))
-
-
-def split_octets(octets, size):
-    return [octets[at : at + size] for at in range(0, len(octets), size)]
+        ask(tills[2], command_sale(2, 4, 2, 1, LOCK) + command_sale(2, 5, 2, 1, CLEAR),
+            CLEARED_BY_2)  # fmt: skip
+        rows = 1 + 4 + 2 * 5 + 1 + 2 * turns + 1 + 2 + 4
+        sold = {"metered": 20_000, "payable": 10_000, "cleared": 10_000}
+        expect("report", end(day), write_report(rows, 0, 1, 1_500, diesel=sold))
 
 
 @test
