@@ -25,13 +25,14 @@ from shared.browser import (
     SCREEN, SOON, TELEPHONE, WIDE, expect_words, find_browser, open_page, read_tile, start_browser,
 )  # fmt: skip
 from shared.checks import Failed, Skipped, expect
+from shared.journals import first_line
 from shared.page_day import connect, end_day, read_answer, write_request
 from shared.running import EXAMPLES, SCRIPTS, compile_c, run
 from shared.serving import list_addresses, wait_until
 from shared.station import (
-    CLEAR, FIVE_POINTS, FLOW, HANG_UP, KNOWN_SITE, LIFT, LOCK, OPEN, RELEASE, SITE,
-    TILL, WRITE, address_point, command_point, command_sale, decode, encode, read_point,
-    receive_all, report, sign_on,
+    CLEAR, CLOSE, FIVE_POINTS, FLOW, HANG_UP, KNOWN_SITE, LIFT, LOCK, OPEN, RELEASE, SITE,
+    TILL, WRITE, address_point, command_point, command_sale, decode, encode, is_accepted,
+    read_point, receive_all, report, sign_on, write_report,
 )  # fmt: skip
 from tests.built import PROGRAM
 from tests.suite import make_folder, test, test_beside
@@ -44,6 +45,7 @@ LOOKS = (SCRIPTS / "tests/page_looks.js").read_text()
 SILENCE = 6  # seconds, within which it says that the station doesn't answer
 PIPELINED = 10_000
 MOST_PEERS = 64
+MOST_IN_BOOK = 1_024  # rows
 # Seconds after which a silent peer is left: 10 to 12, and one for a machine that is busy.
 LEFT_AFTER = (10, 13)
 READS = 2_000  # of a till, beside which the page is asked
@@ -461,6 +463,62 @@ def rows_of_the_journal():
 def count_rows(journal):
     """The whole lines of a journal, without its first."""
     return journal.read_bytes().count(b"\n") - 1
+
+
+def name_sale(point, product, mills, cents, **more):
+    """Transaction 1 of a point, as the site tells it."""
+    wanted = {"shift": 1, "point": point, "number": 1, "product": product, "mills": mills,
+              "cents": cents, "prepaid": None, "status": "payable", "till": None}  # fmt: skip
+    return {**wanted, **more}
+
+
+def fill_book(page):
+    """Till 2 closes and opens point 3 until more rows were made than the site's book has in memory,
+    and leaves. Returns how many rows that are."""
+    asked = [command_point(2, 0, 3, (OPEN, CLOSE)[n % 2]) for n in range(4 * MOST_IN_BOOK)]
+    came = decode(page.day.ask(sign_on(2) + b"".join(asked)))
+    expect("all are accepted", [one for one in came if not is_accepted(one)], [])
+    expect("replies", len(came), 1 + len(asked))
+    return 1 + len(asked) + 1
+
+
+@test
+def sales_whose_rows_are_forgotten():
+    """A book of 1,024 rows forgets the rows of two sales: both stay listed as they are, one can be
+    cleared, and is listed no more. The report is that of the journal, which has each row, and a
+    start on that lists what was unpaid."""
+    journal, site, wide = HERE / "forgotten.journal", HERE / "few.toml", HERE / "wide.toml"
+    site.write_text(f"rows = {MOST_IN_BOOK}\n{KNOWN_SITE.read_text()}")
+    wide.write_text(KNOWN_SITE.read_text())
+    first = name_sale(1, 1, 1_500, 1_500, millilitres=10_000)
+    second = name_sale(2, 2, 1_799, 900, millilitres=5_000, status="locked", till=1)
+    sold = {"diesel": {"metered": 10_000, "payable": 10_000},
+            "petrol": {"metered": 5_000, "cleared": 5_000}}  # fmt: skip
+    words = ("--journal", str(journal))
+    with start_page(*words, site=site) as page:
+        page.tell(*(command_point(1, 0, p, x) for p in (1, 2) for x in (OPEN, RELEASE)))
+        page.tell(report(1, 0, LIFT, 0), report(1, 0, HANG_UP, 10_000))
+        page.tell(report(2, 0, LIFT, 1_000, 2), report(2, 0, HANG_UP, 6_000, 2))
+        page.tell(command_sale(1, 0, 2, 1, LOCK))
+        rows = 1 + 4 + 2 + 2 + 1 + fill_book(page)
+        expect("both", page.site()["transactions"], [first, second])
+        expect("accepted", is_accepted(page.tell(command_sale(1, 0, 2, 1, CLEAR))), True)
+        expect("the first", page.site()["transactions"], [first])
+        rows += 1 + fill_book(page)
+        told = page.site()
+        expect("again", (told["transactions"], told["rows"]), ([first], rows))
+        cleared = [(x["number"], x["clears"], x["cents"]) for x in told["tills"] if x["clears"]]
+        expect("who cleared", cleared, [(1, 1, 900)])
+        page.leave()
+        told = end_day(page.day)
+    rows += 1  # the sign-off of till 1
+    expect("the report", told, write_report(rows, 0, 1, 900, **sold))
+    text = first_line(wide) + journal.read_bytes().split(b"\n", 1)[1]
+    made = run(PROGRAM, "report", wide, given=text)
+    expect("that of the journal", (made.status, made.out.decode()), (0, told))
+    with start_page(*words, site=site, till=None) as page:
+        again = page.site()
+        expect("at a start", (again["transactions"], again["rows"]), ([first], rows))
 
 
 @test
