@@ -18,7 +18,7 @@ LONGEST_LINE = 65_536  # octets of a line of messages
 # Who speaks.
 SITE, TILL, DISPENSER = 1, 2, 3
 # What is sent.
-READ, WRITE, REPORT, NOTICE, ACKNOWLEDGE = 0, 2, 3, 4, 7
+READ, ANSWER, WRITE, REPORT, NOTICE, ACKNOWLEDGE = 0, 1, 2, 3, 4, 7
 # Addresses.
 SITE_ADDRESS, OPEN_SHIFT = b"\x01", 0x21
 # Commands.

@@ -20,10 +20,11 @@
 - the station with a journal, with each write and each fdatasync of it failed, where what wasn't
   synced is lost, also where the file system stops and doesn't say so; with writes that are cut
   short, and with a journal that isn't locked or read, or whose copy isn't put in its place: `fault
-  62` and no report, or `cannot read JOURNAL`; with the journal moved, or its copy replaced, by
-  somebody else at each flush of a start; with allocations failed in turn, at the opening of a
-  journal with rows too; with each read and each write of its sockets failed. Nobody is told what
-  isn't stored, and what stands in the journal is opened again;
+  62` and no report, or `cannot read JOURNAL`; reads meet no failed write or fdatasync of it; with
+  the journal moved, or its copy replaced, by somebody else at each flush of a start; with
+  allocations failed in turn, at the opening of a journal with rows too, and where rows are
+  forgotten; with each read and each write of its sockets failed. Nobody is told what isn't stored,
+  and what stands in the journal is opened again;
 - a demo, in the first way: it ends with `fault 31`, 63 or 64 and no report, or a worker ends its
   own work early and the report balances; with each call that makes a listener or a connection
   failed, over loopback: `fault 63` and no report; with each worker not started: `fault 64` and no
@@ -52,8 +53,9 @@ from shared.checks import Failed, expect
 from shared.journals import find_untold, first_line, read_journal, whole_lines, write_rows
 from shared.running import CRATES, EXAMPLES, PATIENCE, compile_c, run
 from shared.station import (
-    DISPENSER, FIVE_POINTS, KNOWN_SITE, OPEN, SITES, TILL, command_point, connect, parse,
-    receive_all, receive_message, sign_off, sign_on,
+    ACKNOWLEDGE, ANSWER, DISPENSER, FIVE_POINTS, KNOWN_SITE, OPEN, SITES, TILL, command_point,
+    connect, decode, parse, read_point, read_product, read_sale, read_site, receive_all,
+    receive_message, sign_off, sign_on,
 )  # fmt: skip
 from tests.built import PROGRAM, TABLES, find_tests_program, list_tests
 from tests.suite import make_folder, test
@@ -644,6 +646,53 @@ def fail_journals_of_station():
     got = (folder.octets, folder.end.status, folder.end.err, folder.end.till)
     expect("a folder that isn't synced, and no line yet", got, wanted)
     return runs + 1
+
+
+READS = [read_site(1, 0), read_point(1, 0, 1), read_product(1, 0, 1), read_sale(1, 0, 1, 1)]
+
+
+def look(port, met):
+    """A till signs on, looks, and opens a point: what its looks were answered, whether the fault
+    was met by then, and what the Open was answered; None where the sign-on has no answer."""
+    told = []
+    with connect(port) as till, contextlib.suppress(ConnectionError):
+        till.sendall(sign_on(1))
+        if receive_message(till) == b"":
+            return None
+        for one in READS:
+            till.sendall(one)
+            told.append(receive_message(till))
+        is_met = met.exists()
+        till.sendall(command_point(1, 0, 1, OPEN))
+        return told, is_met, receive_all(till)
+    return (told, met.exists(), b"") if told else None
+
+
+def look_with(kind, k):
+    """The same of a station with a new journal whose Kth call of this kind fails, and how that
+    station ended; None where the fault was met before the looks."""
+    words = [PROGRAM, "station", KNOWN_SITE, "--port=0", "--journal", JOURNAL]
+    pipe = subprocess.PIPE
+    with PLACE.prepare({kind: k}) as (how, met), subprocess.Popen(
+        words, stdin=pipe, stdout=pipe, stderr=pipe, bufsize=0, **how
+    ) as program:  # fmt: skip
+        line = program.stdout.readline().decode()
+        found = look(int(line.rsplit(":", 1)[1]), met) if line else None
+        _, err = program.communicate(timeout=PATIENCE)
+        return found and (*found, (program.returncode, err, met.exists()))
+
+
+@test
+def reads_are_not_flushed():
+    """The first write of a file, and the first flush, behind those of the sign-on fails. The four
+    reads don't meet it, and are answered; an Open meets it, and ends the day."""
+    for kind in ("FAIL_JOURNAL_WRITE", "FAIL_SYNC"):
+        ends = (look_with(kind, k) for k in range(1, AT_ONCE))
+        told, *rest = next(filter(None, ends))
+        kinds = [decode(one)[0].kind for one in told if one]
+        expect(f"{kind}: the reads", kinds, [ANSWER, ANSWER, ANSWER, ACKNOWLEDGE])
+        expect(kind, rest, [False, b"", (1, b"fault 62\n", True)])
+    return 2
 
 
 @test
