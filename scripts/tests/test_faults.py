@@ -38,6 +38,7 @@ fail. A test counts the runs that met their fault."""
 
 import concurrent.futures
 import contextlib
+import json
 import os
 import pathlib
 import re
@@ -51,11 +52,12 @@ import typing
 
 from shared.checks import Failed, expect
 from shared.journals import find_untold, first_line, read_journal, whole_lines, write_rows
+from shared.page_day import PageDay
 from shared.running import CRATES, EXAMPLES, PATIENCE, compile_c, run
 from shared.station import (
-    ACKNOWLEDGE, ANSWER, DISPENSER, FIVE_POINTS, KNOWN_SITE, OPEN, SITES, TILL, command_point,
-    connect, decode, parse, read_point, read_product, read_sale, read_site, receive_all,
-    receive_message, sign_off, sign_on,
+    ACKNOWLEDGE, ANSWER, DISPENSER, FIVE_POINTS, HANG_UP, KNOWN_SITE, LIFT, OPEN, RELEASE, SITES,
+    TILL, command_point, connect, decode, parse, read_point, read_product, read_sale, read_site,
+    receive_all, receive_message, report, sign_off, sign_on,
 )  # fmt: skip
 from tests.built import PROGRAM, TABLES, find_tests_program, list_tests
 from tests.suite import make_folder, test
@@ -859,6 +861,95 @@ def fail_allocations_of_stored_station():
         return got.end.met
 
     return count_some_in_turn("the station with a journal", one)
+
+
+# A sale is made; then a till's looks fill the rows in memory, so that those of the sale are
+# forgotten before the till is read from again; then it makes rows more.
+LOOK_TOKEN = 5
+SALE_BEFORE = [
+    sign_on(1) + command_point(1, 0, 1, OPEN) + command_point(1, 0, 1, RELEASE),
+    ONLINE + report(1, 0, LIFT, 0) + report(1, 0, HANG_UP, 10_000),
+]
+LOOKS = sign_on(2) + read_site(2, LOOK_TOKEN) * 820 + command_point(2, 0, 2, OPEN) * 2
+ANY_END = re.compile("((session of .*|a connection was closed): fault 31: out of memory\n)?")
+
+
+def talk(port, asked):
+    """What a peer is told that asks this, but what its looks are answered."""
+    got = b""
+    with contextlib.suppress(OSError), connect(port) as peer:
+        peer.sendall(asked)
+        peer.shutdown(socket.SHUT_WR)
+        got = receive_all(peer)
+    at, told = 0, b""
+    while at < len(got):
+        end = at + 8 + int.from_bytes(got[at + 6 : at + 8], "big")
+        told += got[at:end] if got[at + 5] & 31 != LOOK_TOKEN else b""
+        at = end
+    return told
+
+
+def list_unpaid(site, text):
+    """The unpaid transactions of a journal, as `sales` lists them."""
+    sales = run(PROGRAM, "sales", site, "--json", given=text).out.decode().splitlines()
+    members = ("shift", "point", "number", "product", "millilitres", "cents", "status")
+    unpaid = [one for one in map(json.loads, sales) if one["status"] != "cleared"]
+    return [{name: one[name] for name in members} for one in unpaid], members
+
+
+def read_unpaid(page, members):
+    """The unpaid transactions that the page tells; it is asked again where it found no memory, and
+    tells none where the day has ended."""
+    for _ in range(2):
+        with contextlib.suppress(OSError, Failed):
+            told = PageDay(PROGRAM, None, page).site()["transactions"]
+            return [{name: one[name] for name in members} for one in told]
+    return None
+
+
+def forget_with(n, few, wide):
+    """A station whose book forgets a sale, with the Nth allocation failed; whether it was met."""
+    words = ["station", few, "--port=0", "--page=0", "--journal", JOURNAL]
+    pipe = subprocess.PIPE
+    with PLACE.prepare({"FAIL_ALLOCATION": n}) as (how, met), subprocess.Popen(
+        [PROGRAM, *words], stdin=pipe, stdout=pipe, stderr=pipe, bufsize=0, **how
+    ) as program:  # fmt: skip
+        lines = [program.stdout.readline().decode() for _ in range(2)]
+        if not all(lines):
+            _, err = program.communicate(timeout=PATIENCE)
+            end = (program.returncode, err.decode())
+            expect(f"{n}: {end}", end in ((4, "fault 31\n"), (1, "fault 64\n")), True)
+            return True
+        port, page = (int(line.rstrip("/\n").rsplit(":", 1)[1]) for line in lines)
+        came = [talk(port, asked) for asked in (*SALE_BEFORE, LOOKS)]
+        journal = pathlib.Path(how["cwd"]) / JOURNAL
+        text = first_line(wide) + journal.read_bytes().split(b"\n", 1)[1]
+        unpaid, members = list_unpaid(wide, text)
+        told = read_unpaid(page, members)
+        out, err = program.communicate(timeout=PATIENCE)
+        text = first_line(wide) + journal.read_bytes().split(b"\n", 1)[1]
+        rows = read_journal(PROGRAM, wide, text)
+        for node, octets in zip(((TILL, 1), (DISPENSER, 1), (TILL, 2)), came):
+            expect(f"allocation {n}: what isn't stored", find_untold(rows, node, octets), None)
+        if program.returncode != 4 or err != b"fault 31\n":
+            expect(f"allocation {n}: unpaid", told, unpaid)
+            wanted = run(PROGRAM, "report", wide, given=text).out
+            expect(f"allocation {n}", (program.returncode, out), (0, wanted))
+            expect(f"allocation {n}: {err}", bool(ANY_END.fullmatch(err.decode())), True)
+        if not met.exists():
+            expect("a whole day: rows, unpaid", (len(rows), len(unpaid)), (11, 1))
+        return met.exists()
+
+
+@test
+def fail_allocations_where_rows_are_forgotten():
+    """A book forgets the rows of a sale, with each allocation failed in turn. Where one of the
+    forgetting's own fails, nothing is forgotten yet: the sale is listed as unpaid just once, and
+    the report is that of the journal."""
+    few, wide = PLACE.folder / "few.toml", PLACE.folder / "wide.toml"
+    few.write_text(f"rows = 1024\n{KNOWN_SITE.read_text()}")
+    wide.write_text(KNOWN_SITE.read_text())
+    return count_some_in_turn("the forgetting station", lambda n: forget_with(n, few, wide))
 
 
 @test
