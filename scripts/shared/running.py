@@ -50,7 +50,8 @@ def run(*command, given=b"", sink=None, **how):
 
 def measure(*command, given=os.devnull, sink=os.devnull):
     """Runs a command from file to file, which has to end well; returns processor seconds and
-    peak kilobytes."""
+    peak kilobytes. Those are never fewer than this script itself has had at most until then: the
+    system counts what a process had before it became another program."""
     with open(given, "rb") as source, open(sink, "wb") as taken:
         child = subprocess.Popen(list(map(str, command)), stdin=source, stdout=taken)
         _, status, usage = os.wait4(child.pid, 0)
