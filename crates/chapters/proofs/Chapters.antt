@@ -1,0 +1,357 @@
+-- Chapters, read back.
+use Rattle.std.proofs.Common.{◌≡◌, ℕ, suc, ◌≤◌, Bool, true, false, List, [], ◌∷◌, ◌++◌}
+use Rattle.std.proofs.Common.{length, drop, Option, Some, None, refl, sym, ap, ◌∙◌}
+use Rattle.std.proofs.Common.{subst, append-nil, append_assoc, arith, eqb, inl, inr, not}
+use Rattle.std.specs.Prelude.{◌&&◌, if◌then◌else◌}
+use Rattle.std.specs.List.{AllByRecursion, list_all, starts_with}
+use Rattle.std.proofs.lemmas.Bool.{cases_eq, eq-eqb, ne_eqb}
+use Rattle.std.proofs.lemmas.List.{length-append}
+use Rattle.std.proofs.lemmas.List.Elements.{recursion_from_All}
+use Rattle.hex.specs.Hex.{encode_lower, is_hex_digit, lower_digits}
+use Rattle.hex.proofs.HexLemmas.{decode_of-encode_lower, decode_of-ok, length-encode_with}
+use Rattle.sha2.specs.Sha256.{sha256}
+use Rattle.site_base.specs.declared.actor.Actor.{Actor}
+use Rattle.site_base.specs.declared.event.Event.{Event}
+use Rattle.site_base.specs.declared.row.Row.{Row}
+use Rattle.app_message.specs.Spelling.{body, head_text, spelling}
+use Rattle.app_message.specs.Telegram.{Telegram}
+use Rattle.device_map.specs.Laws.{AsksFor}
+use Rattle.hex_lines.specs.Lines.{IsLine}
+use Rattle.kept_history.specs.KeptRows.{is_kept, kept_rows}
+use Rattle.kept_history.proofs.LeftOut.{left_out}
+use Rattle.written_site.specs.SiteRun.{events_of}
+use Rattle.written_site.specs.SiteState.{opening}
+use Rattle.journal.specs.History.{rows_asked}
+use Rattle.journal.specs.JournalLines.{lines_from, request_in, unfinished, unfinished_from}
+use Rattle.journal.specs.JournalLines.{whole_lines}
+use Rattle.journal.specs.JournalText.{CanBeSpelled, row_request, title}
+use Rattle.journal.proofs.Kept.{kept_again, kept_apart, no_read}
+use Rattle.journal.proofs.Lines.{line_ends, lines_both, one_line, unfinished_both}
+use Rattle.journal.proofs.Made.{asked_again}
+use Rattle.journal.proofs.Octets.{header_plain, spelled_octets}
+use Rattle.journal.proofs.Requests.{events_both, request_read, spelled_plain}
+use Rattle.chapters.specs.ChapterReading.{Reading, and_then, is_comment, is_line, is_of_seal}
+use Rattle.chapters.specs.ChapterReading.{is_right_seal, read_chapter, read_from, read_line}
+use Rattle.chapters.specs.ChapterReading.{read_lines, sealed_by, with_line, with_request}
+use Rattle.chapters.specs.ChapterText.{chapter_lines, chapter_text, first_lines, last_seal, no_seal}
+use Rattle.chapters.specs.ChapterText.{row_line, row_lines, rows_of_chapters, rows_of_parts}
+use Rattle.chapters.specs.ChapterText.{seal_line, seal_mark, seal_of, sealed_lines}
+use Rattle.chapters.specs.ChapterText.{text_of_lines, texts_from}
+use Rattle.chapters.specs.Laws.{ChaptersTellTheirHistory}
+
+-- ---- octets
+
+begins_with : (a b : List ℕ) → starts_with (λ x y. eqb x y) (a ++ b) a ≡ true
+begins_with [] b = refl
+begins_with (x ∷ a) b = rw (eq-eqb x x refl) (begins_with a b)
+
+behind_front : (a b : List ℕ) → drop (length a) (a ++ b) ≡ b
+behind_front [] b = refl
+behind_front (x ∷ a) b = behind_front a b
+
+is_itself : (line : List ℕ) → is_line line line ≡ true
+is_itself line =
+    ap (λ (t : Bool). t && starts_with (λ x y. eqb x y) line line)
+    (eq-eqb (length line) (length line) refl)
+    ∙ ap (λ (xs : List ℕ). starts_with (λ x y. eqb x y) xs line) (sym (append-nil line))
+    ∙ begins_with line []
+
+plain_both : (a b : List ℕ) → IsLine a → IsLine b → IsLine (a ++ b)
+plain_both [] b first second = second
+plain_both (x ∷ a) b first second = by_first (not (eqb x 10)) first (plain_both a b)
+  where
+    by_first : (t : Bool) → (t && list_all (λ c. not (eqb c 10)) a) ≡ true
+        → (IsLine a → IsLine b → IsLine (a ++ b))
+        → (t && list_all (λ c. not (eqb c 10)) (a ++ b)) ≡ true
+    by_first true all others = others all second
+    by_first false all others = absurd cc
+
+behind_plain : (a b : List ℕ) → IsLine (a ++ b) → IsLine b
+behind_plain [] b plain = plain
+behind_plain (x ∷ a) b plain = by_first (not (eqb x 10)) plain (behind_plain a b)
+  where
+    by_first : (t : Bool) → (t && list_all (λ c. not (eqb c 10)) (a ++ b)) ≡ true
+        → (IsLine (a ++ b) → IsLine b) → IsLine b
+    by_first true all others = others all
+    by_first false all others = absurd cc
+
+-- the digits of a SHA-256 have no line feed
+digest_plain : (octets : List ℕ) → IsLine (encode_lower (sha256 octets))
+digest_plain octets = behind_plain title (encode_lower (sha256 octets)) (header_plain octets)
+
+-- ---- lines
+
+-- lines are read again from their text
+lines_again : (lines : List (List ℕ)) → AllByRecursion IsLine lines
+    → whole_lines (text_of_lines lines) ≡ lines
+lines_again [] plain = refl
+lines_again (line ∷ lines) plain =
+    lines_both [] (line ++ 10 ∷ []) (text_of_lines lines)
+    ∙ ap (λ (ls : List (List ℕ)). ls ++ lines_from (unfinished_from [] (line ++ 10 ∷ []))
+    (text_of_lines lines)) (one_line line plain.0)
+    ∙ ap (λ (left : List ℕ). line ∷ lines_from left (text_of_lines lines)) (line_ends [] line)
+    ∙ ap (λ (ls : List (List ℕ)). line ∷ ls) (lines_again lines plain.1)
+
+none_torn : (lines : List (List ℕ)) → unfinished (text_of_lines lines) ≡ []
+none_torn [] = refl
+none_torn (line ∷ lines) =
+    unfinished_both [] (line ++ 10 ∷ []) (text_of_lines lines)
+    ∙ ap (λ (left : List ℕ). unfinished_from left (text_of_lines lines)) (line_ends [] line)
+    ∙ none_torn lines
+
+read_both : (a b : List (List ℕ)) (r : Reading)
+    → read_lines (a ++ b) r ≡ and_then (read_lines a r) (read_lines b)
+read_both [] b r = refl
+read_both (line ∷ a) b r = by_line (read_line line r) (read_both a b)
+  where
+    by_line : (o : Option Reading)
+        → ((s : Reading) → read_lines (a ++ b) s ≡ and_then (read_lines a s) (read_lines b))
+        → and_then o (read_lines (a ++ b)) ≡ and_then (and_then o (read_lines a)) (read_lines b)
+    by_line None both = refl
+    by_line (Some s) both = both s
+
+-- ---- rows
+
+-- the row is kept, and its request can be spelled
+abbrev IsTold : Row → Type 0
+IsTold r = (is_kept r ≡ true) × AsksFor 0 r.actor r.event (row_request r)
+
+told_rows : (rows : List Row) → kept_rows rows ≡ rows → CanBeSpelled rows
+    → AllByRecursion IsTold rows
+told_rows [] kept spelled = tt
+told_rows (r ∷ rows) kept spelled =
+    let apart = kept_apart r rows kept in
+    ((apart.0, spelled.0), told_rows rows apart.1 spelled.1)
+
+first_told : (a b : List Row) → AllByRecursion IsTold (a ++ b) → AllByRecursion IsTold a
+first_told [] b all = tt
+first_told (r ∷ a) b all = (all.0, first_told a b all.1)
+
+rest_told : (a b : List Row) → AllByRecursion IsTold (a ++ b) → AllByRecursion IsTold b
+rest_told [] b all = all
+rest_told (r ∷ a) b all = rest_told a b all.1
+
+-- digits are no seal and no comment
+digits_ask : (xs : List ℕ) → AllByRecursion (λ x. is_hex_digit x ≡ true) xs → 1 ≤ length xs
+    → (is_of_seal xs ≡ false) × (is_comment xs ≡ false)
+digits_ask [] all some = absurd (omega (arith, some))
+digits_ask (x ∷ xs) all some = elim (cases_eq x 35) [
+  | inl is ↦ absurd (cc (subst (λ (y : ℕ). is_hex_digit y ≡ true) is all.0))
+  | inr other ↦ (rw (ne_eqb 35 x (λ same. other (sym same))) refl, ne_eqb x 35 other)
+]
+
+row_asks : (r : Row) → IsTold r
+    → (is_of_seal (row_line r) ≡ false) × (is_comment (row_line r) ≡ false)
+row_asks r told =
+    let m : Telegram = row_request r in
+    let read = decode_of-encode_lower (spelling m) (spelled_octets m told.1.message) in
+    let digits = recursion_from_All (λ x. is_hex_digit x ≡ true) (row_line r)
+    (decode_of-ok (row_line r) (spelling m) read).1 in
+    let size = length-encode_with lower_digits (spelling m) in
+    let whole = length-append (head_text m (length (body m))) (body m) in
+    digits_ask (row_line r) digits (omega (arith, size, whole))
+
+-- the reading with these rows
+abbrev with_rows : List Row → Reading → Reading
+with_rows rows r =
+    record r { unsealed = r.unsealed ++ row_lines rows; events = r.events ++ events_of rows }
+
+row_read : (row : Row) (r : Reading) → IsTold row
+    → read_line (row_line row) r ≡ Some (with_rows (row ∷ []) r)
+row_read row r told =
+    let line : List ℕ = row_line row in
+    let asks = row_asks row told in
+    let request : request_in line ≡ Some (row.actor, row.event) =
+    request_read (row_request row) row.actor row.event told.1.message told.1.asks
+    (no_read row told.0) in
+    ap (λ (t : Bool). if t then sealed_by (is_right_seal line r) r
+    else if is_comment line then Some (with_line line r)
+    else with_request (request_in line) line r) asks.0
+    ∙ ap (λ (t : Bool). if t then Some (with_line line r)
+    else with_request (request_in line) line r) asks.1
+    ∙ ap (λ (o : Option (Actor × Event)). with_request o line r) request
+
+rows_read : (rows : List Row) (r : Reading) → AllByRecursion IsTold rows
+    → read_lines (row_lines rows) r ≡ Some (with_rows rows r)
+rows_read [] r told =
+    ap (λ (ls : List (List ℕ)). Some (record r { unsealed = ls; events = r.events }))
+    (sym (append-nil r.unsealed))
+    ∙ ap (λ (es : List (Actor × Event)). Some (record r {
+      unsealed = r.unsealed ++ [];
+      events = es;
+    }))
+    (sym (append-nil r.events))
+rows_read (row ∷ rows) r told =
+    ap (λ (o : Option Reading). and_then o (read_lines (row_lines rows))) (row_read row r told.0)
+    ∙ rows_read rows (with_rows (row ∷ []) r) told.1
+    ∙ ap (λ (ls : List (List ℕ)). Some (record r {
+      unsealed = ls;
+      events = (r.events ++ events_of (row ∷ [])) ++ events_of rows;
+    })) (append_assoc r.unsealed (row_line row ∷ []) (row_lines rows))
+    ∙ ap (λ (es : List (Actor × Event)). Some (record r {
+      unsealed = r.unsealed ++ row_lines (row ∷ rows);
+      events = es;
+    })) (append_assoc r.events (events_of (row ∷ [])) (events_of rows))
+
+-- ---- seals
+
+-- read up to a seal
+abbrev at_seal : List ℕ → List ℕ → List (Actor × Event) → Reading
+at_seal seal torn events =
+    record { seal = seal; unsealed = []; torn = torn; events = events }
+
+seal_read : (r : Reading) → read_line (seal_line (seal_of r.seal r.unsealed)) r
+    ≡ Some (at_seal (seal_of r.seal r.unsealed) r.torn r.events)
+seal_read r =
+    let seal : List ℕ = seal_of r.seal r.unsealed in
+    let line : List ℕ = seal_line seal in
+    ap (λ (t : Bool). if t then sealed_by (is_right_seal line r) r
+    else if is_comment line then Some (with_line line r)
+    else with_request (request_in line) line r) (begins_with seal_mark seal)
+    ∙ ap (λ (t : Bool). sealed_by t r) (is_itself line)
+
+parts_read : (parts : List (List Row)) (seal torn : List ℕ) (events : List (Actor × Event))
+    → AllByRecursion IsTold (rows_of_parts parts)
+    → read_lines (sealed_lines seal parts) (at_seal seal torn events)
+    ≡ Some (at_seal (last_seal seal parts) torn (events ++ events_of (rows_of_parts parts)))
+parts_read [] seal torn events told =
+    ap (λ (es : List (Actor × Event)). Some (at_seal seal torn es)) (sym (append-nil events))
+parts_read (part ∷ parts) seal torn events told =
+    let rest : List Row = rows_of_parts parts in
+    let next : List ℕ = seal_of seal (row_lines part) in
+    let more : List (List ℕ) = sealed_lines next parts in
+    let begun : Reading = at_seal seal torn events in
+    let read : Reading = with_rows part begun in
+    read_both (row_lines part) (seal_line next ∷ more) begun
+    ∙ ap (λ (o : Option Reading). and_then o (read_lines (seal_line next ∷ more)))
+    (rows_read part begun (first_told part rest told))
+    ∙ ap (λ (o : Option Reading). and_then o (read_lines more)) (seal_read read)
+    ∙ parts_read parts next torn (events ++ events_of part) (rest_told part rest told)
+    ∙ ap (λ (es : List (Actor × Event)). Some (at_seal (last_seal next parts) torn es))
+    (append_assoc events (events_of part) (events_of rest)
+    ∙ ap (λ (es : List (Actor × Event)). events ++ es) (sym (events_both part rest)))
+
+-- ---- chapters
+
+all_both : (xs ys : List (List ℕ)) → AllByRecursion IsLine xs → AllByRecursion IsLine ys
+    → AllByRecursion IsLine (xs ++ ys)
+all_both [] ys first second = second
+all_both (x ∷ xs) ys first second = (first.0, all_both xs ys first.1 second)
+
+rows_plain : (rows : List Row) → AllByRecursion IsTold rows → AllByRecursion IsLine (row_lines rows)
+rows_plain [] told = tt
+rows_plain (r ∷ rows) told =
+    (spelled_plain (row_request r) told.0.1.message, rows_plain rows told.1)
+
+parts_plain : (parts : List (List Row)) (seal : List ℕ)
+    → AllByRecursion IsTold (rows_of_parts parts)
+    → AllByRecursion IsLine (sealed_lines seal parts)
+parts_plain [] seal told = tt
+parts_plain (part ∷ parts) seal told =
+    let rest : List Row = rows_of_parts parts in
+    let next : List ℕ = seal_of seal (row_lines part) in
+    all_both (row_lines part) (seal_line next ∷ sealed_lines next parts)
+    (rows_plain part (first_told part rest told)) (
+      plain_both seal_mark next refl (digest_plain (seal ++ text_of_lines (row_lines part))),
+      parts_plain parts next (rest_told part rest told),
+    )
+
+-- the reading behind a chapter
+abbrev behind_chapter : List ℕ → List (List Row) → List Row → List (Actor × Event) → Reading
+behind_chapter after sealed behind events = record {
+  seal = last_seal after sealed;
+  unsealed = row_lines behind;
+  torn = [];
+  events = events ++ events_of (rows_of_parts sealed ++ behind);
+}
+
+chapter_read : (site_file : List ℕ) (n : ℕ) (after : List ℕ) (sealed : List (List Row))
+    (behind : List Row) (events : List (Actor × Event))
+    → AllByRecursion IsTold (rows_of_parts sealed ++ behind)
+    → read_chapter site_file n (chapter_text site_file n after sealed behind)
+    (at_seal after [] events)
+    ≡ Some (behind_chapter after sealed behind events)
+chapter_read site_file n after sealed behind events told =
+    let first : List ℕ = text_of_lines (first_lines site_file n after) in
+    let lines : List (List ℕ) = chapter_lines after sealed behind in
+    let rows : List Row = rows_of_parts sealed in
+    let begun : Reading = at_seal after [] events in
+    let text : List ℕ = first ++ text_of_lines lines in
+    let plain = all_both (sealed_lines after sealed) (row_lines behind)
+    (parts_plain sealed after (first_told rows behind told))
+    (rows_plain behind (rest_told rows behind told)) in
+    ap (λ (t : Bool). if t
+    then read_lines (whole_lines (drop (length first) text))
+    (record begun { torn = unfinished (drop (length first) text) })
+    else None) (begins_with first (text_of_lines lines))
+    ∙ ap (λ (rest : List ℕ). read_lines (whole_lines rest)
+    (record begun { torn = unfinished rest }))
+    (behind_front first (text_of_lines lines))
+    ∙ ap (λ (torn : List ℕ). read_lines (whole_lines (text_of_lines lines))
+    (record begun { torn = torn })) (none_torn lines)
+    ∙ ap (λ (ls : List (List ℕ)). read_lines ls begun) (lines_again lines plain)
+    ∙ read_both (sealed_lines after sealed) (row_lines behind) begun
+    ∙ ap (λ (o : Option Reading). and_then o (read_lines (row_lines behind)))
+    (parts_read sealed after [] events (first_told rows behind told))
+    ∙ rows_read behind (at_seal (last_seal after sealed) [] (events ++ events_of rows))
+    (rest_told rows behind told)
+    ∙ ap (λ (es : List (Actor × Event)). Some (record {
+      seal = last_seal after sealed;
+      unsealed = row_lines behind;
+      torn = [];
+      events = es;
+    }))
+    (append_assoc events (events_of rows) (events_of behind)
+    ∙ ap (λ (es : List (Actor × Event)). events ++ es) (sym (events_both rows behind)))
+
+-- ---- a history
+
+-- the texts of chapters were read, and so many requests of them
+abbrev ReadOf : List ℕ → ℕ → List (List ℕ) → Reading → List (Actor × Event) → Type 0
+ReadOf site_file n texts r events =
+    (end : Reading) × (read_from site_file n texts r ≡ Some end) × (end.events ≡ events)
+
+texts_read : (site_file : List ℕ) (closed : List (List (List Row))) (sealed : List (List Row))
+    (behind : List Row) (n : ℕ) (after : List ℕ) (events : List (Actor × Event))
+    → AllByRecursion IsTold (rows_of_chapters closed sealed behind)
+    → ReadOf site_file n (texts_from site_file n after closed sealed behind)
+    (at_seal after [] events)
+    (events ++ events_of (rows_of_chapters closed sealed behind))
+texts_read site_file [] sealed behind n after events told = (
+  behind_chapter after sealed behind events,
+  ap (λ (o : Option Reading). and_then o (read_from site_file (suc n) []))
+      (chapter_read site_file n after sealed behind events told),
+  refl,
+)
+texts_read site_file (c ∷ closed) sealed behind n after events told =
+    let rows : List Row = rows_of_parts c in
+    let others : List Row = rows_of_chapters closed sealed behind in
+    let texts = texts_from site_file (suc n) (last_seal after c) closed sealed behind in
+    let alone : rows ++ [] ≡ rows = append-nil rows in
+    let told_first = subst (AllByRecursion IsTold) (sym alone) (first_told rows others told) in
+    let later = texts_read site_file closed sealed behind (suc n) (last_seal after c)
+    (events ++ events_of rows) (rest_told rows others told) in (
+      later.0,
+      ap (λ (o : Option Reading). and_then o (read_from site_file (suc n) texts))
+          (chapter_read site_file n after c [] events told_first
+          ∙ ap (λ (rs : List Row). Some (at_seal (last_seal after c) [] (events ++ events_of rs)))
+          alone)
+          ∙ later.1,
+      later.2 ∙ append_assoc events (events_of rows) (events_of others)
+          ∙ ap (λ (es : List (Actor × Event)). events ++ es) (sym (events_both rows others)),
+    )
+
+pub chapters_tell_their_history : ChaptersTellTheirHistory
+chapters_tell_their_history site_file config rows closed sealed behind legal spelled are =
+    let told = subst (AllByRecursion IsTold) (sym are)
+    (told_rows (kept_rows rows) (kept_again rows) spelled) in
+    let read = texts_read site_file closed sealed behind 1 no_seal [] told in
+    record {
+      reading = read.0;
+      read = read.1;
+      made =
+          ap (rows_asked (opening config))
+          (read.2 ∙ ap (λ (rs : List Row). events_of rs) are)
+          ∙ asked_again (opening config) (kept_rows rows)
+          (left_out (opening config) rows legal).legal;
+    }

@@ -1,0 +1,100 @@
+-- What is read of chapters: their requests, where each chapter goes on from the one before, and each
+-- seal is the one of what it covers.
+use Rattle.std.specs.Prelude.{ℕ, suc, Bool, true, false, ◌&&◌, ◌==◌, List, [], ◌∷◌, ◌++◌, drop}
+use Rattle.std.specs.Prelude.{length, Option, Some, None, if◌then◌else◌}
+use Rattle.std.specs.List.{starts_with}
+use Rattle.site_base.specs.declared.actor.Actor.{Actor}
+use Rattle.site_base.specs.declared.event.Event.{Event}
+use Rattle.journal.specs.JournalLines.{request_in, unfinished, whole_lines}
+use Rattle.chapters.specs.ChapterText.{first_lines, no_seal, seal_line, seal_mark, seal_of}
+use Rattle.chapters.specs.ChapterText.{text_of_lines}
+
+-- read so far: the last seal, the lines behind it, the octets behind the last line feed of the last
+-- chapter, and the requests of all rows
+pub record Reading : Type 0 where
+  pub seal : List ℕ
+  pub unsealed : List (List ℕ)
+  pub torn : List ℕ
+  pub events : List (Actor × Event)
+
+-- nothing is read
+abbrev pub nothing_read : Reading
+nothing_read = record { seal = no_seal; unsealed = []; torn = []; events = [] }
+
+-- ---- a line
+
+-- the line is of a seal
+abbrev pub is_of_seal : List ℕ → Bool
+is_of_seal line = starts_with (λ a b. a == b) line seal_mark
+
+-- .. and it is just this one
+abbrev pub is_line : List ℕ → List ℕ → Bool
+is_line right line = (length line == length right) && starts_with (λ a b. a == b) line right
+
+-- .. which is that of what it covers
+abbrev pub is_right_seal : List ℕ → Reading → Bool
+is_right_seal line r = is_line (seal_line (seal_of r.seal r.unsealed)) line
+
+abbrev pub sealed_by : Bool → Reading → Option Reading
+sealed_by true r =
+    Some (record {
+      seal = seal_of r.seal r.unsealed;
+      unsealed = [];
+      torn = r.torn;
+      events = r.events;
+    })
+sealed_by false r = None
+
+abbrev pub with_line : List ℕ → Reading → Reading
+with_line line r = record r { unsealed = r.unsealed ++ line ∷ [] }
+
+abbrev pub with_request : Option (Actor × Event) → List ℕ → Reading → Option Reading
+with_request None line r = None
+with_request (Some e) line r = Some (record (with_line line r) { events = r.events ++ e ∷ [] })
+
+-- the line says nothing of rows
+abbrev pub is_comment : List ℕ → Bool
+is_comment [] = false
+is_comment (b ∷ bs) = b == 35
+
+-- a line is read: a seal has to be right, a comment says nothing, and any other line is a request
+-- whose row is kept
+abbrev pub read_line : List ℕ → Reading → Option Reading
+read_line line r =
+    if is_of_seal line then sealed_by (is_right_seal line r) r
+    else if is_comment line then Some (with_line line r)
+    else with_request (request_in line) line r
+
+abbrev pub and_then : Option Reading → (Reading → Option Reading) → Option Reading
+and_then None next = None
+and_then (Some r) next = next r
+
+-- lines are read, one after another
+abbrev pub read_lines : List (List ℕ) → Reading → Option Reading
+read_lines [] r = Some r
+read_lines (line ∷ lines) r = and_then (read_line line r) (read_lines lines)
+
+-- ---- a chapter
+
+abbrev pub is_none_left : Reading → Bool
+is_none_left r = (length r.unsealed == 0) && (length r.torn == 0)
+
+-- a chapter of this number is read: the one before ended with a seal, and its own first lines name
+-- it, the site file, and that seal. Octets behind its last line feed are none of its lines
+abbrev pub read_chapter : List ℕ → ℕ → List ℕ → Reading → Option Reading
+read_chapter site_file n text r =
+    let first = text_of_lines (first_lines site_file n r.seal) in
+    let rest = drop (length first) text in
+    if is_none_left r && starts_with (λ a b. a == b) text first
+    then read_lines (whole_lines rest) (record r { torn = unfinished rest })
+    else None
+
+-- chapters are read, from this number on
+abbrev pub read_from : List ℕ → ℕ → List (List ℕ) → Reading → Option Reading
+read_from site_file n [] r = Some r
+read_from site_file n (text ∷ texts) r =
+    and_then (read_chapter site_file n text r) (read_from site_file (suc n) texts)
+
+-- the texts of a history's chapters are read
+abbrev pub read_history : List ℕ → List (List ℕ) → Option Reading
+read_history site_file texts = read_from site_file 1 texts nothing_read

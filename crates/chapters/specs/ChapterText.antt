@@ -1,0 +1,93 @@
+-- The text of a chapter: three lines that name it, a line for each row, and seals.
+use Rattle.std.specs.Prelude.{ℕ, suc, List, [], ◌∷◌, ◌++◌, codes, decimal, map}
+use Rattle.std.specs.Prelude.{replicate}
+use Rattle.std.specs.List.{flat_map}
+use Rattle.hex.specs.Hex.{encode_lower}
+use Rattle.sha2.specs.Sha256.{sha256}
+use Rattle.site_base.specs.declared.row.Row.{Row}
+use Rattle.app_message.specs.Spelling.{spelling}
+use Rattle.journal.specs.JournalText.{row_request}
+
+-- lines, each with its line feed
+abbrev pub text_of_lines : List (List ℕ) → List ℕ
+text_of_lines lines = flat_map (λ line. line ++ 10 ∷ []) lines
+
+-- ---- seals
+
+-- what stands for a seal before the first chapter
+abbrev pub no_seal : List ℕ
+no_seal = replicate 64 48
+
+-- the seal of lines: the SHA-256 of the seal before them, and of their octets
+abbrev pub seal_of : List ℕ → List (List ℕ) → List ℕ
+seal_of before lines = encode_lower (sha256 (before ++ text_of_lines lines))
+
+-- what the line of a seal begins with
+abbrev pub seal_mark : List ℕ
+seal_mark = codes "# seal "
+
+abbrev pub seal_line : List ℕ → List ℕ
+seal_line seal = seal_mark ++ seal
+
+-- ---- a chapter
+
+-- the lines that name the chapter of this number, behind that seal, of the history of a site file
+abbrev pub first_lines : List ℕ → ℕ → List ℕ → List (List ℕ)
+first_lines site_file n after =
+    (codes "# witsomar history 1 chapter " ++ decimal n)
+    ∷ (codes "# site " ++ encode_lower (sha256 site_file)) ∷ (codes "# after " ++ after) ∷ []
+
+-- the request of a row's actor and event, with token 0, in lower case hexadecimal
+abbrev pub row_line : Row → List ℕ
+row_line r = encode_lower (spelling (row_request r))
+
+-- the lines of rows
+abbrev pub row_lines : List Row → List (List ℕ)
+row_lines rows = map row_line rows
+
+-- a seal behind each of these parts, of which the first stands behind that seal
+abbrev pub sealed_lines : List ℕ → List (List Row) → List (List ℕ)
+sealed_lines before [] = []
+sealed_lines before (part ∷ parts) =
+    let seal = seal_of before (row_lines part) in
+    row_lines part ++ (seal_line seal ∷ sealed_lines seal parts)
+
+-- .. and the last of these seals
+abbrev pub last_seal : List ℕ → List (List Row) → List ℕ
+last_seal before [] = before
+last_seal before (part ∷ parts) = last_seal (seal_of before (row_lines part)) parts
+
+-- the lines behind the first three: of parts with their seals, and of rows without one yet
+abbrev pub chapter_lines : List ℕ → List (List Row) → List Row → List (List ℕ)
+chapter_lines after sealed behind = sealed_lines after sealed ++ row_lines behind
+
+abbrev pub chapter_text : List ℕ → ℕ → List ℕ → List (List Row) → List Row → List ℕ
+chapter_text site_file n after sealed behind =
+    text_of_lines (first_lines site_file n after)
+    ++ text_of_lines (chapter_lines after sealed behind)
+
+-- ---- a history
+
+-- the rows of parts, one after another
+abbrev pub rows_of_parts : List (List Row) → List Row
+rows_of_parts [] = []
+rows_of_parts (part ∷ parts) = part ++ rows_of_parts parts
+
+-- the rows of chapters that are closed, and of the open one
+abbrev pub rows_of_chapters : List (List (List Row)) → List (List Row) → List Row → List Row
+rows_of_chapters [] sealed behind = rows_of_parts sealed ++ behind
+rows_of_chapters (c ∷ closed) sealed behind =
+    rows_of_parts c ++ rows_of_chapters closed sealed behind
+
+-- the texts of chapters from this number on, behind that seal: closed ones end with a seal
+abbrev pub texts_from : List ℕ → ℕ → List ℕ → List (List (List Row)) → List (List Row) → List Row
+    → List (List ℕ)
+texts_from site_file n after [] sealed behind = chapter_text site_file n after sealed behind ∷ []
+texts_from site_file n after (c ∷ closed) sealed behind =
+    chapter_text site_file n after c []
+    ∷ texts_from site_file (suc n) (last_seal after c) closed sealed behind
+
+-- the texts of a history's chapters
+abbrev pub history_texts : List ℕ → List (List (List Row)) → List (List Row) → List Row
+    → List (List ℕ)
+history_texts site_file closed sealed behind = texts_from site_file 1 no_seal closed sealed behind

@@ -1,0 +1,3 @@
+pub mod ChapterText
+pub mod ChapterReading
+pub mod Laws
