@@ -1,5 +1,5 @@
--- What is read of chapters: their requests, where each chapter goes on from the one before, and each
--- seal is the one of what it covers.
+-- What is read of chapters: their requests. Each chapter has to go on from the one before, and each
+-- seal to be the one of what it covers.
 use Rattle.std.specs.Prelude.{ℕ, suc, Bool, true, false, ◌&&◌, ◌==◌, List, [], ◌∷◌, ◌++◌, drop}
 use Rattle.std.specs.Prelude.{length, Option, Some, None, if◌then◌else◌}
 use Rattle.std.specs.List.{starts_with}

@@ -1,3 +1,4 @@
 pub mod ChapterText
+pub mod Seals
 pub mod ChapterReading
 pub mod Laws
