@@ -6,5 +6,5 @@ pub returns : goal.returns
 returns c =
     c.in_ok-write.ensures.bytes
     ∙ ap (λ (text : List ℕ). string_bytes c.args.text.now ++ text)
-    (lines_named c.args.site_file.now c.args.number (string_bytes c.in_ok-site.site) c.args.after.now
-    (search rules))
+    (lines_named c.args.site_file.now c.args.number (string_bytes c.in_ok-site.site)
+    c.args.after.now (search rules))
