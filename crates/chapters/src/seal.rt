@@ -6,6 +6,7 @@ ghost use Rattle.sha2.specs.Sha256.{sha256};
 ghost use Rattle.chapters.specs.Seals.{Covers};
 
 use sha2::{Digest, Sha256};
+use std::marker::Model;
 
 /// The digits of a seal.
 pub const SEAL_DIGITS: usize = 64;
@@ -14,6 +15,14 @@ pub const SEAL_DIGITS: usize = 64;
 #[derive(Drop)]
 pub struct Unsealed {
     hasher: Sha256,
+}
+
+impl Model for Unsealed {
+    ghost use Rattle.sha2.specs.declared.Sha256.{Sha256};
+
+    ghost Value = { Sha256 };
+
+    ghost view = { λ u. u.hasher };
 }
 
 impl Unsealed {
