@@ -1,19 +1,18 @@
 -- Moves of a station, one after another.
 use Rattle.std.proofs.Common.{◌≡◌, ℕ, List, [], ◌∷◌, ◌++◌, Option, Some, None, refl, sym, ap, ◌∙◌}
-use Rattle.std.proofs.Common.{inl, inr, true}
-use Rattle.station.specs.Moves.{StationState, with_end, with_octets, with_taken}
+use Rattle.std.proofs.Common.{arith, inl, inr, subst, true}
+use Rattle.station.specs.Moves.{StationState, with_end, with_taken}
 use Rattle.station.specs.Moves.{without_peer}
 use Rattle.station.specs.Reads.{Arrives as GetsKey, is_read_at}
 use Rattle.station.specs.Runs.{Arrives, Finishes, Forgets, Leaves, Move, Says, Takes, after}
 use Rattle.station.specs.Runs.{after_move, arrive}
-use Rattle.station.specs.Sessions.{Grants}
-use Rattle.journal.specs.Memory.{IsSameOrForgets}
+use Rattle.journal.specs.Memory.{HasRoomToHear, IsSameOrForgets}
 use Rattle.journal.specs.Stored.{StoredState, with_station}
 use Rattle.connection_calls.specs.declared.call.Call.{Call}
 use Rattle.connection_calls.specs.declared.call.Call.TheVariants.{Ended, Failed, Interrupted}
 use Rattle.connection_calls.specs.declared.call.Call.TheVariants.{Passed, Waits}
 use Rattle.peer_connections.specs.Calls.{HearsCall, HearsWithRoom, SendsCall}
-use Rattle.peer_connections.specs.Reaches.{Reaches}
+use Rattle.peer_connections.specs.Reaches.{FindRoom, FindsRoom, Reaches}
 
 -- moves, and then more
 after_both : (ms more : List Move) (s : StationState)
@@ -21,9 +20,16 @@ after_both : (ms more : List Move) (s : StationState)
 after_both [] more s = refl
 after_both (m ∷ ms) more s = after_both ms more (after_move m s)
 
+-- .. and each read finds room
+room_both : (ms more : List Move) (s : StationState) → FindRoom ms s → FindRoom more (after ms s)
+    → FindRoom (ms ++ more) s
+room_both [] more s first last = last
+room_both (m ∷ ms) more s first last =
+    (first.0, room_both ms more (after_move m s) first.1 last)
+
 -- nothing was done
 pub reaches_same : (s t : StationState) → t ≡ s → Reaches s t
-reaches_same s t same = record { moves = []; lead = same }
+reaches_same s t same = record { moves = []; lead = same; room = tt }
 
 -- one thing after another
 pub reaches_then : (s t u : StationState) → Reaches s t → Reaches t u → Reaches s u
@@ -31,29 +37,27 @@ reaches_then s t u first last = record {
   moves = first.moves ++ last.moves;
   lead = last.lead ∙ ap (after last.moves) first.lead
       ∙ sym (after_both first.moves last.moves s);
+  room = room_both first.moves last.moves s first.room
+      (subst (FindRoom last.moves) first.lead last.room);
 }
 
 -- one move
-reaches_by : (m : Move) (s t : StationState) → t ≡ after_move m s → Reaches s t
-reaches_by m s t moved = record { moves = m ∷ []; lead = moved }
-
-pub reaches_heard : (g : Grants) (k : ℕ) (octets : List ℕ) (s t : StationState)
-    → t ≡ with_octets g k octets s → Reaches s t
-reaches_heard g k octets s t heard = reaches_by (Says g k octets) s t heard
+reaches_by : (m : Move) (s t : StationState) → FindsRoom m s → t ≡ after_move m s → Reaches s t
+reaches_by m s t room moved = record { moves = m ∷ []; lead = moved; room = (room, tt) }
 
 pub reaches_taken : (k n : ℕ) (s t : StationState) → t ≡ with_taken k n s → Reaches s t
-reaches_taken k n s t taken = reaches_by (Takes k n) s t taken
+reaches_taken k n s t taken = reaches_by (Takes k n) s t tt taken
 
 pub reaches_end : (k : ℕ) (s t : StationState) → t ≡ with_end k s → Reaches s t
-reaches_end k s t end = reaches_by (Finishes k) s t end
+reaches_end k s t end = reaches_by (Finishes k) s t tt end
 
 pub reaches_left : (k : ℕ) (s t : StationState) → t ≡ without_peer k s → Reaches s t
-reaches_left k s t left = reaches_by (Leaves k) s t left
+reaches_left k s t left = reaches_by (Leaves k) s t tt left
 
 -- nothing was done, or rows were forgotten
 reaches_room : (s t : StationState) → IsSameOrForgets s t → Reaches s t
 reaches_room s t (inl same) = reaches_same s t same
-reaches_room s t (inr forgets) = reaches_by Forgets s t forgets
+reaches_room s t (inr forgets) = reaches_by Forgets s t tt forgets
 
 -- .. and who was read from still is
 pub still_read : (k : ℕ) (s t : StationState) → IsSameOrForgets s t → is_read_at s k ≡ true
@@ -65,24 +69,25 @@ still_read k s t (inr forgets) read = ap (λ (x : StationState). is_read_at x k)
 pub reaches_arrival : (key : Option ℕ) (s t : StationState) → GetsKey key s t → Reaches s t
 reaches_arrival None s t gets = reaches_same s t gets.0
 reaches_arrival (Some k) s t gets =
-    reaches_by (Arrives k) s t (gets.2 ∙ ap (λ x. arrive k x s) (sym gets.1))
+    reaches_by (Arrives k) s t tt (gets.2 ∙ ap (λ x. arrive k x s) (sym gets.1))
 
--- a call at a connection
+-- a call at a connection, where there is room
 reaches_read : (call : Call) (k : ℕ) (left left' : Option (List ℕ)) (s t : StationState)
-    → HearsCall call k left left' s t → Reaches s t
-reaches_read (Passed n) k left left' s t hears =
-    reaches_heard hears.memory k hears.octets s t hears.heard
-reaches_read Ended k left left' s t hears = reaches_end k s t hears.1
-reaches_read Interrupted k left left' s t hears = reaches_same s t hears.1
-reaches_read Waits k left left' s t hears = reaches_same s t hears.1
-reaches_read Failed k left left' s t hears = reaches_end k s t hears.1
+    → HasRoomToHear s.book → HearsCall call k left left' s t → Reaches s t
+reaches_read (Passed n) k left left' s t room hears =
+    reaches_by (Says hears.memory k hears.octets) s t
+    (omega (arith, hears.size, hears.few), room) hears.heard
+reaches_read Ended k left left' s t room hears = reaches_end k s t hears.1
+reaches_read Interrupted k left left' s t room hears = reaches_same s t hears.1
+reaches_read Waits k left left' s t room hears = reaches_same s t hears.1
+reaches_read Failed k left left' s t room hears = reaches_end k s t hears.1
 
 -- .. for which room was made
 pub reaches_heard_with_room : (call : Call) (k : ℕ) (left left' : Option (List ℕ))
     (s t : StationState) → HearsWithRoom call k left left' s t → Reaches s t
 reaches_heard_with_room call k left left' s t hears =
     reaches_then s hears.ready t (reaches_room s hears.ready hears.makes)
-    (reaches_read call k left left' hears.ready t hears.hears)
+    (reaches_read call k left left' hears.ready t hears.room hears.hears)
 
 -- ---- of a station with its journal
 

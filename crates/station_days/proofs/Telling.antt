@@ -12,7 +12,7 @@ use Rattle.station.specs.Reads.{HasNoPeer}
 use Rattle.station.specs.Runs.{Move, after, opening_station}
 use Rattle.station.proofs.TillSessions.{tills_have}
 use Rattle.journal.specs.Opening.{HasNobodyOn}
-use Rattle.peer_connections.specs.Reaches.{Reaches}
+use Rattle.peer_connections.specs.Reaches.{FindRoom, Reaches}
 use Rattle.day_base.specs.declared.plan.ReportForm.{ReportForm}
 use Rattle.station_days.specs.StationDays.{TellsDay, TellsFront, day_book, day_station}
 use Rattle.day_base.specs.Texts.{places_text, report_in}
@@ -53,6 +53,7 @@ tells_station opens u v w said port page_said page form x s t same also begins o
     report =
     record {
       moves = r.moves;
+      room = subst (FindRoom r.moves) begins r.room;
       left = subst HasNoPeer (reached_station opens s t begins r) left;
       off = nobody_signed opens r.moves off
           (subst HasNoPeer (reached_station opens s t begins r) left);

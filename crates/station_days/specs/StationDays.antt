@@ -14,6 +14,7 @@ use Rattle.day_base.specs.Texts.{places_text, report_in}
 use Rattle.station.specs.Moves.{StationState}
 use Rattle.station.specs.Reads.{HasNoPeer}
 use Rattle.station.specs.Runs.{Move, after, opening_station}
+use Rattle.peer_connections.specs.Reaches.{FindRoom}
 
 -- the station after these moves, of a day that opens at this book
 abbrev pub day_station : Book → List Move → StationState
@@ -34,10 +35,12 @@ ended_by servers.NoMemory = NoMemory
 ended_by servers.NoConnection = NoConnection
 ended_by servers.NotStored = Write writes.Failed
 
--- the whole text of a day was written, at whose end nobody is there, and no till is signed on
+-- the whole text of a day was written, in which each read of a peer found room, and at whose end
+-- nobody is there, and no till is signed on
 pub record TellsDay (opens : Book) (port : ℕ) (page : Option ℕ) (form : ReportForm)
     (holds holds' : Option (List ℕ)) : Type 0 where
   pub moves : List Move
+  pub room : FindRoom moves (opening_station opens)
   pub left : HasNoPeer (day_station opens moves)
   pub off : (t : ℕ) → is_signed_on (site_of_book (day_book opens moves)) t ≡ false
   pub told : Appends holds holds' (station_text opens port page form moves)
