@@ -2,7 +2,7 @@
 use Rattle.std.proofs.Common.{◌≡◌, ℕ, suc, ◌≤◌, Bool, true, false, List, [], ◌∷◌, ◌++◌}
 use Rattle.std.proofs.Common.{length, drop, Option, Some, None, refl, sym, ap, ◌∙◌}
 use Rattle.std.proofs.Common.{subst, append-nil, append_assoc, arith, eqb, inl, inr, not}
-use Rattle.std.specs.Prelude.{◌&&◌, if◌then◌else◌}
+use Rattle.std.specs.Prelude.{◌&&◌, ◌≢◌, if◌then◌else◌}
 use Rattle.std.specs.List.{AllByRecursion, list_all, starts_with}
 use Rattle.std.proofs.lemmas.Bool.{cases_eq, eq-eqb, ne_eqb}
 use Rattle.std.proofs.lemmas.List.{length-append}
@@ -30,11 +30,13 @@ use Rattle.journal.proofs.Lines.{line_ends, lines_both, one_line, unfinished_bot
 use Rattle.journal.proofs.Made.{asked_again}
 use Rattle.journal.proofs.Octets.{header_plain, spelled_octets}
 use Rattle.journal.proofs.Requests.{events_both, request_read, spelled_plain}
-use Rattle.chapters.specs.ChapterReading.{Reading, and_then, is_comment, is_line, is_of_seal}
-use Rattle.chapters.specs.ChapterReading.{is_right_seal, read_chapter, read_from, read_line}
-use Rattle.chapters.specs.ChapterReading.{read_lines, sealed_by, with_line, with_request}
+use Rattle.chapters.specs.ChapterReading.{HistoryRead, add_request, and_then, is_comment}
+use Rattle.chapters.specs.ChapterReading.{is_of_seal, is_right_seal, is_same_line, nothing_read}
+use Rattle.chapters.specs.ChapterReading.{read_chapter, read_from, read_history, read_line}
+use Rattle.chapters.specs.ChapterReading.{read_lines, sealed_by, with_line}
 use Rattle.chapters.specs.ChapterText.{chapter_lines, chapter_text, first_lines, last_seal, no_seal}
-use Rattle.chapters.specs.ChapterText.{row_line, row_lines, rows_of_chapters, rows_of_parts}
+use Rattle.chapters.specs.ChapterText.{history_texts, row_digits, row_lines, rows_of_chapters}
+use Rattle.chapters.specs.ChapterText.{rows_of_parts}
 use Rattle.chapters.specs.ChapterText.{seal_line, seal_mark, seal_of, sealed_lines}
 use Rattle.chapters.specs.ChapterText.{text_of_lines, texts_from}
 use Rattle.chapters.specs.Laws.{ChaptersTellTheirHistory}
@@ -49,7 +51,7 @@ behind_front : (a b : List ℕ) → drop (length a) (a ++ b) ≡ b
 behind_front [] b = refl
 behind_front (x ∷ a) b = behind_front a b
 
-is_itself : (line : List ℕ) → is_line line line ≡ true
+is_itself : (line : List ℕ) → is_same_line line line ≡ true
 is_itself line =
     ap (λ (t : Bool). t && starts_with (λ x y. eqb x y) line line)
     (eq-eqb (length line) (length line) refl)
@@ -99,13 +101,13 @@ none_torn (line ∷ lines) =
     ∙ ap (λ (left : List ℕ). unfinished_from left (text_of_lines lines)) (line_ends [] line)
     ∙ none_torn lines
 
-read_both : (a b : List (List ℕ)) (r : Reading)
+read_both : (a b : List (List ℕ)) (r : HistoryRead)
     → read_lines (a ++ b) r ≡ and_then (read_lines a r) (read_lines b)
 read_both [] b r = refl
 read_both (line ∷ a) b r = by_line (read_line line r) (read_both a b)
   where
-    by_line : (o : Option Reading)
-        → ((s : Reading) → read_lines (a ++ b) s ≡ and_then (read_lines a s) (read_lines b))
+    by_line : (o : Option HistoryRead)
+        → ((s : HistoryRead) → read_lines (a ++ b) s ≡ and_then (read_lines a s) (read_lines b))
         → and_then o (read_lines (a ++ b)) ≡ and_then (and_then o (read_lines a)) (read_lines b)
     by_line None both = refl
     by_line (Some s) both = both s
@@ -141,37 +143,37 @@ digits_ask (x ∷ xs) all some = elim (cases_eq x 35) [
 ]
 
 row_asks : (r : Row) → IsTold r
-    → (is_of_seal (row_line r) ≡ false) × (is_comment (row_line r) ≡ false)
+    → (is_of_seal (row_digits r) ≡ false) × (is_comment (row_digits r) ≡ false)
 row_asks r told =
     let m : Telegram = row_request r in
     let read = decode_of-encode_lower (spelling m) (spelled_octets m told.1.message) in
-    let digits = recursion_from_All (λ x. is_hex_digit x ≡ true) (row_line r)
-    (decode_of-ok (row_line r) (spelling m) read).1 in
+    let digits = recursion_from_All (λ x. is_hex_digit x ≡ true) (row_digits r)
+    (decode_of-ok (row_digits r) (spelling m) read).1 in
     let size = length-encode_with lower_digits (spelling m) in
     let whole = length-append (head_text m (length (body m))) (body m) in
-    digits_ask (row_line r) digits (omega (arith, size, whole))
+    digits_ask (row_digits r) digits (omega (arith, size, whole))
 
 -- the reading with these rows
-abbrev with_rows : List Row → Reading → Reading
+abbrev with_rows : List Row → HistoryRead → HistoryRead
 with_rows rows r =
     record r { unsealed = r.unsealed ++ row_lines rows; events = r.events ++ events_of rows }
 
-row_read : (row : Row) (r : Reading) → IsTold row
-    → read_line (row_line row) r ≡ Some (with_rows (row ∷ []) r)
+row_read : (row : Row) (r : HistoryRead) → IsTold row
+    → read_line (row_digits row) r ≡ Some (with_rows (row ∷ []) r)
 row_read row r told =
-    let line : List ℕ = row_line row in
+    let line : List ℕ = row_digits row in
     let asks = row_asks row told in
     let request : request_in line ≡ Some (row.actor, row.event) =
     request_read (row_request row) row.actor row.event told.1.message told.1.asks
     (no_read row told.0) in
     ap (λ (t : Bool). if t then sealed_by (is_right_seal line r) r
     else if is_comment line then Some (with_line line r)
-    else with_request (request_in line) line r) asks.0
+    else add_request (request_in line) line r) asks.0
     ∙ ap (λ (t : Bool). if t then Some (with_line line r)
-    else with_request (request_in line) line r) asks.1
-    ∙ ap (λ (o : Option (Actor × Event)). with_request o line r) request
+    else add_request (request_in line) line r) asks.1
+    ∙ ap (λ (o : Option (Actor × Event)). add_request o line r) request
 
-rows_read : (rows : List Row) (r : Reading) → AllByRecursion IsTold rows
+rows_read : (rows : List Row) (r : HistoryRead) → AllByRecursion IsTold rows
     → read_lines (row_lines rows) r ≡ Some (with_rows rows r)
 rows_read [] r told =
     ap (λ (ls : List (List ℕ)). Some (record r { unsealed = ls; events = r.events }))
@@ -182,12 +184,13 @@ rows_read [] r told =
     }))
     (sym (append-nil r.events))
 rows_read (row ∷ rows) r told =
-    ap (λ (o : Option Reading). and_then o (read_lines (row_lines rows))) (row_read row r told.0)
+    ap (λ (o : Option HistoryRead). and_then o (read_lines (row_lines rows)))
+    (row_read row r told.0)
     ∙ rows_read rows (with_rows (row ∷ []) r) told.1
     ∙ ap (λ (ls : List (List ℕ)). Some (record r {
       unsealed = ls;
       events = (r.events ++ events_of (row ∷ [])) ++ events_of rows;
-    })) (append_assoc r.unsealed (row_line row ∷ []) (row_lines rows))
+    })) (append_assoc r.unsealed (row_digits row ∷ []) (row_lines rows))
     ∙ ap (λ (es : List (Actor × Event)). Some (record r {
       unsealed = r.unsealed ++ row_lines (row ∷ rows);
       events = es;
@@ -195,39 +198,51 @@ rows_read (row ∷ rows) r told =
 
 -- ---- seals
 
--- read up to a seal
-abbrev at_seal : List ℕ → List ℕ → List (Actor × Event) → Reading
-at_seal seal torn events =
-    record { seal = seal; unsealed = []; torn = torn; events = events }
+-- read up to these lines behind a seal
+abbrev read_to : List ℕ → List (List ℕ) → List ℕ → List (Actor × Event) → HistoryRead
+read_to seal lines torn events =
+    record { seal = seal; unsealed = lines; torn = torn; events = events }
 
-seal_read : (r : Reading) → read_line (seal_line (seal_of r.seal r.unsealed)) r
-    ≡ Some (at_seal (seal_of r.seal r.unsealed) r.torn r.events)
+seal_read : (r : HistoryRead) → read_line (seal_line (seal_of r.seal r.unsealed)) r
+    ≡ Some (read_to (seal_of r.seal r.unsealed) [] r.torn r.events)
 seal_read r =
     let seal : List ℕ = seal_of r.seal r.unsealed in
     let line : List ℕ = seal_line seal in
     ap (λ (t : Bool). if t then sealed_by (is_right_seal line r) r
     else if is_comment line then Some (with_line line r)
-    else with_request (request_in line) line r) (begins_with seal_mark seal)
+    else add_request (request_in line) line r) (begins_with seal_mark seal)
     ∙ ap (λ (t : Bool). sealed_by t r) (is_itself line)
 
-parts_read : (parts : List (List Row)) (seal torn : List ℕ) (events : List (Actor × Event))
+-- the lines behind the last seal of these parts
+abbrev unsealed_by : List (List ℕ) → List (List Row) → List (List ℕ)
+unsealed_by lines [] = lines
+unsealed_by lines (part ∷ parts) = unsealed_by [] parts
+
+none_unsealed : (parts : List (List Row)) → unsealed_by [] parts ≡ []
+none_unsealed [] = refl
+none_unsealed (part ∷ parts) = none_unsealed parts
+
+parts_read : (parts : List (List Row)) (seal : List ℕ) (lines : List (List ℕ)) (torn : List ℕ)
+    (events : List (Actor × Event))
     → AllByRecursion IsTold (rows_of_parts parts)
-    → read_lines (sealed_lines seal parts) (at_seal seal torn events)
-    ≡ Some (at_seal (last_seal seal parts) torn (events ++ events_of (rows_of_parts parts)))
-parts_read [] seal torn events told =
-    ap (λ (es : List (Actor × Event)). Some (at_seal seal torn es)) (sym (append-nil events))
-parts_read (part ∷ parts) seal torn events told =
+    → read_lines (sealed_lines seal lines parts) (read_to seal lines torn events)
+    ≡ Some (read_to (last_seal seal lines parts) (unsealed_by lines parts) torn
+    (events ++ events_of (rows_of_parts parts)))
+parts_read [] seal lines torn events told =
+    ap (λ (es : List (Actor × Event)). Some (read_to seal lines torn es)) (sym (append-nil events))
+parts_read (part ∷ parts) seal lines torn events told =
     let rest : List Row = rows_of_parts parts in
-    let next : List ℕ = seal_of seal (row_lines part) in
-    let more : List (List ℕ) = sealed_lines next parts in
-    let begun : Reading = at_seal seal torn events in
-    let read : Reading = with_rows part begun in
+    let next : List ℕ = seal_of seal (lines ++ row_lines part) in
+    let more : List (List ℕ) = sealed_lines next [] parts in
+    let begun : HistoryRead = read_to seal lines torn events in
+    let read : HistoryRead = with_rows part begun in
     read_both (row_lines part) (seal_line next ∷ more) begun
-    ∙ ap (λ (o : Option Reading). and_then o (read_lines (seal_line next ∷ more)))
+    ∙ ap (λ (o : Option HistoryRead). and_then o (read_lines (seal_line next ∷ more)))
     (rows_read part begun (first_told part rest told))
-    ∙ ap (λ (o : Option Reading). and_then o (read_lines more)) (seal_read read)
-    ∙ parts_read parts next torn (events ++ events_of part) (rest_told part rest told)
-    ∙ ap (λ (es : List (Actor × Event)). Some (at_seal (last_seal next parts) torn es))
+    ∙ ap (λ (o : Option HistoryRead). and_then o (read_lines more)) (seal_read read)
+    ∙ parts_read parts next [] torn (events ++ events_of part) (rest_told part rest told)
+    ∙ ap (λ (es : List (Actor × Event)). Some (read_to (last_seal next [] parts)
+    (unsealed_by [] parts) torn es))
     (append_assoc events (events_of part) (events_of rest)
     ∙ ap (λ (es : List (Actor × Event)). events ++ es) (sym (events_both part rest)))
 
@@ -243,42 +258,42 @@ rows_plain [] told = tt
 rows_plain (r ∷ rows) told =
     (spelled_plain (row_request r) told.0.1.message, rows_plain rows told.1)
 
-parts_plain : (parts : List (List Row)) (seal : List ℕ)
+parts_plain : (parts : List (List Row)) (seal : List ℕ) (lines : List (List ℕ))
     → AllByRecursion IsTold (rows_of_parts parts)
-    → AllByRecursion IsLine (sealed_lines seal parts)
-parts_plain [] seal told = tt
-parts_plain (part ∷ parts) seal told =
+    → AllByRecursion IsLine (sealed_lines seal lines parts)
+parts_plain [] seal lines told = tt
+parts_plain (part ∷ parts) seal lines told =
     let rest : List Row = rows_of_parts parts in
-    let next : List ℕ = seal_of seal (row_lines part) in
-    all_both (row_lines part) (seal_line next ∷ sealed_lines next parts)
+    let next : List ℕ = seal_of seal (lines ++ row_lines part) in
+    all_both (row_lines part) (seal_line next ∷ sealed_lines next [] parts)
     (rows_plain part (first_told part rest told)) (
-      plain_both seal_mark next refl (digest_plain (seal ++ text_of_lines (row_lines part))),
-      parts_plain parts next (rest_told part rest told),
+      plain_both seal_mark next refl
+          (digest_plain (seal ++ text_of_lines (lines ++ row_lines part))),
+      parts_plain parts next [] (rest_told part rest told),
     )
 
--- the reading behind a chapter
-abbrev behind_chapter : List ℕ → List (List Row) → List Row → List (Actor × Event) → Reading
-behind_chapter after sealed behind events = record {
-  seal = last_seal after sealed;
-  unsealed = row_lines behind;
-  torn = [];
-  events = events ++ events_of (rows_of_parts sealed ++ behind);
-}
+-- what is read with a chapter
+abbrev behind_chapter : List (List ℕ) → List ℕ → List (List Row) → List Row
+    → List (Actor × Event) → HistoryRead
+behind_chapter first after sealed behind events =
+    read_to (last_seal after first sealed) (unsealed_by first sealed ++ row_lines behind) []
+    (events ++ events_of (rows_of_parts sealed ++ behind))
 
 chapter_read : (site_file : List ℕ) (n : ℕ) (after : List ℕ) (sealed : List (List Row))
     (behind : List Row) (events : List (Actor × Event))
     → AllByRecursion IsTold (rows_of_parts sealed ++ behind)
     → read_chapter site_file n (chapter_text site_file n after sealed behind)
-    (at_seal after [] events)
-    ≡ Some (behind_chapter after sealed behind events)
+    (read_to after [] [] events)
+    ≡ Some (behind_chapter (first_lines site_file n after) after sealed behind events)
 chapter_read site_file n after sealed behind events told =
-    let first : List ℕ = text_of_lines (first_lines site_file n after) in
-    let lines : List (List ℕ) = chapter_lines after sealed behind in
+    let named : List (List ℕ) = first_lines site_file n after in
+    let first : List ℕ = text_of_lines named in
+    let lines : List (List ℕ) = chapter_lines named after sealed behind in
     let rows : List Row = rows_of_parts sealed in
-    let begun : Reading = at_seal after [] events in
+    let begun : HistoryRead = read_to after named [] events in
     let text : List ℕ = first ++ text_of_lines lines in
-    let plain = all_both (sealed_lines after sealed) (row_lines behind)
-    (parts_plain sealed after (first_told rows behind told))
+    let plain = all_both (sealed_lines after named sealed) (row_lines behind)
+    (parts_plain sealed after named (first_told rows behind told))
     (rows_plain behind (rest_told rows behind told)) in
     ap (λ (t : Bool). if t
     then read_lines (whole_lines (drop (length first) text))
@@ -290,65 +305,85 @@ chapter_read site_file n after sealed behind events told =
     ∙ ap (λ (torn : List ℕ). read_lines (whole_lines (text_of_lines lines))
     (record begun { torn = torn })) (none_torn lines)
     ∙ ap (λ (ls : List (List ℕ)). read_lines ls begun) (lines_again lines plain)
-    ∙ read_both (sealed_lines after sealed) (row_lines behind) begun
-    ∙ ap (λ (o : Option Reading). and_then o (read_lines (row_lines behind)))
-    (parts_read sealed after [] events (first_told rows behind told))
-    ∙ rows_read behind (at_seal (last_seal after sealed) [] (events ++ events_of rows))
+    ∙ read_both (sealed_lines after named sealed) (row_lines behind) begun
+    ∙ ap (λ (o : Option HistoryRead). and_then o (read_lines (row_lines behind)))
+    (parts_read sealed after named [] events (first_told rows behind told))
+    ∙ rows_read behind (read_to (last_seal after named sealed) (unsealed_by named sealed) []
+    (events ++ events_of rows))
     (rest_told rows behind told)
-    ∙ ap (λ (es : List (Actor × Event)). Some (record {
-      seal = last_seal after sealed;
-      unsealed = row_lines behind;
-      torn = [];
-      events = es;
-    }))
+    ∙ ap (λ (es : List (Actor × Event)). Some (read_to (last_seal after named sealed)
+    (unsealed_by named sealed ++ row_lines behind) [] es))
     (append_assoc events (events_of rows) (events_of behind)
     ∙ ap (λ (es : List (Actor × Event)). events ++ es) (sym (events_both rows behind)))
+
+-- a closed chapter ends with a seal
+closed_read : (site_file : List ℕ) (n : ℕ) (after : List ℕ) (c : List (List Row))
+    (events : List (Actor × Event)) → c ≢ [] → AllByRecursion IsTold (rows_of_parts c)
+    → read_chapter site_file n (chapter_text site_file n after c []) (read_to after [] [] events)
+    ≡ Some (read_to (last_seal after (first_lines site_file n after) c) [] []
+    (events ++ events_of (rows_of_parts c)))
+closed_read site_file n after [] events some told = absurd (some refl)
+closed_read site_file n after (part ∷ parts) events some told =
+    let c : List (List Row) = part ∷ parts in
+    let named : List (List ℕ) = first_lines site_file n after in
+    let alone : rows_of_parts c ++ [] ≡ rows_of_parts c = append-nil (rows_of_parts c) in
+    chapter_read site_file n after c [] events (subst (AllByRecursion IsTold) (sym alone) told)
+    ∙ ap (λ (ls : List (List ℕ)). Some (read_to (last_seal after named c) ls []
+    (events ++ events_of (rows_of_parts c ++ []))))
+    (append-nil (unsealed_by [] parts) ∙ none_unsealed parts)
+    ∙ ap (λ (rs : List Row). Some (read_to (last_seal after named c) [] []
+    (events ++ events_of rs))) alone
 
 -- ---- a history
 
 -- the texts of chapters were read, and so many requests of them
-abbrev ReadOf : List ℕ → ℕ → List (List ℕ) → Reading → List (Actor × Event) → Type 0
+abbrev ReadOf : List ℕ → ℕ → List (List ℕ) → HistoryRead → List (Actor × Event) → Type 0
 ReadOf site_file n texts r events =
-    (end : Reading) × (read_from site_file n texts r ≡ Some end) × (end.events ≡ events)
+    (end : HistoryRead) × (read_from site_file n texts r ≡ Some end) × (end.events ≡ events)
 
 texts_read : (site_file : List ℕ) (closed : List (List (List Row))) (sealed : List (List Row))
     (behind : List Row) (n : ℕ) (after : List ℕ) (events : List (Actor × Event))
+    → AllByRecursion (λ c. c ≢ []) closed
     → AllByRecursion IsTold (rows_of_chapters closed sealed behind)
     → ReadOf site_file n (texts_from site_file n after closed sealed behind)
-    (at_seal after [] events)
+    (read_to after [] [] events)
     (events ++ events_of (rows_of_chapters closed sealed behind))
-texts_read site_file [] sealed behind n after events told = (
-  behind_chapter after sealed behind events,
-  ap (λ (o : Option Reading). and_then o (read_from site_file (suc n) []))
+texts_read site_file [] sealed behind n after events ended told = (
+  behind_chapter (first_lines site_file n after) after sealed behind events,
+  ap (λ (o : Option HistoryRead). and_then o (read_from site_file (suc n) []))
       (chapter_read site_file n after sealed behind events told),
   refl,
 )
-texts_read site_file (c ∷ closed) sealed behind n after events told =
+texts_read site_file (c ∷ closed) sealed behind n after events ended told =
     let rows : List Row = rows_of_parts c in
     let others : List Row = rows_of_chapters closed sealed behind in
-    let texts = texts_from site_file (suc n) (last_seal after c) closed sealed behind in
-    let alone : rows ++ [] ≡ rows = append-nil rows in
-    let told_first = subst (AllByRecursion IsTold) (sym alone) (first_told rows others told) in
-    let later = texts_read site_file closed sealed behind (suc n) (last_seal after c)
-    (events ++ events_of rows) (rest_told rows others told) in (
+    let next : List ℕ = last_seal after (first_lines site_file n after) c in
+    let texts = texts_from site_file (suc n) next closed sealed behind in
+    let later = texts_read site_file closed sealed behind (suc n) next
+    (events ++ events_of rows) ended.1 (rest_told rows others told) in (
       later.0,
-      ap (λ (o : Option Reading). and_then o (read_from site_file (suc n) texts))
-          (chapter_read site_file n after c [] events told_first
-          ∙ ap (λ (rs : List Row). Some (at_seal (last_seal after c) [] (events ++ events_of rs)))
-          alone)
+      ap (λ (o : Option HistoryRead). and_then o (read_from site_file (suc n) texts))
+          (closed_read site_file n after c events ended.0 (first_told rows others told))
           ∙ later.1,
       later.2 ∙ append_assoc events (events_of rows) (events_of others)
           ∙ ap (λ (es : List (Actor × Event)). events ++ es) (sym (events_both rows others)),
     )
 
+-- there is a chapter
+some_text : (site_file : List ℕ) (closed : List (List (List Row))) (sealed : List (List Row))
+    (behind : List Row) → read_history site_file (history_texts site_file closed sealed behind)
+    ≡ read_from site_file 1 (history_texts site_file closed sealed behind) nothing_read
+some_text site_file [] sealed behind = refl
+some_text site_file (c ∷ closed) sealed behind = refl
+
 pub chapters_tell_their_history : ChaptersTellTheirHistory
-chapters_tell_their_history site_file config rows closed sealed behind legal spelled are =
+chapters_tell_their_history site_file config rows closed sealed behind legal spelled ended are =
     let told = subst (AllByRecursion IsTold) (sym are)
     (told_rows (kept_rows rows) (kept_again rows) spelled) in
-    let read = texts_read site_file closed sealed behind 1 no_seal [] told in
+    let read = texts_read site_file closed sealed behind 1 no_seal [] ended told in
     record {
       reading = read.0;
-      read = read.1;
+      read = some_text site_file closed sealed behind ∙ read.1;
       made =
           ap (rows_asked (opening config))
           (read.2 ∙ ap (λ (rs : List Row). events_of rs) are)

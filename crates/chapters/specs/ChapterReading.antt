@@ -11,14 +11,14 @@ use Rattle.chapters.specs.ChapterText.{text_of_lines}
 
 -- read so far: the last seal, the lines behind it, the octets behind the last line feed of the last
 -- chapter, and the requests of all rows
-pub record Reading : Type 0 where
+pub record HistoryRead : Type 0 where
   pub seal : List ℕ
   pub unsealed : List (List ℕ)
   pub torn : List ℕ
   pub events : List (Actor × Event)
 
 -- nothing is read
-abbrev pub nothing_read : Reading
+abbrev pub nothing_read : HistoryRead
 nothing_read = record { seal = no_seal; unsealed = []; torn = []; events = [] }
 
 -- ---- a line
@@ -28,14 +28,14 @@ abbrev pub is_of_seal : List ℕ → Bool
 is_of_seal line = starts_with (λ a b. a == b) line seal_mark
 
 -- .. and it is just this one
-abbrev pub is_line : List ℕ → List ℕ → Bool
-is_line right line = (length line == length right) && starts_with (λ a b. a == b) line right
+abbrev pub is_same_line : List ℕ → List ℕ → Bool
+is_same_line right line = (length line == length right) && starts_with (λ a b. a == b) line right
 
 -- .. which is that of what it covers
-abbrev pub is_right_seal : List ℕ → Reading → Bool
-is_right_seal line r = is_line (seal_line (seal_of r.seal r.unsealed)) line
+abbrev pub is_right_seal : List ℕ → HistoryRead → Bool
+is_right_seal line r = is_same_line (seal_line (seal_of r.seal r.unsealed)) line
 
-abbrev pub sealed_by : Bool → Reading → Option Reading
+abbrev pub sealed_by : Bool → HistoryRead → Option HistoryRead
 sealed_by true r =
     Some (record {
       seal = seal_of r.seal r.unsealed;
@@ -45,12 +45,12 @@ sealed_by true r =
     })
 sealed_by false r = None
 
-abbrev pub with_line : List ℕ → Reading → Reading
+abbrev pub with_line : List ℕ → HistoryRead → HistoryRead
 with_line line r = record r { unsealed = r.unsealed ++ line ∷ [] }
 
-abbrev pub with_request : Option (Actor × Event) → List ℕ → Reading → Option Reading
-with_request None line r = None
-with_request (Some e) line r = Some (record (with_line line r) { events = r.events ++ e ∷ [] })
+abbrev pub add_request : Option (Actor × Event) → List ℕ → HistoryRead → Option HistoryRead
+add_request None line r = None
+add_request (Some e) line r = Some (record (with_line line r) { events = r.events ++ e ∷ [] })
 
 -- the line says nothing of rows
 abbrev pub is_comment : List ℕ → Bool
@@ -59,42 +59,45 @@ is_comment (b ∷ bs) = b == 35
 
 -- a line is read: a seal has to be right, a comment says nothing, and any other line is a request
 -- whose row is kept
-abbrev pub read_line : List ℕ → Reading → Option Reading
+abbrev pub read_line : List ℕ → HistoryRead → Option HistoryRead
 read_line line r =
     if is_of_seal line then sealed_by (is_right_seal line r) r
     else if is_comment line then Some (with_line line r)
-    else with_request (request_in line) line r
+    else add_request (request_in line) line r
 
-abbrev pub and_then : Option Reading → (Reading → Option Reading) → Option Reading
+abbrev pub and_then : Option HistoryRead → (HistoryRead → Option HistoryRead) → Option HistoryRead
 and_then None next = None
 and_then (Some r) next = next r
 
 -- lines are read, one after another
-abbrev pub read_lines : List (List ℕ) → Reading → Option Reading
+abbrev pub read_lines : List (List ℕ) → HistoryRead → Option HistoryRead
 read_lines [] r = Some r
 read_lines (line ∷ lines) r = and_then (read_line line r) (read_lines lines)
 
 -- ---- a chapter
 
-abbrev pub is_none_left : Reading → Bool
+abbrev pub is_none_left : HistoryRead → Bool
 is_none_left r = (length r.unsealed == 0) && (length r.torn == 0)
 
 -- a chapter of this number is read: the one before ended with a seal, and its own first lines name
--- it, the site file, and that seal. Octets behind its last line feed are none of its lines
-abbrev pub read_chapter : List ℕ → ℕ → List ℕ → Reading → Option Reading
+-- it, the site file, and that seal. Its first seal covers these lines too. Octets behind its last
+-- line feed are none of its lines
+abbrev pub read_chapter : List ℕ → ℕ → List ℕ → HistoryRead → Option HistoryRead
 read_chapter site_file n text r =
-    let first = text_of_lines (first_lines site_file n r.seal) in
+    let lines = first_lines site_file n r.seal in
+    let first = text_of_lines lines in
     let rest = drop (length first) text in
     if is_none_left r && starts_with (λ a b. a == b) text first
-    then read_lines (whole_lines rest) (record r { torn = unfinished rest })
+    then read_lines (whole_lines rest) (record r { unsealed = lines; torn = unfinished rest })
     else None
 
 -- chapters are read, from this number on
-abbrev pub read_from : List ℕ → ℕ → List (List ℕ) → Reading → Option Reading
+abbrev pub read_from : List ℕ → ℕ → List (List ℕ) → HistoryRead → Option HistoryRead
 read_from site_file n [] r = Some r
 read_from site_file n (text ∷ texts) r =
     and_then (read_chapter site_file n text r) (read_from site_file (suc n) texts)
 
--- the texts of a history's chapters are read
-abbrev pub read_history : List ℕ → List (List ℕ) → Option Reading
-read_history site_file texts = read_from site_file 1 texts nothing_read
+-- the texts of a history's chapters are read: there is one at least
+abbrev pub read_history : List ℕ → List (List ℕ) → Option HistoryRead
+read_history site_file [] = None
+read_history site_file (text ∷ texts) = read_from site_file 1 (text ∷ texts) nothing_read

@@ -1,4 +1,5 @@
--- The text of a chapter: three lines that name it, a line for each row, and seals.
+-- The text of a chapter: three lines that name it, a line for each row, and seals. Its times are
+-- left out: no station writes chapters yet.
 use Rattle.std.specs.Prelude.{ℕ, suc, List, [], ◌∷◌, ◌++◌, codes, decimal, map}
 use Rattle.std.specs.Prelude.{replicate}
 use Rattle.std.specs.List.{flat_map}
@@ -31,40 +32,42 @@ seal_line seal = seal_mark ++ seal
 
 -- ---- a chapter
 
--- the lines that name the chapter of this number, behind that seal, of the history of a site file
+-- the first three lines of a chapter: its number, its site file's SHA-256, the seal before it
 abbrev pub first_lines : List ℕ → ℕ → List ℕ → List (List ℕ)
 first_lines site_file n after =
     (codes "# witsomar history 1 chapter " ++ decimal n)
     ∷ (codes "# site " ++ encode_lower (sha256 site_file)) ∷ (codes "# after " ++ after) ∷ []
 
 -- the request of a row's actor and event, with token 0, in lower case hexadecimal
-abbrev pub row_line : Row → List ℕ
-row_line r = encode_lower (spelling (row_request r))
+abbrev pub row_digits : Row → List ℕ
+row_digits r = encode_lower (spelling (row_request r))
 
 -- the lines of rows
 abbrev pub row_lines : List Row → List (List ℕ)
-row_lines rows = map row_line rows
+row_lines rows = map row_digits rows
 
--- a seal behind each of these parts, of which the first stands behind that seal
-abbrev pub sealed_lines : List ℕ → List (List Row) → List (List ℕ)
-sealed_lines before [] = []
-sealed_lines before (part ∷ parts) =
-    let seal = seal_of before (row_lines part) in
-    row_lines part ++ (seal_line seal ∷ sealed_lines seal parts)
+-- a seal behind each of these parts; the first one covers these lines too, behind that seal
+abbrev pub sealed_lines : List ℕ → List (List ℕ) → List (List Row) → List (List ℕ)
+sealed_lines before lines [] = []
+sealed_lines before lines (part ∷ parts) =
+    let seal = seal_of before (lines ++ row_lines part) in
+    row_lines part ++ (seal_line seal ∷ sealed_lines seal [] parts)
 
 -- .. and the last of these seals
-abbrev pub last_seal : List ℕ → List (List Row) → List ℕ
-last_seal before [] = before
-last_seal before (part ∷ parts) = last_seal (seal_of before (row_lines part)) parts
+abbrev pub last_seal : List ℕ → List (List ℕ) → List (List Row) → List ℕ
+last_seal before lines [] = before
+last_seal before lines (part ∷ parts) =
+    last_seal (seal_of before (lines ++ row_lines part)) [] parts
 
--- the lines behind the first three: of parts with their seals, and of rows without one yet
-abbrev pub chapter_lines : List ℕ → List (List Row) → List Row → List (List ℕ)
-chapter_lines after sealed behind = sealed_lines after sealed ++ row_lines behind
+-- the lines behind the first three: of parts with their seals, of which the first covers the first
+-- three lines too, and of rows without a seal yet
+abbrev pub chapter_lines : List (List ℕ) → List ℕ → List (List Row) → List Row → List (List ℕ)
+chapter_lines first after sealed behind = sealed_lines after first sealed ++ row_lines behind
 
 abbrev pub chapter_text : List ℕ → ℕ → List ℕ → List (List Row) → List Row → List ℕ
 chapter_text site_file n after sealed behind =
-    text_of_lines (first_lines site_file n after)
-    ++ text_of_lines (chapter_lines after sealed behind)
+    let first = first_lines site_file n after in
+    text_of_lines first ++ text_of_lines (chapter_lines first after sealed behind)
 
 -- ---- a history
 
@@ -85,7 +88,8 @@ abbrev pub texts_from : List ℕ → ℕ → List ℕ → List (List (List Row))
 texts_from site_file n after [] sealed behind = chapter_text site_file n after sealed behind ∷ []
 texts_from site_file n after (c ∷ closed) sealed behind =
     chapter_text site_file n after c []
-    ∷ texts_from site_file (suc n) (last_seal after c) closed sealed behind
+    ∷ texts_from site_file (suc n) (last_seal after (first_lines site_file n after) c) closed sealed
+    behind
 
 -- the texts of a history's chapters
 abbrev pub history_texts : List ℕ → List (List (List Row)) → List (List Row) → List Row

@@ -3,7 +3,6 @@ use Rattle.std.specs.Prelude.{ℕ, List}
 use Rattle.sha2.specs.Hashers.{Holds256}
 use Rattle.sha2.specs.declared.Sha256.{Sha256}
 
--- the next seal covers these octets, which were hashed so far: the seal before it, and those behind
--- its line
+-- the hasher holds these octets: a seal, and those behind its line
 abbrev pub Covers : Sha256 → List ℕ → Type 0
 Covers hasher octets = Holds256 hasher octets

@@ -7,8 +7,8 @@ use sha2::{Digest, Sha256};
 use site_base::NoMemory;
 use std::alloc::Global;
 
-/// Appends the lines that name the chapter of this number, behind that seal, of the history of a
-/// site file.
+/// Appends the first three lines of a chapter: its number, its site file's SHA-256, the seal before
+/// it. They are the first that its own first seal covers.
 pub fn put_first_lines(
     alloc: Global,
     site_file: &[u8],
