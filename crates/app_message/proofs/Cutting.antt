@@ -22,10 +22,11 @@ use Rattle.app_message.proofs.Ending.{short_bound}
 
 -- ---- the front of a stream
 
--- a message leaves fewer octets
+-- a message leaves fewer octets: it takes eight at least
 pub record FrontTaken (s : List ℕ) (x : Telegram × List ℕ) : Type 0 where
   pub len : ℕ
   pub rest : x.1 ≡ drop len (drop 8 s)
+  pub eight : length x.1 + 8 ≤ length s
   pub shorter : length x.1 < length s
 
 pub front_taken : (s : List ℕ) (x : Telegram × List ℕ) → front_at s ≡ Ok x → FrontTaken s x
@@ -43,6 +44,8 @@ front_taken s x e =
     record {
       len = h.0.len;
       rest = sym left;
+      eight = rw (← left)
+          (omega (arith, long, length-drop 8 s, length-drop h.0.len (drop 8 s)));
       shorter = rw (← left)
           (omega (arith, long, length-drop 8 s, length-drop h.0.len (drop 8 s)));
     }

@@ -28,7 +28,7 @@ use Rattle.journal.specs.JournalText.{CanBeSpelled, row_request, title}
 use Rattle.journal.proofs.Kept.{kept_again, kept_apart, no_read}
 use Rattle.journal.proofs.Lines.{line_ends, lines_both, one_line, unfinished_both}
 use Rattle.journal.proofs.Made.{asked_again}
-use Rattle.journal.proofs.Octets.{header_plain, spelled_octets}
+use Rattle.journal.proofs.Octets.{header_plain, plain_both, spelled_octets}
 use Rattle.journal.proofs.Requests.{events_both, request_read, spelled_plain}
 use Rattle.chapters.specs.ChapterReading.{HistoryRead, add_request, and_then, is_comment}
 use Rattle.chapters.specs.ChapterReading.{is_of_seal, is_right_seal, is_same_line, nothing_read}
@@ -57,16 +57,6 @@ is_itself line =
     (eq-eqb (length line) (length line) refl)
     ∙ ap (λ (xs : List ℕ). starts_with (λ x y. eqb x y) xs line) (sym (append-nil line))
     ∙ begins_with line []
-
-plain_both : (a b : List ℕ) → IsLine a → IsLine b → IsLine (a ++ b)
-plain_both [] b first second = second
-plain_both (x ∷ a) b first second = by_first (not (eqb x 10)) first (plain_both a b)
-  where
-    by_first : (t : Bool) → (t && list_all (λ c. not (eqb c 10)) a) ≡ true
-        → (IsLine a → IsLine b → IsLine (a ++ b))
-        → (t && list_all (λ c. not (eqb c 10)) (a ++ b)) ≡ true
-    by_first true all others = others all second
-    by_first false all others = absurd cc
 
 behind_plain : (a b : List ℕ) → IsLine (a ++ b) → IsLine b
 behind_plain [] b plain = plain

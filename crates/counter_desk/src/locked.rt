@@ -83,7 +83,8 @@ impl<L: Ledger, C: Naming> Locked<L, C> {
             share.new.owed ≡ owed_after actor.now event.now placed.reply share.old.owed) }
         ensures stands { IfOk result (λ placed. StandsAt self.new
             (receipt_of placed actor.now event.now)) }
-        ensures full { IsErrOf result NoRow.BookFull → is_full (whole_book C.config self.old) ≡ true }
+        ensures full { IsErrOf result NoRow.BookFull
+            → is_full (whole_book C.config self.old) ≡ true }
         ensures told_full { is_full (whole_book C.config self.old) ≡ true
             → IsErrOf result NoRow.BookFull }
         ensures rows_stay { OnErr result (self.new ≡ self.old) }

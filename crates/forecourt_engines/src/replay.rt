@@ -1,7 +1,7 @@
 //! The replay: lines of messages in, lines of answers out.
 
-ghost use Rattle.std.specs.Prelude.{◌≡◌, ◌≤◌, ◌⊎◌, [], Some, None, true, false, IfErr, IfOk, IfSome};
-ghost use Rattle.std.specs.Prelude.{OnOk};
+ghost use Rattle.std.specs.Prelude.{◌≡◌, ◌≤◌, ◌⊎◌, [], Some, None, true, false};
+ghost use Rattle.std.specs.Prelude.{IfErr, IfOk, IfSome, OnOk};
 ghost use Rattle.std.specs.Result.{IsErrOf};
 ghost use Rattle.std.specs.Io.KnownBytes.{IsAtEnd};
 ghost use Rattle.devices.specs.Counted.{device_of, failures_of};

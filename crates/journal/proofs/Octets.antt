@@ -65,7 +65,7 @@ spelled_octets m valid =
 
 -- ---- without a line feed
 
-plain_both : (a b : List ℕ) → IsLine a → IsLine b → IsLine (a ++ b)
+pub plain_both : (a b : List ℕ) → IsLine a → IsLine b → IsLine (a ++ b)
 plain_both [] b first second = second
 plain_both (x ∷ a) b first second = by_first (not (eqb x 10)) first (plain_both a b)
   where

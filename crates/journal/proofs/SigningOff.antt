@@ -107,8 +107,8 @@ nobody_yet config = λ t. set.contains-empty nat_cmp t
 
 -- each row that was recovered is kept, and stored
 pub journal_begun : (header : List ℕ) (recovered b : Book) (file : Option DiskFile) (stored : ℕ)
-    → OfFile (HoldsRows header recovered.rows false) file → kept_rows recovered.rows ≡ recovered.rows
-    → CanBeSpelled recovered.rows
+    → OfFile (HoldsRows header recovered.rows false) file
+    → kept_rows recovered.rows ≡ recovered.rows → CanBeSpelled recovered.rows
     → stored ≡ length recovered.rows → b ≡ all_off recovered
     → IsJournalOf b.rows (record { header = header; stored = stored; failed = false; file = file })
 journal_begun header recovered b file stored holds kept spelled size off =

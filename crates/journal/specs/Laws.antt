@@ -32,9 +32,9 @@ StoredRowsAreFoundAgain = (header front file : List ℕ) (config : Configured) (
     → TellsWhole header front (events_of rows) → BeginsWith front file
     → IsRead header file whole b → BeginsWithRows rows b
 
--- What is told is found again. While a peer may be told something, each row of the station but those
--- of reads is on the disk. Whatever a crash then leaves, of it only a book is read that begins with
--- these rows.
+-- What is told is found again. While a peer may be told something, each row of the station but
+-- those of reads is on the disk. Whatever a crash then leaves, of it only a book is read that
+-- begins with these rows.
 abbrev pub ToldRowsAreFoundAgain : Type 0
 ToldRowsAreFoundAgain = (s : StoredState) (j : JournalState) (f : DiskFile) (key : ℕ)
     (file : List ℕ) (b : Book) (whole : ℕ)

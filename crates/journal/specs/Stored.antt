@@ -46,8 +46,8 @@ kept_first n rows = kept_rows (take n rows)
 abbrev pub kept_behind : ℕ → List Row → List Row
 kept_behind n rows = kept_rows (drop n rows)
 
--- the journal has stored the first of the book's rows: all but those of reads, and each of these can
--- be spelled
+-- the journal has stored the first of the book's rows: all but those of reads, and each of these
+-- can be spelled
 pub record IsJournalOf (rows : List Row) (j : JournalState) : Type 0 where
   pub few : j.stored ≤ length rows
   pub spelled : CanBeSpelled (kept_first j.stored rows)

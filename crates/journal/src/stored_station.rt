@@ -127,8 +127,8 @@ impl<D: Disk> StoredStation<D> {
         self.unpaid.as_slice()
     }
 
-    /// The book of the station. No key above 1,023 is given, and its configuration allows 1,024 rows
-    /// or more, by the station's type.
+    /// The book of the station. No key above 1,023 is given, and its configuration allows 1,024
+    /// rows or more, by the station's type.
     pub fn book(&self) -> &SiteBook
         ensures book { result.now ≡ self.now.station.book }
         ensures keys { (k : ℕ) → PEERS ≤ k → peer_at self.now.station.peers k ≡ None }

@@ -123,7 +123,8 @@ impl SiteConfig {
         }
     }
 
-    /// The most rows that calls which look for a full book may add.
+    /// The most rows of a book that no memory has forgotten: calls that look for a full book add
+    /// no more.
     pub fn rows(&self) -> u32
         ensures value { result ≡ self.now.rows }
         ensures range { (1 ≤ result) × (result ≤ GREATEST_ROWS) }

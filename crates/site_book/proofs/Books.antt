@@ -19,7 +19,7 @@ use Rattle.written_site.specs.SiteRun.{IsLegal}
 use Rattle.kept_history.specs.KeptRows.{is_kept, is_read, kept_rows}
 use Rattle.written_site.proofs.Histories.{site_of_rows-push, IsLegal-push}
 use Rattle.site_book.specs.declared.book.TheConstants.{FORGOTTEN_ROWS}
-use Rattle.site_book.specs.Book.{AreRowsInRange, Book, IsBook, IsSameBut, site_at}
+use Rattle.site_book.specs.Book.{AreRowsInRange, Book, IsBook, IsSameButForgotten, site_at}
 use Rattle.site_book.specs.Book.{with_rows_forgotten}
 use Rattle.site_book.specs.RowLists.{RowList, rows_forgotten}
 use Rattle.site_book.specs.SignedOn.{AreTills, IsTillActor, tills_on, tills_with}
@@ -131,7 +131,7 @@ IsBook-push config earlier rows site new on room left forgotten kept r book step
       few = subst (λ n. n + tills_after r on ≤ config.rows + TILLS)
           (sym (length-append rows (r ∷ []))) (few most);
       counts = book.counts;
-      lasts = book.lasts;
+      countable = book.countable;
       keeps =
           ap (kept_after r.event) book.keeps
           ∙ sym (kept_more all r)
@@ -155,7 +155,7 @@ IsBook-forget config earlier rows site on room forgotten kept book fits =
       reserved = book.reserved;
       few = let few = book.few in omega (arith, few);
       counts = refl;
-      lasts = fits;
+      countable = fits;
       keeps = book.keeps ∙ ap (λ (xs : List Row). length (kept_rows xs)) none;
     }
 
@@ -177,10 +177,10 @@ forgets b gone rows all none fits =
     rw (all, none, append-nil b.rows, le-leb (length b.rows) FORGOTTEN_ROWS fits) refl
 
 -- forgetting changes nothing else
-pub forgets_alone : (b : Book) → IsSameBut b (with_rows_forgotten b)
+pub forgets_alone : (b : Book) → IsSameButForgotten b (with_rows_forgotten b)
 forgets_alone b = by (nat_le (length b.rows) FORGOTTEN_ROWS)
   where
-    by : (t : Bool) → IsSameBut b (if t then record b { forgotten = length b.rows } else b)
+    by : (t : Bool) → IsSameButForgotten b (if t then record b { forgotten = length b.rows } else b)
     by true = record { config = refl; rows = refl; site = refl }
     by false = record { config = refl; rows = refl; site = refl }
 
@@ -196,7 +196,7 @@ opens config site room is = record {
   reserved = omega arith;
   few = omega arith;
   counts = refl;
-  lasts = omega arith;
+  countable = omega arith;
   keeps = refl;
 }
   where

@@ -17,8 +17,8 @@ use Rattle.written_site.specs.FitLaws.{AreReadable}
 use Rattle.site_book.specs.declared.book.TheConstants.{FORGOTTEN_ROWS}
 use Rattle.site_book.specs.SignedOn.{AreTills, IsTillActor, tills_on}
 
--- a configuration, the rows so far, and how many of them, from the first on, are forgotten: the site
--- goes on from them, but nobody can read them in the book any more
+-- a configuration, the rows so far, and how many of them, from the first on, are forgotten: the
+-- site goes on from them, but nobody can read them in the book any more
 pub record Book : Type 0 where
   pub config : Configured
   pub rows : List Row
@@ -56,8 +56,8 @@ abbrev pub with_rows_forgotten : Book → Book
 with_rows_forgotten b =
     if nat_le (length b.rows) FORGOTTEN_ROWS then record b { forgotten = length b.rows } else b
 
--- a book that has forgotten other rows, and is the same else
-pub record IsSameBut (b b' : Book) : Type 0 where
+-- but for the rows that it has forgotten, it is the same book
+pub record IsSameButForgotten (b b' : Book) : Type 0 where
   pub config : b'.config ≡ b.config
   pub rows : b'.rows ≡ b.rows
   pub site : site_of_book b' ≡ site_of_book b
@@ -75,8 +75,8 @@ pub record AreRowsInRange (rows : List Row) : Type 0 where
 -- What the book always keeps, with these rows behind the forgotten ones: the site is that of all
 -- rows, and they are a legal history whose numbers are in range. Room for one row more is reserved
 -- for each till that is signed on, and with these there are, beside the forgotten rows, at most as
--- many as the configuration allows and one for each till that may be. The forgotten ones are
--- counted, and all but those of reads.
+-- many as the configuration allows and one for each till that may be. The forgotten rows are
+-- counted, and so are, of all rows, those that a history keeps: each but those of reads.
 pub record IsBook (config : Configured) (earlier rows : List Row) (site : SiteState)
     (count room forgotten kept : ℕ) : Type 0 where
   pub leads : site ≡ site_at config (earlier ++ rows)
@@ -87,5 +87,5 @@ pub record IsBook (config : Configured) (earlier rows : List Row) (site : SiteSt
   pub reserved : count ≤ room
   pub few : length rows + count ≤ config.rows + TILLS
   pub counts : forgotten ≡ length earlier
-  pub lasts : forgotten ≤ FORGOTTEN_ROWS
+  pub countable : forgotten ≤ FORGOTTEN_ROWS
   pub keeps : kept ≡ length (kept_rows (earlier ++ rows))

@@ -39,8 +39,8 @@ draws_from place b = filter_map (draw_made b.config) (drop place (moments_of b.c
 abbrev pub book_draws : Book → List Draw
 book_draws b = filter_map (draw_made b.config) (moments_of b.config b.rows)
 
--- of a book that has forgotten no row, the rows before this place are replayed, and have led to this
--- site
+-- of a book that has forgotten no row, the rows before this place are replayed, and have led to
+-- this site
 pub record IsReplayedTo (place : ℕ) (s : SiteState) (b : Book) : Type 0 where
   pub whole : b.forgotten ≡ 0
   pub within : place ≤ length b.rows

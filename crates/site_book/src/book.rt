@@ -162,8 +162,8 @@ impl SiteBook {
     }
 
     /// Forgets the rows that are in memory, so that the book isn't full any more: the site goes on,
-    /// and the sign-off of each till that is signed on has its room. It takes no memory. Behind
-    /// 2^62 rows it forgets none any more.
+    /// and the sign-off of each till that is signed on has its room. It takes no memory. Of more
+    /// than 2^62 rows it forgets none.
     pub fn forget_rows(&mut self)
         ensures { self.new ≡ with_rows_forgotten self.old }
     {
@@ -175,16 +175,16 @@ impl SiteBook {
         }
     }
 
-    /// How many rows there are, forgotten ones included. Beside these they are as many as the
-    /// configuration allows, and one more for each till that is signed off beyond. They are a legal
-    /// history of the configuration's site.
+    /// How many rows there are, forgotten ones included. Those that aren't forgotten are at most as
+    /// many as the configuration allows, and one more for each till that is signed off beyond. They
+    /// are a legal history of the configuration's site.
     pub fn len(&self) -> u64
         ensures rows { result ≡ length self.now.rows }
         ensures legal { IsLegal (opening self.now.config) self.now.rows }
         ensures few { length self.now.rows
             ≤ self.now.forgotten + self.now.config.rows + TILLS }
         ensures forgotten { self.now.forgotten ≤ length self.now.rows }
-        ensures lasts { self.now.forgotten ≤ FORGOTTEN_ROWS }
+        ensures countable { self.now.forgotten ≤ FORGOTTEN_ROWS }
         ensures allowed { self.now.config.rows ≤ GREATEST_ROWS }
         ensures ranges { AreRowsInRange self.now.rows }
     {
@@ -192,7 +192,7 @@ impl SiteBook {
         self.forgotten + self.rows.len() as u64
     }
 
-    /// How many rows are kept by a history: all but those of reads, forgotten ones included.
+    /// How many of all rows a history keeps: each but those of reads.
     pub fn kept_len(&self) -> u64
         ensures { result ≡ length (kept_rows self.now.rows) }
     {

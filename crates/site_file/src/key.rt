@@ -9,7 +9,7 @@ use std::fmt;
 /// of a nozzle, whose value is the number of one.
 #[derive(Clone, Copy, Debug, PartialEq, Eq)]
 pub enum Key {
-    /// The most rows of the history.
+    /// The most rows that are in memory at once.
     Rows,
     /// The tills that are managers.
     Managers,

@@ -34,7 +34,7 @@ pub fn site_of(alloc: Global, file: &Table) -> Result<SiteConfig, ConfigFault>
     Ok(SiteConfig::try_new(rows, managers, products, points).unwrap())
 }
 
-/// The most rows of the history; the greatest number where there is none.
+/// The most rows that are in memory at once; the greatest number where there is none.
 fn rows_of(value: Option<&Value>) -> Result<u32, ConfigFault>
     ensures { Gives (λ n. n) result (spec.rows_of (option_map (λ v. view v.now) value.entry)) }
 {

@@ -1,18 +1,17 @@
 -- A book that has room for the rows of one read isn't full while its messages are answered.
 use Rattle.std.proofs.Common.{◌≡◌, ℕ, zero, suc, ◌+◌, ◌*◌, ◌≤◌, Bool, true, false, List, [], ◌∷◌}
-use Rattle.std.proofs.Common.{◌++◌, append-nil, length, take, drop, cond, ltb, Option, Some, None}
+use Rattle.std.proofs.Common.{◌++◌, append-nil, length, take, Option, Some, None}
 use Rattle.std.proofs.Common.{Result, Ok, Err, ap, arith, refl}
 use Rattle.std.proofs.lemmas.Bool.{lt-leb}
-use Rattle.std.proofs.lemmas.List.{length-append, length-drop, length-take-le}
+use Rattle.std.proofs.lemmas.List.{length-append, length-take-le}
 use Rattle.site_base.specs.declared.actor.Actor.{Actor}
 use Rattle.site_base.specs.declared.event.Event.{Event}
 use Rattle.site_base.specs.declared.row.Row.{Row}
 use Rattle.app_message.specs.declared.fault.StreamFault.{StreamFault}
-use Rattle.app_message.specs.Grammar.{Halt, ◌>>=◌, body_at, fault, front_at, header_at, short}
+use Rattle.app_message.specs.Grammar.{Halt, fault, front_at, short}
 use Rattle.app_message.specs.Stream.{Held, IsHeld, fed_by, fed_from, held_part, stream_on, walk}
 use Rattle.app_message.specs.Telegram.{Telegram}
-use Rattle.app_message.proofs.Stages.{bind_ok, guard_ok, ok_is}
-use Rattle.app_message.proofs.Taking.{header_takes}
+use Rattle.app_message.proofs.Cutting.{front_taken}
 use Rattle.site_book.specs.Book.{Book, next_row}
 use Rattle.peer_talk.specs.declared.talk.Meaning.{Meaning}
 use Rattle.peer_talk.specs.declared.talk.Meaning.TheVariants as meanings
@@ -22,27 +21,11 @@ use Rattle.station.specs.declared.peer_end.PeerEnd.{PeerEnd}
 use Rattle.station.specs.declared.sizes.TheConstants.{HEARD_OCTETS, PIECE_ROWS}
 use Rattle.station.specs.Laws.{StationsAreNeverFull}
 use Rattle.station.specs.Room.{HasRoomFor, with_answers}
-use Rattle.station.specs.Sessions.{Granted, Grants, Turn, answer, answer_meaning, ask, end_session}
+use Rattle.station.specs.Sessions.{Granted, Turn, answer, answer_meaning, ask, end_session}
 use Rattle.station.specs.Sessions.{no_memory, serve, tell, tell_last, with_text}
 use Rattle.station.proofs.Keeping.{by_lasting, by_message, ended_lasts, holding}
 
 -- ---- messages
-
--- a message takes eight octets at least
-front_long : (s : List ℕ) (x : Telegram × List ℕ) → front_at s ≡ Ok x
-    → length x.1 + 8 ≤ length s
-unfolding front_at
-front_long s x e =
-    let h =
-    bind_ok (header_at s) (λ h. cond (ltb (length (drop 8 s)) h.len) (Err short)
-    (body_at h (take h.len (drop 8 s)) >>= λ m. Ok (m, drop h.len (drop 8 s)))) x e in
-    let long = (header_takes s h.0 h.1).long in
-    let g = guard_ok (ltb (length (drop 8 s)) h.0.len) short _ x h.2 in
-    let m =
-    bind_ok (body_at h.0 (take h.0.len (drop 8 s))) (λ m. Ok (m, drop h.0.len (drop 8 s))) x g.1 in
-    let size : length (drop h.0.len (drop 8 s)) ≡ length x.1 =
-    ap (λ (y : Telegram × List ℕ). length y.1) (ok_is (m.0, drop h.0.len (drop 8 s)) x m.2) in
-    omega (arith, long, size, length-drop h.0.len (drop 8 s), length-drop 8 s)
 
 walk_few : (n : ℕ) (s : List ℕ) → length (walk n s).messages * 8 ≤ length s
 unfolding walk
@@ -52,7 +35,7 @@ walk_few (suc n) s = by (front_at s) refl (λ rest. walk_few n rest)
     by : (r : Result (Telegram × List ℕ) Halt) → front_at s ≡ r
         → ((rest : List ℕ) → length (walk n rest).messages * 8 ≤ length rest)
         → length (stream_on s (walk n) r).messages * 8 ≤ length s
-    by (Ok x) is few = omega (arith, front_long s x is, few x.1)
+    by (Ok x) is few = omega (arith, (front_taken s x is).eight, few x.1)
     by (Err short) is few = omega arith
     by (Err (fault f)) is few = omega arith
 

@@ -244,7 +244,8 @@ speaks c before had ms b b' x x' m asked text l on same more peer lasts owed qui
     let behind = (before ++ rows_in l.story) ++ rows_made asked in
     let rows : b'.rows ≡ behind = more ∙ ap (λ rs. rs ++ rows_made asked) l.rows in
     let opening : opening_text p m.from b' ≡ opening_text p m.from (whole_book c behind) =
-    opens_alike p m.from b' ∙ ap (λ cf. opening_text p m.from (whole_book cf b'.rows)) (same ∙ l.config)
+    opens_alike p m.from b'
+    ∙ ap (λ cf. opening_text p m.from (whole_book cf b'.rows)) (same ∙ l.config)
     ∙ ap (λ rs. opening_text p m.from (whole_book c rs)) rows in
     let replied = one_said p (peer_after p m.from) m asked text on in
     record {

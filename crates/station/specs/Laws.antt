@@ -1,5 +1,6 @@
 -- The laws of the station, over every list of moves, or over every legal history.
-use Rattle.std.specs.Prelude.{◌≡◌, ◌<◌, ◌≤◌, ℕ, true, false, List, ◌++◌, Some, None, is_some, length}
+use Rattle.std.specs.Prelude.{◌≡◌, ◌<◌, ◌≤◌, ℕ, true, false, List, ◌++◌, Some, None}
+use Rattle.std.specs.Prelude.{is_some, length}
 use Rattle.std.specs.List.{AllByRecursion}
 use Rattle.site_base.specs.declared.event.Event.{Event}
 use Rattle.site_base.specs.declared.row.Row.{Row}

@@ -6,7 +6,8 @@ use Rattle.site_book.proofs.draws.replay_row.Goals as goal
 
 pub returns-clause-draw : goal.returns-clause-draw
 returns-clause-draw c =
-    let found = sym (c.row.ensures.kept (omega (arith, c.requires.replayed.whole))) ∙ c.in-Some.is in
+    let whole = c.row.ensures.kept (omega (arith, c.requires.replayed.whole)) in
+    let found = sym whole ∙ c.in-Some.is in
     row_draws c.args.book.now c.args.at c.in-Some.row c.prepare.new.self.site
     c.draw_made-draw.result found
     (c.in_ok-prepare-in-Some.ensures.site ∙ c.requires.replayed.leads)

@@ -79,4 +79,4 @@ kept_with-self-inside-requires c =
     let inside = c.self.inside in
     let fits = kept_fits inside.config (rows_forgotten inside.earlier.items) inside.rows.rows
     inside.site.site inside.on inside.rows.room inside.forgotten inside.kept c.self.invariant in
-    omega (arith, fits, c.self.invariant.lasts, c.rows.ensures.value, c.rows.ensures.range)
+    omega (arith, fits, c.self.invariant.countable, c.rows.ensures.value, c.rows.ensures.range)

@@ -57,4 +57,4 @@ kept_with-self-inside-requires c =
     let fits = kept_fits inside.config (rows_forgotten inside.earlier.items) inside.rows.rows
     inside.site.site inside.on inside.rows.room inside.forgotten inside.kept c.self.invariant in
     let same = ap (λ (b : Book). b.config.rows) c.self.view_is in
-    omega (arith, fits, c.self.invariant.lasts, same, c.len-place.ensures.allowed)
+    omega (arith, fits, c.self.invariant.countable, same, c.len-place.ensures.allowed)
