@@ -11,15 +11,27 @@ from shared.station import (
     SUSPEND, TERMINATE, TEST_RELEASE, TILL, WRITE, decode,
 )  # fmt: skip
 
-TITLE = b"# witsomar journal of site "
+FIRST_LINES = 3  # of a chapter
 ACCEPTED, WRONG_STATE, NO_MEMORY, DETAIL = 0, 10, 31, 2
 RELEASES = (RELEASE, PREPAY, TEST_RELEASE)
 MOST_ROWS = 1_000_000  # of a replay
 
 
-def first_line(site):
-    """The first line of a journal of this site file, with its line feed."""
-    return TITLE + hashlib.sha256(site.read_bytes()).hexdigest().encode() + b"\n"
+def first_lines(site):
+    """The first lines of the first chapter of this site file, each with its line feed."""
+    name = hashlib.sha256(site.read_bytes()).hexdigest()
+    text = f"# witsomar history 1 chapter 1\n# site {name}\n# after {'0' * 64}\n"
+    return text.encode()
+
+
+def retitle(text, site):
+    """The first chapter of a history as one of another site file."""
+    return first_lines(site) + text.split(b"\n", FIRST_LINES)[FIRST_LINES]
+
+
+def count_rows(text):
+    """The whole lines of the first chapter that are rows' requests."""
+    return text.count(b"\n") - FIRST_LINES
 
 
 def write_rows(*requests):
@@ -91,7 +103,8 @@ class Row(typing.NamedTuple):
 
 def read_journal(program, site, text):
     """The rows of a journal's text, as the replay makes them."""
-    requests = [bytes.fromhex(line.decode()) for line in text.splitlines()[1:]]
+    lines = [line for line in text.splitlines() if not line.startswith(b"#")]
+    requests = [bytes.fromhex(line.decode()) for line in lines]
     end = run(program, "replay", site, "--changes", given=text)
     if (end.status, end.err) != (0, ""):
         raise Failed(f"the journal isn't replayed: status {end.status}, {end.err}")

@@ -51,7 +51,9 @@ import time
 import typing
 
 from shared.checks import Failed, expect
-from shared.journals import find_untold, first_line, read_journal, whole_lines, write_rows
+from shared.journals import (
+    find_untold, first_lines, read_journal, retitle, whole_lines, write_rows,
+)  # fmt: skip
 from shared.page_day import PageDay
 from shared.running import CRATES, EXAMPLES, PATIENCE, compile_c, run
 from shared.station import (
@@ -578,10 +580,10 @@ def fail_devices_of_station():
 
 # Till 2 is signed on in a journal whose last line is torn: it is signed off.
 BEFORE = [sign_on(2), command_point(2, 0, 2, OPEN)]
-STORED_LINES = first_line(KNOWN_SITE) + write_rows(*BEFORE)
+STORED_LINES = first_lines(KNOWN_SITE) + write_rows(*BEFORE)
 STORED_TEXT = STORED_LINES + b"0101020100"
 DAY_OF_TWO = write_rows(ONLINE, sign_on(1), command_point(1, 0, 1, OPEN), sign_off(1))
-NEW_DAY = Stored(WHOLE_STATION, 0, first_line(KNOWN_SITE) + DAY_OF_TWO)
+NEW_DAY = Stored(WHOLE_STATION, 0, first_lines(KNOWN_SITE) + DAY_OF_TWO)
 LATER_DAY = Stored(
     WHOLE_STATION._replace(report=WHOLE_STATION.report.replace("rows 4", "rows 7")), 2,
     STORED_LINES + write_rows(sign_off(2)) + DAY_OF_TWO,
@@ -923,11 +925,11 @@ def forget_with(n, few, wide):
         port, page = (int(line.rstrip("/\n").rsplit(":", 1)[1]) for line in lines)
         came = [talk(port, asked) for asked in (*SALE_BEFORE, LOOKS)]
         journal = pathlib.Path(how["cwd"]) / JOURNAL
-        text = first_line(wide) + journal.read_bytes().split(b"\n", 1)[1]
+        text = retitle(journal.read_bytes(), wide)
         unpaid, members = list_unpaid(wide, text)
         told = read_unpaid(page, members)
         out, err = program.communicate(timeout=PATIENCE)
-        text = first_line(wide) + journal.read_bytes().split(b"\n", 1)[1]
+        text = retitle(journal.read_bytes(), wide)
         rows = read_journal(PROGRAM, wide, text)
         for node, octets in zip(((TILL, 1), (DISPENSER, 1), (TILL, 2)), came):
             expect(f"allocation {n}: what isn't stored", find_untold(rows, node, octets), None)

@@ -7,6 +7,7 @@ a replay of the journal answers. A test that the system doesn't allow says that 
 
 import contextlib
 import fcntl
+import hashlib
 import os
 import re
 import resource
@@ -20,8 +21,8 @@ import time
 
 from shared.checks import Failed, Skipped, expect
 from shared.journals import (
-    Told, expect_looks, find_untold, first_line, is_notice, is_read, is_sign_off, read_journal,
-    split_messages, whole_lines, without_token, write_rows,
+    FIRST_LINES, Told, count_rows, expect_looks, find_untold, first_lines, is_notice, is_read,
+    is_sign_off, read_journal, retitle, split_messages, whole_lines, without_token, write_rows,
 )  # fmt: skip
 from shared.running import run
 from shared.serving import WAIT, read_status, send_reset, start_day, wait_until
@@ -37,7 +38,7 @@ from tests.suite import make_folder, start_chance, test
 
 HERE = make_folder()
 OTHER_SITE = HERE / "other.toml"
-FIRST = first_line(KNOWN_SITE)
+FIRST = first_lines(KNOWN_SITE)
 NOBODY = 65_534
 LINES = 150
 AT_ONCE = 6  # stations
@@ -106,7 +107,7 @@ def expect_refused(what, path, fault, site=KNOWN_SITE, **how):
 def expect_line(what, text, number, site=KNOWN_SITE):
     """The line of this number is no journal's: the file stays as it is."""
     path = write_journal(text)
-    expect_refused(what, path, f"journal line {number}", site)
+    expect_refused(what, path, f"chapter 1 line {number}", site)
     expect(f"{what}: the file", path.read_bytes(), text)
 
 
@@ -118,9 +119,8 @@ def nothing_yet():
     """An empty file, and one that isn't there, are begun; so is each beginning of the first
     line."""
     expect_opened("no file", None, FIRST, 0)
-    for length in range(len(FIRST)):
-        expect_opened(f"{length} octets", FIRST[:length], FIRST, 0)
-    expect_opened("the first line", FIRST, FIRST, 0)
+    expect_opened("an empty file", b"", FIRST, 0)
+    expect_opened("the first lines", FIRST, FIRST, 0)
 
 
 @test
@@ -214,14 +214,14 @@ def bad_lines():
     stranger = encode((SITE, 1), (9, 9), 0, 0, address_point(1))
     reply = parse("02 01 01 01 00 E2 00 08 01 21 01 01 00 03 01 00")
     bad = [
-        b"", b" ", b"\r", b"# a comment", b"#", FIRST[:-1], b"zz", line[:-1], line[:-2],
+        b"", b" ", b"\r", b" #", b"# seal ", b"# seal " + b"0" * 64, b"zz", line[:-1], line[:-2],
         line + line, line + b"\r", b" " + line, line + b" ", line[:8] + b" " + line[8:],
         b"0x" + line,
         line + b"00", b"\0" + line, b"\xff", write_rows(stranger)[:-1], write_rows(reply)[:-1],
         b"00" * 40_000, line[:2] + b"+f" + line[4:], b"ff" * 8,
     ]  # fmt: skip
     lines = DAY_TEXT.splitlines(keepends=True)
-    for place in (1, 5, len(lines)):
+    for place in (FIRST_LINES, FIRST_LINES + 4, len(lines)):
         text = b"".join([*lines[:place], line + b"\n", *lines[place:]])
         expect_opened(f"unspoiled at {place + 1}", text, text, len(DAY) + 1, OFF_1)
         for one in bad:
@@ -276,7 +276,7 @@ def random_lines(seed):
             offs = write_rows(*map(sign_off, signed))
             expect_opened(one.hex(), FIRST + line, FIRST + line, 1, offs)
         else:
-            expect_line(one.hex(), FIRST + line, 2)
+            expect_line(one.hex(), FIRST + line, FIRST_LINES + 1)
     if min(counts) < LINES // 10:
         raise Failed(f"{counts[True]} rows, and {counts[False]} others")
 
@@ -288,21 +288,61 @@ def is_number(reply):
 
 
 @test
-def first_lines():
-    """A first line that is no journal's, and that of another site file."""
-    rows = write_rows(*DAY)
+def other_first_lines():
+    """First lines that are no first chapter's, or not all of them, and those of another site."""
+    rows, (title, site, after) = write_rows(*DAY), FIRST.splitlines(keepends=True)
     for first in (
-        b"", b"\n", b"#\n", b"# a comment\n", b"#" + FIRST, FIRST[:-1] + b" \n", FIRST[:-2] + b"\n",
-        FIRST[:-1] + b"0\n", b"\xef\xbb\xbf" + FIRST, FIRST[:-1] + b"\r\n", FIRST[1:],
+        b"", b"\n", b"#\n", b"# a comment\n", b"#" + FIRST, b"\xef\xbb\xbf" + FIRST, FIRST[1:],
+        title[:-2] + b"2\n" + site + after, title[:-1] + b"\r\n" + site + after,
     ):  # fmt: skip
         expect_line(f"{first[:40]}", first + rows, 1)
-    for text in (b"x", b"# witsomar journal of sitf", b"01", FIRST[:-2] + b"x", b"\0" * 10):
+    for last in (
+        after[:-1] + b" \n", after[:-2] + b"\n", after[:-1] + b"0\n", after[:-1] + b"\r\n", b"",
+        after[:-2] + b"1\n",
+    ):  # fmt: skip
+        expect_line(f"{last}", title + site + last + rows, 3)
+    for text in (b"x", b"# witsomar histora", b"01", b"\0" * 10):
         expect_line(f"{text} without a line feed", text, 1)
+    for length in range(1, len(FIRST)):
+        path = write_journal(FIRST[:length])
+        whole = FIRST[:length].count(b"\n")
+        faults = "chapter 1 line 1", "journal of another site", "chapter 1 line 3"
+        expect_refused(f"{length} octets", path, faults[whole])
+        expect(f"{length} octets stay", path.read_bytes(), FIRST[:length])
     OTHER_SITE.write_bytes(KNOWN_SITE.read_bytes() + b"\n")
     for text in (DAY_TEXT, FIRST):
         path = write_journal(text)
         expect_refused("another site's", path, "journal of another site", OTHER_SITE)
         expect("another site's file", path.read_bytes(), text)
+
+
+@test
+def seals_and_times():
+    """A seal has to be the SHA-256 of the seal before it and of what stands between them; a time is
+    a comment, and is sealed too. One digit of a seal, or one octet of what it covers, is enough."""
+    text, seal, covered = FIRST, b"0" * 64, FIRST
+    for at, row in enumerate(DAY):
+        line = b"# at 2026-11-27T08:00:%02d.000Z\n" % at + write_rows(row)
+        text, covered = text + line, covered + line
+        if at % 3 == 0 or at == len(DAY) - 1:
+            seal = hashlib.sha256(seal + covered).hexdigest().encode()
+            text, covered = text + b"# seal " + seal + b"\n", b""
+    expect_opened("with seals and times", text, text, len(DAY), OFF_1)
+    lines = text.splitlines(keepends=True)
+    for place, line in enumerate(lines):
+        if line.startswith(b"# seal "):
+            for wrong in (
+                line[:-2] + bytes([line[-2] ^ 1]) + b"\n", line[:-2] + b"\n", line[:-1] + b"0\n",
+                line[:-1] + b" \n", line[:7] + line[7:].upper(), b"# seal " + b"0" * 64 + b"\n",
+            ):  # fmt: skip
+                if wrong != line:
+                    bad = b"".join([*lines[:place], wrong, *lines[place + 1 :]])
+                    expect_line(f"{wrong[:20]} for the seal in line {place + 1}", bad, place + 1)
+    for place in range(FIRST_LINES, len(lines) - 1):
+        left_out = b"".join([*lines[:place], *lines[place + 1 :]])
+        after = next(n for n in range(place, len(lines)) if lines[n].startswith(b"# seal "))
+        if after > place:
+            expect_line(f"line {place + 1} left out", left_out, after)
 
 
 @test
@@ -325,7 +365,7 @@ def long_histories():
         rows = write_rows(sign_on(1), *(
             command_point(1, 0, 1, (OPEN, CLOSE)[n % 2]) for n in range(count - 1)
         ))  # fmt: skip
-        text = first_line(site) + rows
+        text = first_lines(site) + rows
         expect_opened(f"{count} rows", text, text, count, OFF_1, site, report_of(rows + OFF_1))
         expect("to a report", report_of(text, site), write_report(limit, 0).encode())
     path = HERE / "journal"
@@ -359,7 +399,7 @@ def reads_are_not_stored():
         expect("the report", end(day).splitlines()[0], "rows 2")
     expect("the journal", path.read_bytes(), before + OFF_1)
     for one in reads:
-        expect_line("a read", FIRST + write_rows(sign_on(1), one), 3)
+        expect_line("a read", FIRST + write_rows(sign_on(1), one), FIRST_LINES + 2)
 
 
 @test
@@ -464,7 +504,7 @@ def no_files():
         expect_refused("a fifo with a reader", fifo, f"cannot read {fifo}", timeout=10)
     site = HERE / "site.toml"
     site.write_bytes(KNOWN_SITE.read_bytes())
-    expect_refused("the site file", site, "journal line 1", site)
+    expect_refused("the site file", site, "chapter 1 line 1", site)
     expect("the site file stays", site.read_bytes(), KNOWN_SITE.read_bytes())
     link = HERE / "good"
     link.symlink_to(file)
@@ -626,14 +666,14 @@ def mistaken_words():
     path = write_journal(b"bad\n")
     for port, site, wanted in (
         ("x", KNOWN_SITE, 2), ("0", "no_such_file", "cannot read no_such_file\n"),
-        ("0", "/dev/null", "fault 72 product\n"), ("0", KNOWN_SITE, "journal line 1\n"),
+        ("0", "/dev/null", "fault 72 product\n"), ("0", KNOWN_SITE, "chapter 1 line 1\n"),
     ):  # fmt: skip
         ended = run(PROGRAM, "station", site, "--port", port, "--journal", path)
         got = ended.status if wanted == 2 else (ended.status, ended.err)
         expect(f"{port} {site}", got, 2 if wanted == 2 else (1, wanted))
     with start_station(write_journal(FIRST, "first")) as day:
         ended = run(PROGRAM, "station", KNOWN_SITE, "--port", str(day.port), "--journal", path)
-        expect("before listening", (ended.status, ended.err), (1, "journal line 1\n"))
+        expect("before listening", (ended.status, ended.err), (1, "chapter 1 line 1\n"))
         path = write_journal(DAY_TEXT)
         ended = run(PROGRAM, "station", KNOWN_SITE, "--port", str(day.port), "--journal", path)
         expect("listening", (ended.status, ended.out, ended.err), (1, b"", "fault 63\n"))
@@ -766,7 +806,7 @@ def a_file_that_takes_no_more(seed):
         text = fill(path, f"a file of {most} octets", seed, preexec_fn=limit_file(most))
         expect("its octets: the stored rows alone", path.read_bytes(), text)
         expect("no more than it may take", len(text) <= most, True)
-        rows = text.count(b"\n") - 1
+        rows = count_rows(text)
         offs = [sign_off(1)] if b"\n" + write_rows(sign_on(1)) in text else []
         expect_opened("with more room", path.read_bytes(), text, rows, write_rows(*offs))
     path = write_journal(b"")
@@ -826,11 +866,6 @@ def write_kill_sites():
     site.write_text(f"rows = 1024\n{text}")
     wide.write_text(text)
     return site, wide
-
-
-def retitle(text, site):
-    """A journal's text as one of another site file."""
-    return first_line(site) + text.split(b"\n", 1)[1]
 
 
 def kill_start(path, site, chance):
@@ -915,16 +950,18 @@ def expect_each_litre_once(peers, rows, report_text):
 
 def expect_fronts(text, site, wide, seed):
     """A copy of the journal, cut at whatever octet, is opened with the rows of its whole lines."""
-    chance, first = start_chance(seed, "cuts"), len(first_line(site))
+    chance, first = start_chance(seed, "cuts"), len(first_lines(site))
     begins = [at + 1 for at in range(first, min(len(text), 40_000)) if text[at : at + 1] == b"\n"]
     places = [chance.randrange(len(text)) for _ in range(CUTS // 2)]
     places += [chance.randrange(min(len(text), 20_000)) for _ in range(CUTS // 4)]
     places += [chance.choice(begins) + chance.choice((-1, 0, 1)) for _ in range(CUTS // 4)]
     for place in places:
+        if 0 < place < first:
+            continue  # `other_first_lines` looks at these.
         path = write_journal(text[:place], "cut")
-        kept = whole_lines(text[:place]) or first_line(site)
+        kept = whole_lines(text[:place]) or first_lines(site)
         ended = run(*command(path, site=site))
-        count = kept.count(b"\n") - 1
+        count = count_rows(kept)
         said = f"journal rows {count}\n".encode() if count else b""
         is_opened = ended.status == 0 and ended.err == "" and ended.out.startswith(said + b"list")
         if not is_opened:

@@ -25,7 +25,7 @@ from shared.browser import (
     SCREEN, SOON, TELEPHONE, WIDE, expect_words, find_browser, open_page, read_tile, start_browser,
 )  # fmt: skip
 from shared.checks import Failed, Skipped, expect
-from shared.journals import first_line
+from shared.journals import count_rows, retitle
 from shared.page_day import connect, end_day, read_answer, write_request
 from shared.running import EXAMPLES, SCRIPTS, compile_c, run
 from shared.serving import list_addresses, wait_until
@@ -400,7 +400,7 @@ def only_what_is_stored():
                 _, told = page.day.process.communicate(timeout=serving.WAIT)
                 expect("the end", (page.day.process.returncode, told), (1, b"fault 62\n"))
                 page.day.process.stdin = None
-                expect("lines", count_rows(journal), 0)
+                expect("lines", count_rows(journal.read_bytes()), 0)
                 met += 1
                 break
         except Failed as why:
@@ -449,20 +449,15 @@ def rows_of_the_journal():
         while asking.is_alive():
             peer.sendall(write_request("/site.json"))
             rows = json.loads(read_answer(peer)[2])["rows"]
-            lines = count_rows(journal)
+            lines = count_rows(journal.read_bytes())
             if rows > lines:
                 raise Failed(f"{rows} rows are told, and {lines} are in the journal")
             told += 1
         asking.join()
         expect("rows", page.site()["rows"], READS + 1)
-        expect("lines", count_rows(journal), READS + 1)
+        expect("lines", count_rows(journal.read_bytes()), READS + 1)
         if told < 10:
             raise Failed(f"the page was asked {told} times")
-
-
-def count_rows(journal):
-    """The whole lines of a journal, without its first."""
-    return journal.read_bytes().count(b"\n") - 1
 
 
 def name_sale(point, product, mills, cents, **more):
@@ -513,7 +508,7 @@ def sales_whose_rows_are_forgotten():
         told = end_day(page.day)
     rows += 1  # the sign-off of till 1
     expect("the report", told, write_report(rows, 0, 1, 900, **sold))
-    text = first_line(wide) + journal.read_bytes().split(b"\n", 1)[1]
+    text = retitle(journal.read_bytes(), wide)
     made = run(PROGRAM, "report", wide, given=text)
     expect("that of the journal", (made.status, made.out.decode()), (0, told))
     with start_page(*words, site=site, till=None) as page:
@@ -536,7 +531,8 @@ def beside_the_commands():
                   if sale["status"] != "cleared"]  # fmt: skip
         expect("unpaid transactions", site["transactions"], unpaid)
         told = json.loads(run(PROGRAM, "report", file, "--json", given=text).out)
-        expect("rows", (site["rows"], count_rows(journal)), (told["rows"], told["rows"]))
+        lines = count_rows(journal.read_bytes())
+        expect("rows", (site["rows"], lines), (told["rows"], told["rows"]))
         expect("products", site["products"], told["products"])
         tills = [{**till, "signed on": True} for till in told["tills"]]
         expect("tills", site["tills"], tills)

@@ -1,9 +1,9 @@
 -- Chapters, read back.
 use Rattle.std.proofs.Common.{◌≡◌, ℕ, suc, ◌≤◌, Bool, true, false, List, [], ◌∷◌, ◌++◌}
 use Rattle.std.proofs.Common.{length, drop, Option, Some, None, refl, sym, ap, ◌∙◌}
-use Rattle.std.proofs.Common.{subst, append-nil, append_assoc, arith, eqb, inl, inr, not}
+use Rattle.std.proofs.Common.{subst, append-nil, append_assoc, arith, eqb, inl, inr}
 use Rattle.std.specs.Prelude.{◌&&◌, ◌≢◌, if◌then◌else◌}
-use Rattle.std.specs.List.{AllByRecursion, list_all, starts_with}
+use Rattle.std.specs.List.{AllByRecursion, starts_with}
 use Rattle.std.proofs.lemmas.Bool.{cases_eq, eq-eqb, ne_eqb}
 use Rattle.std.proofs.lemmas.List.{length-append}
 use Rattle.std.proofs.lemmas.List.Elements.{recursion_from_All}
@@ -21,19 +21,22 @@ use Rattle.kept_history.specs.KeptRows.{is_kept, kept_rows}
 use Rattle.kept_history.proofs.LeftOut.{left_out}
 use Rattle.written_site.specs.SiteRun.{events_of}
 use Rattle.written_site.specs.SiteState.{opening}
-use Rattle.journal.specs.History.{rows_asked}
-use Rattle.journal.specs.JournalLines.{lines_from, request_in, unfinished, unfinished_from}
-use Rattle.journal.specs.JournalLines.{whole_lines}
-use Rattle.journal.specs.JournalText.{CanBeSpelled, row_request, title}
-use Rattle.journal.proofs.Kept.{kept_again, kept_apart, no_read}
-use Rattle.journal.proofs.Lines.{line_ends, lines_both, one_line, unfinished_both}
-use Rattle.journal.proofs.Made.{asked_again}
-use Rattle.journal.proofs.Octets.{header_plain, plain_both, spelled_octets}
-use Rattle.journal.proofs.Requests.{events_both, request_read, spelled_plain}
+use Rattle.chapters.specs.History.{rows_asked}
+use Rattle.chapters.specs.Lines.{lines_from, request_in, unfinished, unfinished_from}
+use Rattle.chapters.specs.Lines.{whole_lines}
+use Rattle.chapters.specs.RowText.{CanBeSpelled, row_line, row_request, rows_text}
+use Rattle.chapters.proofs.Kept.{kept_again, kept_apart, no_read}
+use Rattle.chapters.proofs.Lines.{line_ends, lines_both, one_line}
+use Rattle.chapters.proofs.Made.{asked_again}
+use Rattle.chapters.proofs.Octets.{digits_plain, plain_both, spelled_octets}
+use Rattle.chapters.proofs.FirstLines.{begins_itself}
+use Rattle.chapters.proofs.Reading.{read_both}
+use Rattle.chapters.proofs.ReadingChapters.{none_torn}
+use Rattle.chapters.proofs.Requests.{events_both, request_read, spelled_plain}
 use Rattle.chapters.specs.ChapterReading.{HistoryRead, add_request, and_then, is_comment}
 use Rattle.chapters.specs.ChapterReading.{is_of_seal, is_right_seal, is_same_line, nothing_read}
 use Rattle.chapters.specs.ChapterReading.{read_chapter, read_from, read_history, read_line}
-use Rattle.chapters.specs.ChapterReading.{read_lines, sealed_by, with_line}
+use Rattle.chapters.specs.ChapterReading.{read_lines, read_text, sealed_by, with_line}
 use Rattle.chapters.specs.ChapterText.{chapter_lines, chapter_text, first_lines, last_seal, no_seal}
 use Rattle.chapters.specs.ChapterText.{history_texts, row_digits, row_lines, rows_of_chapters}
 use Rattle.chapters.specs.ChapterText.{rows_of_parts}
@@ -42,10 +45,6 @@ use Rattle.chapters.specs.ChapterText.{text_of_lines, texts_from}
 use Rattle.chapters.specs.Laws.{ChaptersTellTheirHistory}
 
 -- ---- octets
-
-begins_with : (a b : List ℕ) → starts_with (λ x y. eqb x y) (a ++ b) a ≡ true
-begins_with [] b = refl
-begins_with (x ∷ a) b = rw (eq-eqb x x refl) (begins_with a b)
 
 behind_front : (a b : List ℕ) → drop (length a) (a ++ b) ≡ b
 behind_front [] b = refl
@@ -56,25 +55,16 @@ is_itself line =
     ap (λ (t : Bool). t && starts_with (λ x y. eqb x y) line line)
     (eq-eqb (length line) (length line) refl)
     ∙ ap (λ (xs : List ℕ). starts_with (λ x y. eqb x y) xs line) (sym (append-nil line))
-    ∙ begins_with line []
-
-behind_plain : (a b : List ℕ) → IsLine (a ++ b) → IsLine b
-behind_plain [] b plain = plain
-behind_plain (x ∷ a) b plain = by_first (not (eqb x 10)) plain (behind_plain a b)
-  where
-    by_first : (t : Bool) → (t && list_all (λ c. not (eqb c 10)) (a ++ b)) ≡ true
-        → (IsLine (a ++ b) → IsLine b) → IsLine b
-    by_first true all others = others all
-    by_first false all others = absurd cc
+    ∙ begins_itself line []
 
 -- the digits of a SHA-256 have no line feed
 digest_plain : (octets : List ℕ) → IsLine (encode_lower (sha256 octets))
-digest_plain octets = behind_plain title (encode_lower (sha256 octets)) (header_plain octets)
+digest_plain octets = digits_plain (sha256 octets)
 
 -- ---- lines
 
 -- lines are read again from their text
-lines_again : (lines : List (List ℕ)) → AllByRecursion IsLine lines
+pub lines_again : (lines : List (List ℕ)) → AllByRecursion IsLine lines
     → whole_lines (text_of_lines lines) ≡ lines
 lines_again [] plain = refl
 lines_again (line ∷ lines) plain =
@@ -84,31 +74,18 @@ lines_again (line ∷ lines) plain =
     ∙ ap (λ (left : List ℕ). line ∷ lines_from left (text_of_lines lines)) (line_ends [] line)
     ∙ ap (λ (ls : List (List ℕ)). line ∷ ls) (lines_again lines plain.1)
 
-none_torn : (lines : List (List ℕ)) → unfinished (text_of_lines lines) ≡ []
-none_torn [] = refl
-none_torn (line ∷ lines) =
-    unfinished_both [] (line ++ 10 ∷ []) (text_of_lines lines)
-    ∙ ap (λ (left : List ℕ). unfinished_from left (text_of_lines lines)) (line_ends [] line)
-    ∙ none_torn lines
-
-read_both : (a b : List (List ℕ)) (r : HistoryRead)
-    → read_lines (a ++ b) r ≡ and_then (read_lines a r) (read_lines b)
-read_both [] b r = refl
-read_both (line ∷ a) b r = by_line (read_line line r) (read_both a b)
-  where
-    by_line : (o : Option HistoryRead)
-        → ((s : HistoryRead) → read_lines (a ++ b) s ≡ and_then (read_lines a s) (read_lines b))
-        → and_then o (read_lines (a ++ b)) ≡ and_then (and_then o (read_lines a)) (read_lines b)
-    by_line None both = refl
-    by_line (Some s) both = both s
-
 -- ---- rows
 
+-- the lines of rows are their text
+pub text_is : (rows : List Row) → rows_text rows ≡ text_of_lines (row_lines rows)
+text_is [] = refl
+text_is (r ∷ rows) = ap (λ (xs : List ℕ). row_line r ++ xs) (text_is rows)
+
 -- the row is kept, and its request can be spelled
-abbrev IsTold : Row → Type 0
+abbrev pub IsTold : Row → Type 0
 IsTold r = (is_kept r ≡ true) × AsksFor 0 r.actor r.event (row_request r)
 
-told_rows : (rows : List Row) → kept_rows rows ≡ rows → CanBeSpelled rows
+pub told_rows : (rows : List Row) → kept_rows rows ≡ rows → CanBeSpelled rows
     → AllByRecursion IsTold rows
 told_rows [] kept spelled = tt
 told_rows (r ∷ rows) kept spelled =
@@ -129,7 +106,9 @@ digits_ask : (xs : List ℕ) → AllByRecursion (λ x. is_hex_digit x ≡ true) 
 digits_ask [] all some = absurd (omega (arith, some))
 digits_ask (x ∷ xs) all some = elim (cases_eq x 35) [
   | inl is ↦ absurd (cc (subst (λ (y : ℕ). is_hex_digit y ≡ true) is all.0))
-  | inr other ↦ (rw (ne_eqb 35 x (λ same. other (sym same))) refl, ne_eqb x 35 other)
+  | inr other ↦
+      let no : eqb 35 x ≡ false = ne_eqb 35 x (λ same. other (sym same)) in
+      (rw no refl, rw no refl)
 ]
 
 row_asks : (r : Row) → IsTold r
@@ -144,7 +123,7 @@ row_asks r told =
     digits_ask (row_digits r) digits (omega (arith, size, whole))
 
 -- the reading with these rows
-abbrev with_rows : List Row → HistoryRead → HistoryRead
+abbrev pub with_rows : List Row → HistoryRead → HistoryRead
 with_rows rows r =
     record r { unsealed = r.unsealed ++ row_lines rows; events = r.events ++ events_of rows }
 
@@ -156,14 +135,12 @@ row_read row r told =
     let request : request_in line ≡ Some (row.actor, row.event) =
     request_read (row_request row) row.actor row.event told.1.message told.1.asks
     (no_read row told.0) in
-    ap (λ (t : Bool). if t then sealed_by (is_right_seal line r) r
-    else if is_comment line then Some (with_line line r)
-    else add_request (request_in line) line r) asks.0
+    ap (λ (t : Bool). if t then sealed_by (is_right_seal line r) r else read_text line r) asks.0
     ∙ ap (λ (t : Bool). if t then Some (with_line line r)
     else add_request (request_in line) line r) asks.1
     ∙ ap (λ (o : Option (Actor × Event)). add_request o line r) request
 
-rows_read : (rows : List Row) (r : HistoryRead) → AllByRecursion IsTold rows
+pub rows_read : (rows : List Row) (r : HistoryRead) → AllByRecursion IsTold rows
     → read_lines (row_lines rows) r ≡ Some (with_rows rows r)
 rows_read [] r told =
     ap (λ (ls : List (List ℕ)). Some (record r { unsealed = ls; events = r.events }))
@@ -193,14 +170,13 @@ abbrev read_to : List ℕ → List (List ℕ) → List ℕ → List (Actor × Ev
 read_to seal lines torn events =
     record { seal = seal; unsealed = lines; torn = torn; events = events }
 
-seal_read : (r : HistoryRead) → read_line (seal_line (seal_of r.seal r.unsealed)) r
+pub seal_read : (r : HistoryRead) → read_line (seal_line (seal_of r.seal r.unsealed)) r
     ≡ Some (read_to (seal_of r.seal r.unsealed) [] r.torn r.events)
 seal_read r =
     let seal : List ℕ = seal_of r.seal r.unsealed in
     let line : List ℕ = seal_line seal in
-    ap (λ (t : Bool). if t then sealed_by (is_right_seal line r) r
-    else if is_comment line then Some (with_line line r)
-    else add_request (request_in line) line r) (begins_with seal_mark seal)
+    ap (λ (t : Bool). if t then sealed_by (is_right_seal line r) r else read_text line r)
+    (begins_itself seal_mark seal)
     ∙ ap (λ (t : Bool). sealed_by t r) (is_itself line)
 
 -- the lines behind the last seal of these parts
@@ -236,6 +212,13 @@ parts_read (part ∷ parts) seal lines torn events told =
     (append_assoc events (events_of part) (events_of rest)
     ∙ ap (λ (es : List (Actor × Event)). events ++ es) (sym (events_both part rest)))
 
+-- the line of a seal
+pub seal_plain : (before : List ℕ) (lines : List (List ℕ))
+    → IsLine (seal_line (seal_of before lines))
+seal_plain before lines =
+    plain_both seal_mark (seal_of before lines) refl
+    (digest_plain (before ++ text_of_lines lines))
+
 -- ---- chapters
 
 all_both : (xs ys : List (List ℕ)) → AllByRecursion IsLine xs → AllByRecursion IsLine ys
@@ -243,7 +226,8 @@ all_both : (xs ys : List (List ℕ)) → AllByRecursion IsLine xs → AllByRecur
 all_both [] ys first second = second
 all_both (x ∷ xs) ys first second = (first.0, all_both xs ys first.1 second)
 
-rows_plain : (rows : List Row) → AllByRecursion IsTold rows → AllByRecursion IsLine (row_lines rows)
+pub rows_plain : (rows : List Row) → AllByRecursion IsTold rows
+    → AllByRecursion IsLine (row_lines rows)
 rows_plain [] told = tt
 rows_plain (r ∷ rows) told =
     (spelled_plain (row_request r) told.0.1.message, rows_plain rows told.1)
@@ -269,14 +253,14 @@ behind_chapter first after sealed behind events =
     read_to (last_seal after first sealed) (unsealed_by first sealed ++ row_lines behind) []
     (events ++ events_of (rows_of_parts sealed ++ behind))
 
-chapter_read : (site_file : List ℕ) (n : ℕ) (after : List ℕ) (sealed : List (List Row))
+pub chapter_read : (site : List ℕ) (n : ℕ) (after : List ℕ) (sealed : List (List Row))
     (behind : List Row) (events : List (Actor × Event))
     → AllByRecursion IsTold (rows_of_parts sealed ++ behind)
-    → read_chapter site_file n (chapter_text site_file n after sealed behind)
+    → read_chapter site n (chapter_text site n after sealed behind)
     (read_to after [] [] events)
-    ≡ Some (behind_chapter (first_lines site_file n after) after sealed behind events)
-chapter_read site_file n after sealed behind events told =
-    let named : List (List ℕ) = first_lines site_file n after in
+    ≡ Some (behind_chapter (first_lines site n after) after sealed behind events)
+chapter_read site n after sealed behind events told =
+    let named : List (List ℕ) = first_lines site n after in
     let first : List ℕ = text_of_lines named in
     let lines : List (List ℕ) = chapter_lines named after sealed behind in
     let rows : List Row = rows_of_parts sealed in
@@ -288,7 +272,7 @@ chapter_read site_file n after sealed behind events told =
     ap (λ (t : Bool). if t
     then read_lines (whole_lines (drop (length first) text))
     (record begun { torn = unfinished (drop (length first) text) })
-    else None) (begins_with first (text_of_lines lines))
+    else None) (begins_itself first (text_of_lines lines))
     ∙ ap (λ (rest : List ℕ). read_lines (whole_lines rest)
     (record begun { torn = unfinished rest }))
     (behind_front first (text_of_lines lines))
@@ -307,17 +291,17 @@ chapter_read site_file n after sealed behind events told =
     ∙ ap (λ (es : List (Actor × Event)). events ++ es) (sym (events_both rows behind)))
 
 -- a closed chapter ends with a seal
-closed_read : (site_file : List ℕ) (n : ℕ) (after : List ℕ) (c : List (List Row))
+closed_read : (site : List ℕ) (n : ℕ) (after : List ℕ) (c : List (List Row))
     (events : List (Actor × Event)) → c ≢ [] → AllByRecursion IsTold (rows_of_parts c)
-    → read_chapter site_file n (chapter_text site_file n after c []) (read_to after [] [] events)
-    ≡ Some (read_to (last_seal after (first_lines site_file n after) c) [] []
+    → read_chapter site n (chapter_text site n after c []) (read_to after [] [] events)
+    ≡ Some (read_to (last_seal after (first_lines site n after) c) [] []
     (events ++ events_of (rows_of_parts c)))
-closed_read site_file n after [] events some told = absurd (some refl)
-closed_read site_file n after (part ∷ parts) events some told =
+closed_read site n after [] events some told = absurd (some refl)
+closed_read site n after (part ∷ parts) events some told =
     let c : List (List Row) = part ∷ parts in
-    let named : List (List ℕ) = first_lines site_file n after in
+    let named : List (List ℕ) = first_lines site n after in
     let alone : rows_of_parts c ++ [] ≡ rows_of_parts c = append-nil (rows_of_parts c) in
-    chapter_read site_file n after c [] events (subst (AllByRecursion IsTold) (sym alone) told)
+    chapter_read site n after c [] events (subst (AllByRecursion IsTold) (sym alone) told)
     ∙ ap (λ (ls : List (List ℕ)). Some (read_to (last_seal after named c) ls []
     (events ++ events_of (rows_of_parts c ++ []))))
     (append-nil (unsealed_by [] parts) ∙ none_unsealed parts)
@@ -328,52 +312,52 @@ closed_read site_file n after (part ∷ parts) events some told =
 
 -- the texts of chapters were read, and so many requests of them
 abbrev ReadOf : List ℕ → ℕ → List (List ℕ) → HistoryRead → List (Actor × Event) → Type 0
-ReadOf site_file n texts r events =
-    (end : HistoryRead) × (read_from site_file n texts r ≡ Some end) × (end.events ≡ events)
+ReadOf site n texts r events =
+    (end : HistoryRead) × (read_from site n texts r ≡ Some end) × (end.events ≡ events)
 
-texts_read : (site_file : List ℕ) (closed : List (List (List Row))) (sealed : List (List Row))
+texts_read : (site : List ℕ) (closed : List (List (List Row))) (sealed : List (List Row))
     (behind : List Row) (n : ℕ) (after : List ℕ) (events : List (Actor × Event))
     → AllByRecursion (λ c. c ≢ []) closed
     → AllByRecursion IsTold (rows_of_chapters closed sealed behind)
-    → ReadOf site_file n (texts_from site_file n after closed sealed behind)
+    → ReadOf site n (texts_from site n after closed sealed behind)
     (read_to after [] [] events)
     (events ++ events_of (rows_of_chapters closed sealed behind))
-texts_read site_file [] sealed behind n after events ended told = (
-  behind_chapter (first_lines site_file n after) after sealed behind events,
-  ap (λ (o : Option HistoryRead). and_then o (read_from site_file (suc n) []))
-      (chapter_read site_file n after sealed behind events told),
+texts_read site [] sealed behind n after events ended told = (
+  behind_chapter (first_lines site n after) after sealed behind events,
+  ap (λ (o : Option HistoryRead). and_then o (read_from site (suc n) []))
+      (chapter_read site n after sealed behind events told),
   refl,
 )
-texts_read site_file (c ∷ closed) sealed behind n after events ended told =
+texts_read site (c ∷ closed) sealed behind n after events ended told =
     let rows : List Row = rows_of_parts c in
     let others : List Row = rows_of_chapters closed sealed behind in
-    let next : List ℕ = last_seal after (first_lines site_file n after) c in
-    let texts = texts_from site_file (suc n) next closed sealed behind in
-    let later = texts_read site_file closed sealed behind (suc n) next
+    let next : List ℕ = last_seal after (first_lines site n after) c in
+    let texts = texts_from site (suc n) next closed sealed behind in
+    let later = texts_read site closed sealed behind (suc n) next
     (events ++ events_of rows) ended.1 (rest_told rows others told) in (
       later.0,
-      ap (λ (o : Option HistoryRead). and_then o (read_from site_file (suc n) texts))
-          (closed_read site_file n after c events ended.0 (first_told rows others told))
+      ap (λ (o : Option HistoryRead). and_then o (read_from site (suc n) texts))
+          (closed_read site n after c events ended.0 (first_told rows others told))
           ∙ later.1,
       later.2 ∙ append_assoc events (events_of rows) (events_of others)
           ∙ ap (λ (es : List (Actor × Event)). events ++ es) (sym (events_both rows others)),
     )
 
 -- there is a chapter
-some_text : (site_file : List ℕ) (closed : List (List (List Row))) (sealed : List (List Row))
-    (behind : List Row) → read_history site_file (history_texts site_file closed sealed behind)
-    ≡ read_from site_file 1 (history_texts site_file closed sealed behind) nothing_read
-some_text site_file [] sealed behind = refl
-some_text site_file (c ∷ closed) sealed behind = refl
+some_text : (site : List ℕ) (closed : List (List (List Row))) (sealed : List (List Row))
+    (behind : List Row) → read_history site (history_texts site closed sealed behind)
+    ≡ read_from site 1 (history_texts site closed sealed behind) nothing_read
+some_text site [] sealed behind = refl
+some_text site (c ∷ closed) sealed behind = refl
 
 pub chapters_tell_their_history : ChaptersTellTheirHistory
-chapters_tell_their_history site_file config rows closed sealed behind legal spelled ended are =
+chapters_tell_their_history site config rows closed sealed behind legal spelled ended are =
     let told = subst (AllByRecursion IsTold) (sym are)
     (told_rows (kept_rows rows) (kept_again rows) spelled) in
-    let read = texts_read site_file closed sealed behind 1 no_seal [] ended told in
+    let read = texts_read site closed sealed behind 1 no_seal [] ended told in
     record {
       reading = read.0;
-      read = some_text site_file closed sealed behind ∙ read.1;
+      read = some_text site closed sealed behind ∙ read.1;
       made =
           ap (rows_asked (opening config))
           (read.2 ∙ ap (λ (rs : List Row). events_of rs) are)

@@ -1,2 +1,17 @@
+pub mod Lists
+pub mod Results
+pub mod Lines
+pub mod Octets
+pub mod Kept
+pub mod Requests
+pub mod Rows
+pub mod Sent
+pub mod Made
+pub mod Asked
+pub mod Spelled
+pub mod FirstLines
+pub mod Reading
+pub mod ReadingChapters
+pub mod Histories
 pub mod Chapters
 pub mod Named

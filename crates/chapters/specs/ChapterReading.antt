@@ -1,11 +1,11 @@
 -- What is read of chapters: their requests. Each chapter has to go on from the one before, and each
 -- seal to be the one of what it covers.
 use Rattle.std.specs.Prelude.{ℕ, suc, Bool, true, false, ◌&&◌, ◌==◌, List, [], ◌∷◌, ◌++◌, drop}
-use Rattle.std.specs.Prelude.{length, Option, Some, None, if◌then◌else◌}
+use Rattle.std.specs.Prelude.{length, Option, Some, None, codes, if◌then◌else◌}
 use Rattle.std.specs.List.{starts_with}
 use Rattle.site_base.specs.declared.actor.Actor.{Actor}
 use Rattle.site_base.specs.declared.event.Event.{Event}
-use Rattle.journal.specs.JournalLines.{request_in, unfinished, whole_lines}
+use Rattle.chapters.specs.Lines.{request_in, unfinished, whole_lines}
 use Rattle.chapters.specs.ChapterText.{first_lines, no_seal, seal_line, seal_mark, seal_of}
 use Rattle.chapters.specs.ChapterText.{text_of_lines}
 
@@ -35,14 +35,12 @@ is_same_line right line = (length line == length right) && starts_with (λ a b. 
 abbrev pub is_right_seal : List ℕ → HistoryRead → Bool
 is_right_seal line r = is_same_line (seal_line (seal_of r.seal r.unsealed)) line
 
+-- with its seal, behind which nothing stands yet
+abbrev pub with_seal : HistoryRead → HistoryRead
+with_seal r = record r { seal = seal_of r.seal r.unsealed; unsealed = [] }
+
 abbrev pub sealed_by : Bool → HistoryRead → Option HistoryRead
-sealed_by true r =
-    Some (record {
-      seal = seal_of r.seal r.unsealed;
-      unsealed = [];
-      torn = r.torn;
-      events = r.events;
-    })
+sealed_by true r = Some (with_seal r)
 sealed_by false r = None
 
 abbrev pub with_line : List ℕ → HistoryRead → HistoryRead
@@ -54,16 +52,17 @@ add_request (Some e) line r = Some (record (with_line line r) { events = r.event
 
 -- the line says nothing of rows
 abbrev pub is_comment : List ℕ → Bool
-is_comment [] = false
-is_comment (b ∷ bs) = b == 35
+is_comment line = starts_with (λ a b. a == b) line (codes "#")
 
--- a line is read: a seal has to be right, a comment says nothing, and any other line is a request
--- whose row is kept
+-- a line that is no seal: a comment says nothing, and any other is a request whose row is kept
+abbrev pub read_text : List ℕ → HistoryRead → Option HistoryRead
+read_text line r =
+    if is_comment line then Some (with_line line r) else add_request (request_in line) line r
+
+-- a line is read: a seal has to be right
 abbrev pub read_line : List ℕ → HistoryRead → Option HistoryRead
 read_line line r =
-    if is_of_seal line then sealed_by (is_right_seal line r) r
-    else if is_comment line then Some (with_line line r)
-    else add_request (request_in line) line r
+    if is_of_seal line then sealed_by (is_right_seal line r) r else read_text line r
 
 abbrev pub and_then : Option HistoryRead → (HistoryRead → Option HistoryRead) → Option HistoryRead
 and_then None next = None
@@ -80,11 +79,11 @@ abbrev pub is_none_left : HistoryRead → Bool
 is_none_left r = (length r.unsealed == 0) && (length r.torn == 0)
 
 -- a chapter of this number is read: the one before ended with a seal, and its own first lines name
--- it, the site file, and that seal. Its first seal covers these lines too. Octets behind its last
--- line feed are none of its lines
+-- it, the site, and that seal. Its first seal covers these lines too. Octets behind its last line
+-- feed are none of its lines
 abbrev pub read_chapter : List ℕ → ℕ → List ℕ → HistoryRead → Option HistoryRead
-read_chapter site_file n text r =
-    let lines = first_lines site_file n r.seal in
+read_chapter site n text r =
+    let lines = first_lines site n r.seal in
     let first = text_of_lines lines in
     let rest = drop (length first) text in
     if is_none_left r && starts_with (λ a b. a == b) text first
@@ -93,11 +92,11 @@ read_chapter site_file n text r =
 
 -- chapters are read, from this number on
 abbrev pub read_from : List ℕ → ℕ → List (List ℕ) → HistoryRead → Option HistoryRead
-read_from site_file n [] r = Some r
-read_from site_file n (text ∷ texts) r =
-    and_then (read_chapter site_file n text r) (read_from site_file (suc n) texts)
+read_from site n [] r = Some r
+read_from site n (text ∷ texts) r =
+    and_then (read_chapter site n text r) (read_from site (suc n) texts)
 
 -- the texts of a history's chapters are read: there is one at least
 abbrev pub read_history : List ℕ → List (List ℕ) → Option HistoryRead
-read_history site_file [] = None
-read_history site_file (text ∷ texts) = read_from site_file 1 (text ∷ texts) nothing_read
+read_history site [] = None
+read_history site (text ∷ texts) = read_from site 1 (text ∷ texts) nothing_read

@@ -1,5 +1,5 @@
 -- The text of a chapter: three lines that name it, a line for each row, and seals. Its times are
--- left out: no station writes chapters yet.
+-- comments, and left out here.
 use Rattle.std.specs.Prelude.{ℕ, suc, List, [], ◌∷◌, ◌++◌, codes, decimal, map}
 use Rattle.std.specs.Prelude.{replicate}
 use Rattle.std.specs.List.{flat_map}
@@ -7,7 +7,7 @@ use Rattle.hex.specs.Hex.{encode_lower}
 use Rattle.sha2.specs.Sha256.{sha256}
 use Rattle.site_base.specs.declared.row.Row.{Row}
 use Rattle.app_message.specs.Spelling.{spelling}
-use Rattle.journal.specs.JournalText.{row_request}
+use Rattle.chapters.specs.RowText.{row_request}
 
 -- lines, each with its line feed
 abbrev pub text_of_lines : List (List ℕ) → List ℕ
@@ -32,11 +32,22 @@ seal_line seal = seal_mark ++ seal
 
 -- ---- a chapter
 
--- the first three lines of a chapter: its number, its site file's SHA-256, the seal before it
+-- what names a site: the SHA-256 of its file's octets
+abbrev pub site_name : List ℕ → List ℕ
+site_name site_file = encode_lower (sha256 site_file)
+
+-- the first three lines of a chapter: its number, its site's name, the seal before it
+abbrev pub title_line : ℕ → List ℕ
+title_line n = codes "# witsomar history 1 chapter " ++ decimal n
+
+abbrev pub site_line : List ℕ → List ℕ
+site_line site = codes "# site " ++ site
+
+abbrev pub after_line : List ℕ → List ℕ
+after_line after = codes "# after " ++ after
+
 abbrev pub first_lines : List ℕ → ℕ → List ℕ → List (List ℕ)
-first_lines site_file n after =
-    (codes "# witsomar history 1 chapter " ++ decimal n)
-    ∷ (codes "# site " ++ encode_lower (sha256 site_file)) ∷ (codes "# after " ++ after) ∷ []
+first_lines site n after = title_line n ∷ site_line site ∷ after_line after ∷ []
 
 -- the request of a row's actor and event, with token 0, in lower case hexadecimal
 abbrev pub row_digits : Row → List ℕ
@@ -65,8 +76,8 @@ abbrev pub chapter_lines : List (List ℕ) → List ℕ → List (List Row) → 
 chapter_lines first after sealed behind = sealed_lines after first sealed ++ row_lines behind
 
 abbrev pub chapter_text : List ℕ → ℕ → List ℕ → List (List Row) → List Row → List ℕ
-chapter_text site_file n after sealed behind =
-    let first = first_lines site_file n after in
+chapter_text site n after sealed behind =
+    let first = first_lines site n after in
     text_of_lines first ++ text_of_lines (chapter_lines first after sealed behind)
 
 -- ---- a history
@@ -85,13 +96,13 @@ rows_of_chapters (c ∷ closed) sealed behind =
 -- the texts of chapters from this number on, behind that seal: closed ones end with a seal
 abbrev pub texts_from : List ℕ → ℕ → List ℕ → List (List (List Row)) → List (List Row) → List Row
     → List (List ℕ)
-texts_from site_file n after [] sealed behind = chapter_text site_file n after sealed behind ∷ []
-texts_from site_file n after (c ∷ closed) sealed behind =
-    chapter_text site_file n after c []
-    ∷ texts_from site_file (suc n) (last_seal after (first_lines site_file n after) c) closed sealed
+texts_from site n after [] sealed behind = chapter_text site n after sealed behind ∷ []
+texts_from site n after (c ∷ closed) sealed behind =
+    chapter_text site n after c []
+    ∷ texts_from site (suc n) (last_seal after (first_lines site n after) c) closed sealed
     behind
 
 -- the texts of a history's chapters
 abbrev pub history_texts : List ℕ → List (List (List Row)) → List (List Row) → List Row
     → List (List ℕ)
-history_texts site_file closed sealed behind = texts_from site_file 1 no_seal closed sealed behind
+history_texts site closed sealed behind = texts_from site 1 no_seal closed sealed behind

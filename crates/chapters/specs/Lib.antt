@@ -1,4 +1,9 @@
+pub mod RowText
+pub mod Lines
+pub mod History
 pub mod ChapterText
 pub mod Seals
+pub mod HistoryEnds
 pub mod ChapterReading
+pub mod Readers
 pub mod Laws

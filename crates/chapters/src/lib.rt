@@ -1,11 +1,19 @@
-//! A history as chapters: the text of each, what is read of them, and the law that they tell the
-//! history; the lines that name a chapter, and its seals. No program writes or reads chapters yet.
+//! A history as chapters: the lines of their rows, the lines that name a chapter, its seals; what
+//! is read of them; and the law that they tell the history.
 #![tactic(auto)]
 
+mod fault;
 mod first_lines;
+mod history_end;
 mod laws;
+mod reader;
+mod request_line;
+mod row_lines;
 mod seal;
 
-pub use first_lines::put_first_lines;
+pub use fault::HistoryFault;
+pub use first_lines::site_name;
+pub use history_end::{HistoryEnd, MOST_CHAPTERS};
 pub use laws::chapters_tell_their_history;
-pub use seal::{SEAL_DIGITS, Unsealed};
+pub use reader::{HistoryReader, ROWS_IN_MEMORY, ReadHistory};
+pub use row_lines::{put_row_line, put_rows};

@@ -1,15 +1,14 @@
 //! Seals: each is the SHA-256 of the seal before it and of the octets behind that one's line.
 
-ghost use Rattle.std.specs.Prelude.{◌≡◌, ◌++◌, ℕ, List, length};
+ghost use Rattle.std.specs.Prelude.{◌≡◌, ◌++◌, ℕ, IfOk, List, string_bytes};
 ghost use Rattle.hex.specs.Hex.{encode_lower};
 ghost use Rattle.sha2.specs.Sha256.{sha256};
 ghost use Rattle.chapters.specs.Seals.{Covers};
 
 use sha2::{Digest, Sha256};
+use site_base::NoMemory;
+use std::alloc::Global;
 use std::marker::Model;
-
-/// The digits of a seal.
-pub const SEAL_DIGITS: usize = 64;
 
 /// What the next seal covers: the one before it, and the octets behind that one's line.
 #[derive(Drop)]
@@ -42,17 +41,14 @@ impl Unsealed {
         self.hasher.update(octets);
     }
 
-    /// The seal of all that; behind it there is nothing yet.
-    pub fn seal(&mut self) -> [u8; SEAL_DIGITS]
-        ensures seal { (m : List ℕ) → Covers self.old m → result ≡ encode_lower (sha256 m) }
-        ensures behind { Covers self.new result }
+    /// The seal of all that, in digits; behind it there is nothing yet.
+    pub fn seal(&mut self, alloc: Global) -> Result<String, NoMemory>
+        ensures seal { IfOk result (λ seal. (m : List ℕ) → Covers self.old m
+            → string_bytes seal ≡ encode_lower (sha256 m)) }
+        ensures behind { IfOk result (λ seal. Covers self.new (string_bytes seal)) }
     {
-        let mut digits = [0; SEAL_DIGITS];
-        let digest = self.hasher.finalize_reset();
-        if hex::encode_to_slice(digest, &mut digits).is_err() {
-            unreachable!();
-        }
-        self.hasher.update(digits);
-        digits
+        let seal = hex::encode(alloc, self.hasher.finalize_reset())?;
+        self.hasher.update(seal.as_bytes());
+        Ok(seal)
     }
 }

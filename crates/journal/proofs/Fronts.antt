@@ -1,11 +1,12 @@
--- Fronts of octets, and fronts that stay through calls.
+-- Fronts of octets, and histories that go on through calls.
 use Rattle.std.proofs.Common.{◌≡◌, ℕ, ◌-◌, List, [], ◌∷◌, ◌++◌, length, take, Option, Some}
 use Rattle.std.proofs.Common.{None}
-use Rattle.std.proofs.Common.{sym, ap, ◌∙◌, append_assoc, append-nil, arith, subst}
+use Rattle.std.proofs.Common.{refl, sym, ap, ◌∙◌, append_assoc, append-nil, arith, subst, inl, inr}
 use Rattle.std.specs.Prelude.{◌≤◌}
-use Rattle.std.specs.List.{AllByRecursion}
 use Rattle.std.proofs.Math.Seq.{take-append-add}
-use Rattle.journal.specs.Disks.{BeginsWith, DiskFile, Keeps, KeepsFront, OfFiles}
+use Rattle.chapters.proofs.Lists.{all_both, all_each}
+use Rattle.journal.specs.Disks.{BeginsWith, DiskFile, GoesOn, Keeps, KeepsMoment, Moment, OfFiles}
+use Rattle.journal.specs.Disks.{moment_of}
 
 pub begins_all : (xs : List ℕ) → BeginsWith xs xs
 begins_all xs = record { rest = []; parts = sym (append-nil xs) }
@@ -20,61 +21,85 @@ begins_then a b c one two = record {
       ∙ append_assoc a one.rest two.rest;
 }
 
-pub all_both : {X : Type 0} (P : X → Type 0) (xs ys : List X) → AllByRecursion P xs
-    → AllByRecursion P ys → AllByRecursion P (xs ++ ys)
-all_both P [] ys first second = second
-all_both P (x ∷ xs) ys first second = (first.0, all_both P xs ys first.1 second)
+-- ---- histories that go on
 
-pub all_each : {X : Type 0} (P Q : X → Type 0) → ((x : X) → P x → Q x) → (xs : List X)
-    → AllByRecursion P xs → AllByRecursion Q xs
-all_each P Q each [] all = tt
-all_each P Q each (x ∷ xs) all = (each x all.0, all_each P Q each xs all.1)
+pub goes_all : (m : Moment) → GoesOn m m
+goes_all m = inl (record { closed = refl; front = begins_all m.front })
+
+pub goes_then : (a b c : Moment) → GoesOn a b → GoesOn b c → GoesOn a c
+goes_then a b c (inl one) (inl two) =
+    inl (record {
+      closed = two.closed ∙ one.closed;
+      front = begins_then a.front b.front c.front one.front two.front;
+    })
+goes_then a b c (inl one) (inr two) =
+    inr (record {
+      text = two.text;
+      more = two.more;
+      closed = two.closed ∙ ap (λ (ts : List (List ℕ)). ts ++ two.text ∷ two.more) one.closed;
+      front = begins_then a.front b.front two.text one.front two.front;
+    })
+goes_then a b c (inr one) (inl two) =
+    inr (record {
+      text = one.text;
+      more = one.more;
+      closed = two.closed ∙ one.closed;
+      front = one.front;
+    })
+goes_then a b c (inr one) (inr two) =
+    inr (record {
+      text = one.text;
+      more = one.more ++ two.text ∷ two.more;
+      closed =
+          two.closed ∙ ap (λ (ts : List (List ℕ)). ts ++ two.text ∷ two.more) one.closed
+          ∙ append_assoc a.closed (one.text ∷ one.more) (two.text ∷ two.more);
+      front = one.front;
+    })
 
 -- ---- through calls
 
-pub keeps_less : (f g : List ℕ) (a b : DiskFile) → BeginsWith f g → KeepsFront g a b
-    → KeepsFront f a b
-keeps_less f g a b front keeps = record {
+pub keeps_less : (m n : Moment) (a b : DiskFile) → GoesOn m n → KeepsMoment n a b
+    → KeepsMoment m a b
+keeps_less m n a b goes keeps = record {
   more = keeps.more;
   moments = keeps.moments;
-  each = all_each (BeginsWith g) (BeginsWith f) (λ x begins. begins_then f g x front begins)
-      keeps.more keeps.each;
-  last = begins_then f g b.synced front keeps.last;
+  each = all_each (GoesOn n) (GoesOn m) (λ x on. goes_then m n x goes on) keeps.more keeps.each;
+  last = goes_then m n (moment_of b) goes keeps.last;
 }
 
-pub keeps_then : (f : List ℕ) (a b c : DiskFile) → KeepsFront f a b → KeepsFront f b c
-    → KeepsFront f a c
-keeps_then f a b c one two = record {
+pub keeps_then : (m : Moment) (a b c : DiskFile) → KeepsMoment m a b → KeepsMoment m b c
+    → KeepsMoment m a c
+keeps_then m a b c one two = record {
   more = one.more ++ two.more;
-  moments = two.moments ∙ ap (λ (x : List (List ℕ)). x ++ two.more) one.moments
-      ∙ append_assoc a.fronts one.more two.more;
-  each = all_both (BeginsWith f) one.more two.more one.each two.each;
+  moments = two.moments ∙ ap (λ (x : List Moment). x ++ two.more) one.moments
+      ∙ append_assoc a.moments one.more two.more;
+  each = all_both (GoesOn m) one.more two.more one.each two.each;
   last = two.last;
 }
 
-pub keeps_none : (f : List ℕ) (a : DiskFile) → BeginsWith f a.synced → KeepsFront f a a
-keeps_none f a begins = record {
+pub keeps_none : (m : Moment) (a : DiskFile) → GoesOn m (moment_of a) → KeepsMoment m a a
+keeps_none m a goes = record {
   more = [];
-  moments = sym (append-nil a.fronts);
+  moments = sym (append-nil a.moments);
   each = tt;
-  last = begins;
+  last = goes;
 }
 
--- a call that keeps what is synced keeps what an earlier one kept
-pub keeps_on : (f : List ℕ) (a b c : DiskFile) → KeepsFront f a b → Keeps b c → KeepsFront f a c
-keeps_on f a b c one two =
-    keeps_then f a b c one (keeps_less f b.synced b c one.last two)
+-- a call that keeps what is on the disk keeps what an earlier one kept
+pub keeps_on : (m : Moment) (a b c : DiskFile) → KeepsMoment m a b → Keeps b c → KeepsMoment m a c
+keeps_on m a b c one two =
+    keeps_then m a b c one (keeps_less m (moment_of b) b c one.last two)
 
 pub files_same : (a b : Option DiskFile) → b ≡ a → OfFiles Keeps a b
 files_same None b is = subst (λ (x : Option DiskFile). OfFiles Keeps None x) (sym is) tt
 files_same (Some a) b is =
     subst (λ (x : Option DiskFile). OfFiles Keeps (Some a) x) (sym is)
-    (keeps_none a.synced a (begins_all a.synced))
+    (keeps_none (moment_of a) a (goes_all (moment_of a)))
 
 pub files_then : (a b c : Option DiskFile) → OfFiles Keeps a b → OfFiles Keeps b c
     → OfFiles Keeps a c
 files_then None None None one two = tt
-files_then (Some a) (Some b) (Some c) one two = keeps_on a.synced a b c one two
+files_then (Some a) (Some b) (Some c) one two = keeps_on (moment_of a) a b c one two
 files_then None None (Some c) one two = absurd two
 files_then None (Some b) c one two = absurd one
 files_then (Some a) None c one two = absurd one

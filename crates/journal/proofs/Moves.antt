@@ -7,10 +7,10 @@ use Rattle.station.specs.Moves.{StationState}
 use Rattle.station.specs.Runs.{Forgets, Move, after_move}
 use Rattle.station.specs.Sessions.{without_till}
 use Rattle.station.proofs.Keeping.{ForgetsKeep, RowsKeep, book_moved, left_keeps}
-use Rattle.journal.specs.JournalText.{IsSent}
-use Rattle.journal.proofs.Fronts.{all_both}
+use Rattle.chapters.specs.RowText.{IsSent}
+use Rattle.chapters.proofs.Lists.{all_both}
 use Rattle.journal.proofs.Made.{Adds, adds_row, adds_same, adds_sign_off, adds_then}
-use Rattle.journal.proofs.Sent.{request_sends}
+use Rattle.chapters.proofs.Sent.{request_sends}
 
 pub rows_add : (b : Book) → RowsKeep (Adds b)
 rows_add b = record {

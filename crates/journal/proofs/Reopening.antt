@@ -8,12 +8,12 @@ use Rattle.journal.specs.Recovering.{IsReadIn, KeepsWholeLines}
 use Rattle.journal.specs.Stored.{StoredState}
 use Rattle.journal.proofs.Recovering.{lines_then}
 
-pub reopens : (header first : List ℕ) (config : Configured) (recovered : Book)
-    (old settled : Option DiskFile) (rows : ℕ) (s : StoredState) → first ≡ header
-    → recovered.config ≡ config → OfFile (IsReadIn header recovered) old
+pub reopens : (site first : List ℕ) (config : Configured) (recovered : Book)
+    (old settled : Option DiskFile) (rows : ℕ) (s : StoredState) → first ≡ site
+    → recovered.config ≡ config → OfFile (IsReadIn site recovered) old
     → OfFiles KeepsWholeLines old settled → rows ≡ length recovered.rows
-    → Resumes first recovered settled s → Reopens header config old rows s
-reopens header first config recovered old settled rows s named same read stays count r = record {
+    → Resumes first recovered settled s → Reopens site config old rows s
+reopens site first config recovered old settled rows s named same read stays count r = record {
   recovered = recovered;
   same = same;
   read = read;

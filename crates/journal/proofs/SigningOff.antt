@@ -33,12 +33,12 @@ use Rattle.station.specs.Sessions.{without_till}
 use Rattle.station.proofs.Leaving.{signed_off}
 use Rattle.station.proofs.TillSessions.{still_on}
 use Rattle.journal.specs.Disks.{DiskFile, Grows, Keeps, OfFile, OfFiles}
-use Rattle.journal.specs.History.{empty_book}
+use Rattle.chapters.specs.History.{empty_book}
 use Rattle.journal.specs.Opening.{HasNobodyOn, Resumes, all_off, tills_off}
-use Rattle.journal.specs.JournalText.{CanBeSpelled, IsSent, rows_text}
-use Rattle.journal.specs.Stored.{HoldsRows, IsJournalOf, JournalState, StoredState, kept_behind}
-use Rattle.journal.specs.Stored.{kept_first}
-use Rattle.journal.proofs.Fronts.{all_both}
+use Rattle.chapters.specs.HistoryEnds.{EndState}
+use Rattle.chapters.specs.RowText.{CanBeSpelled, IsSent, kept_behind, kept_first, rows_text}
+use Rattle.chapters.proofs.Lists.{all_both}
+use Rattle.journal.specs.Stored.{HoldsRows, IsJournalOf, JournalState, StoredState}
 use Rattle.journal.proofs.Made.{Adds, adds_same, adds_then}
 use Rattle.journal.proofs.Moves.{adds_leaving}
 
@@ -106,12 +106,13 @@ nobody_yet config = λ t. set.contains-empty nat_cmp t
 -- ---- the journal of what was recovered
 
 -- each row that was recovered is kept, and stored
-pub journal_begun : (header : List ℕ) (recovered b : Book) (file : Option DiskFile) (stored : ℕ)
-    → OfFile (HoldsRows header recovered.rows false) file
+pub journal_begun : (site : List ℕ) (recovered b : Book) (e : EndState) (file : Option DiskFile)
+    (stored : ℕ) → OfFile (HoldsRows site recovered.rows false e) file
     → kept_rows recovered.rows ≡ recovered.rows → CanBeSpelled recovered.rows
     → stored ≡ length recovered.rows → b ≡ all_off recovered
-    → IsJournalOf b.rows (record { header = header; stored = stored; failed = false; file = file })
-journal_begun header recovered b file stored holds kept spelled size off =
+    → IsJournalOf b.rows
+    (record { site = site; stored = stored; failed = false; end = e; file = file })
+journal_begun site recovered b e file stored holds kept spelled size off =
     let adds = subst (Adds recovered) (sym off) (off_adds TILLS recovered) in
     let front : kept_first stored b.rows ≡ recovered.rows =
     ap kept_rows (ap (take stored) adds.rows
@@ -122,7 +123,7 @@ journal_begun header recovered b file stored holds kept spelled size off =
     record {
       few = omega (arith, size, all);
       spelled = subst CanBeSpelled (sym front) spelled;
-      holds = subst (λ (rs : List Row). OfFile (HoldsRows header rs false) file) (sym front) holds;
+      holds = subst (λ (rs : List Row). OfFile (HoldsRows site rs false e) file) (sym front) holds;
     }
 
 -- what goes by the recovered book goes by it with its sign-offs
@@ -154,15 +155,15 @@ allowed_off recovered b off =
     adds.same
 
 -- a station that begins with it, each row of which is stored
-pub resumes : (header : List ℕ) (recovered b : Book) (unpaid : Kept) (file : Option DiskFile)
+pub resumes : (site : List ℕ) (recovered b : Book) (unpaid : Kept) (file : Option DiskFile)
     (j : JournalState)
     (s : StoredState)
     → s ≡ record { station = opening_station b; unpaid = unpaid; journal = Some j }
-    → b ≡ all_off recovered → HasNobodyOn b → j.stored ≡ length b.rows → j.header ≡ header
+    → b ≡ all_off recovered → HasNobodyOn b → j.stored ≡ length b.rows → j.site ≡ site
     → OfFiles (Grows (rows_text (kept_behind (length recovered.rows) b.rows))) file j.file
-    → OfFiles Keeps file j.file → Resumes header recovered file s
-resumes header recovered b unpaid file j s is signed off all named lines keeps =
-    subst (Resumes header recovered file) (sym is) (record {
+    → OfFiles Keeps file j.file → Resumes site recovered file s
+resumes site recovered b unpaid file j s is signed off all named lines keeps =
+    subst (Resumes site recovered file) (sym is) (record {
       alone = refl;
       rows = signed;
       off = off;

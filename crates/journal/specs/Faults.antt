@@ -1,56 +1,39 @@
--- What a fault says of a journal's octets: which line is the first that is none of it.
-use Rattle.std.specs.Prelude.{◌≡◌, ℕ, ◌+◌, Bool, true, false, List, ◌∷◌, [], ◌++◌, ◌⊎◌, ⊤, length}
-use Rattle.std.specs.Prelude.{Some, None, if◌then◌else◌}
-use Rattle.site_base.specs.declared.actor.Actor.{Actor}
-use Rattle.site_base.specs.declared.event.Event.{Event}
-use Rattle.journal.specs.declared.reading.OpenFault.{OpenFault}
-use Rattle.journal.specs.declared.reading.OpenFault.TheVariants.{AnotherSite, Line}
-use Rattle.journal.specs.Disks.{DiskFile}
-use Rattle.journal.specs.JournalLines.{request_in, requests_in, whole_lines}
-use Rattle.journal.specs.JournalText.{names_a_site}
-use Rattle.journal.specs.Readings.{IsUnended}
+-- What a fault says of a history.
+use Rattle.std.specs.Prelude.{◌≡◌, ◌+◌, ⊤, ℕ, List, ◌∷◌, ◌++◌, Some, length}
+use Rattle.chapters.specs.declared.fault.HistoryFault.{HistoryFault}
+use Rattle.chapters.specs.ChapterReading.{HistoryRead, nothing_read, read_from}
+use Rattle.chapters.specs.Readers.{IsOfText as IsOfLines, Names}
+use Rattle.journal.specs.declared.recovery.OpenFault.{OpenFault}
+use Rattle.journal.specs.declared.recovery.OpenFault.TheVariants.{Refused, Unread}
+use Rattle.journal.specs.Disks.{DiskFile, Moment, shown_of}
+use Rattle.journal.specs.Readings.{texts_of}
 
--- no line is whole, and this site's first line doesn't begin so
-pub record IsNoBeginning (header octets : List ℕ) : Type 0 where
-  pub none_ends : whole_lines octets ≡ []
-  pub other : IsUnended header octets → ⊥
+-- a fault of what the chapters say
+abbrev pub IsOfText : OpenFault → Type 0
+IsOfText (Refused fault) = IsOfLines fault
+IsOfText fault = ⊥
 
--- the first line is another one; `names` says whether it names a site file
-pub record IsAnother (names : Bool) (header octets : List ℕ) : Type 0 where
-  pub first : List ℕ
-  pub others : List (List ℕ)
-  pub lines : whole_lines octets ≡ first ∷ others
-  pub other : first ≡ header → ⊥
-  pub named : names_a_site first ≡ names
+-- a fault of a start that does nothing to the chapters: they can't be read, or are none of this
+-- site
+abbrev pub IsRefusal : OpenFault → Type 0
+IsRefusal Unread = ⊤
+IsRefusal fault = IsOfText fault
 
--- the first line is this site's, and the lines between it and the line of this number, counted from
--- 1, are requests; that line is none whose row is kept
-pub record IsWrongRow (header octets : List ℕ) (number : ℕ) : Type 0 where
+-- the chapters ahead of one are read, and the fault is that one's
+pub record NamesChapter (site : List ℕ) (m : Moment) (fault : HistoryFault) : Type 0 where
   pub before : List (List ℕ)
-  pub line : List ℕ
+  pub text : List ℕ
   pub others : List (List ℕ)
-  pub lines : whole_lines octets ≡ header ∷ before ++ line ∷ others
-  pub place : number ≡ length before + 2
-  pub events : List (Actor × Event)
-  pub requests : requests_in before ≡ Some events
-  pub none : request_in line ≡ None
+  pub texts : texts_of m ≡ before ++ text ∷ others
+  pub reading : HistoryRead
+  pub read : read_from site 1 before nothing_read ≡ Some reading
+  pub names : Names site (length before + 1) reading text fault
 
--- line 1 is wrong, and names no site file
-abbrev pub IsWrongFirst : List ℕ → List ℕ → Type 0
-IsWrongFirst header octets = IsNoBeginning header octets ⊎ IsAnother false header octets
+-- what a fault names
+abbrev pub FaultNames : List ℕ → OpenFault → Moment → Type 0
+FaultNames site (Refused fault) m = NamesChapter site m fault
+FaultNames site fault m = ⊤
 
--- the fault of a first line that is whole
-abbrev pub first_fault : List ℕ → OpenFault
-first_fault line = if names_a_site line then AnotherSite else Line 1
-
--- `Line` names the first line that is wrong; `AnotherSite` says that the first line names another
--- site file
-abbrev pub Names : List ℕ → List ℕ → OpenFault → Type 0
-Names header octets (Line n) =
-    ((n ≡ 1) × IsWrongFirst header octets) ⊎ IsWrongRow header octets n
-Names header octets AnotherSite = IsAnother true header octets
-Names header octets fault = ⊤
-
--- .. of a file
+-- .. of a disk
 abbrev pub NamesIn : List ℕ → OpenFault → DiskFile → Type 0
-NamesIn header fault file = Names header file.octets fault
+NamesIn site fault file = FaultNames site fault (shown_of file)

@@ -1,8 +1,4 @@
 pub mod Disks
-pub mod JournalText
-pub mod JournalLines
-pub mod History
-pub mod RowLines
 pub mod Readings
 pub mod Faults
 pub mod Memory

@@ -4,7 +4,7 @@ use Rattle.site_book.specs.Book.{Book}
 use Rattle.station.specs.declared.sizes.TheConstants.{PIECE_ROWS}
 use Rattle.station.specs.Room.{HasRoomFor}
 use Rattle.station.specs.Moves.{StationState, without_old_rows}
-use Rattle.journal.specs.declared.memory.TheConstants.{ROWS_IN_MEMORY}
+use Rattle.chapters.specs.declared.reader.TheConstants.{ROWS_IN_MEMORY}
 
 -- of a configuration that allows so many rows: with so many in memory, or more, they are forgotten
 -- before a peer is read from

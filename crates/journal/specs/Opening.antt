@@ -7,9 +7,9 @@ use Rattle.site_book.specs.Book.{Book, site_of_book}
 use Rattle.station.specs.Runs.{opening_station}
 use Rattle.station.specs.Sessions.{without_till}
 use Rattle.journal.specs.Disks.{DiskFile, Grows, Keeps, OfFile, OfFiles}
-use Rattle.journal.specs.JournalText.{rows_text}
+use Rattle.chapters.specs.RowText.{kept_behind, rows_text}
 use Rattle.journal.specs.Recovering.{IsReadIn, KeepsWholeLines}
-use Rattle.journal.specs.Stored.{JournalState, StoredState, is_all_stored, kept_behind}
+use Rattle.journal.specs.Stored.{JournalState, StoredState, is_all_stored}
 
 -- no till is signed on
 abbrev pub HasNobodyOn : Book → Type 0
@@ -25,8 +25,8 @@ abbrev pub all_off : Book → Book
 all_off b = tills_off TILLS b
 
 -- a station without peers, at the recovered book with the sign-offs of those that are signed on
--- behind it; each row is stored in the journal, which goes on from this file by their lines
-pub record Resumes (header : List ℕ) (recovered : Book) (file : Option DiskFile) (s : StoredState)
+-- behind it; each row is stored in the journal, which goes on from this disk by their lines
+pub record Resumes (site : List ℕ) (recovered : Book) (file : Option DiskFile) (s : StoredState)
     : Type 0 where
   pub alone : s.station ≡ opening_station s.station.book
   pub rows : s.station.book ≡ all_off recovered
@@ -34,23 +34,23 @@ pub record Resumes (header : List ℕ) (recovered : Book) (file : Option DiskFil
   pub stored : is_all_stored s ≡ true
   pub journal : JournalState
   pub there : s.journal ≡ Some journal
-  pub named : journal.header ≡ header
+  pub named : journal.site ≡ site
   pub lines : OfFiles
       (Grows (rows_text (kept_behind (length recovered.rows) s.station.book.rows))) file
       journal.file
   pub moments : OfFiles Keeps file journal.file
 
--- .. of a file from which this book is read: so many rows, and the sign-offs behind them. Whole
+-- .. of a disk from which this book is read: so many rows, and the sign-offs behind them. Whole
 -- lines that were on the disk stay there, at each moment
-pub record Reopens (header : List ℕ) (config : Configured) (file : Option DiskFile) (rows : ℕ)
+pub record Reopens (site : List ℕ) (config : Configured) (file : Option DiskFile) (rows : ℕ)
     (s : StoredState) : Type 0 where
   pub recovered : Book
   pub same : recovered.config ≡ config
-  pub read : OfFile (IsReadIn header recovered) file
+  pub read : OfFile (IsReadIn site recovered) file
   pub count : rows ≡ length recovered.rows
   pub signed_off : s.station.book ≡ all_off recovered
   pub stored : is_all_stored s ≡ true
   pub journal : JournalState
   pub there : s.journal ≡ Some journal
-  pub named : journal.header ≡ header
+  pub named : journal.site ≡ site
   pub moments : OfFiles KeepsWholeLines file journal.file

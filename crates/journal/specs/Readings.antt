@@ -1,63 +1,48 @@
--- What is read back of a journal's octets.
-use Rattle.std.specs.Prelude.{◌≡◌, ℕ, ◌≤◌, List, [], ◌∷◌, ◌++◌, ◌⊎◌, length, take, drop}
-use Rattle.std.specs.Prelude.{◌+◌, ◌<◌, ◌==◌, ⊤, true, not}
-use Rattle.std.specs.List.{list_all}
+-- What is read back of a history.
+use Rattle.std.specs.Prelude.{◌≡◌, ℕ, List, [], ◌∷◌, ◌++◌, ◌⊎◌, Some}
 use Rattle.site_base.specs.declared.actor.Actor.{Actor}
 use Rattle.site_base.specs.declared.event.Event.{Event}
 use Rattle.site_book.specs.Book.{Book}
-use Rattle.journal.specs.declared.reading.OpenFault.{OpenFault}
-use Rattle.journal.specs.declared.reading.OpenFault.TheVariants.{AnotherSite, Line, Unread}
-use Rattle.journal.specs.Disks.{BeginsWith}
-use Rattle.journal.specs.History.{IsMadeOf}
-use Rattle.journal.specs.JournalLines.{Tells, TellsWhole, whole_lines}
+use Rattle.chapters.specs.ChapterReading.{HistoryRead, nothing_read, read_from}
+use Rattle.chapters.specs.History.{IsMadeOf}
+use Rattle.journal.specs.Disks.{Moment}
 
--- the octets tell the requests whose rows, made again, are the book
-pub record TellsBook (header octets : List ℕ) (b : Book) : Type 0 where
-  pub events : List (Actor × Event)
-  pub tells : Tells header octets events
-  pub made : IsMadeOf b events
+-- the texts of all chapters
+abbrev pub texts_of : Moment → List (List ℕ)
+texts_of m = m.closed ++ m.front ∷ []
 
--- no line is whole yet, and the octets are a beginning of the first line
-pub record IsUnended (header octets : List ℕ) : Type 0 where
-  pub front : BeginsWith octets (header ++ 10 ∷ [])
-  pub none_ends : whole_lines octets ≡ []
+-- the chapters of the site of this name are read, and tell these requests
+pub record Tells (site : List ℕ) (m : Moment) (events : List (Actor × Event)) : Type 0 where
+  pub reading : HistoryRead
+  pub read : read_from site 1 (texts_of m) nothing_read ≡ Some reading
+  pub told : reading.events ≡ events
+
+-- .. and nothing stands behind the last line feed
+pub record TellsWhole (site : List ℕ) (m : Moment) (events : List (Actor × Event))
+    : Type 0 where
+  pub tells : Tells site m events
+  pub whole : tells.reading.torn ≡ []
+
+-- nothing is written yet
+pub record IsNew (m : Moment) : Type 0 where
+  pub closed : m.closed ≡ []
+  pub front : m.front ≡ []
 
 -- .. and there is no row
-pub record IsBegun (header octets : List ℕ) (whole : ℕ) (b : Book) : Type 0 where
-  pub first : IsUnended header octets
-  pub none : whole ≡ 0
+pub record IsBegun (m : Moment) (b : Book) : Type 0 where
+  pub new : IsNew m
   pub rows : b.rows ≡ []
 
--- so many of the octets are whole lines, which tell this book; at most an unfinished one stands
--- behind them
-pub record IsReadBack (header octets : List ℕ) (whole : ℕ) (b : Book) : Type 0 where
+-- the chapters tell the requests whose rows, made again, are the book
+pub record IsReadBack (site : List ℕ) (m : Moment) (b : Book) : Type 0 where
   pub events : List (Actor × Event)
-  pub few : whole ≤ length octets
-  pub tells : TellsWhole header (take whole octets) events
+  pub tells : Tells site m events
   pub made : IsMadeOf b events
-  pub behind : whole_lines (drop whole octets) ≡ []
 
-abbrev pub IsRead : List ℕ → List ℕ → ℕ → Book → Type 0
-IsRead header octets whole b = IsBegun header octets whole b ⊎ IsReadBack header octets whole b
+abbrev pub IsRead : List ℕ → Moment → Book → Type 0
+IsRead site m b = IsBegun m b ⊎ IsReadBack site m b
 
--- the octets are no beginning of a journal of this site, and tell no requests
-pub record TellsNothing (header octets : List ℕ) : Type 0 where
-  pub unbegun : IsUnended header octets → ⊥
-  pub untold : (events : List (Actor × Event)) → Tells header octets events → ⊥
-
--- a fault of what the octets say
-abbrev pub IsOfText : OpenFault → Type 0
-IsOfText (Line n) = ⊤
-IsOfText AnotherSite = ⊤
-IsOfText fault = ⊥
-
--- a fault of a start that does nothing to the file: it can't be read, or is no journal of this site
-abbrev pub IsRefusal : OpenFault → Type 0
-IsRefusal Unread = ⊤
-IsRefusal fault = IsOfText fault
-
--- the first line ends at this place, with its line feed there
-pub record IsLineEnd (end : ℕ) (octets : List ℕ) : Type 0 where
-  pub within : end < length octets
-  pub plain : list_all (λ b. not (b == 10)) (take end octets) ≡ true
-  pub parts : octets ≡ take end octets ++ 10 ∷ drop (end + 1) octets
+-- something is written, and it tells no requests
+pub record TellsNothing (site : List ℕ) (m : Moment) : Type 0 where
+  pub unbegun : IsNew m → ⊥
+  pub untold : (events : List (Actor × Event)) → Tells site m events → ⊥

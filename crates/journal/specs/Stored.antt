@@ -1,25 +1,28 @@
 -- A station with its journal: what is stored, and what may be told.
-use Rattle.std.specs.Prelude.{◌≡◌, ℕ, ◌≤◌, ◌==◌, Bool, true, false, List, [], length, take, drop}
+use Rattle.std.specs.Prelude.{◌≡◌, ℕ, ◌≤◌, ◌==◌, Bool, true, false, ◌+◌, List, [], length}
 use Rattle.std.specs.Prelude.{Option, Some, None, IfSome, if◌then◌else◌, ⊤}
 use Rattle.std.specs.List.{AllByRecursion}
 use Rattle.site_base.specs.declared.row.Row.{Row}
-use Rattle.kept_history.specs.KeptRows.{kept_rows}
 use Rattle.site_book.specs.Unpaid.{GoesBy, Kept}
 use Rattle.written_site.specs.SiteRun.{events_of}
 use Rattle.station.specs.Moves.{StationState}
 use Rattle.station.specs.Reads.{owed_at}
 use Rattle.journal.specs.declared.memory.TheConstants.{LEAST_ROWS}
-use Rattle.journal.specs.Disks.{BeginsWith, DiskFile, Grows, Keeps, OfFile, OfFiles}
-use Rattle.journal.specs.History.{IsHistory}
-use Rattle.journal.specs.JournalLines.{TellsWhole}
-use Rattle.journal.specs.JournalText.{CanBeSpelled, IsSent, rows_text}
+use Rattle.journal.specs.Disks.{DiskFile, GoesOn, Grows, Holds, Keeps, Moment, OfFile, OfFiles}
+use Rattle.journal.specs.Disks.{moment_of}
+use Rattle.chapters.specs.ChapterReading.{HistoryRead}
+use Rattle.chapters.specs.History.{IsHistory}
+use Rattle.chapters.specs.HistoryEnds.{EndState, EndsAt}
+use Rattle.chapters.specs.RowText.{CanBeSpelled, IsSent, kept_behind, kept_first, rows_text}
+use Rattle.journal.specs.Readings.{TellsWhole}
 
--- a journal's first line, how many rows it has stored, whether a write or a flush has failed, and
--- its file, where that is known
+-- the name of its site, how many rows a journal has stored, whether a write or a flush has failed,
+-- where its text ends, and its disk, where that is known
 pub record JournalState : Type 0 where
-  pub header : List ℕ
+  pub site : List ℕ
   pub stored : ℕ
   pub failed : Bool
+  pub end : EndState
   pub file : Option DiskFile
 
 -- a station, the unpaid transactions as far as they were read, and its journal if it has one
@@ -28,30 +31,28 @@ pub record StoredState : Type 0 where
   pub unpaid : Kept
   pub journal : Option JournalState
 
--- what is on the disk begins with a front that tells just these rows; unless a write has failed,
--- that is the whole file, no flush of which has failed
-pub record HoldsRows (header : List ℕ) (rows : List Row) (failed : Bool) (file : DiskFile)
+-- the disk has just these chapters, of which this was read, and their text ends so
+pub record IsSettled (m : Moment) (r : HistoryRead) (e : EndState) (file : DiskFile)
     : Type 0 where
-  pub front : List ℕ
-  pub tells : TellsWhole header front (events_of rows)
-  pub there : BeginsWith front file.synced
-  pub settled :
-      failed ≡ false → (file.octets ≡ front) × (file.synced ≡ front) × (file.sound ≡ true)
+  pub closed : file.closed ≡ m.closed
+  pub open_one : Holds m.front file
+  pub ends : EndsAt (length m.closed + 1) r.seal r.unsealed e
 
--- the rows that a journal keeps of the first ones, so many
-abbrev pub kept_first : ℕ → List Row → List Row
-kept_first n rows = kept_rows (take n rows)
-
--- .. and of those behind them
-abbrev pub kept_behind : ℕ → List Row → List Row
-kept_behind n rows = kept_rows (drop n rows)
+-- what is on the disk goes on from chapters that tell just these rows; unless a write has failed,
+-- that is all
+pub record HoldsRows (site : List ℕ) (rows : List Row) (failed : Bool) (e : EndState)
+    (file : DiskFile) : Type 0 where
+  pub at : Moment
+  pub tells : TellsWhole site at (events_of rows)
+  pub there : GoesOn at (moment_of file)
+  pub settled : failed ≡ false → IsSettled at tells.tells.reading e file
 
 -- the journal has stored the first of the book's rows: all but those of reads, and each of these
 -- can be spelled
 pub record IsJournalOf (rows : List Row) (j : JournalState) : Type 0 where
   pub few : j.stored ≤ length rows
   pub spelled : CanBeSpelled (kept_first j.stored rows)
-  pub holds : OfFile (HoldsRows j.header (kept_first j.stored rows) j.failed) j.file
+  pub holds : OfFile (HoldsRows j.site (kept_first j.stored rows) j.failed j.end) j.file
 
 -- what a station with a journal always keeps: its rows are a legal history, each of them one that
 -- its actor sends; what is kept of unpaid transactions goes by its book; no row is forgotten that
@@ -68,10 +69,10 @@ abbrev pub has_stored : ℕ → Option JournalState → Bool
 has_stored count None = true
 has_stored count (Some j) = j.stored == count
 
--- a journal goes on: its first line stays, and so does what is on its disk, at each moment
+-- a journal goes on: its site stays, and so does what is on its disk, at each moment
 abbrev pub JournalGoesOn : Option JournalState → Option JournalState → Type 0
 JournalGoesOn None None = ⊤
-JournalGoesOn (Some a) (Some b) = (b.header ≡ a.header) × OfFiles Keeps a.file b.file
+JournalGoesOn (Some a) (Some b) = (b.site ≡ a.site) × OfFiles Keeps a.file b.file
 JournalGoesOn a b = ⊥
 
 -- behind what the journal's file had stand the lines of the rows that it hadn't stored

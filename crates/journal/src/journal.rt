@@ -1,23 +1,26 @@
 //! A journal that is written.
 
-ghost use Rattle.std.specs.Prelude.{◌≡◌, ◌≤◌, [], false, length, OnOk};
+ghost use Rattle.std.specs.Prelude.{◌≡◌, ◌≤◌, ◌<◌, [], List, false, length, string_bytes, true, OnOk};
+ghost use Rattle.site_base.specs.declared.row.Row.{Row as RowFacts};
+ghost use Rattle.chapters.specs.declared.history_end.TheConstants.{MOST_CHAPTERS};
 ghost use Rattle.std.specs.List.{AllByRecursion};
+ghost use Rattle.chapters.specs.RowText.{IsSent, kept_behind};
 ghost use Rattle.journal.specs.Disks.{Keeps, OfFiles};
-ghost use Rattle.journal.specs.JournalText.{IsSent};
-ghost use Rattle.journal.specs.Stored.{GrowsByLines, IsJournalOf, kept_behind};
+ghost use Rattle.journal.specs.Stored.{GrowsByLines, IsJournalOf};
 
 use crate::disk::{Disk, DiskFault};
-use crate::row_lines::put_rows;
+use chapters::{HistoryEnd, MOST_CHAPTERS, put_rows};
 use site_book::SiteBook;
 use std::alloc::Global;
 use std::marker::Model;
 
-/// A journal's file, and how far it has come. Once a write has failed it takes no more.
+/// A journal's disk, and how far it has come. Once a write has failed it takes no more.
 #[derive(Drop)]
 pub struct Journal<D: Disk> {
     alloc: Global,
     disk: D,
-    header: Vec<u8>,
+    site: String,
+    end: HistoryEnd,
     /// So many rows are stored.
     stored: u64,
     has_failed: bool,
@@ -26,32 +29,42 @@ pub struct Journal<D: Disk> {
 }
 
 impl<D: Disk> Model for Journal<D> {
+    ghost use Rattle.std.specs.Prelude.{string_bytes};
     ghost use Rattle.journal.specs.Stored.{JournalState};
 
     ghost Value = { JournalState };
 
     ghost view = { λ j. record {
-      header = j.header.items;
+      site = string_bytes j.site;
       stored = j.stored;
       failed = j.has_failed;
+      end = j.end;
       file = D.file j.disk;
     } };
 }
 
 impl<D: Disk> Journal<D> {
-    /// A journal on this disk, whose file has so many rows behind this first line.
-    pub(crate) fn new(alloc: Global, disk: D, header: Vec<u8>, stored: u64) -> Journal<D>
+    /// The journal of a site on this disk, whose chapters end so and have so many rows.
+    pub(crate) fn new(
+        alloc: Global,
+        disk: D,
+        site: String,
+        end: HistoryEnd,
+        stored: u64,
+    ) -> Journal<D>
         ensures { result ≡ record {
-          header = header.items;
+          site = string_bytes site;
           stored = stored;
           failed = false;
+          end = end;
           file = D.file disk;
         } }
     {
         Journal {
             alloc,
             disk,
-            header,
+            site,
+            end,
             stored,
             has_failed: false,
             text: Vec::new(alloc),
@@ -83,7 +96,7 @@ impl<D: Disk> Journal<D> {
         ensures stored { OnOk result (self.new.stored ≡ length book.now.rows) }
         ensures none_lost { self.old.stored ≤ self.new.stored }
         ensures journal { IsJournalOf book.now.rows self.new }
-        ensures header { self.new.header ≡ self.old.header }
+        ensures site { self.new.site ≡ self.old.site }
         ensures lines { OnOk result (GrowsByLines book.now.rows self.old self.new) }
         ensures quiet { kept_behind self.old.stored book.now.rows ≡ []
             → self.new.file ≡ self.old.file }
@@ -105,7 +118,76 @@ impl<D: Disk> Journal<D> {
         self.disk.append(&self.text)?;
         self.disk.sync()?;
         self.has_failed = false;
+        self.end.cover(&self.text);
         self.stored = count;
         Ok(())
+    }
+
+    /// Ends the chapter: a seal behind its rows, and then the next one with its first lines. It says
+    /// whether that has begun. Where there can't be one now, the open one goes on, and it may be asked
+    /// again. Where the disk fails, or memory is wanting, the journal may take no more.
+    pub(crate) fn end_chapter(&mut self) -> Result<bool, DiskFault>
+        ensures journal { (rows : List RowFacts) → IsJournalOf rows self.old
+            → IsJournalOf rows self.new }
+        ensures stored { self.new.stored ≡ self.old.stored }
+        ensures site { self.new.site ≡ self.old.site }
+        ensures moments { OfFiles Keeps self.old.file self.new.file }
+    {
+        if self.has_failed {
+            return Err(DiskFault::Failed);
+        }
+        if self.end.chapters() >= MOST_CHAPTERS {
+            return Ok(false);
+        }
+        match self.seal() {
+            Ok(()) => self.begin_chapter(),
+            Err(fault) => Err(fault),
+        }
+    }
+
+    /// Puts a seal behind the last row, if there is none.
+    fn seal(&mut self) -> Result<(), DiskFault>
+        requires { self.old.failed ≡ false }
+        ensures journal { (rows : List RowFacts) → IsJournalOf rows self.old
+            → IsJournalOf rows self.new }
+        ensures whole { OnOk result (self.new.failed ≡ false) }
+        ensures sealed { OnOk result (self.new.end.sealed ≡ true) }
+        ensures count { self.new.end.chapters ≡ self.old.end.chapters }
+        ensures stored { self.new.stored ≡ self.old.stored }
+        ensures site { self.new.site ≡ self.old.site }
+        ensures moments { OfFiles Keeps self.old.file self.new.file }
+    {
+        if self.end.is_sealed() {
+            return Ok(());
+        }
+        self.has_failed = true;
+        let line = self.end.seal_text(self.alloc)?;
+        let target = &mut self.disk;
+        target.append(&line)?;
+        target.sync()?;
+        self.has_failed = false;
+        Ok(())
+    }
+
+    /// Begins the next chapter, behind one that is sealed; says whether it has begun.
+    fn begin_chapter(&mut self) -> Result<bool, DiskFault>
+        requires whole { self.old.failed ≡ false }
+        requires sealed { self.old.end.sealed ≡ true }
+        requires most { self.old.end.chapters < MOST_CHAPTERS }
+        ensures journal { (rows : List RowFacts) → IsJournalOf rows self.old
+            → IsJournalOf rows self.new }
+        ensures stored { self.new.stored ≡ self.old.stored }
+        ensures site { self.new.site ≡ self.old.site }
+        ensures moments { OfFiles Keeps self.old.file self.new.file }
+    {
+        let lines = self.end.next_lines(self.alloc, self.site.as_str())?;
+        self.has_failed = true;
+        if !self.disk.begin(lines.as_bytes())? {
+            self.has_failed = false;
+            return Ok(false);
+        }
+        self.end.begin_chapter(lines.as_bytes());
+        self.has_failed = false;
+        Ok(true)
     }
 }

@@ -1,11 +1,10 @@
 //! The laws of a journal. Each is a function whose contract is the law.
 
 ghost use Rattle.journal.specs.Laws.{BeginningsAreRead, HistoriesAreMadeAgain};
-ghost use Rattle.journal.specs.Laws.{JournalsTellTheirHistory};
 ghost use Rattle.journal.specs.Laws.{StationsRowsAreSent, StoredRowsAreFoundAgain};
 ghost use Rattle.journal.specs.Laws.{ToldRowsAreFoundAgain};
 
-/// Of a file that begins with what is on the disk only a book is read that begins with the rows
+/// Of chapters that go on from what is on the disk only a book is read that begins with the rows
 /// stored there.
 pub fn stored_rows_are_found_again()
     ensures { StoredRowsAreFoundAgain }
@@ -20,11 +19,6 @@ pub fn told_rows_are_found_again()
 /// A beginning of what a journal writes is never refused.
 pub fn beginnings_are_read()
     ensures { BeginningsAreRead }
-{}
-
-/// A journal's text tells just the history that it was written of.
-pub fn journals_tell_their_history()
-    ensures { JournalsTellTheirHistory }
 {}
 
 /// A legal history can be made again of its requests.

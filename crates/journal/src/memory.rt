@@ -3,12 +3,9 @@
 ghost use Rattle.std.specs.Prelude.{◌≡◌};
 ghost use Rattle.journal.specs.Memory.{most_in_memory};
 
+use chapters::ROWS_IN_MEMORY;
 use site_base::SiteConfig;
 use station::PIECE_ROWS;
-
-/// So many rows are in memory at most before those of one read more, where the site file allows
-/// them: they take 4 MiB, and 7 MiB where each tells what was drawn of a product.
-pub const ROWS_IN_MEMORY: usize = 65_536;
 
 /// A site file allows a station's book so many rows at least: there is room for those of one read.
 pub const LEAST_ROWS: usize = 1_024;

@@ -1,26 +1,25 @@
 //! A station that goes on where its journal ended.
 
-ghost use Rattle.std.specs.Prelude.{◌≡◌, ◌≤◌, IfErr, IfOk, Some, false};
+ghost use Rattle.std.specs.Prelude.{◌≡◌, ◌≤◌, IfErr, IfOk, Some, false, string_bytes};
 ghost use Rattle.station.specs.Sessions.{without_till};
 ghost use Rattle.station.specs.Runs.{opening_station};
 ghost use Rattle.journal.specs.declared.memory.TheConstants.{LEAST_ROWS};
 ghost use Rattle.journal.specs.Disks.{Keeps, OfFile, OfFiles, IsUntouched};
-ghost use Rattle.journal.specs.Faults.{NamesIn};
+ghost use Rattle.journal.specs.Faults.{IsOfText, IsRefusal, NamesIn};
 ghost use Rattle.std.specs.List.{AllByRecursion};
 ghost use Rattle.kept_history.specs.KeptRows.{kept_rows};
 ghost use Rattle.site_book.specs.Unpaid.{GoesBy};
-ghost use Rattle.journal.specs.History.{IsHistory};
-ghost use Rattle.journal.specs.JournalText.{CanBeSpelled, IsSent, header_of};
+ghost use Rattle.chapters.specs.History.{IsHistory};
+ghost use Rattle.chapters.specs.RowText.{CanBeSpelled, IsSent};
 ghost use Rattle.journal.specs.Opening.{HasNobodyOn, Reopens, Resumes, all_off};
-ghost use Rattle.journal.specs.Readings.{IsOfText, IsRefusal};
 ghost use Rattle.journal.specs.Recovering.{KeepsWholeLines, TellsNothingIn};
 ghost use Rattle.journal.specs.Stored.{HoldsRows};
 
-use crate::disk::{Disk, DiskFault};
+use crate::disk::Disk;
 use crate::journal::Journal;
-use crate::reading::OpenFault;
-use crate::recovery::{Recovered, recover};
+use crate::recovery::{OpenFault, recover, unwritten};
 use crate::stored_station::StoredStation;
+use chapters::ReadHistory;
 use site_base::{SiteConfig, TILLS, TillNo};
 use site_book::SiteBook;
 use std::alloc::Global;
@@ -43,17 +42,17 @@ pub struct Unopened<D: Disk> {
     pub disk: D,
 }
 
-/// Opens the station of a journal of this site, whatever a crash has left of it: its rows are made
-/// again, and the session of each till that is signed on is gone, so that it is signed off. An
-/// empty file is a journal without rows.
+/// Opens the station of the history of the site of this name, whatever a crash has left of it: its
+/// rows are made again, and the session of each till that is signed on is gone, so that it is
+/// signed off. Where nothing is written yet there are no rows.
 ///
-/// `Unread` comes where the file can't be read, `AnotherSite` where its first line names another
-/// site file, and `Line` names the first line that is no journal's: these leave the file as it is.
-/// `Unwritten` comes where the disk takes no more.
+/// `Unread` comes where a chapter can't be read, and `Refused` where one is none of this site's, or
+/// doesn't go on from the one before: these leave the chapters as they are. `Unwritten` comes where
+/// the disk takes no more.
 pub fn open_journal<D: Disk>(
     alloc: Global,
     config: &SiteConfig,
-    site_file: &[u8],
+    site: String,
     disk: D,
 ) -> Result<Opened<D>, Unopened<D>>
     requires { LEAST_ROWS ≤ config.now.rows }
@@ -61,22 +60,23 @@ pub fn open_journal<D: Disk>(
         (λ o. o.station.station ≡ opening_station o.station.station.book) }
     ensures off { IfOk result (λ o. HasNobodyOn o.station.station.book) }
     ensures opened { IfOk result (λ o.
-        Reopens (header_of site_file.now) config.now (D.file disk) o.rows o.station) }
+        Reopens (string_bytes site) config.now (D.file disk) o.rows o.station) }
 
-    // A refused file tells no book of this site, and the fault names its first wrong line. Nothing
-    // is done to it, nor to one that can't be read.
+    // Refused chapters tell no book of this site, and the fault names what is wrong. Nothing is
+    // done to them, nor to those that can't be read.
     ensures refused { IfErr result (λ u. IsOfText u.fault → OfFile
-        (TellsNothingIn (header_of site_file.now)) (D.file disk)) }
+        (TellsNothingIn (string_bytes site)) (D.file disk)) }
     ensures named { IfErr result (λ u. IsOfText u.fault → OfFile
-        (NamesIn (header_of site_file.now) u.fault) (D.file disk)) }
+        (NamesIn (string_bytes site) u.fault) (D.file disk)) }
     ensures stays { IfErr result (λ u. IsRefusal u.fault → OfFiles
         IsUntouched (D.file disk) (D.file u.disk)) }
 
-    // Whatever the fault, whole lines that were on the disk stay there, at each moment.
+    // Whatever the fault, closed chapters stay, and whole lines that were on the disk, at each
+    // moment.
     ensures moments { IfErr result (λ u. OfFiles KeepsWholeLines (D.file disk) (D.file u.disk)) }
 {
     let mut disk = disk;
-    let recovered = match recover(alloc, config, site_file, &mut disk) {
+    let recovered = match recover(alloc, config, site, &mut disk) {
         Ok(recovered) => recovered,
         Err(fault) => return Err(Unopened { fault, disk }),
     };
@@ -91,7 +91,7 @@ pub fn open_journal<D: Disk>(
 /// that is stored. The faults are `NoMemory` and `Unwritten`.
 pub fn resume<D: Disk>(
     alloc: Global,
-    recovered: Recovered,
+    recovered: ReadHistory,
     disk: D,
 ) -> Result<StoredStation<D>, Unopened<D>>
     requires sent { AllByRecursion IsSent recovered.book.rows }
@@ -99,33 +99,23 @@ pub fn resume<D: Disk>(
     requires spelled { CanBeSpelled recovered.book.rows }
     requires unpaid { GoesBy recovered.unpaid recovered.book }
     requires enough { LEAST_ROWS ≤ recovered.book.config.rows }
-    requires settled { OfFile (HoldsRows recovered.header.items recovered.book.rows false)
-        (D.file disk) }
+    requires settled { OfFile (HoldsRows (string_bytes recovered.site) recovered.book.rows false
+        recovered.end) (D.file disk) }
     ensures resumed { IfOk result
-        (λ s. Resumes recovered.header.items recovered.book (D.file disk) s) }
+        (λ s. Resumes (string_bytes recovered.site) recovered.book (D.file disk) s) }
     ensures fault { IfErr result (λ u. IsRefusal u.fault → ⊥) }
     ensures moments { IfErr result (λ u. OfFiles Keeps (D.file disk) (D.file u.disk)) }
 {
     let mut book = recovered.book;
     let rows = book.len();
     sign_off_all(&mut book);
-    let mut journal = Journal::new(alloc, disk, recovered.header, rows);
+    let mut journal = Journal::new(alloc, disk, recovered.site, recovered.end, rows);
     match journal.store(&book) {
         Ok(()) => Ok(StoredStation::with_journal(alloc, book, recovered.unpaid, journal)),
         Err(fault) => Err(Unopened {
-            fault: fault_of(fault),
+            fault: unwritten(fault),
             disk: journal.into_disk(),
         }),
-    }
-}
-
-/// The fault of a journal whose rows can't be stored.
-fn fault_of(fault: DiskFault) -> OpenFault
-    ensures { IsRefusal result → ⊥ }
-{
-    match fault {
-        DiskFault::NoMemory => OpenFault::NoMemory,
-        DiskFault::Failed => OpenFault::Unwritten,
     }
 }
 

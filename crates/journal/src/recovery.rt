@@ -1,115 +1,193 @@
-//! The book of a journal that a crash may have left.
+//! The book of a history that a crash may have left.
 
-ghost use Rattle.std.specs.Prelude.{◌≡◌, ◌≤◌, ◌∷◌, ◌++◌, [], IfErr, IfOk, OnOk, false, length};
-ghost use Rattle.journal.specs.Disks.{OfFile, OfFiles, IsUntouched};
-ghost use Rattle.journal.specs.Faults.{NamesIn};
+ghost use Rattle.std.specs.Prelude.{◌≡◌, ◌<◌, [], IfErr, IfOk, OnOk, false, string_bytes};
 ghost use Rattle.std.specs.List.{AllByRecursion};
 ghost use Rattle.kept_history.specs.KeptRows.{kept_rows};
 ghost use Rattle.site_book.specs.Unpaid.{GoesBy};
-ghost use Rattle.journal.specs.JournalText.{CanBeSpelled, IsSent, header_of};
-ghost use Rattle.journal.specs.Readings.{IsOfText, IsRefusal};
-ghost use Rattle.journal.specs.Recovering.{IsReadIn, KeepsWholeLines, TellsNothingIn};
-ghost use Rattle.journal.specs.Recovering.{settled_octets};
+ghost use Rattle.chapters.specs.Readers.{HasRead, IsOfText as IsOfLines};
+ghost use Rattle.chapters.specs.RowText.{CanBeSpelled, IsSent};
+ghost use Rattle.chapters.specs.declared.history_end.TheConstants.{MOST_CHAPTERS};
+ghost use Rattle.journal.specs.Disks.{IsUntouched, OfFile, OfFiles};
+ghost use Rattle.journal.specs.Faults.{IsOfText, IsRefusal, NamesIn};
+ghost use Rattle.journal.specs.Recovering.{HasReadClosed, IsReadIn, KeepsWholeLines, StandsFor};
+ghost use Rattle.journal.specs.Recovering.{TellsNothingIn};
 ghost use Rattle.journal.specs.Stored.{HoldsRows};
 
 use crate::disk::{Disk, DiskFault};
-use crate::header::header_of;
-use crate::reading::{OpenFault, read_back};
+use chapters::{HistoryFault, HistoryReader, ReadHistory};
 use site_base::{NoMemory, SiteConfig};
-use site_book::{SiteBook, UnpaidSales};
 use std::alloc::Global;
 
-/// What was recovered of a journal: its first line, and the book of its rows.
-#[derive(Drop)]
-pub struct Recovered {
-    /// The first line.
-    pub header: Vec<u8>,
-    /// The book of the rows, made again; it may have forgotten them.
-    pub book: SiteBook,
-    /// Those of its transactions that may be unpaid.
-    pub unpaid: UnpaidSales,
+/// Why a history isn't opened.
+#[derive(Clone, Copy, Debug, PartialEq, Eq)]
+pub enum OpenFault {
+    /// An allocation failed.
+    NoMemory,
+    /// Its octets can't be read.
+    Unread,
+    /// Its chapters are none of this site's.
+    Refused(HistoryFault),
+    /// The disk takes no more.
+    Unwritten,
 }
 
-/// Recovers a journal of this site from a disk's file, whatever a crash has left there. What was
-/// read of it takes its place, written to the disk anew, since the disk may not have what a read
-/// gives, where a flush had failed: without an unfinished last line, of which nobody was told, and
-/// of a file that isn't begun yet its first line.
+impl From<NoMemory> for OpenFault {
+    ghost use Rattle.std.specs.Prelude.{◌≡◌};
+    ghost use Rattle.journal.specs.declared.recovery.OpenFault.{OpenFault};
+
+    ghost from_gives = { λ _ e. e ≡ OpenFault.NoMemory };
+
+    fn from(_e: NoMemory) -> OpenFault {
+        OpenFault::NoMemory
+    }
+}
+
+/// Recovers the history of the site of this name from a disk, whatever a crash has left there. What
+/// was read of the open chapter takes its place, written to the disk anew, since the disk may not
+/// have what a read gives, where a flush had failed: without an unfinished last line, of which
+/// nobody was told, and of a history that isn't begun yet the first chapter's first lines.
 ///
-/// `Unread` comes where the file can't be read, `AnotherSite` where its first line names another
-/// site file, and `Line` names the first line that is no journal's: these leave the file as it is.
-/// `Unwritten` comes where the disk takes no more.
+/// `Unread` comes where a chapter can't be read, and `Refused` where one is none of this site's, or
+/// doesn't go on from the one before: these leave the chapters as they are. `Unwritten` comes where
+/// the disk takes no more.
 pub fn recover<D: Disk>(
     alloc: Global,
     config: &SiteConfig,
-    site_file: &[u8],
+    site: String,
     disk: &mut D,
-) -> Result<Recovered, OpenFault>
-    ensures header { IfOk result (λ r. r.header.items ≡ header_of site_file.now) }
+) -> Result<ReadHistory, OpenFault>
+    ensures site { IfOk result (λ r. string_bytes r.site ≡ string_bytes site) }
     ensures config { IfOk result (λ r. r.book.config ≡ config.now) }
     ensures sent { IfOk result (λ r. AllByRecursion IsSent r.book.rows) }
     ensures kept { IfOk result (λ r. kept_rows r.book.rows ≡ r.book.rows) }
     ensures spelled { IfOk result (λ r. CanBeSpelled r.book.rows) }
     ensures unpaid { IfOk result (λ r. GoesBy r.unpaid r.book) }
 
-    // The book is what the octets tell, and the file tells it, on the disk.
+    // The book is what the chapters tell, and the disk's tell it.
     ensures read { IfOk result (λ r.
-        OfFile (IsReadIn (header_of site_file.now) r.book) (D.file disk.old)) }
+        OfFile (IsReadIn (string_bytes site) r.book) (D.file disk.old)) }
     ensures settled { IfOk result (λ r. OfFile
-        (HoldsRows r.header.items r.book.rows false) (D.file disk.new)) }
+        (HoldsRows (string_bytes site) r.book.rows false r.end) (D.file disk.new)) }
 
-    // A refused file tells no book of this site, and the fault names its first wrong line. Nothing
-    // is done to it, nor to one that can't be read.
+    // Refused chapters tell no book of this site, and the fault names what is wrong. Nothing is
+    // done to them, nor to those that can't be read.
     ensures refused { IfErr result (λ fault. IsOfText fault → OfFile
-        (TellsNothingIn (header_of site_file.now)) (D.file disk.old)) }
+        (TellsNothingIn (string_bytes site)) (D.file disk.old)) }
     ensures named { IfErr result (λ fault. IsOfText fault → OfFile
-        (NamesIn (header_of site_file.now) fault) (D.file disk.old)) }
+        (NamesIn (string_bytes site) fault) (D.file disk.old)) }
     ensures stays { IfErr result (λ fault. IsRefusal fault → OfFiles
         IsUntouched (D.file disk.old) (D.file disk.new)) }
 
-    // A crash at any moment leaves a file with the whole lines that were on the disk.
+    // A crash at any moment leaves the closed chapters, and the whole lines of the open one that
+    // were on the disk.
     ensures moments { OfFiles KeepsWholeLines (D.file disk.old) (D.file disk.new) }
 {
-    let header = header_of(alloc, site_file)?;
-    let octets = match disk.read(alloc) {
+    let mut reader = HistoryReader::open(alloc, config, site)?;
+    match read_closed(alloc, &mut reader, disk) {
+        Ok(()) => {}
+        Err(fault) => return Err(fault),
+    }
+    let octets = match read_open(alloc, &reader, disk) {
         Ok(octets) => octets,
-        Err(DiskFault::NoMemory) => return Err(OpenFault::NoMemory),
-        Err(DiskFault::Failed) => return Err(OpenFault::Unread),
-    };
-    let read = match read_back(alloc, config, &header, &octets) {
-        Ok(read) => read,
         Err(fault) => return Err(fault),
     };
-    let first_line = line_of(alloc, &header)?;
-    match disk.renew(whole_lines(&first_line, &octets, read.whole)) {
-        Ok(()) => {}
-        Err(DiskFault::NoMemory) => return Err(OpenFault::NoMemory),
-        Err(DiskFault::Failed) => return Err(OpenFault::Unwritten),
+    let whole = match reader.read_chapter(&octets) {
+        Ok(whole) => whole,
+        Err(fault) => return Err(refused(fault)),
+    };
+    match disk.renew(&octets[..whole]) {
+        Ok(()) => Ok(reader.into_read()),
+        Err(fault) => Err(unwritten(fault)),
     }
-    Ok(Recovered {
-        header,
-        book: read.book,
-        unpaid: read.unpaid,
-    })
 }
 
-/// A line with its line feed.
-fn line_of(alloc: Global, line: &[u8]) -> Result<Vec<u8>, NoMemory>
-    ensures { IfOk result (λ whole. whole.items ≡ line.now ++ 10 ∷ []) }
+/// Reads the closed chapters, one after another.
+fn read_closed<D: Disk>(
+    alloc: Global,
+    reader: &mut HistoryReader,
+    disk: &mut D,
+) -> Result<(), OpenFault>
+    requires { HasRead [] reader.old }
+    ensures read { OnOk result (HasReadClosed (D.file disk.old) reader.new) }
+    ensures site { reader.new.site ≡ reader.old.site }
+    ensures config { reader.new.book.config ≡ reader.old.book.config }
+    ensures most { OnOk result (reader.new.end.chapters < MOST_CHAPTERS) }
+    ensures refused { IfErr result (λ fault. IsOfText fault → OfFile
+        (TellsNothingIn reader.old.site) (D.file disk.old)) }
+    ensures named { IfErr result (λ fault. IsOfText fault → OfFile
+        (NamesIn reader.old.site fault) (D.file disk.old)) }
+    ensures stays { D.file disk.new ≡ D.file disk.old }
 {
-    let mut whole = Vec::from_slice(alloc, line)?;
-    whole.push(b'\n')?;
-    Ok(whole)
+    let count = disk.closed();
+    for place in 0..count {
+        let text = match disk.read_closed(alloc, place) {
+            Ok(text) => text,
+            Err(fault) => return Err(unread(fault)),
+        };
+        match reader.read_chapter(&text) {
+            Ok(_) => {}
+            Err(fault) => return Err(refused(fault)),
+        }
+    }
+    Ok(())
 }
 
-/// The first of these octets, so many of which are whole lines; where there is none, the first
-/// line.
-fn whole_lines<'a>(first_line: &'a [u8], octets: &'a [u8], whole: usize) -> &'a [u8]
-    requires { whole ≤ length octets.now }
-    ensures { result.now ≡ settled_octets first_line.now whole octets.now }
+/// The octets of the open chapter; where nothing is written yet, the first lines that it will have.
+fn read_open<D: Disk>(
+    alloc: Global,
+    reader: &HistoryReader,
+    disk: &mut D,
+) -> Result<Vec<u8>, OpenFault>
+    ensures octets { IfOk result (λ v. OfFile (StandsFor reader.now v.items) (D.file disk.old)) }
+    ensures fault { IfErr result (λ fault. IsOfText fault → ⊥) }
+    ensures stays { OfFiles IsUntouched (D.file disk.old) (D.file disk.new) }
 {
-    if whole == 0 {
-        first_line
-    } else {
-        &octets[..whole]
+    let octets = match disk.read(alloc) {
+        Ok(octets) => octets,
+        Err(fault) => return Err(unread(fault)),
+    };
+    if !octets.is_empty() || reader.chapters() > 0 {
+        return Ok(octets);
+    }
+    let lines = reader.next_lines()?;
+    Ok(octets_of(alloc, lines.as_str())?)
+}
+
+/// The octets of a text.
+fn octets_of(alloc: Global, text: &str) -> Result<Vec<u8>, NoMemory>
+    ensures { IfOk result (λ v. v.items ≡ text.now) }
+{
+    Ok(Vec::from_slice(alloc, text.as_bytes())?)
+}
+
+/// The fault of chapters that are refused.
+fn refused(fault: HistoryFault) -> OpenFault
+    ensures same { IsOfText result → result ≡ OpenFault.Refused fault }
+    ensures text { IsOfText result → IsOfLines fault }
+{
+    match fault {
+        HistoryFault::NoMemory => OpenFault::NoMemory,
+        HistoryFault::Line(_, _) | HistoryFault::NotAfter(_, _) => OpenFault::Refused(fault),
+    }
+}
+
+/// The fault of a chapter that can't be read.
+fn unread(fault: DiskFault) -> OpenFault
+    ensures { IsOfText result → ⊥ }
+{
+    match fault {
+        DiskFault::NoMemory => OpenFault::NoMemory,
+        DiskFault::Failed => OpenFault::Unread,
+    }
+}
+
+/// The fault of a disk that takes no more.
+pub(crate) fn unwritten(fault: DiskFault) -> OpenFault
+    ensures refusal { IsRefusal result → ⊥ }
+    ensures text { IsOfText result → ⊥ }
+{
+    match fault {
+        DiskFault::NoMemory => OpenFault::NoMemory,
+        DiskFault::Failed => OpenFault::Unwritten,
     }
 }

@@ -11,8 +11,8 @@ ghost use Rattle.station.specs.Runs.{opening_station};
 ghost use Rattle.station.specs.Sessions.{Grants};
 ghost use Rattle.std.specs.List.{AllByRecursion};
 ghost use Rattle.site_book.specs.Unpaid.{GoesBy, unpaid_sales};
-ghost use Rattle.journal.specs.History.{IsHistory, empty_book};
-ghost use Rattle.journal.specs.JournalText.{IsSent};
+ghost use Rattle.chapters.specs.History.{IsHistory, empty_book};
+ghost use Rattle.chapters.specs.RowText.{IsSent};
 ghost use Rattle.journal.specs.declared.memory.TheConstants.{LEAST_ROWS};
 ghost use Rattle.journal.specs.Memory.{HasRoomToHear, IsSameOrForgets};
 ghost use Rattle.journal.specs.Opening.{HasNobodyOn};
@@ -177,6 +177,19 @@ impl<D: Disk> StoredStation<D> {
         match &mut self.journal {
             None => Ok(()),
             Some(journal) => journal.store(self.station.book()),
+        }
+    }
+
+    /// Ends the chapter of the journal, if there is one; says whether the next one has begun. Where
+    /// there can't be one now the open one goes on, and nothing is lost by a longer chapter. An error
+    /// is one of `store`.
+    pub fn end_chapter(&mut self) -> Result<bool, DiskFault>
+        ensures station { self.new.station ≡ self.old.station }
+        ensures journal { JournalGoesOn self.old.journal self.new.journal }
+    {
+        match &mut self.journal {
+            None => Ok(false),
+            Some(journal) => journal.end_chapter(),
         }
     }
 

@@ -51,6 +51,15 @@ impl<'a, R: Files<File = File> + AllocGlobal> Disk for JournalFile<'a, R> {
     // No contract can say what a file carries, so the trait's clauses say nothing here.
     ghost file = { λ _. None };
 
+    /// A file is one chapter, the first, which stays open.
+    fn closed(&self) -> u64 {
+        0
+    }
+
+    fn read_closed(&mut self, _alloc: Global, _place: u64) -> Result<Vec<u8>, DiskFault> {
+        Err(DiskFault::Failed)
+    }
+
     fn read(&mut self, alloc: Global) -> Result<Vec<u8>, DiskFault>
         ensures put { octets_put self.new ≡ octets_put self.old }
         ensures flushed { octets_flushed self.new ≡ octets_flushed self.old }
@@ -117,6 +126,11 @@ impl<'a, R: Files<File = File> + AllocGlobal> Disk for JournalFile<'a, R> {
             Ok(()) => Ok(()),
             Err(error) => Err(disk_fault_of(&error)),
         }
+    }
+
+    /// A file goes on as the first chapter.
+    fn begin(&mut self, _octets: &[u8]) -> Result<bool, DiskFault> {
+        Ok(false)
     }
 }
 

@@ -1,8 +1,9 @@
 -- A journal's text, read by a replay.
 use Rattle.std.proofs.Common.{◌≡◌, ℕ, zero, suc, ◌+◌, ◌-◌, ◌*◌, ◌<◌, ◌≤◌, Bool, true, false}
-use Rattle.std.proofs.Common.{List, [], ◌∷◌, ◌++◌, drop, length, take, Option, Some, None, Ok}
+use Rattle.std.proofs.Common.{List, [], ◌∷◌, ◌++◌, drop, length, take, None, Ok}
 use Rattle.std.proofs.Common.{refl, sym, ap, ◌∙◌, append-nil, append_assoc, subst}
-use Rattle.std.proofs.Common.{arith, eqb, inl, inr}
+use Rattle.std.proofs.Common.{arith, codes, decimal, eqb, inl, inr}
+use Rattle.std.specs.Fmt.{digits}
 use Rattle.std.specs.Prelude.{◌&&◌, if◌then◌else◌, nat_lt, slice_index}
 use Rattle.std.specs.Io.BufRead.{ends_with_byte, strip_last}
 use Rattle.std.specs.List.{AllByRecursion}
@@ -35,14 +36,17 @@ use Rattle.written_site.specs.SiteState.{SiteState, opening}
 use Rattle.written_site.specs.SiteStep.{reply_to}
 use Rattle.written_site.proofs.Histories.{site_of_rows-push}
 use Rattle.site_book.specs.Book.{Book, site_at, whole_book, with_row_of}
-use Rattle.journal.specs.History.{empty_book}
-use Rattle.journal.specs.JournalText.{CanBeSpelled, header_of, journal_text, row_line, row_request}
-use Rattle.journal.specs.JournalText.{rows_text, title}
+use Rattle.chapters.specs.History.{empty_book}
+use Rattle.chapters.specs.ChapterText.{after_line, chapter_text, first_lines, no_seal}
+use Rattle.chapters.specs.ChapterText.{site_line, site_name, text_of_lines, title_line}
+use Rattle.chapters.specs.RowText.{CanBeSpelled, row_line, row_request, rows_text}
 use Rattle.kept_history.specs.KeptRows.{kept_rows}
 use Rattle.kept_history.proofs.LeftOut.{left_out}
 use Rattle.replayed_journals.specs.Laws.{IsReplayedTo, JournalsAreReplayed, limited_book}
-use Rattle.journal.proofs.Octets.{header_plain, spelled_octets}
-use Rattle.journal.proofs.Requests.{alone_read, spelled_plain}
+use Rattle.chapters.proofs.Chapters.{text_is}
+use Rattle.chapters.proofs.Octets.{digits_plain, plain_both, spelled_octets}
+use Rattle.chapters.proofs.Requests.{alone_read, spelled_plain}
+use Rattle.hex_lines.specs.Lines.{IsLine}
 
 -- ---- digits say themselves
 
@@ -219,7 +223,7 @@ rows_read (r ∷ rows) changes number config before spelled legal =
         (ap (book_meaning (limited_book config before)) spelled.0.asks
         ∙ limit_kept config before r legal.0)
 
--- ---- the first line
+-- ---- the first lines
 
 -- a line that begins with a number sign is a comment
 comment : (xs : List ℕ) → is_skipped (kept_of (35 ∷ xs)) ≡ true
@@ -234,21 +238,52 @@ comment (x ∷ xs) = by_test (ends_with_byte 13 (35 ∷ x ∷ xs))
         ap (λ (n : ℕ). is_skipped (without_spaces (take n (35 ∷ x ∷ xs)))) size
     by_test false = refl
 
-header_read : (site_file : List ℕ) (a : Answerer)
-    → after (between_lines 1 (held_after []) a) (header_of site_file ++ 10 ∷ [])
-    ≡ between_lines (next_number 1) (held_after []) a
-header_read site_file a =
-    let header = header_of site_file in
-    let digits = encode_lower (sha256 site_file) in
-    let short : length header ≤ LINE_OCTETS =
-    omega (
-      arith,
-      length-append title digits,
-      length-encode_with lower_digits (sha256 site_file),
-      length-sha256 site_file,
-    ) in
-    let skipped : is_skipped (kept_of header) ≡ true = comment (drop 1 title ++ digits) in
-    (line_says 1 (held_after []) a header (header_plain site_file) short).0 ∙ rw skipped refl
+comment_read : (number : ℕ) (a : Answerer) (xs : List ℕ) → IsLine (35 ∷ xs)
+    → length (35 ∷ xs) ≤ LINE_OCTETS
+    → after (between_lines number (held_after []) a) ((35 ∷ xs) ++ 10 ∷ [])
+    ≡ between_lines (next_number number) (held_after []) a
+comment_read number a xs plain short =
+    (line_says number (held_after []) a (35 ∷ xs) plain short).0 ∙ rw (comment xs) refl
+
+one_is : decimal 1 ≡ 49 ∷ []
+unfolding digits
+one_is = refl
+
+title_plain : IsLine (title_line 1)
+title_plain =
+    subst (λ (xs : List ℕ). IsLine (codes "# witsomar history 1 chapter " ++ xs)) (sym one_is) refl
+
+title_short : length (title_line 1) ≤ LINE_OCTETS
+title_short =
+    subst (λ (xs : List ℕ). length (codes "# witsomar history 1 chapter " ++ xs) ≤ LINE_OCTETS)
+    (sym one_is) (omega arith)
+
+-- .. so are the first lines of a chapter
+first_read : (site_file : List ℕ) (a : Answerer)
+    → after (between_lines 1 (held_after []) a)
+    (text_of_lines (first_lines (site_name site_file) 1 no_seal))
+    ≡ between_lines (next_number (next_number (next_number 1))) (held_after []) a
+first_read site_file a =
+    let site : List ℕ = site_name site_file in
+    let size : length site ≡ 64 =
+    length-encode_with lower_digits (sha256 site_file)
+    ∙ ap (λ (n : ℕ). 2 * n) (length-sha256 site_file) in
+    let st = between_lines 1 (held_after []) a in
+    let two = between_lines (next_number 1) (held_after []) a in
+    let three = between_lines (next_number (next_number 1)) (held_after []) a in
+    let named : List ℕ = site_line site ++ 10 ∷ [] in
+    let last : List ℕ = (after_line no_seal ++ 10 ∷ []) ++ [] in
+    after-append st (title_line 1 ++ 10 ∷ []) (named ++ last)
+    ∙ ap (λ (s : State). after s (named ++ last))
+    (comment_read 1 a (drop 1 (codes "# witsomar history 1 chapter ") ++ decimal 1) title_plain
+    title_short)
+    ∙ after-append two named last
+    ∙ ap (λ (s : State). after s last)
+    (comment_read (next_number 1) a (drop 1 (codes "# site ") ++ site)
+    (plain_both (codes "# site ") site refl (digits_plain (sha256 site_file)))
+    (omega (arith, size, length-append (codes "# site ") site)))
+    ∙ after-append three (after_line no_seal ++ 10 ∷ []) []
+    ∙ comment_read (next_number (next_number 1)) a (drop 1 (after_line no_seal)) refl (omega arith)
 
 -- ---- the end
 
@@ -265,19 +300,25 @@ text_replayed : (site_file : List ℕ) (config : Configured) (all : List Row) (c
     → IsLegal (opening config) all → CanBeSpelled all
     → IsReplayedTo (limited_book config all)
     (start (record { book = empty_book config; changes = changes }))
-    (journal_text (header_of site_file) all)
+    (chapter_text (site_name site_file) 1 no_seal [] all)
 text_replayed site_file config all changes legal spelled =
     let st = start (record { book = empty_book config; changes = changes }) in
-    let text = journal_text (header_of site_file) all in
-    let rows = rows_read all changes (next_number 1) config [] spelled legal in
+    let site : List ℕ = site_name site_file in
+    let first : List ℕ = text_of_lines (first_lines site 1 no_seal) in
+    let text = chapter_text site 1 no_seal [] all in
+    let same : text ≡ first ++ rows_text all =
+    ap (λ (xs : List ℕ). first ++ xs) (sym (text_is all)) in
+    let rows = rows_read all changes (next_number (next_number (next_number 1))) config [] spelled
+    legal in
     let none : empty_book config ≡ limited_book config [] =
     ap (whole_book config) (sym (take_all config.rows [] (omega arith))) in
     let begun : st ≡ replays changes 1 config [] =
     ap (λ (x : Book). start (record { book = x; changes = changes })) none in
     let read : after st text ≡ replays changes rows.0 config all =
-    ap (λ (s : State). after s text) begun
-    ∙ after-append (replays changes 1 config []) (header_of site_file ++ 10 ∷ []) (rows_text all)
-    ∙ ap (λ (s : State). after s (rows_text all)) (header_read site_file _) ∙ rows.1 in
+    ap (after st) same
+    ∙ ap (λ (s : State). after s (first ++ rows_text all)) begun
+    ∙ after-append (replays changes 1 config []) first (rows_text all)
+    ∙ ap (λ (s : State). after s (rows_text all)) (first_read site_file _) ∙ rows.1 in
     record {
       fault = ap last_fault read ∙ ended_there changes rows.0 config all;
       book = ap (λ (s : State). (end_input s).answerer.book) read

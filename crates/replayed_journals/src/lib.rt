@@ -1,4 +1,4 @@
-//! A journal as a replay reads it: the law that joins the journal's text to the replay's. It has no
+//! A chapter as a replay reads it: the law that joins a chapter's text to the replay's. It has no
 //! code, and stands above both, so that neither stands on the other.
 #![tactic(auto)]
 

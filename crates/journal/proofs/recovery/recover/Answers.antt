@@ -1,103 +1,128 @@
-use Rattle.std.proofs.Common.{◌≡◌, ◌∙◌, ◌++◌, ◌∷◌, [], ℕ, List, ap, sym, subst}
-use Rattle.journal.specs.Disks.{OfFile}
+use Rattle.std.proofs.Common.{◌∙◌, ℕ, List, Option, ap, false, subst, sym, take}
+use Rattle.journal.specs.Disks.{DiskFile, IsUntouched, OfFile, OfFiles}
+use Rattle.journal.specs.declared.recovery.OpenFault.{OpenFault}
 use Rattle.journal.specs.Faults.{NamesIn}
-use Rattle.journal.specs.Recovering.{IsReadIn, TellsNothingIn}
-use Rattle.hex_lines.specs.Lines.{IsLine}
-use Rattle.journal.proofs.Octets.{header_plain}
-use Rattle.journal.proofs.Recovering.{holds_read_in, lines_stay_in, names_in, read_in, read_kept}
-use Rattle.journal.proofs.Recovering.{read_sent}
-use Rattle.journal.proofs.Recovering.{renewed_file, renewed_then, tells_nothing_in}
-use Rattle.journal.proofs.Spelled.{read_spelled}
+use Rattle.journal.specs.Recovering.{IsReadIn, StandsFor, TellsNothingIn}
+use Rattle.journal.specs.Stored.{HoldsRows}
+use Rattle.journal.proofs.Recovering.{holds_read_in, lines_stay_in, names_in, read_in}
+use Rattle.journal.proofs.Recovering.{rows_kept_in, rows_sent_in, rows_spelled_in, tells_nothing}
 use Rattle.journal.proofs.recovery.recover.Goals as goal
 
-pub returns-clause-sent : goal.returns-clause-sent
-returns-clause-sent g c = read_sent _ _ _ _ c.in-Ok-read_back.ensures.read
+pub returns-in-Err-read_chapter-clause-refused : goal.returns-in-Err-read_chapter-clause-refused
+returns-in-Err-read_chapter-clause-refused g c = λ of_text.
+    let file = g.D.Disk.file c.args.disk.now in
+    let s = c.read_closed.new.reader in
+    let h = c.in-Ok.ensures.read in
+    let stands = subst (λ (xs : List ℕ). OfFile (StandsFor s xs) file) (sym c.deref.ensures.value)
+    (subst (λ (f : Option DiskFile). OfFile (StandsFor s c.in-Ok-read_open.octets.items) f)
+    c.read_closed.ensures.stays c.in-Ok-read_open.ensures.octets) in
+    let named = c.read_closed.ensures.site ∙ c.in_ok-reader.ensures.site in
+    subst (λ (site : List ℕ). OfFile (TellsNothingIn site) file) named
+    (tells_nothing file s c.deref.result.now h stands
+    (c.in-Err-read_chapter.ensures.refused (c.refused.ensures.text of_text) h.texts h.has))
 
-pub returns-clause-kept : goal.returns-clause-kept
-returns-clause-kept g c = read_kept _ _ _ _ c.in-Ok-read_back.ensures.read
+pub returns-in-Err-read_chapter-clause-named : goal.returns-in-Err-read_chapter-clause-named
+returns-in-Err-read_chapter-clause-named g c = λ of_text.
+    let file = g.D.Disk.file c.args.disk.now in
+    let s = c.read_closed.new.reader in
+    let h = c.in-Ok.ensures.read in
+    let stands = subst (λ (xs : List ℕ). OfFile (StandsFor s xs) file) (sym c.deref.ensures.value)
+    (subst (λ (f : Option DiskFile). OfFile (StandsFor s c.in-Ok-read_open.octets.items) f)
+    c.read_closed.ensures.stays c.in-Ok-read_open.ensures.octets) in
+    let named = c.read_closed.ensures.site ∙ c.in_ok-reader.ensures.site in
+    subst (λ (site : List ℕ). OfFile (NamesIn site c.refused.result) file) named
+    (subst (λ (fault : OpenFault). OfFile (NamesIn s.site fault) file)
+    (sym (c.refused.ensures.same of_text))
+    (names_in file s c.deref.result.now c.in-Err-read_chapter.fault h stands
+    (c.in-Err-read_chapter.ensures.refused (c.refused.ensures.text of_text) h.texts h.has)
+    (c.in-Err-read_chapter.ensures.named (c.refused.ensures.text of_text) h.texts h.has)))
 
-pub returns-in-Err-clause-refused : goal.returns-in-Err-clause-refused
-returns-in-Err-clause-refused g c = λ of_text.
-    let nothing =
-    rw (c.deref.ensures.value, c.deref-2.ensures.value) at c.in-Err.ensures.refused in
-    subst (λ (h : List ℕ).
-    OfFile (TellsNothingIn h) (g.D.Disk.file c.args.disk.now))
-    c.in_ok-header.ensures
-    (tells_nothing_in c.in_ok-header.header.items c.in-Ok.octets.items
-    (g.D.Disk.file c.args.disk.now) c.in-Ok.ensures.octets (nothing of_text))
+pub returns-in-Ok-renew-clause-sent : goal.returns-in-Ok-renew-clause-sent
+returns-in-Ok-renew-clause-sent g c =
+    let h = c.in-Ok.ensures.read in
+    rw c.into_read.ensures.book
+    (rows_sent_in _ c.read_chapter.new.self (c.in-Ok-read_chapter.ensures.read h.texts h.has))
 
-pub returns-in-Err-clause-named : goal.returns-in-Err-clause-named
-returns-in-Err-clause-named g c = λ of_text.
-    let named = rw (c.deref.ensures.value, c.deref-2.ensures.value) at c.in-Err.ensures.named in
-    subst (λ (h : List ℕ).
-    OfFile (NamesIn h c.in-Err.fault) (g.D.Disk.file c.args.disk.now))
-    c.in_ok-header.ensures
-    (names_in c.in_ok-header.header.items c.in-Ok.octets.items c.in-Err.fault
-    (g.D.Disk.file c.args.disk.now) c.in-Ok.ensures.octets named)
+pub returns-in-Ok-renew-clause-kept : goal.returns-in-Ok-renew-clause-kept
+returns-in-Ok-renew-clause-kept g c =
+    let h = c.in-Ok.ensures.read in
+    rw c.into_read.ensures.book
+    (rows_kept_in _ c.read_chapter.new.self (c.in-Ok-read_chapter.ensures.read h.texts h.has))
 
-pub returns-clause-spelled : goal.returns-clause-spelled
-returns-clause-spelled g c = read_spelled _ _ _ _ c.in-Ok-read_back.ensures.read
+pub returns-in-Ok-renew-clause-spelled : goal.returns-in-Ok-renew-clause-spelled
+returns-in-Ok-renew-clause-spelled g c =
+    let h = c.in-Ok.ensures.read in
+    rw c.into_read.ensures.book
+    (rows_spelled_in _ c.read_chapter.new.self (c.in-Ok-read_chapter.ensures.read h.texts h.has))
 
-pub returns-clause-read : goal.returns-clause-read
-returns-clause-read g c =
-    let is =
-    rw (c.deref.ensures.value, c.deref-2.ensures.value) at c.in-Ok-read_back.ensures.read in
-    subst (λ (h : List ℕ).
-    OfFile (IsReadIn h c.in-Ok-read_back.read.book) (g.D.Disk.file c.args.disk.now))
-    c.in_ok-header.ensures
-    (read_in c.in_ok-header.header.items c.in-Ok.octets.items c.in-Ok-read_back.read.whole
-    c.in-Ok-read_back.read.book (g.D.Disk.file c.args.disk.now) c.in-Ok.ensures.octets is)
+pub returns-in-Ok-renew-clause-read : goal.returns-in-Ok-renew-clause-read
+returns-in-Ok-renew-clause-read g c =
+    let file = g.D.Disk.file c.args.disk.now in
+    let s = c.read_closed.new.reader in
+    let h = c.in-Ok.ensures.read in
+    let stands = subst (λ (xs : List ℕ). OfFile (StandsFor s xs) file) (sym c.deref.ensures.value)
+    (subst (λ (f : Option DiskFile). OfFile (StandsFor s c.in-Ok-read_open.octets.items) f)
+    c.read_closed.ensures.stays c.in-Ok-read_open.ensures.octets) in
+    let named = c.read_closed.ensures.site ∙ c.in_ok-reader.ensures.site in
+    rw c.into_read.ensures.book
+    (subst (λ (site : List ℕ). OfFile (IsReadIn site c.read_chapter.new.self.book) file) named
+    (read_in file s c.read_chapter.new.self c.deref.result.now h stands
+    c.in-Ok-read_chapter.ensures.read c.read_chapter.ensures.site))
 
-pub returns-in-Err-NoMemory-renew-clause-moments :
-    goal.returns-in-Err-NoMemory-renew-clause-moments
-returns-in-Err-NoMemory-renew-clause-moments g c =
-    let is =
-    rw (c.deref.ensures.value, c.deref-2.ensures.value) at c.in-Ok-read_back.ensures.read in
-    let left =
-    rw (c.deref-4.ensures.value, c.deref-5.ensures.value) at c.whole_lines.ensures in
-    lines_stay_in _ _ _ c.whole_lines.result.now c.in-Ok-read_back.read.whole
-    c.in-Ok-read_back.read.book _ _ _ c.in-Ok.ensures.octets c.read.ensures.stays is left
-    c.renew.ensures.moments
+pub returns-in-Ok-renew-clause-settled : goal.returns-in-Ok-renew-clause-settled
+returns-in-Ok-renew-clause-settled g c =
+    let file = g.D.Disk.file c.args.disk.now in
+    let s = c.read_closed.new.reader in
+    let h = c.in-Ok.ensures.read in
+    let stands = subst (λ (xs : List ℕ). OfFile (StandsFor s xs) file) (sym c.deref.ensures.value)
+    (subst (λ (f : Option DiskFile). OfFile (StandsFor s c.in-Ok-read_open.octets.items) f)
+    c.read_closed.ensures.stays c.in-Ok-read_open.ensures.octets) in
+    let named = c.read_closed.ensures.site ∙ c.in_ok-reader.ensures.site in
+    let stays = subst (λ (f : Option DiskFile).
+    OfFiles IsUntouched f (g.D.Disk.file c.read_open.new.disk)) c.read_closed.ensures.stays
+    c.read_open.ensures.stays in
+    rw (c.into_read.ensures.book, c.into_read.ensures.end)
+    (subst (λ (site : List ℕ). OfFile (HoldsRows site c.read_chapter.new.self.book.rows false
+    c.read_chapter.new.self.end) (g.D.Disk.file c.renew.new.self)) named
+    (holds_read_in file (g.D.Disk.file c.read_open.new.disk) (g.D.Disk.file c.renew.new.self) s
+    c.read_chapter.new.self c.deref.result.now _ c.in-Ok-read_chapter.whole h
+    c.in-Ok-read_chapter.ensures.read c.read_chapter.ensures.site
+    c.in-Ok-read_chapter.ensures.whole
+    (ap (take c.in-Ok-read_chapter.whole) (c.deref-2.ensures.value ∙ sym c.deref.ensures.value))
+    stays c.in-Ok-renew.ensures.ok))
 
-pub returns-in-Err-Failed-renew-clause-moments :
-    goal.returns-in-Err-Failed-renew-clause-moments
-returns-in-Err-Failed-renew-clause-moments g c =
-    let is =
-    rw (c.deref.ensures.value, c.deref-2.ensures.value) at c.in-Ok-read_back.ensures.read in
-    let left =
-    rw (c.deref-4.ensures.value, c.deref-5.ensures.value) at c.whole_lines.ensures in
-    lines_stay_in _ _ _ c.whole_lines.result.now c.in-Ok-read_back.read.whole
-    c.in-Ok-read_back.read.book _ _ _ c.in-Ok.ensures.octets c.read.ensures.stays is left
-    c.renew.ensures.moments
+pub returns-in-Ok-renew-clause-moments : goal.returns-in-Ok-renew-clause-moments
+returns-in-Ok-renew-clause-moments g c =
+    let file = g.D.Disk.file c.args.disk.now in
+    let s = c.read_closed.new.reader in
+    let h = c.in-Ok.ensures.read in
+    let stands = subst (λ (xs : List ℕ). OfFile (StandsFor s xs) file) (sym c.deref.ensures.value)
+    (subst (λ (f : Option DiskFile). OfFile (StandsFor s c.in-Ok-read_open.octets.items) f)
+    c.read_closed.ensures.stays c.in-Ok-read_open.ensures.octets) in
+    let named = c.read_closed.ensures.site ∙ c.in_ok-reader.ensures.site in
+    let stays = subst (λ (f : Option DiskFile).
+    OfFiles IsUntouched f (g.D.Disk.file c.read_open.new.disk)) c.read_closed.ensures.stays
+    c.read_open.ensures.stays in
+    lines_stay_in s c.deref.result.now _ c.in-Ok-read_chapter.whole file
+    (g.D.Disk.file c.read_open.new.disk) (g.D.Disk.file c.renew.new.self) stands
+    c.in-Ok-read_chapter.ensures.whole
+    (ap (take c.in-Ok-read_chapter.whole) (c.deref-2.ensures.value ∙ sym c.deref.ensures.value))
+    stays c.renew.ensures.moments
 
-pub returns-clause-moments : goal.returns-clause-moments
-returns-clause-moments g c =
-    let is =
-    rw (c.deref.ensures.value, c.deref-2.ensures.value) at c.in-Ok-read_back.ensures.read in
-    let left =
-    rw (c.deref-4.ensures.value, c.deref-5.ensures.value) at c.whole_lines.ensures in
-    lines_stay_in _ _ _ c.whole_lines.result.now c.in-Ok-read_back.read.whole
-    c.in-Ok-read_back.read.book _ _ _ c.in-Ok.ensures.octets c.read.ensures.stays is left
-    c.renew.ensures.moments
-
-pub returns-clause-settled : goal.returns-clause-settled
-returns-clause-settled g c =
-    let is =
-    rw (c.deref.ensures.value, c.deref-2.ensures.value) at c.in-Ok-read_back.ensures.read in
-    let left =
-    rw (c.deref-4.ensures.value, c.deref-5.ensures.value) at c.whole_lines.ensures in
-    let plain : IsLine c.in_ok-header.header.items =
-    subst IsLine (sym c.in_ok-header.ensures) (header_plain c.args.site_file.now) in
-    let line : c.in_ok-first_line.first_line.items ≡ c.in_ok-header.header.items ++ 10 ∷ [] =
-    c.in_ok-first_line.ensures
-    ∙ ap (λ (xs : List ℕ). xs ++ 10 ∷ []) c.deref-3.ensures.value in
-    holds_read_in c.in_ok-header.header.items c.in-Ok.octets.items
-    c.in_ok-first_line.first_line.items c.in-Ok-read_back.read.whole c.in-Ok-read_back.read.book
-    (g.D.Disk.file c.args.disk.now) (g.D.Disk.file c.renew.new.self) plain line
-    c.in-Ok.ensures.octets is
-    (renewed_file c.in_ok-first_line.first_line.items c.in-Ok.octets.items
-    c.whole_lines.result.now c.in-Ok-read_back.read.whole (g.D.Disk.file c.args.disk.now)
-    (g.D.Disk.file c.renew.new.self) c.in-Ok.ensures.octets left
-    (renewed_then c.whole_lines.result.now (g.D.Disk.file c.args.disk.now)
-    (g.D.Disk.file c.read.new.self) (g.D.Disk.file c.renew.new.self) c.read.ensures.stays
-    c.in-Ok-renew.ensures.ok))
+pub returns-in-Err-renew-clause-moments : goal.returns-in-Err-renew-clause-moments
+returns-in-Err-renew-clause-moments g c =
+    let file = g.D.Disk.file c.args.disk.now in
+    let s = c.read_closed.new.reader in
+    let h = c.in-Ok.ensures.read in
+    let stands = subst (λ (xs : List ℕ). OfFile (StandsFor s xs) file) (sym c.deref.ensures.value)
+    (subst (λ (f : Option DiskFile). OfFile (StandsFor s c.in-Ok-read_open.octets.items) f)
+    c.read_closed.ensures.stays c.in-Ok-read_open.ensures.octets) in
+    let named = c.read_closed.ensures.site ∙ c.in_ok-reader.ensures.site in
+    let stays = subst (λ (f : Option DiskFile).
+    OfFiles IsUntouched f (g.D.Disk.file c.read_open.new.disk)) c.read_closed.ensures.stays
+    c.read_open.ensures.stays in
+    lines_stay_in s c.deref.result.now _ c.in-Ok-read_chapter.whole file
+    (g.D.Disk.file c.read_open.new.disk) (g.D.Disk.file c.renew.new.self) stands
+    c.in-Ok-read_chapter.ensures.whole
+    (ap (take c.in-Ok-read_chapter.whole) (c.deref-2.ensures.value ∙ sym c.deref.ensures.value))
+    stays c.renew.ensures.moments

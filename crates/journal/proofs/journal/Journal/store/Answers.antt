@@ -1,4 +1,4 @@
-use Rattle.std.proofs.Common.{◌≡◌, arith, length, subst, sym}
+use Rattle.std.proofs.Common.{◌≡◌, [], arith, length, subst, sym}
 use Rattle.std.proofs.lemmas.Bool.Decides.{nat_tests}
 use Rattle.std.proofs.lemmas.Grind.{common_steps}
 use Rattle.std.proofs.lemmas.List.{nil_from_length}
@@ -6,6 +6,7 @@ use Rattle.journal.specs.Disks.{Keeps, OfFiles}
 use Rattle.journal.specs.Stored.{IsJournalOf, JournalState}
 use Rattle.journal.proofs.Fronts.{files_then}
 use Rattle.journal.proofs.Storing.{journal_failed, journal_quiet, journal_stored, no_text}
+use Rattle.journal.proofs.Storing.{some_text}
 use Rattle.journal.proofs.journal.Journal.store.Goals as goal
 
 pub returns-in_err-append-clause-journal : goal.returns-in_err-append-clause-journal
@@ -27,9 +28,13 @@ returns-in_err-sync-clause-moments g c =
 
 pub returns-clause-journal : goal.returns-clause-journal
 returns-clause-journal g c =
-    journal_stored c.args.book.now.rows _ _ _ _ c.len-count.result
+    let some : c.put_rows.new.text.items ≡ [] → ⊥ = some_text c.put_rows.new.text.items
+    (grind (arith, common_steps, nat_tests)) in
+    journal_stored c.args.book.now.rows _ c.put_rows.new.text.items c.cover.new.self _ _
+    c.len-count.result
     (subst (IsJournalOf c.args.book.now.rows) (sym c.self.view_is) c.requires.journal)
-    c.if-self.false c.in_ok-put_rows.ensures.lines c.in_ok-put_rows.ensures.spelled
+    c.if-self.false c.in_ok-put_rows.ensures.lines some c.in_ok-put_rows.ensures.spelled
+    (rw (← c.deref-2.ensures.value) c.cover.ensures.covers)
     (rw (sym c.deref.ensures.value) c.in_ok-append.ensures.ok) c.in_ok-sync.ensures.ok
     c.len-count.ensures.rows
 

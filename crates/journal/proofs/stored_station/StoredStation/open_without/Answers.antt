@@ -1,6 +1,6 @@
 use Rattle.std.proofs.Common.{refl, subst, sym}
 use Rattle.station.specs.Moves.{StationState}
-use Rattle.journal.specs.History.{empty_book}
+use Rattle.chapters.specs.History.{empty_book}
 use Rattle.journal.specs.Opening.{HasNobodyOn}
 use Rattle.journal.proofs.SigningOff.{nobody_yet}
 use Rattle.journal.proofs.stored_station.StoredStation.open_without.Goals as goal

@@ -1,0 +1,132 @@
+-- What a reader of a history keeps of it, and which text it refuses.
+use Rattle.std.specs.Prelude.{◌≡◌, ◌==◌, ◌≤◌, ◌+◌, ◌-◌, ◌⊎◌, ⊤, ℕ, Bool, true, false, not, List, []}
+use Rattle.std.specs.Prelude.{◌∷◌, ◌++◌, Some, None, length, drop, take, if◌then◌else◌}
+use Rattle.std.specs.List.{starts_with}
+use Rattle.site_book.specs.Book.{Book}
+use Rattle.site_book.specs.Unpaid.{Kept}
+use Rattle.chapters.specs.declared.fault.HistoryFault.{HistoryFault}
+use Rattle.chapters.specs.declared.fault.HistoryFault.TheVariants.{Line, NotAfter}
+use Rattle.chapters.specs.ChapterReading.{HistoryRead, is_none_left, nothing_read, read_from}
+use Rattle.chapters.specs.ChapterReading.{read_line, read_lines, read_text}
+use Rattle.chapters.specs.ChapterText.{first_lines, text_of_lines}
+use Rattle.chapters.specs.History.{IsMadeOf}
+use Rattle.chapters.specs.HistoryEnds.{EndState, EndsAt}
+use Rattle.chapters.specs.Lines.{unfinished, whole_lines}
+
+-- the name of the site; the book of the rows, and what may be unpaid of it; where the text ends;
+-- whether octets stand behind its last line feed
+pub record ReaderState : Type 0 where
+  pub site : List ℕ
+  pub book : Book
+  pub unpaid : Kept
+  pub end : EndState
+  pub torn : Bool
+
+-- what was read of the lines of so many chapters is what the reader keeps
+pub record KeepsLines (chapters : ℕ) (r : HistoryRead) (s : ReaderState) : Type 0 where
+  pub ends : EndsAt chapters r.seal r.unsealed s.end
+  pub made : IsMadeOf s.book r.events
+
+-- the reader has read these chapters
+pub record HasRead (texts : List (List ℕ)) (s : ReaderState) : Type 0 where
+  pub reading : HistoryRead
+  pub read : read_from s.site 1 texts nothing_read ≡ Some reading
+  pub keeps : KeepsLines (length texts) reading s
+  pub torn : s.torn ≡ not (length reading.torn == 0)
+
+-- the line was read behind that, and is no seal; the book has its row, if it is a request
+pub record AddsText (line : List ℕ) (r : HistoryRead) (new : ReaderState) : Type 0 where
+  pub reading : HistoryRead
+  pub read : read_text line r ≡ Some reading
+  pub seal : reading.seal ≡ r.seal
+  pub unsealed : reading.unsealed ≡ r.unsealed ++ line ∷ []
+  pub made : IsMadeOf new.book reading.events
+
+-- so many of the octets are whole lines; at most an unfinished one stands behind them
+pub record AreWholeLines (whole : ℕ) (text : List ℕ) : Type 0 where
+  pub few : whole ≤ length text
+  pub ended : unfinished (take whole text) ≡ []
+  pub behind : whole_lines (drop whole text) ≡ []
+
+-- these lines were read, from here on
+pub record AreRead (chapters : ℕ) (r : HistoryRead) (lines : List (List ℕ)) (s : ReaderState)
+    : Type 0 where
+  pub reading : HistoryRead
+  pub read : read_lines lines r ≡ Some reading
+  pub keeps : KeepsLines chapters reading s
+
+-- so many octets stand behind the last whole line
+pub record EndsWithLines (count : ℕ) (text : List ℕ) : Type 0 where
+  pub few : count ≤ length text
+  pub left : count ≡ length (unfinished text)
+  pub whole : AreWholeLines (length text - count) text
+
+-- ---- what is refused
+
+-- a fault of what a text says
+abbrev pub IsOfText : HistoryFault → Type 0
+IsOfText (Line chapter line) = ⊤
+IsOfText (NotAfter chapter before) = ⊤
+IsOfText fault = ⊥
+
+-- behind these chapters none with this text is read
+abbrev pub IsRefusedBehind : List (List ℕ) → List ℕ → ReaderState → Type 0
+IsRefusedBehind texts text s = read_from s.site 1 (texts ++ text ∷ []) nothing_read ≡ None
+
+abbrev pub begins_so : List ℕ → List (List ℕ) → Bool
+begins_so text lines = starts_with (λ a b. a == b) text (text_of_lines lines)
+
+-- the third line is another one: of the first chapter it is wrong; any other one doesn't go on
+abbrev pub third_fault : ℕ → HistoryFault
+third_fault n = if n == 1 then Line 1 3 else NotAfter n (n - 1)
+
+-- a text whose first lines aren't these: the first one that is another
+abbrev pub first_fault : ℕ → List (List ℕ) → List ℕ → HistoryFault
+first_fault n lines text =
+    if not (begins_so text (take 1 lines)) then Line n 1
+    else if not (begins_so text (take 2 lines)) then Line n 2
+    else third_fault n
+
+-- of the lines behind the first three, read on from here, the line of this number is the first that
+-- is wrong
+pub record IsWrongLine (r : HistoryRead) (rest : List ℕ) (number : ℕ) : Type 0 where
+  pub before : List (List ℕ)
+  pub line : List ℕ
+  pub others : List (List ℕ)
+  pub lines : whole_lines rest ≡ before ++ line ∷ others
+  pub place : number ≡ length before + 4
+  pub reading : HistoryRead
+  pub read : read_lines before r ≡ Some reading
+  pub wrong : read_line line reading ≡ None
+
+-- a fault names such a line of the last of so many chapters
+pub record NamesRow (chapters : ℕ) (r : HistoryRead) (rest : List ℕ) (fault : HistoryFault)
+    : Type 0 where
+  pub number : ℕ
+  pub line : fault ≡ Line chapters number
+  pub wrong : IsWrongLine r rest number
+
+-- .. of a chapter that begins as it should
+pub record NamesLine (n : ℕ) (lines : List (List ℕ)) (r : HistoryRead) (text : List ℕ)
+    (fault : HistoryFault) : Type 0 where
+  pub begins : begins_so text lines ≡ true
+  pub row :
+      let rest = drop (length (text_of_lines lines)) text in
+      NamesRow n (record r { unsealed = lines; torn = unfinished rest }) rest fault
+
+-- a chapter with other first lines than these
+pub record NamesFirst (n : ℕ) (lines : List (List ℕ)) (text : List ℕ) (fault : HistoryFault)
+    : Type 0 where
+  pub other : begins_so text lines ≡ false
+  pub is : fault ≡ first_fault n lines text
+
+-- the chapters before, of which this was read, don't end with a seal
+pub record NamesEnd (n : ℕ) (r : HistoryRead) (fault : HistoryFault) : Type 0 where
+  pub left : is_none_left r ≡ false
+  pub is : fault ≡ NotAfter n (n - 1)
+
+-- what a fault says of the chapter of this number, behind others of which this was read
+abbrev pub Names : List ℕ → ℕ → HistoryRead → List ℕ → HistoryFault → Type 0
+Names site n r text fault =
+    let lines = first_lines site n r.seal in
+    NamesEnd n r fault ⊎ (NamesFirst n lines text fault ⊎ NamesLine n lines r text fault)

@@ -1,0 +1,31 @@
+//! Why a history isn't read.
+
+use site_base::NoMemory;
+use thiserror::Error;
+
+/// Why a history isn't read.
+#[derive(Clone, Copy, Debug, PartialEq, Eq, Error)]
+pub enum HistoryFault {
+    /// An allocation failed.
+    #[error("out of memory")]
+    NoMemory,
+    /// Of the chapter of this number the line of this number is none of a history: no row that is
+    /// kept can be made of it, or its seal is wrong. Both are counted from 1.
+    #[error("chapter {0} line {1}")]
+    Line(u64, u64),
+    /// The chapter of this number doesn't go on from the one before, whose number is the second:
+    /// that one doesn't end with a seal, or it is another one than this one names.
+    #[error("chapter {0} doesn't go on from chapter {1}")]
+    NotAfter(u64, u64),
+}
+
+impl From<NoMemory> for HistoryFault {
+    ghost use Rattle.std.specs.Prelude.{◌≡◌};
+    ghost use Rattle.chapters.specs.declared.fault.HistoryFault.{HistoryFault};
+
+    ghost from_gives = { λ _ e. e ≡ HistoryFault.NoMemory };
+
+    fn from(_e: NoMemory) -> HistoryFault {
+        HistoryFault::NoMemory
+    }
+}

@@ -1,0 +1,191 @@
+//! Where the text of a history ends, so far it is read or written.
+
+ghost use Rattle.std.specs.Prelude.{◌≡◌, ◌≢◌, ◌++◌, ◌≤◌, ◌<◌, ◌+◌, ℕ, [], ◌∷◌, IfOk, List};
+ghost use Rattle.std.specs.Prelude.{OnOk, string_bytes, true};
+ghost use Rattle.chapters.specs.ChapterReading.{is_same_line};
+ghost use Rattle.chapters.specs.ChapterText.{first_lines, no_seal, seal_line, seal_of};
+ghost use Rattle.chapters.specs.ChapterText.{text_of_lines};
+ghost use Rattle.chapters.specs.HistoryEnds.{EndsAt};
+
+use crate::first_lines::{put_after, put_site, put_title};
+use crate::seal::Unsealed;
+use site_base::NoMemory;
+use std::alloc::Global;
+use std::marker::Model;
+
+/// A history has so many chapters at most: the names of their files have six digits.
+pub const MOST_CHAPTERS: u64 = 999_999;
+
+/// What a seal's line begins with.
+pub(crate) const SEAL_MARK: &[u8] = b"# seal ";
+
+/// What stands for a seal before the first chapter.
+const NO_SEAL: &str = "0000000000000000000000000000000000000000000000000000000000000000";
+
+/// Where the text of a history ends: how many chapters it has, its last seal, and what the next one
+/// covers.
+#[derive(Drop)]
+pub struct HistoryEnd {
+    chapters: u64,
+    seal: String,
+    unsealed: Unsealed,
+    /// Nothing stands behind the last seal.
+    is_sealed: bool,
+}
+
+impl Model for HistoryEnd {
+    ghost use Rattle.std.specs.Prelude.{◌≤◌, string_bytes};
+    ghost use Rattle.chapters.specs.declared.history_end.TheConstants.{MOST_CHAPTERS};
+    ghost use Rattle.chapters.specs.HistoryEnds.{EndState};
+
+    ghost Value = { EndState };
+
+    ghost view = { λ e. record {
+      chapters = e.chapters;
+      seal = string_bytes e.seal;
+      hasher = e.unsealed;
+      sealed = e.is_sealed;
+    } };
+
+    ghost invariant = { λ e. e.chapters ≤ MOST_CHAPTERS };
+}
+
+impl HistoryEnd {
+    /// The end of a history without chapters.
+    pub fn new(alloc: Global) -> Result<HistoryEnd, NoMemory>
+        ensures { IfOk result (EndsAt 0 no_seal []) }
+    {
+        let seal = String::from_str(alloc, NO_SEAL)?;
+        let unsealed = Unsealed::behind(NO_SEAL.as_bytes());
+        Ok(HistoryEnd {
+            chapters: 0,
+            seal,
+            unsealed,
+            is_sealed: true,
+        })
+    }
+
+    /// So many chapters there are.
+    pub fn chapters(&self) -> u64
+        ensures count { result ≡ self.now.chapters }
+        ensures most { result ≤ MOST_CHAPTERS }
+    {
+        self.chapters
+    }
+
+    /// Is the last line a seal, or is there none?
+    pub fn is_sealed(&self) -> bool
+        ensures { result ≡ self.now.sealed }
+    {
+        self.is_sealed
+    }
+
+    /// The last seal; 64 zeros where there is none.
+    pub(crate) fn last_seal(&self) -> &str
+        ensures { result.now ≡ self.now.seal }
+    {
+        self.seal.as_str()
+    }
+
+    /// The first lines of the next chapter, of the site of this name.
+    pub fn next_lines(&self, alloc: Global, site: &str) -> Result<String, NoMemory>
+        ensures { IfOk result (λ text. string_bytes text
+            ≡ text_of_lines (first_lines site.now (self.now.chapters + 1) self.now.seal)) }
+    {
+        let mut text = String::new(alloc);
+        put_title(self.chapters + 1, &mut text)?;
+        put_site(site, &mut text)?;
+        put_after(self.seal.as_str(), &mut text)?;
+        Ok(text)
+    }
+
+    /// The next chapter is begun, with these octets: its first lines.
+    pub fn begin_chapter(&mut self, octets: &[u8])
+        requires { self.old.chapters < MOST_CHAPTERS }
+        ensures begun { (chapters : ℕ) (seal : List ℕ) (lines : List (List ℕ))
+            → EndsAt chapters seal [] self.old → octets.now ≡ text_of_lines lines → lines ≢ []
+            → EndsAt (chapters + 1) seal lines self.new }
+        ensures count { self.new.chapters ≡ self.old.chapters + 1 }
+    {
+        self.chapters += 1;
+        self.cover(octets);
+    }
+
+    /// Behind the others stand these octets: lines.
+    pub fn cover(&mut self, octets: &[u8])
+        ensures covers { (chapters : ℕ) (seal : List ℕ) (unsealed lines : List (List ℕ))
+            → EndsAt chapters seal unsealed self.old → octets.now ≡ text_of_lines lines
+            → lines ≢ [] → EndsAt chapters seal (unsealed ++ lines) self.new }
+        ensures count { self.new.chapters ≡ self.old.chapters }
+    {
+        self.unsealed.cover(octets);
+        self.is_sealed = false;
+    }
+
+    /// Behind the others stands this line, and its line feed.
+    pub(crate) fn cover_line(&mut self, line: &[u8])
+        ensures covers { (chapters : ℕ) (seal : List ℕ) (unsealed : List (List ℕ))
+            → EndsAt chapters seal unsealed self.old
+            → EndsAt chapters seal (unsealed ++ line.now ∷ []) self.new }
+        ensures count { self.new.chapters ≡ self.old.chapters }
+    {
+        self.unsealed.cover(line);
+        self.unsealed.cover(b"\n");
+        self.is_sealed = false;
+    }
+
+    /// Reads the line of a seal; says whether it is the next one. Behind it there is nothing yet.
+    pub(crate) fn meet_seal(&mut self, alloc: Global, line: &[u8]) -> Result<bool, NoMemory>
+        ensures right { IfOk result (λ right. (chapters : ℕ) (seal : List ℕ)
+            (unsealed : List (List ℕ)) → EndsAt chapters seal unsealed self.old
+            → right ≡ is_same_line (seal_line (seal_of seal unsealed)) line.now) }
+        ensures behind { IfOk result (λ right. (chapters : ℕ) (seal : List ℕ)
+            (unsealed : List (List ℕ)) → EndsAt chapters seal unsealed self.old
+            → EndsAt chapters (seal_of seal unsealed) [] self.new) }
+        ensures count { self.new.chapters ≡ self.old.chapters }
+    {
+        let seal = self.seal(alloc)?;
+        Ok(is_same(&seal, line))
+    }
+
+    /// The line of the next seal, with its line feed. Behind it there is nothing yet.
+    pub fn seal_text(&mut self, alloc: Global) -> Result<Vec<u8>, NoMemory>
+        ensures line { IfOk result (λ line. (chapters : ℕ) (seal : List ℕ)
+            (unsealed : List (List ℕ)) → EndsAt chapters seal unsealed self.old
+            → line.items ≡ text_of_lines (seal_line (seal_of seal unsealed) ∷ [])) }
+        ensures behind { IfOk result (λ line. (chapters : ℕ) (seal : List ℕ)
+            (unsealed : List (List ℕ)) → EndsAt chapters seal unsealed self.old
+            → EndsAt chapters (seal_of seal unsealed) [] self.new) }
+        ensures sealed { OnOk result (self.new.sealed ≡ true) }
+        ensures count { self.new.chapters ≡ self.old.chapters }
+    {
+        let mut line = self.seal(alloc)?;
+        line.push(b'\n')?;
+        Ok(line)
+    }
+
+    /// The line of the next seal, without its line feed. Behind it there is nothing yet.
+    pub(crate) fn seal(&mut self, alloc: Global) -> Result<Vec<u8>, NoMemory>
+        ensures line { IfOk result (λ line. (chapters : ℕ) (seal : List ℕ)
+            (unsealed : List (List ℕ)) → EndsAt chapters seal unsealed self.old
+            → line.items ≡ seal_line (seal_of seal unsealed)) }
+        ensures behind { IfOk result (λ line. (chapters : ℕ) (seal : List ℕ)
+            (unsealed : List (List ℕ)) → EndsAt chapters seal unsealed self.old
+            → EndsAt chapters (seal_of seal unsealed) [] self.new) }
+        ensures sealed { OnOk result (self.new.sealed ≡ true) }
+        ensures count { self.new.chapters ≡ self.old.chapters }
+    {
+        self.seal = self.unsealed.seal(alloc)?;
+        self.is_sealed = true;
+        let mut line = Vec::from_slice(alloc, SEAL_MARK)?;
+        line.extend_from_slice(self.seal.as_bytes())?;
+        Ok(line)
+    }
+}
+
+/// Are these the same octets?
+fn is_same(right: &[u8], line: &[u8]) -> bool
+    ensures { result ≡ is_same_line right.now line.now }
+{
+    line.len() == right.len() && line.starts_with(right)
+}
