@@ -148,11 +148,12 @@ other_refused texts text s ended other h =
     (ap (begins_so text) (sym (next_is texts s h)) ∙ other))
 
 pub other_named : (texts : List (List ℕ)) (text : List ℕ) (s : ReaderState) (fault : HistoryFault)
-    → begins_so text (next_first s) ≡ false
+    → (not s.torn && s.end.sealed) ≡ true → begins_so text (next_first s) ≡ false
     → fault ≡ first_fault (s.end.chapters + 1) (next_first s) text → (h : HasRead texts s)
     → Names s.site (length texts + 1) h.reading text fault
-other_named texts text s fault other is h =
+other_named texts text s fault ended other is h =
     inr (inl (record {
+      ended = sym (ended_is texts s h) ∙ ended;
       other = ap (begins_so text) (sym (next_is texts s h)) ∙ other;
       is =
           is
@@ -314,6 +315,7 @@ pub line_named : (texts : List (List ℕ)) (text first : List ℕ) (s mid : Read
     → (h : HasRead texts s) → Names s.site (length texts + 1) h.reading text fault
 line_named texts text first s mid fault ended is begins met same names h =
     inr (inr (record {
+      ended = sym (ended_is texts s h) ∙ ended;
       begins = ap (begins_so text) (sym (next_is texts s h)) ∙ begins;
       row = wrong_in texts text first s mid fault h ended is met same names;
     }))

@@ -1,15 +1,15 @@
 -- Rows by their places, and the lines of more and more of them.
 use Rattle.std.proofs.Common.{◌≡◌, ℕ, zero, suc, ◌+◌, ◌<◌, List, [], ◌∷◌, ◌++◌, length, take}
-use Rattle.std.proofs.Common.{drop, Bool, true, false, Some, None, refl, sym, ap, ◌∙◌, append-nil}
+use Rattle.std.proofs.Common.{drop, Some, None, refl, sym, ap, ◌∙◌}
 use Rattle.std.proofs.Common.{subst, arith}
-use Rattle.std.specs.Prelude.{◌≤◌, if◌then◌else◌, slice_get}
+use Rattle.std.specs.Prelude.{◌≤◌, slice_get}
 use Rattle.std.specs.List.{AllByRecursion}
 use Rattle.std.proofs.lemmas.List.{drop-append-le, length-take-le, take_all}
 use Rattle.std.proofs.lemmas.Option.{none-some, same_Some}
 use Rattle.site_base.specs.declared.row.Row.{Row}
 use Rattle.device_map.specs.Laws.{AsksFor}
-use Rattle.kept_history.specs.KeptRows.{is_kept, kept_rows}
-use Rattle.chapters.specs.RowText.{CanBeSpelled, row_line, row_request, rows_text}
+use Rattle.kept_history.specs.KeptRows.{kept_rows}
+use Rattle.chapters.specs.RowText.{CanBeSpelled, row_request, rows_text}
 use Rattle.chapters.specs.RowText.{kept_behind}
 use Rattle.chapters.proofs.Lists.{all_both}
 use Rattle.chapters.proofs.Kept.{kept_both}

@@ -76,7 +76,8 @@ IsRefusedBehind texts text s = read_from s.site 1 (texts ++ text ∷ []) nothing
 abbrev pub begins_so : List ℕ → List (List ℕ) → Bool
 begins_so text lines = starts_with (λ a b. a == b) text (text_of_lines lines)
 
--- the third line is another one: of the first chapter it is wrong; any other one doesn't go on
+-- the third line is another one: in the first chapter that line is wrong; any other chapter doesn't
+-- go on from the one before
 abbrev pub third_fault : ℕ → HistoryFault
 third_fault n = if n == 1 then Line 1 3 else NotAfter n (n - 1)
 
@@ -109,14 +110,16 @@ pub record NamesRow (chapters : ℕ) (r : HistoryRead) (rest : List ℕ) (fault 
 -- .. of a chapter that begins as it should
 pub record NamesLine (n : ℕ) (lines : List (List ℕ)) (r : HistoryRead) (text : List ℕ)
     (fault : HistoryFault) : Type 0 where
+  pub ended : is_none_left r ≡ true
   pub begins : begins_so text lines ≡ true
   pub row :
       let rest = drop (length (text_of_lines lines)) text in
       NamesRow n (record r { unsealed = lines; torn = unfinished rest }) rest fault
 
 -- a chapter with other first lines than these
-pub record NamesFirst (n : ℕ) (lines : List (List ℕ)) (text : List ℕ) (fault : HistoryFault)
-    : Type 0 where
+pub record NamesFirst (n : ℕ) (lines : List (List ℕ)) (r : HistoryRead) (text : List ℕ)
+    (fault : HistoryFault) : Type 0 where
+  pub ended : is_none_left r ≡ true
   pub other : begins_so text lines ≡ false
   pub is : fault ≡ first_fault n lines text
 
@@ -129,4 +132,4 @@ pub record NamesEnd (n : ℕ) (r : HistoryRead) (fault : HistoryFault) : Type 0 
 abbrev pub Names : List ℕ → ℕ → HistoryRead → List ℕ → HistoryFault → Type 0
 Names site n r text fault =
     let lines = first_lines site n r.seal in
-    NamesEnd n r fault ⊎ (NamesFirst n lines text fault ⊎ NamesLine n lines r text fault)
+    NamesEnd n r fault ⊎ (NamesFirst n lines r text fault ⊎ NamesLine n lines r text fault)

@@ -1,4 +1,4 @@
-//! Where the text of a history ends, so far it is read or written.
+//! Where the text of a history ends, as far as it is read or written.
 
 ghost use Rattle.std.specs.Prelude.{◌≡◌, ◌≢◌, ◌++◌, ◌≤◌, ◌<◌, ◌+◌, ℕ, [], ◌∷◌, IfOk, List};
 ghost use Rattle.std.specs.Prelude.{OnOk, string_bytes, true};
@@ -101,7 +101,8 @@ impl HistoryEnd {
 
     /// The next chapter is begun, with these octets: its first lines.
     pub fn begin_chapter(&mut self, octets: &[u8])
-        requires { self.old.chapters < MOST_CHAPTERS }
+        requires most { self.old.chapters < MOST_CHAPTERS }
+        requires sealed { self.old.sealed ≡ true }
         ensures begun { (chapters : ℕ) (seal : List ℕ) (lines : List (List ℕ))
             → EndsAt chapters seal [] self.old → octets.now ≡ text_of_lines lines → lines ≢ []
             → EndsAt (chapters + 1) seal lines self.new }

@@ -16,4 +16,4 @@ pub use first_lines::site_name;
 pub use history_end::{HistoryEnd, MOST_CHAPTERS};
 pub use laws::chapters_tell_their_history;
 pub use reader::{HistoryReader, ROWS_IN_MEMORY, ReadHistory};
-pub use row_lines::{put_row_line, put_rows};
+pub use row_lines::put_rows;

@@ -67,7 +67,7 @@ pub struct ReadHistory {
     pub book: SiteBook,
     /// Those of its transactions that may be unpaid.
     pub unpaid: UnpaidSales,
-    /// Where it ends.
+    /// Where it ends, its torn last line left out.
     pub end: HistoryEnd,
 }
 
@@ -106,8 +106,8 @@ impl HistoryReader {
 
     /// Reads the text of the next chapter. It says how many of its octets are whole lines.
     ///
-    /// `NotAfter` comes where the chapters before don't end with a seal, or this one names another,
-    /// and `Line` names the first line that is wrong.
+    /// `NotAfter` comes where the chapters before don't end with a seal, or this one's third line
+    /// doesn't name their last one, and `Line` names the first line that is wrong.
     pub fn read_chapter(&mut self, text: &[u8]) -> Result<usize, HistoryFault>
         requires { self.old.end.chapters < MOST_CHAPTERS }
         ensures read { IfOk result (λ whole. (texts : List (List ℕ)) → HasRead texts self.old

@@ -54,7 +54,7 @@ fn put_kept(alloc: Global, row: &Row, text: &mut Vec<u8>) -> Result<(), NoMemory
 
 /// Appends the line of a row: the request of its actor and event, with token 0, of which there is
 /// just one.
-pub fn put_row_line(alloc: Global, row: &Row, text: &mut Vec<u8>) -> Result<(), NoMemory>
+fn put_row_line(alloc: Global, row: &Row, text: &mut Vec<u8>) -> Result<(), NoMemory>
     requires { IsSent row.now }
     ensures line { OnOk result (text.new.items ≡ text.old.items ++ row_line row.now) }
     ensures asks { OnOk result (AsksFor 0 row.now.actor row.now.event (row_request row.now)) }

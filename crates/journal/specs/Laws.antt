@@ -19,24 +19,24 @@ pub record BeginsWithRows (rows : List Row) (b : Book) : Type 0 where
   pub more : List Row
   pub parts : b.rows ≡ rows ++ more
 
--- Each row that is on the disk is found again: of any chapters that go on from some which tell
--- these rows, only a book is read that begins with them.
+-- Each row that is on the disk is found again. Take chapters that tell these rows, and any that go
+-- on from them. If a book is read of these, it begins with the rows.
 abbrev pub StoredRowsAreFoundAgain : Type 0
 StoredRowsAreFoundAgain = (site : List ℕ) (m n : Moment) (config : Configured) (rows : List Row)
     (b : Book) → IsLegal (opening config) rows → b.config ≡ config
     → TellsWhole site m (events_of rows) → GoesOn m n → IsRead site n b → BeginsWithRows rows b
 
 -- What is told is found again. While a peer may be told something, each row of the station but
--- those of reads is on the disk. Whatever a crash then leaves, of it only a book is read that
--- begins with these rows.
+-- those of reads is on the disk. If a book is read of what a crash then leaves, it begins with
+-- these rows.
 abbrev pub ToldRowsAreFoundAgain : Type 0
 ToldRowsAreFoundAgain = (s : StoredState) (j : JournalState) (f : DiskFile) (key : ℕ) (m : Moment)
     (b : Book) → IsStored s → s.journal ≡ Some j → j.file ≡ Some f → (told_at s key ≡ [] → ⊥)
     → GoesOn (moment_of f) m → b.config ≡ s.station.book.config → IsRead j.site m b
     → BeginsWithRows (kept_rows s.station.book.rows) b
 
--- A beginning of what a journal writes is never refused: chapters that tell rows, with a beginning
--- of the lines of more rows behind.
+-- A beginning of the lines that a store writes is never refused: take chapters that tell rows, and
+-- a beginning of the lines of more rows behind them.
 abbrev pub BeginningsAreRead : Type 0
 BeginningsAreRead = (site : List ℕ) (m : Moment) (told more : List Row) (n : ℕ)
     → TellsWhole site m (events_of told) → CanBeSpelled more → kept_rows more ≡ more

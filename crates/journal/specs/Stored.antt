@@ -69,6 +69,17 @@ abbrev pub has_stored : ℕ → Option JournalState → Bool
 has_stored count None = true
 has_stored count (Some j) = j.stored == count
 
+-- the next chapter has begun, or the open one goes on
+abbrev pub HasBegun : Bool → EndState → EndState → Type 0
+HasBegun begun old new =
+    new.chapters ≡ (if begun then old.chapters + 1 else old.chapters)
+
+-- .. of a station's journal; without one none has
+abbrev pub HasNextChapter : Bool → Option JournalState → Option JournalState → Type 0
+HasNextChapter begun None None = begun ≡ false
+HasNextChapter begun (Some a) (Some b) = HasBegun begun a.end b.end
+HasNextChapter begun a b = ⊥
+
 -- a journal goes on: its site stays, and so does what is on its disk, at each moment
 abbrev pub JournalGoesOn : Option JournalState → Option JournalState → Type 0
 JournalGoesOn None None = ⊤

@@ -1,12 +1,13 @@
 //! A journal that is written.
 
-ghost use Rattle.std.specs.Prelude.{◌≡◌, ◌≤◌, ◌<◌, [], List, false, length, string_bytes, true, OnOk};
+ghost use Rattle.std.specs.Prelude.{◌≡◌, ◌≤◌, ◌<◌, [], IfOk, List, OnOk, false, length};
+ghost use Rattle.std.specs.Prelude.{string_bytes, true};
 ghost use Rattle.site_base.specs.declared.row.Row.{Row as RowFacts};
 ghost use Rattle.chapters.specs.declared.history_end.TheConstants.{MOST_CHAPTERS};
 ghost use Rattle.std.specs.List.{AllByRecursion};
 ghost use Rattle.chapters.specs.RowText.{IsSent, kept_behind};
 ghost use Rattle.journal.specs.Disks.{Keeps, OfFiles};
-ghost use Rattle.journal.specs.Stored.{GrowsByLines, IsJournalOf};
+ghost use Rattle.journal.specs.Stored.{GrowsByLines, HasBegun, IsJournalOf};
 
 use crate::disk::{Disk, DiskFault};
 use chapters::{HistoryEnd, MOST_CHAPTERS, put_rows};
@@ -123,12 +124,14 @@ impl<D: Disk> Journal<D> {
         Ok(())
     }
 
-    /// Ends the chapter: a seal behind its rows, and then the next one with its first lines. It says
-    /// whether that has begun. Where there can't be one now, the open one goes on, and it may be asked
-    /// again. Where the disk fails, or memory is wanting, the journal may take no more.
+    /// Ends the chapter: a seal behind its rows, and then the next one with its first lines. It
+    /// says whether that has begun. Where there can't be one now, the open one goes on, and it may
+    /// be asked again. Where the disk fails, or memory is wanting, the journal may take no more.
     pub(crate) fn end_chapter(&mut self) -> Result<bool, DiskFault>
         ensures journal { (rows : List RowFacts) → IsJournalOf rows self.old
             → IsJournalOf rows self.new }
+        ensures begun { IfOk result (λ begun. HasBegun begun self.old.end self.new.end) }
+        ensures whole { OnOk result (self.new.failed ≡ false) }
         ensures stored { self.new.stored ≡ self.old.stored }
         ensures site { self.new.site ≡ self.old.site }
         ensures moments { OfFiles Keeps self.old.file self.new.file }
@@ -176,6 +179,8 @@ impl<D: Disk> Journal<D> {
         requires most { self.old.end.chapters < MOST_CHAPTERS }
         ensures journal { (rows : List RowFacts) → IsJournalOf rows self.old
             → IsJournalOf rows self.new }
+        ensures begun { IfOk result (λ begun. HasBegun begun self.old.end self.new.end) }
+        ensures whole { OnOk result (self.new.failed ≡ false) }
         ensures stored { self.new.stored ≡ self.old.stored }
         ensures site { self.new.site ≡ self.old.site }
         ensures moments { OfFiles Keeps self.old.file self.new.file }

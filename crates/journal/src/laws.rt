@@ -4,7 +4,7 @@ ghost use Rattle.journal.specs.Laws.{BeginningsAreRead, HistoriesAreMadeAgain};
 ghost use Rattle.journal.specs.Laws.{StationsRowsAreSent, StoredRowsAreFoundAgain};
 ghost use Rattle.journal.specs.Laws.{ToldRowsAreFoundAgain};
 
-/// Of chapters that go on from what is on the disk only a book is read that begins with the rows
+/// If a book is read of chapters that go on from what is on the disk, it begins with the rows
 /// stored there.
 pub fn stored_rows_are_found_again()
     ensures { StoredRowsAreFoundAgain }
@@ -16,7 +16,8 @@ pub fn told_rows_are_found_again()
     ensures { ToldRowsAreFoundAgain }
 {}
 
-/// A beginning of what a journal writes is never refused.
+/// Chapters that tell rows, with a beginning of the lines of more rows behind them, are never
+/// refused.
 pub fn beginnings_are_read()
     ensures { BeginningsAreRead }
 {}

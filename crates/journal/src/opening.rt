@@ -46,8 +46,8 @@ pub struct Unopened<D: Disk> {
 /// rows are made again, and the session of each till that is signed on is gone, so that it is
 /// signed off. Where nothing is written yet there are no rows.
 ///
-/// `Unread` comes where a chapter can't be read, and `Refused` where one is none of this site's, or
-/// doesn't go on from the one before: these leave the chapters as they are. `Unwritten` comes where
+/// `Unread` comes where a chapter can't be read, and `Refused` where one is wrong, or doesn't go on
+/// from the one before: these leave the chapters as they are. `Unwritten` comes where
 /// the disk takes no more.
 pub fn open_journal<D: Disk>(
     alloc: Global,

@@ -25,7 +25,8 @@ pub enum OpenFault {
     NoMemory,
     /// Its octets can't be read.
     Unread,
-    /// Its chapters are none of this site's.
+    /// A chapter isn't one of this site's history: a first line, a row's line or a seal is wrong,
+    /// or it doesn't go on from the one before.
     Refused(HistoryFault),
     /// The disk takes no more.
     Unwritten,
@@ -43,12 +44,12 @@ impl From<NoMemory> for OpenFault {
 }
 
 /// Recovers the history of the site of this name from a disk, whatever a crash has left there. What
-/// was read of the open chapter takes its place, written to the disk anew, since the disk may not
-/// have what a read gives, where a flush had failed: without an unfinished last line, of which
-/// nobody was told, and of a history that isn't begun yet the first chapter's first lines.
+/// was read is written anew in the open chapter's place, since the disk may not have what a read
+/// gives where a flush had failed. A torn last line is left out: nobody was told of it. A history
+/// that isn't begun yet gets the first chapter's first lines.
 ///
-/// `Unread` comes where a chapter can't be read, and `Refused` where one is none of this site's, or
-/// doesn't go on from the one before: these leave the chapters as they are. `Unwritten` comes where
+/// `Unread` comes where a chapter can't be read, and `Refused` where one is wrong, or doesn't go on
+/// from the one before: these leave the chapters as they are. `Unwritten` comes where
 /// the disk takes no more.
 pub fn recover<D: Disk>(
     alloc: Global,

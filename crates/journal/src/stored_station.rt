@@ -16,7 +16,8 @@ ghost use Rattle.chapters.specs.RowText.{IsSent};
 ghost use Rattle.journal.specs.declared.memory.TheConstants.{LEAST_ROWS};
 ghost use Rattle.journal.specs.Memory.{HasRoomToHear, IsSameOrForgets};
 ghost use Rattle.journal.specs.Opening.{HasNobodyOn};
-ghost use Rattle.journal.specs.Stored.{IsJournalOf, JournalGoesOn, LeavesReadsOut, is_all_stored};
+ghost use Rattle.journal.specs.Stored.{HasNextChapter, IsJournalOf, JournalGoesOn};
+ghost use Rattle.journal.specs.Stored.{LeavesReadsOut, is_all_stored};
 ghost use Rattle.journal.specs.Stored.{WritesLines, told_at, with_station};
 
 use crate::disk::{Disk, DiskFault};
@@ -181,10 +182,12 @@ impl<D: Disk> StoredStation<D> {
     }
 
     /// Ends the chapter of the journal, if there is one; says whether the next one has begun. Where
-    /// there can't be one now the open one goes on, and nothing is lost by a longer chapter. An error
-    /// is one of `store`.
+    /// there can't be one now the open one goes on, and nothing is lost by a longer chapter. After
+    /// an error the journal may take no more.
     pub fn end_chapter(&mut self) -> Result<bool, DiskFault>
         ensures station { self.new.station ≡ self.old.station }
+        ensures begun { IfOk result (λ begun.
+            HasNextChapter begun self.old.journal self.new.journal) }
         ensures journal { JournalGoesOn self.old.journal self.new.journal }
     {
         match &mut self.journal {

@@ -45,6 +45,7 @@ returns-in-Err-clause-named c = λ of_text texts h.
     let count : c.chapters-number.result ≡ s.end.chapters =
     c.chapters-number.ensures.count ∙ ap (λ (x : ReaderState). x.end.chapters) c.self.view_is in
     other_named texts c.args.text.now s c.in-Err.fault
+    (sym c.is_ended.ensures ∙ c.if-not-is_ended.false)
     (ap (begins_so c.args.text.now) (sym lines) ∙ c.in-Err.ensures.other of_text)
     (c.in-Err.ensures.named of_text
     ∙ ap (λ (ls : List (List ℕ)). first_fault (c.chapters-number.result + 1) ls c.args.text.now)
