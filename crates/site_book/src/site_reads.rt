@@ -1,13 +1,14 @@
 //! What a reader of the book may ask of its site beside points, sales and totals.
 
 ghost use Rattle.std.specs.Prelude.{◌≡◌};
+ghost use Rattle.meters.specs.Nozzles.{last_of};
 ghost use Rattle.site_core.specs.Accounts.{shift_row};
 ghost use Rattle.written_site.specs.SiteState.{is_signed_on, open_shift};
 ghost use Rattle.site_book.specs.Book.{site_of_book};
 
 use crate::book::SiteBook;
 use shift_ledger::ShiftRow;
-use site_base::{ShiftNo, TillNo};
+use site_base::{FpNo, Millilitres, NozzleNo, ShiftNo, TillNo};
 
 impl SiteBook {
     /// Is this till signed on?
@@ -31,5 +32,12 @@ impl SiteBook {
         ensures { result ≡ shift_row n (site_of_book self.now).sales (site_of_book self.now).drawn }
     {
         self.site.shift(n)
+    }
+
+    /// The last reading of nozzle n of point p. None where the site has no such nozzle.
+    pub fn reading(&self, p: FpNo, n: NozzleNo) -> Option<Millilitres>
+        ensures { result ≡ last_of p n (site_of_book self.now).nozzles }
+    {
+        self.site.reading(p, n)
     }
 }

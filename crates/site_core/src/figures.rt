@@ -1,6 +1,7 @@
 //! What reads show of the site.
 
 ghost use Rattle.std.specs.Prelude.{◌≡◌, is_some, IfSome};
+ghost use Rattle.meters.specs.Nozzles.{last_of};
 ghost use Rattle.transaction_buffer.specs.FoundSales.{IsPlaced, key_of};
 ghost use Rattle.transaction_buffer.specs.Sales.{has_sale, key, sale_of};
 ghost use Rattle.written_site.specs.SiteState.{key_named, open_shift, view_point, price_of};
@@ -12,8 +13,8 @@ ghost use Rattle.site_core.specs.Views.{product_lifted};
 
 use crate::site_parts::SiteParts;
 use site_base::{
-    FpNo, Mills, NozzleNo, PointView, ProductNo, ProductView, SaleId, Seq, ShiftNo, Status,
-    TransactionView,
+    FpNo, Millilitres, Mills, NozzleNo, PointView, ProductNo, ProductView, SaleId, Seq, ShiftNo,
+    Status, TransactionView,
 };
 use transaction_buffer::{FoundSale, Sale};
 
@@ -106,6 +107,13 @@ impl SiteParts {
         ensures { result ≡ open_shift (site_of self.now) }
     {
         self.accounts.open_shift()
+    }
+
+    /// The last reading of the nozzle.
+    pub(crate) fn reading(&self, p: FpNo, n: NozzleNo) -> Option<Millilitres>
+        ensures { result ≡ last_of p n (site_of self.now).nozzles }
+    {
+        self.meters.last(p, n)
     }
 
     /// Today's price of the nozzle's product.

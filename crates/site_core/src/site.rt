@@ -1,6 +1,7 @@
 //! The site, as its callers see it.
 
 ghost use Rattle.std.specs.Prelude.{◌≡◌, ℕ, ◌≤◌, true, Ok, OnOk, OnErr, IfOk};
+ghost use Rattle.meters.specs.Nozzles.{last_of};
 ghost use Rattle.transaction_buffer.specs.Rooms.{room_at};
 ghost use Rattle.transaction_buffer.specs.Sales.{key, sale_of};
 ghost use Rattle.written_site.specs.SiteState.{opening, is_signed_on, open_shift, view_point};
@@ -15,8 +16,8 @@ use crate::ranges::are_fit;
 use crate::site_parts::SiteParts;
 use shift_ledger::ShiftRow;
 use site_base::{
-    Actor, Answer, Event, FpNo, Listing, NoMemory, PointView, ProductNo, Reply, SaleId, Seq,
-    ShiftNo, SiteConfig, TillNo, Totals, TransactionView,
+    Actor, Answer, Event, FpNo, Listing, Millilitres, NoMemory, NozzleNo, PointView, ProductNo,
+    Reply, SaleId, Seq, ShiftNo, SiteConfig, TillNo, Totals, TransactionView,
 };
 use std::alloc::Global;
 use std::marker::Model;
@@ -200,5 +201,12 @@ impl Site {
         ensures { result ≡ view_point self.now.site p }
     {
         self.parts.view_point(p)
+    }
+
+    /// The last reading of nozzle n of point p. None where the site has no such nozzle.
+    pub fn reading(&self, p: FpNo, n: NozzleNo) -> Option<Millilitres>
+        ensures { result ≡ last_of p n self.now.site.nozzles }
+    {
+        self.parts.reading(p, n)
     }
 }
