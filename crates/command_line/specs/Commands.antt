@@ -36,7 +36,8 @@ HasForm rows Lines = HasFlag (codes "human") rows false × HasFlag (codes "json"
 abbrev pub command_names : List Text
 command_names =
     codes "check" ∷ codes "replay" ∷ codes "report" ∷ codes "sales" ∷ codes "serve"
-    ∷ codes "station" ∷ codes "demo" ∷ codes "explain" ∷ codes "spell" ∷ []
+    ∷ codes "station" ∷ codes "demo" ∷ codes "shifts" ∷ codes "next" ∷ codes "explain"
+    ∷ codes "spell" ∷ []
 
 -- this name with these rows says this command; any other name the replay on the known site
 abbrev pub IsSaid : Text → List Row → Command → Type 0
@@ -55,13 +56,18 @@ IsSaid name rows (commands.Serve o) =
     × (o.port.now ≡ text_in (codes "port") rows) × (o.workers.now ≡ text_in (codes "workers") rows)
     × (o.sessions.now ≡ text_in (codes "sessions") rows)
 IsSaid name rows (commands.Station o) =
-    (name ≡ codes "station") × (o.site.now ≡ text_in (codes "FILE") rows)
-    × (o.port.now ≡ text_in (codes "port") rows) × IsOption (codes "journal") rows o.journal
+    (name ≡ codes "station") × IsOption (codes "FILE") rows o.site
+    × (o.port.now ≡ text_in (codes "port") rows) × IsOption (codes "history") rows o.history
     × IsOption (codes "page") rows o.page × IsOption (codes "idle") rows o.idle
     × HasFlag (codes "detached") rows o.detached × HasFlag (codes "json") rows o.json
 IsSaid name rows (commands.Demo o) =
     (name ≡ codes "demo") × (o.site.now ≡ text_in (codes "FILE") rows)
     × (o.script.now ≡ text_in (codes "SCRIPT") rows) × HasFlag (codes "loopback") rows o.loopback
+IsSaid name rows (commands.Shifts o) =
+    (name ≡ codes "shifts") × (o.history.now ≡ text_in (codes "FOLDER") rows)
+    × HasFlag (codes "json") rows o.json
+IsSaid name rows (commands.Next history) =
+    (name ≡ codes "next") × (history.now ≡ text_in (codes "FOLDER") rows)
 IsSaid name rows (commands.Explain number) =
     (name ≡ codes "explain") × IsOption (codes "NUMBER") rows number
 IsSaid name rows commands.Spell = name ≡ codes "spell"

@@ -16,6 +16,10 @@ word_rule name = record (new_rule name) { required = true }
 abbrev pub site_file_rule : Rule
 site_file_rule = word_rule (codes "FILE")
 
+-- the folder of a history
+abbrev pub folder_rule : Rule
+folder_rule = word_rule (codes "FOLDER")
+
 abbrev pub script_rule : Rule
 script_rule = word_rule (codes "SCRIPT")
 
@@ -62,12 +66,17 @@ day_shapes =
     (site_file_rule ∷ required_rule (codes "port") ∷ required_rule (codes "workers")
     ∷ required_rule (codes "sessions") ∷ [])
     ∷ command (codes "station")
-    (site_file_rule ∷ required_rule (codes "port") ∷ option_rule (codes "journal")
+    (new_rule (codes "FILE") ∷ required_rule (codes "port") ∷ option_rule (codes "history")
     ∷ option_rule (codes "page") ∷ option_rule (codes "idle")
     ∷ flag_rule (codes "detached") ∷ flag_rule (codes "json") ∷ [])
     ∷ command (codes "demo")
     (site_file_rule ∷ script_rule ∷ flag_rule (codes "loopback") ∷ [])
     ∷ []
+
+abbrev pub history_shapes : List Shape
+history_shapes =
+    command (codes "shifts") (folder_rule ∷ flag_rule (codes "json") ∷ [])
+    ∷ command (codes "next") (folder_rule ∷ []) ∷ []
 
 abbrev pub word_shapes : List Shape
 word_shapes =
@@ -91,5 +100,6 @@ bare_program = record (new_app (codes "forecourt")) {
 }
 
 abbrev pub program : App
-program = with_commands (with_commands (with_commands bare_program replay_shapes) day_shapes)
-    word_shapes
+program =
+    with_commands (with_commands (with_commands (with_commands bare_program replay_shapes) day_shapes)
+    history_shapes) word_shapes

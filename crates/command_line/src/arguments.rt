@@ -2,8 +2,8 @@
 
 ghost use Rattle.std.specs.Prelude.{◌≡◌, codes, false};
 ghost use Rattle.clap.specs.Words.{new_rule, rule_of};
-ghost use Rattle.command_line.specs.Program.{flag_rule, option_rule, required_rule, script_rule};
-ghost use Rattle.command_line.specs.Program.{site_file_rule};
+ghost use Rattle.command_line.specs.Program.{flag_rule, folder_rule, option_rule, required_rule};
+ghost use Rattle.command_line.specs.Program.{script_rule, site_file_rule};
 
 use clap::{Arg, ArgAction};
 use std::alloc::Global;
@@ -14,6 +14,24 @@ pub fn site_file<'a>(alloc: Global) -> Arg<'a>
     ensures local { result.global ≡ false }
 {
     Arg::new(alloc, "FILE").help("The site file").required(true)
+}
+
+/// The site file that a command may be given.
+pub fn optional_site_file<'a>(alloc: Global) -> Arg<'a>
+    ensures rule { rule_of result ≡ new_rule (codes "FILE") }
+    ensures local { result.global ≡ false }
+{
+    Arg::new(alloc, "FILE").help("The site file; a history that has begun has its own")
+}
+
+/// The folder of the history that a command reads.
+pub fn history_folder<'a>(alloc: Global) -> Arg<'a>
+    ensures rule { rule_of result ≡ folder_rule }
+    ensures local { result.global ≡ false }
+{
+    Arg::new(alloc, "FOLDER")
+        .help("The folder of a station's history")
+        .required(true)
 }
 
 /// The script that a demo runs.

@@ -15,11 +15,15 @@ pub enum Command<'a> {
     Sales(SalesOptions<'a>),
     /// `serve FILE --port N --workers N --sessions N`
     Serve(ServeOptions<'a>),
-    /// `station FILE --port N [--journal JOURNAL] [--page N] [--idle SECONDS] [--detached]
+    /// `station [FILE] --port N [--history FOLDER] [--page N] [--idle SECONDS] [--detached]
     /// [--json]`
     Station(StationOptions<'a>),
     /// `demo FILE SCRIPT [--loopback]`
     Demo(DemoOptions<'a>),
+    /// `shifts FOLDER [--json]`
+    Shifts(ShiftsOptions<'a>),
+    /// `next FOLDER`: the site file with which another history can go on from this folder's.
+    Next(&'a str),
     /// `explain [NUMBER]`: what does this number mean? Without one standard input is explained.
     Explain(Option<&'a str>),
     /// `spell`
@@ -82,12 +86,12 @@ pub struct ServeOptions<'a> {
 /// What `station` is given.
 #[derive(Clone, Copy, Debug, PartialEq, Eq)]
 pub struct StationOptions<'a> {
-    /// The name of the site file.
-    pub site: &'a str,
+    /// The name of the site file. A history that has begun has its own.
+    pub site: Option<&'a str>,
     /// The port on which it listens for tills and dispensers.
     pub port: &'a str,
-    /// The name of the journal; without one nothing is stored.
-    pub journal: Option<&'a str>,
+    /// The folder of the history; without one nothing is stored.
+    pub history: Option<&'a str>,
     /// The port of the page; without one there is no page.
     pub page: Option<&'a str>,
     /// After how many silent seconds a session ends; without a number none does.
@@ -107,4 +111,13 @@ pub struct DemoOptions<'a> {
     pub script: &'a str,
     /// The tills' sessions run over sockets.
     pub loopback: bool,
+}
+
+/// What `shifts` is given.
+#[derive(Clone, Copy, Debug, PartialEq, Eq)]
+pub struct ShiftsOptions<'a> {
+    /// The folder of the history.
+    pub history: &'a str,
+    /// Prints an object of JSON a line.
+    pub json: bool,
 }

@@ -1,12 +1,12 @@
 //! The commands that open a site for a day.
 
 ghost use Rattle.std.specs.Prelude.{◌≡◌, ◌∷◌, [], IfOk, codes};
-ghost use Rattle.clap.specs.Words.{app_of};
+ghost use Rattle.clap.specs.Words.{app_of, new_rule};
 ghost use Rattle.command_line.specs.Program.{HasShape, command, day_shapes, flag_rule};
 ghost use Rattle.command_line.specs.Program.{option_rule, required_rule, script_rule};
 ghost use Rattle.command_line.specs.Program.{site_file_rule, with_arguments, with_commands};
 
-use crate::arguments::{flag, option, required, script, site_file};
+use crate::arguments::{flag, option, optional_site_file, required, script, site_file};
 use crate::building::{add_argument, add_command, start};
 use clap::Command;
 use std::alloc::{AllocError, Global};
@@ -43,16 +43,16 @@ fn serve<'a>(alloc: Global) -> Result<Command<'a>, AllocError>
 
 fn station<'a>(alloc: Global) -> Result<Command<'a>, AllocError>
     ensures { IfOk result (HasShape (command (codes "station")
-        (site_file_rule ∷ required_rule (codes "port") ∷ option_rule (codes "journal")
+        (new_rule (codes "FILE") ∷ required_rule (codes "port") ∷ option_rule (codes "history")
         ∷ option_rule (codes "page") ∷ option_rule (codes "idle") ∷ flag_rule (codes "detached")
         ∷ flag_rule (codes "json") ∷ []))) }
 {
     let about = "Serves every till and dispenser of a site on 127.0.0.1 until standard input ends, \
                  and prints the report of the day";
     let example = "Example: forecourt station examples/five_points.toml --port 4001 \
-                   --journal day.journal\n";
+                   --history history\n";
     let command = start(alloc, "station", about, example);
-    let command = add_argument(command, site_file(alloc))?;
+    let command = add_argument(command, optional_site_file(alloc))?;
     let command = add_argument(command, required(alloc, "port", "N", ANY_PORT))?;
     add_station_options(alloc, command)
 }
@@ -60,15 +60,16 @@ fn station<'a>(alloc: Global) -> Result<Command<'a>, AllocError>
 /// The station's command with what it may be given.
 fn add_station_options<'a>(alloc: Global, command: Command<'a>) -> Result<Command<'a>, AllocError>
     ensures { (s : _) → HasShape s command.entry → IfOk result (HasShape (with_arguments s
-        (option_rule (codes "journal") ∷ option_rule (codes "page") ∷ option_rule (codes "idle")
+        (option_rule (codes "history") ∷ option_rule (codes "page") ∷ option_rule (codes "idle")
         ∷ flag_rule (codes "detached") ∷ flag_rule (codes "json") ∷ []))) }
 {
-    let journal = "Stores each row in this file before a reply is sent, and goes on where it ended";
+    let history =
+        "Stores each row in this folder before a reply is sent, and goes on where it ended";
     let page = "Serves a page that shows the site, on this port, from 0 (a free one) to 65535";
     let idle = "Ends a session of which nothing came for so many seconds, from 1 to 86400";
     let detached = "Runs until the system stops it, whatever standard input does";
     let json = "Prints the report as one object of JSON";
-    let command = add_argument(command, option(alloc, "journal", "JOURNAL", journal))?;
+    let command = add_argument(command, option(alloc, "history", "FOLDER", history))?;
     let command = add_argument(command, option(alloc, "page", "N", page))?;
     let command = add_argument(command, option(alloc, "idle", "SECONDS", idle))?;
     let command = add_argument(command, flag(alloc, "detached", detached))?;

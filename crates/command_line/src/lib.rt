@@ -14,6 +14,7 @@ mod arguments;
 mod building;
 mod command;
 mod day_commands;
+mod history_commands;
 mod no_command;
 mod parsing;
 mod program;
@@ -23,7 +24,7 @@ mod word_commands;
 
 pub use command::{
     Command, DemoOptions, ReplayOptions, ReportForm, ReportOptions, SalesOptions, ServeOptions,
-    StationOptions,
+    ShiftsOptions, StationOptions,
 };
 pub use no_command::NoCommand;
 pub use parsing::parse;

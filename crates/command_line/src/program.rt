@@ -4,7 +4,7 @@ ghost use Rattle.std.specs.Prelude.{◌≡◌, IfOk};
 ghost use Rattle.clap.specs.Words.{app_of};
 ghost use Rattle.command_line.specs.Program.{bare_program, program};
 
-use crate::{day_commands, replay_commands, word_commands};
+use crate::{day_commands, history_commands, replay_commands, word_commands};
 use clap::Command;
 use std::alloc::{AllocError, Global};
 
@@ -15,7 +15,8 @@ pub fn build_program<'a>(alloc: Global) -> Result<Command<'a>, AllocError>
     let bare = build_bare(alloc);
     let replays = replay_commands::add_commands(alloc, bare)?;
     let days = day_commands::add_commands(alloc, replays)?;
-    word_commands::add_commands(alloc, days)
+    let histories = history_commands::add_commands(alloc, days)?;
+    word_commands::add_commands(alloc, histories)
 }
 
 /// The program before it has a command.

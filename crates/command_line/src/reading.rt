@@ -6,7 +6,7 @@ ghost use Rattle.command_line.specs.Commands.{HasFlag, IsOption, IsSaid, IsSaidB
 
 use crate::command::{
     Command, DemoOptions, ReplayOptions, ReportForm, ReportOptions, SalesOptions, ServeOptions,
-    StationOptions,
+    ShiftsOptions, StationOptions,
 };
 use clap::ArgMatches;
 
@@ -25,14 +25,16 @@ fn read_named<'a>(name: &str, words: &ArgMatches<'a>) -> Command<'a>
     ensures { IsSaid name.now (rows_of (found_of words.now)) result }
 {
     match name {
-        "check" => Command::Check(text(words, "FILE")),
+        "check" => Command::Check(read_text(words, "FILE")),
         "replay" => Command::Replay(read_replay(words)),
         "report" => Command::Report(read_report(words)),
         "sales" => Command::Sales(read_sales(words)),
         "serve" => Command::Serve(read_serve(words)),
         "station" => Command::Station(read_station(words)),
         "demo" => Command::Demo(read_demo(words)),
-        "explain" => Command::Explain(given(words, "NUMBER")),
+        "shifts" => Command::Shifts(read_shifts(words)),
+        "next" => Command::Next(read_text(words, "FOLDER")),
+        "explain" => Command::Explain(find_text(words, "NUMBER")),
         "spell" => Command::Spell,
         _ => Command::ReplayHere,
     }
@@ -42,7 +44,7 @@ fn read_replay<'a>(words: &ArgMatches<'a>) -> ReplayOptions<'a>
     ensures { IsSaid (codes "replay") (rows_of (found_of words.now)) (Command.Replay result) }
 {
     ReplayOptions {
-        site: text(words, "FILE"),
+        site: read_text(words, "FILE"),
         changes: is_given(words, "changes"),
     }
 }
@@ -58,7 +60,7 @@ fn read_report<'a>(words: &ArgMatches<'a>) -> ReportOptions<'a>
         ReportForm::Lines
     };
     ReportOptions {
-        site: text(words, "FILE"),
+        site: read_text(words, "FILE"),
         form,
     }
 }
@@ -67,7 +69,7 @@ fn read_sales<'a>(words: &ArgMatches<'a>) -> SalesOptions<'a>
     ensures { IsSaid (codes "sales") (rows_of (found_of words.now)) (Command.Sales result) }
 {
     SalesOptions {
-        site: text(words, "FILE"),
+        site: read_text(words, "FILE"),
         draws: is_given(words, "draws"),
         json: is_given(words, "json"),
     }
@@ -77,10 +79,10 @@ fn read_serve<'a>(words: &ArgMatches<'a>) -> ServeOptions<'a>
     ensures { IsSaid (codes "serve") (rows_of (found_of words.now)) (Command.Serve result) }
 {
     ServeOptions {
-        site: text(words, "FILE"),
-        port: text(words, "port"),
-        workers: text(words, "workers"),
-        sessions: text(words, "sessions"),
+        site: read_text(words, "FILE"),
+        port: read_text(words, "port"),
+        workers: read_text(words, "workers"),
+        sessions: read_text(words, "sessions"),
     }
 }
 
@@ -88,11 +90,11 @@ fn read_station<'a>(words: &ArgMatches<'a>) -> StationOptions<'a>
     ensures { IsSaid (codes "station") (rows_of (found_of words.now)) (Command.Station result) }
 {
     StationOptions {
-        site: text(words, "FILE"),
-        port: text(words, "port"),
-        journal: given(words, "journal"),
-        page: given(words, "page"),
-        idle: given(words, "idle"),
+        site: find_text(words, "FILE"),
+        port: read_text(words, "port"),
+        history: find_text(words, "history"),
+        page: find_text(words, "page"),
+        idle: find_text(words, "idle"),
         detached: is_given(words, "detached"),
         json: is_given(words, "json"),
     }
@@ -102,24 +104,33 @@ fn read_demo<'a>(words: &ArgMatches<'a>) -> DemoOptions<'a>
     ensures { IsSaid (codes "demo") (rows_of (found_of words.now)) (Command.Demo result) }
 {
     DemoOptions {
-        site: text(words, "FILE"),
-        script: text(words, "SCRIPT"),
+        site: read_text(words, "FILE"),
+        script: read_text(words, "SCRIPT"),
         loopback: is_given(words, "loopback"),
     }
 }
 
+fn read_shifts<'a>(words: &ArgMatches<'a>) -> ShiftsOptions<'a>
+    ensures { IsSaid (codes "shifts") (rows_of (found_of words.now)) (Command.Shifts result) }
+{
+    ShiftsOptions {
+        history: read_text(words, "FOLDER"),
+        json: is_given(words, "json"),
+    }
+}
+
 /// The text of an argument; empty where it isn't there, as no required one is.
-fn text<'a>(words: &ArgMatches<'a>, name: &str) -> &'a str
+fn read_text<'a>(words: &ArgMatches<'a>, name: &str) -> &'a str
     ensures { result.now ≡ text_in name.now (rows_of (found_of words.now)) }
 {
-    match given(words, name) {
+    match find_text(words, name) {
         Some(text) => text,
         None => "",
     }
 }
 
 /// The text of an argument, if it is there.
-fn given<'a>(words: &ArgMatches<'a>, name: &str) -> Option<&'a str>
+fn find_text<'a>(words: &ArgMatches<'a>, name: &str) -> Option<&'a str>
     ensures { IsOption name.now (rows_of (found_of words.now)) result }
 {
     words.get_str(name)

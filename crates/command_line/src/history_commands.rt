@@ -1,0 +1,41 @@
+//! The commands that read the folder of a history.
+
+ghost use Rattle.std.specs.Prelude.{◌≡◌, ◌∷◌, [], IfOk, codes};
+ghost use Rattle.clap.specs.Words.{app_of};
+ghost use Rattle.command_line.specs.Program.{HasShape, command, flag_rule, folder_rule};
+ghost use Rattle.command_line.specs.Program.{history_shapes, with_commands};
+
+use crate::arguments::{flag, history_folder};
+use crate::building::{add_argument, add_command, start};
+use clap::Command;
+use std::alloc::{AllocError, Global};
+
+/// The program with these commands.
+pub fn add_commands<'a>(alloc: Global, program: Command<'a>) -> Result<Command<'a>, AllocError>
+    ensures { IfOk result (λ p. app_of p ≡ with_commands (app_of program.entry) history_shapes) }
+{
+    let program = add_command(program, shifts(alloc)?)?;
+    add_command(program, next(alloc)?)
+}
+
+fn shifts<'a>(alloc: Global) -> Result<Command<'a>, AllocError>
+    ensures { IfOk result (HasShape (command (codes "shifts")
+        (folder_rule ∷ flag_rule (codes "json") ∷ []))) }
+{
+    let about = "Prints what each shift of a history cleared, a line for each";
+    let example = "Example: forecourt shifts history\n";
+    let json = "Prints an object of JSON a line, with what each till cleared";
+    let command = start(alloc, "shifts", about, example);
+    let command = add_argument(command, history_folder(alloc))?;
+    add_argument(command, flag(alloc, "json", json))
+}
+
+fn next<'a>(alloc: Global) -> Result<Command<'a>, AllocError>
+    ensures { IfOk result (HasShape (command (codes "next") (folder_rule ∷ []))) }
+{
+    let about = "Prints the site file with which a new history goes on where this one ended, or \
+                 what hinders that";
+    let example = "Example: forecourt next history > site.toml\n";
+    let command = start(alloc, "next", about, example);
+    add_argument(command, history_folder(alloc))
+}
