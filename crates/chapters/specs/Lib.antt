@@ -4,6 +4,7 @@ pub mod History
 pub mod ChapterText
 pub mod Seals
 pub mod HistoryEnds
+pub mod ChapterBegins
 pub mod ChapterReading
 pub mod Readers
 pub mod Laws

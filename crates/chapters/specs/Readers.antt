@@ -6,6 +6,7 @@ use Rattle.site_book.specs.Book.{Book}
 use Rattle.site_book.specs.Unpaid.{Kept}
 use Rattle.chapters.specs.declared.fault.HistoryFault.{HistoryFault}
 use Rattle.chapters.specs.declared.fault.HistoryFault.TheVariants.{Line, NotAfter}
+use Rattle.chapters.specs.declared.chapter_begin.ChapterBegin.{ChapterBegin}
 use Rattle.chapters.specs.ChapterReading.{HistoryRead, is_none_left, nothing_read, read_from}
 use Rattle.chapters.specs.ChapterReading.{read_line, read_lines, read_text}
 use Rattle.chapters.specs.ChapterText.{first_lines, text_of_lines}
@@ -13,13 +14,14 @@ use Rattle.chapters.specs.History.{IsMadeOf}
 use Rattle.chapters.specs.HistoryEnds.{EndState, EndsAt}
 use Rattle.chapters.specs.Lines.{unfinished, whole_lines}
 
--- the name of the site; the book of the rows, and what may be unpaid of it; where the text ends;
--- whether octets stand behind its last line feed
+-- the name of the site; the book of the rows, and what may be unpaid of it; where the text ends, and
+-- where its last chapter began; whether octets stand behind its last line feed
 pub record ReaderState : Type 0 where
   pub site : List ℕ
   pub book : Book
   pub unpaid : Kept
   pub end : EndState
+  pub begin : ChapterBegin
   pub torn : Bool
 
 -- what was read of the lines of so many chapters is what the reader keeps

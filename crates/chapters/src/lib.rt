@@ -2,6 +2,7 @@
 //! is read of them; and the law that they tell the history.
 #![tactic(auto)]
 
+mod chapter_begin;
 mod fault;
 mod first_lines;
 mod history_end;
@@ -11,6 +12,7 @@ mod request_line;
 mod row_lines;
 mod seal;
 
+pub use chapter_begin::{CHAPTER_ROWS, ChapterBegin};
 pub use fault::HistoryFault;
 pub use first_lines::site_name;
 pub use history_end::{HistoryEnd, MOST_CHAPTERS};

@@ -5,6 +5,7 @@ ghost use Rattle.std.specs.Prelude.{◌&&◌, None, false, length, not, string_b
 ghost use Rattle.site_book.specs.Book.{next_row};
 ghost use Rattle.site_book.specs.Unpaid.{GoesBy};
 ghost use Rattle.chapters.specs.declared.history_end.TheConstants.{MOST_CHAPTERS};
+ghost use Rattle.chapters.specs.ChapterBegins.{begin_of};
 ghost use Rattle.chapters.specs.ChapterReading.{HistoryRead, is_comment, read_line, read_text};
 ghost use Rattle.chapters.specs.ChapterText.{first_lines, text_of_lines};
 ghost use Rattle.chapters.specs.History.{IsMadeOf};
@@ -13,6 +14,7 @@ ghost use Rattle.chapters.specs.Readers.{AddsText, AreRead, AreWholeLines, EndsW
 ghost use Rattle.chapters.specs.Readers.{HasRead, IsOfText, IsRefusedBehind, KeepsLines, Names};
 ghost use Rattle.chapters.specs.Readers.{NamesRow};
 
+use crate::chapter_begin::ChapterBegin;
 use crate::fault::HistoryFault;
 use crate::first_lines::meet_first_lines;
 use crate::history_end::{HistoryEnd, SEAL_MARK};
@@ -36,6 +38,8 @@ pub struct HistoryReader {
     book: SiteBook,
     unpaid: UnpaidSales,
     end: HistoryEnd,
+    /// Where its last chapter began.
+    begin: ChapterBegin,
     /// Octets stand behind the last line feed.
     is_torn: bool,
 }
@@ -52,6 +56,7 @@ impl Model for HistoryReader {
       book = r.book;
       unpaid = r.unpaid;
       end = r.end;
+      begin = r.begin;
       torn = r.is_torn;
     } };
 
@@ -69,6 +74,8 @@ pub struct ReadHistory {
     pub unpaid: UnpaidSales,
     /// Where it ends, its torn last line left out.
     pub end: HistoryEnd,
+    /// Where its last chapter began.
+    pub begin: ChapterBegin,
 }
 
 impl HistoryReader {
@@ -78,13 +85,16 @@ impl HistoryReader {
         ensures config { IfOk result (λ r. r.book.config ≡ config.now) }
         ensures nothing { IfOk result (HasRead []) }
     {
+        let book = SiteBook::try_open(alloc, config)?;
+        let begin = ChapterBegin::of(&book);
         Ok(HistoryReader {
             alloc,
             site,
             lines: LineReader::new(alloc),
-            book: SiteBook::try_open(alloc, config)?,
+            book,
             unpaid: UnpaidSales::new(alloc),
             end: HistoryEnd::new(alloc)?,
+            begin,
             is_torn: false,
         })
     }
@@ -121,6 +131,7 @@ impl HistoryReader {
         ensures site { self.new.site ≡ self.old.site }
         ensures config { self.new.book.config ≡ self.old.book.config }
         ensures chapters { OnOk result (self.new.end.chapters ≡ self.old.end.chapters + 1) }
+        ensures begins { OnOk result (self.new.begin ≡ begin_of self.old.book) }
     {
         let number = self.end.chapters() + 1;
         if !self.is_ended() {
@@ -131,12 +142,14 @@ impl HistoryReader {
             Ok(first) => first,
             Err(fault) => return Err(fault),
         };
+        let begin = ChapterBegin::of(&self.book);
         let octets = first.as_bytes();
         self.end.begin_chapter(octets);
         let left = match self.read_lines(&text[octets.len()..]) {
             Ok(left) => left,
             Err(fault) => return Err(fault),
         };
+        self.begin = begin;
         self.is_torn = left != 0;
         Ok(text.len() - left)
     }
@@ -243,12 +256,14 @@ impl HistoryReader {
         ensures unpaid { result.unpaid ≡ self.unpaid }
         ensures goes { GoesBy result.unpaid result.book }
         ensures end { result.end ≡ self.end }
+        ensures begin { result.begin ≡ self.begin }
     {
         ReadHistory {
             site: self.site,
             book: self.book,
             unpaid: self.unpaid,
             end: self.end,
+            begin: self.begin,
         }
     }
 }

@@ -3,6 +3,7 @@ pub mod Readings
 pub mod Faults
 pub mod Memory
 pub mod Stored
+pub mod ChapterEnds
 pub mod Recovering
 pub mod Opening
 pub mod Laws

@@ -10,6 +10,7 @@ use Rattle.station.specs.Reads.{owed_at}
 use Rattle.journal.specs.declared.memory.TheConstants.{LEAST_ROWS}
 use Rattle.journal.specs.Disks.{DiskFile, GoesOn, Grows, Holds, Keeps, Moment, OfFile, OfFiles}
 use Rattle.journal.specs.Disks.{moment_of}
+use Rattle.chapters.specs.declared.chapter_begin.ChapterBegin.{ChapterBegin}
 use Rattle.chapters.specs.ChapterReading.{HistoryRead}
 use Rattle.chapters.specs.History.{IsHistory}
 use Rattle.chapters.specs.HistoryEnds.{EndState, EndsAt}
@@ -17,12 +18,15 @@ use Rattle.chapters.specs.RowText.{CanBeSpelled, IsSent, kept_behind, kept_first
 use Rattle.journal.specs.Readings.{TellsWhole}
 
 -- the name of its site, how many rows a journal has stored, whether a write or a flush has failed,
--- where its text ends, and its disk, where that is known
+-- where its text ends, where its open chapter began, at how many kept rows the next one was refused
+-- last, and its disk, where that is known
 pub record JournalState : Type 0 where
   pub site : List ℕ
   pub stored : ℕ
   pub failed : Bool
   pub end : EndState
+  pub begin : ChapterBegin
+  pub refused : Option ℕ
   pub file : Option DiskFile
 
 -- a station, the unpaid transactions as far as they were read, and its journal if it has one
@@ -73,12 +77,6 @@ has_stored count (Some j) = j.stored == count
 abbrev pub HasBegun : Bool → EndState → EndState → Type 0
 HasBegun begun old new =
     new.chapters ≡ (if begun then old.chapters + 1 else old.chapters)
-
--- .. of a station's journal; without one none has
-abbrev pub HasNextChapter : Bool → Option JournalState → Option JournalState → Type 0
-HasNextChapter begun None None = begun ≡ false
-HasNextChapter begun (Some a) (Some b) = HasBegun begun a.end b.end
-HasNextChapter begun a b = ⊥
 
 -- a journal goes on: its site stays, and so does what is on its disk, at each moment
 abbrev pub JournalGoesOn : Option JournalState → Option JournalState → Type 0

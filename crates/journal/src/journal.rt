@@ -1,19 +1,34 @@
 //! A journal that is written.
 
-ghost use Rattle.std.specs.Prelude.{◌≡◌, ◌≤◌, ◌<◌, [], IfOk, List, OnOk, false, length};
+ghost use Rattle.std.specs.Prelude.{◌≡◌, ◌≤◌, ◌<◌, [], IfOk, List, None, OnOk, false, length};
 ghost use Rattle.std.specs.Prelude.{string_bytes, true};
 ghost use Rattle.site_base.specs.declared.row.Row.{Row as RowFacts};
 ghost use Rattle.chapters.specs.declared.history_end.TheConstants.{MOST_CHAPTERS};
 ghost use Rattle.std.specs.List.{AllByRecursion};
 ghost use Rattle.chapters.specs.RowText.{IsSent, kept_behind};
+ghost use Rattle.journal.specs.ChapterEnds.{IsEnd, may_try, rows_kept};
 ghost use Rattle.journal.specs.Disks.{Keeps, OfFiles};
 ghost use Rattle.journal.specs.Stored.{GrowsByLines, HasBegun, IsJournalOf};
 
 use crate::disk::{Disk, DiskFault};
-use chapters::{HistoryEnd, MOST_CHAPTERS, put_rows};
+use chapters::{ChapterBegin, HistoryEnd, MOST_CHAPTERS, put_rows};
 use site_book::SiteBook;
 use std::alloc::Global;
 use std::marker::Model;
+
+/// Where the next chapter was refused, it is tried again so many kept rows later.
+pub const RETRY_ROWS: u64 = 1_024;
+
+/// What became of a chapter that may be over.
+#[derive(Clone, Copy, Debug, PartialEq, Eq)]
+pub enum ChapterEnd {
+    /// It isn't over, or the next one was refused not long ago: nothing is done.
+    NotDue,
+    /// It has ended, and the next one has begun.
+    Ended,
+    /// It is over, but there can't be a next one now: it goes on.
+    Refused,
+}
 
 /// A journal's disk, and how far it has come. Once a write has failed it takes no more.
 #[derive(Drop)]
@@ -22,6 +37,10 @@ pub struct Journal<D: Disk> {
     disk: D,
     site: String,
     end: HistoryEnd,
+    /// Where the open chapter began.
+    begin: ChapterBegin,
+    /// At how many kept rows the next chapter was refused last.
+    refused: Option<u64>,
     /// So many rows are stored.
     stored: u64,
     has_failed: bool,
@@ -40,17 +59,21 @@ impl<D: Disk> Model for Journal<D> {
       stored = j.stored;
       failed = j.has_failed;
       end = j.end;
+      begin = j.begin;
+      refused = j.refused;
       file = D.file j.disk;
     } };
 }
 
 impl<D: Disk> Journal<D> {
-    /// The journal of a site on this disk, whose chapters end so and have so many rows.
+    /// The journal of a site on this disk, whose chapters end so, the last of which began so, and
+    /// which have so many rows.
     pub(crate) fn new(
         alloc: Global,
         disk: D,
         site: String,
         end: HistoryEnd,
+        begin: ChapterBegin,
         stored: u64,
     ) -> Journal<D>
         ensures { result ≡ record {
@@ -58,6 +81,8 @@ impl<D: Disk> Journal<D> {
           stored = stored;
           failed = false;
           end = end;
+          begin = begin;
+          refused = None;
           file = D.file disk;
         } }
     {
@@ -66,6 +91,8 @@ impl<D: Disk> Journal<D> {
             disk,
             site,
             end,
+            begin,
+            refused: None,
             stored,
             has_failed: false,
             text: Vec::new(alloc),
@@ -124,13 +151,50 @@ impl<D: Disk> Journal<D> {
         Ok(())
     }
 
+    /// Ends the chapter if it is over: a shift was closed in it, or it has 1,000,000 rows. Where
+    /// the next one can't be made now, the open one goes on, and it is tried again 1,024 rows
+    /// later. Where the disk fails, or memory is wanting, the journal may take no more.
+    pub(crate) fn end_if_over(&mut self, book: &SiteBook) -> Result<ChapterEnd, DiskFault>
+        requires stored { self.old.stored ≡ length book.now.rows }
+        ensures end { IfOk result (λ end. IsEnd end book.now self.old self.new) }
+        ensures journal { (rows : List RowFacts) → IsJournalOf rows self.old
+            → IsJournalOf rows self.new }
+        ensures whole { self.old.failed ≡ false → OnOk result (self.new.failed ≡ false) }
+        ensures stored { self.new.stored ≡ self.old.stored }
+        ensures site { self.new.site ≡ self.old.site }
+        ensures moments { OfFiles Keeps self.old.file self.new.file }
+    {
+        if !self.begin.is_over(book) || !self.may_try(book) {
+            return Ok(ChapterEnd::NotDue);
+        }
+        if self.end_chapter()? {
+            self.begin = ChapterBegin::of(book);
+            self.refused = None;
+            return Ok(ChapterEnd::Ended);
+        }
+        self.refused = Some(book.kept_len());
+        Ok(ChapterEnd::Refused)
+    }
+
+    /// May the next chapter be tried, behind the last row of this book?
+    fn may_try(&self, book: &SiteBook) -> bool
+        ensures { result ≡ may_try self.now.refused (rows_kept book.now) }
+    {
+        match self.refused {
+            None => true,
+            Some(rows) => book.kept_len().saturating_sub(rows) >= RETRY_ROWS,
+        }
+    }
+
     /// Ends the chapter: a seal behind its rows, and then the next one with its first lines. It
     /// says whether that has begun. Where there can't be one now, the open one goes on, and it may
     /// be asked again. Where the disk fails, or memory is wanting, the journal may take no more.
-    pub(crate) fn end_chapter(&mut self) -> Result<bool, DiskFault>
+    fn end_chapter(&mut self) -> Result<bool, DiskFault>
         ensures journal { (rows : List RowFacts) → IsJournalOf rows self.old
             → IsJournalOf rows self.new }
         ensures begun { IfOk result (λ begun. HasBegun begun self.old.end self.new.end) }
+        ensures begin { self.new.begin ≡ self.old.begin }
+        ensures refused { self.new.refused ≡ self.old.refused }
         ensures whole { OnOk result (self.new.failed ≡ false) }
         ensures stored { self.new.stored ≡ self.old.stored }
         ensures site { self.new.site ≡ self.old.site }
@@ -156,6 +220,8 @@ impl<D: Disk> Journal<D> {
         ensures whole { OnOk result (self.new.failed ≡ false) }
         ensures sealed { OnOk result (self.new.end.sealed ≡ true) }
         ensures count { self.new.end.chapters ≡ self.old.end.chapters }
+        ensures begin { self.new.begin ≡ self.old.begin }
+        ensures refused { self.new.refused ≡ self.old.refused }
         ensures stored { self.new.stored ≡ self.old.stored }
         ensures site { self.new.site ≡ self.old.site }
         ensures moments { OfFiles Keeps self.old.file self.new.file }
@@ -180,6 +246,8 @@ impl<D: Disk> Journal<D> {
         ensures journal { (rows : List RowFacts) → IsJournalOf rows self.old
             → IsJournalOf rows self.new }
         ensures begun { IfOk result (λ begun. HasBegun begun self.old.end self.new.end) }
+        ensures begin { self.new.begin ≡ self.old.begin }
+        ensures refused { self.new.refused ≡ self.old.refused }
         ensures whole { OnOk result (self.new.failed ≡ false) }
         ensures stored { self.new.stored ≡ self.old.stored }
         ensures site { self.new.site ≡ self.old.site }

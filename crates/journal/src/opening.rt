@@ -109,7 +109,14 @@ pub fn resume<D: Disk>(
     let mut book = recovered.book;
     let rows = book.len();
     sign_off_all(&mut book);
-    let mut journal = Journal::new(alloc, disk, recovered.site, recovered.end, rows);
+    let mut journal = Journal::new(
+        alloc,
+        disk,
+        recovered.site,
+        recovered.end,
+        recovered.begin,
+        rows,
+    );
     match journal.store(&book) {
         Ok(()) => Ok(StoredStation::with_journal(alloc, book, recovered.unpaid, journal)),
         Err(fault) => Err(Unopened {

@@ -14,14 +14,15 @@ ghost use Rattle.site_book.specs.Unpaid.{GoesBy, unpaid_sales};
 ghost use Rattle.chapters.specs.History.{IsHistory, empty_book};
 ghost use Rattle.chapters.specs.RowText.{IsSent};
 ghost use Rattle.journal.specs.declared.memory.TheConstants.{LEAST_ROWS};
+ghost use Rattle.journal.specs.ChapterEnds.{IsEndOf};
 ghost use Rattle.journal.specs.Memory.{HasRoomToHear, IsSameOrForgets};
 ghost use Rattle.journal.specs.Opening.{HasNobodyOn};
-ghost use Rattle.journal.specs.Stored.{HasNextChapter, IsJournalOf, JournalGoesOn};
-ghost use Rattle.journal.specs.Stored.{LeavesReadsOut, is_all_stored};
+ghost use Rattle.journal.specs.Stored.{IsJournalOf, JournalGoesOn, LeavesReadsOut};
+ghost use Rattle.journal.specs.Stored.{is_all_stored};
 ghost use Rattle.journal.specs.Stored.{WritesLines, told_at, with_station};
 
 use crate::disk::{Disk, DiskFault};
-use crate::journal::Journal;
+use crate::journal::{ChapterEnd, Journal};
 use crate::memory::most_in_memory;
 use site_base::{NoMemory, SiteConfig};
 use site_book::{NamedSale, SiteBook, UnpaidSales};
@@ -181,18 +182,20 @@ impl<D: Disk> StoredStation<D> {
         }
     }
 
-    /// Ends the chapter of the journal, if there is one; says whether the next one has begun. Where
-    /// there can't be one now the open one goes on, and nothing is lost by a longer chapter. After
-    /// an error the journal may take no more.
-    pub fn end_chapter(&mut self) -> Result<bool, DiskFault>
+    /// Ends the chapter of the journal, if there is one that is over: a shift was closed in it, or
+    /// it has 1,000,000 rows. Where there can't be a next one now the open one goes on, and nothing
+    /// is lost by a longer chapter. After an error the journal may take no more.
+    pub fn end_chapter_if_over(&mut self) -> Result<ChapterEnd, DiskFault>
+        requires { is_all_stored self.old ≡ true }
         ensures station { self.new.station ≡ self.old.station }
-        ensures begun { IfOk result (λ begun.
-            HasNextChapter begun self.old.journal self.new.journal) }
+        ensures end { IfOk result (λ end.
+            IsEndOf end self.old.station.book self.old.journal self.new.journal) }
+        ensures stored { is_all_stored self.new ≡ true }
         ensures journal { JournalGoesOn self.old.journal self.new.journal }
     {
         match &mut self.journal {
-            None => Ok(false),
-            Some(journal) => journal.end_chapter(),
+            None => Ok(ChapterEnd::NotDue),
+            Some(journal) => journal.end_if_over(self.station.book()),
         }
     }
 

@@ -12,9 +12,10 @@ use crate::change_watch::ChangeWatch;
 use crate::due_list::DueList;
 use crate::link::{Channel, Link};
 use crate::naming::{EndedSession, PeerName};
+use crate::shift_warning::warn_of_last_shifts;
 use crate::sizes::CLOSING_SECONDS;
 use connection_calls::both_ways;
-use journal::{Disk, DiskFault, StoredStation};
+use journal::{ChapterEnd, Disk, DiskFault, StoredStation};
 use mio::net::TcpStream;
 use mio::{Registry, Token};
 use site_base::NoMemory;
@@ -35,6 +36,8 @@ pub struct Connections<D: Disk> {
     closing: usize,
     /// Whether a dispenser is told of a row, and those that are owed octets aren't sent them yet.
     changes: ChangeWatch,
+    /// That the history's chapter goes on, since there can't be a next one, was said.
+    has_told_refused: bool,
     ghost size: { length piece.items ≡ HEARD_OCTETS },
 }
 
@@ -55,6 +58,7 @@ impl<D: Disk> Connections<D> {
             due: DueList::new(alloc)?,
             closing: 0,
             changes,
+            has_told_refused: false,
         })
     }
 
@@ -105,6 +109,30 @@ impl<D: Disk> Connections<D> {
         ensures stored { OnOk result (is_all_stored self.new.stored ≡ true) }
     {
         self.stored.store()
+    }
+
+    /// Each row is stored: the history's chapter ends, if it is over. Where there can't be a next
+    /// one now it goes on, which is said once.
+    #[tactic(auto, using(crate::proofs::Reaching::moved))]
+    fn end_chapter<E: Eprint>(&mut self, rt: &E) -> Result<(), DiskFault>
+        requires { is_all_stored self.old.stored ≡ true }
+        ensures moves { Reaches self.old.stored.station self.new.stored.station }
+        ensures station { self.new.stored.station ≡ self.old.stored.station }
+        ensures stored { is_all_stored self.new.stored ≡ true }
+    {
+        match self.stored.end_chapter_if_over()? {
+            ChapterEnd::NotDue => return Ok(()),
+            ChapterEnd::Ended => self.has_told_refused = false,
+            ChapterEnd::Refused => {
+                if self.has_told_refused {
+                    return Ok(());
+                }
+                self.has_told_refused = true;
+                let _ = eprintln!(rt; "no new chapter can be made: the open one goes on");
+            }
+        }
+        warn_of_last_shifts(rt, self.stored.book().open_shift());
+        Ok(())
     }
 
     /// Are there sessions that have ended, and connections that haven't?
@@ -209,7 +237,8 @@ impl<D: Disk> Connections<D> {
     }
 
     /// Each row is stored; then whoever is due is sent what it is owed, and a session that has
-    /// ended is closed. Where the rows can't be stored nothing is sent.
+    /// ended is closed. Where the rows can't be stored nothing is sent. At the end the history's
+    /// chapter ends, if it is over.
     #[tactic(auto, using(crate::proofs::Reaching::moved))]
     pub fn send_due<E: Eprint>(
         &mut self,
@@ -223,7 +252,8 @@ impl<D: Disk> Connections<D> {
         self.store()?;
         self.send_each(registry, rt, now);
         // The sign-offs of sessions whose connections failed while they were sent to.
-        self.store()
+        self.store()?;
+        self.end_chapter(rt)
     }
 
     /// Whoever is due is sent what it may be told, and a session that has ended is closed.
@@ -404,9 +434,10 @@ impl<D: Disk> Connections<D> {
     }
 
     /// The day ends: each session ends, and what it is owed is sent as far as its connection takes
-    /// it, where each row is stored. Then each connection is closed: nobody is left.
+    /// it, where each row is stored. Then each connection is closed: nobody is left. The history's
+    /// chapter ends, if it is over.
     #[tactic(auto, using(crate::proofs::Reaching::moved))]
-    pub fn end_all(&mut self, now: Instant) -> Result<(), DiskFault>
+    pub fn end_all<E: Eprint>(&mut self, rt: &E, now: Instant) -> Result<(), DiskFault>
         ensures moves { Reaches self.old.stored.station self.new.stored.station }
         ensures left { HasNoPeer self.new.stored.station }
         ensures stored { OnOk result (is_all_stored self.new.stored ≡ true) }
@@ -416,7 +447,8 @@ impl<D: Disk> Connections<D> {
         self.send_last_to_all(now);
         self.remove_all();
         stored?;
-        self.store()
+        self.store()?;
+        self.end_chapter(rt)
     }
 
     /// Each session ends.

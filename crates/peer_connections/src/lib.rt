@@ -11,6 +11,7 @@ mod connections;
 mod due_list;
 mod link;
 mod naming;
+mod shift_warning;
 mod sizes;
 
 pub use connections::Connections;

@@ -140,7 +140,7 @@ impl StationServer {
         ensures stored { OnOk result (is_all_stored connections.new.stored ≡ true) }
     {
         let served = self.serve_rounds(threads, rt, connections, idle);
-        let ended = connections.end_all(self.time);
+        let ended = connections.end_all(rt, self.time);
         served?;
         ended?;
         Ok(())

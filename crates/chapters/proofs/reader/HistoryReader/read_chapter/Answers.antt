@@ -78,6 +78,7 @@ returns-in-Err-read_lines-clause-refused c = λ of_text texts h.
       book = c.self.inside.book;
       unpaid = c.self.inside.unpaid;
       end = c.begin_chapter.new.self;
+      begin = c.self.inside.begin;
       torn = c.self.inside.is_torn;
     } in
     let wrong = subst (λ (xs : List ℕ). (chapters : ℕ) (r : HistoryRead)
@@ -108,6 +109,7 @@ returns-in-Err-read_lines-clause-named c = λ of_text texts h.
       book = c.self.inside.book;
       unpaid = c.self.inside.unpaid;
       end = c.begin_chapter.new.self;
+      begin = c.self.inside.begin;
       torn = c.self.inside.is_torn;
     } in
     let wrong = subst (λ (xs : List ℕ). (chapters : ℕ) (r : HistoryRead)
@@ -138,6 +140,7 @@ returns-clause-read c = λ texts h.
       book = c.self.inside.book;
       unpaid = c.self.inside.unpaid;
       end = c.begin_chapter.new.self;
+      begin = c.self.inside.begin;
       torn = c.self.inside.is_torn;
     } in
     let reads = subst (λ (xs : List ℕ). (chapters : ℕ) (r : HistoryRead)
