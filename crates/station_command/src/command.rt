@@ -1,18 +1,18 @@
-//! `forecourt station FILE --port N [--journal JOURNAL] [--page N] [--idle SECONDS] [--detached]
+//! `forecourt station [FILE] [--history FOLDER] --port N [--page N] [--idle SECONDS] [--detached]
 //! [--json]`.
 
 ghost use Rattle.std.specs.Prelude.{◌≡◌};
 ghost use Rattle.station.specs.Runs.{opening_station};
 ghost use Rattle.journal.specs.Opening.{HasNobodyOn};
 
+use crate::found::{FoundHistory, print_found};
+use crate::histories::{open_kept, open_unkept};
 use crate::input_watch::InputWatch;
-use crate::journals::open_station;
-use crate::station_site::read_station_site;
 use command_line::StationOptions;
 use day_base::{DayFault, ReportForm, StationPlan, exit_day};
-use devices::{Counted, WriteFault};
+use devices::Counted;
+use history_files::HistoryDisk;
 use journal::Opened;
-use journal_files::JournalFile;
 use peer_connections::Connections;
 use program_io::{COMMAND_LINE, TURNS, exit_with};
 use station_days::{station_day, to_day_fault};
@@ -40,8 +40,9 @@ impl<R: Files<File = File> + Net + Clock + RandomSource + Print + Eprint + Alloc
     for R {}
 
 /// Serves every till and dispenser of a site until this input ends, and prints the report of the
-/// day; with `--detached` until the system stops it. Wrong numbers come before the site file, its
-/// faults before the journal's, and those before the listener's.
+/// day; with `--detached` until the system stops it. Wrong numbers come before a folder that is in
+/// use, that before faults of the site file, those before the history's, and those before the
+/// listener's.
 pub fn run_station<R: StationHost, T: Threads + Wait + Sync, I: Read + Send + Drop + 'static>(
     rt: &R,
     threads: &T,
@@ -52,45 +53,52 @@ pub fn run_station<R: StationHost, T: Threads + Wait + Sync, I: Read + Send + Dr
         Ok(plan) => plan,
         Err(fault) => return exit_with(eprintln!(rt; "error: {fault}"), COMMAND_LINE),
     };
-    let (config, site_file) = match read_station_site(rt, options.site) {
-        Ok(site) => site,
-        Err(status) => return status,
+    let opened = match (options.history, options.site) {
+        (Some(folder), site) => open_kept(rt, folder, site),
+        (None, Some(site)) => open_unkept(rt, site),
+        (None, None) => {
+            return exit_with(
+                eprintln!(rt; "error: a station needs a site file or --history FOLDER"),
+                COMMAND_LINE,
+            );
+        }
     };
-    match open_station(rt, &config, &site_file, options.journal) {
-        Ok(opened) => {
-            let end = serve_on(rt, threads, input, opened, plan, options);
+    match opened {
+        Ok((opened, found)) => {
+            let end = serve_on(rt, threads, input, opened, found, plan, options);
             exit_day(rt, end)
         }
         Err(status) => status,
     }
 }
 
-/// Listens, and serves a day of this station. Where its journal had rows, it says how many.
+/// Listens, and serves a day of this station, of whose history this was found.
 fn serve_on<R: StationHost, T: Threads + Wait + Sync, I: Read + Send + Drop + 'static>(
     rt: &R,
     threads: &T,
     input: I,
-    opened: Opened<JournalFile<'_, R>>,
+    opened: Opened<HistoryDisk<'_, R>>,
+    found: FoundHistory,
     plan: StationPlan,
     options: StationOptions<'_>,
 ) -> Result<(), DayFault>
     requires alone { opened.station.station ≡ opening_station opened.station.station.book }
     requires off { HasNobodyOn opened.station.station.book }
 {
-    let rows = opened.rows;
     let mut connections = Connections::new(rt.alloc(), opened.station)?;
-    let end = serve_peers(rt, threads, input, rows, &mut connections, plan, options);
+    let end = serve_peers(rt, threads, input, found, &mut connections, plan, options);
     connections.close();
     end
 }
 
-/// Listens, and serves a day of the station of these connections, whose journal had so many rows.
+/// Listens, and serves a day of the station of these connections, of whose history this was
+/// found.
 fn serve_peers<R: StationHost, T: Threads + Wait + Sync, I: Read + Send + Drop + 'static>(
     rt: &R,
     threads: &T,
     input: I,
-    rows: u64,
-    connections: &mut Connections<JournalFile<'_, R>>,
+    found: FoundHistory,
+    connections: &mut Connections<HistoryDisk<'_, R>>,
     plan: StationPlan,
     options: StationOptions<'_>,
 ) -> Result<(), DayFault>
@@ -104,7 +112,7 @@ fn serve_peers<R: StationHost, T: Threads + Wait + Sync, I: Read + Send + Drop +
                 rt,
                 threads,
                 input,
-                rows,
+                found,
                 connections,
                 &mut server,
                 plan,
@@ -122,8 +130,8 @@ fn serve_until_end<R: StationHost, T: Threads + Wait + Sync, I: Read + Send + Dr
     rt: &R,
     threads: &T,
     input: I,
-    rows: u64,
-    connections: &mut Connections<JournalFile<'_, R>>,
+    found: FoundHistory,
+    connections: &mut Connections<HistoryDisk<'_, R>>,
     server: &mut StationServer,
     plan: StationPlan,
     options: StationOptions<'_>,
@@ -136,7 +144,7 @@ fn serve_until_end<R: StationHost, T: Threads + Wait + Sync, I: Read + Send + Dr
         return serve_day(
             rt,
             threads,
-            rows,
+            found,
             connections,
             server,
             plan.idle,
@@ -151,7 +159,7 @@ fn serve_until_end<R: StationHost, T: Threads + Wait + Sync, I: Read + Send + Dr
     let end = serve_day(
         rt,
         threads,
-        rows,
+        found,
         connections,
         server,
         plan.idle,
@@ -161,12 +169,12 @@ fn serve_until_end<R: StationHost, T: Threads + Wait + Sync, I: Read + Send + Dr
     end
 }
 
-/// Says how many rows the journal had, if it had some, and serves a day.
+/// Says what was found of the history, and serves a day.
 fn serve_day<R: StationHost, T: Wait>(
     rt: &R,
     threads: &T,
-    rows: u64,
-    connections: &mut Connections<JournalFile<'_, R>>,
+    found: FoundHistory,
+    connections: &mut Connections<HistoryDisk<'_, R>>,
     server: &mut StationServer,
     idle: Option<u64>,
     json: bool,
@@ -175,7 +183,7 @@ fn serve_day<R: StationHost, T: Wait>(
         ≡ opening_station connections.old.stored.station.book }
     requires off { HasNobodyOn connections.old.stored.station.book }
 {
-    print_rows(rt, rows)?;
+    print_found(rt, found)?;
     let mut writer = Counted::new(io::writer(rt));
     let mut left = TURNS;
     station_day(
@@ -212,16 +220,5 @@ fn report_form(json: bool) -> ReportForm {
         ReportForm::Json
     } else {
         ReportForm::Text
-    }
-}
-
-/// Prints how many rows the journal had, if it had some.
-fn print_rows(rt: &impl Print, rows: u64) -> Result<(), DayFault> {
-    if rows == 0 {
-        return Ok(());
-    }
-    match println!(rt; "journal rows {rows}") {
-        Ok(()) => Ok(()),
-        Err(_) => Err(DayFault::Write(WriteFault::Failed)),
     }
 }

@@ -1,0 +1,100 @@
+//! Why a history's folder can't be used.
+
+ghost use Rattle.std.specs.Prelude.{◌≡◌, ◌≢◌, ℕ};
+ghost use Rattle.std.specs.IoError.{error_kind};
+
+use history_folder::FolderFault;
+use journal::DiskFault;
+use site_base::NoMemory;
+use std::alloc::AllocError;
+use std::io;
+use std::io::ErrorKind;
+
+/// Why a history's folder isn't there to be used.
+#[derive(Clone, Copy, Debug, PartialEq, Eq)]
+pub enum FileFault {
+    /// An allocation failed.
+    NoMemory,
+    /// The folder or a file in it can't be opened, or is none.
+    Unread,
+    /// Another process has it, or this one prints into one of its files.
+    InUse,
+    /// This process prints its faults into one of its files, so this one isn't printed.
+    Untold,
+    /// It can't be made for good.
+    Unwritten,
+    /// There is no chapter of this number, while there is one of a greater number.
+    Missing(u64),
+}
+
+impl From<AllocError> for FileFault {
+    ghost use Rattle.std.specs.Prelude.{◌≡◌};
+    ghost use Rattle.history_files.specs.declared.fault.FileFault.{FileFault};
+
+    ghost from_gives = { λ _ e. e ≡ FileFault.NoMemory };
+
+    fn from(_e: AllocError) -> FileFault {
+        FileFault::NoMemory
+    }
+}
+
+impl From<NoMemory> for FileFault {
+    ghost use Rattle.std.specs.Prelude.{◌≡◌};
+    ghost use Rattle.history_files.specs.declared.fault.FileFault.{FileFault};
+
+    ghost from_gives = { λ _ e. e ≡ FileFault.NoMemory };
+
+    fn from(_e: NoMemory) -> FileFault {
+        FileFault::NoMemory
+    }
+}
+
+/// The fault of a folder whose chapters aren't counted.
+pub fn fault_of_folder(fault: FolderFault) -> FileFault
+    ensures missing { (k : ℕ) → fault ≡ FolderFault.Missing k → result ≡ FileFault.Missing k }
+    ensures memory { fault ≡ FolderFault.NoMemory → result ≡ FileFault.NoMemory }
+    ensures unread { fault ≡ FolderFault.Unread → result ≡ FileFault.Unread }
+{
+    match fault {
+        FolderFault::NoMemory => FileFault::NoMemory,
+        FolderFault::Unread => FileFault::Unread,
+        FolderFault::Missing(number) => FileFault::Missing(number),
+    }
+}
+
+/// The fault of a file that can't be opened.
+pub fn fault_of(error: &io::Error) -> FileFault
+    ensures memory { error_kind error.now ≡ ErrorKind.OutOfMemory → result ≡ FileFault.NoMemory }
+    ensures unread { error_kind error.now ≢ ErrorKind.OutOfMemory → result ≡ FileFault.Unread }
+{
+    if error.kind() == ErrorKind::OutOfMemory {
+        FileFault::NoMemory
+    } else {
+        FileFault::Unread
+    }
+}
+
+/// The fault of a file that can't be made for good.
+pub fn fault_of_write(error: &io::Error) -> FileFault
+    ensures memory { error_kind error.now ≡ ErrorKind.OutOfMemory → result ≡ FileFault.NoMemory }
+    ensures unwritten { error_kind error.now ≢ ErrorKind.OutOfMemory
+        → result ≡ FileFault.Unwritten }
+{
+    if error.kind() == ErrorKind::OutOfMemory {
+        FileFault::NoMemory
+    } else {
+        FileFault::Unwritten
+    }
+}
+
+/// The fault of a disk whose call failed so.
+pub fn disk_fault_of(error: &io::Error) -> DiskFault
+    ensures memory { error_kind error.now ≡ ErrorKind.OutOfMemory → result ≡ DiskFault.NoMemory }
+    ensures failed { error_kind error.now ≢ ErrorKind.OutOfMemory → result ≡ DiskFault.Failed }
+{
+    if error.kind() == ErrorKind::OutOfMemory {
+        DiskFault::NoMemory
+    } else {
+        DiskFault::Failed
+    }
+}

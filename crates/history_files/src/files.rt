@@ -1,0 +1,81 @@
+//! Opening the files of a history's folder, and the folder.
+
+ghost use Rattle.std.specs.Prelude.{◌≡◌, ◌⊎◌, IfErr};
+
+use crate::fault::{FileFault, fault_of};
+use crate::identity::is_at;
+use crate::lock::lock;
+use crate::streams::check_streams;
+use std::fs::{DirBuilder, File, OpenOptions};
+use std::io::ErrorKind;
+use std::os::unix::fs::{DirBuilderExt, OpenOptionsExt};
+use std::rt::Files;
+use std::{fs, io};
+
+/// The permissions of a new file: its owner reads and writes it, and nobody else.
+const OWNER_ALONE: u32 = 0o600;
+
+/// The permissions of a new folder: its owner uses it, and nobody else.
+const OWNERS_FOLDER: u32 = 0o700;
+
+/// Makes the folder of this name. The folder in which it lies has to be there.
+pub fn make_folder(rt: &impl Files, folder: &str) -> io::Result<()> {
+    DirBuilder::new().mode(OWNERS_FOLDER).create(rt, folder)
+}
+
+/// Has on the disk which files the folder of this name has.
+pub fn flush_folder<R: Files<File = File>>(rt: &R, folder: &str) -> io::Result<()> {
+    OpenOptions::new().read(true).open(rt, folder)?.sync_all()
+}
+
+/// Opens the file of this name, or makes it, for this process alone: it is locked, and the process
+/// prints nothing into it.
+pub fn open_alone<R: Files<File = File>>(rt: &R, name: &str) -> Result<File, FileFault> {
+    let file = open_or_make(rt, name)?;
+    check_streams(rt, &file)?;
+    match lock(&file) {
+        Ok(()) => {}
+        Err(error) if error.kind() == ErrorKind::WouldBlock => return Err(FileFault::InUse),
+        Err(error) => return Err(fault_of(&error)),
+    }
+    if is_at(rt, name, &file) {
+        Ok(file)
+    } else {
+        Err(FileFault::InUse)
+    }
+}
+
+/// Opens the file of this name, or makes it. What is no file is `Unread`, and so is a link.
+fn open_or_make<R: Files<File = File>>(rt: &R, name: &str) -> Result<File, FileFault>
+    ensures { IfErr result (λ f. (f ≡ FileFault.NoMemory) ⊎ (f ≡ FileFault.Unread)) }
+{
+    match fs::symlink_metadata(rt, name) {
+        Ok(found) if !found.is_file() => return Err(FileFault::Unread),
+        Err(error) if error.kind() != ErrorKind::NotFound => return Err(fault_of(&error)),
+        _ => {}
+    }
+    match open_by(rt, OpenOptions::new().create(true), name) {
+        Ok(file) => Ok(file),
+        Err(error) => Err(fault_of(&error)),
+    }
+}
+
+/// Opens a file so, for reads and for writes at its end. Its descriptor is none of the standard
+/// streams', even where they are closed.
+pub fn open_by<R: Files<File = File>>(
+    rt: &R,
+    options: &mut OpenOptions,
+    name: &str,
+) -> io::Result<File> {
+    options.read(true).append(true).mode(OWNER_ALONE);
+    options.open(rt, name)?.try_clone()
+}
+
+/// All octets of the file of this name. What is no file isn't opened: it might never end.
+pub fn read_file<R: Files + AllocGlobal>(rt: &R, name: &str) -> io::Result<Vec<u8>> {
+    if fs::metadata(rt, name)?.is_file() {
+        fs::read(rt, name)
+    } else {
+        Err(io::Error::from(ErrorKind::InvalidInput))
+    }
+}

@@ -1,0 +1,145 @@
+//! The folder of a history, for one process alone.
+
+ghost use Rattle.std.specs.Prelude.{◌≡◌, ◌-◌, IfOk, string_bytes};
+ghost use Rattle.history_folder.specs.Names.{IsChapter, chapter_name, path_in};
+ghost use Rattle.history_files.specs.Counts.{chapters_closed, chapters_found, octets_flushed};
+ghost use Rattle.history_files.specs.Counts.{octets_put};
+
+use crate::copies::{Place, Put, put_copy};
+use crate::fault::{FileFault, fault_of, fault_of_folder, fault_of_write};
+use crate::files::{flush_folder, make_folder, open_alone, read_file};
+use crate::history_disk::HistoryDisk;
+use crate::locked::HistoryFolder;
+use crate::streams::check_all_streams;
+use history_folder::{SITE_FILE, chapter_name, count_chapters, path_in};
+use site_base::NoMemory;
+use std::alloc::Global;
+use std::fs::File;
+use std::io::ErrorKind;
+use std::rt::Files;
+
+/// The file by whose lock a folder is one process's alone.
+const LOCK: &str = "lock";
+
+impl<'a, R: Files<File = File> + AllocGlobal> HistoryFolder<'a, R> {
+    /// Locks the folder of this name. It is made if it isn't there, but not the one in which it
+    /// lies.
+    ///
+    /// `InUse` comes where another process has it, and `Missing` where the number of a chapter is
+    /// left out.
+    pub fn lock(rt: &'a R, folder: &str) -> Result<HistoryFolder<'a, R>, FileFault> {
+        make_for_good(rt, folder)?;
+        let path = path_in(rt.alloc(), folder, LOCK)?;
+        let lock = open_alone(rt, path.as_str())?;
+        match flush_folder(rt, folder) {
+            Ok(()) => {}
+            Err(error) => return Err(fault_of_write(&error)),
+        }
+        let chapters = match count_chapters(rt, folder) {
+            Ok(chapters) => chapters,
+            Err(fault) => return Err(fault_of_folder(fault)),
+        };
+        check_all_streams(rt, folder, chapters)?;
+        Ok(HistoryFolder {
+            rt,
+            folder: String::from_str(rt.alloc(), folder)?,
+            lock,
+            chapters,
+        })
+    }
+
+    /// So many chapters it has.
+    pub fn chapters(&self) -> u64
+        ensures { result ≡ chapters_found self.now }
+    {
+        self.chapters
+    }
+
+    /// The octets of its site file; None where it has none.
+    pub fn site_file(&self) -> Result<Option<Vec<u8>>, FileFault> {
+        let path = path_in(self.rt.alloc(), self.folder.as_str(), SITE_FILE)?;
+        match read_file(self.rt, path.as_str()) {
+            Ok(octets) => Ok(Some(octets)),
+            Err(error) if error.kind() == ErrorKind::NotFound => Ok(None),
+            Err(error) => Err(fault_of(&error)),
+        }
+    }
+
+    /// Keeps these octets as its site file, of which there is none yet. They are on the disk before
+    /// this answers.
+    pub fn keep_site_file(&self, octets: &[u8]) -> Result<(), FileFault> {
+        let path = path_in(self.rt.alloc(), self.folder.as_str(), SITE_FILE)?;
+        match put_copy(self.rt, &Place::Free, None, path.as_str(), octets) {
+            Put::Done(_) => {}
+            Put::Undone(error) => return Err(fault_of_write(&error)),
+            Put::Unknown => return Err(FileFault::Unwritten),
+        }
+        match flush_folder(self.rt, self.folder.as_str()) {
+            Ok(()) => Ok(()),
+            Err(error) => Err(fault_of_write(&error)),
+        }
+    }
+
+    /// Its chapters as a disk: the last one is open. Where there is none yet, the first one is made
+    /// as the disk is renewed.
+    pub fn into_disk(self) -> Result<HistoryDisk<'a, R>, FileFault>
+        ensures closed { IfOk result (λ disk. chapters_closed disk ≡ chapters_found self.entry - 1) }
+        ensures put { IfOk result (λ disk. octets_put disk ≡ 0) }
+        ensures flushed { IfOk result (λ disk. octets_flushed disk ≡ 0) }
+    {
+        let HistoryFolder {
+            rt,
+            folder,
+            lock,
+            chapters,
+        } = self;
+        let closed = chapters.saturating_sub(1);
+        let path = chapter_path(rt.alloc(), folder.as_str(), closed + 1)?;
+        let open = if chapters == 0 {
+            None
+        } else {
+            Some(open_alone(rt, path.as_str())?)
+        };
+        Ok(HistoryDisk {
+            rt,
+            folder,
+            lock,
+            closed,
+            path,
+            open,
+            len: 0,
+            flushed: 0,
+            is_own: false,
+        })
+    }
+}
+
+/// Makes the folder of this name, if it isn't there, and has it on the disk.
+fn make_for_good<R: Files<File = File> + AllocGlobal>(
+    rt: &R,
+    folder: &str,
+) -> Result<(), FileFault> {
+    let above = path_in(rt.alloc(), folder, "..")?;
+    match make_folder(rt, folder) {
+        Ok(()) => match flush_folder(rt, above.as_str()) {
+            Ok(()) => Ok(()),
+            Err(error) => Err(fault_of_write(&error)),
+        },
+        Err(error) if error.kind() == ErrorKind::AlreadyExists => {
+            // An earlier start may have ended before it did this.
+            let _ = flush_folder(rt, above.as_str());
+            Ok(())
+        }
+        Err(error) => Err(fault_of(&error)),
+    }
+}
+
+/// The path of the chapter of this number.
+pub(crate) fn chapter_path(alloc: Global, folder: &str, number: u64) -> Result<String, NoMemory>
+    requires { IsChapter number }
+    ensures { IfOk result (λ path.
+        string_bytes path ≡ path_in folder.now (chapter_name number)) }
+{
+    let name = chapter_name(alloc, number)?;
+    path_in(alloc, folder, name.as_str())
+}

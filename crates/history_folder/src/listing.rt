@@ -1,0 +1,49 @@
+//! The chapters that a folder has.
+
+ghost use Rattle.std.specs.Prelude.{◌≤◌, IfOk};
+ghost use Rattle.std.specs.List.{All};
+ghost use Rattle.chapters.specs.declared.history_end.TheConstants.{MOST_CHAPTERS};
+ghost use Rattle.history_folder.specs.Names.{IsChapter};
+
+use crate::fault::{FolderFault, fault_of};
+use crate::names::chapter_number;
+use crate::numbers::last_of;
+use std::fs;
+use std::io::ErrorKind;
+use std::rt::Files;
+
+/// How many chapters a folder has. Files whose names are no chapter's don't count.
+///
+/// `Unread` comes where the folder can't be listed, and `Missing` where a number is left out.
+pub fn count_chapters<R: Files + AllocGlobal>(rt: &R, folder: &str) -> Result<u64, FolderFault>
+    ensures { IfOk result (λ count. count ≤ MOST_CHAPTERS) }
+{
+    match list_chapters(rt, folder) {
+        Ok(numbers) => last_of(numbers),
+        Err(fault) => Err(fault),
+    }
+}
+
+/// The numbers of the chapters of a folder, in any order.
+fn list_chapters<R: Files + AllocGlobal>(rt: &R, folder: &str) -> Result<Vec<u64>, FolderFault>
+    ensures { IfOk result (λ numbers. All IsChapter numbers.items) }
+{
+    let entries = match fs::read_dir(&rt, folder) {
+        Ok(entries) => entries,
+        Err(error) => return Err(fault_of(&error)),
+    };
+    let mut numbers = Vec::new(rt.alloc());
+    for entry in entries {
+        match entry {
+            Ok(entry) => {
+                if let Some(number) = chapter_number(entry.file_name()) {
+                    numbers.push(number)?;
+                }
+            }
+            // A name that isn't text is no chapter's.
+            Err(error) if error.kind() == ErrorKind::InvalidFilename => {}
+            Err(error) => return Err(fault_of(&error)),
+        }
+    }
+    Ok(numbers)
+}

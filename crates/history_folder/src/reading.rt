@@ -1,0 +1,103 @@
+//! A folder's history, read.
+
+ghost use Rattle.std.specs.Prelude.{◌≡◌, ◌≤◌, [], IfErr, IfOk, OnOk, string_bytes};
+ghost use Rattle.site_book.specs.Unpaid.{GoesBy};
+ghost use Rattle.chapters.specs.ChapterText.{site_name};
+ghost use Rattle.chapters.specs.Readers.{HasRead};
+ghost use Rattle.chapters.specs.declared.history_end.TheConstants.{MOST_CHAPTERS};
+ghost use Rattle.history_folder.specs.Names.{IsChapter, chapter_name, path_in};
+ghost use Rattle.history_folder.specs.Reading.{HasReadSome, IsRead};
+ghost use Rattle.program_io.specs.Statuses.{IsFailed};
+
+use crate::exit::{exit_folder, exit_history};
+use crate::listing::count_chapters;
+use crate::names::{chapter_name, path_in};
+use crate::site::read_folder_site;
+use chapters::{HistoryReader, ReadHistory, site_name};
+use program_io::{exit_no_memory, read_file};
+use site_base::{NoMemory, SiteConfig};
+use std::alloc::Global;
+use std::process::ExitCode;
+use std::rt::Files;
+
+/// What is read of the history in a folder, or how the program ends: a file can't be read, or has a
+/// fault, or a chapter is missing. The torn last line of the last chapter is left out. A folder
+/// without chapters is an empty history.
+pub fn read_folder<R: Files + Eprint + AllocGlobal>(
+    rt: &R,
+    folder: &str,
+) -> Result<ReadHistory, ExitCode>
+    ensures read { IfOk result IsRead }
+    ensures unpaid { IfOk result (λ read. GoesBy read.unpaid read.book) }
+    ensures failed { IfErr result IsFailed }
+{
+    let (config, site_file) = read_folder_site(rt, folder)?;
+    let count = match count_chapters(rt, folder) {
+        Ok(count) => count,
+        Err(fault) => return Err(exit_folder(rt, folder, fault)),
+    };
+    let mut reader = match open_reader(rt.alloc(), &config, &site_file) {
+        Ok(reader) => reader,
+        Err(_) => return Err(exit_no_memory(rt)),
+    };
+    read_chapters(rt, folder, count, &mut reader)?;
+    Ok(reader.into_read())
+}
+
+/// A reader of the history of the site of this file.
+fn open_reader(
+    alloc: Global,
+    config: &SiteConfig,
+    site_file: &[u8],
+) -> Result<HistoryReader, NoMemory>
+    ensures { IfOk result (HasRead []) }
+{
+    HistoryReader::open(alloc, config, site_name(alloc, site_file)?)
+}
+
+/// Reads so many chapters, one after another.
+fn read_chapters<R: Files + Eprint + AllocGlobal>(
+    rt: &R,
+    folder: &str,
+    count: u64,
+    reader: &mut HistoryReader,
+) -> Result<(), ExitCode>
+    requires none { HasRead [] reader.old }
+    requires few { count ≤ MOST_CHAPTERS }
+    ensures read { OnOk result (HasReadSome count reader.new) }
+    ensures failed { IfErr result IsFailed }
+{
+    for place in 0..count {
+        let text = read_chapter(rt, folder, place + 1)?;
+        match reader.read_chapter(&text) {
+            Ok(_) => {}
+            Err(fault) => return Err(exit_history(rt, fault)),
+        }
+    }
+    Ok(())
+}
+
+/// The octets of the chapter of this number, or how the program ends.
+fn read_chapter<R: Files + Eprint + AllocGlobal>(
+    rt: &R,
+    folder: &str,
+    number: u64,
+) -> Result<Vec<u8>, ExitCode>
+    requires { IsChapter number }
+    ensures failed { IfErr result IsFailed }
+{
+    match chapter_path(rt.alloc(), folder, number) {
+        Ok(path) => read_file(rt, path.as_str()),
+        Err(_) => Err(exit_no_memory(rt)),
+    }
+}
+
+/// The path of the chapter of this number.
+fn chapter_path(alloc: Global, folder: &str, number: u64) -> Result<String, NoMemory>
+    requires { IsChapter number }
+    ensures { IfOk result (λ path.
+        string_bytes path ≡ path_in folder.now (chapter_name number)) }
+{
+    let name = chapter_name(alloc, number)?;
+    path_in(alloc, folder, name.as_str())
+}

@@ -1,0 +1,45 @@
+//! The site file of a folder.
+
+ghost use Rattle.std.specs.Prelude.{◌≡◌, IfErr, IfOk, Ok};
+ghost use Rattle.program_io.specs.Statuses.{IsFailed};
+ghost use Rattle.site_file.specs.SiteFile.{config_of};
+
+use crate::names::{SITE_FILE, path_in};
+use program_io::{FAULT, exit_no_memory, exit_with, read_file};
+use site_base::SiteConfig;
+use site_file::{ConfigFault, read_config};
+use std::process::ExitCode;
+use std::rt::Files;
+
+/// The site of a folder, with the octets of its site file, or how the program ends: the file can't
+/// be read, or has a fault.
+pub fn read_folder_site<R: Files + Eprint + AllocGlobal>(
+    rt: &R,
+    folder: &str,
+) -> Result<(SiteConfig, Vec<u8>), ExitCode>
+    ensures read { IfOk result (λ site. config_of site.1.items ≡ Ok site.0) }
+    ensures failed { IfErr result IsFailed }
+{
+    let path = match path_in(rt.alloc(), folder, SITE_FILE) {
+        Ok(path) => path,
+        Err(_) => return Err(exit_no_memory(rt)),
+    };
+    let octets = read_file(rt, path.as_str())?;
+    let config = site_in_folder(rt, &octets)?;
+    Ok((config, octets))
+}
+
+/// The site that the octets of a folder's site file say, or how the program ends.
+pub fn site_in_folder<R: Eprint + AllocGlobal>(
+    rt: &R,
+    octets: &[u8],
+) -> Result<SiteConfig, ExitCode>
+    ensures read { IfOk result (λ config. config_of octets.now ≡ Ok config) }
+    ensures failed { IfErr result IsFailed }
+{
+    match read_config(rt.alloc(), octets) {
+        Ok(config) => Ok(config),
+        Err(ConfigFault::NoMemory) => Err(exit_no_memory(rt)),
+        Err(fault) => Err(exit_with(eprintln!(rt; "{SITE_FILE}: {fault}"), FAULT)),
+    }
+}

@@ -1,0 +1,59 @@
+//! What hinders the end of a history.
+
+ghost use Rattle.std.specs.Prelude.{Some};
+ghost use Rattle.std.specs.Fmt.{DisplaysOnOk};
+ghost use Rattle.next_opening.specs.Obstacles.{money, unpaid_words};
+
+use site_base::{Cents, FpNo};
+use site_book::NamedSale;
+use std::fmt;
+
+/// What hinders the end of a history. It is printed with its point: `point 3: sale 17 of shift 2 is
+/// unpaid: 12.00`, `point 4 is released`, `point 5: a fuelling is under way`.
+#[derive(Clone, Copy, Drop)]
+pub enum Obstacle {
+    /// A transaction is payable or locked.
+    Unpaid(NamedSale),
+    /// A point is released, and no nozzle is out yet.
+    Released(FpNo),
+    /// A fuelling of a point has started and isn't over.
+    UnderWay(FpNo),
+}
+
+impl fmt::Display for Obstacle {
+    ghost use Rattle.std.specs.Prelude.{Some};
+    ghost use Rattle.next_opening.specs.Obstacles.{obstacle_text};
+
+    ghost output = { λ obstacle. Some (obstacle_text obstacle) };
+
+    fn fmt<W: fmt::Write>(&self, f: &mut fmt::Formatter<W>) -> fmt::Result {
+        match self {
+            Obstacle::Unpaid(sold) => {
+                write_unpaid(f, sold)?;
+                write_money(f, sold.sale.cents)
+            }
+            Obstacle::Released(point) => write!(f, "point {} is released", point.get()),
+            Obstacle::UnderWay(point) => {
+                write!(f, "point {}: a fuelling is under way", point.get())
+            }
+        }
+    }
+}
+
+/// Writes which transaction is unpaid.
+fn write_unpaid<W: fmt::Write>(f: &mut fmt::Formatter<W>, sold: &NamedSale) -> fmt::Result
+    ensures { DisplaysOnOk W.Write.write_str_gives f.old result
+        (Some (unpaid_words sold.now)) f.new }
+{
+    let (point, number) = (sold.point.get(), sold.number.get());
+    let shift = sold.shift.get();
+    write!(f, "point {point}: sale {number} of shift {shift} is unpaid: ")
+}
+
+/// Writes money with two decimals.
+fn write_money<W: fmt::Write>(f: &mut fmt::Formatter<W>, amount: Cents) -> fmt::Result
+    ensures { DisplaysOnOk W.Write.write_str_gives f.old result (Some (money amount)) f.new }
+{
+    let cents = amount.get();
+    write!(f, "{}.{}{}", cents / 100, cents / 10 % 10, cents % 10)
+}

@@ -1,0 +1,2 @@
+pub mod ShiftSums
+pub mod ShiftLines

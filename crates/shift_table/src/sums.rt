@@ -1,0 +1,38 @@
+//! What a shift's figures say of all tills, and of a product.
+
+ghost use Rattle.std.specs.Prelude.{◌≡◌};
+ghost use Rattle.shift_ledger.specs.Figures.{product_figure};
+ghost use Rattle.shift_table.specs.ShiftSums.{all_cents, all_clears};
+
+use shift_ledger::ShiftRow;
+use site_base::ProductNo;
+
+/// How many transactions these tills cleared, each with its clears and their cents. A sum of 64-bit
+/// figures may be above 64 bits.
+pub fn count_clears(tills: &[(u64, u64)]) -> u128
+    ensures { result ≡ all_clears tills.now }
+{
+    let mut clears = 0;
+    for (by_till, _) in tills {
+        clears += u128::from(*by_till);
+    }
+    clears
+}
+
+/// Their cents.
+pub fn sum_cents(tills: &[(u64, u64)]) -> u128
+    ensures { result ≡ all_cents tills.now }
+{
+    let mut cents = 0;
+    for (_, by_till) in tills {
+        cents += u128::from(*by_till);
+    }
+    cents
+}
+
+/// The millilitres of a product that were cleared in a shift.
+pub fn cleared_volume(row: &ShiftRow, q: ProductNo) -> u64
+    ensures { result ≡ product_figure q row.now }
+{
+    row.products[q.cell()]
+}

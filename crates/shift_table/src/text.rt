@@ -1,0 +1,62 @@
+//! A shift as a line of text.
+
+ghost use Rattle.std.specs.Prelude.{◌≡◌, ◌++◌, flat_map, string_bytes, OnOk};
+ghost use Rattle.shift_table.specs.ShiftLines.{product_words, shift_line, takings_words};
+
+use crate::sums::{cleared_volume, count_clears, sum_cents};
+use shift_ledger::ShiftRow;
+use site_base::{NoMemory, ProductEntry, ShiftNo};
+
+/// Appends the line of a shift: its number, what all tills cleared in it, and of each of these
+/// products the millilitres that were cleared and those that tests drew.
+pub fn put_shift_line(
+    text: &mut String,
+    products: &[ProductEntry],
+    number: ShiftNo,
+    row: &ShiftRow,
+) -> Result<(), NoMemory>
+    ensures { OnOk result
+        (string_bytes text.new ≡ string_bytes text.old ++ shift_line products.now number row.now) }
+{
+    put_takings(text, number, row)?;
+    put_products(text, products, row)?;
+    text.push_str("\n")?;
+    Ok(())
+}
+
+/// Appends the number of a shift, and what all tills cleared in it.
+fn put_takings(text: &mut String, number: ShiftNo, row: &ShiftRow) -> Result<(), NoMemory>
+    ensures { OnOk result
+        (string_bytes text.new ≡ string_bytes text.old ++ takings_words number row.now) }
+{
+    let (clears, cents) = (count_clears(&row.tills), sum_cents(&row.tills));
+    write!(text, "shift {} clears {clears} cents {cents}", number.get())?;
+    Ok(())
+}
+
+/// Appends the millilitres of each product.
+fn put_products(
+    text: &mut String,
+    products: &[ProductEntry],
+    row: &ShiftRow,
+) -> Result<(), NoMemory>
+    ensures { OnOk result (string_bytes text.new
+        ≡ string_bytes text.old ++ flat_map (product_words row.now) products.now) }
+{
+    for product in products {
+        put_product(text, product, row)?;
+    }
+    Ok(())
+}
+
+/// Appends the millilitres of a product.
+#[tactic(auto, unfolding(crate::specs::ShiftLines::product_words))]
+fn put_product(text: &mut String, product: &ProductEntry, row: &ShiftRow) -> Result<(), NoMemory>
+    ensures { OnOk result
+        (string_bytes text.new ≡ string_bytes text.old ++ product_words row.now product.now) }
+{
+    let q = product.number;
+    let (cleared, drawn) = (cleared_volume(row, q), row.drawn_volume(q));
+    write!(text, " product {} cleared {cleared} drawn {drawn}", q.get())?;
+    Ok(())
+}

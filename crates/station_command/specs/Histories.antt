@@ -1,0 +1,14 @@
+-- A station that goes on with its history.
+use Rattle.std.specs.Prelude.{◌≡◌, ℕ, List, None, Ok}
+use Rattle.site_base.specs.Configured.{Configured}
+use Rattle.site_file.specs.SiteFile.{config_of}
+use Rattle.chapters.specs.ChapterText.{site_name}
+use Rattle.journal.specs.Opening.{Reopens}
+use Rattle.journal.specs.Stored.{StoredState}
+
+-- it goes on where the history of the site that a site file says ended, which had so many rows
+pub record GoesOn (rows : ℕ) (s : StoredState) : Type 0 where
+  pub site_file : List ℕ
+  pub config : Configured
+  pub says : config_of site_file ≡ Ok config
+  pub reopens : Reopens (site_name site_file) config None rows s

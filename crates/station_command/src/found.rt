@@ -1,0 +1,34 @@
+//! What a station's start says of its history.
+
+use day_base::DayFault;
+use devices::WriteFault;
+
+/// What a start has found of its history.
+#[derive(Clone, Copy, Debug, PartialEq, Eq)]
+pub enum FoundHistory {
+    /// There is no folder: nothing is kept.
+    NoFolder,
+    /// No chapters were there.
+    New,
+    /// So many chapters were there, with so many rows.
+    Chapters(u64, u64),
+}
+
+/// Says what was found: of a history on standard output, and that nothing is kept on standard
+/// error.
+pub fn print_found<R: Print + Eprint>(rt: &R, found: FoundHistory) -> Result<(), DayFault> {
+    let printed = match found {
+        FoundHistory::NoFolder => {
+            let _ = eprintln!(rt; "nothing is kept");
+            Ok(())
+        }
+        FoundHistory::New => println!(rt; "history new"),
+        FoundHistory::Chapters(chapters, rows) => {
+            println!(rt; "history chapters {chapters} rows {rows}")
+        }
+    };
+    match printed {
+        Ok(()) => Ok(()),
+        Err(_) => Err(DayFault::Write(WriteFault::Failed)),
+    }
+}

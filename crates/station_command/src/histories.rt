@@ -1,0 +1,157 @@
+//! The station that a command opens, with its history or without one.
+
+ghost use Rattle.std.specs.Prelude.{◌≡◌, ◌≤◌, IfErr, IfOk, None, string_bytes};
+ghost use Rattle.station.specs.Runs.{opening_station};
+ghost use Rattle.journal.specs.declared.memory.TheConstants.{LEAST_ROWS};
+ghost use Rattle.chapters.specs.ChapterText.{site_name};
+ghost use Rattle.chapters.specs.History.{empty_book};
+ghost use Rattle.history_folder.specs.Names.{path_in};
+ghost use Rattle.journal.specs.Opening.{HasNobodyOn, Reopens};
+ghost use Rattle.program_io.specs.Statuses.{IsFailed};
+ghost use Rattle.station_command.specs.Histories.{GoesOn};
+
+use crate::found::FoundHistory;
+use crate::station_site::{history_site, read_station_site};
+use chapters::site_name;
+use history_files::{FileFault, HistoryDisk, HistoryFolder};
+use history_folder::{FolderFault, exit_folder, exit_history, path_in};
+use journal::{OpenFault, Opened, StoredStation, open_journal};
+use program_io::{FAULT, exit_no_memory, exit_unwritten, exit_with};
+use site_base::SiteConfig;
+use std::fs::File;
+use std::process::ExitCode;
+use std::rt::Files;
+
+/// A station without a history, on the site of the file of this name, or how the program ends.
+pub fn open_unkept<'a, R: Files<File = File> + Eprint + AllocGlobal>(
+    rt: &'a R,
+    site: &str,
+) -> Result<(Opened<HistoryDisk<'a, R>>, FoundHistory), ExitCode>
+    ensures alone { IfOk result
+        (λ o. o.0.station.station ≡ opening_station o.0.station.station.book) }
+    ensures off { IfOk result (λ o. HasNobodyOn o.0.station.station.book) }
+    ensures journal { IfOk result (λ o. o.0.station.journal ≡ None) }
+    ensures failed { IfErr result IsFailed }
+{
+    let (config, _) = read_station_site(rt, site)?;
+    Ok((open_without(rt, &config)?, FoundHistory::NoFolder))
+}
+
+/// The station of this site without a history.
+fn open_without<'a, R: Files<File = File> + Eprint + AllocGlobal>(
+    rt: &'a R,
+    config: &SiteConfig,
+) -> Result<Opened<HistoryDisk<'a, R>>, ExitCode>
+    requires { LEAST_ROWS ≤ config.now.rows }
+    ensures alone { IfOk result
+        (λ o. o.station.station ≡ opening_station o.station.station.book) }
+    ensures off { IfOk result (λ o. HasNobodyOn o.station.station.book) }
+    ensures journal { IfOk result (λ o. o.station.journal ≡ None) }
+    ensures without { IfOk result (λ o. (o.rows ≡ 0)
+        × (o.station.station.book ≡ empty_book config.now)) }
+    ensures failed { IfErr result IsFailed }
+{
+    match StoredStation::open_without(rt.alloc(), config) {
+        Ok(station) => Ok(Opened { station, rows: 0 }),
+        Err(_) => Err(exit_no_memory(rt)),
+    }
+}
+
+/// The station of the history in the folder of this name, and what was found there, or how the
+/// program ends. The first start needs the site file of this name; later ones compare it.
+pub fn open_kept<'a, R: Files<File = File> + Eprint + AllocGlobal>(
+    rt: &'a R,
+    name: &str,
+    site: Option<&str>,
+) -> Result<(Opened<HistoryDisk<'a, R>>, FoundHistory), ExitCode>
+    ensures alone { IfOk result
+        (λ o. o.0.station.station ≡ opening_station o.0.station.station.book) }
+    ensures off { IfOk result (λ o. HasNobodyOn o.0.station.station.book) }
+    ensures goes_on { IfOk result (λ o. GoesOn o.0.rows o.0.station) }
+    ensures failed { IfErr result IsFailed }
+{
+    let folder = match HistoryFolder::lock(rt, name) {
+        Ok(folder) => folder,
+        Err(fault) => return Err(exit_file(rt, name, fault)),
+    };
+    let (config, site_file) = history_site(rt, &folder, name, site)?;
+    let chapters = folder.chapters();
+    let opened = open_with(rt, &config, &site_file, folder, name)?;
+    let found = if chapters == 0 {
+        FoundHistory::New
+    } else {
+        FoundHistory::Chapters(chapters, opened.rows)
+    };
+    Ok((opened, found))
+}
+
+/// The station of this site with the history in this folder, which has this name.
+fn open_with<'a, R: Files<File = File> + Eprint + AllocGlobal>(
+    rt: &'a R,
+    config: &SiteConfig,
+    site_file: &[u8],
+    folder: HistoryFolder<'a, R>,
+    name: &str,
+) -> Result<Opened<HistoryDisk<'a, R>>, ExitCode>
+    requires { LEAST_ROWS ≤ config.now.rows }
+    ensures alone { IfOk result
+        (λ o. o.station.station ≡ opening_station o.station.station.book) }
+    ensures off { IfOk result (λ o. HasNobodyOn o.station.station.book) }
+    ensures opened { IfOk result (λ o.
+        Reopens (site_name site_file.now) config.now None o.rows o.station) }
+    ensures failed { IfErr result IsFailed }
+{
+    let disk = match folder.into_disk() {
+        Ok(disk) => disk,
+        Err(fault) => return Err(exit_file(rt, name, fault)),
+    };
+    let site = match site_name(rt.alloc(), site_file) {
+        Ok(site) => site,
+        Err(_) => return Err(exit_no_memory(rt)),
+    };
+    match open_journal(rt.alloc(), config, site, disk) {
+        Ok(opened) => Ok(opened),
+        Err(unopened) => Err(exit_unopened(rt, name, unopened.fault)),
+    }
+}
+
+/// The path of the file of this name in a folder, or how the program ends.
+pub fn path_of<R: Eprint + AllocGlobal>(
+    rt: &R,
+    folder: &str,
+    name: &str,
+) -> Result<String, ExitCode>
+    ensures path { IfOk result (λ path. string_bytes path ≡ path_in folder.now name.now) }
+    ensures failed { IfErr result IsFailed }
+{
+    match path_in(rt.alloc(), folder, name) {
+        Ok(path) => Ok(path),
+        Err(_) => Err(exit_no_memory(rt)),
+    }
+}
+
+/// How the program ends where what has this name isn't there to be used.
+pub fn exit_file(rt: &impl Eprint, name: &str, fault: FileFault) -> ExitCode
+    ensures { IsFailed result }
+{
+    match fault {
+        FileFault::NoMemory => exit_no_memory(rt),
+        FileFault::Unread => exit_with(eprintln!(rt; "cannot read {name}"), FAULT),
+        FileFault::InUse => exit_with(eprintln!(rt; "history in use"), FAULT),
+        FileFault::Untold => ExitCode::from(FAULT),
+        FileFault::Unwritten => exit_unwritten(rt),
+        FileFault::Missing(number) => exit_folder(rt, name, FolderFault::Missing(number)),
+    }
+}
+
+/// How the program ends where the history in the folder of this name isn't opened.
+fn exit_unopened(rt: &impl Eprint, name: &str, fault: OpenFault) -> ExitCode
+    ensures { IsFailed result }
+{
+    match fault {
+        OpenFault::NoMemory => exit_no_memory(rt),
+        OpenFault::Unread => exit_with(eprintln!(rt; "cannot read {name}"), FAULT),
+        OpenFault::Unwritten => exit_unwritten(rt),
+        OpenFault::Refused(fault) => exit_history(rt, fault),
+    }
+}
