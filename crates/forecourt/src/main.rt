@@ -1,7 +1,7 @@
 //! The forecourt site controller's program: it reads the words of the command line, and runs the
 //! command that they name. The words are parsed in `command_line`; the commands stand in
-//! `offline_commands`, `desk_commands` and `station_command`, their files, texts and exit statuses
-//! in `program_io`.
+//! `offline_commands`, `desk_commands`, `station_command` and `shift_commands`, their files, texts
+//! and exit statuses in `program_io`.
 #![tactic(auto)]
 
 use command_line::{Command, NoCommand, parse};
@@ -10,6 +10,7 @@ use offline_commands::{
     run_check, run_explain, run_replay, run_replay_here, run_report, run_sales, run_spell,
 };
 use program_io::{COMMAND_LINE, exit_no_memory, exit_unwritten, exit_with};
+use shift_commands::{run_next, run_shifts};
 use station_command::run_station;
 use std::env;
 use std::io::ErrorKind;
@@ -53,6 +54,8 @@ fn run<T: Threads + Wait + Sync>(rt: &HostRuntime, threads: &T, command: Command
         Command::Serve(options) => run_serve(rt, threads, options),
         Command::Station(options) => run_station(rt, threads, input, options),
         Command::Demo(options) => run_demo(rt, threads, options),
+        Command::Shifts(options) => run_shifts(rt, options.history, options.json),
+        Command::Next(history) => run_next(rt, history),
         Command::Explain(number) => run_explain(rt, input, number),
         Command::Spell => run_spell(rt, input),
     }

@@ -1,0 +1,5 @@
+pub mod FitOpenings
+pub mod Beginnings
+pub mod ShownPrices
+pub mod EachNumber
+pub mod NoObstacle

@@ -18,20 +18,27 @@ abbrev pub is_released : PointState → Bool
 is_released Authorised = true
 is_released state = false
 
--- money with two decimals, of so many cents: `12.34`
-abbrev pub money : ℕ → List ℕ
-money cents =
-    decimal (cents / 100) ++ codes "." ++ decimal (cents / 10 % 10) ++ decimal (cents % 10)
+-- so many cents that are unpaid, as money with two decimals: ` is unpaid: 12.34`
+abbrev pub money_words : ℕ → List ℕ
+money_words cents =
+    codes " is unpaid: " ++ decimal (cents / 100) ++ codes "."
+    ++ decimal (cents / 10 % 10) ++ decimal (cents % 10)
+
+-- a sale of a point
+abbrev pub sale_words : NamedSale → List ℕ
+sale_words x = codes "point " ++ decimal x.point ++ codes ": sale " ++ decimal x.number
+
+-- the shift in which it was sold
+abbrev pub shift_words : ℕ → List ℕ
+shift_words h = codes " of shift " ++ decimal h
 
 -- which sale is unpaid
 abbrev pub unpaid_words : NamedSale → List ℕ
-unpaid_words x =
-    codes "point " ++ decimal x.point ++ codes ": sale " ++ decimal x.number
-    ++ codes " of shift " ++ decimal x.shift ++ codes " is unpaid: "
+unpaid_words x = sale_words x ++ shift_words x.shift
 
 -- an obstacle in words
 abbrev pub obstacle_text : Obstacle → List ℕ
-obstacle_text (Unpaid x) = unpaid_words x ++ money x.sale.cents
+obstacle_text (Unpaid x) = unpaid_words x ++ money_words x.sale.cents
 obstacle_text (Released p) = codes "point " ++ decimal p ++ codes " is released"
 obstacle_text (UnderWay p) = codes "point " ++ decimal p ++ codes ": a fuelling is under way"
 
@@ -55,7 +62,7 @@ abbrev pub points : List ℕ
 points = range_with_len 1 POINTS
 
 -- what hinders the end of a book's history, point by point
-abbrev pub obstacles : Book → List Obstacle
+unfoldable pub obstacles : Book → List Obstacle
 obstacles b = flat_map (at_point (site_of_book b) (unpaid_sales b)) points
 
 -- nothing is unpaid, and no point is released or has a fuelling under way

@@ -2,10 +2,10 @@
 //! end of a history.
 #![tactic(auto)]
 
-mod next_config;
+mod found_obstacles;
+mod next_site;
 mod obstacle;
-mod obstacles;
 
-pub use next_config::next_config;
+pub use found_obstacles::obstacles;
+pub use next_site::next_config;
 pub use obstacle::Obstacle;
-pub use obstacles::obstacles;

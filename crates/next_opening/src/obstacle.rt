@@ -2,9 +2,10 @@
 
 ghost use Rattle.std.specs.Prelude.{Some};
 ghost use Rattle.std.specs.Fmt.{DisplaysOnOk};
-ghost use Rattle.next_opening.specs.Obstacles.{money, unpaid_words};
+ghost use Rattle.next_opening.specs.Obstacles.{money_words, sale_words, shift_words};
+ghost use Rattle.next_opening.specs.Obstacles.{unpaid_words};
 
-use site_base::{Cents, FpNo};
+use site_base::{Cents, FpNo, ShiftNo};
 use site_book::NamedSale;
 use std::fmt;
 
@@ -45,15 +46,38 @@ fn write_unpaid<W: fmt::Write>(f: &mut fmt::Formatter<W>, sold: &NamedSale) -> f
     ensures { DisplaysOnOk W.Write.write_str_gives f.old result
         (Some (unpaid_words sold.now)) f.new }
 {
-    let (point, number) = (sold.point.get(), sold.number.get());
-    let shift = sold.shift.get();
-    write!(f, "point {point}: sale {number} of shift {shift} is unpaid: ")
+    write_sale(f, sold)?;
+    write_shift(f, sold.shift)
 }
 
-/// Writes money with two decimals.
+/// Writes a transaction of a point.
+fn write_sale<W: fmt::Write>(f: &mut fmt::Formatter<W>, sold: &NamedSale) -> fmt::Result
+    ensures { DisplaysOnOk W.Write.write_str_gives f.old result
+        (Some (sale_words sold.now)) f.new }
+{
+    let (point, number) = (sold.point.get(), sold.number.get());
+    write!(f, "point {point}: sale {number}")
+}
+
+/// Writes the shift in which it was sold.
+fn write_shift<W: fmt::Write>(f: &mut fmt::Formatter<W>, shift: ShiftNo) -> fmt::Result
+    ensures { DisplaysOnOk W.Write.write_str_gives f.old result
+        (Some (shift_words shift)) f.new }
+{
+    write!(f, " of shift {}", shift.get())
+}
+
+/// Writes how much is unpaid, as money with two decimals.
 fn write_money<W: fmt::Write>(f: &mut fmt::Formatter<W>, amount: Cents) -> fmt::Result
-    ensures { DisplaysOnOk W.Write.write_str_gives f.old result (Some (money amount)) f.new }
+    ensures { DisplaysOnOk W.Write.write_str_gives f.old result
+        (Some (money_words amount)) f.new }
 {
     let cents = amount.get();
-    write!(f, "{}.{}{}", cents / 100, cents / 10 % 10, cents % 10)
+    write!(
+        f,
+        " is unpaid: {}.{}{}",
+        cents / 100,
+        cents / 10 % 10,
+        cents % 10
+    )
 }

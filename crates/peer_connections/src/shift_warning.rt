@@ -9,7 +9,7 @@ const FIRST_WARNED: u16 = GREATEST_SHIFT - 9;
 pub fn warn_of_last_shifts<E: Eprint>(rt: &E, open: ShiftNo) {
     if open.get() >= FIRST_WARNED {
         let _ = eprintln!(rt;
-            "shift {open} of {GREATEST_SHIFT} is open: begin a new history with forecourt next",
+            "shift {} of {GREATEST_SHIFT} is open: begin a new history with forecourt next",
         );
     }
 }

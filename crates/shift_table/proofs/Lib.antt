@@ -1,0 +1,2 @@
+pub mod EachNumber
+pub mod NoFloats

@@ -1,2 +1,4 @@
 pub mod ShiftSums
 pub mod ShiftLines
+pub mod ShiftObjects
+pub mod ShiftTable

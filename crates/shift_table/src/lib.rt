@@ -1,7 +1,13 @@
-//! The table of a history's shifts: a line for each, as text or as JSON.
+//! The table of a history's shifts: a line for each, as text or as JSON. Of each shift it has what
+//! all tills cleared, and of each product the millilitres that were cleared and those that tests
+//! drew.
 #![tactic(auto)]
 
+mod form;
+mod json;
 mod sums;
+mod table;
 mod text;
 
-pub use text::put_shift_line;
+pub use form::Form;
+pub use table::shifts_text;

@@ -1,6 +1,6 @@
 //! A configuration as the text of a site file.
 
-ghost use Rattle.std.specs.Prelude.{◌≡◌, ◌++◌, codes, decimal, flat_map, string_bytes};
+ghost use Rattle.std.specs.Prelude.{◌≡◌, ◌++◌, decimal, flat_map, string_bytes};
 ghost use Rattle.std.specs.Prelude.{IfOk, OnOk};
 ghost use Rattle.site_text.specs.SiteText.{head_text, listed, name_lines, nozzle_text};
 ghost use Rattle.site_text.specs.SiteText.{nozzles_line, number_line, point_text, product_text};

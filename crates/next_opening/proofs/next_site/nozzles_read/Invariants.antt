@@ -1,7 +1,7 @@
 use Rattle.std.proofs.Common.{◌≡◌, ◌+◌, ◌++◌, drop}
 use Rattle.site_book.specs.Book.{site_of_book}
 use Rattle.next_opening.specs.NextOpening.{read_from}
-use Rattle.next_opening.proofs.next_config.nozzles_read.Given as goal
+use Rattle.next_opening.proofs.next_site.nozzles_read.Given as goal
 
 -- what is to follow is the nozzles that are left
 abbrev pub invariant-loop-place : goal.invariant-loop-place

@@ -1,8 +1,7 @@
 //! The configuration that goes on from a book.
 
-ghost use Rattle.std.specs.Prelude.{◌≡◌, ◌≤◌, length, map, true, IfOk};
+ghost use Rattle.std.specs.Prelude.{◌≡◌, ◌≤◌, length, map, IfOk};
 ghost use Rattle.site_base.specs.declared.limits.TheConstants.{NOZZLES};
-ghost use Rattle.site_base.specs.Configured.{are_points};
 ghost use Rattle.site_book.specs.Book.{site_of_book};
 ghost use Rattle.written_site.specs.SiteState.{opening};
 ghost use Rattle.next_opening.specs.NextOpening.{GoesOnFrom, next_opening, priced};
@@ -23,7 +22,10 @@ pub fn next_config(alloc: Global, book: &SiteBook) -> Result<SiteConfig, NoMemor
     ensures next { IfOk result (λ c. c ≡ next_opening book.now.config (site_of_book book.now)) }
     ensures goes_on { IfOk result (λ c. GoesOnFrom (site_of_book book.now) (opening c)) }
 {
+    // The rows of a book are a legal history, and its configuration is fit.
+    let _ = book.len();
     let config = book.config();
+    let (_, _) = (config.products(), config.points());
     let managers = Vec::from_slice(alloc, config.managers())?;
     let products = products_today(alloc, book)?;
     let points = points_read(alloc, book)?;
@@ -40,7 +42,9 @@ fn products_today(alloc: Global, book: &SiteBook) -> Result<Vec<ProductEntry>, N
         ≡ priced book.now.config.products (prices_today (site_of_book book.now))) }
 {
     let totals = book.totals(alloc)?;
-    priced_products(alloc, book.config().products(), totals.products.as_slice())
+    let products = book.config().products();
+    let at_prices = priced_products(alloc, products, totals.products.as_slice())?;
+    Ok(at_prices)
 }
 
 /// The products, each at the price that is shown of it.
@@ -50,7 +54,7 @@ fn priced_products(
     views: &[ProductView],
 ) -> Result<Vec<ProductEntry>, NoMemory>
     requires { length views.now ≡ length products.now }
-    ensures { IfOk result (λ priced_ones. priced_ones.items
+    ensures { IfOk result (λ products_at. products_at.items
         ≡ priced products.now (map (λ v. v.price) views.now)) }
 {
     let mut at_prices = Vec::new(alloc);

@@ -1,7 +1,7 @@
 use Rattle.std.proofs.Common.{◌≡◌, map, take}
 use Rattle.site_book.specs.Book.{site_of_book}
 use Rattle.next_opening.specs.NextOpening.{with_last_readings}
-use Rattle.next_opening.proofs.next_config.points_read.Given as goal
+use Rattle.next_opening.proofs.next_site.points_read.Given as goal
 
 abbrev pub invariant-loop-point : goal.invariant-loop-point
 invariant-loop-point l =

@@ -1,6 +1,6 @@
 //! All that hinders the end of a book's history.
 
-ghost use Rattle.std.specs.Prelude.{◌≡◌, ◌++◌, ◌≤◌, ◌↔◌, [], filter, map, IfOk, OnOk};
+ghost use Rattle.std.specs.Prelude.{◌≡◌, ◌++◌, ◌↔◌, [], filter, map, true, IfOk, OnOk};
 ghost use Rattle.std.specs.List.{list_all};
 ghost use Rattle.site_base.specs.declared.limits.TheConstants.{POINTS};
 ghost use Rattle.site_base.specs.Ranges.{is_between};
@@ -61,11 +61,7 @@ fn add_point(
 }
 
 /// Adds the unpaid transactions of a point.
-fn add_unpaid(
-    unpaid: &[NamedSale],
-    point: FpNo,
-    found: &mut Vec<Obstacle>,
-) -> Result<(), NoMemory>
+fn add_unpaid(unpaid: &[NamedSale], point: FpNo, found: &mut Vec<Obstacle>) -> Result<(), NoMemory>
     ensures { OnOk result (found.new.items
         ≡ found.old.items ++ map Obstacle.Unpaid (filter (is_at point) unpaid.now)) }
 {
@@ -91,10 +87,7 @@ fn add_state(book: &SiteBook, point: FpNo, found: &mut Vec<Obstacle>) -> Result<
         | PointState::SuspendedStarted
         | PointState::Fuelling
         | PointState::SuspendedFuelling => found.push(Obstacle::UnderWay(point))?,
-        PointState::Inoperative
-        | PointState::Closed
-        | PointState::Idle
-        | PointState::Calling => {}
+        PointState::Inoperative | PointState::Closed | PointState::Idle | PointState::Calling => {}
     }
     Ok(())
 }

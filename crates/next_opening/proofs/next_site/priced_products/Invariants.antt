@@ -1,6 +1,6 @@
 use Rattle.std.proofs.Common.{◌≡◌, ◌++◌, drop, map}
 use Rattle.next_opening.specs.NextOpening.{priced}
-use Rattle.next_opening.proofs.next_config.priced_products.Given as goal
+use Rattle.next_opening.proofs.next_site.priced_products.Given as goal
 
 -- what is to follow is the products that are left
 abbrev pub invariant-loop-at : goal.invariant-loop-at

@@ -1,0 +1,35 @@
+-- The table of a book's shifts.
+use Rattle.std.specs.Prelude.{ℕ, ◌==◌, List, [], ◌++◌, Option, Some, None, codes, flat_map}
+use Rattle.std.specs.List.{range_with_len}
+use Rattle.serde_json.specs.Written.{compact_text}
+use Rattle.shift_ledger.specs.declared.row.ShiftRow.{ShiftRow}
+use Rattle.site_book.specs.Book.{Book, site_of_book}
+use Rattle.site_core.specs.Accounts.{shift_row}
+use Rattle.written_site.specs.SiteState.{open_shift}
+use Rattle.shift_table.specs.declared.form.Form.{Form}
+use Rattle.shift_table.specs.declared.form.Form.TheVariants.{Text, Json}
+use Rattle.shift_table.specs.ShiftLines.{shift_line}
+use Rattle.shift_table.specs.ShiftObjects.{shift_data}
+
+-- the figures of shift n of a book, if it is open or closed
+abbrev pub figures_of : Book → ℕ → Option ShiftRow
+figures_of b n = shift_row n (site_of_book b).sales (site_of_book b).drawn
+
+-- the number of a book's open shift
+abbrev pub open_of : Book → ℕ
+open_of b = open_shift (site_of_book b)
+
+-- the line of shift n of a book, with these figures
+abbrev pub line_of : Form → Book → ℕ → Option ShiftRow → List ℕ
+line_of form b n None = []
+line_of Text b n (Some row) = shift_line b.config.products n row
+line_of Json b n (Some row) =
+    compact_text (shift_data b.config.products n (n == open_of b) row) ++ codes "\n"
+
+-- the line of shift n of a book
+abbrev pub line_at : Form → Book → ℕ → List ℕ
+line_at form b n = line_of form b n (figures_of b n)
+
+-- the table of a book's shifts: a line for each, from shift 1 to the open one
+abbrev pub shifts_text : Form → Book → List ℕ
+shifts_text form b = flat_map (line_at form b) (range_with_len 1 (open_of b))
