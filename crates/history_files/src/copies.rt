@@ -36,8 +36,8 @@ pub enum Put {
 }
 
 /// Puts a copy with these octets under this name. It is locked; it has the owner and permissions of
-/// the file that it is like, or its owner alone may use it. All of it is on the disk before it takes
-/// the name.
+/// the file that it is like, or its owner alone may use it. All of it is on the disk before it
+/// takes the name.
 pub fn put_copy<R: Files<File = File> + AllocGlobal>(
     rt: &R,
     place: &Place<'_>,
@@ -120,9 +120,9 @@ fn fill_and_rename(
     take_place(rt, place, name, copy, copy_name)
 }
 
-/// Gives the copy the name, while it has its own, and the name is still that of the file whose place
-/// it takes, or nobody's: what was moved away meanwhile stays where it is, and what has the name
-/// then is another's.
+/// Gives the copy the name, while it has its own, and the name is still that of the file whose
+/// place it takes, or nobody's: what was moved away meanwhile stays where it is, and what has the
+/// name then is another's.
 fn take_place(
     rt: &impl Files,
     place: &Place<'_>,
@@ -147,8 +147,8 @@ fn is_as_known(rt: &impl Files, place: &Place<'_>, name: &str) -> bool {
     }
 }
 
-/// Locks a copy, and puts the octets into it, with the owner, where that may be, and the permissions
-/// of the file that it is like.
+/// Locks a copy, and puts the octets into it, with the owner, where that may be, and the
+/// permissions of the file that it is like.
 fn fill_copy(like: Option<&File>, copy: &File, octets: &[u8]) -> io::Result<()> {
     lock(copy)?;
     let mut writer = copy;

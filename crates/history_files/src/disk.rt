@@ -54,7 +54,8 @@ impl<'a, R: Files<File = File> + AllocGlobal> HistoryDisk<'a, R> {
         }
     }
 
-    /// Is the open chapter's file as this process left it: as long, with one name, which is its own?
+    /// Is the open chapter's file as this process left it: as long, with one name, which is its
+    /// own?
     fn is_as_left(&self) -> bool {
         match &self.open {
             Some(file) => match file.metadata() {
@@ -208,10 +209,11 @@ impl<'a, R: Files<File = File> + AllocGlobal> Disk for HistoryDisk<'a, R> {
         self.flush_names()
     }
 
-    /// The next chapter's file is made as a copy that takes its name. Where it can't be made it says
-    /// false, and no copy is left.
+    /// The next chapter's file is made as a copy that takes its name. Where it can't be made it
+    /// says false, and no copy is left.
     fn begin(&mut self, octets: &[u8]) -> Result<bool, DiskFault>
-        ensures begun { IfOk result (λ begun. begun ≡ true → HasBegun octets.now self.old self.new) }
+        ensures begun { IfOk result (λ begun. begun ≡ true
+            → HasBegun octets.now self.old self.new) }
         ensures goes_on { IfOk result (λ begun. begun ≡ false → StaysOpen self.old self.new) }
     {
         let next = self.closed + 1;

@@ -83,7 +83,8 @@ impl<'a, R: Files<File = File> + AllocGlobal> HistoryFolder<'a, R> {
     /// Its chapters as a disk: the last one is open. Where there is none yet, the first one is made
     /// as the disk is renewed.
     pub fn into_disk(self) -> Result<HistoryDisk<'a, R>, FileFault>
-        ensures closed { IfOk result (λ disk. chapters_closed disk ≡ chapters_found self.entry - 1) }
+        ensures closed { IfOk result (λ disk.
+            chapters_closed disk ≡ chapters_found self.entry - 1) }
         ensures put { IfOk result (λ disk. octets_put disk ≡ 0) }
         ensures flushed { IfOk result (λ disk. octets_flushed disk ≡ 0) }
     {
