@@ -8,6 +8,7 @@ use Rattle.written_site.specs.SiteRun.{events_of}
 use Rattle.chapters.specs.ChapterReading.{HistoryRead, and_then}
 use Rattle.chapters.specs.ChapterReading.{read_lines, with_seal}
 use Rattle.chapters.specs.ChapterText.{first_lines, seal_line, seal_of, text_of_lines}
+use Rattle.chapters.specs.declared.chapter_begin.ChapterBegin.{ChapterBegin}
 use Rattle.chapters.specs.HistoryEnds.{EndState, EndsAt}
 use Rattle.chapters.specs.Lines.{unfinished, whole_lines}
 use Rattle.chapters.specs.RowText.{kept_first}
@@ -244,3 +245,10 @@ journal_same rows j c is whole stays = record {
       OfFile (HoldsRows j.site (kept_first j.stored rows) failed j.end) j.file) whole is.holds)
       stays;
 }
+
+-- where its chapter began says nothing of a journal's rows
+pub journal_watched : (rows : List Row) (j : JournalState) (begin : ChapterBegin)
+    (refused : Option ℕ) → IsJournalOf rows j
+    → IsJournalOf rows (record j { begin = begin; refused = refused })
+journal_watched rows j begin refused is =
+    record { few = is.few; spelled = is.spelled; holds = is.holds }

@@ -35,6 +35,7 @@ use Rattle.station.proofs.TillSessions.{still_on}
 use Rattle.journal.specs.Disks.{DiskFile, Grows, Keeps, OfFile, OfFiles}
 use Rattle.chapters.specs.History.{empty_book}
 use Rattle.journal.specs.Opening.{HasNobodyOn, Resumes, all_off, tills_off}
+use Rattle.chapters.specs.declared.chapter_begin.ChapterBegin.{ChapterBegin}
 use Rattle.chapters.specs.HistoryEnds.{EndState}
 use Rattle.chapters.specs.RowText.{CanBeSpelled, IsSent, kept_behind, kept_first, rows_text}
 use Rattle.chapters.proofs.Lists.{all_both}
@@ -106,13 +107,21 @@ nobody_yet config = λ t. set.contains-empty nat_cmp t
 -- ---- the journal of what was recovered
 
 -- each row that was recovered is kept, and stored
-pub journal_begun : (site : List ℕ) (recovered b : Book) (e : EndState) (file : Option DiskFile)
-    (stored : ℕ) → OfFile (HoldsRows site recovered.rows false e) file
+pub journal_begun : (site : List ℕ) (recovered b : Book) (e : EndState) (begin : ChapterBegin)
+    (file : Option DiskFile) (stored : ℕ) → OfFile (HoldsRows site recovered.rows false e) file
     → kept_rows recovered.rows ≡ recovered.rows → CanBeSpelled recovered.rows
     → stored ≡ length recovered.rows → b ≡ all_off recovered
     → IsJournalOf b.rows
-    (record { site = site; stored = stored; failed = false; end = e; file = file })
-journal_begun site recovered b e file stored holds kept spelled size off =
+    (record {
+      site = site;
+      stored = stored;
+      failed = false;
+      end = e;
+      begin = begin;
+      refused = None;
+      file = file;
+    })
+journal_begun site recovered b e begin file stored holds kept spelled size off =
     let adds = subst (Adds recovered) (sym off) (off_adds TILLS recovered) in
     let front : kept_first stored b.rows ≡ recovered.rows =
     ap kept_rows (ap (take stored) adds.rows

@@ -254,7 +254,7 @@ pub journal_stored : (rows : List Row) (j : JournalState) (text : List ℕ) (d :
     → CanBeSpelled (kept_behind j.stored rows) → Covered text j.end d
     → OfFiles (Appends text) j.file b → OfFiles Syncs b c → count ≡ length rows
     → IsJournalOf rows
-    (record { site = j.site; stored = count; failed = false; end = d; file = c })
+    (record j { stored = count; failed = false; end = d; file = c })
 journal_stored rows j text d b c count is whole lines some spelled covered wrote synced all =
     let holds =
     subst (λ (failed : Bool).

@@ -12,8 +12,8 @@ pub store-requires-clause-journal : goal.store-requires-clause-journal
 store-requires-clause-journal g c =
     subst (IsJournalOf c.sign_off_all.new.book.rows) (sym c.new-journal.ensures)
     (journal_begun (string_bytes c.args.recovered.site) c.args.recovered.book
-    c.sign_off_all.new.book c.args.recovered.end (g.D.Disk.file c.args.disk) c.len-rows.result
-    c.requires.settled c.requires.kept c.requires.spelled c.len-rows.ensures.rows
+    c.sign_off_all.new.book c.args.recovered.end c.args.recovered.begin
+    (g.D.Disk.file c.args.disk) c.len-rows.result c.requires.settled c.requires.kept c.requires.spelled c.len-rows.ensures.rows
     c.sign_off_all.ensures.rows)
 
 pub store-requires-clause-sent : goal.store-requires-clause-sent
