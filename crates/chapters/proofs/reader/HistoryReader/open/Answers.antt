@@ -9,7 +9,7 @@ returns-clause-nothing c = record {
   read = refl;
   keeps = record {
     ends = c.in_ok-new.ensures;
-    made = ap (λ (b : Book). b.rows) c.in_ok-try_open.ensures;
+    made = ap (λ (b : Book). b.rows) c.in_ok-book.ensures;
   };
   torn = refl;
 }
