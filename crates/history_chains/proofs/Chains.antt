@@ -28,8 +28,8 @@ use Rattle.written_site.proofs.Histories.{IsLegal-push, site_of_rows-push}
 use Rattle.written_site.proofs.MeterLaws.{meters_read}
 use Rattle.written_site.proofs.MomentRows.{moments_push}
 use Rattle.written_site.proofs.RowWords.{append_none, latest_push, said_again, total_push}
-use Rattle.history_chains.specs.Chains.{History, IsChain, IsKept, LitresAddUp, end_of}
-use Rattle.history_chains.specs.Chains.{first_reading, last_reading, litres, put_at, put_in}
+use Rattle.history_chains.specs.Chains.{History, IsKept, LitresAddUp, end_of}
+use Rattle.history_chains.specs.Chains.{first_reading, litres, put_at, put_in}
 use Rattle.history_chains.specs.Chains.{taken_at, taken_away}
 
 -- ---- a row
