@@ -32,10 +32,11 @@ use Rattle.journal.specs.Disks.{BeginsWith, DiskFile, GoesOn, Moment, OfFile, mo
 use Rattle.journal.specs.Laws.{BeginningsAreRead, BeginsWithRows, HistoriesAreMadeAgain}
 use Rattle.journal.specs.Laws.{StationsRowsAreSent, StoredRowsAreFoundAgain}
 use Rattle.journal.specs.Laws.{ToldRowsAreFoundAgain}
+use Rattle.journal.specs.Lives.{end_of}
 use Rattle.journal.specs.Readings.{TellsWhole, texts_of}
 use Rattle.journal.specs.Stored.{HoldsRows, IsJournalOf, JournalState, StoredState, has_stored}
 use Rattle.journal.specs.Stored.{is_all_stored, told_at}
-use Rattle.journal.proofs.Fronts.{goes_then}
+use Rattle.journal.proofs.Lives.{goes_for_life, told_whole}
 use Rattle.journal.proofs.Moves.{forgotten_are_sent, rows_are_sent}
 
 -- ---- a station's rows
@@ -153,7 +154,7 @@ holds_all rows j f is all there =
     (subst (OfFile (HoldsRows j.site (kept_first j.stored rows) j.failed j.end)) there is.holds)
 
 pub told_rows_are_found_again : ToldRowsAreFoundAgain
-told_rows_are_found_again s j f key m b stored has there some goes same read =
+told_rows_are_found_again s j f key life b stored has there some lives same read =
     let rows = s.station.book.rows in
     let is : IsJournalOf rows j =
     subst (λ (o : Option JournalState). IfSome o (IsJournalOf rows)) has stored.journal in
@@ -162,8 +163,10 @@ told_rows_are_found_again s j f key m b stored has there some goes same read =
     let holds = holds_all rows j f is all there in
     let config = s.station.book.config in
     let enough = reads_can_be_left_out (opening config) rows stored.legal in
-    stored_rows_are_found_again j.site holds.at m config (kept_rows rows) b enough.legal same
-    holds.tells (goes_then holds.at (moment_of f) m holds.there goes) read
+    stored_rows_are_found_again j.site holds.at (end_of (moment_of f) life) config
+    (kept_rows rows) b enough.legal same holds.tells
+    (goes_for_life holds.at (told_whole j.site holds.at _ holds.tells) (moment_of f) life
+    holds.there lives) read
 
 -- ---- beginnings
 

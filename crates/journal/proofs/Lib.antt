@@ -3,6 +3,7 @@ pub mod Made
 pub mod Moves
 pub mod Storing
 pub mod Ending
+pub mod Lives
 pub mod JournalLaws
 pub mod Recovering
 pub mod SigningOff

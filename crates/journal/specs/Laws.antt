@@ -11,6 +11,7 @@ use Rattle.station.specs.Runs.{Move, after, opening_station}
 use Rattle.chapters.specs.History.{rows_asked}
 use Rattle.chapters.specs.RowText.{CanBeSpelled, IsSent, rows_text}
 use Rattle.journal.specs.Disks.{DiskFile, GoesOn, Moment, moment_of}
+use Rattle.journal.specs.Lives.{IsLife, end_of}
 use Rattle.journal.specs.Readings.{IsRead, TellsNothing, TellsWhole}
 use Rattle.journal.specs.Stored.{IsStored, JournalState, StoredState, told_at}
 
@@ -26,13 +27,15 @@ StoredRowsAreFoundAgain = (site : List ℕ) (m n : Moment) (config : Configured)
     (b : Book) → IsLegal (opening config) rows → b.config ≡ config
     → TellsWhole site m (events_of rows) → GoesOn m n → IsRead site n b → BeginsWithRows rows b
 
--- What is told is found again. While a peer may be told something, each row of the station but
--- those of reads is on the disk. If a book is read of what a crash then leaves, it begins with
--- these rows.
+-- What is told is found again, however the history lives on. While a peer may be told something,
+-- each row of the station but those of reads is on the disk. Take any life from then on: stores,
+-- ends of chapters and starts, each whole or cut off by a crash. If a book is read of what it
+-- leaves, that begins with these rows.
 abbrev pub ToldRowsAreFoundAgain : Type 0
-ToldRowsAreFoundAgain = (s : StoredState) (j : JournalState) (f : DiskFile) (key : ℕ) (m : Moment)
-    (b : Book) → IsStored s → s.journal ≡ Some j → j.file ≡ Some f → (told_at s key ≡ [] → ⊥)
-    → GoesOn (moment_of f) m → b.config ≡ s.station.book.config → IsRead j.site m b
+ToldRowsAreFoundAgain = (s : StoredState) (j : JournalState) (f : DiskFile) (key : ℕ)
+    (life : List Moment) (b : Book) → IsStored s → s.journal ≡ Some j → j.file ≡ Some f
+    → (told_at s key ≡ [] → ⊥) → IsLife (moment_of f) life
+    → b.config ≡ s.station.book.config → IsRead j.site (end_of (moment_of f) life) b
     → BeginsWithRows (kept_rows s.station.book.rows) b
 
 -- A beginning of the lines that a store writes is never refused: take chapters that tell rows, and

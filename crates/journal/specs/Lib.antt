@@ -6,4 +6,5 @@ pub mod Stored
 pub mod ChapterEnds
 pub mod Recovering
 pub mod Opening
+pub mod Lives
 pub mod Laws

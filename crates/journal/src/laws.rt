@@ -3,6 +3,7 @@
 ghost use Rattle.journal.specs.Laws.{BeginningsAreRead, HistoriesAreMadeAgain};
 ghost use Rattle.journal.specs.Laws.{StationsRowsAreSent, StoredRowsAreFoundAgain};
 ghost use Rattle.journal.specs.Laws.{ToldRowsAreFoundAgain};
+ghost use Rattle.journal.specs.Lives.{CallsAreSteps};
 
 /// If a book is read of chapters that go on from what is on the disk, it begins with the rows
 /// stored there.
@@ -10,10 +11,16 @@ pub fn stored_rows_are_found_again()
     ensures { StoredRowsAreFoundAgain }
 {}
 
-/// While a peer may be told something, each row of the station will be found again, whatever a
-/// crash then leaves.
+/// While a peer may be told something, each row of the station will be found again, whatever then
+/// comes: any list of stores, ends of chapters, crashes and starts.
 pub fn told_rows_are_found_again()
     ensures { ToldRowsAreFoundAgain }
+{}
+
+/// Each store, each end of a chapter and each start is a step of a history's life, whole or cut off
+/// by a crash.
+pub fn calls_are_steps()
+    ensures { CallsAreSteps }
 {}
 
 /// Chapters that tell rows, with a beginning of the lines of more rows behind them, are never

@@ -20,7 +20,7 @@ mod stored_station;
 pub use disk::{Disk, DiskFault};
 pub use journal::{ChapterEnd, Journal, RETRY_ROWS};
 pub use laws::{
-    beginnings_are_read, histories_are_made_again, stations_rows_are_sent,
+    beginnings_are_read, calls_are_steps, histories_are_made_again, stations_rows_are_sent,
     stored_rows_are_found_again, told_rows_are_found_again,
 };
 pub use memory::LEAST_ROWS;
