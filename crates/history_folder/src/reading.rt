@@ -40,8 +40,10 @@ pub fn read_folder<R: Files + Eprint + AllocGlobal>(
         Ok(reader) => reader,
         Err(_) => return Err(exit_no_memory(rt)),
     };
-    read_chapters(rt, folder, count, &mut reader)?;
-    Ok(reader.into_read())
+    match read_chapters(rt, folder, count, &mut reader) {
+        Ok(()) => Ok(reader.into_read()),
+        Err(status) => Err(status),
+    }
 }
 
 /// A reader of the history of the site of this file.

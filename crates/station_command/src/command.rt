@@ -6,7 +6,7 @@ ghost use Rattle.station.specs.Runs.{opening_station};
 ghost use Rattle.journal.specs.Opening.{HasNobodyOn};
 
 use crate::found::{FoundHistory, print_found};
-use crate::histories::{open_kept, open_unkept};
+use crate::histories::open_station;
 use crate::input_watch::InputWatch;
 use command_line::StationOptions;
 use day_base::{DayFault, ReportForm, StationPlan, exit_day};
@@ -53,17 +53,7 @@ pub fn run_station<R: StationHost, T: Threads + Wait + Sync, I: Read + Send + Dr
         Ok(plan) => plan,
         Err(fault) => return exit_with(eprintln!(rt; "error: {fault}"), COMMAND_LINE),
     };
-    let opened = match (options.history, options.site) {
-        (Some(folder), site) => open_kept(rt, folder, site),
-        (None, Some(site)) => open_unkept(rt, site),
-        (None, None) => {
-            return exit_with(
-                eprintln!(rt; "error: a station needs a site file or --history FOLDER"),
-                COMMAND_LINE,
-            );
-        }
-    };
-    match opened {
+    match open_station(rt, options.site, options.history) {
         Ok((opened, found)) => {
             let end = serve_on(rt, threads, input, opened, found, plan, options);
             exit_day(rt, end)

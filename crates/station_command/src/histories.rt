@@ -1,6 +1,6 @@
 //! The station that a command opens, with its history or without one.
 
-ghost use Rattle.std.specs.Prelude.{◌≡◌, ◌≤◌, IfErr, IfOk, None, string_bytes};
+ghost use Rattle.std.specs.Prelude.{◌≡◌, ◌≤◌, IfErr, IfNone, IfOk, IfSome, None, string_bytes};
 ghost use Rattle.station.specs.Runs.{opening_station};
 ghost use Rattle.journal.specs.declared.memory.TheConstants.{LEAST_ROWS};
 ghost use Rattle.chapters.specs.ChapterText.{site_name};
@@ -16,14 +16,38 @@ use chapters::site_name;
 use history_files::{FileFault, HistoryDisk, HistoryFolder};
 use history_folder::{FolderFault, exit_folder, exit_history, path_in};
 use journal::{OpenFault, Opened, StoredStation, open_journal};
-use program_io::{FAULT, exit_no_memory, exit_unwritten, exit_with};
+use program_io::{COMMAND_LINE, FAULT, exit_no_memory, exit_unwritten, exit_with};
 use site_base::SiteConfig;
 use std::fs::File;
 use std::process::ExitCode;
 use std::rt::Files;
 
+/// The station that a command opens, and what was found of its history, or how the program ends:
+/// that of the history in this folder, or one without a history on the site of this file.
+pub fn open_station<'a, R: Files<File = File> + Eprint + AllocGlobal>(
+    rt: &'a R,
+    site: Option<&str>,
+    history: Option<&str>,
+) -> Result<(Opened<HistoryDisk<'a, R>>, FoundHistory), ExitCode>
+    ensures alone { IfOk result
+        (λ o. o.0.station.station ≡ opening_station o.0.station.station.book) }
+    ensures off { IfOk result (λ o. HasNobodyOn o.0.station.station.book) }
+    ensures kept { IfSome history.entry (λ _. IfOk result
+        (λ o. GoesOn o.0.rows o.0.station)) }
+    ensures unkept { IfNone history.entry (IfOk result (λ o. o.0.station.journal ≡ None)) }
+{
+    match (history, site) {
+        (Some(folder), site) => open_kept(rt, folder, site),
+        (None, Some(site)) => open_unkept(rt, site),
+        (None, None) => Err(exit_with(
+            eprintln!(rt; "error: a station needs a site file or --history FOLDER"),
+            COMMAND_LINE,
+        )),
+    }
+}
+
 /// A station without a history, on the site of the file of this name, or how the program ends.
-pub fn open_unkept<'a, R: Files<File = File> + Eprint + AllocGlobal>(
+fn open_unkept<'a, R: Files<File = File> + Eprint + AllocGlobal>(
     rt: &'a R,
     site: &str,
 ) -> Result<(Opened<HistoryDisk<'a, R>>, FoundHistory), ExitCode>
@@ -59,7 +83,7 @@ fn open_without<'a, R: Files<File = File> + Eprint + AllocGlobal>(
 
 /// The station of the history in the folder of this name, and what was found there, or how the
 /// program ends. The first start needs the site file of this name; later ones compare it.
-pub fn open_kept<'a, R: Files<File = File> + Eprint + AllocGlobal>(
+fn open_kept<'a, R: Files<File = File> + Eprint + AllocGlobal>(
     rt: &'a R,
     name: &str,
     site: Option<&str>,

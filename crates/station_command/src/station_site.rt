@@ -1,12 +1,12 @@
 //! The site of a station: that of its site file, or that of its history's folder.
 
-ghost use Rattle.std.specs.Prelude.{◌≡◌, ◌≤◌, IfErr, IfOk, IfSome, Ok, nat_lt};
+ghost use Rattle.std.specs.Prelude.{◌≡◌, ◌≢◌, ◌≤◌, IfErr, IfOk, Ok, OnErr, OnOk, nat_lt};
 ghost use Rattle.journal.specs.declared.memory.TheConstants.{LEAST_ROWS};
 ghost use Rattle.program_io.specs.Statuses.{IsFailed};
 ghost use Rattle.site_file.specs.SiteFile.{config_of};
 
 use crate::histories::{exit_file, path_of};
-use history_files::HistoryFolder;
+use history_files::{FileFault, HistoryFolder};
 use history_folder::{SITE_FILE, site_in_folder};
 use journal::LEAST_ROWS;
 use program_io::{FAULT, exit_with, read_site_file};
@@ -41,9 +41,9 @@ fn has_few_rows(config: &SiteConfig) -> bool
     (config.rows() as usize) < LEAST_ROWS
 }
 
-/// The site of the history in this folder, with the octets of its site file, or how the program
-/// ends. The site file of this name, if there is one, says the same site; in a folder without
-/// chapters it is kept as its site file, if it has none.
+/// The site of the history in the folder of this name, with the octets of its site file, or how the
+/// program ends. The site file that is given, if one is, says the same site; in a folder without
+/// chapters and without a site file it is kept as that.
 pub fn history_site<R: Files<File = File> + Eprint + AllocGlobal>(
     rt: &R,
     folder: &HistoryFolder<'_, R>,
@@ -54,46 +54,83 @@ pub fn history_site<R: Files<File = File> + Eprint + AllocGlobal>(
     ensures rows { IfOk result (λ site. LEAST_ROWS ≤ site.0.rows) }
     ensures failed { IfErr result IsFailed }
 {
-    let given = match site {
-        Some(site) => Some(read_station_site(rt, site)?),
-        None => None,
-    };
     let path = path_of(rt, name, SITE_FILE)?;
-    match (folder.site_file(), given) {
-        (Ok(Some(octets)), given) => kept_site(rt, octets, given),
-        (Ok(None), Some((config, octets))) if folder.chapters() == 0 => {
-            match folder.keep_site_file(&octets) {
-                Ok(()) => Ok((config, octets)),
-                Err(fault) => Err(exit_file(rt, path.as_str(), fault)),
-            }
-        }
-        (Ok(None), _) => Err(exit_with(eprintln!(rt; "cannot read {path}"), FAULT)),
-        (Err(fault), _) => Err(exit_file(rt, path.as_str(), fault)),
+    match folder.site_file() {
+        Ok(Some(octets)) => kept_site(rt, octets, site),
+        Ok(None) => first_site(rt, folder, path.as_str(), site),
+        Err(fault) => Err(exit_file(rt, path.as_str(), fault)),
     }
 }
 
-/// The site that the octets of a folder's site file say, or how the program ends: they have a
-/// fault, or say another site than the file that was given.
-fn kept_site<R: Eprint + AllocGlobal>(
+/// The site of a folder that has no site file: that of the given one, which is kept under this path.
+/// A folder with chapters has lost its own, and so the program ends.
+fn first_site<R: Files<File = File> + Eprint + AllocGlobal>(
     rt: &R,
-    octets: Vec<u8>,
-    given: Option<(SiteConfig, Vec<u8>)>,
+    folder: &HistoryFolder<'_, R>,
+    path: &str,
+    site: Option<&str>,
 ) -> Result<(SiteConfig, Vec<u8>), ExitCode>
     ensures read { IfOk result (λ site. config_of site.1.items ≡ Ok site.0) }
-    ensures octets { IfOk result (λ site. site.1.items ≡ octets.items) }
-    ensures same { IfSome given (λ other. IfOk result (λ site. site.0 ≡ other.0)) }
     ensures rows { IfOk result (λ site. LEAST_ROWS ≤ site.0.rows) }
     ensures failed { IfErr result IsFailed }
 {
-    let config = site_in_folder(rt, &octets)?;
+    let Some(site) = site else {
+        return Err(exit_file(rt, path, FileFault::Unread));
+    };
+    let (config, octets) = read_station_site(rt, site)?;
+    if folder.chapters() > 0 {
+        return Err(exit_file(rt, path, FileFault::Unread));
+    }
+    match folder.keep_site_file(&octets) {
+        Ok(()) => Ok((config, octets)),
+        Err(fault) => Err(exit_file(rt, path, fault)),
+    }
+}
+
+/// The site that the octets of a folder's site file say, with them, or how the program ends: they
+/// have a fault, or say another site than the file that is given, if one is.
+fn kept_site<R: Files + Eprint + AllocGlobal>(
+    rt: &R,
+    octets: Vec<u8>,
+    site: Option<&str>,
+) -> Result<(SiteConfig, Vec<u8>), ExitCode>
+    ensures read { IfOk result (λ site. config_of site.1.items ≡ Ok site.0) }
+    ensures octets { IfOk result (λ site. site.1.items ≡ octets.items) }
+    ensures rows { IfOk result (λ site. LEAST_ROWS ≤ site.0.rows) }
+    ensures failed { IfErr result IsFailed }
+{
+    let Some(site) = site else {
+        let config = read_kept(rt, &octets)?;
+        return Ok((config, octets));
+    };
+    let (given, _) = read_station_site(rt, site)?;
+    let config = read_kept(rt, &octets)?;
+    check_same(rt, &config, &given)?;
+    Ok((config, octets))
+}
+
+/// The site that the octets of a folder's site file say, or how the program ends.
+fn read_kept<R: Eprint + AllocGlobal>(rt: &R, octets: &[u8]) -> Result<SiteConfig, ExitCode>
+    ensures read { IfOk result (λ config. config_of octets.now ≡ Ok config) }
+    ensures rows { IfOk result (λ config. LEAST_ROWS ≤ config.rows) }
+    ensures failed { IfErr result IsFailed }
+{
+    let config = site_in_folder(rt, octets)?;
     if has_few_rows(&config) {
         return Err(exit_with(eprintln!(rt; "{SITE_FILE}: fault 74 rows"), FAULT));
     }
-    match given {
-        Some((other, _)) if !is_same_site(&config, &other) => Err(exit_with(
-            eprintln!(rt; "history of another site"),
-            FAULT,
-        )),
-        _ => Ok((config, octets)),
+    Ok(config)
+}
+
+/// Fails where a history's site isn't the one that is given: says so, and how the program ends.
+fn check_same<R: Eprint>(rt: &R, config: &SiteConfig, given: &SiteConfig) -> Result<(), ExitCode>
+    ensures same { OnOk result (config.now ≡ given.now) }
+    ensures another { OnErr result (config.now ≢ given.now) }
+    ensures failed { IfErr result IsFailed }
+{
+    if is_same_site(config, given) {
+        Ok(())
+    } else {
+        Err(exit_with(eprintln!(rt; "history of another site"), FAULT))
     }
 }
