@@ -111,12 +111,20 @@ impl<D: Disk> Connections<D> {
         self.stored.store()
     }
 
+    /// Stores each row that isn't stored yet. Then the history's chapter ends, if it is over.
+    #[tactic(auto, using(crate::proofs::Reaching::moved))]
+    fn store_and_end<E: Eprint>(&mut self, rt: &E) -> Result<(), DiskFault>
+        ensures moves { Reaches self.old.stored.station self.new.stored.station }
+        ensures stored { OnOk result (is_all_stored self.new.stored ≡ true) }
+    {
+        self.store()?;
+        self.end_chapter(rt)
+    }
+
     /// Each row is stored: the history's chapter ends, if it is over. Where there can't be a next
     /// one now it goes on, which is said once.
-    #[tactic(auto, using(crate::proofs::Reaching::moved))]
     fn end_chapter<E: Eprint>(&mut self, rt: &E) -> Result<(), DiskFault>
         requires { is_all_stored self.old.stored ≡ true }
-        ensures moves { Reaches self.old.stored.station self.new.stored.station }
         ensures station { self.new.stored.station ≡ self.old.stored.station }
         ensures stored { is_all_stored self.new.stored ≡ true }
     {
@@ -252,8 +260,7 @@ impl<D: Disk> Connections<D> {
         self.store()?;
         self.send_each(registry, rt, now);
         // The sign-offs of sessions whose connections failed while they were sent to.
-        self.store()?;
-        self.end_chapter(rt)
+        self.store_and_end(rt)
     }
 
     /// Whoever is due is sent what it may be told, and a session that has ended is closed.
@@ -447,8 +454,7 @@ impl<D: Disk> Connections<D> {
         self.send_last_to_all(now);
         self.remove_all();
         stored?;
-        self.store()?;
-        self.end_chapter(rt)
+        self.store_and_end(rt)
     }
 
     /// Each session ends.
