@@ -115,6 +115,7 @@ impl<D: Disk> Connections<D> {
     #[tactic(auto, using(crate::proofs::Reaching::moved))]
     fn store_and_end<E: Eprint>(&mut self, rt: &E) -> Result<(), DiskFault>
         ensures moves { Reaches self.old.stored.station self.new.stored.station }
+        ensures station { self.new.stored.station ≡ self.old.stored.station }
         ensures stored { OnOk result (is_all_stored self.new.stored ≡ true) }
     {
         self.store()?;
