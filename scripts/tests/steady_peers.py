@@ -6,7 +6,7 @@ import threading
 import time
 
 from shared.checks import Failed, expect
-from shared.journals import DETAIL, Session, is_notice, without_token
+from shared.histories import DETAIL, Session, is_notice, without_token
 from shared.serving import WAIT
 from shared.station import (
     CLEAR, CLOSE, DISPENSER, FLOW, HANG_UP, LIFT, LOCK, OPEN, PREPAY, RELEASE, REPORT, RESULT,

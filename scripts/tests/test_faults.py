@@ -51,7 +51,7 @@ import time
 import typing
 
 from shared.checks import Failed, expect
-from shared.journals import (
+from shared.histories import (
     find_untold, first_lines, read_journal, retitle, whole_lines, write_rows,
 )  # fmt: skip
 from shared.page_day import PageDay

@@ -20,7 +20,7 @@ import threading
 import time
 
 from shared.checks import Failed, expect
-from shared.journals import is_read
+from shared.histories import is_read
 from shared.running import close_input, run
 from shared.serving import LOOK, WAIT, read_status, send_reset, send_until, start_day
 from shared.station import (

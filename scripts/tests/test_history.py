@@ -1,9 +1,10 @@
-"""The journal of `forecourt station`.
+"""The history of `forecourt station`.
 
-Journals that are made by hand are opened; journals lie on files that can't be used, on a full
-disk, and beside closed standard streams; and a station of eight tills and eight dispensers is
-killed again and again, and started on its journal. What each peer was told is compared with what
-a replay of the journal answers. A test that the system doesn't allow says that it is skipped."""
+Histories that are made by hand are opened; their folders lie at places that can't be used, on a
+full disk, and beside closed standard streams; chapters end; and a station of eight tills and eight
+dispensers is killed again and again, and started on its history. What each peer was told is
+compared with what a replay of the chapters answers. A test that the system doesn't allow says that
+it is skipped."""
 
 import contextlib
 import fcntl
@@ -20,15 +21,17 @@ import threading
 import time
 
 from shared.checks import Failed, Skipped, expect
-from shared.journals import (
-    FIRST_LINES, Told, count_rows, expect_looks, find_untold, first_lines, is_notice, is_read,
-    is_sign_off, read_journal, retitle, split_messages, whole_lines, without_token, write_rows,
+from shared.histories import (
+    FIRST_LINES, LOCK_FILE, NO_SEAL, SITE_FILE, Told, chapter_path, check_chapters, count_rows,
+    expect_looks, find_untold, first_lines, is_notice, is_read, is_sign_off, list_chapters,
+    read_chapters, read_rows, retitle, seal_line, seal_of, split_messages, whole_lines,
+    without_token, write_chapters, write_history, write_rows,
 )  # fmt: skip
 from shared.running import run
-from shared.serving import WAIT, read_status, send_reset, start_day, wait_until
+from shared.serving import WAIT, Found, read_status, send_reset, start_day, wait_until
 from shared.station import (
-    ACKNOWLEDGE, CLEAR, CLOSE, DISPENSER, FLOW, HANG_UP, KNOWN_SITE, LIFT, LOCK, OPEN, RELEASE,
-    RESULT, SITE, TILL, WRITE, address_point, command_point, command_sale, decode, encode, parse,
+    ACKNOWLEDGE, CLEAR, CLOSE, CLOSE_SHIFT, DISPENSER, FLOW, HANG_UP, KNOWN_SITE, LIFT, LOCK, OPEN, RELEASE,
+    RESULT, SITE, TILL, WRITE, address_point, ask_site, command_point, command_sale, decode, encode, parse,
     read_point, read_product, read_sale, read_site, receive, receive_all, receive_message, report,
     sign_off, sign_on, write_report,
 )  # fmt: skip
@@ -37,12 +40,12 @@ from tests.steady_peers import POINTS, Pump, Runs, Till, say
 from tests.suite import make_folder, start_chance, test
 
 HERE = make_folder()
-OTHER_SITE = HERE / "other.toml"
 FIRST = first_lines(KNOWN_SITE)
 NOBODY = 65_534
 LINES = 150
 AT_ONCE = 6  # stations
 MANY = 200  # rows, and messages, until a disk is full
+SITE_LINE = 2  # of a chapter
 MOST_KILOBYTES = 16_384  # of a station that forgets rows
 LISTENING = re.compile(rb"listening 127\.0\.0\.1:\d+\n")
 # Till 2 releases point 1, which till 1 opened, and its dispenser sells ten litres.
@@ -52,21 +55,27 @@ DAY = [
     command_sale(2, 0, 1, 1, LOCK), command_sale(2, 0, 1, 1, CLEAR), sign_off(2),
 ]  # fmt: skip
 DAY_TEXT = FIRST + write_rows(*DAY)
+# A shift in which nothing was sold.
+CLOSING = write_rows(sign_on(1), ask_site(1, CLOSE_SHIFT, 0), sign_off(1))
 OFF_1 = write_rows(sign_off(1))
 
 
-def write_journal(text, name="journal"):
-    path = HERE / name
-    path.write_bytes(text)
-    return path
+def write_chapter(text, name="history", site=KNOWN_SITE):
+    """Makes the folder of a history with one chapter, in place of what has its name; returns the
+    chapter's file."""
+    return chapter_path(write_history(HERE / name, site, text))
 
 
-def command(journal, *words, site=KNOWN_SITE):
-    return [*map(str, [PROGRAM, "station", site, "--port", 0, "--journal", journal, *words])]
+def command(folder, *words, site=KNOWN_SITE):
+    """A station of this site file, or None for the folder's own, with its history in this folder,
+    or in that of this chapter."""
+    folder = str(folder).removesuffix("/" + chapter_path("").name)
+    sites = [] if site is None else [site]
+    return [*map(str, [PROGRAM, "station", *sites, "--port", 0, "--history", folder, *words])]
 
 
-def start_station(journal, *words, site=KNOWN_SITE, **how):
-    return start_day(command(journal, *words, site=site), **{"stdin": subprocess.PIPE, **how})
+def start_station(folder, *words, site=KNOWN_SITE, **how):
+    return start_day(command(folder, *words, site=site), **{"stdin": subprocess.PIPE, **how})
 
 
 def end(day, told=""):
@@ -77,41 +86,57 @@ def end(day, told=""):
 
 
 def report_of(text, site=KNOWN_SITE):
-    """The report of a journal's text, which is read as any day's."""
+    """The report of the chapters' texts, which are read as any day's."""
     made = run(PROGRAM, "report", site, given=text)
-    expect("the report of the journal", (made.status, made.err), (0, ""))
+    expect("the report of the chapters", (made.status, made.err), (0, ""))
     return made.out
 
 
+def say_found(rows, chapters=1):
+    """What a start says of a history of so many chapters and rows."""
+    return f"history chapters {chapters} rows {rows}\n".encode()
+
+
 def expect_opened(what, text, whole, rows, signed_off=b"", site=KNOWN_SITE, reported=None):
-    """A station opens this journal: it says how many rows it had, its file is then the whole lines
-    and the sign-offs of who was signed on, and its report that of them, or another one."""
-    path = write_journal(text) if text is not None else HERE / "none"
-    path.unlink() if text is None and path.exists() else None
+    """A station opens this chapter: it says how many rows it had, its file is then the whole lines
+    and the sign-offs of who was signed on, and its report that of them, or another one. Without a
+    text there is no folder."""
+    path = write_chapter(text or b"", site=site)
+    if text is None:
+        shutil.rmtree(path.parent)
     ended = run(*command(path, site=site))
     told = LISTENING.sub(b"listening\n", ended.out)
     after = path.read_bytes()
     expect(f"{what}: the file", after, whole + signed_off)
-    said = f"journal rows {rows}\n".encode() if rows else b""
+    said = b"history new\n" if text is None else say_found(rows)
     wanted = said + b"listening\n" + (reported or report_of(after, site))
     expect(what, (ended.status, ended.err, told), (0, "", wanted))
+    expect_files(f"{what}: the files", path.parent, site, 1)
 
 
-def expect_refused(what, path, fault, site=KNOWN_SITE, **how):
-    """A station doesn't open this journal, and says why."""
-    ended = run(*command(path, site=site), **how)
+def expect_files(what, folder, site, chapters):
+    """A history's folder has its site file, its lock and its chapters, and nothing more."""
+    names = {SITE_FILE, LOCK_FILE, *(chapter_path("", number + 1).name for number in range(chapters))}
+    expect(what, {path.name for path in folder.iterdir()}, names)
+    expect(f"{what}: its site file", (folder / SITE_FILE).read_bytes(), site.read_bytes())
+
+
+def expect_refused(what, folder, fault, site=KNOWN_SITE, **how):
+    """A station doesn't open this history, and says why."""
+    ended = run(*command(folder, site=site), **how)
     got = (ended.status, ended.out, ended.err)
     expect(what, got, (1, b"", f"{fault}\n"))
 
 
 def expect_line(what, text, number, site=KNOWN_SITE):
-    """The line of this number is no journal's: the file stays as it is."""
-    path = write_journal(text)
-    expect_refused(what, path, f"chapter 1 line {number}", site)
+    """The line of this number is no chapter's: the file stays as it is."""
+    path = write_chapter(text, site=site)
+    fault = "history of another site" if number == SITE_LINE else f"chapter 1 line {number}"
+    expect_refused(what, path, fault, site)
     expect(f"{what}: the file", path.read_bytes(), text)
 
 
-# ---- journals made by hand
+# ---- chapters made by hand
 
 
 @test
@@ -125,7 +150,7 @@ def nothing_yet():
 
 @test
 def rows_are_made_again():
-    """Whose till is still signed on is signed off, and that is journalled: the next start finds
+    """Whose till is still signed on is signed off, and that is stored: the next start finds
     it."""
     expect_opened("a day", DAY_TEXT, DAY_TEXT, len(DAY), OFF_1)
     after = DAY_TEXT + OFF_1
@@ -139,9 +164,9 @@ def rows_are_made_again():
 
 @test
 def it_goes_on():
-    """A station that was opened on a journal answers as if it had never stopped; both days are one
-    journal."""
-    path = write_journal(DAY_TEXT)
+    """A station that was opened on a history answers as if it had never stopped; both days are one
+    chapter."""
+    path = write_chapter(DAY_TEXT)
     more = [sign_on(1), read_sale(1, 0, 1, 1), command_point(1, 0, 1, RELEASE), read_point(1, 0, 1)]
     with start_station(path) as day, day.connect() as till:
         expect("rows", day.rows, len(DAY))
@@ -150,8 +175,8 @@ def it_goes_on():
         told = end(day)
         expect("no more is told", receive_all(till), b"")
     after, kept = path.read_bytes(), [one for one in more if not is_read(one)]
-    expect("the journal", after, DAY_TEXT + OFF_1 + write_rows(*kept) + OFF_1)
-    all_rows = read_journal(PROGRAM, KNOWN_SITE, DAY_TEXT + OFF_1 + write_rows(*more))
+    expect("the chapter", after, DAY_TEXT + OFF_1 + write_rows(*kept) + OFF_1)
+    all_rows = read_rows(PROGRAM, KNOWN_SITE, DAY_TEXT + OFF_1 + write_rows(*more))
     expect("the replies", got, b"".join(row.reply for row in all_rows[len(DAY) + 1 :]))
     expect("the report", told.encode(), report_of(after))
 
@@ -160,7 +185,7 @@ def it_goes_on():
 def lines_are_rows():
     """What makes no row makes no line: a message that means no event, a stranger's, and what ends a
     session. Nor does a read, whose row isn't kept. A refusal is a row."""
-    path = write_journal(b"")
+    path = write_chapter(b"")
     stranger = encode((SITE, 1), (9, 9), 0, 0, address_point(1))
     empty = encode((SITE, 1), (TILL, 1), WRITE, 0, address_point(1))
     read, refused = read_point(1, 0, 1), command_point(1, 0, 1, OPEN)
@@ -168,7 +193,7 @@ def lines_are_rows():
         for sent in (stranger, empty, b"\xff" * 8, b"", read[:5], empty + read + refused + empty):
             day.ask(sent)
         told = end(day, None)
-    expect("the journal", path.read_bytes(), FIRST + write_rows(refused))
+    expect("the chapter", path.read_bytes(), FIRST + write_rows(refused))
     expect("the report", told, write_report(1, 0))
 
 
@@ -184,7 +209,7 @@ def ends_are_stored():
         ("a fault", (), lambda till: till.sendall(b"\xff" * 8)),
         ("silent", ("--idle", "1"), lambda till: None),
     ):
-        path = write_journal(b"")
+        path = write_chapter(b"")
         with start_station(path, *words) as day:
             till = day.connect()
             till.sendall(sign_on(1))
@@ -208,7 +233,7 @@ def unfinished_last_lines():
 
 @test
 def bad_lines():
-    """What is no request of a till or a dispenser, at each place of a journal; many are a line that
+    """What is no request of a till or a dispenser, at each place of a chapter; many are a line that
     is accepted there, spoiled a little."""
     line = write_rows(command_point(1, 0, 1, OPEN))[:-1]
     stranger = encode((SITE, 1), (9, 9), 0, 0, address_point(1))
@@ -248,7 +273,7 @@ def mutate(chance, octets):
 
 @test
 def random_lines(seed):
-    """A line is a journal's just where a replay answers it by one reply of a row, and it is no
+    """A line is a chapter's just where a replay answers it by one reply of a row, and it is no
     read: requests of all kinds, and what random changes make of them."""
     chance, counts = start_chance(seed, "lines"), [0, 0]
     kinds = [*DAY, *map(parse, (
@@ -304,16 +329,13 @@ def other_first_lines():
     for text in (b"x", b"# witsomar histora", b"01", b"\0" * 10):
         expect_line(f"{text} without a line feed", text, 1)
     for length in range(1, len(FIRST)):
-        path = write_journal(FIRST[:length])
+        path = write_chapter(FIRST[:length])
         whole = FIRST[:length].count(b"\n")
-        faults = "chapter 1 line 1", "journal of another site", "chapter 1 line 3"
+        faults = "chapter 1 line 1", "history of another site", "chapter 1 line 3"
         expect_refused(f"{length} octets", path, faults[whole])
         expect(f"{length} octets stay", path.read_bytes(), FIRST[:length])
-    OTHER_SITE.write_bytes(KNOWN_SITE.read_bytes() + b"\n")
-    for text in (DAY_TEXT, FIRST):
-        path = write_journal(text)
-        expect_refused("another site's", path, "journal of another site", OTHER_SITE)
-        expect("another site's file", path.read_bytes(), text)
+    for wrong in (site[:-1] + b" \n", site[:-2] + b"\n", site.upper(), b"\n", b""):
+        expect_line(f"{wrong} names the site", title + wrong + after + rows, SITE_LINE)
 
 
 @test
@@ -357,7 +379,7 @@ def other_spellings():
 
 @test
 def long_histories():
-    """A journal of more rows than the site file allows in memory is read again, and goes on. To
+    """A chapter of more rows than the site file allows in memory is read again, and goes on. To
     `report` the rows behind those that it allows are none."""
     site, limit = HERE / "few.toml", 1_024
     site.write_bytes(b"rows = %d\n" % limit + KNOWN_SITE.read_bytes())
@@ -368,7 +390,7 @@ def long_histories():
         text = first_lines(site) + rows
         expect_opened(f"{count} rows", text, text, count, OFF_1, site, report_of(rows + OFF_1))
         expect("to a report", report_of(text, site), write_report(limit, 0).encode())
-    path = HERE / "journal"
+    path = HERE / "history"
     with start_station(path, site=site) as day, day.connect() as till:
         expect("rows", day.rows, 3_001)
         till.sendall(sign_on(1) + command_point(1, 0, 1, OPEN))
@@ -385,7 +407,7 @@ def long_histories():
 def reads_are_not_stored():
     """The four reads, and what refuses them, write nothing. That they aren't flushed is tested by
     test_faults.py."""
-    path = write_journal(b"")
+    path = write_chapter(b"")
     with start_station(path) as day, day.connect() as till:
         till.sendall(sign_on(1))
         expect("a reply", len(receive_message(till)), 16)
@@ -395,9 +417,9 @@ def reads_are_not_stored():
         for one in reads:
             till.sendall(one)
             receive_message(till)
-        expect("the journal", (path.read_bytes(), path.stat().st_mtime_ns), (before, changed))
+        expect("the chapter", (path.read_bytes(), path.stat().st_mtime_ns), (before, changed))
         expect("the report", end(day).splitlines()[0], "rows 2")
-    expect("the journal", path.read_bytes(), before + OFF_1)
+    expect("the chapter", path.read_bytes(), before + OFF_1)
     for one in reads:
         expect_line("a read", FIRST + write_rows(sign_on(1), one), FIRST_LINES + 2)
 
@@ -405,8 +427,8 @@ def reads_are_not_stored():
 @test
 def five_million_reads():
     """A till that looks five million times is answered each time, never that the book is full. The
-    journal doesn't grow, and the rows in memory are forgotten."""
-    path, piece = write_journal(b""), b"".join(read_point(1, n % 32, 1) for n in range(3_200))
+    chapter doesn't grow, and the rows in memory are forgotten."""
+    path, piece = write_chapter(b""), b"".join(read_point(1, n % 32, 1) for n in range(3_200))
     with start_station(path) as day, day.connect() as till:
         till.sendall(sign_on(1))
         expect("a reply", len(receive_message(till)), 16)
@@ -420,7 +442,7 @@ def five_million_reads():
         for turn in range(turns):
             expect(f"replies of turn {turn}", receive(till, len(wanted)) == wanted, True)
         sender.join()
-        expect("the journal", path.read_bytes(), before)
+        expect("the chapter", path.read_bytes(), before)
         memory = read_status(day, "VmHWM")
         expect(f"{memory} kB", memory < MOST_KILOBYTES, True)
         expect("the report", end(day).splitlines()[0], "rows 2")
@@ -431,21 +453,22 @@ def five_million_reads():
 
 @test
 def in_use():
-    """A second station on a journal is refused while the first one lives; one that was killed
-    leaves it free."""
-    path = write_journal(FIRST)
+    """A second station on a history is refused while the first one lives, whatever name it gives to
+    the folder; one that was killed leaves it free."""
+    path = write_chapter(FIRST)
+    folder = path.parent
     with start_station(path) as day, day.connect() as till:
         till.sendall(sign_on(1))
         expect("a reply", len(receive_message(till)), 16)
         before = path.read_bytes()
-        link, second = HERE / "link", HERE / "second_name"
-        link.symlink_to(path)
-        second.hardlink_to(path)
-        for name in (path, link, second):
-            expect_refused("in use", name, "journal in use")
+        link = HERE / "link"
+        link.symlink_to(folder)
+        for name in (folder, link, f"{folder}/", f"{folder}/../history"):
+            expect_refused("in use", name, "history in use")
+            expect_refused("in use, without a site file", name, "history in use", None)
         link.unlink()
-        second.unlink()
         expect("the file", path.read_bytes(), before)
+        expect_files("in use", folder, KNOWN_SITE, 1)
         day.process.kill()
         day.process.wait(WAIT)
     with start_station(path) as day:
@@ -456,15 +479,14 @@ def in_use():
 
 @test
 def starts_at_once():
-    """Of some stations that are started at once on one journal just one serves, and each other one
+    """Of some stations that are started at once on one history just one serves, and each other one
     is told that it is in use."""
     pipe = subprocess.PIPE
     for text in (None, DAY_TEXT):
         for _ in range(AT_ONCE):
-            path = HERE / "at_once"
-            path.unlink(missing_ok=True)
-            if text:
-                path.write_bytes(text)
+            path = write_chapter(text or b"", "at_once")
+            if text is None:
+                shutil.rmtree(path.parent)
             with contextlib.ExitStack() as stack:
                 all_ = [
                     stack.enter_context(
@@ -472,49 +494,146 @@ def starts_at_once():
                     )
                     for _ in range(AT_ONCE)
                 ]
-                lines = sorted(one.stdout.readline()[:12] for one in all_)
-                served = b"journal rows" if text else b"listening 12"
+                lines = sorted(one.stdout.readline() for one in all_)
+                served = say_found(len(DAY)) if text else b"history new\n"
                 expect("who serves", lines, [b""] * (AT_ONCE - 1) + [served])
                 ends = []
                 for one in all_:
                     _, err = one.communicate(timeout=WAIT)
                     ends.append((one.returncode, err))
-            refused = [(1, b"journal in use\n")] * (AT_ONCE - 1)
+            refused = [(1, b"history in use\n")] * (AT_ONCE - 1)
             expect("how they end", sorted(ends), [(0, b""), *refused])
             expect("the file", path.read_bytes(), text + OFF_1 if text else FIRST)
+            expect_files("at once", path.parent, KNOWN_SITE, 1)
 
 
 @test
-def no_files():
-    """Names at which no journal can lie are refused at once."""
+def own_sites():
+    """A history has its own site file, so a later start may leave it out. One that is named says
+    the same site, however it is written; else the history is of another site."""
+    path, told = write_chapter(DAY_TEXT), KNOWN_SITE.read_text()
+    folder = path.parent
+    ended = run(*command(folder, site=None))
+    expect("without a site file", (ended.status, ended.err), (0, ""))
+    text = path.read_bytes()
+    expect("its chapter", text, DAY_TEXT + OFF_1)
+    site = HERE / "named.toml"
+    same = {
+        "a comment": f"# {'x' * 100}\n{told}# the end\n",
+        "spaces": told.replace(" = ", "   =\t").replace("\n", "  \n\n"),
+        "line ends": told.replace("\n", "\r\n"),
+        "the rows that it allows": f"rows = 1000000\n{told}",
+        "another order": "\n".join([told[told.index("[[point]]") :], told[: told.index("[[point]]")]])
+        if told.startswith("[[") else told,
+        "other digits": told.replace("1500", "1_500"),
+    }  # fmt: skip
+    for what, one in same.items():
+        site.write_text(one)
+        ended = run(*command(folder, site=site))
+        expect(what, (ended.status, ended.err), (0, ""))
+        expect(f"{what}: the chapter", path.read_bytes(), text)
+        expect_files(what, folder, KNOWN_SITE, 1)
+    others = {
+        "a price": told.replace("1500", "1501"), "a name": told.replace("diesel", "Diesel"),
+        "no manager": told.replace("managers = [1]\n", ""),
+        "another manager": told.replace("managers = [1]", "managers = [1, 2]"),
+        "fewer rows": f"rows = 999999\n{told}", "a reading": told.replace("= 1000}", "= 1001}", 1),
+        "a point less": told[: told.rindex("[[point]]")],
+    }  # fmt: skip
+    for what, one in others.items():
+        site.write_text(one)
+        expect("another text", one != told, True)
+        expect_refused(what, folder, "history of another site", site)
+        expect(f"{what}: the chapter", path.read_bytes(), text)
+        expect_files(what, folder, KNOWN_SITE, 1)
+    site.write_text(others["a price"])
+    empty = write_history(HERE / "no_chapter", KNOWN_SITE)
+    expect_refused("without a chapter", empty, "history of another site", site)
+    ended = run(*command(empty, site=None))
+    expect("a site file and no chapter", (ended.status, ended.err), (0, ""))
+    expect("it is new", ended.out.startswith(b"history new\nlistening "), True)
+    expect_files("a site file and no chapter", empty, KNOWN_SITE, 1)
+
+
+@test
+def faults_of_own_sites():
+    """The folder's site file has a fault, or isn't there, or is none."""
+    folder = write_history(HERE / "faulty", KNOWN_SITE, DAY_TEXT)
+    own = folder / SITE_FILE
+    for text, fault in (
+        (b"", "fault 72 product"), (b"rows = 1023\n" + KNOWN_SITE.read_bytes(), "fault 74 rows"),
+        (b"nothing\n", "fault 70 1"),
+    ):  # fmt: skip
+        own.write_bytes(text)
+        checked = run(PROGRAM, "check", own)
+        if "rows" not in fault:
+            fault = (checked.out.decode() + checked.err).strip()
+        for site in (None, KNOWN_SITE):
+            expect_refused(f"{text[:20]}", folder, f"{SITE_FILE}: {fault}", site)
+        expect("its site file stays", own.read_bytes(), text)
+    own.unlink()
+    for site in (None, KNOWN_SITE):
+        expect_refused("no site file, and a chapter", folder, f"cannot read {own}", site)
+    expect("none is made", own.exists(), False)
+    own.mkdir()
+    for site in (None, KNOWN_SITE):
+        expect_refused("a folder as site file", folder, f"cannot read {own}", site)
+    expect("the chapter", chapter_path(folder).read_bytes(), DAY_TEXT)
+
+
+@test
+def no_folders():
+    """Names at which no history can lie are refused at once."""
     fifo, dangling, ring = HERE / "fifo", HERE / "dangling", HERE / "ring"
     os.mkfifo(fifo)
     dangling.symlink_to(HERE / "nowhere")
     ring.symlink_to(ring)
-    file = write_journal(FIRST, "file")
+    file = HERE / "file"
+    file.write_bytes(FIRST)
     names = [
-        HERE, fifo, dangling, ring, "/dev/full", "/dev/null", "/dev/zero", "", "/",
-        HERE / "no/such", f"{file}/x", f"{HERE}/slash/", HERE / ("x" * 300),
+        file, fifo, dangling, ring, "/dev/full", "/dev/null", "", f"{file}/x", f"{file}/",
+        HERE / "no/such", HERE / ("x" * 300),
     ]  # fmt: skip
     for name in names:
-        expect_refused(f"{name}", name, f"cannot read {name}", timeout=10)
+        for site in (KNOWN_SITE, None):
+            expect_refused(f"{name}", name, f"cannot read {name}", site, timeout=10)
     expect("nothing is made", sorted(p.name for p in HERE.iterdir() if p.name in
-           ("nowhere", "slash", "no")), [])  # fmt: skip
-    with os.fdopen(os.open(fifo, os.O_RDWR)):
-        expect_refused("a fifo with a reader", fifo, f"cannot read {fifo}", timeout=10)
-    site = HERE / "site.toml"
-    site.write_bytes(KNOWN_SITE.read_bytes())
-    expect_refused("the site file", site, "chapter 1 line 1", site)
-    expect("the site file stays", site.read_bytes(), KNOWN_SITE.read_bytes())
+           ("nowhere", "no")), [])  # fmt: skip
+    expect("the file stays", file.read_bytes(), FIRST)
+    first = HERE / "first_without"
+    expect_refused("a first start", first, f"cannot read {first / SITE_FILE}", None)
+    expect("no chapter is made", list_chapters(first), [])
+    ended = run(*command(first))
+    expect("then with a site file", (ended.status, ended.err), (0, ""))
+    expect_files("then with a site file", first, KNOWN_SITE, 1)
     link = HERE / "good"
-    link.symlink_to(file)
+    link.symlink_to(first)
     ended = run(*command(link))
-    expect("a link to a journal", (ended.status, file.read_bytes()), (0, FIRST))
+    expect("a link to a folder", (ended.status, ended.err), (0, ""))
+
+
+@test
+def no_files():
+    """What has a chapter's name, or the lock's, and is no file: it is refused at once."""
+    folder = HERE / "no_files"
+    for name in (LOCK_FILE, chapter_path("", 1).name, chapter_path("", 2).name):
+        for what, make in (
+            ("a folder", lambda path: path.mkdir()), ("a fifo", os.mkfifo),
+            ("a dangling link", lambda path: path.symlink_to(HERE / "nowhere")),
+            ("a ring", lambda path: path.symlink_to(path)),
+        ):  # fmt: skip
+            write_history(folder, KNOWN_SITE, *write_chapters(KNOWN_SITE, CLOSING, b""))
+            (folder / name).unlink(missing_ok=True)
+            make(folder / name)
+            ended = run(*command(folder), timeout=10)
+            got = (ended.status, ended.out, ended.err.startswith("cannot read "))
+            expect(f"{what} as {name}: {ended.err}", got, (1, b"", True))
+    expect("nothing is made", (HERE / "nowhere").exists(), False)
 
 
 @test
 def without_leave():
-    """Who may not read and write the file, or make it, is refused; who may is served."""
+    """Who may not read and write the files, or make the folder, is refused; who may is served."""
     if os.geteuid() != 0:
         raise Skipped("not root")
     os.chmod(HERE, 0o755)
@@ -528,29 +647,37 @@ def without_leave():
     theirs.mkdir(mode=0o700)
     os.chown(theirs, NOBODY, NOBODY)
     for mode in (0o600, 0o644, 0o200, 0o622):
-        path = write_journal(DAY_TEXT, "kept")
+        path = write_chapter(DAY_TEXT, "kept")
+        os.chown(path.parent, NOBODY, NOBODY)
         path.chmod(mode)
-        expect_refused(f"mode {mode:o}", path, f"cannot read {path}", **how)
+        expect_refused(f"mode {mode:o}", path, f"cannot read {path.parent}", **how)
         expect("the file", path.read_bytes(), DAY_TEXT)
-        path.unlink()
-    path = HERE / "none_yet"
-    expect_refused("a folder of others", path, f"cannot read {path}", **how)
-    expect("no file is made", path.exists(), False)
-    path = theirs / "journal"
+    path = write_chapter(DAY_TEXT, "kept")
+    path.parent.chmod(0o755)
     ended = run(*command(path), **how)
-    expect("their own", (ended.status, ended.err, path.read_bytes()), (0, "", FIRST))
+    got = (ended.status, ended.out, ended.err.startswith("cannot read "))
+    expect(f"a folder of others: {ended.err}", got, (1, b"", True))
+    expect("the file", path.read_bytes(), DAY_TEXT)
+    expect("no lock is made", (path.parent / LOCK_FILE).exists(), False)
+    folder = HERE / "none_yet"
+    expect_refused("in a folder of others", folder, f"cannot read {folder}", **how)
+    expect("no folder is made", folder.exists(), False)
+    folder = theirs / "history"
+    ended = run(*command(folder), **how)
+    text = chapter_path(folder).read_bytes()
+    expect("their own", (ended.status, ended.err, text), (0, "", FIRST))
 
 
 def copy_of(path):
-    """The file to which a start writes a journal anew."""
+    """The file to which a start writes a chapter anew."""
     return path.with_name(path.name + ".starting")
 
 
 @test
 def what_a_start_puts_in_its_place():
-    """A start puts a new file in a journal's place, with its owner and leave; a journal that is
-    made is its owner's alone. What an earlier start has left is removed."""
-    path, owner = write_journal(DAY_TEXT), NOBODY if os.geteuid() == 0 else os.geteuid()
+    """A start puts a new file in the open chapter's place, with its owner and permissions; a folder
+    and files that are made are their owner's alone. What an earlier start has left is removed."""
+    path, owner = write_chapter(DAY_TEXT), NOBODY if os.geteuid() == 0 else os.geteuid()
     path.chmod(0o640)
     os.chown(path, owner, owner if os.geteuid() == 0 else -1)
     before = path.stat()
@@ -561,47 +688,64 @@ def what_a_start_puts_in_its_place():
     expect("another one", after.st_ino != before.st_ino, True)
     for what in ("st_mode", "st_uid", "st_gid"):
         expect(what, getattr(after, what), getattr(before, what))
-    expect("nothing is left", copy_of(path).exists(), False)
+    expect_files("nothing is left", path.parent, KNOWN_SITE, 1)
     made = HERE / "made"
     expect("its end", run(*command(made)).status, 0)
-    expect("leave of a new one", stat.filemode(made.stat().st_mode), "-rw-------")
-    expect("nothing is left", copy_of(made).exists(), False)
+    expect("permissions of a new folder", stat.filemode(made.stat().st_mode), "drwx------")
+    for one in made.iterdir():
+        expect(f"permissions of {one.name}", stat.filemode(one.stat().st_mode), "-rw-------")
+    expect_files("nothing is left", made, KNOWN_SITE, 1)
 
 
 @test
-def names_of_copies():
-    """A start of another journal may take such a file for what an earlier one has left."""
-    path = write_journal(DAY_TEXT, "another.starting")
-    link = HERE / "link_to_another"
-    link.symlink_to(path)
-    for name in (path, link):
-        expect_refused(f"{name.name}", name, f"cannot read {name}")
-    expect("the file", path.read_bytes(), DAY_TEXT)
-    expect_refused("none yet", HERE / "none.starting", f"cannot read {HERE / 'none.starting'}")
-    expect("no file is made", (HERE / "none.starting").exists(), False)
+def what_isnt_a_chapter():
+    """Files in the folder whose names are no chapter's stay, and count for nothing."""
+    path = write_chapter(DAY_TEXT)
+    names = ["1.journal", "0000001.journal", "000000.journal", "000002.journal.old", "00002.journal",
+             "00000x.journal", "000003.Journal", "notes", b"\xff.journal"]  # fmt: skip
+    for name in names:
+        with open(os.path.join(os.fsencode(path.parent), os.fsencode(name)), "wb") as file:
+            file.write(b"x")
+    (path.parent / "000002").mkdir()
+    ended = run(*command(path))
+    expect("its end", (ended.status, ended.err), (0, ""))
+    expect("what it found", ended.out.startswith(say_found(len(DAY))), True)
+    expect("how many files", len(list(path.parent.iterdir())), len(names) + 4)
+    expect("the chapter", path.read_bytes(), DAY_TEXT + OFF_1)
 
 
 @test
-def errors_into_the_journal():
-    """Where standard error goes to the journal, a start that is refused tells nothing: the journal
-    stays as it is, a running station's too."""
-    path = write_journal(DAY_TEXT, "told")
+def outputs_into_the_history():
+    """Where standard error goes to a file of the history, a start that is refused tells nothing:
+    the history stays as it is, a running station's too. Where standard output goes there, the
+    start is refused."""
+    bodies = [CLOSING, write_rows(*DAY)]
+    texts = write_chapters(KNOWN_SITE, *bodies)
+    folder = write_history(HERE / "told", KNOWN_SITE, *texts)
+    open_ = chapter_path(folder, 2)
 
-    def start_there():
+    def start_there(path, said, **streams):
+        before = [file.read_bytes() for file in (*list_chapters(folder), folder / SITE_FILE)]
         with open(path, "ab") as told:
+            how = {name: told if where == "there" else where for name, where in streams.items()}
             ended = subprocess.run(
-                command(path), stdin=subprocess.DEVNULL, stdout=subprocess.PIPE, stderr=told,
-                timeout=WAIT, check=False,
-            )  # fmt: skip
-        expect("its end", (ended.returncode, ended.stdout), (1, b""))
+                command(folder), stdin=subprocess.DEVNULL, timeout=WAIT, check=False, **how
+            )
+        got = (ended.returncode, ended.stdout, ended.stderr)
+        expect(f"{path.name}: its end", got, said)
+        after = [file.read_bytes() for file in (*list_chapters(folder), folder / SITE_FILE)]
+        expect(f"{path.name}: the files", after, before)
 
-    start_there()
-    expect("the file", path.read_bytes(), DAY_TEXT)
-    with start_station(path) as day:
-        expect("rows", day.rows, len(DAY))
-        start_there()
+    pipe = subprocess.PIPE
+    for path in (chapter_path(folder, 1), open_, folder / SITE_FILE):
+        start_there(path, (1, b"", None), stdout=pipe, stderr="there")
+        start_there(path, (1, None, b"history in use\n"), stdout="there", stderr=pipe)
+    with start_station(folder) as day:
+        expect("what it found", day.found, Found(2, sum(map(count_rows, texts))))
+        for path in (chapter_path(folder, 1), open_, folder / SITE_FILE):
+            start_there(path, (1, b"", None), stdout=pipe, stderr="there")
         end(day, None)
-    expect("the file", path.read_bytes(), DAY_TEXT + OFF_1)
+    expect("the file", open_.read_bytes(), texts[1] + OFF_1)
 
 
 @test
@@ -610,12 +754,9 @@ def what_others_have_left():
     if os.geteuid() != 0:
         raise Skipped("not root")
     os.chmod(HERE, 0o755)
-    folder = HERE / "shared"
-    folder.mkdir()
-    os.chown(folder, NOBODY, NOBODY)
-    path = folder / "journal"
-    path.write_bytes(DAY_TEXT)
-    os.chown(path, NOBODY, NOBODY)
+    path = write_chapter(DAY_TEXT, "shared")
+    for one in (path.parent, path, path.parent / SITE_FILE):
+        os.chown(one, NOBODY, NOBODY)
     copy_of(path).write_bytes(DAY_TEXT[:100])
     copy_of(path).chmod(0o600)
     try:
@@ -629,14 +770,14 @@ def what_others_have_left():
 
 @test
 def no_place_for_a_copy():
-    """What no start has left isn't removed: the journal isn't opened, and stays as it is."""
-    path = write_journal(DAY_TEXT + b"01", "taken")
+    """What no start has left isn't removed: the history isn't opened, and stays as it is."""
+    path = write_chapter(DAY_TEXT + b"01", "taken")
     copy = copy_of(path)
 
     def expect_unopened(what):
         ended = run(*command(path))
         expect(what, (ended.status, ended.out, ended.err), (1, b"", "fault 62\n"))
-        expect(f"{what}: the journal", path.read_bytes(), DAY_TEXT + b"01")
+        expect(f"{what}: the chapter", path.read_bytes(), DAY_TEXT + b"01")
         expect(f"{what}: it stays", os.path.lexists(copy), True)
 
     copy.mkdir()
@@ -654,28 +795,33 @@ def no_place_for_a_copy():
         expect_unopened("a file that somebody has locked")
     expect("its octets", copy.read_bytes(), FIRST)
     expect("its end", run(*command(path)).status, 0)
-    expect("the journal", path.read_bytes(), DAY_TEXT + OFF_1)
+    expect("the chapter", path.read_bytes(), DAY_TEXT + OFF_1)
 
 
 @test
 def mistaken_words():
-    """The journal is looked at behind the command line and the site file."""
-    for words in (["--journal"], ["--journal", "a", "--journal", "b"]):
+    """The folder is looked at after the command line, then the site file, then the chapters."""
+    for words in (["--history"], ["--history", "a", "--history", "b"]):
         ended = run(PROGRAM, "station", KNOWN_SITE, "--port", "0", *words)
         expect(f"{words}", (ended.status, ended.out), (2, b""))
-    path = write_journal(b"bad\n")
+    ended = run(PROGRAM, "station", "--port", "0")
+    wanted = (2, b"", "error: a station needs a site file or --history FOLDER\n")
+    expect("neither", (ended.status, ended.out, ended.err), wanted)
+    path = write_chapter(b"bad\n")
+    folder = path.parent
     for port, site, wanted in (
         ("x", KNOWN_SITE, 2), ("0", "no_such_file", "cannot read no_such_file\n"),
         ("0", "/dev/null", "fault 72 product\n"), ("0", KNOWN_SITE, "chapter 1 line 1\n"),
     ):  # fmt: skip
-        ended = run(PROGRAM, "station", site, "--port", port, "--journal", path)
+        ended = run(PROGRAM, "station", site, "--port", port, "--history", folder)
         got = ended.status if wanted == 2 else (ended.status, ended.err)
         expect(f"{port} {site}", got, 2 if wanted == 2 else (1, wanted))
-    with start_station(write_journal(FIRST, "first")) as day:
-        ended = run(PROGRAM, "station", KNOWN_SITE, "--port", str(day.port), "--journal", path)
+    expect("the file", path.read_bytes(), b"bad\n")
+    with start_station(write_chapter(FIRST, "first")) as day:
+        ended = run(PROGRAM, "station", KNOWN_SITE, "--port", str(day.port), "--history", folder)
         expect("before listening", (ended.status, ended.err), (1, "chapter 1 line 1\n"))
-        path = write_journal(DAY_TEXT)
-        ended = run(PROGRAM, "station", KNOWN_SITE, "--port", str(day.port), "--journal", path)
+        path = write_chapter(DAY_TEXT)
+        ended = run(PROGRAM, "station", KNOWN_SITE, "--port", str(day.port), "--history", folder)
         expect("listening", (ended.status, ended.out, ended.err), (1, b"", "fault 63\n"))
         expect("its file", path.read_bytes(), DAY_TEXT + OFF_1)
 
@@ -690,12 +836,12 @@ def close_streams(*numbers):
 
 @test
 def closed_streams():
-    """Whatever is closed, the journal's file has nothing but its lines; where it can't be told
+    """Whatever is closed, the chapter has nothing but its lines; where it can't be told
     where it listens nobody is served."""
     for text, whole in ((b"", FIRST), (DAY_TEXT + b"01", DAY_TEXT + OFF_1)):
         for closed in ((1,), (2,), (1, 2), (0,), (0, 1), (0, 2), (0, 1, 2)):
             for words in ((), ("--detached",)):
-                path = write_journal(text)
+                path = write_chapter(text)
                 if words and 1 not in closed:
                     continue  # it serves until it is killed: see below
                 ended = run(*command(path, *words), preexec_fn=close_streams(*closed))
@@ -709,7 +855,7 @@ def closed_streams():
 @test
 def full_output():
     """A standard output that takes nothing ends the day; its rows are there at the next start."""
-    path = write_journal(DAY_TEXT)
+    path = write_chapter(DAY_TEXT)
     ended = run(*command(path), sink="/dev/full")
     expect("its end", (ended.status, ended.err), (1, "fault 62\n"))
     text = DAY_TEXT + OFF_1
@@ -720,11 +866,11 @@ def full_output():
 @test
 def closed_error():
     """What is told of sessions on a standard error that is closed goes nowhere: not to the
-    journal, and not to a peer."""
+    history, and not to a peer."""
     asked = [sign_on(1), command_point(1, 0, 1, OPEN)]
     for words in ((), ("--detached",)):
         for closed in ((2,), (0, 2)) if words else ((2,),):
-            path = write_journal(b"")
+            path = write_chapter(b"")
             with start_station(path, *words, preexec_fn=close_streams(*closed)) as day:
                 with day.connect() as other, day.connect() as peer:
                     peer.sendall(b"".join(asked) + b"\xff" * 8)
@@ -737,7 +883,7 @@ def closed_error():
             text = path.read_bytes()
             rows = [*asked, sign_off(1), sign_on(2)]
             expect(f"{closed} closed {words}: the file", text, FIRST + write_rows(*rows))
-            made = [row.reply for row in read_journal(PROGRAM, KNOWN_SITE, text)]
+            made = [row.reply for row in read_rows(PROGRAM, KNOWN_SITE, text)]
             fault = parse("FF FF 01 01 00 FF 00 05 01 01 01 01 28")
             told = decode(told)
             wanted = decode(b"".join([*made[:2], fault, made[3]]))
@@ -757,9 +903,9 @@ def receive_or_end(peer):
 
 
 def fill(path, what, seed, **how):
-    """A till closes and opens a point, and its dispenser listens, until the journal takes no more:
+    """A till closes and opens a point, and its dispenser listens, until the chapter takes no more:
     the day ends with fault 62 and without a report, and what both were told are rows that the
-    journal has."""
+    chapter has."""
     chance = start_chance(seed, what)
     with start_station(path, **how) as day, day.connect() as till, day.connect() as pump:
         pump.sendall(say(1))
@@ -777,7 +923,7 @@ def fill(path, what, seed, **how):
         out, err = day.process.communicate(timeout=WAIT)
         expect(f"{what}: the end", (day.process.returncode, out, err), (1, b"", b"fault 62\n"))
     text = whole_lines(path.read_bytes())
-    rows = read_journal(PROGRAM, KNOWN_SITE, text)
+    rows = read_rows(PROGRAM, KNOWN_SITE, text)
     for node, octets in came.items():
         untold = find_untold(rows, node, octets)
         expect(f"{what}: {node} is told what isn't stored", untold, None)
@@ -802,17 +948,17 @@ def a_file_that_takes_no_more(seed):
     """A file may take only so many octets, whatever line is torn there: that one is cut off again;
     a start that finds more room goes on behind the whole lines."""
     for most in (20_000, 20_001, 20_029, 65_536):
-        path = write_journal(b"")
+        path = write_chapter(b"")
         text = fill(path, f"a file of {most} octets", seed, preexec_fn=limit_file(most))
         expect("its octets: the stored rows alone", path.read_bytes(), text)
         expect("no more than it may take", len(text) <= most, True)
         rows = count_rows(text)
         offs = [sign_off(1)] if b"\n" + write_rows(sign_on(1)) in text else []
         expect_opened("with more room", path.read_bytes(), text, rows, write_rows(*offs))
-    path = write_journal(b"")
+    path = write_chapter(b"")
     ended = run(*command(path), preexec_fn=limit_file(len(FIRST) - 1))
     expect("no first line", (ended.status, ended.out, ended.err), (1, b"", "fault 62\n"))
-    path = write_journal(DAY_TEXT)
+    path = write_chapter(DAY_TEXT)
     ended = run(*command(path), preexec_fn=limit_file(len(DAY_TEXT)))
     expect("no sign-off", (ended.status, ended.out, ended.err), (1, b"", "fault 62\n"))
     expect("the rows stay", path.read_bytes(), DAY_TEXT)
@@ -827,9 +973,9 @@ def a_full_disk(seed):
     if not shutil.which("mount") or run("mount", *options).status != 0:
         raise Skipped("mounting isn't allowed")
     try:
-        path = disk / "journal"
+        path = chapter_path(disk / "history")
         text = fill(path, "a full disk", seed)
-        kept = write_journal(path.read_bytes(), "kept")
+        kept = write_chapter(path.read_bytes(), "kept")
         again = run(*command(path))
         expect("again", (again.status, again.err) in ((0, ""), (1, "fault 62\n")), True)
         expect("its rows stay", path.read_bytes().startswith(text), True)
@@ -870,7 +1016,7 @@ def write_kill_sites():
 
 def kill_start(path, site, chance):
     """Starts a station, and kills it before anybody asks it anything; how long it lived may be
-    too short for it to read its journal."""
+    too short for it to read its history."""
     with subprocess.Popen(
         command(path, "--detached", site=site), stdin=subprocess.DEVNULL,
         stdout=subprocess.DEVNULL, stderr=subprocess.PIPE,
@@ -908,7 +1054,7 @@ def run_and_kill(path, site, runs, seed):
 
 
 def expect_told(peers, rows, found):
-    """Each peer's sessions, with all that came to it, are what the journal's rows tell, run by
+    """Each peer's sessions, with all that came to it, are what the history's rows tell, run by
     run; and no row is of anybody else. What reads were answered is compared by `expect_looks`."""
     told, bounds = Told(rows), [*found, len(rows)]
     for peer in peers:
@@ -949,7 +1095,8 @@ def expect_each_litre_once(peers, rows, report_text):
 
 
 def expect_fronts(text, site, wide, seed):
-    """A copy of the journal, cut at whatever octet, is opened with the rows of its whole lines."""
+    """A copy of the open chapter, cut at whatever octet, is opened with the rows of its whole
+    lines."""
     chance, first = start_chance(seed, "cuts"), len(first_lines(site))
     begins = [at + 1 for at in range(first, min(len(text), 40_000)) if text[at : at + 1] == b"\n"]
     places = [chance.randrange(len(text)) for _ in range(CUTS // 2)]
@@ -958,17 +1105,17 @@ def expect_fronts(text, site, wide, seed):
     for place in places:
         if 0 < place < first:
             continue  # `other_first_lines` looks at these.
-        path = write_journal(text[:place], "cut")
+        path = write_chapter(text[:place], "cut")
         kept = whole_lines(text[:place]) or first_lines(site)
         ended = run(*command(path, site=site))
         count = count_rows(kept)
-        said = f"journal rows {count}\n".encode() if count else b""
+        said = say_found(count)
         is_opened = ended.status == 0 and ended.err == "" and ended.out.startswith(said + b"list")
         if not is_opened:
             raise Failed(f"cut to {place} octets: {ended}")
         after = path.read_bytes()
         expect(f"cut to {place} octets: its front", after[: len(kept)], kept)
-        rows = read_journal(PROGRAM, wide, retitle(after, wide))
+        rows = read_rows(PROGRAM, wide, retitle(after, wide))
         offs = [row for row in rows[count:] if not is_sign_off(row)]
         expect(f"cut to {place} octets: what else", offs, [])
         if not ended.out.endswith(report_of(retitle(after, wide), wide)):
@@ -981,9 +1128,9 @@ def killed_for_real(seed):
     again, and that forgets its rows after each few hundred. Each reply that ever came is that of
     its row, or for a read what a replay answers there; each notice is of a row too, and all come in
     the rows' order; each row is what its peer sent; and the station's last report is that of its
-    journal."""
+    history."""
     (site, wide), runs = write_kill_sites(), Runs()
-    path, begun = write_journal(b"", "killed"), time.monotonic()
+    path, begun = write_chapter(b"", "killed"), time.monotonic()
     peers = [Till(runs, number, seed) for number in range(1, POINTS + 1)]
     peers += [Pump(runs, point, seed) for point in range(1, POINTS + 1)]
     for peer in peers:
@@ -1007,14 +1154,14 @@ def killed_for_real(seed):
     text = path.read_bytes()
     expect("whole lines", whole_lines(text), text)
     expect("no copy is left", copy_of(path).exists(), False)
-    rows = read_journal(PROGRAM, wide, retitle(text, wide))
+    rows = read_rows(PROGRAM, wide, retitle(text, wide))
     looks = expect_looks(PROGRAM, wide, expect_told(peers, rows, found))
     sales = expect_each_litre_once(peers, rows, told)
     expect("the report", told.encode(), report_of(retitle(text, wide), wide))
     came = [one for peer in peers for _, session in peer.sessions for one in session.came]
     notices = sum(map(is_notice, came))
     print(
-        f"journal: {KILLS} kills in {took:.0f} seconds, {len(rows)} rows, {len(came) - notices}"
+        f"history: {KILLS} kills in {took:.0f} seconds, {len(rows)} rows, {len(came) - notices}"
         f" replies, {looks} of reads, {notices} notices, {sales} sales,"
         f" {sum(len(peer.sessions) for peer in peers)} sessions",
         flush=True,
