@@ -534,7 +534,7 @@ def own_sites():
         expect(f"{what}: the chapter", path.read_bytes(), text)
         expect_files(what, folder, KNOWN_SITE, 1)
     others = {
-        "a price": told.replace("1500", "1501"), "a name": told.replace("diesel", "Diesel"),
+        "a price": told.replace("1500", "1501"), "a name": told.replace("diesel", "gasoil"),
         "no manager": told.replace("managers = [1]\n", ""),
         "another manager": told.replace("managers = [1]", "managers = [1, 2]"),
         "fewer rows": f"rows = 999999\n{told}", "a reading": told.replace("= 1000}", "= 1001}", 1),
@@ -1105,7 +1105,7 @@ def expect_fronts(text, site, wide, seed):
     for place in places:
         if 0 < place < first:
             continue  # `other_first_lines` looks at these.
-        path = write_chapter(text[:place], "cut")
+        path = write_chapter(text[:place], "cut", site)
         kept = whole_lines(text[:place]) or first_lines(site)
         ended = run(*command(path, site=site))
         count = count_rows(kept)
@@ -1130,7 +1130,7 @@ def killed_for_real(seed):
     the rows' order; each row is what its peer sent; and the station's last report is that of its
     history."""
     (site, wide), runs = write_kill_sites(), Runs()
-    path, begun = write_chapter(b"", "killed"), time.monotonic()
+    path, begun = write_chapter(b"", "killed", site), time.monotonic()
     peers = [Till(runs, number, seed) for number in range(1, POINTS + 1)]
     peers += [Pump(runs, point, seed) for point in range(1, POINTS + 1)]
     for peer in peers:
