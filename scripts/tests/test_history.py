@@ -30,12 +30,13 @@ from shared.histories import (
 from shared.running import run
 from shared.serving import WAIT, Found, read_status, send_reset, start_day, wait_until
 from shared.station import (
-    ACKNOWLEDGE, CLEAR, CLOSE, CLOSE_SHIFT, DISPENSER, FLOW, HANG_UP, KNOWN_SITE, LIFT, LOCK, OPEN, RELEASE,
-    RESULT, SITE, TILL, WRITE, address_point, ask_site, command_point, command_sale, decode, encode, parse,
+    ACKNOWLEDGE, CLEAR, CLOSE, DISPENSER, FLOW, HANG_UP, KNOWN_SITE, LIFT, LOCK, OPEN, RELEASE,
+    RESULT, SITE, TILL, WRITE, address_point, command_point, command_sale, decode, encode, parse,
     read_point, read_product, read_sale, read_site, receive, receive_all, receive_message, report,
     sign_off, sign_on, write_report,
 )  # fmt: skip
 from tests.built import PROGRAM
+from tests.shifts_worked import CLOSE_IT, expect_replies, work_at
 from tests.steady_peers import POINTS, Pump, Runs, Till, say
 from tests.suite import make_folder, start_chance, test
 
@@ -56,7 +57,7 @@ DAY = [
 ]  # fmt: skip
 DAY_TEXT = FIRST + write_rows(*DAY)
 # A shift in which nothing was sold.
-CLOSING = write_rows(sign_on(1), ask_site(1, CLOSE_SHIFT, 0), sign_off(1))
+CLOSING = write_rows(sign_on(1), CLOSE_IT, sign_off(1))
 OFF_1 = write_rows(sign_off(1))
 
 
@@ -990,6 +991,437 @@ def a_full_disk(seed):
         expect("no octet is left", (ended.status, ended.out, ended.err), (1, b"", "fault 62\n"))
     finally:
         run("umount", disk)
+
+
+# ---- chapters that end
+
+SHIFTS = 5
+NO_NEW_CHAPTER = "no new chapter can be made: the open one goes on\n"
+RETRY_ROWS = 1_024  # after which a new chapter is tried again
+
+
+def read_texts(folder):
+    return [path.read_bytes() for path in list_chapters(folder)]
+
+
+def wait_for_chapter(folder, number):
+    path = chapter_path(folder, number)
+    wait_until(f"chapter {number}", path.exists)
+
+
+def new_folder(name):
+    """The name of a folder that isn't there."""
+    shutil.rmtree(HERE / name, ignore_errors=True)
+    return HERE / name
+
+
+@test
+def chapters_end_with_shifts():
+    """Each shift that is closed ends a chapter: with the row of the close and a seal, which is the
+    SHA-256 of the seal before it and of what it covers. The next one begins after that seal, and
+    the closed ones never change again. All that was answered is what the chapters tell."""
+    folder, closed = new_folder("shifts"), []
+    with start_station(folder) as day, work_at(day) as work:
+        expect("what it found", day.found, Found(0, 0))
+        work.come()
+        for shift in range(1, SHIFTS + 1):
+            for number in range(1, 4):
+                work.sell(number, 1_000 * shift + number)
+            work.close_shift()
+            wait_for_chapter(folder, shift + 1)
+            texts = read_texts(folder)
+            expect(f"shift {shift}: the closed chapters", texts[: shift - 1], closed)
+            closed = texts[:shift]
+        work.sell(1, 777)
+        told = end(day)
+    texts, bodies = read_texts(folder), work.bodies
+    bodies[-1] += OFF_1
+    expect("the chapters", texts, write_chapters(KNOWN_SITE, *bodies))
+    expect("seals", check_chapters(KNOWN_SITE, texts).count, SHIFTS)
+    text = b"".join(texts)
+    rows = read_rows(PROGRAM, KNOWN_SITE, text)
+    expect_replies("what was answered", rows, work)
+    expect("the report", told.encode(), report_of(text))
+    expect_files("after the day", folder, KNOWN_SITE, SHIFTS + 1)
+    with start_station(folder, site=None) as day:
+        expect("what it found", day.found, Found(SHIFTS + 1, len(rows)))
+        expect("its report", end(day).encode(), report_of(text))
+    expect("the chapters", read_texts(folder), texts)
+
+
+@test
+def rows_at_once_with_a_close():
+    """Rows that come with the close of a shift by one message are rows of the same round: they are
+    above the seal, and the chapter ends after them."""
+    folder = new_folder("rounds")
+    more = [command_point(1, 0, 1, one) for one in (OPEN, CLOSE, OPEN)]
+    with start_station(folder) as day, day.connect() as till:
+        till.sendall(b"".join([sign_on(1), CLOSE_IT, *more]))
+        for _ in range(len(more) + 2):
+            expect("a reply", len(receive_message(till)) > 8, True)
+        wait_for_chapter(folder, 2)
+        end(day)
+    texts = read_texts(folder)
+    check_chapters(KNOWN_SITE, texts)
+    kept = [line + b"\n" for text in texts for line in text.splitlines() if line[:1] != b"#"]
+    wanted = write_rows(sign_on(1), CLOSE_IT, *more, sign_off(1))
+    expect("the rows, in order", b"".join(kept), wanted)
+    expect("where the close is", write_rows(CLOSE_IT) in texts[0], True)
+
+
+@contextlib.contextmanager
+def blocked(path):
+    """The next chapter has no place, as the name of its copy is taken by a folder."""
+    copy_of(path).mkdir()
+    yield
+    copy_of(path).rmdir()
+
+
+def toggle(work, count):
+    """So many rows: the manager closes and opens point 2."""
+    for number in range(count):
+        command_ = (OPEN, CLOSE)[number % 2]
+        work.do(work.till, command_point(1, 0, 2, command_))
+
+
+@test
+def chapters_that_go_on():
+    """Where no new chapter can be made the open one goes on: that is said once, and nothing is
+    lost. It is tried again after 1,024 rows more."""
+    folder = new_folder("long")
+    with start_station(folder) as day, work_at(day) as work:
+        second = chapter_path(folder, 2)
+        with blocked(second):
+            work.come()
+            work.close_shift()
+            toggle(work, RETRY_ROWS)
+            work.sell(1, 1_234)
+            work.close_shift()
+            expect("one chapter", len(list_chapters(folder)), 1)
+        refused = 3 + RETRY_ROWS
+        toggle(work, 2 * ((refused + RETRY_ROWS - len(work.told) - 1) // 2))
+        while len(work.told) < refused + RETRY_ROWS - 1:
+            work.do(work.till, command_point(1, 0, 3, OPEN if len(work.told) % 2 else CLOSE))
+        expect("one chapter still", len(list_chapters(folder)), 1)
+        work.sell(1, 4_321)
+        wait_for_chapter(folder, 2)
+        told = end(day, NO_NEW_CHAPTER)
+    texts = read_texts(folder)
+    check_chapters(KNOWN_SITE, texts)
+    expect("seals of chapter 1", texts[0].count(b"# seal "), 3)
+    expect("where it ended", count_rows(texts[0]), refused + RETRY_ROWS)
+    text = b"".join(texts)
+    rows = read_rows(PROGRAM, KNOWN_SITE, text)
+    expect_replies("what was answered", rows, work)
+    expect("rows", len(rows), len(work.told) + 1)
+    expect("the report", told.encode(), report_of(text))
+    with start_station(folder) as day:
+        expect("what it found", day.found, Found(2, len(rows)))
+        end(day)
+
+
+@test
+def what_hinders_a_chapter():
+    """Whatever has the name of the next chapter, or of its copy, stays, and the open one goes on;
+    so it does where the folder takes no new file."""
+    def take(path, make):
+        make(path)
+        return lambda: path.rmdir() if path.is_dir() and not path.is_symlink() else path.unlink()
+
+    makes = {
+        "a folder": lambda path: path.mkdir(), "a fifo": os.mkfifo,
+        "a link": lambda path: path.symlink_to(HERE / "nowhere"),
+    }  # fmt: skip
+    for what, make in makes.items():
+        for ending in ("", ".starting"):
+            folder = new_folder("hindered")
+            with start_station(folder) as day, work_at(day) as work:
+                path = chapter_path(folder, 2)
+                taken = path.with_name(path.name + ending)
+                leave = take(taken, make)
+                work.come()
+                work.close_shift()
+                work.sell(1, 2_000)
+                end(day, NO_NEW_CHAPTER)
+            expect(f"{what}{ending} stays", os.path.lexists(taken), True)
+            leave()
+            text = chapter_path(folder).read_bytes()
+            expect_replies(f"{what}{ending}", read_rows(PROGRAM, KNOWN_SITE, text), work)
+            expect("seals", text.count(b"# seal "), 1)
+
+
+@test
+def no_leave_for_a_chapter():
+    """A folder that takes no new file, of another user: the open chapter goes on."""
+    if os.geteuid() != 0:
+        raise Skipped("not root")
+    os.chmod(HERE, 0o755)
+    folder = write_history(HERE / "read_only", KNOWN_SITE)
+    for one in (folder, folder / SITE_FILE):
+        os.chown(one, NOBODY, NOBODY)
+    how = {"user": NOBODY, "group": NOBODY, "extra_groups": []}
+    with start_station(folder, **how) as day, work_at(day) as work:
+        folder.chmod(0o500)
+        work.come()
+        work.close_shift()
+        work.sell(1, 2_000)
+        end(day, NO_NEW_CHAPTER)
+    expect("one chapter", len(list_chapters(folder)), 1)
+    text = chapter_path(folder).read_bytes()
+    expect_replies("what was answered", read_rows(PROGRAM, KNOWN_SITE, text), work)
+    folder.chmod(0o700)
+    rows = count_rows(text)
+    with start_station(folder, **how) as day:
+        expect("what it found", day.found, Found(1, rows))
+        with day.connect():
+            wait_for_chapter(folder, 2)
+        end(day)
+    texts = read_texts(folder)
+    check_chapters(KNOWN_SITE, texts)
+    expect("its rows", texts[0].startswith(text), True)
+
+
+@test
+def a_chapter_that_is_over():
+    """A start on a chapter in which a shift was closed ends it with its first round, whether it has
+    a seal, or rows after one, or none. Nothing is said of it."""
+    body = write_rows(sign_on(1), CLOSE_IT)
+    sealed = write_chapters(KNOWN_SITE, body, b"")
+    more = write_rows(command_point(1, 0, 1, OPEN))
+    for what, text in {
+        "no seal": FIRST + body, "a seal": sealed[0], "rows after the close": FIRST + body + more,
+        "rows after a seal": sealed[0] + more, "a torn line": FIRST + body + more[:-1],
+        "a torn seal": sealed[0][:-1],
+    }.items():  # fmt: skip
+        whole = whole_lines(text)
+        folder = write_chapter(text, "over").parent
+        with start_station(folder) as day, work_at(day) as work:
+            expect(f"{what}: what it found", day.found, Found(1, count_rows(whole)))
+            wait_for_chapter(folder, 2)
+            work.do(work.till, sign_on(1), command_point(1, 0, 2, OPEN))
+            told = end(day)
+        texts = read_texts(folder)
+        check_chapters(KNOWN_SITE, texts)
+        expect(f"{what}: how many", len(texts), 2)
+        expect(f"{what}: chapter 1", texts[0].startswith(whole + OFF_1 + b"# seal "), True)
+        rows = write_rows(sign_on(1), command_point(1, 0, 2, OPEN)) + OFF_1
+        first = len(first_lines(KNOWN_SITE, 2))
+        expect(f"{what}: the rows of chapter 2", texts[1][first:], rows)
+        expect(f"{what}: the report", told.encode(), report_of(b"".join(texts)))
+
+
+@test
+def wrong_chapters():
+    """Chapters of which one is missing, or wrong, or isn't the next one: the fault names it, and
+    the files stay as they are. `shifts` and `next` say the same."""
+    bodies = [CLOSING, write_rows(*DAY, CLOSE_IT), write_rows(sign_on(1))]
+    good = write_chapters(KNOWN_SITE, *bodies)
+    second = good[1].splitlines(keepends=True)
+    other = write_chapters(KNOWN_SITE, OFF_1 + CLOSING, bodies[1], b"")
+    alien = HERE / "alien.toml"
+    alien.write_bytes(KNOWN_SITE.read_bytes() + b"\n")
+    late = FIRST_LINES + len(DAY) + 2  # the line of chapter 2's seal
+
+    def with_second(*lines):
+        return {1: good[0], 2: b"".join(lines), 3: good[2]}
+
+    def with_line(number, line):
+        return with_second(*second[: number - 1], line, *second[number:])
+
+    gone = "chapter 3 doesn't go on from chapter 2"
+    cases = {
+        "chapter 1 is missing": [{2: good[1], 3: good[2]}, {3: good[2]}],
+        "chapter 2 is missing": [{1: good[0], 3: good[2]}, {1: good[0], 999_999: good[2]}],
+        "chapter 2 line 1": [
+            with_line(1, good[0].splitlines(True)[0]), with_line(1, b"\n"), with_second(),
+            with_second(second[0][:-1]), {1: good[0], 2: good[2], 3: good[1]},
+        ],
+        "chapter 1 line 1": [{1: good[1], 2: good[0], 3: good[2]}, {1: b"x", 2: good[1]}],
+        "history of another site": [
+            with_line(2, first_lines(alien).splitlines(True)[1]), with_line(2, b"# site\n"),
+        ],
+        "chapter 2 doesn't go on from chapter 1": [
+            with_line(3, f"# after {NO_SEAL}\n".encode()), with_line(3, b"# after\n"),
+            {1: other[0], 2: good[1], 3: good[2]}, {1: good[0][:-1], 2: good[1]},
+            {1: FIRST + CLOSING, 2: good[1]}, {1: good[0] + OFF_1, 2: good[1]},
+        ],
+        gone: [
+            with_second(*second[:-1]), with_second(*second, write_rows(sign_on(2))),
+            with_second(*second, b"# \n"), with_second(*second, b"0"),
+            with_second(*second[:-1], second[-1][:-1]), with_second(*second[:6]),
+            with_second(*second, second[-1][:1]),
+        ],
+        "chapter 2 line 4": [with_line(4, b"\n"), with_line(4, write_rows(read_site(1, 0)))],
+        f"chapter 2 line {late}": [
+            with_line(late, seal_line(NO_SEAL)), with_line(4, second[3].upper()),
+            with_line(late, second[-1][:7] + second[-1][7:].upper()),
+            with_line(late, second[-1][:-2] + b"\n"), with_line(late, b"# seal \n"),
+        ],
+        f"chapter 2 line {late + 1}": [
+            with_line(4, b"# at 2026-11-27T08:00:00.000Z\n" + second[3]),
+            with_second(*second, second[-1]),
+        ],
+        "chapter 3 line 4": [{1: good[0], 2: good[1], 3: first_of(good[2]) + b"no row\n"}],
+        "chapter 3 line 1": [{1: good[0], 2: good[1], 3: b""}],
+    }  # fmt: skip
+    count = 0
+    for fault, all_ in cases.items():
+        for number, texts in enumerate(all_, 1):
+            folder = write_history(HERE / "wrong", KNOWN_SITE)
+            for place, text in texts.items():
+                chapter_path(folder, place).write_bytes(text)
+            what = f"{fault}, case {number}"
+            expect_refused(what, folder, fault)
+            for word in ("shifts", "next"):
+                ended = run(PROGRAM, word, folder)
+                got = (ended.status, ended.out, ended.err)
+                expect(f"{what}: {word}", got, (1, b"", f"{fault}\n"))
+            after = {place: chapter_path(folder, place).read_bytes() for place in texts}
+            expect(f"{what}: the files", after, texts)
+            expect(f"{what}: no more", len(list_chapters(folder)), len(texts))
+            count += 1
+    folder = write_history(HERE / "wrong", KNOWN_SITE, *good)
+    ended = run(*command(folder))
+    expect("the good ones", (ended.status, ended.err), (0, ""))
+    expect("their rows", ended.out.startswith(say_found(sum(map(count_rows, good)), 3)), True)
+    return count
+
+
+def first_of(text):
+    """The first lines of a chapter's text."""
+    return b"".join(text.splitlines(keepends=True)[:FIRST_LINES])
+
+
+@test
+def files_that_change():
+    """Somebody cuts, replaces, moves, removes or links the open chapter's file while the station
+    runs, or writes into it: that is noticed at the next flush, and nobody is told more."""
+    aside = HERE / "aside"
+
+    def replace(path):
+        aside.write_bytes(path.read_bytes())
+        aside.rename(path)
+
+    def move(path):
+        path.rename(aside)
+
+    def move_and_link(path):
+        path.rename(aside)
+        path.symlink_to(aside)
+
+    def append(path):
+        with open(path, "ab") as file:
+            file.write(write_rows(sign_on(9)))
+
+    changes = {
+        "cut": lambda path: os.truncate(path, path.stat().st_size - 1),
+        "cut to nothing": lambda path: os.truncate(path, 0),
+        "replaced": replace, "moved": move, "moved, and a link": move_and_link,
+        "removed": lambda path: path.unlink(), "another name": lambda path: os.link(path, aside),
+        "longer": append, "a folder moved": lambda path: path.parent.rename(HERE / "elsewhere"),
+    }  # fmt: skip
+    for chapter in (1, 2):
+        for what, change in changes.items():
+            aside.unlink(missing_ok=True)
+            new_folder("elsewhere")
+            folder = new_folder("changing")
+            with start_station(folder) as day, day.connect() as till, day.connect() as other:
+                till.sendall(sign_on(1))
+                expect("a reply", len(receive_message(till)), 16)
+                if chapter == 2:
+                    till.sendall(CLOSE_IT)
+                    receive_message(till)
+                    wait_for_chapter(folder, 2)
+                other.sendall(sign_on(2))
+                expect("a reply", len(receive_message(other)), 16)
+                change(chapter_path(folder, chapter))
+                till.sendall(read_point(1, 0, 1))
+                expect(f"{what}: a read", decode(receive_message(till))[0].kind != ACKNOWLEDGE, True)
+                till.sendall(command_point(1, 0, 1, OPEN))
+                expect(f"{what}: no reply", receive_or_end(till), b"")
+                with contextlib.suppress(ConnectionError):
+                    other.sendall(sign_off(2))
+                expect(f"{what}: nor to another", receive_or_end(other), b"")
+                out, err = day.process.communicate(timeout=WAIT)
+                got = (day.process.returncode, out, err)
+                expect(f"{what}: its end", got, (1, b"", b"fault 62\n"))
+
+
+@test
+def closed_files_that_change():
+    """A closed chapter is only read at a start: the station that runs doesn't look at it."""
+    folder = new_folder("closed")
+    with start_station(folder) as day, work_at(day) as work:
+        work.come()
+        work.close_shift()
+        wait_for_chapter(folder, 2)
+        first = chapter_path(folder, 1)
+        text = first.read_bytes()
+        first.unlink()
+        work.sell(1, 1_000)
+        end(day)
+    expect_refused("a chapter was removed", folder, "chapter 1 is missing")
+    first.write_bytes(text)
+    ended = run(*command(folder))
+    expect("it is back", (ended.status, ended.err), (0, ""))
+
+
+# ---- power cuts
+
+
+def list_images(before, row, sealed, following, later):
+    """The files that a cut of the power may leave while a chapter ends, write by write: the close's
+    row, the seal, the next chapter's copy, its name, and its first row. Each is a dictionary of
+    files, with the number of rows that were told by then."""
+    rows = count_rows(before)
+    for length in range(len(row) + 1):
+        yield {1: before + row[:length]}, rows
+    whole, seal = before + row, sealed[len(before + row) :]
+    for length in range(len(seal) + 1):
+        yield {1: whole + seal[:length]}, rows
+    for length in range(len(following) + 1):
+        yield {1: sealed, "copy": following[:length]}, rows
+    yield {1: sealed, 2: following}, rows
+    for length in range(len(later) + 1):
+        yield {1: sealed, 2: following + later[:length]}, rows + count_rows(row)
+
+
+@test
+def power_cuts():
+    """The power is cut at each octet that is written while a chapter ends: a start finds each row
+    that was told, the chapters go on from each other, and the shift is closed just where its row
+    is there."""
+    body, row = write_rows(*DAY), write_rows(CLOSE_IT)
+    sealed, following = write_chapters(KNOWN_SITE, body + row, b"")
+    later = write_rows(command_point(1, 0, 2, OPEN))
+    folder, count = HERE / "cut", 0
+    for image, told in list_images(FIRST + body, row, sealed, following, later):
+        write_history(folder, KNOWN_SITE)
+        for name, text in image.items():
+            path = copy_of(chapter_path(folder, 2)) if name == "copy" else chapter_path(folder, name)
+            path.write_bytes(text)
+        texts = [whole_lines(text) for name, text in image.items() if name != "copy"]
+        rows = sum(map(count_rows, texts))
+        what = f"{' '.join(f'{name}: {len(text)}' for name, text in image.items())} octets"
+        if rows < told:
+            raise Failed(f"{what}: {rows} rows, {told} told")
+        is_over = row in texts[0] and len(texts) == 1
+        with start_station(folder) as day:
+            expect(f"{what}: what it found", day.found, Found(len(texts), rows))
+            if is_over:
+                with day.connect():
+                    wait_for_chapter(folder, 2)
+            report_text = end(day)
+        after = read_texts(folder)
+        check_chapters(KNOWN_SITE, after)
+        expect(f"{what}: chapters", len(after), len(texts) + is_over)
+        for text, found in zip(texts, after):
+            expect(f"{what}: a front of the chapter", found.startswith(text), True)
+        expect(f"{what}: rows", sum(map(count_rows, after)), rows + 1)
+        expect(f"{what}: the report", report_text.encode(), report_of(b"".join(after)))
+        expect_files(f"{what}: the files", folder, KNOWN_SITE, len(after))
+        count += 1
+    return count
 
 
 # ---- a station that is killed
