@@ -351,11 +351,14 @@ class Told:
         """The looks of a session whose rows begin at this one of its node's own, `own`, which are
         those from one place to another. A read stands behind the row of the request before it,
         and before its node's next row; rows of other peers may stand on either side of it. Its
-        reply may change at rows of its own point, and at those of the site alone."""
+        reply may change at rows of its own point, and at those of the site alone; that to a read of
+        the site at any row, as it tells what was cleared."""
         looks, bounds = [], [begin - 1, *own, end]
         for count, request, reply in session.answered_reads():
             first, last = bounds[at + count] + 1, bounds[at + count + 1]
             fronts = {first}
+            if database(request) == SITE_ADDRESS[0]:
+                fronts.update(range(first, last + 1))
             for address in (database(request), SITE_ADDRESS[0]):
                 places = self.addressed.get(address, [])
                 span = slice(bisect.bisect_left(places, first), bisect.bisect_left(places, last))

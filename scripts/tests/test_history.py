@@ -30,12 +30,15 @@ from shared.histories import (
 from shared.running import run
 from shared.serving import WAIT, Found, read_status, send_reset, start_day, wait_until
 from shared.station import (
-    ACKNOWLEDGE, CLEAR, CLOSE, DISPENSER, FLOW, HANG_UP, KNOWN_SITE, LIFT, LOCK, OPEN, RELEASE,
+    ACKNOWLEDGE, CLEAR, CLOSE, CLOSE_SHIFT, DISPENSER, FLOW, HANG_UP, KNOWN_SITE, LIFT, LOCK, OPEN, RELEASE,
     RESULT, SITE, TILL, WRITE, address_point, command_point, command_sale, decode, encode, parse,
     read_point, read_product, read_sale, read_site, receive, receive_all, receive_message, report,
     sign_off, sign_on, write_report,
 )  # fmt: skip
 from tests.built import PROGRAM
+from tests.months import (
+    NAMED_SHIFT, SALES_OF_SHIFT, SHIFTS as MONTH_SHIFTS, ShiftTill, wait_for_chapter_end,
+)  # fmt: skip
 from tests.shifts_worked import CLOSE_IT, expect_replies, work_at
 from tests.steady_peers import POINTS, Pump, Runs, Till, say
 from tests.suite import make_folder, start_chance, test
@@ -1253,7 +1256,7 @@ def wrong_chapters():
         ],
         "chapter 2 line 4": [with_line(4, b"\n"), with_line(4, write_rows(read_site(1, 0)))],
         f"chapter 2 line {late}": [
-            with_line(late, seal_line(NO_SEAL)), with_line(4, second[3].upper()),
+            with_line(late, seal_line(NO_SEAL)), with_line(6, second[5].upper()),
             with_line(late, second[-1][:7] + second[-1][7:].upper()),
             with_line(late, second[-1][:-2] + b"\n"), with_line(late, b"# seal \n"),
         ],
@@ -1427,6 +1430,7 @@ def power_cuts():
 # ---- a station that is killed
 
 KILLS = 120
+CENTS = 0x75  # an item
 PRICES = (1_500, 1_799)
 CUTS = 40
 
@@ -1506,7 +1510,7 @@ def expect_each_litre_once(peers, rows, report_text):
     for row in rows:
         asked = decode(row.request)[0]
         if asked.kind == WRITE and CLEAR in asked.items and row.is_accepted:
-            sale = (asked.address[0] - 0x20, int(asked.address[2:].hex()))
+            sale = name_sale(asked.address)
             if sale in cleared:
                 raise Failed(f"sale {sale} is cleared by {cleared[sale]} and by {row.node}")
             cleared[sale] = row.node
@@ -1521,9 +1525,16 @@ def expect_each_litre_once(peers, rows, report_text):
         expect(f"the litres of product {number}", volumes["metered"], sum(parts))
         meters = sum(pump.meters[number] - begun for pump in peers[POINTS:])
         expect(f"what is metered of product {number}", volumes["metered"], meters)
-    if len(cleared) < KILLS:
-        raise Failed(f"only {len(cleared)} sales")
     return len(cleared)
+
+
+def name_sale(address):
+    """The point, the shift and the number of a sale. Where its address doesn't name the shift, that
+    is the first one: only tills that name it work in later ones."""
+    point, shift = address[0] - 0x20, 1
+    if address[1] == NAMED_SHIFT:
+        shift, address = int(address[2:4].hex()), address[2:]
+    return point, shift, int(address[2:].hex())
 
 
 def expect_fronts(text, site, wide, seed):
@@ -1589,6 +1600,7 @@ def killed_for_real(seed):
     rows = read_rows(PROGRAM, wide, retitle(text, wide))
     looks = expect_looks(PROGRAM, wide, expect_told(peers, rows, found))
     sales = expect_each_litre_once(peers, rows, told)
+    expect("enough sales", sales > KILLS, True)
     expect("the report", told.encode(), report_of(retitle(text, wide), wide))
     came = [one for peer in peers for _, session in peer.sessions for one in session.came]
     notices = sum(map(is_notice, came))
@@ -1599,3 +1611,105 @@ def killed_for_real(seed):
         flush=True,
     )  # fmt: skip
     expect_fronts(text, site, wide, seed)
+
+
+# ---- a month
+
+MONTH_PATIENCE = 1_200  # seconds
+
+
+def run_month(folder, site, runs, tills, seed):
+    """Runs the station until its shifts are worked, and kills it often: at any moment, and in the
+    middle of a chapter's end. Yields the last day while it runs, and then what was found at each
+    start, the last report, how many kills there were, and how many while a chapter ended."""
+    chance, found, kills, ends = start_chance(seed, "a month"), [], 0, 0
+    deadline = time.monotonic() + MONTH_PATIENCE
+    while True:
+        with start_station(folder, site=site) as day:
+            found.append(day.rows)
+            runs.begin(day.port)
+            is_ending = wait_for_chapter_end(folder, 0.05 + chance.random())
+            if runs.wrong or time.monotonic() > deadline:
+                raise Failed("; ".join(runs.wrong[:3]) or "the month has no end")
+            if tills[0].shift > MONTH_SHIFTS:
+                runs.stop()
+                yield day
+                yield found, end(day), kills, ends
+                return
+            runs.kill(day.process)
+            out, err = day.process.communicate(timeout=WAIT)
+            expect("a run that is killed", (out, err), (b"", b""))
+            kills, ends = kills + 1, ends + is_ending
+
+
+def expect_shifts(folder, rows):
+    """The shifts of the history are as its rows say: of each how many sales were cleared, and for
+    how much."""
+    clears, cents = [0], [0]
+    for row in rows:
+        asked = decode(row.request)[0]
+        if not row.is_accepted or asked.kind != WRITE:
+            continue
+        if CLEAR in asked.items:
+            clears[-1] += 1
+            cents[-1] += int.from_bytes(decode(row.reply)[0].items[CENTS], "big")
+        elif CLOSE_SHIFT in asked.items:
+            clears.append(0)
+            cents.append(0)
+    told = run(PROGRAM, "shifts", folder)
+    expect("shifts", (told.status, told.err), (0, ""))
+    got = [line.split(" product ")[0] for line in told.out.decode().splitlines()]
+    wanted = [
+        f"shift {number} clears {count} cents {sum_}"
+        for number, (count, sum_) in enumerate(zip(clears, cents), 1)
+    ]
+    expect("the shifts", got, wanted)
+    return len(clears)
+
+
+@test
+def a_month(seed):
+    """A month of shifts: eight tills and eight dispensers work at a station that is killed at any
+    moment and started again on its history, also while a chapter ends. Each reply is that of its
+    row, as a replay of all chapters answers; no sale is collected twice; each litre is in one
+    place, from the first reading to the last; the chapters go on from each other, one a shift.
+    The environment says how large it is: SHIFTS (90) and SALES_OF_SHIFT (20)."""
+    (site, wide), runs = write_kill_sites(), Runs()
+    folder, begun = new_folder("month"), time.monotonic()
+    tills = []
+    tills += [ShiftTill(runs, number, seed, tills) for number in range(1, POINTS + 1)]
+    peers = [*tills, *(Pump(runs, point, seed) for point in range(1, POINTS + 1))]
+    for peer in peers:
+        peer.start()
+    try:
+        days = run_month(folder, site, runs, tills, seed)
+        next(days)
+        for peer in peers:
+            peer.join(WAIT)
+            expect(f"{peer.node} has stopped", peer.is_alive(), False)
+        found, told, kills, ends = next(days)
+    finally:
+        runs.stop()
+    if runs.wrong:
+        raise Failed("; ".join(runs.wrong[:3]))
+    for peer in peers:
+        peer.take_rest()
+    took = time.monotonic() - begun
+    texts = read_texts(folder)
+    check_chapters(site, texts)
+    expect_files("after the month", folder, site, len(texts))
+    text = retitle(b"".join(texts), wide)
+    rows = read_rows(PROGRAM, wide, text)
+    looks = expect_looks(PROGRAM, wide, expect_told(peers, rows, found))
+    sales = expect_each_litre_once(peers, rows, told)
+    expect("the report", told.encode(), report_of(text, wide))
+    expect("enough sales", sales >= MONTH_SHIFTS * SALES_OF_SHIFT, True)
+    shifts = expect_shifts(folder, rows)
+    expect("shifts", shifts, MONTH_SHIFTS + 1)
+    expect("a chapter a shift", len(texts), shifts)
+    came = sum(len(session.came) for peer in peers for _, session in peer.sessions)
+    print(
+        f"history: a month of {shifts} shifts in {took:.0f} seconds, {kills} kills, {ends} while a"
+        f" chapter ended, {len(rows)} rows, {came} messages, {looks} reads, {sales} sales",
+        flush=True,
+    )
