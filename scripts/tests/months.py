@@ -11,7 +11,7 @@ from shared.station import (
 from tests.steady_peers import POINTS, Till, refusal
 
 SHIFTS = int(os.environ.get("SHIFTS", 90))
-SALES_OF_SHIFT = int(os.environ.get("SALES_OF_SHIFT", 20))
+SALES_OF_SHIFT = int(os.environ.get("SALES_OF_SHIFT", 12))
 MANAGER = 1
 NAMED_SHIFT = 0x22  # in the address of a sale
 SHIFT, STATUS = 0x76, 0x78  # items
@@ -88,20 +88,22 @@ class ShiftTill(Till):
 
 
 def wait_for_chapter_end(folder, seconds):
-    """Waits so long, or until a chapter is about to end: it has a seal as its last line, or the
-    next one's copy is there. Returns whether one is."""
+    """Waits so long, or until a chapter is about to end: it gets a seal as its last line, or the
+    next one's copy. Returns whether one is. What an earlier run has left there doesn't count."""
     end = time.monotonic() + seconds
-    size = list_chapters(folder)[-1].stat().st_size  # an earlier run may have left a seal there
+    size, had_copy = list_chapters(folder)[-1].stat().st_size, find_copies(folder)
     while time.monotonic() < end:
         last = list_chapters(folder)[-1]
-        if os.path.exists(f"{last.parent}/{int(last.stem) + 1:06d}.journal.starting"):
-            return True
         found = last.stat().st_size
-        if found != size and is_sealed(last):
+        if not had_copy and find_copies(folder) or found != size and is_sealed(last):
             return True
         size = found
         time.sleep(WATCH)
     return False
+
+
+def find_copies(folder):
+    return [path.name for path in folder.glob("*.starting")]
 
 
 def is_sealed(path):

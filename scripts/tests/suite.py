@@ -16,7 +16,7 @@ import typing
 from shared.checks import Counts, Failed, Skipped, count_each
 
 SUITES_FOLDER = pathlib.Path(__file__).resolve().parent
-ORDER = "layers program server station history page demos tables faults".split()  # as they run
+ORDER = "layers program server station history shifts page demos tables faults".split()  # as they run
 TESTS, FOLDERS = [], []
 GREATEST_SEED = 10**9
 

@@ -1628,7 +1628,11 @@ def run_month(folder, site, runs, tills, seed):
         with start_station(folder, site=site) as day:
             found.append(day.rows)
             runs.begin(day.port)
-            is_ending = wait_for_chapter_end(folder, 0.05 + chance.random())
+            seconds, is_ending = chance.random(), False
+            if chance.random() < 0.5:
+                is_ending = wait_for_chapter_end(folder, seconds)
+            else:
+                time.sleep(seconds / 2)
             if runs.wrong or time.monotonic() > deadline:
                 raise Failed("; ".join(runs.wrong[:3]) or "the month has no end")
             if tills[0].shift > MONTH_SHIFTS:
@@ -1673,7 +1677,7 @@ def a_month(seed):
     moment and started again on its history, also while a chapter ends. Each reply is that of its
     row, as a replay of all chapters answers; no sale is collected twice; each litre is in one
     place, from the first reading to the last; the chapters go on from each other, one a shift.
-    The environment says how large it is: SHIFTS (90) and SALES_OF_SHIFT (20)."""
+    The environment says how large it is: SHIFTS (90) and SALES_OF_SHIFT (12)."""
     (site, wide), runs = write_kill_sites(), Runs()
     folder, begun = new_folder("month"), time.monotonic()
     tills = []
