@@ -670,7 +670,7 @@ def expect_stored(what, got, text):
 
 
 # The first flush, of the folder above, is made again at each start: it may fail there.
-IGNORED_FLUSH = {"FAIL_SYNC": 1}
+IGNORED = {"FAIL_SYNC": 1, "FAIL_OPEN": 1}
 
 
 @test
@@ -690,7 +690,7 @@ def fail_histories_of_station():
                     got = PLACE.stored(texts, **faults)
                     expect_stored(f"the station with {faults}", got, text)
                     if is_whole(got, whole, text):
-                        return IGNORED_FLUSH.get(kind) == k and texts is not None
+                        return IGNORED.get(kind) == k and texts is not None
                     end = (got.end.status, got.end.report, got.end.err, got.end.met)
                     wanted = [(1, "", "fault 62\n", True)]
                     if kind == "FAIL_OPEN":
