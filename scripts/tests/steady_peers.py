@@ -70,7 +70,7 @@ class Peer(threading.Thread):
     def __init__(self, runs, node, seed):
         super().__init__(daemon=True)
         self.runs, self.node = runs, node
-        self.chance = start_chance(seed, f"journal {node}")
+        self.chance = start_chance(seed, f"history {node}")
         self.sessions = []  # with the number of their run
         self.session, self.peer = None, None
 
@@ -158,7 +158,7 @@ class Till(Peer):
         super().__init__(runs, (TILL, number), seed)
         self.number = number
         self.cleared = dict.fromkeys(range(1, POINTS + 1), 0)  # so many sales, as far as it knows
-        self.told_cleared = []  # the point, shift and number of each sale that it was told it cleared
+        self.told_cleared = []  # the point, shift and number of each sale that it cleared, as told
 
     def token(self):
         return self.chance.randrange(32)

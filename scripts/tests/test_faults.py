@@ -59,8 +59,9 @@ from shared.page_day import PageDay
 from shared.running import CRATES, EXAMPLES, PATIENCE, compile_c, run
 from shared.serving import UNKEPT, Found, read_found
 from shared.station import (
-    ACKNOWLEDGE, ANSWER, CLOSE_SHIFT, DISPENSER, FIVE_POINTS, HANG_UP, KNOWN_SITE, LIFT, OPEN, RELEASE, SITES,
-    TILL, ask_site, command_point, connect, decode, parse, read_point, read_product, read_sale, read_site,
+    ACKNOWLEDGE, ANSWER, CLOSE_SHIFT, DISPENSER, FIVE_POINTS, HANG_UP, KNOWN_SITE, LIFT, OPEN,
+    RELEASE, SITES, TILL, ask_site, command_point, connect, decode, parse, read_point, read_product,
+    read_sale, read_site,
     receive_all, receive_message, report, sign_off, sign_on,
 )  # fmt: skip
 from tests.built import PROGRAM, TABLES, find_tests_program, list_tests
@@ -757,7 +758,8 @@ def fail_chapter_end(texts, kind, k, short):
         faults = [f"{fault}\n" for fault in UNOPENED]
         said = got.end.err.removeprefix(NO_NEW_CHAPTER)
         is_well = end[0] == 1 and said in faults
-        is_well = is_well or kind == "FAIL_ALLOCATION" and end in ((4, "fault 31\n"), (1, "fault 64\n"))
+        no_memory = (4, "fault 31\n"), (1, "fault 64\n")
+        is_well = is_well or kind == "FAIL_ALLOCATION" and end in no_memory
     expect(f"{what}: {end}", is_well, True)
     expect(f"{what}: no copy is left", got.again.copies, [])
     if not got.end.met:

@@ -24,16 +24,16 @@ from shared.checks import Failed, Skipped, expect
 from shared.histories import (
     FIRST_LINES, LOCK_FILE, NO_SEAL, SITE_FILE, Told, chapter_path, check_chapters, count_rows,
     expect_looks, find_untold, first_lines, is_notice, is_read, is_sign_off, list_chapters,
-    read_chapters, read_rows, retitle, seal_line, seal_of, split_messages, whole_lines,
-    without_token, write_chapters, write_history, write_rows,
+    read_rows, retitle, seal_line, split_messages, whole_lines, without_token, write_chapters,
+    write_history, write_rows,
 )  # fmt: skip
 from shared.running import run
 from shared.serving import WAIT, Found, read_status, send_reset, start_day, wait_until
 from shared.station import (
-    ACKNOWLEDGE, CLEAR, CLOSE, CLOSE_SHIFT, DISPENSER, FLOW, HANG_UP, KNOWN_SITE, LIFT, LOCK, OPEN, RELEASE,
-    RESULT, SITE, TILL, WRITE, address_point, command_point, command_sale, decode, encode, parse,
-    read_point, read_product, read_sale, read_site, receive, receive_all, receive_message, report,
-    sign_off, sign_on, write_report,
+    ACKNOWLEDGE, CLEAR, CLOSE, CLOSE_SHIFT, DISPENSER, FLOW, HANG_UP, KNOWN_SITE, LIFT, LOCK,
+    OPEN, RELEASE, RESULT, SITE, TILL, WRITE, address_point, command_point, command_sale, decode,
+    encode, is_accepted, parse, read_point, read_product, read_sale, read_site, receive,
+    receive_all, receive_message, report, sign_off, sign_on, write_report,
 )  # fmt: skip
 from tests.built import PROGRAM
 from tests.months import (
@@ -120,8 +120,9 @@ def expect_opened(what, text, whole, rows, signed_off=b"", site=KNOWN_SITE, repo
 
 def expect_files(what, folder, site, chapters):
     """A history's folder has its site file, its lock and its chapters, and nothing more."""
-    names = {SITE_FILE, LOCK_FILE, *(chapter_path("", number + 1).name for number in range(chapters))}
-    expect(what, {path.name for path in folder.iterdir()}, names)
+    names = [chapter_path("", number + 1).name for number in range(chapters)]
+    found = {path.name for path in folder.iterdir()}
+    expect(what, found, {SITE_FILE, LOCK_FILE, *names})
     expect(f"{what}: its site file", (folder / SITE_FILE).read_bytes(), site.read_bytes())
 
 
@@ -516,7 +517,8 @@ def own_sites():
     """A history has its own site file, so a later start may leave it out. One that is named says
     the same site, however it is written; else the history is of another site."""
     path, told = write_chapter(DAY_TEXT), KNOWN_SITE.read_text()
-    folder = path.parent
+    products, points = told.index("[[product]]"), told.index("[[point]]")
+    folder, head = path.parent, told[:products]
     ended = run(*command(folder, site=None))
     expect("without a site file", (ended.status, ended.err), (0, ""))
     text = path.read_bytes()
@@ -527,8 +529,7 @@ def own_sites():
         "spaces": told.replace(" = ", "   =\t").replace("\n", "  \n\n"),
         "line ends": told.replace("\n", "\r\n"),
         "the rows that it allows": f"rows = 1000000\n{told}",
-        "another order": "\n".join([told[told.index("[[point]]") :], told[: told.index("[[point]]")]])
-        if told.startswith("[[") else told,
+        "points first": head + told[points:] + told[products:points],
         "other digits": told.replace("1500", "1_500"),
     }  # fmt: skip
     for what, one in same.items():
@@ -705,8 +706,10 @@ def what_a_start_puts_in_its_place():
 def what_isnt_a_chapter():
     """Files in the folder whose names are no chapter's stay, and count for nothing."""
     path = write_chapter(DAY_TEXT)
-    names = ["1.journal", "0000001.journal", "000000.journal", "000002.journal.old", "00002.journal",
-             "00000x.journal", "000003.Journal", "notes", b"\xff.journal"]  # fmt: skip
+    names = [
+        "1.journal", "0000001.journal", "000000.journal", "000002.journal.old", "00002.journal",
+        "00000x.journal", "000003.Journal", "notes", b"\xff.journal",
+    ]  # fmt: skip
     for name in names:
         with open(os.path.join(os.fsencode(path.parent), os.fsencode(name)), "wb") as file:
             file.write(b"x")
@@ -1000,6 +1003,8 @@ def a_full_disk(seed):
 
 SHIFTS = 5
 NO_NEW_CHAPTER = "no new chapter can be made: the open one goes on\n"
+MOST_ROWS = 1_000_000  # of a chapter
+FIRST_WARNED, LAST_SHIFT, SHIFTS_SPENT = 990, 999, 24
 RETRY_ROWS = 1_024  # after which a new chapter is tried again
 
 
@@ -1214,6 +1219,55 @@ def a_chapter_that_is_over():
 
 
 @test
+def a_million_rows():
+    """A chapter ends with the round in which it has 1,000,000 rows, though no shift was closed."""
+    pair = write_rows(command_point(1, 0, 1, OPEN), command_point(1, 0, 1, CLOSE))
+    folder = write_chapter(FIRST + pair * (MOST_ROWS // 2 - 1), "million").parent
+    with start_station(folder) as day, work_at(day) as work:
+        expect("what it found", day.found, Found(1, MOST_ROWS - 2))
+        work.do(work.till, sign_on(1))
+        expect("one chapter", len(list_chapters(folder)), 1)
+        toggle(work, 1)
+        wait_for_chapter(folder, 2)
+        work.do(work.till, *(command_point(1, 0, 2, one) for one in (CLOSE, OPEN)))
+        told = end(day)
+    texts = read_texts(folder)
+    check_chapters(KNOWN_SITE, texts)
+    expect("rows of each", [*map(count_rows, texts)], [MOST_ROWS, 3])
+    expect("the report", told.splitlines()[0], f"rows {MOST_ROWS + 3}")
+    chapter_path(folder).write_bytes(FIRST + pair * (MOST_ROWS // 2))
+    chapter_path(folder, 2).unlink()
+    with start_station(folder) as day, day.connect():
+        expect("what it found", day.found, Found(1, MOST_ROWS))
+        wait_for_chapter(folder, 2)
+        end(day)
+
+
+@test
+def last_shifts():
+    """From shift 990 on each new shift is said, as there are 999; the last one can't be closed, and
+    all else goes on in it."""
+    closes = FIRST + write_rows(sign_on(1)) + write_rows(CLOSE_IT) * (FIRST_WARNED - 2)
+    folder = write_chapter(closes, "last").parent
+    with start_station(folder) as day, work_at(day) as work:
+        wait_for_chapter(folder, 2)
+        work.come()
+        for shift in range(FIRST_WARNED, LAST_SHIFT + 1):
+            work.close_shift()
+            wait_for_chapter(folder, shift - FIRST_WARNED + 3)
+        refused, = work.ask(work.till, CLOSE_IT)
+        expect("the last close", decode(refused)[0].items[RESULT][0], SHIFTS_SPENT)
+        work.sell(1, 1_000)
+        chapters = len(list_chapters(folder))
+        shifts = range(FIRST_WARNED, LAST_SHIFT + 1)
+        said = [f"shift {n} is open, of {LAST_SHIFT}: see forecourt next\n" for n in shifts]
+        end(day, "".join(said))
+    expect("no chapter more", len(list_chapters(folder)), chapters)
+    check_chapters(KNOWN_SITE, read_texts(folder))
+    expect("next", run(PROGRAM, "next", folder).status, 0)
+
+
+@test
 def wrong_chapters():
     """Chapters of which one is missing, or wrong, or isn't the next one: the fault names it, and
     the files stay as they are. `shifts` and `next` say the same."""
@@ -1339,7 +1393,7 @@ def files_that_change():
                 expect("a reply", len(receive_message(other)), 16)
                 change(chapter_path(folder, chapter))
                 till.sendall(read_point(1, 0, 1))
-                expect(f"{what}: a read", decode(receive_message(till))[0].kind != ACKNOWLEDGE, True)
+                expect(f"{what}: a read", is_accepted(decode(receive_message(till))[0]), True)
                 till.sendall(command_point(1, 0, 1, OPEN))
                 expect(f"{what}: no reply", receive_or_end(till), b"")
                 with contextlib.suppress(ConnectionError):
@@ -1401,7 +1455,8 @@ def power_cuts():
     for image, told in list_images(FIRST + body, row, sealed, following, later):
         write_history(folder, KNOWN_SITE)
         for name, text in image.items():
-            path = copy_of(chapter_path(folder, 2)) if name == "copy" else chapter_path(folder, name)
+            is_copy = name == "copy"
+            path = copy_of(chapter_path(folder, 2)) if is_copy else chapter_path(folder, name)
             path.write_bytes(text)
         texts = [whole_lines(text) for name, text in image.items() if name != "copy"]
         rows = sum(map(count_rows, texts))

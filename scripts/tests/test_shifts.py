@@ -3,31 +3,26 @@
 Their figures are compared with sums over what was sold, and a second history is opened with the
 site file that `next` prints."""
 
-import contextlib
 import json
 import shutil
 import subprocess
 import tomllib
 
 from shared.checks import expect
-from shared.histories import (
-    LOCK_FILE, SITE_FILE, list_chapters, read_chapters, write_chapters, write_history, write_rows,
-)  # fmt: skip
+from shared.histories import LOCK_FILE, SITE_FILE, write_chapters, write_history, write_rows
 from shared.running import run
 from shared.serving import start_day
 from shared.station import (
-    CLEAR, CLOSE, CLOSE_SHIFT, FLOW, HANG_UP, KNOWN_SITE, LIFT, LOCK, OPEN, RELEASE, SUSPEND,
-    TERMINATE, TEST_RELEASE, TILL, WRITE, ask, ask_site, command_point, command_sale, decode,
-    read_site, receive, receive_message, report, sign_off, sign_on,
+    CLEAR, FLOW, HANG_UP, KNOWN_SITE, LOCK, OPEN, RELEASE, SUSPEND, TERMINATE, TEST_RELEASE, WRITE,
+    ask, command_point, command_sale, read_site, report, sign_off, sign_on,
 )  # fmt: skip
 from tests.built import PROGRAM
-from tests.shifts_worked import CLOSE_IT, PRICE, Work, cents_of, work_at
+from tests.shifts_worked import CLOSE_IT, Work, cents_of, work_at
 from tests.suite import make_folder, test
 
 HERE = make_folder()
 PRODUCTS = (1, 2)
 PRICE_ITEM_OF = 0x90  # sets a price
-PETROL = 2
 
 
 def new_folder(name):
@@ -59,7 +54,8 @@ class Figures:
     product the millilitres that were cleared and drawn."""
 
     def __init__(self):
-        self.tills, self.cleared, self.drawn = {}, dict.fromkeys(PRODUCTS, 0), dict.fromkeys(PRODUCTS, 0)
+        self.tills = {}
+        self.cleared, self.drawn = (dict.fromkeys(PRODUCTS, 0) for _ in range(2))
 
     def add(self, till, product, millilitres, cents):
         clears, sum_ = self.tills.get(till, (0, 0))
@@ -147,7 +143,8 @@ def shifts_of_a_history():
         end(day)
     before = {path.name: path.read_bytes() for path in folder.iterdir()}
     expect_shifts("after the day", folder, figures)
-    expect("nothing is changed", {path.name: path.read_bytes() for path in folder.iterdir()}, before)
+    after = {path.name: path.read_bytes() for path in folder.iterdir()}
+    expect("nothing is changed", after, before)
     with start_station(folder) as day:
         expect_shifts("while another day runs", folder, figures)
         end(day)
