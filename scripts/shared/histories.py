@@ -109,15 +109,15 @@ def check_chapters(site, texts):
         first = first_lines(site, number, seal)
         if not text.startswith(first):
             raise Failed(f"chapter {number} begins with {text[:200]}, wanted {first}")
-        covered, is_sealed = b"", False
+        covered, is_sealed = [], False
         for line in text.splitlines(keepends=True):
             is_sealed = line.startswith(b"# seal ")
             if is_sealed:
-                seal, covered, count = seal_of(seal, covered), b"", count + 1
+                seal, covered, count = seal_of(seal, b"".join(covered)), [], count + 1
                 if line != seal_line(seal):
                     raise Failed(f"chapter {number}: {line}, wanted the seal {seal}")
             else:
-                covered += line
+                covered.append(line)
         if number < len(texts) and not is_sealed:
             raise Failed(f"chapter {number} doesn't end with a seal")
     return Seals(count, seal)
