@@ -474,6 +474,9 @@ def in_use():
         link.unlink()
         expect("the file", path.read_bytes(), before)
         expect_files("in use", folder, KNOWN_SITE, 1)
+        (folder / LOCK_FILE).unlink()
+        expect_refused("without the lock's file", folder, "history in use")
+        expect("the file", path.read_bytes(), before)
         day.process.kill()
         day.process.wait(WAIT)
     with start_station(path) as day:
