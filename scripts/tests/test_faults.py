@@ -1125,7 +1125,9 @@ def block_a_send_of_station():
     pipe = subprocess.PIPE
     words = [PROGRAM, "station", KNOWN_SITE, "--port=0"]
     with PLACE.prepare({"BLOCK_SEND": 1}) as (how, met):
-        with subprocess.Popen(words, stdin=pipe, stdout=pipe, bufsize=0, **how) as program:
+        with subprocess.Popen(
+            words, stdin=pipe, stdout=pipe, stderr=pipe, bufsize=0, **how
+        ) as program:
             port = int(program.stdout.readline().decode().rsplit(":", 1)[1])
             with connect(port) as till:
                 till.sendall(sign_on(1))
@@ -1138,7 +1140,8 @@ def block_a_send_of_station():
                 program.stdin.close()
                 program.stdin = None
                 got = receive_all(till)
-            out, _ = program.communicate(timeout=PATIENCE)
+            out, err = program.communicate(timeout=PATIENCE)
+    expect("standard error", err.decode(), UNKEPT)
     if not is_silent or got != parse(SIGNED_ON) or not out.startswith(b"rows 2\n"):
         raise Failed(f"the station whose send would block: {is_silent}, {got}, {out}")
     return 1
