@@ -724,38 +724,50 @@ def what_isnt_a_chapter():
     expect("the chapter", path.read_bytes(), DAY_TEXT + OFF_1)
 
 
+def write_told():
+    """The folder of a history with a closed chapter and an open one."""
+    texts = write_chapters(KNOWN_SITE, CLOSING, write_rows(*DAY))
+    return write_history(HERE / "told", KNOWN_SITE, *texts)
+
+
+def start_into(folder, path, stream):
+    """A start on this history one of whose streams goes to this file of it: it ends with status 1,
+    and changes no file. Returns what it told on the other stream."""
+    files = [*list_chapters(folder), folder / SITE_FILE]
+    before = [file.read_bytes() for file in files]
+    streams = {"stdout": subprocess.PIPE, "stderr": subprocess.PIPE}
+    with open(path, "ab") as file:
+        ended = subprocess.run(
+            command(folder), stdin=subprocess.DEVNULL, timeout=WAIT, check=False,
+            **{**streams, stream: file},
+        )  # fmt: skip
+    expect(f"{stream} to {path.name}", ended.returncode, 1)
+    after = [file.read_bytes() for file in files]
+    for file, one, other in zip(files, after, before):
+        expect(f"{stream} to {path.name}: {file.name}", one[-100:], other[-100:])
+    return ended.stdout or b"", ended.stderr or b""
+
+
 @test
 def outputs_into_the_history():
-    """Where standard error goes to a file of the history, a start that is refused tells nothing:
-    the history stays as it is, a running station's too. Where standard output goes there, the
-    start is refused."""
-    bodies = [CLOSING, write_rows(*DAY)]
-    texts = write_chapters(KNOWN_SITE, *bodies)
-    folder = write_history(HERE / "told", KNOWN_SITE, *texts)
-    open_ = chapter_path(folder, 2)
+    """A start whose standard error goes to a file of its history is refused, and tells nothing; one
+    whose standard output goes there is refused. The history stays as it is."""
+    folder = write_told()
+    for path in (*list_chapters(folder), folder / SITE_FILE):
+        expect("errors", start_into(folder, path, "stderr"), (b"", b""))
+        expect("output", start_into(folder, path, "stdout"), (b"", b"history in use\n"))
 
-    def start_there(path, said, **streams):
-        before = [file.read_bytes() for file in (*list_chapters(folder), folder / SITE_FILE)]
-        with open(path, "ab") as told:
-            how = {name: told if where == "there" else where for name, where in streams.items()}
-            ended = subprocess.run(
-                command(folder), stdin=subprocess.DEVNULL, timeout=WAIT, check=False, **how
-            )
-        got = (ended.returncode, ended.stdout, ended.stderr)
-        expect(f"{path.name}: its end", got, said)
-        after = [file.read_bytes() for file in (*list_chapters(folder), folder / SITE_FILE)]
-        expect(f"{path.name}: the files", after, before)
 
-    pipe = subprocess.PIPE
-    for path in (chapter_path(folder, 1), open_, folder / SITE_FILE):
-        start_there(path, (1, b"", None), stdout=pipe, stderr="there")
-        start_there(path, (1, None, b"history in use\n"), stdout="there", stderr=pipe)
+@test
+def outputs_into_a_history_in_use():
+    """The same while a station runs on that history."""
+    folder = write_told()
     with start_station(folder) as day:
-        expect("what it found", day.found, Found(2, sum(map(count_rows, texts))))
-        for path in (chapter_path(folder, 1), open_, folder / SITE_FILE):
-            start_there(path, (1, b"", None), stdout=pipe, stderr="there")
+        for path in (*list_chapters(folder), folder / SITE_FILE):
+            expect("output", start_into(folder, path, "stdout"), (b"", b"history in use\n"))
+            expect("errors", start_into(folder, path, "stderr"), (b"", b""))
         end(day, None)
-    expect("the file", open_.read_bytes(), texts[1] + OFF_1)
+    expect("the file", read_texts(folder)[1].endswith(write_rows(*DAY) + OFF_1), True)
 
 
 @test
