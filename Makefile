@@ -18,7 +18,7 @@ help:
 	@echo 'make bench    messages a second, memory, and their growth with the input; calls a second of'
 	@echo '              tills that collide; what a message costs with 5 and 64 points and with up to'
 	@echo '              100,000 sales, a row of a book of a million, and a request of a server and of'
-	@echo '              a station beside an echo; with a journal beside Redis, and a start on one;'
+	@echo '              a station beside an echo; with a history beside Redis, and a start on one;'
 	@echo '              tills beside a page that is looked at'
 
 run:
@@ -47,6 +47,6 @@ bench: build
 	@scripts/bench/book $(PROGRAM)
 	@scripts/bench/server $(PROGRAM)
 	@scripts/bench/station $(PROGRAM)
-	@scripts/bench/station --journal $(PROGRAM)
+	@scripts/bench/station --history $(PROGRAM)
 	@scripts/bench/station --page $(PROGRAM)
 	@scripts/bench/instructions $(PROGRAM)

@@ -2,7 +2,7 @@
  *
  *   station reads PORT CLIENTS REQUESTS     tills that read a fuelling point
  *   station closes PORT CLIENTS REQUESTS    tills that close a closed point: refusals, whose rows
- *                                           a journal keeps
+ *                                           a history keeps
  *   station echo PORT CLIENTS REQUESTS      the same octets, to a server that sends them back
  *   station ping PORT CLIENTS REQUESTS      PING, to Redis
  *   station sets PORT CLIENTS REQUESTS      SET of a value as long as a request, to Redis

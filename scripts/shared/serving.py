@@ -12,10 +12,12 @@ import subprocess
 import termios
 import threading
 import time
+import typing
 
 from shared.checks import Failed, expect
 from shared.station import connect, read_point, receive_all
 
+UNKEPT = "nothing is kept\n"  # what a station without a history says on standard error
 WAIT = 60  # seconds, for what comes at once if all is well
 LOOK = 0.01  # seconds between two looks at what is waited for
 LOOKS = 10  # at what stays the same, so that it will stay so
@@ -53,11 +55,25 @@ def read_status(day, name):
 # ---- the program
 
 
-class Day:
-    """A program that serves; its journal had so many rows, if it has one."""
+class Found(typing.NamedTuple):
+    """What a start said of its history: how many chapters and rows it has; none if it is new."""
 
-    def __init__(self, process, port, rows=0):
-        self.process, self.port, self.rows = process, port, rows
+    chapters: int
+    rows: int
+
+
+class Day:
+    """A program that serves; what it said of its history, if it is a station with one, or that it
+    keeps nothing, if it is a station without one."""
+
+    def __init__(self, process, port, found=None, is_unkept=False):
+        self.process, self.port, self.found = process, port, found or Found(0, 0)
+        self.is_unkept = is_unkept
+
+    @property
+    def rows(self):
+        """How many rows the history had."""
+        return self.found.rows
 
     def connect(self):
         return connect(self.port)
@@ -75,7 +91,7 @@ class Day:
         """The report, once the program has ended well, and told this on standard error; with
         None, whatever it told."""
         out, err = self.process.communicate(timeout=WAIT)
-        told = err.decode() if told is None else told
+        told = err.decode() if told is None else UNKEPT * self.is_unkept + told
         expect("status and standard error", (self.process.returncode, err.decode()), (0, told))
         return out.decode()
 
@@ -112,22 +128,30 @@ class Day:
         wait_until("the buffers full", look)
 
 
+def read_found(line):
+    """What a start says that it found of its history; None where the line says something else."""
+    found = re.fullmatch(r"history (?:new|chapters ([1-9]\d*) rows (\d+))\n", line)
+    return found and Found(*(int(number or 0) for number in found.groups()))
+
+
 @contextlib.contextmanager
 def start_day(command, **how):
-    """A program that says where it listens, with a journal how many rows that had before, and is
-    gone behind the block."""
-    pipe, rows = subprocess.PIPE, None
+    """A program that says where it listens, with a history what it found of it, and is gone after
+    the block."""
+    pipe, found = subprocess.PIPE, None
+    has_history = "--history" in command
     process = subprocess.Popen(command, stdout=pipe, stderr=pipe, bufsize=0, **how)
     try:
         line = process.stdout.readline().decode()
-        if "--journal" in command:
-            rows = re.fullmatch(r"journal rows ([1-9]\d*)\n", line)
-            line = process.stdout.readline().decode() if rows else line
+        if has_history:
+            found = read_found(line)
+            line = process.stdout.readline().decode() if found else line
         if not line.startswith("listening 127.0.0.1:") or not line.endswith("\n"):
             raise Failed(
                 f"the first line is '{line}', standard error '{process.stderr.read().decode()}'"
             )
-        yield Day(process, int(line.split(":")[1]), int(rows.group(1)) if rows else 0)
+        is_unkept = command[1] == "station" and not has_history
+        yield Day(process, int(line.split(":")[1]), found, is_unkept)
     finally:
         if process.poll() is None:
             process.kill()

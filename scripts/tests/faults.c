@@ -13,9 +13,10 @@
  *   STOP_AT_SYNC=K     at the Kth fdatasync the file system stops: what came to the file behind the
  *                      one before is lost, though the call says that all is well, and from then on
  *                      no file is given another length
- *   MOVE_AT_SYNC=K     at the Kth fdatasync or fsync, somebody moves the file `journal` to `moved`,
- *                      and puts another one in its place
- *   SWAP_AT_SYNC=K     at the Kth, somebody puts another file in the place of `journal.starting`
+ *   MOVE_AT_SYNC=K     at the Kth fdatasync or fsync, somebody moves the first chapter of `history`
+ *                      to `moved`, and puts another file in its place
+ *   SWAP_AT_SYNC=K     at the Kth, somebody puts another file in the place of that chapter's copy
+ *   FAIL_OPEN=K        the Kth file that is opened in the folder `history`, or that folder, isn't
  *   FAIL_LOCK=K        the Kth file that is to be locked isn't
  *   FAIL_RENAME=K      the Kth file that is to be named anew isn't
  *   FAIL_RECEIVE=K     the Kth read of a socket fails
@@ -41,11 +42,17 @@
 #include <errno.h>
 #include <fcntl.h>
 #include <pthread.h>
+#include <stdarg.h>
 #include <stdlib.h>
+#include <string.h>
 #include <sys/socket.h>
 #include <sys/stat.h>
 #include <sys/syscall.h>
 #include <unistd.h>
+
+#define HISTORY "history"
+#define CHAPTER HISTORY "/000001.journal"
+#define SYNCED_FILES 64
 
 extern void *__libc_malloc(size_t size);
 extern void *__libc_realloc(void *old, size_t size);
@@ -58,11 +65,17 @@ static long number(const char *name)
     return text ? atol(text) : 0;
 }
 
+/* Opens a file, whatever is to fail. */
+static int open_file(const char *path, int flags, int mode)
+{
+    return syscall(SYS_openat, AT_FDCWD, path, flags, mode);
+}
+
 static void note_met(void)
 {
     const char *path = getenv("MET");
     if (path)
-        close(open(path, O_CREAT | O_WRONLY, 0600));
+        close(open_file(path, O_CREAT | O_WRONLY, 0600));
 }
 
 /* Is this the call that fails? */
@@ -76,7 +89,7 @@ static int fails(const char *name, long *calls)
 }
 
 static long allocations, reads, file_reads, writes, taken, received, sent, blocked;
-static long file_writes, syncs, synced, stops, moves, swaps, locks, renames;
+static long file_writes, syncs, stops, moves, swaps, locks, renames, opens;
 static int has_stopped;
 static int read_before, file_read_before, written_before, received_before, sent_before;
 static int file_written_before, synced_before;
@@ -204,22 +217,55 @@ ssize_t write(int file, const void *text, size_t size)
     return syscall(SYS_write, file, text, size);
 }
 
+/* Of each file that was flushed how many octets it had then, by its number on the disk. */
+static struct {
+    ino_t file;
+    long size;
+} synced_files[SYNCED_FILES];
+
+/* Where it is noted of this file how many of its octets were flushed last. */
+static long *find_synced(int file)
+{
+    struct stat status;
+    int place = 0;
+    fstat(file, &status);
+    while (place < SYNCED_FILES - 1 && synced_files[place].file != 0
+           && synced_files[place].file != status.st_ino)
+        place++;
+    if (synced_files[place].file != status.st_ino)
+        synced_files[place].size = 0;
+    synced_files[place].file = status.st_ino;
+    return &synced_files[place].size;
+}
+
+/* What came to the file after its last flush is lost, as where the power fails. */
+static void lose_unsynced(int file)
+{
+    if (size_of(file) > *find_synced(file))
+        (void)!syscall(SYS_ftruncate, file, *find_synced(file));
+}
+
+/* Somebody moves a file, if there is one, or removes it, and puts another one in its place. */
+static void replace_file(const char *path, const char *to)
+{
+    if (to)
+        (void)!syscall(SYS_rename, path, to);
+    else
+        (void)!syscall(SYS_unlink, path);
+    close(open_file(path, O_CREAT | O_WRONLY | O_EXCL, 0600));
+}
+
 /* Does this fdatasync or fsync fail? The system may have kept nothing behind the one before it. */
 static int fails_to_sync(int file)
 {
     if (interrupts(&synced_before))
         return 1;
-    if (fails("MOVE_AT_SYNC", &moves)) {
-        (void)!syscall(SYS_rename, "journal", "moved");
-        close(open("journal", O_CREAT | O_WRONLY | O_EXCL, 0600));
-    }
-    if (fails("SWAP_AT_SYNC", &swaps)) {
-        (void)!syscall(SYS_unlink, "journal.starting");
-        close(open("journal.starting", O_CREAT | O_WRONLY | O_EXCL, 0600));
-    }
+    if (fails("MOVE_AT_SYNC", &moves))
+        replace_file(CHAPTER, "moved");
+    if (fails("SWAP_AT_SYNC", &swaps))
+        replace_file(CHAPTER ".starting", NULL);
     if (fails("FAIL_SYNC", &syncs)) {
-        if (size_of(file) > synced)
-            (void)!syscall(SYS_ftruncate, file, synced);
+        lose_unsynced(file);
         errno = EIO;
         return 1;
     }
@@ -232,7 +278,7 @@ static int sync_by(long call, int file)
         return -1;
     int done = syscall(call, file);
     if (done == 0 && size_of(file) >= 0)
-        synced = size_of(file);
+        *find_synced(file) = size_of(file);
     return done;
 }
 
@@ -240,7 +286,7 @@ int fdatasync(int file)
 {
     if (fails("STOP_AT_SYNC", &stops)) {
         has_stopped = 1;
-        (void)!syscall(SYS_ftruncate, file, synced);
+        lose_unsynced(file);
         return 0;
     }
     return sync_by(SYS_fdatasync, file);
@@ -263,6 +309,36 @@ int ftruncate64(int file, off64_t size)
 int fsync(int file)
 {
     return sync_by(SYS_fsync, file);
+}
+
+/* Does opening this file fail? */
+static int fails_to_open(const char *path)
+{
+    size_t length = sizeof HISTORY - 1;
+    if (strncmp(path, HISTORY, length) || (path[length] != 0 && path[length] != '/'))
+        return 0;
+    if (!fails("FAIL_OPEN", &opens))
+        return 0;
+    errno = EIO;
+    return 1;
+}
+
+int openat(int folder, const char *path, int flags, ...)
+{
+    va_list more;
+    va_start(more, flags);
+    int mode = flags & O_CREAT ? va_arg(more, int) : 0;
+    va_end(more);
+    return fails_to_open(path) ? -1 : syscall(SYS_openat, folder, path, flags, mode);
+}
+
+int open(const char *path, int flags, ...)
+{
+    va_list more;
+    va_start(more, flags);
+    int mode = flags & O_CREAT ? va_arg(more, int) : 0;
+    va_end(more);
+    return fails_to_open(path) ? -1 : open_file(path, flags, mode);
 }
 
 int flock(int file, int how)

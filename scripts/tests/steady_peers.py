@@ -6,7 +6,7 @@ import threading
 import time
 
 from shared.checks import Failed, expect
-from shared.journals import DETAIL, Session, is_notice, without_token
+from shared.histories import DETAIL, Session, is_notice, without_token
 from shared.serving import WAIT
 from shared.station import (
     CLEAR, CLOSE, DISPENSER, FLOW, HANG_UP, LIFT, LOCK, OPEN, PREPAY, RELEASE, REPORT, RESULT,
@@ -29,7 +29,7 @@ class Ended(Exception):
 
 
 class Runs:
-    """The runs of a station on one journal: which one listens where, and which were killed."""
+    """The runs of a station on one history: which one listens where, and which were killed."""
 
     def __init__(self):
         self.change = threading.Condition()
@@ -70,7 +70,7 @@ class Peer(threading.Thread):
     def __init__(self, runs, node, seed):
         super().__init__(daemon=True)
         self.runs, self.node = runs, node
-        self.chance = start_chance(seed, f"journal {node}")
+        self.chance = start_chance(seed, f"history {node}")
         self.sessions = []  # with the number of their run
         self.session, self.peer = None, None
 
@@ -158,7 +158,7 @@ class Till(Peer):
         super().__init__(runs, (TILL, number), seed)
         self.number = number
         self.cleared = dict.fromkeys(range(1, POINTS + 1), 0)  # so many sales, as far as it knows
-        self.told_cleared = []  # the sales of which it was told that it cleared them
+        self.told_cleared = []  # the point, shift and number of each sale that it cleared, as told
 
     def token(self):
         return self.chance.randrange(32)
@@ -213,7 +213,7 @@ class Till(Peer):
                 message, = self.ask(clear)
             if refusal(message) == 0:
                 expect("the outcome of a Clear", message.items[3], CLEARED)
-                self.told_cleared.append((p, sale))
+                self.told_cleared.append((p, 1, sale))
             elif refusal(message) != 22:
                 return
             self.cleared[p] = sale

@@ -16,7 +16,9 @@ import typing
 from shared.checks import Counts, Failed, Skipped, count_each
 
 SUITES_FOLDER = pathlib.Path(__file__).resolve().parent
-ORDER = "layers program server station journal page demos tables faults".split()  # as they run
+ORDER = (  # as they run
+    "layers program server station history shifts page demos tables faults"
+).split()
 TESTS, FOLDERS = [], []
 GREATEST_SEED = 10**9
 

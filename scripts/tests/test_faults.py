@@ -17,14 +17,14 @@
   with `fault 31` and status 4, or at most one of the two sessions ends early; with each of its
   writes, its listener's calls, its connection and its thread failed, with each read and each write
   of its sockets failed, and with calls that are cut short or interrupted;
-- the station with a journal, with each write and each fdatasync of it failed, where what wasn't
-  synced is lost, also where the file system stops and doesn't say so; with writes that are cut
-  short, and with a journal that isn't locked or read, or whose copy isn't put in its place: `fault
-  62` and no report, or `cannot read JOURNAL`; reads meet no failed write or fdatasync of it; with
-  the journal moved, or its copy replaced, by somebody else at each flush of a start; with
-  allocations failed in turn, at the opening of a journal with rows too, and where rows are
-  forgotten; with each read and each write of its sockets failed. Nobody is told what isn't stored,
-  and what stands in the journal is opened again;
+- the station with a history, with each write and each flush of its files failed, where what wasn't
+  flushed is lost, also where the file system stops and doesn't say so; with writes that are cut
+  short, and with files that aren't opened, locked, read or renamed: `fault 62` and no report, or
+  `cannot read FOLDER`; the same while a chapter ends, where it may go on too; reads meet no failed
+  write or flush; with the open chapter moved, or its copy replaced, by somebody else at each flush
+  of a start; with allocations failed in turn, at the opening of a history with rows too, and where
+  rows are forgotten; with each read and each write of its sockets failed. Nobody is told what isn't
+  stored, and the next start reads all that was told;
 - a demo, in the first way: it ends with `fault 31`, 63 or 64 and no report, or a worker ends its
   own work early and the report balances; with each call that makes a listener or a connection
   failed, over loopback: `fault 63` and no report; with each worker not started: `fault 64` and no
@@ -51,14 +51,17 @@ import time
 import typing
 
 from shared.checks import Failed, expect
-from shared.journals import (
-    find_untold, first_lines, read_journal, retitle, whole_lines, write_rows,
+from shared.histories import (
+    LOCK_FILE, SITE_FILE, check_chapters, find_untold, first_lines, list_chapters, read_chapters,
+    read_rows, retitle, whole_lines, write_chapters, write_history, write_rows,
 )  # fmt: skip
 from shared.page_day import PageDay
 from shared.running import CRATES, EXAMPLES, PATIENCE, compile_c, run
+from shared.serving import UNKEPT, Found, read_found
 from shared.station import (
-    ACKNOWLEDGE, ANSWER, DISPENSER, FIVE_POINTS, HANG_UP, KNOWN_SITE, LIFT, OPEN, RELEASE, SITES,
-    TILL, command_point, connect, decode, parse, read_point, read_product, read_sale, read_site,
+    ACKNOWLEDGE, ANSWER, CLOSE_SHIFT, DISPENSER, FIVE_POINTS, HANG_UP, KNOWN_SITE, LIFT, OPEN,
+    RELEASE, SITES, TILL, ask_site, command_point, connect, decode, parse, read_point, read_product,
+    read_sale, read_site,
     receive_all, receive_message, report, sign_off, sign_on,
 )  # fmt: skip
 from tests.built import PROGRAM, TABLES, find_tests_program, list_tests
@@ -69,7 +72,9 @@ STORED, NOTHING = FOLDER / "stdin", pathlib.Path(os.devnull)
 MODULE = "out_of_memory"  # of the tests whose allocations fail
 AT_ONCE = 32  # runs
 MOST = 10_000  # runs in turn
-JOURNAL, MOVED, COPY = "journal", "moved", "journal.starting"
+# In the folder in which a program runs; faults.c names them too.
+HISTORY, MOVED = "history", "moved"
+COPY = "000001.journal.starting"
 
 
 class Place:
@@ -108,43 +113,54 @@ class Place:
         with self.prepare(faults) as (how, met):
             return self.run_station([], how, met)[0]
 
-    def stored(self, text, **faults):
-        """The same of a station with a journal, which has this text; None if it isn't there."""
+    def stored(self, texts, asked=None, **faults):
+        """The same of a station with a history of these chapters, or with a new one; and how the
+        next start on it ended, which meets no fault. Its peers ask this, or as ever."""
         with self.prepare(faults) as (how, met):
-            journal = pathlib.Path(how["cwd"]) / JOURNAL
-            if text is not None:
-                journal.write_bytes(text)
-            end, told = self.run_station(["--journal", JOURNAL], how, met)
-            return Stored(end, told, journal.read_bytes() if journal.exists() else b"")
+            folder = pathlib.Path(how["cwd"]) / HISTORY
+            if texts is not None:
+                write_history(folder, KNOWN_SITE, *texts)
+            end, found = self.run_station(["--history", HISTORY], how, met, asked or ask_station)
+            left = read_texts(folder)
+            words = ["station", KNOWN_SITE, "--port=0", "--history", HISTORY]
+            again = run(PROGRAM, *words, given=NOTHING, cwd=how["cwd"])
+            names = [path.name for path in folder.glob("*.starting")]
+            return Stored(end, found, left, Again(again, read_texts(folder), names))
 
-    def open_journal(self, text, **faults):
-        """A station that opens a journal of this text, and whose day ends at once."""
-        words = ["station", KNOWN_SITE, "--port=0", "--journal", JOURNAL]
+    def open_history(self, *texts, **faults):
+        """A station that opens a history of these chapters, and whose day ends at once."""
+        words = ["station", KNOWN_SITE, "--port=0", "--history", HISTORY]
         with self.prepare(faults) as (how, met):
-            journal = pathlib.Path(how["cwd"]) / JOURNAL
-            journal.write_bytes(text)
-            begun = journal.stat()
+            here = pathlib.Path(how["cwd"])
+            folder = write_history(here / HISTORY, KNOWN_SITE, *texts)
+            begun = [path.stat().st_ino for path in list_chapters(folder)]
             end = run(PROGRAM, *words, given=NOTHING, **how)
             out = re.sub(b"127.0.0.1:[0-9]+", b"PORT", end.out)
-            files = {path.name: path for path in journal.parent.iterdir() if path != met}
-            beside = {name: files.pop(name).read_bytes() for name in (MOVED, COPY) if name in files}
-            expect("the files of the folder", [*files], [JOURNAL])
-            is_anew = journal.stat().st_ino != begun.st_ino
+            site, lock = folder / SITE_FILE, folder / LOCK_FILE
+            expect("its site file", site.read_bytes(), KNOWN_SITE.read_bytes())
+            own = {*list_chapters(folder), site, lock, folder, met}
+            beside = {
+                path.name: path.read_bytes()
+                for path in (*here.iterdir(), *folder.iterdir()) if path not in own
+            }  # fmt: skip
+            is_anew = begun != [path.stat().st_ino for path in list_chapters(folder)]
             end = end._replace(out=out)
-            return Opening(end, journal.read_bytes(), met.exists(), is_anew, beside)
+            return Opening(end, read_texts(folder), met.exists(), is_anew, beside)
 
-    def run_station(self, words, how, met):
-        """How the station ended, and how many rows it said that its journal had."""
+    def run_station(self, words, how, met, asked=None):
+        """How the station ended, and what it said that it found of its history."""
         command, pipe = [PROGRAM, "station", KNOWN_SITE, "--port=0", *words], subprocess.PIPE
         with subprocess.Popen(
             command, stdin=pipe, stdout=pipe, stderr=pipe, bufsize=0, **how
         ) as program:  # fmt: skip
-            line, rows = program.stdout.readline().decode(), 0
-            if line.startswith("journal rows "):
-                rows, line = int(line.split()[2]), program.stdout.readline().decode()
-            got = ask_station(int(line.rsplit(":", 1)[1])) if line else (None, None)
+            line = program.stdout.readline().decode()
+            found = read_found(line)
+            line = program.stdout.readline().decode() if found else line
+            port = int(line.rsplit(":", 1)[1]) if line else None
+            got = (asked or ask_station)(port) if port else (None, None)
             out, err = program.communicate(timeout=PATIENCE)
-        return Station(program.returncode, out.decode(), err.decode(), *got, met.exists()), rows
+        err = err.decode() if HISTORY in words else err.decode().replace(UNKEPT, "", 1)
+        return Station(program.returncode, out.decode(), err, *got, met.exists()), found
 
     def serve(self, **faults):
         """A server of one session: its status, its report, its text on standard error, what its
@@ -175,23 +191,37 @@ class Station(typing.NamedTuple):
 
 
 class Opening(typing.NamedTuple):
-    """How a station that opened a journal ended, what the journal has then, whether the fault was
-    met, whether another file has the journal's name, and what stands beside it."""
+    """How a station that opened a history ended, what its chapters have then, whether the fault was
+    met, whether another file has the name of a chapter, and what files there are beside it."""
 
     end: object
-    octets: bytes
+    texts: list
     met: bool
     is_anew: bool
     beside: dict
 
 
+class Again(typing.NamedTuple):
+    """How the next start on a history ended, what its chapters have then, and which copies were
+    left."""
+
+    end: object
+    texts: list
+    copies: list
+
+
 class Stored(typing.NamedTuple):
-    """How a station with a journal ended, how many rows it said that it found there, and what the
-    journal has then."""
+    """How a station with a history ended, what it said that it found there, what the chapters have
+    then, and how the next start on it ended."""
 
     end: Station
-    found: int
-    octets: bytes
+    found: object
+    texts: list
+    again: Again
+
+
+def read_texts(folder):
+    return [path.read_bytes() for path in list_chapters(folder)]
 
 
 def ask_station(port):
@@ -578,63 +608,95 @@ def fail_devices_of_station():
     return 4 + len(LISTENING) + len(changed)
 
 
-# Till 2 is signed on in a journal whose last line is torn: it is signed off.
+# Till 2 is signed on in a history whose last line is torn: it is signed off.
 BEFORE = [sign_on(2), command_point(2, 0, 2, OPEN)]
 STORED_LINES = first_lines(KNOWN_SITE) + write_rows(*BEFORE)
 STORED_TEXT = STORED_LINES + b"0101020100"
 DAY_OF_TWO = write_rows(ONLINE, sign_on(1), command_point(1, 0, 1, OPEN), sign_off(1))
-NEW_DAY = Stored(WHOLE_STATION, 0, first_lines(KNOWN_SITE) + DAY_OF_TWO)
-LATER_DAY = Stored(
-    WHOLE_STATION._replace(report=WHOLE_STATION.report.replace("rows 4", "rows 7")), 2,
-    STORED_LINES + write_rows(sign_off(2)) + DAY_OF_TWO,
-)  # fmt: skip
-JOURNALS = ((None, NEW_DAY), (STORED_TEXT, LATER_DAY))
+NEW_TEXT = first_lines(KNOWN_SITE) + DAY_OF_TWO
+LATER_TEXT = STORED_LINES + write_rows(sign_off(2)) + DAY_OF_TWO
+LATER_STATION = WHOLE_STATION._replace(report=WHOLE_STATION.report.replace("rows 4", "rows 7"))
+# What was there, how a whole day ends, what it found, and what is there then.
+HISTORIES = (
+    (None, WHOLE_STATION, Found(0, 0), NEW_TEXT),
+    ([STORED_TEXT], LATER_STATION, Found(1, 2), LATER_TEXT),
+)
 
 
-def expect_stored(what, got, whole):
-    """No peer was told what the journal doesn't have; that is a front of what a whole day's has, if
-    not all memory was there for its rows; and it is opened again."""
-    text = whole_lines(got.octets)
-    rows = read_journal(PROGRAM, KNOWN_SITE, text)
-    begin = len(BEFORE) + 1 if got.found else 0
-    peers = ((TILL, 1), got.end.till), ((DISPENSER, 1), got.end.pump)
+def is_whole(got, whole, text):
+    """Whether the day ended as a whole one, whatever it met, and left this chapter."""
+    return got.end._replace(met=False) == whole and got.texts == [text]
+
+
+def find_rows(texts):
+    """The rows of chapters, the torn last line left out."""
+    return read_rows(PROGRAM, KNOWN_SITE, b"".join(whole_lines(text) for text in texts))
+
+
+def expect_told(what, rows, peers, begin):
+    """What these peers were told is of the rows from this place on."""
     for node, came in peers:
         untold = find_untold(rows, node, came or b"", begin)
         if untold:
-            raise Failed(f"{what}: {node} was told {untold.hex()}, which isn't stored: {got}")
-    if len(rows) < got.found:
-        raise Failed(f"{what}: {got.found} rows were found, and {len(rows)} are there: {got}")
-    if whole and not whole.octets.startswith(text):
-        raise Failed(f"{what}: the journal isn't a front of a day's: {got}")
-    end, octets, *_ = PLACE.open_journal(got.octets)
-    is_opened = end.status == 0 and octets.startswith(text)
-    if not is_opened or (b"journal rows" in end.out) != (rows != []):
-        raise Failed(f"{what}: the journal isn't opened again: {end}")
-    report = run(PROGRAM, "report", KNOWN_SITE, given=text).out.decode()
+            raise Failed(f"{what}: {node} was told {untold.hex()}, which isn't stored")
+
+
+def expect_next_start(what, got):
+    """The next start finds the rows that are there, whole, and leaves no copy; returns them."""
+    rows, again = find_rows(got.texts), got.again
+    if again.end.status != 0 or again.end.err:
+        raise Failed(f"{what}: the next start: {again.end}, {got}")
+    found = read_found(again.end.out.decode().splitlines(keepends=True)[0])
+    expect(f"{what}: the next start", found, Found(len(got.texts), len(rows)))
+    check_chapters(KNOWN_SITE, again.texts)
+    for before, after in zip(got.texts, again.texts):
+        expect(f"{what}: the next start's rows", after.startswith(whole_lines(before)), True)
+    return rows
+
+
+def expect_stored(what, got, text):
+    """No peer was told what the chapter doesn't have; that is a front of what a whole day's has, if
+    not all memory was there for its rows; and it is opened again."""
+    rows = expect_next_start(what, got)
+    begin = len(BEFORE) + 1 if got.found and got.found.rows else 0
+    expect_told(what, rows, (((TILL, 1), got.end.till), ((DISPENSER, 1), got.end.pump)), begin)
+    if got.found and len(rows) < got.found.rows:
+        raise Failed(f"{what}: {got.found}, and {len(rows)} rows are there: {got}")
+    if text and not text.startswith(b"".join(map(whole_lines, got.texts))):
+        raise Failed(f"{what}: the chapter isn't a front of a day's: {got}")
+    whole = b"".join(map(whole_lines, got.texts))
+    report = run(PROGRAM, "report", KNOWN_SITE, given=whole).out.decode()
     if got.end.report not in ("", report) or got.end.status == 0 and got.end.report == "":
-        raise Failed(f"{what}: the report isn't that of the journal: {got}")
+        raise Failed(f"{what}: the report isn't that of the history: {got}")
+
+
+# The first flush, of the folder above, is made again at each start: it may fail there.
+IGNORED = {"FAIL_SYNC": 1, "FAIL_OPEN": 1}
 
 
 @test
-def fail_journals_of_station():
-    """The folder of a new journal, its first line, the copy at a start, the sign-off of who was
-    signed on, and a day's rows: each write and each fdatasync fails in turn, at a line's end and
-    within it; at each fdatasync the file system stops, and doesn't say so."""
+def fail_histories_of_station():
+    """The folder of a new history, its site file, its first lines, the copy at a start, the
+    sign-off of who was signed on, and a day's rows: each write and each flush fails in turn, at a
+    line's end and within it; at each fdatasync the file system stops, and doesn't say so."""
     runs = 0
-    for text, whole in JOURNALS:
-        expect("a journal", PLACE.stored(text), whole)
-        for kind in ("FAIL_JOURNAL_WRITE", "FAIL_SYNC", "STOP_AT_SYNC"):
+    for texts, whole, found, text in HISTORIES:
+        got = PLACE.stored(texts)
+        expect("a history", (got.end, got.found, got.texts), (whole, found, [text]))
+        for kind in ("FAIL_JOURNAL_WRITE", "FAIL_SYNC", "STOP_AT_SYNC", "FAIL_OPEN"):
             for short in ({}, {"SHORT_JOURNAL_WRITE": 7}):
 
                 def one(k):
                     faults = {kind: k, **short}
-                    got = PLACE.stored(text, **faults)
-                    expect_stored(f"the station with {faults}", got, whole)
-                    if got.end.status == 0 and whole.octets == got.octets:
-                        expect(faults, got._replace(end=got.end._replace(met=False)), whole)
-                        return False
+                    got = PLACE.stored(texts, **faults)
+                    expect_stored(f"the station with {faults}", got, text)
+                    if is_whole(got, whole, text):
+                        return IGNORED.get(kind) == k and texts is not None
                     end = (got.end.status, got.end.report, got.end.err, got.end.met)
-                    expect(faults, end, (1, "", "fault 62\n", True))
+                    wanted = [(1, "", "fault 62\n", True)]
+                    if kind == "FAIL_OPEN":
+                        wanted = [(1, "", f"{fault}\n", True) for fault in UNOPENED]
+                    expect(f"{faults}: {end}", end in wanted, True)
                     return True
 
                 runs += count_some_in_turn(f"{kind} {short}", one)
@@ -642,14 +704,100 @@ def fail_journals_of_station():
             {"SHORT_JOURNAL_WRITE": 1}, {"SHORT_JOURNAL_WRITE": 31}, {"INTERRUPT": 1},
             {"SHORT_JOURNAL_WRITE": 1, "INTERRUPT": 1, "SHORT_SEND": 1},
         ):  # fmt: skip
-            met = whole._replace(end=whole.end._replace(met=True))
-            expect(faults, PLACE.stored(text, **faults), met)
+            got = PLACE.stored(texts, **faults)
+            expect(faults, (got.end, got.texts), (whole._replace(met=True), [text]))
             runs += 1
-    folder = PLACE.stored(None, FAIL_SYNC=1)
-    wanted = (b"", 1, "fault 62\n", None)
-    got = (folder.octets, folder.end.status, folder.end.err, folder.end.till)
-    expect("a folder that isn't synced, and no line yet", got, wanted)
+    got = PLACE.stored(None, FAIL_SYNC=1)
+    wanted = ([], 1, "fault 62\n", None)
+    end = (got.texts, got.end.status, got.end.err, got.end.till)
+    expect("a folder that isn't synced, and no line yet", end, wanted)
     return runs + 1
+
+
+UNOPENED = (
+    "fault 62", f"cannot read {HISTORY}", f"cannot read {HISTORY}/site.toml",
+)  # fmt: skip
+
+
+# Till 1, a manager, closes the shift; then till 2 opens a point.
+CLOSED = sign_on(1) + ask_site(1, CLOSE_SHIFT, 0)
+AFTER_CLOSE = sign_on(2) + command_point(2, 0, 2, OPEN)
+NO_NEW_CHAPTER = "no new chapter can be made: the open one goes on\n"
+OVER = write_rows(sign_on(1), ask_site(1, CLOSE_SHIFT, 0), sign_off(1))
+# A new history; one whose open chapter is over, without a seal and with one; and one with a closed
+# chapter and an open one.
+ENDING = (
+    None, [first_lines(KNOWN_SITE) + OVER], write_chapters(KNOWN_SITE, OVER, b"")[:1],
+    write_chapters(KNOWN_SITE, OVER, write_rows(command_point(1, 0, 1, OPEN))),
+)  # fmt: skip
+
+
+def ask_for_end(port):
+    """What a station sends to a till that closes the shift, and then to another one."""
+    return talk(port, CLOSED), talk(port, AFTER_CLOSE)
+
+
+def fail_chapter_end(texts, kind, k, short):
+    """A station on these chapters whose shift is closed, with the Kth call of this kind failed:
+    what was told is stored, the next start reads it, and the day goes on or ends so."""
+    what = f"the end of a chapter of {texts and len(texts)} with {kind} {k} {short}"
+    got = PLACE.stored(texts, ask_for_end, **{kind: k}, **short)
+    rows = expect_next_start(what, got)
+    begin = 0 if texts is None else len(find_rows(texts))
+    told = ((TILL, 1), got.end.till), ((TILL, 2), got.end.pump)
+    expect_told(what, rows, told, begin)
+    end = (got.end.status, got.end.err)
+    text = b"".join(map(whole_lines, got.texts))
+    report = run(PROGRAM, "report", KNOWN_SITE, given=text).out.decode()
+    if got.end.status == 0:
+        expect(f"{what}: the report", got.end.report, report)
+        is_well = got.end.err in ("", NO_NEW_CHAPTER) or kind == "FAIL_ALLOCATION"
+    else:
+        if got.end.report not in ("", report):
+            raise Failed(f"{what}: the report isn't that of the history: {got}")
+        faults = [f"{fault}\n" for fault in UNOPENED]
+        said = got.end.err.removeprefix(NO_NEW_CHAPTER)
+        is_well = end[0] == 1 and said in faults
+        no_memory = (4, "fault 31\n"), (1, "fault 64\n")
+        is_well = is_well or kind == "FAIL_ALLOCATION" and end in no_memory
+    expect(f"{what}: {end}", is_well, True)
+    expect(f"{what}: no copy is left", got.again.copies, [])
+    if not got.end.met:
+        expect(f"{what}: its end", end, (0, ""))
+        chapters = 2 if texts is None or len(texts) == 1 and begin == 0 else None
+        if chapters:
+            expect(f"{what}: chapters", len(got.texts), chapters)
+    return end != (0, "") if short else got.end.met  # a short write is met in each run
+
+
+@test
+def fail_chapter_ends():
+    """A start, and the end of a chapter in which a shift was closed: each write, flush, rename, and
+    each opening and lock of a file fails in turn. The station goes on, in the open chapter where
+    there is no next one, or ends with `fault 62`; nothing that was told is lost."""
+    runs = 0
+    for texts in ENDING:
+        for kind in ("FAIL_JOURNAL_WRITE", "FAIL_SYNC", "STOP_AT_SYNC", "FAIL_RENAME", "FAIL_OPEN",
+                     "FAIL_LOCK"):  # fmt: skip
+            for short in ({}, {"SHORT_JOURNAL_WRITE": 7}):
+
+                def one(k):
+                    return fail_chapter_end(texts, kind, k, short)
+
+                if not short or kind == "FAIL_JOURNAL_WRITE":
+                    runs += count_some_in_turn(f"{kind} {short}", one)
+    return runs
+
+
+@test
+def fail_allocations_of_chapter_ends():
+    """The same with each allocation failed: the day may also end with `fault 31`."""
+    runs = 0
+    for texts in (ENDING[0], ENDING[1]):
+        runs += count_some_in_turn(
+            "a chapter's end", lambda n: fail_chapter_end(texts, "FAIL_ALLOCATION", n, {})
+        )
+    return runs
 
 
 READS = [read_site(1, 0), read_point(1, 0, 1), read_product(1, 0, 1), read_sale(1, 0, 1, 1)]
@@ -673,14 +821,15 @@ def look(port, met):
 
 
 def look_with(kind, k):
-    """The same of a station with a new journal whose Kth call of this kind fails, and how that
+    """The same of a station with a new history whose Kth call of this kind fails, and how that
     station ended; None where the fault was met before the looks."""
-    words = [PROGRAM, "station", KNOWN_SITE, "--port=0", "--journal", JOURNAL]
+    words = [PROGRAM, "station", KNOWN_SITE, "--port=0", "--history", HISTORY]
     pipe = subprocess.PIPE
     with PLACE.prepare({kind: k}) as (how, met), subprocess.Popen(
         words, stdin=pipe, stdout=pipe, stderr=pipe, bufsize=0, **how
     ) as program:  # fmt: skip
         line = program.stdout.readline().decode()
+        line = program.stdout.readline().decode() if read_found(line) else ""
         found = look(int(line.rsplit(":", 1)[1]), met) if line else None
         _, err = program.communicate(timeout=PATIENCE)
         return found and (*found, (program.returncode, err, met.exists()))
@@ -709,16 +858,17 @@ def fail_sockets_of_stored_station():
         def one(k):
             got = PLACE.stored(None, **{kind: k})
             if not got.end.met:
-                expect("nothing", got, NEW_DAY)
+                expect("nothing", (got.end, got.texts), (WHOLE_STATION, [NEW_TEXT]))
                 return False
-            what = f"the station with a journal and {kind} {k}"
+            what = f"the station with a history and {kind} {k}"
             expect_stored(what, got, None)
             are_whole = (got.end.till == REPLIES[0]) + (got.end.pump in PUMP_REPLIES)
             if (got.end.status, got.end.err) != (0, "") or are_whole < 1:
                 raise Failed(f"{what}: {got}")
-            signed = [got.octets.count(write_rows(one)) for one in (sign_on(1), sign_off(1))]
+            octets = b"".join(got.texts)
+            signed = [octets.count(write_rows(one)) for one in (sign_on(1), sign_off(1))]
             expect(f"{what}: sign-ons and sign-offs", signed[0], signed[1])
-            is_opened = write_rows(command_point(1, 0, 1, OPEN)) in got.octets
+            is_opened = write_rows(command_point(1, 0, 1, OPEN)) in octets
             if is_opened and got.end.till != REPLIES[0]:
                 expect(f"{what}: the dispenser", got.end.pump, REFUSED + TOLD)
             return True
@@ -728,141 +878,155 @@ def fail_sockets_of_stored_station():
 
 
 @test
-def fail_openings_of_journals():
-    """A journal that isn't locked or read, or whose copy isn't made or named, stays as it is."""
+def fail_openings_of_histories():
+    """A history whose files aren't locked, or read, or whose copy isn't named, stays as it is."""
     runs = 0
-    unread, unwritten = "cannot read journal", "fault 62"
+    unread, unwritten = f"cannot read {HISTORY}", "fault 62"
     wanted = {
         "FAIL_LOCK": [unread, unwritten], "FAIL_RENAME": [unwritten],
-        "FAIL_FILE_READ": [f"cannot read {KNOWN_SITE}", unread],
+        "FAIL_FILE_READ": [f"cannot read {KNOWN_SITE}", unread, f"{unread}/site.toml"],
     }  # fmt: skip
-    whole, after, *_ = PLACE.open_journal(STORED_TEXT)
-    expect("a journal", after, STORED_LINES + write_rows(sign_off(2)))
-    for kind, ends in wanted.items():
-        said = []
+    closed = write_chapters(KNOWN_SITE, OVER, b"")[0]
+    second = write_chapters(KNOWN_SITE, OVER, write_rows(*BEFORE))[1]
+    for texts, after in (
+        ([STORED_TEXT], [STORED_LINES + write_rows(sign_off(2))]),
+        ([closed, second + b"01"], [closed, second + write_rows(sign_off(2))]),
+    ):
+        whole = PLACE.open_history(*texts)
+        expect("a history", whole.texts, after)
+        for kind, ends in wanted.items():
+            said = []
 
-        def one(k):
-            end, octets, met, is_anew, beside = PLACE.open_journal(STORED_TEXT, **{kind: k})
-            expect(f"{kind} {k}: beside it", beside, {})
-            if not met:
-                expect("nothing", (end, octets), (whole, after))
-                return False
-            got = (end.status, end.out, octets, is_anew)
-            expect(f"{kind} {k}", got, (1, b"", STORED_TEXT, False))
-            said.append(end.err.strip())
-            return True
+            def one(k):
+                got = PLACE.open_history(*texts, **{kind: k})
+                expect(f"{kind} {k}: beside it", got.beside, {})
+                if not got.met:
+                    expect("nothing", (got.end, got.texts), (whole.end, after))
+                    return False
+                end = (got.end.status, got.end.out, got.texts, got.is_anew)
+                expect(f"{kind} {k}", end, (1, b"", texts, False))
+                said.append(got.end.err.strip())
+                return True
 
-        runs += count_some_in_turn(kind, one)
-        expect(kind, sorted({*said}), sorted(ends))
+            runs += count_some_in_turn(kind, one)
+            expect(kind, sorted({*said}), sorted(ends))
     return runs
 
 
-FLUSHES = ("the folder", "the copy", "the folder", "the sign-off")
+FLUSHES = ("the folder above", "the folder", "the copy", "the folder", "the sign-off")
 
 
 @test
-def fail_copies_of_journals():
-    """A start puts a copy in the place of its journal, which is on the disk before: of a file whose
-    flush has failed, what the system shows may not be there. Each flush fails in turn: before
-    that of the copy the journal is the file that it was."""
+def fail_copies_of_chapters():
+    """A start puts a copy in the place of its open chapter, which is on the disk before: of a file
+    whose flush has failed, what the system shows may not be there. Each flush fails in turn: before
+    that of the copy the chapter is the file that it was."""
 
     def one(k):
-        end, octets, met, is_anew, beside = PLACE.open_journal(STORED_TEXT, FAIL_SYNC=k)
+        end, texts, met, is_anew, beside = PLACE.open_history(STORED_TEXT, FAIL_SYNC=k)
         expect(f"flush {k}: beside it", beside, {})
+        if k == 1 + FLUSHES.index("the folder above"):
+            expect(f"flush {k}", (end.status, end.err, met), (0, "", True))
+            return True
         expect(f"flush {k}: put in place", is_anew, k > 1 + FLUSHES.index("the copy"))
         if not met:
             expect("so many flushes", k, len(FLUSHES) + 1)
             return False
         expect(f"flush {k}", (end.status, end.out, end.err), (1, b"", "fault 62\n"))
         left = STORED_LINES if is_anew else STORED_TEXT
-        expect(f"flush {k}: the lines", octets, left)
+        expect(f"flush {k}: the lines", texts, [left])
         return True
 
     return count_some_in_turn("FAIL_SYNC", one)
 
 
 @test
-def move_journals_at_starts():
-    """A journal is moved at a flush of a start, and another file gets its name: before the copy is
-    in place that file stays, the journal stays where it is, and the start is refused."""
+def move_chapters_at_starts():
+    """The open chapter is moved at a flush of a start, and another file gets its name. Before it is
+    opened that file is the chapter; then it stays, the chapter stays where it is, and the start is
+    refused, or fails at the next flush."""
+    gone_on = STORED_LINES + write_rows(sign_off(2))
 
     def one(k):
-        end, octets, met, _, beside = PLACE.open_journal(STORED_TEXT, MOVE_AT_SYNC=k)
+        end, texts, met, _, beside = PLACE.open_history(STORED_TEXT, MOVE_AT_SYNC=k)
         if not met:
             expect("so many flushes", k, len(FLUSHES) + 1)
             return False
-        expect(f"flush {k}: what has its name", octets, b"")
-        if k <= 1 + FLUSHES.index("the copy"):
-            expect(f"flush {k}: the journal", beside, {MOVED: STORED_TEXT})
-            expect(f"flush {k}", (end.status, end.out, end.err), (1, b"", "fault 62\n"))
-        else:
-            gone_on = STORED_LINES + write_rows(sign_off(2))
-            expect(f"flush {k}: the journal", beside, {MOVED: gone_on})
+        if k < 1 + FLUSHES.index("the copy"):
+            expect(f"flush {k}", (end.status, end.err), (0, ""))
+            expect(f"flush {k}: what has its name", texts, [first_lines(KNOWN_SITE)])
+            expect(f"flush {k}: what was moved", beside, {MOVED: STORED_TEXT})
+            return True
+        expect(f"flush {k}", (end.status, end.out, end.err), (1, b"", "fault 62\n"))
+        expect(f"flush {k}: what has its name", texts, [b""])
+        moved = STORED_TEXT if k == 1 + FLUSHES.index("the copy") else gone_on
+        expect(f"flush {k}: what was moved", beside, {MOVED: moved})
         return True
 
     return count_some_in_turn("MOVE_AT_SYNC", one)
 
 
 @test
-def swap_copies_of_journals():
+def swap_copies_of_chapters():
     """Somebody puts another file in the place of a start's copy: that one doesn't become the
-    journal. One that is there before the copy is taken for what an earlier start has left."""
+    chapter. One that is there before the copy is taken for what an earlier start has left."""
+    gone_on = STORED_LINES + write_rows(sign_off(2))
 
     def one(k):
-        end, octets, met, _, beside = PLACE.open_journal(STORED_TEXT, SWAP_AT_SYNC=k)
+        end, texts, met, _, beside = PLACE.open_history(STORED_TEXT, SWAP_AT_SYNC=k)
         if not met:
             expect("so many flushes", k, len(FLUSHES) + 1)
             return False
         if k == 1 + FLUSHES.index("the copy"):
-            got = (end.status, end.out, end.err, octets, beside)
-            expect(f"flush {k}", got, (1, b"", "fault 62\n", STORED_TEXT, {COPY: b""}))
+            got = (end.status, end.out, end.err, texts, beside)
+            expect(f"flush {k}", got, (1, b"", "fault 62\n", [STORED_TEXT], {COPY: b""}))
         else:
-            got = (end.status, end.err, octets, beside)
-            left = {COPY: b""} if k > 1 else {}
-            gone_on = STORED_LINES + write_rows(sign_off(2))
-            expect(f"flush {k}", got, (0, "", gone_on, left))
+            left = {COPY: b""} if k > 1 + FLUSHES.index("the copy") else {}
+            expect(f"flush {k}", (end.status, end.err, texts, beside), (0, "", [gone_on], left))
         return True
 
     return count_some_in_turn("SWAP_AT_SYNC", one)
 
 
 @test
-def fail_allocations_of_journals():
-    """At the opening of a journal with rows: `fault 31`, and what stands there is what stood there,
+def fail_allocations_of_histories():
+    """At the opening of a history with rows: `fault 31`, and what stands there is what stood there,
     without the torn line, or with the sign-off; or all is as ever."""
-    whole, after, *_ = PLACE.open_journal(STORED_TEXT)
+    whole = PLACE.open_history(STORED_TEXT)
 
     def one(n):
-        end, octets, met, _, beside = PLACE.open_journal(STORED_TEXT, FAIL_ALLOCATION=n)
-        expect(f"allocation {n}: beside it", beside, {})
-        if not met and (end, octets) != (whole, after):
-            raise Failed("a journal that is opened: not the same twice")
-        is_whole = (end, octets) == (whole, after)
+        got = PLACE.open_history(STORED_TEXT, FAIL_ALLOCATION=n)
+        end, text = got.end, got.texts[0]
+        expect(f"allocation {n}: beside it", got.beside, {})
+        is_same = (end, got.texts) == (whole.end, whole.texts)
+        if not got.met and not is_same:
+            raise Failed("a history that is opened: not the same twice")
         is_ended = (end.status, end.err) in ((4, "fault 31\n"), (1, "fault 64\n"))
-        is_front = whole.out.startswith(end.out) and octets in (STORED_TEXT, STORED_LINES, after)
-        if not is_whole and not (is_ended and is_front):
-            raise Failed(f"a journal that is opened, allocation {n} failed: {end}, {octets}")
-        return met
+        is_front = whole.end.out.startswith(end.out)
+        is_front = is_front and text in (STORED_TEXT, STORED_LINES, whole.texts[0])
+        if not is_same and not (is_ended and is_front):
+            raise Failed(f"a history that is opened, allocation {n} failed: {end}, {text}")
+        return got.met
 
-    return count_some_in_turn("a journal that is opened", one)
+    return count_some_in_turn("a history that is opened", one)
 
 
 @test
 def fail_allocations_of_stored_station():
-    """A day with a journal: as without one, but that it ends with `fault 31`, behind its report,
+    """A day with a history: as without one, but that it ends with `fault 31`, behind its report,
     where there was no memory for a row's line. Nobody is told what isn't stored."""
 
     def one(n):
         got = PLACE.stored(None, FAIL_ALLOCATION=n)
         if not got.end.met:
-            expect("nothing", got, NEW_DAY)
-        expect_stored(f"the station with a journal, allocation {n}", got, None)
+            expect("nothing", (got.end, got.texts), (WHOLE_STATION, [NEW_TEXT]))
+        expect_stored(f"the station with a history, allocation {n}", got, None)
         is_ended = (got.end.status, got.end.err) == (4, "fault 31\n")
         if not is_ended and not is_well_without_memory(got.end):
-            raise Failed(f"the station with a journal, allocation {n} failed: {got}")
+            raise Failed(f"the station with a history, allocation {n} failed: {got}")
         return got.end.met
 
-    return count_some_in_turn("the station with a journal", one)
+    return count_some_in_turn("the station with a history", one)
 
 
 # A sale is made; then a till's looks fill the rows in memory, so that those of the sale are
@@ -892,7 +1056,7 @@ def talk(port, asked):
 
 
 def list_unpaid(site, text):
-    """The unpaid transactions of a journal, as `sales` lists them."""
+    """The unpaid transactions of a history, as `sales` lists them."""
     sales = run(PROGRAM, "sales", site, "--json", given=text).out.decode().splitlines()
     members = ("shift", "point", "number", "product", "millilitres", "cents", "status")
     unpaid = [one for one in map(json.loads, sales) if one["status"] != "cleared"]
@@ -911,12 +1075,12 @@ def read_unpaid(page, members):
 
 def forget_with(n, few, wide):
     """A station whose book forgets a sale, with the Nth allocation failed; whether it was met."""
-    words = ["station", few, "--port=0", "--page=0", "--journal", JOURNAL]
+    words = ["station", few, "--port=0", "--page=0", "--history", HISTORY]
     pipe = subprocess.PIPE
     with PLACE.prepare({"FAIL_ALLOCATION": n}) as (how, met), subprocess.Popen(
         [PROGRAM, *words], stdin=pipe, stdout=pipe, stderr=pipe, bufsize=0, **how
     ) as program:  # fmt: skip
-        lines = [program.stdout.readline().decode() for _ in range(2)]
+        _, *lines = [program.stdout.readline().decode() for _ in range(3)]
         if not all(lines):
             _, err = program.communicate(timeout=PATIENCE)
             end = (program.returncode, err.decode())
@@ -924,13 +1088,13 @@ def forget_with(n, few, wide):
             return True
         port, page = (int(line.rstrip("/\n").rsplit(":", 1)[1]) for line in lines)
         came = [talk(port, asked) for asked in (*SALE_BEFORE, LOOKS)]
-        journal = pathlib.Path(how["cwd"]) / JOURNAL
-        text = retitle(journal.read_bytes(), wide)
+        folder = pathlib.Path(how["cwd"]) / HISTORY
+        text = retitle(read_chapters(folder), wide)
         unpaid, members = list_unpaid(wide, text)
         told = read_unpaid(page, members)
         out, err = program.communicate(timeout=PATIENCE)
-        text = retitle(journal.read_bytes(), wide)
-        rows = read_journal(PROGRAM, wide, text)
+        text = retitle(read_chapters(folder), wide)
+        rows = read_rows(PROGRAM, wide, text)
         for node, octets in zip(((TILL, 1), (DISPENSER, 1), (TILL, 2)), came):
             expect(f"allocation {n}: what isn't stored", find_untold(rows, node, octets), None)
         if program.returncode != 4 or err != b"fault 31\n":
@@ -947,7 +1111,7 @@ def forget_with(n, few, wide):
 def fail_allocations_where_rows_are_forgotten():
     """A book forgets the rows of a sale, with each allocation failed in turn. Where one of the
     forgetting's own fails, nothing is forgotten yet: the sale is listed as unpaid just once, and
-    the report is that of the journal."""
+    the report is that of the history."""
     few, wide = PLACE.folder / "few.toml", PLACE.folder / "wide.toml"
     few.write_text(f"rows = 1024\n{KNOWN_SITE.read_text()}")
     wide.write_text(KNOWN_SITE.read_text())
@@ -961,7 +1125,9 @@ def block_a_send_of_station():
     pipe = subprocess.PIPE
     words = [PROGRAM, "station", KNOWN_SITE, "--port=0"]
     with PLACE.prepare({"BLOCK_SEND": 1}) as (how, met):
-        with subprocess.Popen(words, stdin=pipe, stdout=pipe, bufsize=0, **how) as program:
+        with subprocess.Popen(
+            words, stdin=pipe, stdout=pipe, stderr=pipe, bufsize=0, **how
+        ) as program:
             port = int(program.stdout.readline().decode().rsplit(":", 1)[1])
             with connect(port) as till:
                 till.sendall(sign_on(1))
@@ -974,7 +1140,8 @@ def block_a_send_of_station():
                 program.stdin.close()
                 program.stdin = None
                 got = receive_all(till)
-            out, _ = program.communicate(timeout=PATIENCE)
+            out, err = program.communicate(timeout=PATIENCE)
+    expect("standard error", err.decode(), UNKEPT)
     if not is_silent or got != parse(SIGNED_ON) or not out.startswith(b"rows 2\n"):
         raise Failed(f"the station whose send would block: {is_silent}, {got}, {out}")
     return 1

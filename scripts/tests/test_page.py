@@ -1,7 +1,7 @@
 """The page of `forecourt station`, and reports as JSON.
 
 Over plain HTTP: what each path and method is answered, how many are served and for how long, and
-peers that mean no good; what `site.json` tells beside the journal and the commands that read it.
+peers that mean no good; what `site.json` tells beside the history and the commands that read it.
 In a headless Chromium: what the page says of a day, step after step, and how it looks on screens
 and on a telephone. Without a Chromium those tests are skipped."""
 
@@ -25,7 +25,7 @@ from shared.browser import (
     SCREEN, SOON, TELEPHONE, WIDE, expect_words, find_browser, open_page, read_tile, start_browser,
 )  # fmt: skip
 from shared.checks import Failed, Skipped, expect
-from shared.journals import count_rows, retitle
+from shared.histories import count_rows, read_chapters, retitle
 from shared.page_day import connect, end_day, read_answer, write_request
 from shared.running import EXAMPLES, SCRIPTS, compile_c, run
 from shared.serving import list_addresses, wait_until
@@ -378,7 +378,7 @@ def a_day_that_ends():
             wait_for_end(peer)
 
 
-# ---- the site as JSON, beside the journal and the commands
+# ---- the site as JSON, beside the history and the commands
 
 
 @test
@@ -388,10 +388,10 @@ def only_what_is_stored():
     library = compile_c(HERE, "tests/faults.c", "-O1", "-shared", "-fPIC")
     met = 0
     for sync in range(0, 9):
-        journal = HERE / f"flush-{sync}.journal"
+        folder = HERE / f"flush-{sync}"
         faults = {"LD_PRELOAD": library, "FAIL_SYNC": str(sync)}
         try:
-            with start_page("--journal", str(journal), till=None, env=faults) as page:
+            with start_page("--history", str(folder), till=None, env=faults) as page:
                 answers = ask_in_one_round(page)
                 if sync == 0:
                     expect("rows", answers, [1, 1])
@@ -400,7 +400,7 @@ def only_what_is_stored():
                 _, told = page.day.process.communicate(timeout=serving.WAIT)
                 expect("the end", (page.day.process.returncode, told), (1, b"fault 62\n"))
                 page.day.process.stdin = None
-                expect("lines", count_rows(journal.read_bytes()), 0)
+                expect("lines", count_rows(read_chapters(folder)), 0)
                 met += 1
                 break
         except Failed as why:
@@ -436,11 +436,11 @@ def read_state(day):
 
 
 @test
-def rows_of_the_journal():
-    """While a till asks as fast as it is answered, no more rows are told than the journal has
-    lines."""
-    journal = HERE / "stored.journal"
-    with start_page("--journal", str(journal)) as page, connect(page.port) as peer:
+def rows_of_the_history():
+    """While a till asks as fast as it is answered, no more rows are told than the history
+    has lines."""
+    folder = HERE / "stored"
+    with start_page("--history", str(folder)) as page, connect(page.port) as peer:
         asking = threading.Thread(
             target=lambda: page.tell(*(command_point(1, n % 32, 1, OPEN) for n in range(READS)))
         )
@@ -449,13 +449,13 @@ def rows_of_the_journal():
         while asking.is_alive():
             peer.sendall(write_request("/site.json"))
             rows = json.loads(read_answer(peer)[2])["rows"]
-            lines = count_rows(journal.read_bytes())
+            lines = count_rows(read_chapters(folder))
             if rows > lines:
-                raise Failed(f"{rows} rows are told, and {lines} are in the journal")
+                raise Failed(f"{rows} rows are told, and {lines} are in the history")
             told += 1
         asking.join()
         expect("rows", page.site()["rows"], READS + 1)
-        expect("lines", count_rows(journal.read_bytes()), READS + 1)
+        expect("lines", count_rows(read_chapters(folder)), READS + 1)
         if told < 10:
             raise Failed(f"the page was asked {told} times")
 
@@ -480,16 +480,16 @@ def fill_book(page):
 @test
 def sales_whose_rows_are_forgotten():
     """A book of 1,024 rows forgets the rows of two sales: both stay listed as they are, one can be
-    cleared, and is listed no more. The report is that of the journal, which has each row, and a
+    cleared, and is listed no more. The report is that of the history, which has each row, and a
     start on that lists what was unpaid."""
-    journal, site, wide = HERE / "forgotten.journal", HERE / "few.toml", HERE / "wide.toml"
+    folder, site, wide = HERE / "forgotten", HERE / "few.toml", HERE / "wide.toml"
     site.write_text(f"rows = {MOST_IN_BOOK}\n{KNOWN_SITE.read_text()}")
     wide.write_text(KNOWN_SITE.read_text())
     first = name_sale(1, 1, 1_500, 1_500, millilitres=10_000)
     second = name_sale(2, 2, 1_799, 900, millilitres=5_000, status="locked", till=1)
     sold = {"diesel": {"metered": 10_000, "payable": 10_000},
             "petrol": {"metered": 5_000, "cleared": 5_000}}  # fmt: skip
-    words = ("--journal", str(journal))
+    words = ("--history", str(folder))
     with start_page(*words, site=site) as page:
         page.tell(*(command_point(1, 0, p, x) for p in (1, 2) for x in (OPEN, RELEASE)))
         page.tell(report(1, 0, LIFT, 0), report(1, 0, HANG_UP, 10_000))
@@ -508,9 +508,9 @@ def sales_whose_rows_are_forgotten():
         told = end_day(page.day)
     rows += 1  # the sign-off of till 1
     expect("the report", told, write_report(rows, 0, 1, 900, **sold))
-    text = retitle(journal.read_bytes(), wide)
+    text = retitle(read_chapters(folder), wide)
     made = run(PROGRAM, "report", wide, given=text)
-    expect("that of the journal", (made.status, made.out.decode()), (0, told))
+    expect("that of the history", (made.status, made.out.decode()), (0, told))
     with start_page(*words, site=site, till=None) as page:
         again = page.site()
         expect("at a start", (again["transactions"], again["rows"]), ([first], rows))
@@ -518,27 +518,27 @@ def sales_whose_rows_are_forgotten():
 
 @test
 def beside_the_commands():
-    """What `site.json` tells of 64 points is what `sales` and `report` find in the journal; the
-    station's own report as JSON is that of its journal."""
-    journal = HERE / "crowded.journal"
-    words = ("--journal", str(journal), "--json")
+    """What `site.json` tells of 64 points is what `sales` and `report` find in the history; the
+    station's own report as JSON is that of its history."""
+    folder = HERE / "crowded"
+    words = ("--history", str(folder), "--json")
     with start_busy(forecourts.make_crowded_day(), *words) as (page, file):
         site = page.site()
-        text = journal.read_bytes()
+        text = read_chapters(folder)
         sales = run(PROGRAM, "sales", file, "--json", given=text).out.decode().splitlines()
         members = sorted(site["transactions"][0])
         unpaid = [{name: sale[name] for name in members} for sale in map(json.loads, sales)
                   if sale["status"] != "cleared"]  # fmt: skip
         expect("unpaid transactions", site["transactions"], unpaid)
         told = json.loads(run(PROGRAM, "report", file, "--json", given=text).out)
-        lines = count_rows(journal.read_bytes())
+        lines = count_rows(read_chapters(folder))
         expect("rows", (site["rows"], lines), (told["rows"], told["rows"]))
         expect("products", site["products"], told["products"])
         tills = [{**till, "signed on": True} for till in told["tills"]]
         expect("tills", site["tills"], tills)
         page.leave()
         told = end_day(page.day).encode()
-        expect_same_report(told, run(PROGRAM, "report", file, given=journal.read_bytes()).out)
+        expect_same_report(told, run(PROGRAM, "report", file, given=read_chapters(folder)).out)
 
 
 @test
@@ -588,8 +588,8 @@ def wrong_words():
     for words, first in ((("--port=x", "--page=x"), "port"), (("--port=0", "--page=x"), "page")):
         end = run(PROGRAM, "station", "nowhere.toml", "--idle=x", *words)
         expect("the first one", (end.status, end.err.split()[1]), (2, f"--{first}"))
-    journal = HERE / "taken.journal"
-    with start_page("--journal", str(journal)) as page:
+    folder = HERE / "taken"
+    with start_page("--history", str(folder)) as page:
         for taken in (page.port, page.day.port):
             end = run(PROGRAM, "station", KNOWN_SITE, "--port=0", f"--page={taken}")
             expect("a taken port", end, (1, b"", "fault 63\n"))

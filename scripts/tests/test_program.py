@@ -150,6 +150,9 @@ def mistaken_words():
         ["explain", KNOWN_SITE], ["report"], ["report", KNOWN_SITE, "--changes"], [
             "report", KNOWN_SITE, KNOWN_SITE
         ],
+        ["shifts"], ["shifts", "a", "b"], ["shifts", "a", "--changes"], ["next"], [
+            "next", "a", "b"
+        ], ["next", "a", "--json"], ["station", KNOWN_SITE, "--port=0", "--journal", "a"],
         [b"check\xff", KNOWN_SITE], ["check", "no_such_file", "extra"],
     ):  # fmt: skip
         expect_mistake(*words)
@@ -163,8 +166,8 @@ def help_texts():
         first = "The forecourt site controller; alone it replays standard input on the site that"
         lines = expect_help(f"{first} it knows", word)
         for text in (
-            "check", "replay", "report", "serve", "demo", "explain", "sales", "spell", "Print help",
-            "Print version",
+            "check", "replay", "report", "serve", "station", "demo", "shifts", "next", "explain",
+            "sales", "spell", "Print help", "Print version",
         ):
             found = any(line.startswith("  ") and text in line for line in lines)
             expect(f"{word} speaks of {text}", found, True)
@@ -179,7 +182,18 @@ def help_texts():
             "serve",
             "Serves tills and dispensers on 127.0.0.1, settles, and prints the report of the day",
         ),
+        (
+            "station",
+            "Serves every till and dispenser of a site on 127.0.0.1 until standard input ends, and"
+            " prints the report of the day",
+        ),
         ("demo", "Runs a script, settles, and prints the report of the day"),
+        ("shifts", "Prints what each shift of a history cleared, a line for each"),
+        (
+            "next",
+            "Prints the site file with which a new history goes on where this one ended, or what"
+            " hinders that",
+        ),
         ("explain", "Prints the messages of standard input in words, or what a number means"),
         ("sales", "Replays standard input on the site of a file, and prints its sales as CSV"),
         ("spell", "Prints the requests that standard input asks for in words, in hexadecimal"),
@@ -187,6 +201,11 @@ def help_texts():
         lines = expect_help(first, command, "--help")
         is_example = lines[-1].startswith("Example") and f"forecourt {command} " in lines[-1]
         expect(f"{command} --help ends with an example", is_example, True)
+        if command == "station":
+            text = "\n".join(lines)
+            for word in ("[FILE]", "--history <FOLDER>", "--page <N>", "--detached", "--json"):
+                expect(f"{command} --help speaks of {word}", word in text, True)
+            expect(f"{command} --help speaks of no journal", "journal" in text, False)
 
 
 @test_each

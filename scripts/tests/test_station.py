@@ -20,9 +20,9 @@ import threading
 import time
 
 from shared.checks import Failed, expect
-from shared.journals import is_read
+from shared.histories import is_read
 from shared.running import close_input, run
-from shared.serving import LOOK, WAIT, read_status, send_reset, send_until, start_day
+from shared.serving import LOOK, UNKEPT, WAIT, read_status, send_reset, send_until, start_day
 from shared.station import (
     ASSIGN, CLEAR, CLOSE, DISPENSER, EXAMPLES, FIVE_POINTS, FLOW, HANG_UP, KNOWN_SITE, LIFT, LOCK,
     NOTICE, OPEN, OUTCOME, PREPAY, RELEASE, REPORT, RESUME, SITE, SUSPEND, TERMINATE, TEST_RELEASE,
@@ -469,7 +469,8 @@ def descriptors_spent():
         first = stack.enter_context(day.connect())
         ask(first, sign_on(1), SIGNED_ON[1])
         others = [stack.enter_context(day.connect()) for _ in range(30)]
-        expect("told", os.read(day.process.stderr.fileno(), 4_096).decode(), told)
+        expect("told", os.read(day.process.stderr.fileno(), 4_096).decode(), UNKEPT + told)
+        day.is_unkept = False  # that is read
         time.sleep(1.5)
         expect_quiet_program(day)
         ask(first, read_point(1, 1, 2), replay(sign_on(1) + read_point(1, 1, 2))[16:])
@@ -870,7 +871,7 @@ def never_full():
 def closed_output():
     """Where it can't tell where it listens, it serves nobody."""
     ended = run(PROGRAM, "station", KNOWN_SITE, "--port", "0", given=b"", sink="/dev/full")
-    expect("listening", (ended.status, ended.err), (1, "fault 62\n"))
+    expect("listening", (ended.status, ended.err), (1, f"{UNKEPT}fault 62\n"))
 
 
 # ---- the command line, and the order of faults

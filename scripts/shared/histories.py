@@ -1,7 +1,9 @@
-"""The journals of stations as text, and what a journal says that its peers were told."""
+"""The histories of stations: folders of chapters, and what their rows say that peers were told."""
 
 import bisect
 import hashlib
+import pathlib
+import shutil
 import typing
 
 from shared.checks import Failed
@@ -12,30 +14,119 @@ from shared.station import (
 )  # fmt: skip
 
 FIRST_LINES = 3  # of a chapter
+NO_SEAL = "0" * 64  # what the first chapter is after
+SITE_FILE, LOCK_FILE = "site.toml", "lock"  # in the folder of a history
 ACCEPTED, WRONG_STATE, NO_MEMORY, DETAIL = 0, 10, 31, 2
 RELEASES = (RELEASE, PREPAY, TEST_RELEASE)
 MOST_ROWS = 1_000_000  # of a replay
 
 
-def first_lines(site):
-    """The first lines of the first chapter of this site file, each with its line feed."""
+def first_lines(site, number=1, after=NO_SEAL):
+    """The first lines of a chapter of this site file, each with its line feed: of the first one,
+    or of one with this number after this seal."""
     name = hashlib.sha256(site.read_bytes()).hexdigest()
-    text = f"# witsomar history 1 chapter 1\n# site {name}\n# after {'0' * 64}\n"
+    text = f"# witsomar history 1 chapter {number}\n# site {name}\n# after {after}\n"
     return text.encode()
 
 
 def retitle(text, site):
-    """The first chapter of a history as one of another site file."""
-    return first_lines(site) + text.split(b"\n", FIRST_LINES)[FIRST_LINES]
+    """The first chapter of a history, or all of its chapters as one text, as the first chapter of
+    another site file: without seals, and without the first lines of later chapters."""
+    lines = text.splitlines(keepends=True)
+    kept = [line for line in lines if not line.startswith(b"#")]
+    return first_lines(site) + b"".join(kept)
 
 
 def count_rows(text):
-    """The whole lines of the first chapter that are rows' requests."""
-    return text.count(b"\n") - FIRST_LINES
+    """The whole lines of chapters that are rows' requests."""
+    lines = whole_lines(text).splitlines()
+    return sum(not line.startswith(b"#") for line in lines)
 
+
+# ---- folders
+
+
+def chapter_path(folder, number=1):
+    """The file of the chapter of this number."""
+    return pathlib.Path(folder) / f"{number:06d}.journal"
+
+
+def list_chapters(folder):
+    """The files of a history's chapters, in order."""
+    return sorted(pathlib.Path(folder).glob("[0-9]*.journal"))
+
+
+def read_chapters(folder):
+    """The texts of a history's chapters, one after the other."""
+    return b"".join(path.read_bytes() for path in list_chapters(folder))
+
+
+def write_history(folder, site, *texts):
+    """Makes the folder of a history of this site file, whose chapters have these texts. What was
+    in the folder before is removed."""
+    folder = pathlib.Path(folder)
+    shutil.rmtree(folder, ignore_errors=True)
+    folder.mkdir()
+    shutil.copyfile(site, folder / SITE_FILE)
+    for number, text in enumerate(texts, 1):
+        chapter_path(folder, number).write_bytes(text)
+    return folder
+
+
+def seal_of(before, covered):
+    """The seal after the seal `before`, in digits, that covers these octets."""
+    return hashlib.sha256(before.encode() + covered).hexdigest()
+
+
+def seal_line(seal):
+    return f"# seal {seal}\n".encode()
+
+
+def write_chapters(site, *bodies):
+    """The texts of the chapters whose lines of rows are these: each one is sealed but for the last,
+    and begins after the seal of the one before it."""
+    texts, seal = [], NO_SEAL
+    for number, body in enumerate(bodies, 1):
+        covered = first_lines(site, number, seal) + body
+        is_last = number == len(bodies)
+        seal = seal_of(seal, covered)
+        texts.append(covered if is_last else covered + seal_line(seal))
+    return texts
+
+
+class Seals(typing.NamedTuple):
+    """What is found in sealed chapters: how many seals, and the last one."""
+
+    count: int
+    last: str
+
+
+def check_chapters(site, texts):
+    """The chapters go on from each other: first lines, seals, and a seal as each one's last line
+    but that of the open chapter. Seals are computed here. Returns what was found."""
+    seal, count = NO_SEAL, 0
+    for number, text in enumerate(texts, 1):
+        first = first_lines(site, number, seal)
+        if not text.startswith(first):
+            raise Failed(f"chapter {number} begins with {text[:200]}, wanted {first}")
+        covered, is_sealed = [], False
+        for line in text.splitlines(keepends=True):
+            is_sealed = line.startswith(b"# seal ")
+            if is_sealed:
+                seal, covered, count = seal_of(seal, b"".join(covered)), [], count + 1
+                if line != seal_line(seal):
+                    raise Failed(f"chapter {number}: {line}, wanted the seal {seal}")
+            else:
+                covered.append(line)
+        if number < len(texts) and not is_sealed:
+            raise Failed(f"chapter {number} doesn't end with a seal")
+    return Seals(count, seal)
+
+
+# ---- rows
 
 def write_rows(*requests):
-    """The lines of a journal for these requests, whatever their tokens are."""
+    """The lines of a chapter for these requests, whatever their tokens are."""
     return b"".join(without_token(one).hex().encode() + b"\n" for one in requests)
 
 
@@ -86,7 +177,7 @@ def tells_of_a_row(octets):
 
 
 class Row(typing.NamedTuple):
-    """A row of a journal: its request, its reply, and the notice of its change if it is one."""
+    """A row of a history: its request, its reply, and the notice of its change if it is one."""
 
     request: bytes
     reply: bytes
@@ -101,13 +192,13 @@ class Row(typing.NamedTuple):
         return self.reply[5] >> 5 != ACKNOWLEDGE or read_items(self.reply)[RESULT][0] == ACCEPTED
 
 
-def read_journal(program, site, text):
-    """The rows of a journal's text, as the replay makes them."""
+def read_rows(program, site, text):
+    """The rows of a history's text, as the replay makes them."""
     lines = [line for line in text.splitlines() if not line.startswith(b"#")]
     requests = [bytes.fromhex(line.decode()) for line in lines]
     end = run(program, "replay", site, "--changes", given=text)
     if (end.status, end.err) != (0, ""):
-        raise Failed(f"the journal isn't replayed: status {end.status}, {end.err}")
+        raise Failed(f"the history isn't replayed: status {end.status}, {end.err}")
     rows = []
     for line in end.out.splitlines():
         told = bytes.fromhex(line.decode())
@@ -185,7 +276,7 @@ class Look(typing.NamedTuple):
 
 
 class Told:
-    """What peers may have been told, by a journal's rows. `looks` has, of each session that was
+    """What peers may have been told, by a history's rows. `looks` has, of each session that was
     explained, the looks of each place at which its rows may begin."""
 
     def __init__(self, rows):
@@ -260,11 +351,14 @@ class Told:
         """The looks of a session whose rows begin at this one of its node's own, `own`, which are
         those from one place to another. A read stands behind the row of the request before it,
         and before its node's next row; rows of other peers may stand on either side of it. Its
-        reply may change at rows of its own point, and at those of the site alone."""
+        reply may change at rows of its own point, and at those of the site alone; that to a read of
+        the site at any row, as it tells what was cleared."""
         looks, bounds = [], [begin - 1, *own, end]
         for count, request, reply in session.answered_reads():
             first, last = bounds[at + count] + 1, bounds[at + count + 1]
             fronts = {first}
+            if database(request) == SITE_ADDRESS[0]:
+                fronts.update(range(first, last + 1))
             for address in (database(request), SITE_ADDRESS[0]):
                 places = self.addressed.get(address, [])
                 span = slice(bisect.bisect_left(places, first), bisect.bisect_left(places, last))
