@@ -29,6 +29,7 @@ impl<'a, R: Files<File = File> + AllocGlobal> HistoryFolder<'a, R> {
     /// left out.
     pub fn lock(rt: &'a R, folder: &str) -> Result<HistoryFolder<'a, R>, FileFault> {
         make_for_good(rt, folder)?;
+        check_output(rt, folder)?;
         let path = path_in(rt.alloc(), folder, LOCK)?;
         let lock = open_alone(rt, path.as_str())?;
         match flush_folder(rt, folder) {
@@ -39,7 +40,6 @@ impl<'a, R: Files<File = File> + AllocGlobal> HistoryFolder<'a, R> {
             Ok(chapters) => chapters,
             Err(fault) => return Err(fault_of_folder(fault)),
         };
-        check_all_streams(rt, folder, chapters)?;
         Ok(HistoryFolder {
             rt,
             folder: String::from_str(rt.alloc(), folder)?,
@@ -112,6 +112,19 @@ impl<'a, R: Files<File = File> + AllocGlobal> HistoryFolder<'a, R> {
             flushed: 0,
             is_own: false,
         })
+    }
+}
+
+/// Fails where the process prints into a file of this folder, whoever has it: a fault that is said
+/// later would be written there.
+fn check_output<R: Files<File = File> + AllocGlobal>(
+    rt: &R,
+    folder: &str,
+) -> Result<(), FileFault> {
+    match count_chapters(rt, folder) {
+        Ok(chapters) => check_all_streams(rt, folder, chapters),
+        // Chapters that can't be counted are said once the folder is locked.
+        Err(_) => check_all_streams(rt, folder, 0),
     }
 }
 
