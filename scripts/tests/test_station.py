@@ -459,6 +459,18 @@ def peers_above_the_most():
         expect("report", end(day), write_report(3 * ROWS_OF_FAST + 2, 0))
 
 
+
+def read_told(day, wanted):
+    """What the station writes to standard error, as many octets of it as are wanted: it may come
+    in several pieces."""
+    told = b""
+    while len(told) < len(wanted.encode()):
+        piece = os.read(day.process.stderr.fileno(), 4_096)
+        if not piece:
+            break
+        told += piece
+    return told.decode()
+
 @test
 def descriptors_spent():
     """Where no descriptor is left, that is told once, those who are there are served, and who
@@ -469,7 +481,7 @@ def descriptors_spent():
         first = stack.enter_context(day.connect())
         ask(first, sign_on(1), SIGNED_ON[1])
         others = [stack.enter_context(day.connect()) for _ in range(30)]
-        expect("told", os.read(day.process.stderr.fileno(), 4_096).decode(), UNKEPT + told)
+        expect("told", read_told(day, UNKEPT + told), UNKEPT + told)
         day.is_unkept = False  # that is read
         time.sleep(1.5)
         expect_quiet_program(day)
