@@ -459,7 +459,6 @@ def peers_above_the_most():
         expect("report", end(day), write_report(3 * ROWS_OF_FAST + 2, 0))
 
 
-
 def read_told(day, wanted):
     """What the station writes to standard error, as many octets of it as are wanted: it may come
     in several pieces."""
@@ -470,6 +469,7 @@ def read_told(day, wanted):
             break
         told += piece
     return told.decode()
+
 
 @test
 def descriptors_spent():
