@@ -33,7 +33,8 @@ pub record IsKept (h : History) : Type 0 where
 -- before
 abbrev pub IsChain : History → List History → Type 0
 IsChain h [] = IsKept h
-IsChain h (next ∷ more) = IsKept h × (GoesOnFrom (end_of h) (opening next.config) × IsChain next more)
+IsChain h (next ∷ more) =
+    IsKept h × (GoesOnFrom (end_of h) (opening next.config) × IsChain next more)
 
 -- the reading with which nozzle n of point p begins
 abbrev pub first_reading : ℕ → ℕ → History → ℕ
