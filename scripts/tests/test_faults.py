@@ -6,7 +6,8 @@
   `fault 31` and status 4, and what it wrote is a front of what it writes else (or it did without,
   and all is as ever);
 - the program with each read and each write failed in turn, with writes that are cut short, with an
-  output that takes only so much, and with interrupted calls;
+  output that takes only so much, and with interrupted calls; the commands that read a history,
+  with each read of its files failed;
 - the program as a server of one session, with its allocations failed in turn: it ends with `fault
   31` and status 4, or settles all the same, and the peer gets a front of what it may get; with each
   of its writes failed, with writes that are cut short, and with interrupted calls, of its socket
@@ -38,6 +39,7 @@ fail. A test counts the runs that met their fault."""
 
 import concurrent.futures
 import contextlib
+import functools
 import json
 import os
 import pathlib
@@ -52,8 +54,9 @@ import typing
 
 from shared.checks import Failed, expect
 from shared.histories import (
-    LOCK_FILE, SITE_FILE, check_chapters, find_untold, first_lines, list_chapters, read_chapters,
-    read_rows, retitle, whole_lines, write_chapters, write_history, write_rows,
+    LOCK_FILE, SITE_FILE, check_chapters, find_untold, first_lines, is_read, list_chapters,
+    read_chapters, read_rows, retitle, split_messages, whole_lines, write_chapters, write_history,
+    write_rows,
 )  # fmt: skip
 from shared.page_day import PageDay
 from shared.running import CRATES, EXAMPLES, PATIENCE, compile_c, run
@@ -314,6 +317,32 @@ def list_days():
     yield ["report", FIVE_POINTS, "--human"], EXAMPLES / "paying_day.hex"
 
 
+@functools.cache
+def make_read_history():
+    """The folder of a history of two chapters, with sales and a draw, for the commands that read
+    one."""
+    bodies = []
+    for name in ("paying_day.hex", "fuelling_day.hex"):
+        lines = (EXAMPLES / name).read_text().splitlines()
+        octets = bytes.fromhex("".join(line for line in lines if not line.startswith("#")))
+        bodies.append(write_rows(*(one for one in split_messages(octets) if not is_read(one))))
+    texts = write_chapters(FIVE_POINTS, *bodies)
+    folder = write_history(make_folder() / "read", FIVE_POINTS, *texts)
+    folder.parent.chmod(0o755)
+    return folder
+
+
+def list_readings():
+    """The commands that read a history's folder."""
+    folder = make_read_history()
+    for word, *words in (
+        ["replay"], ["replay", "--changes", "--shift", "1"], ["explain"], ["sales"],
+        ["sales", "--json"], ["sales", "--draws"], ["report"], ["report", "--human"],
+        ["report", "--json", "--shift", "1"], ["shifts"], ["shifts", "--json"], ["next"],
+    ):  # fmt: skip
+        yield [word, folder, *words], NOTHING
+
+
 def list_commands():
     """Words of the command line, and what comes on standard input."""
     for source in list_cases("cases"):
@@ -327,6 +356,7 @@ def list_commands():
     for source in list_cases("reports"):
         yield ["report", KNOWN_SITE], source
     yield from list_days()
+    yield from list_readings()
     yield ["--version"], NOTHING
 
 
@@ -437,6 +467,32 @@ def fail_devices_of_files():
             runs += command.fail_calls("FAIL_READ", "fault 61")
         runs += command.fail_calls("FAIL_WRITE", "fault 62", len(command.whole.out) > 0)
         runs += command.expect_same(INTERRUPT=1)
+    return runs
+
+
+@test
+def fail_devices_of_readings():
+    """The commands that read a history: reads of its files, and writes. What `replay` and `explain`
+    print of the first chapter, before the second one can't be read, is a front of their text."""
+    runs = 0
+    for words, source in list_readings():
+        command = Command(words, source)
+        folder = words[1]
+        files = [folder / "site.toml", *(folder / f"{n:06d}.journal" for n in (1, 2))]
+        wanted = {f"cannot read {file}" for file in [folder, *files]}
+
+        def one(k):
+            end, met = command.run(FAIL_FILE_READ=k)
+            is_front = end.status == 1 and end.err.strip() in wanted
+            is_front = is_front and command.whole.out.startswith(end.out)
+            if not (is_front if met else end == command.whole):
+                raise Failed(f"{command.name}, read {k}: {end}")
+            return met
+
+        runs += count_some_in_turn(command.name, one)
+        if command.whole.out:
+            runs += command.fail_calls("FAIL_WRITE", "fault 62")
+            runs += command.expect_same(INTERRUPT=1)
     return runs
 
 

@@ -1,6 +1,6 @@
 -- Lines that a reader has read, one after another.
-use Rattle.std.proofs.Common.{◌≡◌, ℕ, ◌+◌, ◌-◌, ◌≤◌, Bool, true, false, List, [], ◌∷◌, ◌++◌}
-use Rattle.std.proofs.Common.{length, take, drop, Option, Some, None, refl, sym, ap, ◌∙◌}
+use Rattle.std.proofs.Common.{◌≡◌, ℕ, ◌+◌, ◌-◌, ◌<◌, ◌≤◌, ◌^◌, Bool, true, false, List, [], ◌∷◌, ◌++◌}
+use Rattle.std.proofs.Common.{length, drop, take, Option, Some, None, refl, sym, ap, ◌∙◌}
 use Rattle.std.proofs.Common.{subst, append-nil, append_assoc, arith, Result, Ok, Err}
 use Rattle.std.specs.Prelude.{OnErr, OnOk, if◌then◌else◌}
 use Rattle.std.proofs.lemmas.Option.{none-some, same_Some}
@@ -21,8 +21,8 @@ use Rattle.chapters.specs.ChapterText.{seal_line, seal_of}
 use Rattle.chapters.specs.History.{IsMadeOf}
 use Rattle.chapters.specs.HistoryEnds.{EndsAt}
 use Rattle.chapters.specs.Lines.{lines_from, request_in, unfinished, unfinished_from, whole_lines}
-use Rattle.chapters.specs.Readers.{AddsText, AreRead, EndsWithLines}
-use Rattle.chapters.specs.Readers.{KeepsLines, NamesRow, ReaderState}
+use Rattle.chapters.specs.Readers.{AddsText, AreRead, AreReadTo, KeepsLines, NamesRow}
+use Rattle.chapters.specs.Readers.{ReaderState}
 use Rattle.chapters.proofs.Lines.{all_unfinished, line_ends, lines_both, none_ends, one_line}
 use Rattle.chapters.proofs.Lines.{unfinished_both}
 use Rattle.chapters.proofs.Made.{made_more}
@@ -165,33 +165,28 @@ unpaid_applied (Err e) kept b new actor event goes row same =
 
 -- ---- line after line
 
--- of the text these octets are whole lines, which the reader has read since it was so; this is left
-pub record ReadsOn (text rest : List ℕ) (number : ℕ) (old now : ReaderState) : Type 0 where
-  pub done : List ℕ
-  pub parts : text ≡ done ++ rest
-  pub whole : unfinished done ≡ []
-  pub count : number ≡ length (whole_lines done) + 3
-  pub few : number + length rest ≤ length text + 3
-  pub read : (chapters : ℕ) (r : HistoryRead) → KeepsLines chapters r old
-      → AreRead chapters r (whole_lines done) now
-  pub site : now.site ≡ old.site
-  pub config : now.book.config ≡ old.book.config
-  pub chapters : now.end.chapters ≡ old.end.chapters
-  pub torn : now.torn ≡ old.torn
-
-pub begins_reading : (text : List ℕ) (s : ReaderState) → ReadsOn text text 3 s s
-begins_reading text s = record {
-  done = [];
-  parts = refl;
-  whole = refl;
-  count = refl;
-  few = omega arith;
-  read = λ chapters r keeps. record { reading = r; read = refl; keeps = keeps };
-  site = refl;
-  config = refl;
-  chapters = refl;
-  torn = refl;
+-- what is kept of lines goes by the book and by where they end
+pub keeps_same : (n : ℕ) (r : HistoryRead) (a b : ReaderState) → b.book ≡ a.book → b.end ≡ a.end
+    → KeepsLines n r a → KeepsLines n r b
+keeps_same n r a b book end keeps = record {
+  ends = subst (EndsAt n r.seal r.unsealed) (sym end) keeps.ends;
+  made = subst (λ (x : Book). IsMadeOf x r.events) (sym book) keeps.made;
 }
+
+-- what stands behind a front, and ahead of a rest
+pub behind_done : (text done rest : List ℕ) → text ≡ done ++ rest
+    → drop (length text - length rest) text ≡ rest
+behind_done text done rest parts =
+    let size : length text ≡ length done + length rest = ap length parts ∙ length-append done rest in
+    let here : length text - length rest ≡ length done = omega (arith, size) in
+    ap (λ (n : ℕ). drop n text) here ∙ ap (drop (length done)) parts ∙ drop-append_seam done rest
+
+pub ahead_of : (text done rest : List ℕ) → text ≡ done ++ rest
+    → take (length text - length rest) text ≡ done
+ahead_of text done rest parts =
+    let size : length text ≡ length done + length rest = ap length parts ∙ length-append done rest in
+    let here : length text - length rest ≡ length done = omega (arith, size) in
+    ap (λ (n : ℕ). take n text) here ∙ ap (take (length done)) parts ∙ take-append_seam done rest
 
 -- the lines of a front of whole lines, and of what stands behind it
 pub lines_behind : (text done rest : List ℕ) → text ≡ done ++ rest → unfinished done ≡ []
@@ -206,38 +201,91 @@ lines_in_parts rest line others parts plain =
     lines_behind rest (line ++ 10 ∷ []) others parts (line_ends [] line)
     ∙ ap (λ (ls : List (List ℕ)). ls ++ whole_lines others) (one_line line plain)
 
--- one line more
-pub reads_line : (text rest line others : List ℕ) (number : ℕ) (old now new : ReaderState)
-    → ReadsOn text rest number old now → rest ≡ (line ++ 10 ∷ []) ++ others → IsLine line
-    → ((chapters : ℕ) (r : HistoryRead) → KeepsLines chapters r now
+-- two parts of whole lines are whole lines
+pub whole_both : (a b : List ℕ) → unfinished a ≡ [] → unfinished b ≡ [] → unfinished (a ++ b) ≡ []
+whole_both a b one two =
+    unfinished_both [] a b ∙ ap (λ (line : List ℕ). unfinished_from line b) one ∙ two
+
+-- Of what was left of a chapter these octets are whole lines, which the reader has read since then;
+-- this is left.
+pub record ReadsOn (text rest : List ℕ) (old now : ReaderState) : Type 0 where
+  pub done : List ℕ
+  pub parts : text ≡ done ++ rest
+  pub whole : unfinished done ≡ []
+  pub few : length (whole_lines done) + length rest ≤ length text
+  pub count : old.line + length (whole_lines done) < 2 ^ 64
+      → now.line ≡ old.line + length (whole_lines done)
+  pub read : (chapters : ℕ) (r : HistoryRead) → KeepsLines chapters r old
+      → AreRead chapters r (whole_lines done) now
+  pub rows : now.book.rows ≡ old.book.rows
+  pub site : now.site ≡ old.site
+  pub config : now.book.config ≡ old.book.config
+  pub chapters : now.end.chapters ≡ old.end.chapters
+  pub begins : now.begin ≡ old.begin
+  pub torn : now.torn ≡ old.torn
+
+pub begins_reading : (text : List ℕ) (s : ReaderState) → ReadsOn text text s s
+begins_reading text s = record {
+  done = [];
+  parts = refl;
+  whole = refl;
+  few = omega arith;
+  count = λ short. omega arith;
+  read = λ chapters r keeps. record { reading = r; read = refl; keeps = keeps };
+  rows = refl;
+  site = refl;
+  config = refl;
+  chapters = refl;
+  begins = refl;
+  torn = refl;
+}
+
+-- one line more, which left the reader so
+pub record ReadsLine (text rest : List ℕ) (old now : ReaderState) : Type 0 where
+  pub done : List ℕ
+  pub parts : text ≡ done ++ rest
+  pub whole : unfinished done ≡ []
+  pub few : length (whole_lines done) + length rest ≤ length text
+  pub short : length rest < length text
+  pub count : old.line + length (whole_lines done) < 2 ^ 64
+      → now.line ≡ old.line + length (whole_lines done)
+  pub read : (chapters : ℕ) (r : HistoryRead) → KeepsLines chapters r old
+      → AreRead chapters r (whole_lines done) now
+
+pub reads_line : (text rest line others : List ℕ) (old now mid new : ReaderState)
+    → ReadsOn text rest old now → rest ≡ (line ++ 10 ∷ []) ++ others → IsLine line
+    → mid.book ≡ now.book → mid.end ≡ now.end
+    → ((chapters : ℕ) (r : HistoryRead) → KeepsLines chapters r mid
     → AreRead chapters r (line ∷ []) new)
-    → new.site ≡ now.site → new.book.config ≡ now.book.config
-    → new.end.chapters ≡ now.end.chapters → new.torn ≡ now.torn
-    → ReadsOn text others (number + 1) old new
-reads_line text rest line others number old now new r parts plain next site config chapters torn =
+    → (now.line + 1 < 2 ^ 64 → new.line ≡ now.line + 1)
+    → ReadsLine text others old new
+reads_line text rest line others old now mid new r parts plain book end next number =
     let done : List ℕ = r.done ++ (line ++ 10 ∷ []) in
     let lines : whole_lines done ≡ whole_lines r.done ++ line ∷ [] =
     lines_behind done r.done (line ++ 10 ∷ []) refl r.whole
     ∙ ap (λ (ls : List (List ℕ)). whole_lines r.done ++ ls) (one_line line plain) in
+    let size : length (whole_lines done) ≡ length (whole_lines r.done) + 1 =
+    ap length lines ∙ length-append (whole_lines r.done) (line ∷ []) in
+    let all : text ≡ done ++ others =
+    r.parts ∙ ap (λ (xs : List ℕ). r.done ++ xs) parts
+    ∙ sym (append_assoc r.done (line ++ 10 ∷ []) others) in
+    let rest_size : length rest ≡ length line + 1 + length others =
+    ap length parts ∙ length-append (line ++ 10 ∷ []) others
+    ∙ ap (λ (n : ℕ). n + length others) (length-append line (10 ∷ [])) in
+    let text_size : length text ≡ length r.done + length rest =
+    ap length r.parts ∙ length-append r.done rest in
     record {
       done = done;
-      parts = r.parts ∙ ap (λ (xs : List ℕ). r.done ++ xs) parts
-          ∙ sym (append_assoc r.done (line ++ 10 ∷ []) others);
-      whole =
-          unfinished_both [] r.done (line ++ 10 ∷ [])
-          ∙ line_ends (unfinished_from [] r.done) line;
-      count = omega
-          (arith, r.count, ap length lines, length-append (whole_lines r.done) (line ∷ []));
-      few = omega (
-        arith,
-        r.few,
-        ap length parts,
-        length-append (line ++ 10 ∷ []) others,
-        length-append line (10 ∷ []),
-      );
+      parts = all;
+      whole = whole_both r.done (line ++ 10 ∷ []) r.whole (line_ends [] line);
+      few = omega (arith, r.few, size, rest_size);
+      short = omega (arith, rest_size, text_size);
+      count = λ small.
+          let before = r.count (omega (arith, small, size)) in
+          number (omega (arith, before, small, size)) ∙ omega (arith, before, size);
       read = λ n first keeps.
           let before = r.read n first keeps in
-          let one = next n before.reading before.keeps in
+          let one = next n before.reading (keeps_same n before.reading now mid book end before.keeps) in
           record {
             reading = one.reading;
             read =
@@ -247,73 +295,118 @@ reads_line text rest line others number old now new r parts plain next site conf
                 ∙ one.read;
             keeps = one.keeps;
           };
-      site = site ∙ r.site;
-      config = config ∙ r.config;
-      chapters = chapters ∙ r.chapters;
-      torn = torn ∙ r.torn;
     }
 
--- no line is left
-pub reads_all : (text rest : List ℕ) (number : ℕ) (old now : ReaderState)
-    → ReadsOn text rest number old now → IsLine rest → (chapters : ℕ) (r : HistoryRead)
-    → KeepsLines chapters r old → AreRead chapters r (whole_lines text) now
-reads_all text rest number old now on plain chapters r keeps =
-    let all : whole_lines text ≡ whole_lines on.done =
-    lines_behind text on.done rest on.parts on.whole
-    ∙ ap (λ (ls : List (List ℕ)). whole_lines on.done ++ ls) (none_ends [] rest plain)
-    ∙ append-nil (whole_lines on.done) in
-    subst (λ (ls : List (List ℕ)). AreRead chapters r ls now) (sym all)
-    (on.read chapters r keeps)
+-- .. and made no row
+pub reads_more : (text rest others : List ℕ) (old now new : ReaderState)
+    → ReadsOn text rest old now → ReadsLine text others old new
+    → new.book.rows ≡ now.book.rows
+    → new.site ≡ now.site → new.book.config ≡ now.book.config
+    → new.end.chapters ≡ now.end.chapters → new.begin ≡ now.begin → new.torn ≡ now.torn
+    → ReadsOn text others old new
+reads_more text rest others old now new r line rows site config chapters begins torn = record {
+  done = line.done;
+  parts = line.parts;
+  whole = line.whole;
+  few = line.few;
+  count = line.count;
+  read = line.read;
+  rows = rows ∙ r.rows;
+  site = site ∙ r.site;
+  config = config ∙ r.config;
+  chapters = chapters ∙ r.chapters;
+  begins = begins ∙ r.begins;
+  torn = torn ∙ r.torn;
+}
 
-pub ends_reading : (text rest : List ℕ) (number : ℕ) (old now : ReaderState)
-    → ReadsOn text rest number old now → IsLine rest → EndsWithLines (length rest) text
-ends_reading text rest number old now on plain =
-    let total : length text ≡ length on.done + length rest =
-    ap length on.parts ∙ length-append on.done rest in
-    let here : length text - length rest ≡ length on.done = omega (arith, total) in
-    let front : take (length text - length rest) text ≡ on.done =
-    ap (take (length text - length rest)) on.parts
-    ∙ ap (λ (n : ℕ). take n (on.done ++ rest)) here ∙ take-append_seam on.done rest in
-    let behind : drop (length text - length rest) text ≡ rest =
-    ap (drop (length text - length rest)) on.parts
-    ∙ ap (λ (n : ℕ). drop n (on.done ++ rest)) here ∙ drop-append_seam on.done rest in
-    let left : unfinished text ≡ rest =
-    ap unfinished on.parts ∙ unfinished_both [] on.done rest
-    ∙ ap (λ (line : List ℕ). unfinished_from line rest) on.whole
-    ∙ all_unfinished [] rest plain in
+-- ---- a chapter goes on
+
+-- the reader goes on in the chapter with these whole lines
+pub goes_further : (chapters : ℕ) (r : HistoryRead) (tail rest others done : List ℕ)
+    (old now : ReaderState) → AreReadTo chapters r tail rest old → rest ≡ done ++ others
+    → unfinished done ≡ [] → length (whole_lines done) + length others ≤ length rest
+    → (old.line + length (whole_lines done) < 2 ^ 64
+    → now.line ≡ old.line + length (whole_lines done))
+    → ((n : ℕ) (x : HistoryRead) → KeepsLines n x old → AreRead n x (whole_lines done) now)
+    → AreReadTo chapters r tail others now
+goes_further chapters r tail rest others done old now to parts whole few count reads =
+    let all : List ℕ = to.done ++ done in
+    let lines : whole_lines all ≡ whole_lines to.done ++ whole_lines done =
+    lines_behind all to.done done refl to.whole in
+    let more = reads chapters to.reading to.keeps in
+    let here = count (omega (arith, to.few, few)) in
     record {
-      few = omega (arith, total);
-      left = ap length (sym left);
-      whole = record {
-        few = omega (arith, total);
-        ended = ap unfinished front ∙ on.whole;
-        behind = ap whole_lines behind ∙ none_ends [] rest plain;
-      };
+      done = all;
+      parts = to.parts ∙ ap (λ (xs : List ℕ). to.done ++ xs) parts
+          ∙ sym (append_assoc to.done done others);
+      whole = whole_both to.done done to.whole whole;
+      reading = more.reading;
+      read =
+          ap (λ (ls : List (List ℕ)). read_lines ls r) lines
+          ∙ read_both (whole_lines to.done) (whole_lines done) r
+          ∙ ap (λ (o : Option HistoryRead). and_then o (read_lines (whole_lines done))) to.read
+          ∙ more.read;
+      keeps = more.keeps;
+      count = omega (
+        arith,
+        here,
+        to.count,
+        ap length lines,
+        length-append (whole_lines to.done) (whole_lines done),
+      );
+      few = omega (arith, here, to.few, few);
     }
+
+-- .. to its end: no line is left
+pub lines_end : (chapters : ℕ) (r : HistoryRead) (tail rest : List ℕ) (s : ReaderState)
+    → (to : AreReadTo chapters r tail rest s) → IsLine rest
+    → read_lines (whole_lines tail) r ≡ Some to.reading
+lines_end chapters r tail rest s to plain =
+    ap (λ (ls : List (List ℕ)). read_lines ls r)
+    (lines_behind tail to.done rest to.parts to.whole
+    ∙ ap (λ (ls : List (List ℕ)). whole_lines to.done ++ ls) (none_ends [] rest plain)
+    ∙ append-nil (whole_lines to.done))
+    ∙ to.read
+
+-- .. and these are the octets behind its last line feed
+pub rest_is_torn : (tail done rest : List ℕ) → tail ≡ done ++ rest → unfinished done ≡ []
+    → IsLine rest → unfinished tail ≡ rest
+rest_is_torn tail done rest parts whole plain =
+    ap unfinished parts ∙ unfinished_both [] done rest
+    ∙ ap (λ (line : List ℕ). unfinished_from line rest) whole
+    ∙ all_unfinished [] rest plain
 
 -- ---- a wrong line
 
-pub wrong_line : (text rest line others : List ℕ) (number chapters : ℕ) (old now : ReaderState)
-    (r : HistoryRead) (fault : HistoryFault) → ReadsOn text rest number old now
-    → rest ≡ (line ++ 10 ∷ []) ++ others → IsLine line → KeepsLines chapters r old
+pub wrong_line : (chapters : ℕ) (r : HistoryRead) (tail text rest line others : List ℕ)
+    (old now : ReaderState) (number : ℕ) (fault : HistoryFault)
+    → AreReadTo chapters r tail text old → ReadsOn text rest old now
+    → rest ≡ (line ++ 10 ∷ []) ++ others → IsLine line
     → ((n : ℕ) (x : HistoryRead) → KeepsLines n x now → read_line line x ≡ None)
-    → fault ≡ Line chapters (number + 1) → NamesRow chapters r text fault
-wrong_line text rest line others number chapters old now r fault on parts plain keeps wrong is =
-    let before = on.read chapters r keeps in
+    → (now.line + 1 < 2 ^ 64 → number ≡ now.line + 1)
+    → fault ≡ Line now.end.chapters number → NamesRow chapters r tail fault
+wrong_line chapters r tail text rest line others old now number fault to on parts plain wrong
+    count is =
+    let further = goes_further chapters r tail text rest on.done old now to on.parts on.whole on.few
+    on.count on.read in
+    let size : length rest ≡ length line + 1 + length others =
+    ap length parts ∙ length-append (line ++ 10 ∷ []) others
+    ∙ ap (λ (n : ℕ). n + length others) (length-append line (10 ∷ [])) in
+    let place = count (omega (arith, further.few, size)) in
     record {
-      number = number + 1;
-      line = is;
+      number = number;
+      line = is ∙ ap (λ (n : ℕ). Line n number) further.keeps.ends.count;
       wrong = record {
-        before = whole_lines on.done;
+        before = whole_lines further.done;
         line = line;
         others = whole_lines others;
         lines =
-            lines_behind text on.done rest on.parts on.whole
-            ∙ ap (λ (ls : List (List ℕ)). whole_lines on.done ++ ls)
+            lines_behind tail further.done rest further.parts further.whole
+            ∙ ap (λ (ls : List (List ℕ)). whole_lines further.done ++ ls)
             (lines_in_parts rest line others parts plain);
-        place = omega (arith, on.count);
-        reading = before.reading;
-        read = before.read;
-        wrong = wrong chapters before.reading before.keeps;
+        place = omega (arith, place, further.count);
+        reading = further.reading;
+        read = further.read;
+        wrong = wrong chapters further.reading further.keeps;
       };
     }

@@ -1,12 +1,16 @@
 -- What a reader of a history keeps of it, and which text it refuses.
-use Rattle.std.specs.Prelude.{◌≡◌, ◌==◌, ◌≤◌, ◌+◌, ◌-◌, ◌⊎◌, ⊤, ℕ, Bool, true, false, not, List, []}
-use Rattle.std.specs.Prelude.{◌∷◌, ◌++◌, Some, None, length, drop, take, if◌then◌else◌}
+use Rattle.std.specs.Prelude.{◌≡◌, ◌==◌, ◌≤◌, ◌<◌, ◌+◌, ◌-◌, ◌^◌, ◌⊎◌, ⊤, ℕ, Bool, true, false, not}
+use Rattle.std.specs.Prelude.{List, [], ◌∷◌, ◌++◌, Option, Some, None, length, drop, take}
+use Rattle.std.specs.Prelude.{if◌then◌else◌}
 use Rattle.std.specs.List.{starts_with}
+use Rattle.site_base.specs.declared.row.Row.{Row as RowFacts}
 use Rattle.site_book.specs.Book.{Book}
 use Rattle.site_book.specs.Unpaid.{Kept}
 use Rattle.chapters.specs.declared.fault.HistoryFault.{HistoryFault}
 use Rattle.chapters.specs.declared.fault.HistoryFault.TheVariants.{Line, NotAfter}
 use Rattle.chapters.specs.declared.chapter_begin.ChapterBegin.{ChapterBegin}
+use Rattle.chapters.specs.declared.line_read.LineRead.{LineRead}
+use Rattle.chapters.specs.declared.line_read.LineRead.TheVariants as lines_read
 use Rattle.chapters.specs.ChapterReading.{HistoryRead, is_none_left, nothing_read, read_from}
 use Rattle.chapters.specs.ChapterReading.{read_line, read_lines, read_text}
 use Rattle.chapters.specs.ChapterText.{first_lines, text_of_lines}
@@ -15,13 +19,15 @@ use Rattle.chapters.specs.HistoryEnds.{EndState, EndsAt}
 use Rattle.chapters.specs.Lines.{unfinished, whole_lines}
 
 -- the name of the site; the book of the rows, and what may be unpaid of it; where the text ends, and
--- where its last chapter began; whether octets stand behind its last line feed
+-- where its last chapter began; how many lines of that one are read; whether octets stand behind its
+-- last line feed
 pub record ReaderState : Type 0 where
   pub site : List ℕ
   pub book : Book
   pub unpaid : Kept
   pub end : EndState
   pub begin : ChapterBegin
+  pub line : ℕ
   pub torn : Bool
 
 -- what was read of the lines of so many chapters is what the reader keeps
@@ -57,11 +63,58 @@ pub record AreRead (chapters : ℕ) (r : HistoryRead) (lines : List (List ℕ)) 
   pub read : read_lines lines r ≡ Some reading
   pub keeps : KeepsLines chapters reading s
 
--- so many octets stand behind the last whole line
-pub record EndsWithLines (count : ℕ) (text : List ℕ) : Type 0 where
-  pub few : count ≤ length text
-  pub left : count ≡ length (unfinished text)
-  pub whole : AreWholeLines (length text - count) text
+-- ---- a line
+
+-- the line was right
+abbrev pub is_right : LineRead → Bool
+is_right lines_read.Wrong = false
+is_right lines_read.NoRow = true
+is_right (lines_read.Row row) = true
+
+-- the row that it made
+abbrev pub row_read : LineRead → Option RowFacts
+row_read lines_read.Wrong = None
+row_read lines_read.NoRow = None
+row_read (lines_read.Row row) = Some row
+
+-- ---- a chapter, row after row
+
+-- a text begins with these lines
+abbrev pub begins_so : List ℕ → List (List ℕ) → Bool
+begins_so text lines = starts_with (λ a b. a == b) text (text_of_lines lines)
+
+-- the octets of a text behind the lines with which it begins
+abbrev pub behind_lines : List (List ℕ) → List ℕ → List ℕ
+behind_lines lines text = drop (length (text_of_lines lines)) text
+
+-- what is read once these lines of a chapter's text are
+abbrev pub with_chapter : List (List ℕ) → List ℕ → HistoryRead → HistoryRead
+with_chapter lines text r =
+    record r { unsealed = lines; torn = unfinished (behind_lines lines text) }
+
+-- Of the lines behind a chapter's first ones those are read that stand ahead of this rest, on from
+-- here; the reader keeps what was read, and how many lines of the chapter are.
+pub record AreReadTo (chapters : ℕ) (r : HistoryRead) (text rest : List ℕ) (s : ReaderState)
+    : Type 0 where
+  pub done : List ℕ
+  pub parts : text ≡ done ++ rest
+  pub whole : unfinished done ≡ []
+  pub reading : HistoryRead
+  pub read : read_lines (whole_lines done) r ≡ Some reading
+  pub keeps : KeepsLines chapters reading s
+  pub count : s.line ≡ length (whole_lines done) + 3
+  pub few : s.line + length rest < 2 ^ 64
+
+-- The reader has read these chapters, and is reading the one behind them, which has this text: its
+-- lines ahead of this rest are read.
+pub record IsReading (texts : List (List ℕ)) (text rest : List ℕ) (s : ReaderState) : Type 0 where
+  pub before : HistoryRead
+  pub read : read_from s.site 1 texts nothing_read ≡ Some before
+  pub ended : is_none_left before ≡ true
+  pub begins : begins_so text (first_lines s.site (length texts + 1) before.seal) ≡ true
+  pub lines :
+      let first = first_lines s.site (length texts + 1) before.seal in
+      AreReadTo (length texts + 1) (with_chapter first text before) (behind_lines first text) rest s
 
 -- ---- what is refused
 
@@ -72,11 +125,8 @@ IsOfText (NotAfter chapter before) = ⊤
 IsOfText fault = ⊥
 
 -- behind these chapters none with this text is read
-abbrev pub IsRefusedBehind : List (List ℕ) → List ℕ → ReaderState → Type 0
-IsRefusedBehind texts text s = read_from s.site 1 (texts ++ text ∷ []) nothing_read ≡ None
-
-abbrev pub begins_so : List ℕ → List (List ℕ) → Bool
-begins_so text lines = starts_with (λ a b. a == b) text (text_of_lines lines)
+abbrev pub IsRefused : List (List ℕ) → List ℕ → ReaderState → Type 0
+IsRefused texts text s = read_from s.site 1 (texts ++ text ∷ []) nothing_read ≡ None
 
 -- the third line is another one: in the first chapter that line is wrong; any other chapter doesn't
 -- go on from the one before
@@ -114,9 +164,7 @@ pub record NamesLine (n : ℕ) (lines : List (List ℕ)) (r : HistoryRead) (text
     (fault : HistoryFault) : Type 0 where
   pub ended : is_none_left r ≡ true
   pub begins : begins_so text lines ≡ true
-  pub row :
-      let rest = drop (length (text_of_lines lines)) text in
-      NamesRow n (record r { unsealed = lines; torn = unfinished rest }) rest fault
+  pub row : NamesRow n (with_chapter lines text r) (behind_lines lines text) fault
 
 -- a chapter with other first lines than these
 pub record NamesFirst (n : ℕ) (lines : List (List ℕ)) (r : HistoryRead) (text : List ℕ)
@@ -135,3 +183,8 @@ abbrev pub Names : List ℕ → ℕ → HistoryRead → List ℕ → HistoryFaul
 Names site n r text fault =
     let lines = first_lines site n r.seal in
     NamesEnd n r fault ⊎ (NamesFirst n lines r text fault ⊎ NamesLine n lines r text fault)
+
+-- .. of the chapter with this text, behind these ones, that a reader is reading
+abbrev pub NamesIn : List (List ℕ) → List ℕ → HistoryRead → ReaderState → HistoryFault → Type 0
+NamesIn texts text r s fault =
+    NamesLine (length texts + 1) (first_lines s.site (length texts + 1) r.seal) r text fault

@@ -1,7 +1,9 @@
 //! A history, read chapter after chapter.
 
-ghost use Rattle.std.specs.Prelude.{◌≡◌, ◌++◌, ◌∷◌, ◌+◌, ◌<◌, [], ℕ, List, IfErr, IfOk, OnOk};
-ghost use Rattle.std.specs.Prelude.{◌&&◌, None, false, length, not, string_bytes, true};
+ghost use Rattle.std.specs.Prelude.{◌≡◌, ◌≢◌, ◌++◌, ◌∷◌, ◌+◌, ◌<◌, ◌≤◌, [], ℕ, List, IfErr, IfOk};
+ghost use Rattle.std.specs.Prelude.{◌&&◌, IfSome, None, OnOk, drop, false, length, not, string_bytes};
+ghost use Rattle.std.specs.Prelude.{take, true};
+ghost use Rattle.std.specs.List.{cons_option};
 ghost use Rattle.site_book.specs.Book.{next_row};
 ghost use Rattle.site_book.specs.Unpaid.{GoesBy};
 ghost use Rattle.chapters.specs.declared.history_end.TheConstants.{MOST_CHAPTERS};
@@ -9,18 +11,20 @@ ghost use Rattle.chapters.specs.ChapterBegins.{begin_of};
 ghost use Rattle.chapters.specs.ChapterReading.{HistoryRead, is_comment, read_line, read_text};
 ghost use Rattle.chapters.specs.ChapterText.{first_lines, text_of_lines};
 ghost use Rattle.chapters.specs.History.{IsMadeOf};
-ghost use Rattle.chapters.specs.Lines.{whole_lines};
-ghost use Rattle.chapters.specs.Readers.{AddsText, AreRead, AreWholeLines, EndsWithLines};
-ghost use Rattle.chapters.specs.Readers.{HasRead, IsOfText, IsRefusedBehind, KeepsLines, Names};
-ghost use Rattle.chapters.specs.Readers.{NamesRow};
+ghost use Rattle.chapters.specs.Lines.{unfinished, whole_lines};
+ghost use Rattle.chapters.specs.Readers.{AddsText, AreRead, AreWholeLines, HasRead, IsOfText};
+ghost use Rattle.chapters.specs.Readers.{IsReading, IsRefused, KeepsLines, Names, NamesIn};
+ghost use Rattle.chapters.specs.Readers.{is_right, row_read};
+ghost use Rattle.chapters.specs.RowText.{IsSent};
 
 use crate::chapter_begin::ChapterBegin;
 use crate::fault::HistoryFault;
 use crate::first_lines::meet_first_lines;
 use crate::history_end::{HistoryEnd, SEAL_MARK};
+use crate::line_read::LineRead;
 use crate::request_line::LineReader;
 use memchr::memchr;
-use site_base::{Actor, Event, NoMemory, SiteConfig};
+use site_base::{Actor, Event, NoMemory, Placed, Row, SiteConfig};
 use site_book::{SiteBook, UnpaidSales};
 use std::alloc::Global;
 use std::marker::Model;
@@ -28,6 +32,9 @@ use std::marker::Model;
 /// So many rows are in memory at most before more are read, where the site file allows them: they
 /// take 4 MiB, and 7 MiB where each tells what was drawn of a product.
 pub const ROWS_IN_MEMORY: usize = 65_536;
+
+/// So many lines name a chapter, before those of its rows.
+const FIRST_LINES: u64 = 3;
 
 /// A history, as far as it is read: the book of its rows, what may be unpaid, and where it ends.
 #[derive(Drop)]
@@ -40,6 +47,8 @@ pub struct HistoryReader {
     end: HistoryEnd,
     /// Where its last chapter began.
     begin: ChapterBegin,
+    /// So many lines of its last chapter are read.
+    line: u64,
     /// Octets stand behind the last line feed.
     is_torn: bool,
 }
@@ -57,10 +66,20 @@ impl Model for HistoryReader {
       unpaid = r.unpaid;
       end = r.end;
       begin = r.begin;
+      line = r.line;
       torn = r.is_torn;
     } };
 
     ghost invariant = { λ r. GoesBy r.unpaid r.book };
+}
+
+/// The next row of a chapter, and where it stands.
+#[derive(Clone, Copy, Debug, PartialEq, Eq)]
+pub struct RowRead {
+    /// The row. None where no line is left.
+    pub row: Option<Row>,
+    /// So many octets were read: whole lines.
+    pub octets: usize,
 }
 
 /// What was read of a history.
@@ -95,6 +114,7 @@ impl HistoryReader {
             unpaid: UnpaidSales::new(alloc),
             end: HistoryEnd::new(alloc)?,
             begin,
+            line: 0,
             is_torn: false,
         })
     }
@@ -114,6 +134,13 @@ impl HistoryReader {
         self.end.next_lines(self.alloc, self.site.as_str())
     }
 
+    /// The book of the rows that are read.
+    pub fn book(&self) -> &SiteBook
+        ensures { result.now ≡ self.now.book }
+    {
+        &self.book
+    }
+
     /// Reads the text of the next chapter. It says how many of its octets are whole lines.
     ///
     /// `NotAfter` comes where the chapters before don't end with a seal, or this one's third line
@@ -124,12 +151,51 @@ impl HistoryReader {
             → HasRead (texts ++ text.now ∷ []) self.new) }
         ensures whole { IfOk result (λ whole. AreWholeLines whole text.now) }
         ensures refused { IfErr result (λ fault. IsOfText fault → (texts : List (List ℕ))
-            → HasRead texts self.old → IsRefusedBehind texts text.now self.old) }
+            → HasRead texts self.old → IsRefused texts text.now self.old) }
         ensures named { IfErr result (λ fault. IsOfText fault → (texts : List (List ℕ))
             → (h : HasRead texts self.old)
             → Names self.old.site (length texts + 1) h.reading text.now fault) }
         ensures site { self.new.site ≡ self.old.site }
         ensures config { self.new.book.config ≡ self.old.book.config }
+        ensures chapters { OnOk result (self.new.end.chapters ≡ self.old.end.chapters + 1) }
+        ensures begins { OnOk result (self.new.begin ≡ begin_of self.old.book) }
+    {
+        let octets = match self.begin_chapter(text) {
+            Ok(octets) => octets,
+            Err(fault) => return Err(fault),
+        };
+        let mut rest = &text[octets..];
+        let mut is_left = true;
+        while is_left {
+            let read = match self.next_row(rest) {
+                Ok(read) => read,
+                Err(fault) => return Err(fault),
+            };
+            let (_, others) = rest.split_at(read.octets);
+            rest = others;
+            is_left = read.row.is_some();
+        }
+        Ok(text.len() - rest.len())
+    }
+
+    /// Begins the next chapter, which has this text, and reads the lines that name it. It says how
+    /// many octets they have. Its rows come by `next_row`.
+    ///
+    /// `NotAfter` comes where the chapters before don't end with a seal, or this one's third line
+    /// doesn't name their last one, and `Line` names the first line that is wrong.
+    pub fn begin_chapter(&mut self, text: &[u8]) -> Result<usize, HistoryFault>
+        requires { self.old.end.chapters < MOST_CHAPTERS }
+        ensures begun { IfOk result (λ octets. (texts : List (List ℕ)) → HasRead texts self.old
+            → IsReading texts text.now (drop octets text.now) self.new) }
+        ensures within { IfOk result (λ octets. octets ≤ length text.now) }
+        ensures whole { IfOk result (λ octets. unfinished (take octets text.now) ≡ []) }
+        ensures refused { IfErr result (λ fault. IsOfText fault → (texts : List (List ℕ))
+            → HasRead texts self.old → IsRefused texts text.now self.old) }
+        ensures named { IfErr result (λ fault. IsOfText fault → (texts : List (List ℕ))
+            → (h : HasRead texts self.old)
+            → Names self.old.site (length texts + 1) h.reading text.now fault) }
+        ensures site { self.new.site ≡ self.old.site }
+        ensures book { self.new.book ≡ self.old.book }
         ensures chapters { OnOk result (self.new.end.chapters ≡ self.old.end.chapters + 1) }
         ensures begins { OnOk result (self.new.begin ≡ begin_of self.old.book) }
     {
@@ -142,16 +208,66 @@ impl HistoryReader {
             Ok(first) => first,
             Err(fault) => return Err(fault),
         };
-        let begin = ChapterBegin::of(&self.book);
+        self.begin = ChapterBegin::of(&self.book);
+        self.line = FIRST_LINES;
         let octets = first.as_bytes();
         self.end.begin_chapter(octets);
-        let left = match self.read_lines(&text[octets.len()..]) {
-            Ok(left) => left,
-            Err(fault) => return Err(fault),
-        };
-        self.begin = begin;
-        self.is_torn = left != 0;
-        Ok(text.len() - left)
+        Ok(octets.len())
+    }
+
+    /// Reads what is left of a chapter's text up to its next row, which the book then has. Behind
+    /// the last row it reads the other lines.
+    ///
+    /// `Line` names the first line that is wrong.
+    pub fn next_row(&mut self, text: &[u8]) -> Result<RowRead, HistoryFault>
+        ensures reads { IfOk result (λ read. (texts : List (List ℕ)) (whole : List ℕ)
+            → IsReading texts whole text.now self.old
+            → IsReading texts whole (drop read.octets text.now) self.new) }
+        ensures row { IfOk result (λ read. self.new.book.rows
+            ≡ self.old.book.rows ++ cons_option read.row []) }
+        ensures sent { IfOk result (λ read. IfSome read.row IsSent) }
+        ensures ends { IfOk result (λ read. read.row ≡ None → (texts : List (List ℕ))
+            (whole : List ℕ) → IsReading texts whole text.now self.old
+            → HasRead (texts ++ whole ∷ []) self.new) }
+        ensures within { IfOk result (λ read. read.octets ≤ length text.now) }
+        ensures whole { IfOk result (λ read. unfinished (take read.octets text.now) ≡ []) }
+        ensures last { IfOk result (λ read. read.row ≡ None
+            → whole_lines (drop read.octets text.now) ≡ []) }
+        ensures more { IfOk result (λ read. read.row ≢ None → 0 < read.octets) }
+        ensures refused { IfErr result (λ fault. IsOfText fault → (texts : List (List ℕ))
+            (whole : List ℕ) → IsReading texts whole text.now self.old
+            → IsRefused texts whole self.old) }
+        ensures named { IfErr result (λ fault. IsOfText fault → (texts : List (List ℕ))
+            (whole : List ℕ) → (h : IsReading texts whole text.now self.old)
+            → NamesIn texts whole h.before self.old fault) }
+        ensures site { self.new.site ≡ self.old.site }
+        ensures config { self.new.book.config ≡ self.old.book.config }
+        ensures chapters { self.new.end.chapters ≡ self.old.end.chapters }
+        ensures begins { self.new.begin ≡ self.old.begin }
+    {
+        let mut rest = text;
+        while let Some(end) = memchr(b'\n', rest) {
+            let (line, others) = rest.split_at(end);
+            rest = &others[1..];
+            self.line = self.line.saturating_add(1);
+            match self.read_line(line)? {
+                LineRead::Wrong => {
+                    return Err(HistoryFault::Line(self.end.chapters(), self.line));
+                }
+                LineRead::NoRow => {}
+                LineRead::Row(row) => {
+                    return Ok(RowRead {
+                        row: Some(row),
+                        octets: text.len() - rest.len(),
+                    });
+                }
+            }
+        }
+        self.is_torn = !rest.is_empty();
+        Ok(RowRead {
+            row: None,
+            octets: text.len() - rest.len(),
+        })
     }
 
     /// Do the chapters end with a seal, or is there none?
@@ -161,90 +277,93 @@ impl HistoryReader {
         !self.is_torn && self.end.is_sealed()
     }
 
-    /// Reads the lines behind the first three. It says how many octets stand behind the last one.
-    fn read_lines(&mut self, text: &[u8]) -> Result<usize, HistoryFault>
-        ensures read { IfOk result (λ left. (chapters : ℕ) (r : HistoryRead)
-            → KeepsLines chapters r self.old → AreRead chapters r (whole_lines text.now) self.new) }
-        ensures left { IfOk result (λ left. EndsWithLines left text.now) }
-        ensures wrong { IfErr result (λ fault. IsOfText fault → (chapters : ℕ) (r : HistoryRead)
-            → KeepsLines chapters r self.old → NamesRow chapters r text.now fault) }
+    /// Reads a line.
+    fn read_line(&mut self, line: &[u8]) -> Result<LineRead, NoMemory>
+        ensures right { IfOk result (λ read. is_right read ≡ true → (chapters : ℕ)
+            (r : HistoryRead) → KeepsLines chapters r self.old
+            → AreRead chapters r (line.now ∷ []) self.new) }
+        ensures wrong { IfOk result (λ read. is_right read ≡ false → (chapters : ℕ)
+            (r : HistoryRead) → KeepsLines chapters r self.old → read_line line.now r ≡ None) }
+        ensures row { IfOk result (λ read. self.new.book.rows
+            ≡ self.old.book.rows ++ cons_option (row_read read) []) }
+        ensures sent { IfOk result (λ read. IfSome (row_read read) IsSent) }
         ensures site { self.new.site ≡ self.old.site }
         ensures config { self.new.book.config ≡ self.old.book.config }
         ensures chapters { self.new.end.chapters ≡ self.old.end.chapters }
-        ensures torn { self.new.torn ≡ self.old.torn }
-    {
-        let mut rest = text;
-        let mut number = 3_u64;
-        while let Some(end) = memchr(b'\n', rest) {
-            let (line, others) = rest.split_at(end);
-            number += 1;
-            if !self.read_line(line)? {
-                return Err(HistoryFault::Line(self.end.chapters(), number));
-            }
-            rest = &others[1..];
-        }
-        Ok(rest.len())
-    }
-
-    /// Reads a line; says whether it is right.
-    fn read_line(&mut self, line: &[u8]) -> Result<bool, NoMemory>
-        ensures right { IfOk result (λ right. right ≡ true → (chapters : ℕ) (r : HistoryRead)
-            → KeepsLines chapters r self.old → AreRead chapters r (line.now ∷ []) self.new) }
-        ensures wrong { IfOk result (λ right. right ≡ false → (chapters : ℕ) (r : HistoryRead)
-            → KeepsLines chapters r self.old → read_line line.now r ≡ None) }
-        ensures site { self.new.site ≡ self.old.site }
-        ensures config { self.new.book.config ≡ self.old.book.config }
-        ensures chapters { self.new.end.chapters ≡ self.old.end.chapters }
+        ensures begins { self.new.begin ≡ self.old.begin }
+        ensures number { self.new.line ≡ self.old.line }
         ensures torn { self.new.torn ≡ self.old.torn }
     {
         if line.starts_with(SEAL_MARK) {
-            return self.end.meet_seal(self.alloc, line);
+            return Ok(LineRead::of_seal(self.end.meet_seal(self.alloc, line)?));
         }
-        if !self.read_text(line)? {
-            return Ok(false);
-        }
+        let read = self.read_text(line)?;
         self.end.cover_line(line);
-        Ok(true)
+        Ok(read)
     }
 
-    /// Reads a line that is no seal, and adds its row, if it is no comment; says whether it is
-    /// right.
-    fn read_text(&mut self, line: &[u8]) -> Result<bool, NoMemory>
-        ensures right { IfOk result (λ right. right ≡ true → (r : HistoryRead)
+    /// Reads a line that is no seal, and adds its row, if it is no comment.
+    fn read_text(&mut self, line: &[u8]) -> Result<LineRead, NoMemory>
+        ensures right { IfOk result (λ read. is_right read ≡ true → (r : HistoryRead)
             → IsMadeOf self.old.book r.events → AddsText line.now r self.new) }
-        ensures wrong { IfOk result (λ right. right ≡ false → (r : HistoryRead)
+        ensures wrong { IfOk result (λ read. is_right read ≡ false → (r : HistoryRead)
             → read_text line.now r ≡ None) }
+        ensures row { IfOk result (λ read. self.new.book.rows
+            ≡ self.old.book.rows ++ cons_option (row_read read) []) }
+        ensures sent { IfOk result (λ read. IfSome (row_read read) IsSent) }
         ensures site { self.new.site ≡ self.old.site }
         ensures config { self.new.book.config ≡ self.old.book.config }
         ensures end { self.new.end ≡ self.old.end }
+        ensures begins { self.new.begin ≡ self.old.begin }
+        ensures number { self.new.line ≡ self.old.line }
         ensures torn { self.new.torn ≡ self.old.torn }
     {
         if is_comment(line) {
-            return Ok(true);
+            return Ok(LineRead::NoRow);
         }
         let Some((actor, event)) = self.lines.read(line)? else {
-            return Ok(false);
+            return Ok(LineRead::Wrong);
         };
-        self.add_row(&actor, &event)?;
-        Ok(true)
+        Ok(LineRead::Row(self.add_row(&actor, &event)?))
     }
 
-    /// Adds the row of a request; where the book may be full soon, its rows are forgotten first.
-    /// Behind 2^62 rows it is full, and fails as for want of memory.
-    fn add_row(&mut self, actor: &Actor, event: &Event) -> Result<(), NoMemory>
-        ensures row { OnOk result (self.new.book.rows
-            ≡ self.old.book.rows ++ next_row self.old.book actor.now event.now ∷ []) }
+    /// Forgets the rows in memory, where the book may be full soon.
+    fn make_room(&mut self) -> Result<(), NoMemory>
+        ensures rows { self.new.book.rows ≡ self.old.book.rows }
         ensures config { self.new.book.config ≡ self.old.book.config }
         ensures site { self.new.site ≡ self.old.site }
         ensures end { self.new.end ≡ self.old.end }
+        ensures begins { self.new.begin ≡ self.old.begin }
+        ensures number { self.new.line ≡ self.old.line }
         ensures torn { self.new.torn ≡ self.old.torn }
     {
         let rows = self.book.rows_in_memory();
         if rows >= ROWS_IN_MEMORY || rows >= self.book.config().rows() as usize {
             self.unpaid.forget_rows(self.alloc, &mut self.book)?;
         }
+        Ok(())
+    }
+
+    /// Adds the row of a request, once there is room for it. Behind 2^62 rows the book is full, and
+    /// it fails as for want of memory.
+    fn add_row(&mut self, actor: &Actor, event: &Event) -> Result<Row, NoMemory>
+        ensures row { IfOk result (λ row. row ≡ next_row self.old.book actor.now event.now) }
+        ensures added { OnOk result (self.new.book.rows
+            ≡ self.old.book.rows ++ next_row self.old.book actor.now event.now ∷ []) }
+        ensures config { self.new.book.config ≡ self.old.book.config }
+        ensures site { self.new.site ≡ self.old.site }
+        ensures end { self.new.end ≡ self.old.end }
+        ensures begins { self.new.begin ≡ self.old.begin }
+        ensures number { self.new.line ≡ self.old.line }
+        ensures torn { self.new.torn ≡ self.old.torn }
+    {
+        self.make_room()?;
         match self.book.apply(*actor, *event) {
-            Ok(_) => Ok(()),
+            Ok(Placed { place: _, reply }) => Ok(Row {
+                actor: *actor,
+                event: *event,
+                reply,
+            }),
             Err(_) => Err(NoMemory),
         }
     }

@@ -45,12 +45,14 @@ IsSaid name rows (commands.Check site) =
     (name ≡ codes "check") × (site.now ≡ text_in (codes "FILE") rows)
 IsSaid name rows (commands.Replay o) =
     (name ≡ codes "replay") × (o.site.now ≡ text_in (codes "FILE") rows)
-    × HasFlag (codes "changes") rows o.changes
+    × HasFlag (codes "changes") rows o.changes × IsOption (codes "shift") rows o.shift
 IsSaid name rows (commands.Report o) =
     (name ≡ codes "report") × (o.site.now ≡ text_in (codes "FILE") rows) × HasForm rows o.form
+    × IsOption (codes "shift") rows o.shift
 IsSaid name rows (commands.Sales o) =
     (name ≡ codes "sales") × (o.site.now ≡ text_in (codes "FILE") rows)
     × HasFlag (codes "draws") rows o.draws × HasFlag (codes "json") rows o.json
+    × IsOption (codes "shift") rows o.shift
 IsSaid name rows (commands.Serve o) =
     (name ≡ codes "serve") × (o.site.now ≡ text_in (codes "FILE") rows)
     × (o.port.now ≡ text_in (codes "port") rows) × (o.workers.now ≡ text_in (codes "workers") rows)
@@ -68,8 +70,9 @@ IsSaid name rows (commands.Shifts o) =
     × HasFlag (codes "json") rows o.json
 IsSaid name rows (commands.Next history) =
     (name ≡ codes "next") × (history.now ≡ text_in (codes "FOLDER") rows)
-IsSaid name rows (commands.Explain number) =
-    (name ≡ codes "explain") × IsOption (codes "NUMBER") rows number
+IsSaid name rows (commands.Explain o) =
+    (name ≡ codes "explain") × IsOption (codes "WHAT") rows o.what
+    × IsOption (codes "shift") rows o.shift
 IsSaid name rows commands.Spell = name ≡ codes "spell"
 IsSaid name rows commands.ReplayHere = All (λ n. name ≢ n) command_names
 

@@ -53,11 +53,14 @@ command name rules = with_arguments (new_shape name) rules
 abbrev pub replay_shapes : List Shape
 replay_shapes =
     command (codes "check") (site_file_rule ∷ [])
-    ∷ command (codes "replay") (site_file_rule ∷ flag_rule (codes "changes") ∷ [])
+    ∷ command (codes "replay")
+    (site_file_rule ∷ flag_rule (codes "changes") ∷ option_rule (codes "shift") ∷ [])
     ∷ command (codes "report")
-    (site_file_rule ∷ flag_rule (codes "human") ∷ flag_rule (codes "json") ∷ [])
+    (site_file_rule ∷ flag_rule (codes "human") ∷ flag_rule (codes "json")
+    ∷ option_rule (codes "shift") ∷ [])
     ∷ command (codes "sales")
-    (site_file_rule ∷ flag_rule (codes "draws") ∷ flag_rule (codes "json") ∷ [])
+    (site_file_rule ∷ flag_rule (codes "draws") ∷ flag_rule (codes "json")
+    ∷ option_rule (codes "shift") ∷ [])
     ∷ []
 
 abbrev pub day_shapes : List Shape
@@ -80,7 +83,8 @@ history_shapes =
 
 abbrev pub word_shapes : List Shape
 word_shapes =
-    command (codes "explain") (new_rule (codes "NUMBER") ∷ []) ∷ command (codes "spell") [] ∷ []
+    command (codes "explain") (new_rule (codes "WHAT") ∷ option_rule (codes "shift") ∷ [])
+    ∷ command (codes "spell") [] ∷ []
 
 -- ---- the program
 

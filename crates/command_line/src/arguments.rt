@@ -16,6 +16,29 @@ pub fn site_file<'a>(alloc: Global) -> Arg<'a>
     Arg::new(alloc, "FILE").help("The site file").required(true)
 }
 
+/// The site file that a command reads, or the folder of a history.
+pub fn site_or_history<'a>(alloc: Global) -> Arg<'a>
+    ensures rule { rule_of result ≡ site_file_rule }
+    ensures local { result.global ≡ false }
+{
+    Arg::new(alloc, "FILE")
+        .help("The site file, for what is recorded on standard input; or the folder of a history")
+        .required(true)
+}
+
+/// The shifts of a history that a command reads.
+pub fn shift<'a>(alloc: Global) -> Arg<'a>
+    ensures rule { rule_of result ≡ option_rule (codes "shift") }
+    ensures local { result.global ≡ false }
+{
+    option(
+        alloc,
+        "shift",
+        "A[..B]",
+        "The shifts of the history, as 3 or 3..5; all without it",
+    )
+}
+
 /// The site file that a command may be given.
 pub fn optional_site_file<'a>(alloc: Global) -> Arg<'a>
     ensures rule { rule_of result ≡ new_rule (codes "FILE") }
@@ -44,12 +67,12 @@ pub fn script<'a>(alloc: Global) -> Arg<'a>
         .required(true)
 }
 
-/// The number that an explanation is asked for.
-pub fn number<'a>(alloc: Global) -> Arg<'a>
-    ensures rule { rule_of result ≡ new_rule (codes "NUMBER") }
+/// What an explanation is asked for.
+pub fn what<'a>(alloc: Global) -> Arg<'a>
+    ensures rule { rule_of result ≡ new_rule (codes "WHAT") }
     ensures local { result.global ≡ false }
 {
-    Arg::new(alloc, "NUMBER").help("A refusal's or fault's number, as 20")
+    Arg::new(alloc, "WHAT").help("A refusal's or fault's number, as 20, or the folder of a history")
 }
 
 /// A word that is there or not.

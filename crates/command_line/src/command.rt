@@ -7,11 +7,11 @@ pub enum Command<'a> {
     ReplayHere,
     /// `check FILE`: how large is the site of this file?
     Check(&'a str),
-    /// `replay FILE [--changes]`
+    /// `replay FILE [--changes] [--shift A[..B]]`
     Replay(ReplayOptions<'a>),
-    /// `report FILE [--human | --json]`
+    /// `report FILE [--human | --json] [--shift A[..B]]`
     Report(ReportOptions<'a>),
-    /// `sales FILE [--draws] [--json]`
+    /// `sales FILE [--draws] [--json] [--shift A[..B]]`
     Sales(SalesOptions<'a>),
     /// `serve FILE --port N --workers N --sessions N`
     Serve(ServeOptions<'a>),
@@ -24,8 +24,8 @@ pub enum Command<'a> {
     Shifts(ShiftsOptions<'a>),
     /// `next FOLDER`: the site file with which another history can go on from this folder's.
     Next(&'a str),
-    /// `explain [NUMBER]`: what does this number mean? Without one standard input is explained.
-    Explain(Option<&'a str>),
+    /// `explain [WHAT] [--shift A[..B]]`
+    Explain(ExplainOptions<'a>),
     /// `spell`
     Spell,
 }
@@ -33,19 +33,23 @@ pub enum Command<'a> {
 /// What `replay` is given.
 #[derive(Clone, Copy, Debug, PartialEq, Eq)]
 pub struct ReplayOptions<'a> {
-    /// The name of the site file.
+    /// The name of the site file, or the folder of a history.
     pub site: &'a str,
     /// Prints the notices to dispensers too.
     pub changes: bool,
+    /// The shifts of the history.
+    pub shift: Option<&'a str>,
 }
 
 /// What `report` is given.
 #[derive(Clone, Copy, Debug, PartialEq, Eq)]
 pub struct ReportOptions<'a> {
-    /// The name of the site file.
+    /// The name of the site file, or the folder of a history.
     pub site: &'a str,
     /// How the report is written.
     pub form: ReportForm,
+    /// The shifts of the history.
+    pub shift: Option<&'a str>,
 }
 
 /// How a report is written.
@@ -62,12 +66,14 @@ pub enum ReportForm {
 /// What `sales` is given.
 #[derive(Clone, Copy, Debug, PartialEq, Eq)]
 pub struct SalesOptions<'a> {
-    /// The name of the site file.
+    /// The name of the site file, or the folder of a history.
     pub site: &'a str,
     /// Prints what tests drew, and not the sales.
     pub draws: bool,
     /// Prints an object of JSON a line, and not CSV.
     pub json: bool,
+    /// The shifts of the history.
+    pub shift: Option<&'a str>,
 }
 
 /// What `serve` is given.
@@ -120,4 +126,13 @@ pub struct ShiftsOptions<'a> {
     pub history: &'a str,
     /// Prints an object of JSON a line.
     pub json: bool,
+}
+
+/// What `explain` is given.
+#[derive(Clone, Copy, Debug, PartialEq, Eq)]
+pub struct ExplainOptions<'a> {
+    /// A number, or the folder of a history. Without it standard input is explained.
+    pub what: Option<&'a str>,
+    /// The shifts of the history.
+    pub shift: Option<&'a str>,
 }

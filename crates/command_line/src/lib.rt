@@ -23,8 +23,8 @@ mod replay_commands;
 mod word_commands;
 
 pub use command::{
-    Command, DemoOptions, ReplayOptions, ReportForm, ReportOptions, SalesOptions, ServeOptions,
-    ShiftsOptions, StationOptions,
+    Command, DemoOptions, ExplainOptions, ReplayOptions, ReportForm, ReportOptions, SalesOptions,
+    ServeOptions, ShiftsOptions, StationOptions,
 };
 pub use no_command::NoCommand;
 pub use parsing::parse;

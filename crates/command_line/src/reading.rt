@@ -5,8 +5,8 @@ ghost use Rattle.clap.specs.Words.{found_of, rows_of, subcommand_rows_of};
 ghost use Rattle.command_line.specs.Commands.{HasFlag, IsOption, IsSaid, IsSaidBy, text_in};
 
 use crate::command::{
-    Command, DemoOptions, ReplayOptions, ReportForm, ReportOptions, SalesOptions, ServeOptions,
-    ShiftsOptions, StationOptions,
+    Command, DemoOptions, ExplainOptions, ReplayOptions, ReportForm, ReportOptions, SalesOptions,
+    ServeOptions, ShiftsOptions, StationOptions,
 };
 use clap::ArgMatches;
 
@@ -34,7 +34,7 @@ fn read_named<'a>(name: &str, words: &ArgMatches<'a>) -> Command<'a>
         "demo" => Command::Demo(read_demo(words)),
         "shifts" => Command::Shifts(read_shifts(words)),
         "next" => Command::Next(read_text(words, "FOLDER")),
-        "explain" => Command::Explain(find_text(words, "NUMBER")),
+        "explain" => Command::Explain(read_explain(words)),
         "spell" => Command::Spell,
         _ => Command::ReplayHere,
     }
@@ -46,6 +46,7 @@ fn read_replay<'a>(words: &ArgMatches<'a>) -> ReplayOptions<'a>
     ReplayOptions {
         site: read_text(words, "FILE"),
         changes: is_given(words, "changes"),
+        shift: find_text(words, "shift"),
     }
 }
 
@@ -62,6 +63,7 @@ fn read_report<'a>(words: &ArgMatches<'a>) -> ReportOptions<'a>
     ReportOptions {
         site: read_text(words, "FILE"),
         form,
+        shift: find_text(words, "shift"),
     }
 }
 
@@ -72,6 +74,7 @@ fn read_sales<'a>(words: &ArgMatches<'a>) -> SalesOptions<'a>
         site: read_text(words, "FILE"),
         draws: is_given(words, "draws"),
         json: is_given(words, "json"),
+        shift: find_text(words, "shift"),
     }
 }
 
@@ -116,6 +119,15 @@ fn read_shifts<'a>(words: &ArgMatches<'a>) -> ShiftsOptions<'a>
     ShiftsOptions {
         history: read_text(words, "FOLDER"),
         json: is_given(words, "json"),
+    }
+}
+
+fn read_explain<'a>(words: &ArgMatches<'a>) -> ExplainOptions<'a>
+    ensures { IsSaid (codes "explain") (rows_of (found_of words.now)) (Command.Explain result) }
+{
+    ExplainOptions {
+        what: find_text(words, "WHAT"),
+        shift: find_text(words, "shift"),
     }
 }
 

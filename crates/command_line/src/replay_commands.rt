@@ -2,10 +2,10 @@
 
 ghost use Rattle.std.specs.Prelude.{◌≡◌, ◌∷◌, [], IfOk, codes};
 ghost use Rattle.clap.specs.Words.{app_of};
-ghost use Rattle.command_line.specs.Program.{HasShape, command, flag_rule, replay_shapes};
-ghost use Rattle.command_line.specs.Program.{site_file_rule, with_commands};
+ghost use Rattle.command_line.specs.Program.{HasShape, command, flag_rule, option_rule};
+ghost use Rattle.command_line.specs.Program.{replay_shapes, site_file_rule, with_commands};
 
-use crate::arguments::{flag, site_file};
+use crate::arguments::{flag, shift, site_file, site_or_history};
 use crate::building::{add_argument, add_command, start};
 use clap::Command;
 use std::alloc::{AllocError, Global};
@@ -31,41 +31,49 @@ fn check<'a>(alloc: Global) -> Result<Command<'a>, AllocError>
 
 fn replay<'a>(alloc: Global) -> Result<Command<'a>, AllocError>
     ensures { IfOk result (HasShape (command (codes "replay")
-        (site_file_rule ∷ flag_rule (codes "changes") ∷ []))) }
+        (site_file_rule ∷ flag_rule (codes "changes") ∷ option_rule (codes "shift") ∷ []))) }
 {
-    let about = "Answers the messages of standard input on the site of a file";
+    let about = "Answers the messages of standard input on the site of a file, or prints the \
+                 replies of a history";
     let example = "Example: forecourt replay examples/five_points.toml < examples/day.hex\n";
     let changes = "Prints the changes that dispensers are told, too";
     let command = start(alloc, "replay", about, example);
-    let command = add_argument(command, site_file(alloc))?;
-    add_argument(command, flag(alloc, "changes", changes))
+    let command = add_argument(command, site_or_history(alloc))?;
+    let command = add_argument(command, flag(alloc, "changes", changes))?;
+    add_argument(command, shift(alloc))
 }
 
 fn report<'a>(alloc: Global) -> Result<Command<'a>, AllocError>
     ensures { IfOk result (HasShape (command (codes "report")
-        (site_file_rule ∷ flag_rule (codes "human") ∷ flag_rule (codes "json") ∷ []))) }
+        (site_file_rule ∷ flag_rule (codes "human") ∷ flag_rule (codes "json")
+        ∷ option_rule (codes "shift") ∷ []))) }
 {
-    let about = "Replays standard input on the site of a file, and prints the report of its rows";
-    let example = "Example: forecourt report examples/five_points.toml < examples/day.hex\n";
+    let about = "Prints the report of what standard input records on the site of a file, or of a \
+                 history";
+    let example = "Examples: forecourt report examples/five_points.toml < examples/day.hex; \
+                   forecourt report history --shift 3 --human\n";
     let human = "Prints litres and money in columns, for people";
     let command = start(alloc, "report", about, example);
-    let command = add_argument(command, site_file(alloc))?;
+    let command = add_argument(command, site_or_history(alloc))?;
     let command = add_argument(command, flag(alloc, "human", human))?;
-    add_argument(command, flag(alloc, "json", "Prints one object of JSON"))
+    let command = add_argument(command, flag(alloc, "json", "Prints one object of JSON"))?;
+    add_argument(command, shift(alloc))
 }
 
 fn sales<'a>(alloc: Global) -> Result<Command<'a>, AllocError>
     ensures { IfOk result (HasShape (command (codes "sales")
-        (site_file_rule ∷ flag_rule (codes "draws") ∷ flag_rule (codes "json") ∷ []))) }
+        (site_file_rule ∷ flag_rule (codes "draws") ∷ flag_rule (codes "json")
+        ∷ option_rule (codes "shift") ∷ []))) }
 {
-    let about = "Replays standard input on the site of a file, and prints its sales as CSV";
-    let example = "Example: forecourt sales examples/five_points.toml < examples/paying_day.hex\n";
+    let about = "Prints the sales of what standard input records on the site of a file, or of a \
+                 history, as CSV";
+    let example = "Examples: forecourt sales examples/five_points.toml < examples/paying_day.hex; \
+                   forecourt sales history --shift 3..5\n";
     let draws = "Prints what tests drew, and not the sales";
+    let json = "Prints an object of JSON a line";
     let command = start(alloc, "sales", about, example);
-    let command = add_argument(command, site_file(alloc))?;
+    let command = add_argument(command, site_or_history(alloc))?;
     let command = add_argument(command, flag(alloc, "draws", draws))?;
-    add_argument(
-        command,
-        flag(alloc, "json", "Prints an object of JSON a line"),
-    )
+    let command = add_argument(command, flag(alloc, "json", json))?;
+    add_argument(command, shift(alloc))
 }

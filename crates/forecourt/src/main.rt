@@ -4,12 +4,15 @@
 //! and exit statuses in `program_io`.
 #![tactic(auto)]
 
-use command_line::{Command, NoCommand, parse};
+use command_line::{Command, ExplainOptions, NoCommand, parse};
 use desk_commands::{run_demo, run_serve};
 use offline_commands::{
     run_check, run_explain, run_replay, run_replay_here, run_report, run_sales, run_spell,
 };
-use program_io::{COMMAND_LINE, exit_no_memory, exit_unwritten, exit_with};
+use program_io::{COMMAND_LINE, exit_no_memory, exit_unwritten, exit_with, is_folder};
+use row_commands::{
+    run_explain_folder, run_replay_folder, run_report_folder, run_sales_folder,
+};
 use shift_commands::{run_next, run_shifts};
 use station_command::run_station;
 use std::env;
@@ -48,17 +51,32 @@ fn run<T: Threads + Wait + Sync>(rt: &HostRuntime, threads: &T, command: Command
     match command {
         Command::ReplayHere => run_replay_here(rt, input),
         Command::Check(site) => run_check(rt, site),
+        Command::Replay(options) if is_folder(rt, options.site) => run_replay_folder(rt, options),
         Command::Replay(options) => run_replay(rt, input, options),
+        Command::Report(options) if is_folder(rt, options.site) => run_report_folder(rt, options),
         Command::Report(options) => run_report(rt, input, options),
+        Command::Sales(options) if is_folder(rt, options.site) => run_sales_folder(rt, options),
         Command::Sales(options) => run_sales(rt, input, options),
         Command::Serve(options) => run_serve(rt, threads, options),
         Command::Station(options) => run_station(rt, threads, input, options),
         Command::Demo(options) => run_demo(rt, threads, options),
         Command::Shifts(options) => run_shifts(rt, options.history, options.json),
         Command::Next(history) => run_next(rt, history),
-        Command::Explain(number) => run_explain(rt, input, number),
+        Command::Explain(options) => match find_folder(rt, options) {
+            Some(folder) => run_explain_folder(rt, folder, options.shift),
+            None => run_explain(rt, input, options),
+        },
         Command::Spell => run_spell(rt, input),
     }
+}
+
+/// The folder whose rows are to be explained. A number is none.
+fn find_folder<'a>(rt: &HostRuntime, options: ExplainOptions<'a>) -> Option<&'a str> {
+    let word = options.what?;
+    if word.parse::<u8>().is_ok() || !is_folder(rt, word) {
+        return None;
+    }
+    Some(word)
 }
 
 /// Prints what the words ask for in place of a command: help and the version on standard output,

@@ -3,7 +3,8 @@
 //!
 //! `count_chapters` says how many chapters there are, or the first that is missing
 //! (`specs/Numbers.antt`); `chapter_name` and `chapter_number` are the two ways between a chapter
-//! and its file's name (`specs/Names.antt`); `read_folder` makes the rows again.
+//! and its file's name (`specs/Names.antt`); `read_folder` makes the rows
+//! again, and a `FolderWalk` gives them one after another.
 #![tactic(auto)]
 
 mod exit;
@@ -13,6 +14,7 @@ mod names;
 mod numbers;
 mod reading;
 mod site;
+mod walk;
 
 pub use exit::{exit_folder, exit_history};
 pub use fault::FolderFault;
@@ -20,3 +22,4 @@ pub use listing::count_chapters;
 pub use names::{SITE_FILE, chapter_name, chapter_number, path_in};
 pub use reading::read_folder;
 pub use site::{read_folder_site, site_in_folder};
+pub use walk::FolderWalk;

@@ -31,18 +31,32 @@ pub fn read_folder<R: Files + Eprint + AllocGlobal>(
     ensures unpaid { IfOk result (λ read. GoesBy read.unpaid read.book) }
     ensures failed { IfErr result IsFailed }
 {
+    let (mut reader, count) = open_folder(rt, folder)?;
+    match read_chapters(rt, folder, count, &mut reader) {
+        Ok(()) => Ok(reader.into_read()),
+        Err(status) => Err(status),
+    }
+}
+
+/// A reader of the history in a folder, of which nothing is read yet, and how many chapters there
+/// are. Or how the program ends: the site file can't be read or has a fault, or a chapter is
+/// missing.
+pub(crate) fn open_folder<R: Files + Eprint + AllocGlobal>(
+    rt: &R,
+    folder: &str,
+) -> Result<(HistoryReader, u64), ExitCode>
+    ensures none { IfOk result (λ opened. HasRead [] opened.0) }
+    ensures most { IfOk result (λ opened. opened.1 ≤ MOST_CHAPTERS) }
+    ensures failed { IfErr result IsFailed }
+{
     let (config, site_file) = read_folder_site(rt, folder)?;
     let count = match count_chapters(rt, folder) {
         Ok(count) => count,
         Err(fault) => return Err(exit_folder(rt, folder, fault)),
     };
-    let mut reader = match open_reader(rt.alloc(), &config, &site_file) {
-        Ok(reader) => reader,
-        Err(_) => return Err(exit_no_memory(rt)),
-    };
-    match read_chapters(rt, folder, count, &mut reader) {
-        Ok(()) => Ok(reader.into_read()),
-        Err(status) => Err(status),
+    match open_reader(rt.alloc(), &config, &site_file) {
+        Ok(reader) => Ok((reader, count)),
+        Err(_) => Err(exit_no_memory(rt)),
     }
 }
 
@@ -80,7 +94,7 @@ fn read_chapters<R: Files + Eprint + AllocGlobal>(
 }
 
 /// The octets of the chapter of this number, or how the program ends.
-fn read_chapter<R: Files + Eprint + AllocGlobal>(
+pub(crate) fn read_chapter<R: Files + Eprint + AllocGlobal>(
     rt: &R,
     folder: &str,
     number: u64,

@@ -14,7 +14,7 @@ use Rattle.chapters.specs.ChapterText.{first_lines, text_of_lines}
 use Rattle.chapters.specs.History.{IsMadeOf}
 use Rattle.chapters.specs.HistoryEnds.{EndsAt}
 use Rattle.chapters.specs.Lines.{unfinished}
-use Rattle.chapters.specs.Readers.{AreWholeLines, HasRead, IsRefusedBehind, Names, ReaderState}
+use Rattle.chapters.specs.Readers.{AreWholeLines, HasRead, IsRefused, Names, ReaderState}
 use Rattle.chapters.specs.RowText.{CanBeSpelled, IsSent}
 use Rattle.chapters.proofs.Histories.{events_asked, first_read, front_refused, history_cut}
 use Rattle.chapters.proofs.Histories.{read_kept, read_sent, read_spelled, short_front}
@@ -96,7 +96,7 @@ none_there xs place text none is =
 
 pub closed_refused : (place : ℕ) (text : List ℕ) (file : Option DiskFile) (s : ReaderState)
     → (h : HasReadTo place file s) → OfFile (ReadsClosed place text) file
-    → IsRefusedBehind h.texts text s → OfFile (TellsNothingIn s.site) file
+    → IsRefused h.texts text s → OfFile (TellsNothingIn s.site) file
 closed_refused place text None s h reads refused = tt
 closed_refused place text (Some f) s h reads refused =
     let parts = closed_parts place h.texts text f h.are reads in
@@ -206,7 +206,7 @@ read_in (Some f) s new octets h stands reads site =
 
 pub tells_nothing : (file : Option DiskFile) (s : ReaderState) (octets : List ℕ)
     (h : HasReadClosed file s) → OfFile (StandsFor s octets) file
-    → IsRefusedBehind h.texts octets s → OfFile (TellsNothingIn s.site) file
+    → IsRefused h.texts octets s → OfFile (TellsNothingIn s.site) file
 tells_nothing None s octets h stands refused = tt
 tells_nothing (Some f) s octets h stands refused = elim stands.is [
   | inl open_one ↦ record {
@@ -224,7 +224,7 @@ tells_nothing (Some f) s octets h stands refused = elim stands.is [
 
 pub names_in : (file : Option DiskFile) (s : ReaderState) (octets : List ℕ)
     (fault : HistoryFault) (h : HasReadClosed file s) → OfFile (StandsFor s octets) file
-    → IsRefusedBehind h.texts octets s
+    → IsRefused h.texts octets s
     → Names s.site (length h.texts + 1) h.has.reading octets fault
     → OfFile (NamesIn s.site (Refused fault)) file
 names_in None s octets fault h stands refused names = tt

@@ -1,5 +1,7 @@
 //! `forecourt explain`, of a trace, and `forecourt explain NUMBER`, of a number.
 
+use crate::shift_option::refuse_shifts;
+use command_line::ExplainOptions;
 use devices::ReadFault;
 use forecourt_engines::explain::explain;
 use forecourt_engines::{Explained, ReplayFault, TextFault, Trace};
@@ -12,9 +14,12 @@ use std::process::ExitCode;
 pub fn run_explain<R: Print + Eprint + AllocGlobal, I: Read + Drop>(
     rt: &R,
     input: I,
-    number: Option<&str>,
+    options: ExplainOptions<'_>,
 ) -> ExitCode {
-    match number {
+    if let Err(status) = refuse_shifts(rt, options.shift) {
+        return status;
+    }
+    match options.what {
         Some(word) => explain_number(rt, word),
         None => explain_trace(rt, input),
     }
@@ -33,7 +38,7 @@ fn explain_number<R: Print + Eprint>(rt: &R, word: &str) -> ExitCode {
             Err(_) => exit_unwritten(rt),
         },
         None => exit_with(
-            eprintln!(rt; "error: no refusal and no fault has the number '{word}'"),
+            eprintln!(rt; "error: '{word}' is no number of a refusal or fault, and no folder"),
             COMMAND_LINE,
         ),
     }

@@ -11,6 +11,7 @@ mod named_site;
 mod replay;
 mod report;
 mod sales;
+mod shift_option;
 mod silent;
 mod spell;
 

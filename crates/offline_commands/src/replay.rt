@@ -1,6 +1,7 @@
 //! `forecourt replay FILE`, and the program without words.
 
 use crate::named_site::open_input;
+use crate::shift_option::refuse_shifts;
 use command_line::ReplayOptions;
 use devices::Counted;
 use forecourt_engines::known_site;
@@ -18,6 +19,9 @@ pub fn run_replay<R: Files + Print + Eprint + AllocGlobal, I: Read + Drop>(
     input: I,
     options: ReplayOptions<'_>,
 ) -> ExitCode {
+    if let Err(status) = refuse_shifts(rt, options.shift) {
+        return status;
+    }
     match open_input(rt, options.site, input) {
         Ok((config, input, turns)) => replay_on(rt, input, turns, &config, options.changes),
         Err(status) => status,

@@ -3,6 +3,7 @@
 ghost use Rattle.std.specs.Prelude.{◌≡◌};
 
 use crate::named_site::open_input;
+use crate::shift_option::refuse_shifts;
 use crate::silent::{ends_its_text, replay_silently};
 use command_line::SalesOptions;
 use devices::Counted;
@@ -21,6 +22,9 @@ pub fn run_sales<R: Files + Print + Eprint + AllocGlobal, I: Read + Drop>(
     input: I,
     options: SalesOptions<'_>,
 ) -> ExitCode {
+    if let Err(status) = refuse_shifts(rt, options.shift) {
+        return status;
+    }
     match open_input(rt, options.site, input) {
         Ok((config, input, turns)) => print_sold(rt, input, turns, &config, options),
         Err(status) => status,

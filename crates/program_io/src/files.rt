@@ -50,3 +50,11 @@ pub fn read_file<R: Files + Eprint + AllocGlobal>(rt: &R, name: &str) -> Result<
         Err(_) => Err(exit_with(eprintln!(rt; "cannot read {name}"), FAULT)),
     }
 }
+
+/// Is there a folder of this name?
+pub fn is_folder(rt: &impl Files, name: &str) -> bool {
+    match fs::metadata(rt, name) {
+        Ok(metadata) => metadata.is_dir(),
+        Err(_) => false,
+    }
+}

@@ -1,3 +1,4 @@
 pub mod Tables
 pub mod Objects
 pub mod Texts
+pub mod SoldLists

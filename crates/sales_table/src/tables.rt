@@ -96,7 +96,7 @@ fn put_piece<W: Write>(
 }
 
 /// What stands above the lines of sales.
-fn sale_head(alloc: Global, form: Form) -> Result<Vec<u8>, NoMemory>
+pub(crate) fn sale_head(alloc: Global, form: Form) -> Result<Vec<u8>, NoMemory>
     ensures { IfOk result (λ text. text.items ≡ head_text form sale_titles) }
 {
     match form {
@@ -106,7 +106,7 @@ fn sale_head(alloc: Global, form: Form) -> Result<Vec<u8>, NoMemory>
 }
 
 /// What stands above the lines of draws.
-fn draw_head(alloc: Global, form: Form) -> Result<Vec<u8>, NoMemory>
+pub(crate) fn draw_head(alloc: Global, form: Form) -> Result<Vec<u8>, NoMemory>
     ensures { IfOk result (λ text. text.items ≡ head_text form draw_titles) }
 {
     match form {
@@ -116,7 +116,7 @@ fn draw_head(alloc: Global, form: Form) -> Result<Vec<u8>, NoMemory>
 }
 
 /// Appends the line of a sale.
-fn put_sale(
+pub(crate) fn put_sale(
     alloc: Global,
     form: Form,
     products: &[ProductEntry],
@@ -134,7 +134,7 @@ fn put_sale(
 }
 
 /// Appends the line of a draw.
-fn put_draw(
+pub(crate) fn put_draw(
     alloc: Global,
     form: Form,
     products: &[ProductEntry],

@@ -1,6 +1,10 @@
-use Rattle.std.proofs.Common.{◌∙◌, refl, subst, sym}
+use Rattle.std.proofs.Common.{◌≡◌, ◌∙◌, refl, subst, sym, true}
+use Rattle.hex.specs.Hex.{decode_of}
+use Rattle.site_base.specs.declared.row.Row.{Row}
+use Rattle.device_map.specs.Ways.{sends, way_to}
 use Rattle.chapters.specs.History.{IsMadeOf}
 use Rattle.chapters.specs.Readers.{ReaderState}
+use Rattle.chapters.proofs.Asked.{line_sends}
 use Rattle.chapters.proofs.Reading.{comment_added, request_added}
 use Rattle.chapters.proofs.reader.HistoryReader.read_text.Goals as goal
 
@@ -15,4 +19,11 @@ returns-clause-right c = λ right r made.
     c.in-Some.event (sym c.is_comment.ensures ∙ c.if-is_comment.false)
     (sym c.in_ok-actor.ensures ∙ c.in-Some.is)
     (subst (λ (s : ReaderState). IsMadeOf s.book r.events) (sym c.self.view_is) made)
-    c.add_row.ensures.config c.in_ok-add_row.ensures.row
+    c.add_row.ensures.config c.in_ok-add_row.ensures.added
+
+pub returns-clause-sent : goal.returns-clause-sent
+returns-clause-sent c =
+    subst (λ (r : Row). sends r.actor (way_to r.event).kind ≡ true)
+    (sym c.in_ok-add_row.ensures.row)
+    (line_sends (decode_of c.args.line.now) (c.in-Some.actor, c.in-Some.event)
+    (sym c.in_ok-actor.ensures ∙ c.in-Some.is))

@@ -1,0 +1,131 @@
+//! The rows of a folder's history, one after another.
+
+ghost use Rattle.std.specs.Prelude.{◌≡◌, ◌≢◌, ◌≤◌, ◌<◌, ◌+◌, ◌++◌, [], IfErr, IfOk, IfSome, None, OnOk};
+ghost use Rattle.std.specs.List.{cons_option};
+ghost use Rattle.chapters.specs.declared.history_end.TheConstants.{MOST_CHAPTERS};
+ghost use Rattle.chapters.specs.RowText.{IsSent};
+ghost use Rattle.history_folder.specs.Reading.{IsWhole};
+ghost use Rattle.program_io.specs.Statuses.{IsFailed};
+
+use crate::exit::exit_history;
+use crate::reading::{open_folder, read_chapter};
+use chapters::HistoryReader;
+use site_base::Row;
+use site_book::SiteBook;
+use std::alloc::Global;
+use std::marker::Model;
+use std::process::ExitCode;
+use std::rt::Files;
+
+/// A walk over the rows of a folder's history. Each row is given once the book has it; the chapters
+/// are read one after another, and each is checked as far as the walk has come.
+#[derive(Drop)]
+pub struct FolderWalk {
+    reader: HistoryReader,
+    /// So many chapters the folder had when the walk began.
+    count: u64,
+    /// The text of the chapter that is being read.
+    text: Vec<u8>,
+    /// So many octets of it are read.
+    octets: usize,
+    /// The chapter may have more rows.
+    is_within: bool,
+}
+
+impl Model for FolderWalk {
+    ghost use Rattle.history_folder.specs.Reading.{IsWalking, WalkState};
+
+    ghost Value = { WalkState };
+
+    ghost view = { λ w. record { reader = w.reader; count = w.count } };
+
+    ghost invariant = { λ w. IsWalking w.reader w.count w.text.items w.octets w.is_within };
+}
+
+impl FolderWalk {
+    /// A walk over the history in this folder, before its first row; or how the program ends: a
+    /// file can't be read, or has a fault, or a chapter is missing.
+    pub fn open<R: Files + Eprint + AllocGlobal>(rt: &R, folder: &str) -> Result<FolderWalk, ExitCode>
+        ensures none { IfOk result (λ walk. walk.reader.book.rows ≡ []) }
+        ensures failed { IfErr result IsFailed }
+    {
+        let (reader, count) = open_folder(rt, folder)?;
+        Ok(FolderWalk {
+            reader,
+            count,
+            text: Vec::new(rt.alloc()),
+            octets: 0,
+            is_within: false,
+        })
+    }
+
+    /// The book of the rows that were given.
+    pub fn book(&self) -> &SiteBook
+        ensures { result.now ≡ self.now.reader.book }
+    {
+        self.reader.book()
+    }
+
+    /// The next row; None behind the last one, once each chapter is read. Or how the program ends:
+    /// a chapter can't be read, or is refused.
+    pub fn next<R: Files + Eprint + AllocGlobal>(
+        &mut self,
+        rt: &R,
+        folder: &str,
+    ) -> Result<Option<Row>, ExitCode>
+        ensures row { IfOk result (λ row. self.new.reader.book.rows
+            ≡ self.old.reader.book.rows ++ cons_option row []) }
+        ensures sent { IfOk result (λ row. IfSome row IsSent) }
+        ensures whole { IfOk result (λ row. row ≡ None → IsWhole self.new) }
+        ensures config { self.new.reader.book.config ≡ self.old.reader.book.config }
+        ensures failed { IfErr result IsFailed }
+    {
+        let mut row = self.next_in_chapter(rt)?;
+        while row.is_none() && self.reader.chapters() < self.count {
+            self.begin_chapter(rt, folder)?;
+            row = self.next_in_chapter(rt)?;
+        }
+        Ok(row)
+    }
+
+    /// Begins the next chapter of the folder.
+    fn begin_chapter<R: Files + Eprint + AllocGlobal>(
+        &mut self,
+        rt: &R,
+        folder: &str,
+    ) -> Result<(), ExitCode>
+        requires more { self.old.reader.end.chapters < self.old.count }
+        ensures begun { OnOk result
+            (self.new.reader.end.chapters ≡ self.old.reader.end.chapters + 1) }
+        ensures book { self.new.reader.book ≡ self.old.reader.book }
+        ensures count { self.new.count ≡ self.old.count }
+        ensures failed { IfErr result IsFailed }
+    {
+        let text = read_chapter(rt, folder, self.reader.chapters() + 1)?;
+        match self.reader.begin_chapter(&text) {
+            Ok(octets) => {
+                self.text = text;
+                self.octets = octets;
+                self.is_within = true;
+                Ok(())
+            }
+            Err(fault) => Err(exit_history(rt, fault)),
+        }
+    }
+
+    /// The next row of the chapter that is being read. None where it has no more.
+    fn next_in_chapter(&mut self, rt: &impl Eprint) -> Result<Option<Row>, ExitCode>
+    {
+        if !self.is_within {
+            return Ok(None);
+        }
+        match self.reader.next_row(&self.text[self.octets..]) {
+            Ok(read) => {
+                self.octets += read.octets;
+                self.is_within = read.row.is_some();
+                Ok(read.row)
+            }
+            Err(fault) => Err(exit_history(rt, fault)),
+        }
+    }
+}

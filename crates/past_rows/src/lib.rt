@@ -1,0 +1,14 @@
+//! What is told of the rows of a history, row after row: their replies, as lines of hexadecimal,
+//! and their words; the figures of some of its shifts.
+#![tactic(auto)]
+
+mod figures;
+mod replies;
+mod shift_figures;
+mod shifts;
+mod words;
+
+pub use replies::ReplyLines;
+pub use shift_figures::ShiftFigures;
+pub use shifts::ShiftRange;
+pub use words::put_words;

@@ -1,0 +1,11 @@
+//! Rows in words.
+
+use site_base::{NoMemory, Row};
+use std::alloc::Global;
+
+/// Appends a row in words, as a line: who asked what, and the reply.
+pub fn put_words(alloc: Global, row: &Row, text: &mut Vec<u8>) -> Result<(), NoMemory> {
+    let line = format!(in alloc; "{row}\n")?;
+    text.extend_from_slice(line.as_bytes())?;
+    Ok(())
+}

@@ -1,0 +1,98 @@
+//! `forecourt report FOLDER [--human | --json] [--shift A[..B]]`.
+
+use crate::options::{check_shifts, read_shifts};
+use crate::output::print_text;
+use command_line::{ReportForm, ReportOptions};
+use day_report::{report_as_json, report_as_text, report_for_people};
+use history_folder::{FolderWalk, read_folder};
+use past_rows::{ShiftFigures, ShiftRange};
+use program_io::exit_no_memory;
+use site_base::{NoMemory, SiteConfig, Totals};
+use std::alloc::Global;
+use std::process::ExitCode;
+use std::rt::Files;
+
+/// Prints the report of the history in a folder: of all its shifts, or of those that are asked for.
+pub fn run_report_folder<R: Files + Print + Eprint + AllocGlobal>(
+    rt: &R,
+    options: ReportOptions<'_>,
+) -> ExitCode {
+    let shifts = match read_shifts(rt, options.shift) {
+        Ok(shifts) => shifts,
+        Err(status) => return status,
+    };
+    let printed = match shifts {
+        None => report_all(rt, options.site, options.form),
+        Some(shifts) => report_shifts(rt, options.site, options.form, shifts),
+    };
+    match printed {
+        Ok(()) => ExitCode::SUCCESS,
+        Err(status) => status,
+    }
+}
+
+/// Prints the report of all shifts.
+fn report_all<R: Files + Print + Eprint + AllocGlobal>(
+    rt: &R,
+    folder: &str,
+    form: ReportForm,
+) -> Result<(), ExitCode> {
+    let history = read_folder(rt, folder)?;
+    match history.book.totals(rt.alloc()) {
+        Ok(totals) => print_report(rt, history.book.config(), &totals, form),
+        Err(NoMemory) => Err(exit_no_memory(rt)),
+    }
+}
+
+/// Prints the report of these shifts.
+fn report_shifts<R: Files + Print + Eprint + AllocGlobal>(
+    rt: &R,
+    folder: &str,
+    form: ReportForm,
+    shifts: ShiftRange,
+) -> Result<(), ExitCode> {
+    let mut walk = FolderWalk::open(rt, folder)?;
+    let mut figures = ShiftFigures::new(shifts);
+    let mut is_left = true;
+    while is_left {
+        if figures.meet(rt.alloc(), walk.book()).is_err() {
+            return Err(exit_no_memory(rt));
+        }
+        is_left = walk.next(rt, folder)?.is_some();
+    }
+    let book = walk.book();
+    check_shifts(rt, &Some(shifts), book.open_shift())?;
+    match figures.totals(rt.alloc(), book) {
+        Ok(Some(totals)) => print_report(rt, book.config(), &totals, form),
+        // The first of the shifts is there, since the last one is.
+        Ok(None) => Ok(()),
+        Err(NoMemory) => Err(exit_no_memory(rt)),
+    }
+}
+
+/// Prints the report of these figures.
+fn print_report<R: Print + Eprint + AllocGlobal>(
+    rt: &R,
+    config: &SiteConfig,
+    totals: &Totals,
+    form: ReportForm,
+) -> Result<(), ExitCode> {
+    match report_text(rt.alloc(), config, totals, form) {
+        Ok(mut text) => print_text(rt, &mut text),
+        Err(NoMemory) => Err(exit_no_memory(rt)),
+    }
+}
+
+/// The report of these figures in this form.
+fn report_text(
+    alloc: Global,
+    config: &SiteConfig,
+    totals: &Totals,
+    form: ReportForm,
+) -> Result<Vec<u8>, NoMemory> {
+    match form {
+        ReportForm::Lines => Ok(report_as_text(alloc, config, totals, 0)?.into_bytes()),
+        ReportForm::People => report_for_people(alloc, config.products(), totals),
+        ReportForm::Json => Ok(report_as_json(alloc, config.products(), totals, 0)?.into_bytes()),
+    }
+}

@@ -1,0 +1,110 @@
+//! `forecourt replay FOLDER [--changes] [--shift A[..B]]` and `forecourt explain FOLDER
+//! [--shift A[..B]]`.
+
+ghost use Rattle.chapters.specs.RowText.{IsSent};
+
+use crate::options::{check_shifts, is_asked, read_shifts};
+use crate::output::{print_piece, print_text};
+use command_line::ReplayOptions;
+use history_folder::FolderWalk;
+use past_rows::{ReplyLines, ShiftRange, put_words};
+use program_io::exit_no_memory;
+use site_base::{NoMemory, Row};
+use std::alloc::Global;
+use std::process::ExitCode;
+use std::rt::Files;
+
+/// What is printed of a row.
+#[derive(Drop)]
+enum RowForm {
+    /// Its reply, as lines of hexadecimal.
+    Reply(ReplyLines),
+    /// Its words.
+    Words,
+}
+
+impl RowForm {
+    /// Appends what is printed of a row.
+    fn put(&mut self, alloc: Global, row: &Row, text: &mut Vec<u8>) -> Result<(), NoMemory>
+        requires { IsSent row.now }
+    {
+        match self {
+            RowForm::Reply(lines) => lines.put(row, text),
+            RowForm::Words => put_words(alloc, row, text),
+        }
+    }
+}
+
+/// Prints the replies to the rows of the history in a folder.
+pub fn run_replay_folder<R: Files + Print + Eprint + AllocGlobal>(
+    rt: &R,
+    options: ReplayOptions<'_>,
+) -> ExitCode {
+    let form = RowForm::Reply(ReplyLines::new(rt.alloc(), options.changes));
+    run_rows(rt, options.site, options.shift, form)
+}
+
+/// Prints the rows of the history in a folder in words, a line for each.
+pub fn run_explain_folder<R: Files + Print + Eprint + AllocGlobal>(
+    rt: &R,
+    folder: &str,
+    shift: Option<&str>,
+) -> ExitCode {
+    run_rows(rt, folder, shift, RowForm::Words)
+}
+
+/// Prints the rows of a folder in this form, of all shifts or of those that a word says.
+fn run_rows<R: Files + Print + Eprint + AllocGlobal>(
+    rt: &R,
+    folder: &str,
+    shift: Option<&str>,
+    form: RowForm,
+) -> ExitCode {
+    let mut form = form;
+    let printed = match read_shifts(rt, shift) {
+        Ok(shifts) => print_rows(rt, folder, &shifts, &mut form),
+        Err(status) => Err(status),
+    };
+    match printed {
+        Ok(()) => ExitCode::SUCCESS,
+        Err(status) => status,
+    }
+}
+
+/// Prints the rows of these shifts. Behind a fault of the history, too, what stands before it is
+/// printed.
+fn print_rows<R: Files + Print + Eprint + AllocGlobal>(
+    rt: &R,
+    folder: &str,
+    shifts: &Option<ShiftRange>,
+    form: &mut RowForm,
+) -> Result<(), ExitCode> {
+    let mut walk = FolderWalk::open(rt, folder)?;
+    let mut text = Vec::new(rt.alloc());
+    let ended = put_all(rt, folder, &mut walk, shifts, form, &mut text);
+    print_text(rt, &mut text)?;
+    ended?;
+    check_shifts(rt, shifts, walk.book().open_shift())
+}
+
+/// Puts the rows of these shifts into the text, which is printed piece after piece.
+fn put_all<R: Files + Print + Eprint + AllocGlobal>(
+    rt: &R,
+    folder: &str,
+    walk: &mut FolderWalk,
+    shifts: &Option<ShiftRange>,
+    form: &mut RowForm,
+    text: &mut Vec<u8>,
+) -> Result<(), ExitCode> {
+    for _ in 0..u64::MAX {
+        let shift = walk.book().open_shift();
+        let Some(row) = walk.next(rt, folder)? else {
+            break;
+        };
+        if is_asked(shifts, shift) && form.put(rt.alloc(), &row, text).is_err() {
+            return Err(exit_no_memory(rt));
+        }
+        print_piece(rt, text)?;
+    }
+    Ok(())
+}
