@@ -1,8 +1,8 @@
 //! A history, read chapter after chapter.
 
 ghost use Rattle.std.specs.Prelude.{◌≡◌, ◌≢◌, ◌++◌, ◌∷◌, ◌+◌, ◌<◌, ◌≤◌, [], ℕ, List, IfErr, IfOk};
-ghost use Rattle.std.specs.Prelude.{◌&&◌, IfSome, None, OnOk, drop, false, length, not, string_bytes};
-ghost use Rattle.std.specs.Prelude.{take, true};
+ghost use Rattle.std.specs.Prelude.{◌&&◌, IfSome, None, OnErr, OnOk, drop, false, length, not};
+ghost use Rattle.std.specs.Prelude.{string_bytes, take, true};
 ghost use Rattle.std.specs.List.{cons_option};
 ghost use Rattle.site_book.specs.Book.{next_row};
 ghost use Rattle.site_book.specs.Unpaid.{GoesBy};
@@ -198,6 +198,7 @@ impl HistoryReader {
         ensures book { self.new.book ≡ self.old.book }
         ensures chapters { OnOk result (self.new.end.chapters ≡ self.old.end.chapters + 1) }
         ensures begins { OnOk result (self.new.begin ≡ begin_of self.old.book) }
+        ensures err { OnErr result (self.new ≡ self.old) }
     {
         let number = self.end.chapters() + 1;
         if !self.is_ended() {

@@ -12,6 +12,7 @@ mod fault;
 mod listing;
 mod names;
 mod numbers;
+mod place;
 mod reading;
 mod site;
 mod walk;

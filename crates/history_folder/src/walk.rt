@@ -1,15 +1,17 @@
 //! The rows of a folder's history, one after another.
 
-ghost use Rattle.std.specs.Prelude.{◌≡◌, ◌≢◌, ◌≤◌, ◌<◌, ◌+◌, ◌++◌, [], IfErr, IfOk, IfSome, None, OnOk};
+ghost use Rattle.std.specs.Prelude.{◌≡◌, ◌<◌, ◌+◌, ◌++◌, [], IfErr, IfOk, IfSome, None, OnOk};
 ghost use Rattle.std.specs.List.{cons_option};
 ghost use Rattle.chapters.specs.declared.history_end.TheConstants.{MOST_CHAPTERS};
 ghost use Rattle.chapters.specs.RowText.{IsSent};
-ghost use Rattle.history_folder.specs.Reading.{IsWhole};
+ghost use Rattle.history_folder.specs.Reading.{HasReadBegun, IsWhole};
 ghost use Rattle.program_io.specs.Statuses.{IsFailed};
 
 use crate::exit::exit_history;
+use crate::place::WalkPlace;
 use crate::reading::{open_folder, read_chapter};
 use chapters::HistoryReader;
+use program_io::FAULT;
 use site_base::Row;
 use site_book::SiteBook;
 use std::alloc::Global;
@@ -28,8 +30,7 @@ pub struct FolderWalk {
     text: Vec<u8>,
     /// So many octets of it are read.
     octets: usize,
-    /// The chapter may have more rows.
-    is_within: bool,
+    place: WalkPlace,
 }
 
 impl Model for FolderWalk {
@@ -37,15 +38,18 @@ impl Model for FolderWalk {
 
     ghost Value = { WalkState };
 
-    ghost view = { λ w. record { reader = w.reader; count = w.count } };
+    ghost view = { λ w. record { reader = w.reader; count = w.count; place = w.place } };
 
-    ghost invariant = { λ w. IsWalking w.reader w.count w.text.items w.octets w.is_within };
+    ghost invariant = { λ w. IsWalking w.reader w.count w.text.items w.octets w.place };
 }
 
 impl FolderWalk {
     /// A walk over the history in this folder, before its first row; or how the program ends: a
     /// file can't be read, or has a fault, or a chapter is missing.
-    pub fn open<R: Files + Eprint + AllocGlobal>(rt: &R, folder: &str) -> Result<FolderWalk, ExitCode>
+    pub fn open<R: Files + Eprint + AllocGlobal>(
+        rt: &R,
+        folder: &str,
+    ) -> Result<FolderWalk, ExitCode>
         ensures none { IfOk result (λ walk. walk.reader.book.rows ≡ []) }
         ensures failed { IfErr result IsFailed }
     {
@@ -55,7 +59,7 @@ impl FolderWalk {
             count,
             text: Vec::new(rt.alloc()),
             octets: 0,
-            is_within: false,
+            place: WalkPlace::Between,
         })
     }
 
@@ -95,6 +99,7 @@ impl FolderWalk {
         folder: &str,
     ) -> Result<(), ExitCode>
         requires more { self.old.reader.end.chapters < self.old.count }
+        requires between { self.old.place ≡ WalkPlace.Between }
         ensures begun { OnOk result
             (self.new.reader.end.chapters ≡ self.old.reader.end.chapters + 1) }
         ensures book { self.new.reader.book ≡ self.old.reader.book }
@@ -106,26 +111,57 @@ impl FolderWalk {
             Ok(octets) => {
                 self.text = text;
                 self.octets = octets;
-                self.is_within = true;
+                self.place = WalkPlace::Within;
                 Ok(())
             }
             Err(fault) => Err(exit_history(rt, fault)),
         }
     }
 
-    /// The next row of the chapter that is being read. None where it has no more.
+    /// The next row of the chapter that is being read. None where it has no more, or none is.
     fn next_in_chapter(&mut self, rt: &impl Eprint) -> Result<Option<Row>, ExitCode>
+        ensures row { IfOk result (λ row. self.new.reader.book.rows
+            ≡ self.old.reader.book.rows ++ cons_option row []) }
+        ensures sent { IfOk result (λ row. IfSome row IsSent) }
+        ensures read { IfOk result (λ row. row ≡ None → HasReadBegun self.new.reader) }
+        ensures place { IfOk result (λ row. row ≡ None → self.new.place ≡ WalkPlace.Between) }
+        ensures config { self.new.reader.book.config ≡ self.old.reader.book.config }
+        ensures chapters { self.new.reader.end.chapters ≡ self.old.reader.end.chapters }
+        ensures count { self.new.count ≡ self.old.count }
+        ensures failed { IfErr result IsFailed }
     {
-        if !self.is_within {
-            return Ok(None);
+        match self.place {
+            WalkPlace::Between => Ok(None),
+            WalkPlace::Within => self.read_row(rt),
+            WalkPlace::Refused => Err(ExitCode::from(FAULT)),
         }
+    }
+
+    /// The next row of the chapter that is being read. None where it has no more.
+    fn read_row(&mut self, rt: &impl Eprint) -> Result<Option<Row>, ExitCode>
+        requires { self.old.place ≡ WalkPlace.Within }
+        ensures row { IfOk result (λ row. self.new.reader.book.rows
+            ≡ self.old.reader.book.rows ++ cons_option row []) }
+        ensures sent { IfOk result (λ row. IfSome row IsSent) }
+        ensures read { IfOk result (λ row. row ≡ None → HasReadBegun self.new.reader) }
+        ensures place { IfOk result (λ row. row ≡ None → self.new.place ≡ WalkPlace.Between) }
+        ensures config { self.new.reader.book.config ≡ self.old.reader.book.config }
+        ensures chapters { self.new.reader.end.chapters ≡ self.old.reader.end.chapters }
+        ensures count { self.new.count ≡ self.old.count }
+        ensures failed { IfErr result IsFailed }
+    {
         match self.reader.next_row(&self.text[self.octets..]) {
             Ok(read) => {
                 self.octets += read.octets;
-                self.is_within = read.row.is_some();
+                if read.row.is_none() {
+                    self.place = WalkPlace::Between;
+                }
                 Ok(read.row)
             }
-            Err(fault) => Err(exit_history(rt, fault)),
+            Err(fault) => {
+                self.place = WalkPlace::Refused;
+                Err(exit_history(rt, fault))
+            }
         }
     }
 }
