@@ -173,10 +173,15 @@ def help_texts():
             expect(f"{word} speaks of {text}", found, True)
     for command, first in (
         ("check", "Reads a site file, and tells its first fault or how large the site is"),
-        ("replay", "Answers the messages of standard input on the site of a file"),
+        (
+            "replay",
+            "Answers the messages of standard input on the site of a file, or prints the replies of"
+            " a history",
+        ),
         (
             "report",
-            "Replays standard input on the site of a file, and prints the report of its rows",
+            "Prints the report of what standard input records on the site of a file, or of a"
+            " history",
         ),
         (
             "serve",
@@ -194,8 +199,16 @@ def help_texts():
             "Prints the site file with which a new history goes on where this one ended, or what"
             " hinders that",
         ),
-        ("explain", "Prints the messages of standard input in words, or what a number means"),
-        ("sales", "Replays standard input on the site of a file, and prints its sales as CSV"),
+        (
+            "explain",
+            "Prints the messages of standard input in words, or the rows of a history, or what a"
+            " number means",
+        ),
+        (
+            "sales",
+            "Prints the sales of what standard input records on the site of a file, or of a"
+            " history, as CSV",
+        ),
         ("spell", "Prints the requests that standard input asks for in words, in hexadecimal"),
     ):
         lines = expect_help(first, command, "--help")
@@ -222,7 +235,7 @@ def site_files():
             expect_end(f"check {case.name}", end, 1, b"", text.rstrip("\n"))
             end = forecourt("replay", case, given="no hexadecimal\n")
             expect_end(f"replay on {case.name}", end, 1, b"", text.rstrip("\n"))
-    for words in (["check", "no_such_file"], ["replay", "."], ["report", "no_such_file"]):
+    for words in (["check", "no_such_file"], ["check", "."], ["report", "no_such_file"]):
         end = forecourt(*words, given=STORED)
         expect_end(
             f"{words[0]} on a file that can't be read", end, 1, b"", f"cannot read {words[1]}"

@@ -82,6 +82,9 @@ impl<'a, R: Files<File = File> + AllocGlobal> HistoryFolder<'a, R> {
 
     /// Its chapters as a disk: the last one is open. Where there is none yet, the first one is made
     /// as the disk is renewed.
+    ///
+    /// `InUse` comes where another process has the last chapter, or has begun one more: it may, if
+    /// somebody has removed the folder's lock.
     pub fn into_disk(self) -> Result<HistoryDisk<'a, R>, FileFault>
         ensures closed { IfOk result (λ disk.
             chapters_closed disk ≡ chapters_found self.entry - 1) }
@@ -101,6 +104,7 @@ impl<'a, R: Files<File = File> + AllocGlobal> HistoryFolder<'a, R> {
         } else {
             Some(open_alone(rt, path.as_str())?)
         };
+        check_count(rt, folder.as_str(), chapters)?;
         Ok(HistoryDisk {
             rt,
             folder,
@@ -112,6 +116,19 @@ impl<'a, R: Files<File = File> + AllocGlobal> HistoryFolder<'a, R> {
             flushed: 0,
             is_own: false,
         })
+    }
+}
+
+/// Fails where the folder hasn't so many chapters any more.
+fn check_count<R: Files + AllocGlobal>(
+    rt: &R,
+    folder: &str,
+    chapters: u64,
+) -> Result<(), FileFault> {
+    match count_chapters(rt, folder) {
+        Ok(found) if found == chapters => Ok(()),
+        Ok(_) => Err(FileFault::InUse),
+        Err(fault) => Err(fault_of_folder(fault)),
     }
 }
 

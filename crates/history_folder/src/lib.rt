@@ -16,6 +16,7 @@ mod place;
 mod reading;
 mod site;
 mod walk;
+mod whole_file;
 
 pub use exit::{exit_folder, exit_history};
 pub use fault::FolderFault;

@@ -14,7 +14,8 @@ use crate::listing::count_chapters;
 use crate::names::{chapter_name, path_in};
 use crate::site::read_folder_site;
 use chapters::{HistoryReader, ReadHistory, site_name};
-use program_io::{exit_no_memory, read_file};
+use crate::whole_file::read_whole_file;
+use program_io::exit_no_memory;
 use site_base::{NoMemory, SiteConfig};
 use std::alloc::Global;
 use std::process::ExitCode;
@@ -103,7 +104,7 @@ pub(crate) fn read_chapter<R: Files + Eprint + AllocGlobal>(
     ensures failed { IfErr result IsFailed }
 {
     match chapter_path(rt.alloc(), folder, number) {
-        Ok(path) => read_file(rt, path.as_str()),
+        Ok(path) => read_whole_file(rt, path.as_str()),
         Err(_) => Err(exit_no_memory(rt)),
     }
 }

@@ -5,7 +5,8 @@ ghost use Rattle.program_io.specs.Statuses.{IsFailed};
 ghost use Rattle.site_file.specs.SiteFile.{config_of};
 
 use crate::names::{SITE_FILE, path_in};
-use program_io::{FAULT, exit_no_memory, exit_with, read_file};
+use crate::whole_file::read_whole_file;
+use program_io::{FAULT, exit_no_memory, exit_with};
 use site_base::SiteConfig;
 use site_file::{ConfigFault, read_config};
 use std::process::ExitCode;
@@ -24,7 +25,7 @@ pub fn read_folder_site<R: Files + Eprint + AllocGlobal>(
         Ok(path) => path,
         Err(_) => return Err(exit_no_memory(rt)),
     };
-    let octets = read_file(rt, path.as_str())?;
+    let octets = read_whole_file(rt, path.as_str())?;
     let config = site_in_folder(rt, &octets)?;
     Ok((config, octets))
 }

@@ -13,7 +13,7 @@ product_between before after = record after {
 }
 
 abbrev pub products_between : List ProductView → List ProductView → List ProductView
-products_between (b ∷ bs) (a ∷ as) = product_between b a ∷ products_between bs as
+products_between (b ∷ before) (a ∷ after) = product_between b a ∷ products_between before after
 products_between before after = []
 
 -- a till with the transactions that it cleared between them, and their cents
@@ -21,7 +21,7 @@ abbrev pub till_between : ℕ × ℕ × ℕ → ℕ × ℕ × ℕ → ℕ × ℕ
 till_between before after = (after.0, after.1 - before.1, after.2 - before.2)
 
 abbrev pub tills_between : List (ℕ × ℕ × ℕ) → List (ℕ × ℕ × ℕ) → List (ℕ × ℕ × ℕ)
-tills_between (b ∷ bs) (a ∷ as) = till_between b a ∷ tills_between bs as
+tills_between (b ∷ before) (a ∷ after) = till_between b a ∷ tills_between before after
 tills_between before after = []
 
 -- the rows between them, each product's figures, and what each till cleared

@@ -1,2 +1,3 @@
 pub mod ReplyLines
 pub mod FiguresBetween
+pub mod ShiftFigures

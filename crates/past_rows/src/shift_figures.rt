@@ -1,10 +1,16 @@
 //! The figures of some shifts of a history, taken while its book goes on.
 
+ghost use Rattle.std.specs.Prelude.{◌≡◌, ◌+◌, ◌∷◌, ◌++◌, [], IfOk, IfNone, IfSome, None, OnOk};
+ghost use Rattle.site_base.specs.declared.row.Row.{Row as RowFacts};
+ghost use Rattle.site_book.specs.Book.{Book};
+ghost use Rattle.past_rows.specs.ShiftFigures.{AreOfShifts, HasMet, IsBefore, IsNextBook, IsTaken};
+
 use crate::figures::figures_between;
 use crate::shifts::ShiftRange;
 use site_base::{NoMemory, Totals};
 use site_book::SiteBook;
 use std::alloc::Global;
+use std::marker::Model;
 
 /// The figures of some shifts of a history. They are taken while its rows are read: before the
 /// first row, and behind each, it meets the book.
@@ -17,9 +23,19 @@ pub struct ShiftFigures {
     after: Option<Totals>,
 }
 
+impl Model for ShiftFigures {
+    ghost use Rattle.past_rows.specs.ShiftFigures.{FiguresState};
+
+    ghost Value = { FiguresState };
+
+    ghost view = { λ f. record { shifts = f.shifts; before = f.before; after = f.after } };
+}
+
 impl ShiftFigures {
-    /// Of these shifts, before the book has a row.
-    pub fn new(shifts: ShiftRange) -> ShiftFigures {
+    /// Of these shifts, before it has met a book.
+    pub fn new(shifts: ShiftRange) -> ShiftFigures
+        ensures { result ≡ record { shifts = shifts; before = None; after = None } }
+    {
         ShiftFigures {
             shifts,
             before: None,
@@ -27,21 +43,26 @@ impl ShiftFigures {
         }
     }
 
-    /// Meets the book as it stands: takes its totals where one of the two moments has come.
-    pub fn meet(&mut self, alloc: Global, book: &SiteBook) -> Result<(), NoMemory> {
-        let open = book.open_shift().get();
-        if self.before.is_none() && open >= self.shifts.first.get() {
-            self.before = Some(book.totals(alloc)?);
-        }
-        if self.after.is_none() && open > self.shifts.last.get() {
-            self.after = Some(book.totals(alloc)?);
-        }
-        Ok(())
+    /// Meets the book as it stands, and takes its totals where one of the two moments has come.
+    pub fn meet(&mut self, alloc: Global, book: &SiteBook) -> Result<(), NoMemory>
+        ensures first { OnOk result (book.now.rows ≡ [] → self.old.before ≡ None
+            → self.old.after ≡ None → HasMet self.new book.now) }
+        ensures next { OnOk result ((earlier : Book) → HasMet self.old earlier
+            → IsNextBook earlier book.now → HasMet self.new book.now) }
+        ensures shifts { self.new.shifts ≡ self.old.shifts }
+    {
+        take_totals(alloc, book, self.shifts.first.get(), &mut self.before)?;
+        take_totals(alloc, book, self.shifts.last.get() + 1, &mut self.after)
     }
 
-    /// The figures of the shifts, of a history that ends with this book; what they added is counted
-    /// up to its end if the last shift is open. None where the first one isn't there yet.
-    pub fn totals(&self, alloc: Global, book: &SiteBook) -> Result<Option<Totals>, NoMemory> {
+    /// The figures of the shifts, of a history that ends with this book; if the last shift is open,
+    /// they go up to its end. None where the first one isn't there yet.
+    pub fn totals(&self, alloc: Global, book: &SiteBook) -> Result<Option<Totals>, NoMemory>
+        ensures figures { IfOk result (λ found. HasMet self.now book.now
+            → IfSome found (AreOfShifts self.now.shifts book.now)) }
+        ensures none { IfOk result (λ found. HasMet self.now book.now
+            → IfNone found (IsBefore self.now.shifts book.now)) }
+    {
         let Some(before) = &self.before else {
             return Ok(None);
         };
@@ -51,4 +72,25 @@ impl ShiftFigures {
         };
         Ok(Some(totals))
     }
+}
+
+/// Takes the totals of the book as it stands, if the shift of this number is open, or a later one,
+/// and they aren't taken yet.
+fn take_totals(
+    alloc: Global,
+    book: &SiteBook,
+    shift: u16,
+    taken: &mut Option<Totals>,
+) -> Result<(), NoMemory>
+    ensures first { OnOk result (book.now.rows ≡ [] → taken.old ≡ None
+        → IsTaken shift book.now taken.new) }
+    ensures next { OnOk result ((earlier : Book) → IsTaken shift earlier taken.old
+        → IsNextBook earlier book.now → IsTaken shift book.now taken.new) }
+{
+    // The rows are a legal history.
+    book.len();
+    if taken.is_none() && book.open_shift().get() >= shift {
+        *taken = Some(book.totals(alloc)?);
+    }
+    Ok(())
 }

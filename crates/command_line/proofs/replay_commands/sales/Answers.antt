@@ -2,6 +2,7 @@ use Rattle.command_line.proofs.replay_commands.sales.Goals as goal
 
 pub returns : goal.returns
 returns c =
-    let one = c.in_ok-command.ensures _ _ c.start-command.ensures c.site_file.ensures.rule in
+    let one = c.in_ok-command.ensures _ _ c.start-command.ensures c.site_or_history.ensures.rule in
     let two = c.in_ok-command-2.ensures _ _ one c.flag.ensures.rule in
-    c.add_argument-3.ensures _ _ two c.flag-2.ensures.rule
+    let three = c.in_ok-command-3.ensures _ _ two c.flag-2.ensures.rule in
+    c.add_argument-4.ensures _ _ three c.shift.ensures.rule

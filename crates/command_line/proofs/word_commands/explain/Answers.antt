@@ -2,4 +2,5 @@ use Rattle.command_line.proofs.word_commands.explain.Goals as goal
 
 pub returns : goal.returns
 returns c =
-    c.add_argument.ensures _ _ c.start-command.ensures c.number.ensures.rule
+    let one = c.in_ok-command.ensures _ _ c.start-command.ensures c.what.ensures.rule in
+    c.add_argument-2.ensures _ _ one c.shift.ensures.rule
