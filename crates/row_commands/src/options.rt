@@ -1,6 +1,6 @@
 //! The shifts that a command is asked for.
 
-ghost use Rattle.std.specs.Prelude.{IfErr};
+ghost use Rattle.std.specs.Prelude.{◌≡◌, ◌&&◌, IfErr, IfSome, None, nat_le, true};
 ghost use Rattle.program_io.specs.Statuses.{IsFailed};
 
 use past_rows::ShiftRange;
@@ -24,8 +24,12 @@ pub fn read_shifts(rt: &impl Eprint, word: Option<&str>) -> Result<Option<ShiftR
     }
 }
 
-/// Is this shift asked for?
-pub fn is_asked(shifts: &Option<ShiftRange>, shift: ShiftNo) -> bool {
+/// Is this shift asked for? Each is, where none is named.
+pub fn is_asked(shifts: &Option<ShiftRange>, shift: ShiftNo) -> bool
+    ensures all { shifts.now ≡ None → result ≡ true }
+    ensures some { IfSome shifts.now (λ asked.
+        result ≡ (nat_le asked.first shift && nat_le shift asked.last)) }
+{
     match shifts {
         Some(shifts) => shifts.contains(shift),
         None => true,

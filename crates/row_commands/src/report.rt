@@ -1,12 +1,17 @@
 //! `forecourt report FOLDER [--human | --json] [--shift A[..B]]`.
 
+ghost use Rattle.std.specs.Prelude.{◌≡◌, [], IfErr, None, OnOk};
+ghost use Rattle.history_folder.specs.Reading.{IsWhole};
+ghost use Rattle.past_rows.specs.ShiftFigures.{HasMet};
+ghost use Rattle.program_io.specs.Statuses.{IsFailed};
+
 use crate::options::{check_shifts, read_shifts};
 use crate::output::print_text;
 use command_line::{ReportForm, ReportOptions};
 use day_report::{report_as_json, report_as_text, report_for_people};
 use history_folder::{FolderWalk, read_folder};
 use past_rows::{ShiftFigures, ShiftRange};
-use program_io::exit_no_memory;
+use program_io::{FAULT, exit_no_memory};
 use site_base::{NoMemory, SiteConfig, Totals};
 use std::alloc::Global;
 use std::process::ExitCode;
@@ -36,7 +41,9 @@ fn report_all<R: Files + Print + Eprint + AllocGlobal>(
     rt: &R,
     folder: &str,
     form: ReportForm,
-) -> Result<(), ExitCode> {
+) -> Result<(), ExitCode>
+    ensures failed { IfErr result IsFailed }
+{
     let history = read_folder(rt, folder)?;
     match history.book.totals(rt.alloc()) {
         Ok(totals) => print_report(rt, history.book.config(), &totals, form),
@@ -50,24 +57,52 @@ fn report_shifts<R: Files + Print + Eprint + AllocGlobal>(
     folder: &str,
     form: ReportForm,
     shifts: ShiftRange,
-) -> Result<(), ExitCode> {
+) -> Result<(), ExitCode>
+    ensures failed { IfErr result IsFailed }
+{
     let mut walk = FolderWalk::open(rt, folder)?;
     let mut figures = ShiftFigures::new(shifts);
-    let mut is_left = true;
-    while is_left {
-        if figures.meet(rt.alloc(), walk.book()).is_err() {
-            return Err(exit_no_memory(rt));
-        }
-        is_left = walk.next(rt, folder)?.is_some();
-    }
+    meet_rows(rt, folder, &mut walk, &mut figures)?;
     let book = walk.book();
     check_shifts(rt, &Some(shifts), book.open_shift())?;
     match figures.totals(rt.alloc(), book) {
         Ok(Some(totals)) => print_report(rt, book.config(), &totals, form),
-        // The first of the shifts is there, since the last one is.
+        // The last of the shifts is there, and so is the first.
         Ok(None) => Ok(()),
         Err(NoMemory) => Err(exit_no_memory(rt)),
     }
+}
+
+/// Has the figures meet each moment of a folder's history.
+fn meet_rows<R: Files + Eprint + AllocGlobal>(
+    rt: &R,
+    folder: &str,
+    walk: &mut FolderWalk,
+    figures: &mut ShiftFigures,
+) -> Result<(), ExitCode>
+    requires begin { walk.old.reader.book.rows ≡ [] }
+    requires before { figures.old.before ≡ None }
+    requires after { figures.old.after ≡ None }
+    ensures whole { OnOk result (IsWhole walk.new) }
+    ensures met { OnOk result (HasMet figures.new walk.new.reader.book) }
+    ensures shifts { figures.new.shifts ≡ figures.old.shifts }
+    ensures failed { IfErr result IsFailed }
+{
+    match figures.meet(rt.alloc(), walk.book()) {
+        Ok(()) => {}
+        Err(NoMemory) => return Err(exit_no_memory(rt)),
+    }
+    for _ in 0..u64::MAX {
+        if walk.next(rt, folder)?.is_none() {
+            return Ok(());
+        }
+        match figures.meet(rt.alloc(), walk.book()) {
+            Ok(()) => {}
+            Err(NoMemory) => return Err(exit_no_memory(rt)),
+        }
+    }
+    // No history has so many rows.
+    Err(ExitCode::from(FAULT))
 }
 
 /// Prints the report of these figures.
@@ -76,7 +111,9 @@ fn print_report<R: Print + Eprint + AllocGlobal>(
     config: &SiteConfig,
     totals: &Totals,
     form: ReportForm,
-) -> Result<(), ExitCode> {
+) -> Result<(), ExitCode>
+    ensures failed { IfErr result IsFailed }
+{
     match report_text(rt.alloc(), config, totals, form) {
         Ok(mut text) => print_text(rt, &mut text),
         Err(NoMemory) => Err(exit_no_memory(rt)),

@@ -1,14 +1,17 @@
 //! `forecourt replay FOLDER [--changes] [--shift A[..B]]` and `forecourt explain FOLDER
 //! [--shift A[..B]]`.
 
+ghost use Rattle.std.specs.Prelude.{IfErr, OnOk};
 ghost use Rattle.chapters.specs.RowText.{IsSent};
+ghost use Rattle.history_folder.specs.Reading.{IsWhole};
+ghost use Rattle.program_io.specs.Statuses.{IsFailed};
 
 use crate::options::{check_shifts, is_asked, read_shifts};
 use crate::output::{print_piece, print_text};
 use command_line::ReplayOptions;
 use history_folder::FolderWalk;
 use past_rows::{ReplyLines, ShiftRange, put_words};
-use program_io::exit_no_memory;
+use program_io::{FAULT, exit_no_memory};
 use site_base::{NoMemory, Row};
 use std::alloc::Global;
 use std::process::ExitCode;
@@ -78,7 +81,9 @@ fn print_rows<R: Files + Print + Eprint + AllocGlobal>(
     folder: &str,
     shifts: &Option<ShiftRange>,
     form: &mut RowForm,
-) -> Result<(), ExitCode> {
+) -> Result<(), ExitCode>
+    ensures failed { IfErr result IsFailed }
+{
     let mut walk = FolderWalk::open(rt, folder)?;
     let mut text = Vec::new(rt.alloc());
     let ended = put_all(rt, folder, &mut walk, shifts, form, &mut text);
@@ -95,16 +100,20 @@ fn put_all<R: Files + Print + Eprint + AllocGlobal>(
     shifts: &Option<ShiftRange>,
     form: &mut RowForm,
     text: &mut Vec<u8>,
-) -> Result<(), ExitCode> {
+) -> Result<(), ExitCode>
+    ensures whole { OnOk result (IsWhole walk.new) }
+    ensures failed { IfErr result IsFailed }
+{
     for _ in 0..u64::MAX {
         let shift = walk.book().open_shift();
         let Some(row) = walk.next(rt, folder)? else {
-            break;
+            return Ok(());
         };
         if is_asked(shifts, shift) && form.put(rt.alloc(), &row, text).is_err() {
             return Err(exit_no_memory(rt));
         }
         print_piece(rt, text)?;
     }
-    Ok(())
+    // No history has so many rows.
+    Err(ExitCode::from(FAULT))
 }

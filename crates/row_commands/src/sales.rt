@@ -1,13 +1,19 @@
 //! `forecourt sales FOLDER [--draws] [--json] [--shift A[..B]]`.
 
+ghost use Rattle.std.specs.Prelude.{◌≡◌, [], IfErr, None, OnOk};
+ghost use Rattle.history_folder.specs.Reading.{IsWhole};
+ghost use Rattle.program_io.specs.Statuses.{IsFailed};
+ghost use Rattle.sales_table.specs.SoldLists.{AreNamesOf};
+
 use crate::options::{check_shifts, is_asked, read_shifts};
 use crate::output::print_text;
 use command_line::SalesOptions;
 use history_folder::FolderWalk;
 use past_rows::ShiftRange;
-use program_io::exit_no_memory;
+use program_io::{FAULT, exit_no_memory};
 use sales_table::{DrawReader, Form, SoldList, drawn_table, sold_table};
 use site_base::NoMemory;
+use site_book::Draw;
 use std::process::ExitCode;
 use std::rt::Files;
 
@@ -22,9 +28,9 @@ pub fn run_sales_folder<R: Files + Print + Eprint + AllocGlobal>(
     };
     let form = if options.json { Form::Json } else { Form::Csv };
     let printed = if options.draws {
-        print_draws(rt, options.site, form, shifts)
+        print_draws(rt, options.site, form, &shifts)
     } else {
-        print_sales(rt, options.site, form, shifts)
+        print_sales(rt, options.site, form, &shifts)
     };
     match printed {
         Ok(()) => ExitCode::SUCCESS,
@@ -37,24 +43,47 @@ fn print_sales<R: Files + Print + Eprint + AllocGlobal>(
     rt: &R,
     folder: &str,
     form: Form,
-    shifts: Option<ShiftRange>,
-) -> Result<(), ExitCode> {
+    shifts: &Option<ShiftRange>,
+) -> Result<(), ExitCode>
+    ensures failed { IfErr result IsFailed }
+{
     let mut walk = FolderWalk::open(rt, folder)?;
     let mut sold = SoldList::new(rt.alloc());
-    let mut is_left = true;
-    while is_left {
+    read_sales(rt, folder, shifts, &mut walk, &mut sold)?;
+    check_shifts(rt, shifts, walk.book().open_shift())?;
+    print_table(rt, sold_table(rt.alloc(), walk.book(), sold.as_slice(), form))
+}
+
+/// Reads the names of the sales that the rows of these shifts made.
+fn read_sales<R: Files + Eprint + AllocGlobal>(
+    rt: &R,
+    folder: &str,
+    shifts: &Option<ShiftRange>,
+    walk: &mut FolderWalk,
+    sold: &mut SoldList,
+) -> Result<(), ExitCode>
+    requires begin { walk.old.reader.book.rows ≡ [] }
+    requires none { sold.old ≡ [] }
+    ensures whole { OnOk result (IsWhole walk.new) }
+    ensures all { shifts.now ≡ None → OnOk result (AreNamesOf sold.new walk.new.reader.book) }
+    ensures failed { IfErr result IsFailed }
+{
+    for _ in 0..u64::MAX {
         let shift = walk.book().open_shift();
-        match walk.next(rt, folder)? {
-            Some(row) => {
-                if is_asked(&shifts, shift) && sold.add(&row, shift).is_err() {
-                    return Err(exit_no_memory(rt));
-                }
+        // The rows are a legal history.
+        walk.book().len();
+        let Some(row) = walk.next(rt, folder)? else {
+            return Ok(());
+        };
+        if is_asked(shifts, shift) {
+            match sold.add(&row, shift) {
+                Ok(()) => {}
+                Err(NoMemory) => return Err(exit_no_memory(rt)),
             }
-            None => is_left = false,
         }
     }
-    check_shifts(rt, &shifts, walk.book().open_shift())?;
-    print_table(rt, sold_table(rt.alloc(), walk.book(), sold.as_slice(), form))
+    // No history has so many rows.
+    Err(ExitCode::from(FAULT))
 }
 
 /// Prints what the tests of these shifts drew.
@@ -62,40 +91,68 @@ fn print_draws<R: Files + Print + Eprint + AllocGlobal>(
     rt: &R,
     folder: &str,
     form: Form,
-    shifts: Option<ShiftRange>,
-) -> Result<(), ExitCode> {
+    shifts: &Option<ShiftRange>,
+) -> Result<(), ExitCode>
+    ensures failed { IfErr result IsFailed }
+{
     let mut walk = FolderWalk::open(rt, folder)?;
+    let mut draws = Vec::new(rt.alloc());
+    read_draws(rt, folder, shifts, &mut walk, &mut draws)?;
+    check_shifts(rt, shifts, walk.book().open_shift())?;
+    let products = walk.book().config().products();
+    print_table(rt, drawn_table(rt.alloc(), products, &draws, form))
+}
+
+/// Reads what the tests of these shifts drew.
+fn read_draws<R: Files + Eprint + AllocGlobal>(
+    rt: &R,
+    folder: &str,
+    shifts: &Option<ShiftRange>,
+    walk: &mut FolderWalk,
+    draws: &mut Vec<Draw>,
+) -> Result<(), ExitCode>
+    ensures whole { OnOk result (IsWhole walk.new) }
+    ensures failed { IfErr result IsFailed }
+{
     let mut reader = match DrawReader::open(rt.alloc(), walk.book().config()) {
         Ok(reader) => reader,
-        Err(_) => return Err(exit_no_memory(rt)),
+        Err(NoMemory) => return Err(exit_no_memory(rt)),
     };
-    let mut draws = Vec::new(rt.alloc());
-    let mut is_left = true;
-    while is_left {
+    for _ in 0..u64::MAX {
         let Some(row) = walk.next(rt, folder)? else {
-            is_left = false;
-            continue;
+            return Ok(());
         };
         let draw = match reader.read(&row) {
             Ok(draw) => draw,
-            Err(_) => return Err(exit_no_memory(rt)),
+            Err(NoMemory) => return Err(exit_no_memory(rt)),
         };
-        if let Some(draw) = draw {
-            if is_asked(&shifts, draw.shift) && draws.push(draw).is_err() {
-                return Err(exit_no_memory(rt));
-            }
+        if add_draw(shifts, draw, draws).is_err() {
+            return Err(exit_no_memory(rt));
         }
     }
-    check_shifts(rt, &shifts, walk.book().open_shift())?;
-    let products = walk.book().config().products();
-    print_table(rt, drawn_table(rt.alloc(), products, &draws, form))
+    // No history has so many rows.
+    Err(ExitCode::from(FAULT))
+}
+
+/// Adds a draw, if there is one and its shift is asked for.
+fn add_draw(
+    shifts: &Option<ShiftRange>,
+    draw: Option<Draw>,
+    draws: &mut Vec<Draw>,
+) -> Result<(), NoMemory> {
+    match draw {
+        Some(draw) if is_asked(shifts, draw.shift) => Ok(draws.push(draw)?),
+        _ => Ok(()),
+    }
 }
 
 /// Prints a table, if there was memory for it.
 fn print_table(
     rt: &(impl Print + Eprint),
     table: Result<Vec<u8>, NoMemory>,
-) -> Result<(), ExitCode> {
+) -> Result<(), ExitCode>
+    ensures failed { IfErr result IsFailed }
+{
     match table {
         Ok(mut text) => print_text(rt, &mut text),
         Err(NoMemory) => Err(exit_no_memory(rt)),
