@@ -1,8 +1,9 @@
 -- The rows before a shift.
 use Rattle.std.proofs.Common.{◌≡◌, ◌≢◌, ◌∙◌, ◌≤◌, ◌<◌, ◌+◌, ℕ, Bool, true, false, not, List, []}
 use Rattle.std.proofs.Common.{◌∷◌, ◌++◌, Option, Some, None, Result, Ok, Err, ap, arith, nat_le, refl}
-use Rattle.std.proofs.Common.{subst, sym}
+use Rattle.std.proofs.Common.{length, subst, sym}
 use Rattle.std.specs.Prelude.{OnOk, if◌then◌else◌, is_some}
+use Rattle.std.specs.List.{cons_option}
 use Rattle.site_base.specs.declared.row.Row.{Row}
 use Rattle.site_base.specs.declared.totals.Totals.{Totals}
 use Rattle.site_base.specs.Configured.{Configured}
@@ -12,7 +13,12 @@ use Rattle.written_site.specs.SiteState.{open_shift, opening}
 use Rattle.written_site.proofs.SigningLaws.{shift_by_rows}
 use Rattle.site_book.specs.Book.{Book, whole_book}
 use Rattle.site_book.specs.Figures.{AreFiguresOf}
-use Rattle.past_rows.specs.ShiftFigures.{AreOfRowsBefore, IsNextBook, IsTaken, shift_behind}
+use Rattle.site_base.specs.declared.view.ProductView.{ProductView}
+use Rattle.site_book.proofs.ProductCounts.{one_for_each_product}
+use Rattle.past_rows.specs.declared.shifts.ShiftRange.{ShiftRange}
+use Rattle.past_rows.specs.FiguresBetween.{products_between}
+use Rattle.past_rows.specs.ShiftFigures.{AreOfRowsBefore, AreOfShifts, IsNextBook, IsTaken}
+use Rattle.past_rows.specs.ShiftFigures.{shift_behind}
 use Rattle.past_rows.specs.ShiftFigures.{until_from, until_shift}
 
 -- the shift that is open behind rows, where shift h was before them
@@ -141,3 +147,32 @@ is_taken o t is wrong = λ none. absurd (cc (sym (ap is_some none) ∙ is ∙ ap
 pub on_ok_then : {T E : Type 0} (r : Result T E) (A B : Type 0) → (A → B) → OnOk r A → OnOk r B
 on_ok_then (Ok x) A B next is = next is
 on_ok_then (Err e) A B next is = is
+
+-- ---- products
+
+products_both : (n : ℕ) (before after : List ProductView) → length before ≡ n → length after ≡ n
+    → length (products_between before after) ≡ n
+products_both n [] after one two = one
+products_both n (b ∷ before) [] one two = two
+products_both n (b ∷ before) (a ∷ after) one two =
+    let rest = products_both (length before) before after refl (omega (arith, one, two)) in
+    omega (arith, rest, one)
+
+-- the figures of shifts have one member for each product
+pub products_of_shifts : (shifts : ShiftRange) (b : Book) (totals : Totals)
+    → AreOfShifts shifts b totals → length totals.products ≡ length b.config.products
+products_of_shifts shifts b totals are =
+    let earlier = whole_book b.config (until_shift shifts.first b.rows) in
+    let later = whole_book b.config (until_shift (shifts.last + 1) b.rows) in
+    ap (λ (t : Totals). length t.products) are.between
+    ∙ products_both (length b.config.products) are.before.products are.after.products
+    (one_for_each_product earlier are.before are.begins)
+    (one_for_each_product later are.after are.ends)
+
+-- ---- row after row
+
+pub next_book : (earlier b : Book) (row : Option Row) → is_some row ≡ true
+    → b.config ≡ earlier.config → b.rows ≡ earlier.rows ++ cons_option row []
+    → IsNextBook earlier b
+next_book earlier b None some config rows = absurd (cc some)
+next_book earlier b (Some r) some config rows = record { row = r; config = config; rows = rows }

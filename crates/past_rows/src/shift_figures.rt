@@ -1,6 +1,7 @@
 //! The figures of some shifts of a history, taken while its book goes on.
 
 ghost use Rattle.std.specs.Prelude.{◌≡◌, ◌+◌, ◌∷◌, ◌++◌, [], IfOk, IfNone, IfSome, None, OnOk};
+ghost use Rattle.std.specs.Prelude.{length};
 ghost use Rattle.site_base.specs.declared.row.Row.{Row as RowFacts};
 ghost use Rattle.site_book.specs.Book.{Book};
 ghost use Rattle.past_rows.specs.ShiftFigures.{AreOfShifts, HasMet, IsBefore, IsNextBook, IsTaken};
@@ -60,6 +61,8 @@ impl ShiftFigures {
     pub fn totals(&self, alloc: Global, book: &SiteBook) -> Result<Option<Totals>, NoMemory>
         ensures figures { IfOk result (λ found. HasMet self.now book.now
             → IfSome found (AreOfShifts self.now.shifts book.now)) }
+        ensures products { IfOk result (λ found. HasMet self.now book.now → IfSome found
+            (λ totals. length totals.products ≡ length book.now.config.products)) }
         ensures none { IfOk result (λ found. HasMet self.now book.now
             → IfNone found (IsBefore self.now.shifts book.now)) }
     {

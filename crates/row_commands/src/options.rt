@@ -1,7 +1,7 @@
 //! The shifts that a command is asked for.
 
-ghost use Rattle.std.specs.Prelude.{◌≡◌, ◌&&◌, IfErr, IfSome, None, nat_le, true};
-ghost use Rattle.program_io.specs.Statuses.{IsFailed};
+ghost use Rattle.std.specs.Prelude.{◌≡◌, ◌≤◌, ◌&&◌, IfErr, IfSome, None, OnOk, nat_le, true};
+ghost use Rattle.std.specs.Process.{exit_status};
 
 use past_rows::ShiftRange;
 use program_io::{COMMAND_LINE, FAULT, exit_with};
@@ -10,7 +10,7 @@ use std::process::ExitCode;
 
 /// The shifts that the value of `--shift` says, all without one; or how the program ends.
 pub fn read_shifts(rt: &impl Eprint, word: Option<&str>) -> Result<Option<ShiftRange>, ExitCode>
-    ensures failed { IfErr result IsFailed }
+    ensures { IfErr result (λ status. exit_status status ≡ COMMAND_LINE) }
 {
     let Some(word) = word else {
         return Ok(None);
@@ -36,23 +36,36 @@ pub fn is_asked(shifts: &Option<ShiftRange>, shift: ShiftNo) -> bool
     }
 }
 
-/// How the program ends where the last of these shifts isn't there yet, behind a history whose open
-/// shift is this one.
+/// How the program ends where the last of these shifts isn't there yet.
 pub fn check_shifts(
     rt: &impl Eprint,
     shifts: &Option<ShiftRange>,
-    open: ShiftNo,
+    open_shift: ShiftNo,
 ) -> Result<(), ExitCode>
-    ensures failed { IfErr result IsFailed }
+    ensures there { OnOk result (IfSome shifts.now (λ asked. asked.last ≤ open_shift)) }
+    ensures failed { IfErr result (λ status. exit_status status ≡ FAULT) }
 {
     match shifts {
-        Some(shifts) if shifts.last.get() > open.get() => {
-            let (last, open) = (shifts.last.get(), open.get());
-            Err(exit_with(
-                eprintln!(rt; "shift {last} isn't there: shift {open} is open"),
-                FAULT,
-            ))
-        }
-        _ => Ok(()),
+        Some(shifts) => check_there(rt, shifts.last, open_shift),
+        None => Ok(()),
     }
+}
+
+/// How the program ends where this shift isn't there yet.
+pub fn check_there(
+    rt: &impl Eprint,
+    shift: ShiftNo,
+    open_shift: ShiftNo,
+) -> Result<(), ExitCode>
+    ensures there { OnOk result (shift ≤ open_shift) }
+    ensures failed { IfErr result (λ status. exit_status status ≡ FAULT) }
+{
+    let (shift, open_shift) = (shift.get(), open_shift.get());
+    if shift <= open_shift {
+        return Ok(());
+    }
+    Err(exit_with(
+        eprintln!(rt; "shift {shift} isn't there: shift {open_shift} is open"),
+        FAULT,
+    ))
 }

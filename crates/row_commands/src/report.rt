@@ -1,11 +1,10 @@
 //! `forecourt report FOLDER [--human | --json] [--shift A[..B]]`.
 
-ghost use Rattle.std.specs.Prelude.{◌≡◌, [], IfErr, None, OnOk};
+ghost use Rattle.std.specs.Prelude.{◌≡◌, [], None, OnOk, length};
 ghost use Rattle.history_folder.specs.Reading.{IsWhole};
 ghost use Rattle.past_rows.specs.ShiftFigures.{HasMet};
-ghost use Rattle.program_io.specs.Statuses.{IsFailed};
 
-use crate::options::{check_shifts, read_shifts};
+use crate::options::{check_there, read_shifts};
 use crate::output::print_text;
 use command_line::{ReportForm, ReportOptions};
 use day_report::{report_as_json, report_as_text, report_for_people};
@@ -41,9 +40,7 @@ fn report_all<R: Files + Print + Eprint + AllocGlobal>(
     rt: &R,
     folder: &str,
     form: ReportForm,
-) -> Result<(), ExitCode>
-    ensures failed { IfErr result IsFailed }
-{
+) -> Result<(), ExitCode> {
     let history = read_folder(rt, folder)?;
     match history.book.totals(rt.alloc()) {
         Ok(totals) => print_report(rt, history.book.config(), &totals, form),
@@ -57,14 +54,13 @@ fn report_shifts<R: Files + Print + Eprint + AllocGlobal>(
     folder: &str,
     form: ReportForm,
     shifts: ShiftRange,
-) -> Result<(), ExitCode>
-    ensures failed { IfErr result IsFailed }
-{
+) -> Result<(), ExitCode> {
     let mut walk = FolderWalk::open(rt, folder)?;
+    let last = shifts.last;
     let mut figures = ShiftFigures::new(shifts);
     meet_rows(rt, folder, &mut walk, &mut figures)?;
     let book = walk.book();
-    check_shifts(rt, &Some(shifts), book.open_shift())?;
+    check_there(rt, last, book.open_shift())?;
     match figures.totals(rt.alloc(), book) {
         Ok(Some(totals)) => print_report(rt, book.config(), &totals, form),
         // The last of the shifts is there, and so is the first.
@@ -86,7 +82,6 @@ fn meet_rows<R: Files + Eprint + AllocGlobal>(
     ensures whole { OnOk result (IsWhole walk.new) }
     ensures met { OnOk result (HasMet figures.new walk.new.reader.book) }
     ensures shifts { figures.new.shifts ≡ figures.old.shifts }
-    ensures failed { IfErr result IsFailed }
 {
     match figures.meet(rt.alloc(), walk.book()) {
         Ok(()) => {}
@@ -112,7 +107,7 @@ fn print_report<R: Print + Eprint + AllocGlobal>(
     totals: &Totals,
     form: ReportForm,
 ) -> Result<(), ExitCode>
-    ensures failed { IfErr result IsFailed }
+    requires { length totals.now.products ≡ length config.now.products }
 {
     match report_text(rt.alloc(), config, totals, form) {
         Ok(mut text) => print_text(rt, &mut text),
@@ -126,7 +121,9 @@ fn report_text(
     config: &SiteConfig,
     totals: &Totals,
     form: ReportForm,
-) -> Result<Vec<u8>, NoMemory> {
+) -> Result<Vec<u8>, NoMemory>
+    requires { length totals.now.products ≡ length config.now.products }
+{
     match form {
         ReportForm::Lines => Ok(report_as_text(alloc, config, totals, 0)?.into_bytes()),
         ReportForm::People => report_for_people(alloc, config.products(), totals),

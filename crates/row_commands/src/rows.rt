@@ -1,10 +1,9 @@
 //! `forecourt replay FOLDER [--changes] [--shift A[..B]]` and `forecourt explain FOLDER
 //! [--shift A[..B]]`.
 
-ghost use Rattle.std.specs.Prelude.{IfErr, OnOk};
+ghost use Rattle.std.specs.Prelude.{OnOk};
 ghost use Rattle.chapters.specs.RowText.{IsSent};
 ghost use Rattle.history_folder.specs.Reading.{IsWhole};
-ghost use Rattle.program_io.specs.Statuses.{IsFailed};
 
 use crate::options::{check_shifts, is_asked, read_shifts};
 use crate::output::{print_piece, print_text};
@@ -81,15 +80,15 @@ fn print_rows<R: Files + Print + Eprint + AllocGlobal>(
     folder: &str,
     shifts: &Option<ShiftRange>,
     form: &mut RowForm,
-) -> Result<(), ExitCode>
-    ensures failed { IfErr result IsFailed }
-{
+) -> Result<(), ExitCode> {
     let mut walk = FolderWalk::open(rt, folder)?;
     let mut text = Vec::new(rt.alloc());
     let ended = put_all(rt, folder, &mut walk, shifts, form, &mut text);
     print_text(rt, &mut text)?;
-    ended?;
-    check_shifts(rt, shifts, walk.book().open_shift())
+    match ended {
+        Ok(()) => check_shifts(rt, shifts, walk.book().open_shift()),
+        Err(status) => Err(status),
+    }
 }
 
 /// Puts the rows of these shifts into the text, which is printed piece after piece.
@@ -101,8 +100,7 @@ fn put_all<R: Files + Print + Eprint + AllocGlobal>(
     form: &mut RowForm,
     text: &mut Vec<u8>,
 ) -> Result<(), ExitCode>
-    ensures whole { OnOk result (IsWhole walk.new) }
-    ensures failed { IfErr result IsFailed }
+    ensures { OnOk result (IsWhole walk.new) }
 {
     for _ in 0..u64::MAX {
         let shift = walk.book().open_shift();

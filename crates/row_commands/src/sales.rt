@@ -1,9 +1,7 @@
 //! `forecourt sales FOLDER [--draws] [--json] [--shift A[..B]]`.
 
-ghost use Rattle.std.specs.Prelude.{◌≡◌, [], IfErr, None, OnOk};
+ghost use Rattle.std.specs.Prelude.{OnOk};
 ghost use Rattle.history_folder.specs.Reading.{IsWhole};
-ghost use Rattle.program_io.specs.Statuses.{IsFailed};
-ghost use Rattle.sales_table.specs.SoldLists.{AreNamesOf};
 
 use crate::options::{check_shifts, is_asked, read_shifts};
 use crate::output::print_text;
@@ -44,9 +42,7 @@ fn print_sales<R: Files + Print + Eprint + AllocGlobal>(
     folder: &str,
     form: Form,
     shifts: &Option<ShiftRange>,
-) -> Result<(), ExitCode>
-    ensures failed { IfErr result IsFailed }
-{
+) -> Result<(), ExitCode> {
     let mut walk = FolderWalk::open(rt, folder)?;
     let mut sold = SoldList::new(rt.alloc());
     read_sales(rt, folder, shifts, &mut walk, &mut sold)?;
@@ -62,16 +58,10 @@ fn read_sales<R: Files + Eprint + AllocGlobal>(
     walk: &mut FolderWalk,
     sold: &mut SoldList,
 ) -> Result<(), ExitCode>
-    requires begin { walk.old.reader.book.rows ≡ [] }
-    requires none { sold.old ≡ [] }
-    ensures whole { OnOk result (IsWhole walk.new) }
-    ensures all { shifts.now ≡ None → OnOk result (AreNamesOf sold.new walk.new.reader.book) }
-    ensures failed { IfErr result IsFailed }
+    ensures { OnOk result (IsWhole walk.new) }
 {
     for _ in 0..u64::MAX {
         let shift = walk.book().open_shift();
-        // The rows are a legal history.
-        walk.book().len();
         let Some(row) = walk.next(rt, folder)? else {
             return Ok(());
         };
@@ -92,9 +82,7 @@ fn print_draws<R: Files + Print + Eprint + AllocGlobal>(
     folder: &str,
     form: Form,
     shifts: &Option<ShiftRange>,
-) -> Result<(), ExitCode>
-    ensures failed { IfErr result IsFailed }
-{
+) -> Result<(), ExitCode> {
     let mut walk = FolderWalk::open(rt, folder)?;
     let mut draws = Vec::new(rt.alloc());
     read_draws(rt, folder, shifts, &mut walk, &mut draws)?;
@@ -111,8 +99,7 @@ fn read_draws<R: Files + Eprint + AllocGlobal>(
     walk: &mut FolderWalk,
     draws: &mut Vec<Draw>,
 ) -> Result<(), ExitCode>
-    ensures whole { OnOk result (IsWhole walk.new) }
-    ensures failed { IfErr result IsFailed }
+    ensures { OnOk result (IsWhole walk.new) }
 {
     let mut reader = match DrawReader::open(rt.alloc(), walk.book().config()) {
         Ok(reader) => reader,
@@ -150,9 +137,7 @@ fn add_draw(
 fn print_table(
     rt: &(impl Print + Eprint),
     table: Result<Vec<u8>, NoMemory>,
-) -> Result<(), ExitCode>
-    ensures failed { IfErr result IsFailed }
-{
+) -> Result<(), ExitCode> {
     match table {
         Ok(mut text) => print_text(rt, &mut text),
         Err(NoMemory) => Err(exit_no_memory(rt)),

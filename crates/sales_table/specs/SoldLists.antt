@@ -1,10 +1,7 @@
 -- The sales of a history whose rows are read one after another, and what they drew in tests.
-use Rattle.std.specs.Prelude.{◌≡◌, ℕ, List, [], ◌++◌, Option, Some, None, filter_map, flat_map}
-use Rattle.std.specs.Prelude.{option_map}
+use Rattle.std.specs.Prelude.{ℕ, List, [], ◌++◌, Option, Some, None, flat_map}
 use Rattle.site_base.specs.declared.config.ProductEntry.{ProductEntry}
 use Rattle.transaction_buffer.specs.Sales.{Key, key}
-use Rattle.written_site.specs.Histories.{Moment, moments_of}
-use Rattle.written_site.specs.SaleWords.{sold_as}
 use Rattle.site_book.specs.declared.draw.Draw.{Draw}
 use Rattle.site_book.specs.declared.named_sale.NamedSale.{NamedSale}
 use Rattle.site_book.specs.Book.{Book, site_of_book}
@@ -22,14 +19,6 @@ key_of n = key n.shift n.point n.number
 -- the name of a sale with this key
 abbrev pub name_of_key : Key → SaleName
 name_of_key k = record { shift = k.shift; point = k.point; number = k.number }
-
--- the name of the sale that a moment made, if it made one
-abbrev pub name_made : Moment → Option SaleName
-name_made m = option_map name_of_key (sold_as m)
-
--- these are the names of the sales that the book's rows made, in order
-abbrev pub AreNamesOf : List SaleName → Book → Type 0
-AreNamesOf names b = names ≡ filter_map name_made (moments_of b.config b.rows)
 
 -- ---- tables
 

@@ -1,7 +1,7 @@
 use Rattle.std.proofs.Common.{◌≡◌, ◌∙◌, ◌+◌, None, Option, Some, ap, subst, sym}
 use Rattle.site_base.specs.declared.totals.Totals.{Totals}
 use Rattle.past_rows.specs.ShiftFigures.{FiguresState, IsTaken}
-use Rattle.past_rows.proofs.RowsBefore.{ends_taken}
+use Rattle.past_rows.proofs.RowsBefore.{ends_taken, products_of_shifts}
 use Rattle.past_rows.proofs.shift_figures.ShiftFigures.totals.Goals.{in-Some-after+in_ok-totals-in-Some-after}
 use Rattle.past_rows.proofs.shift_figures.ShiftFigures.totals.Goals.{in-None+in_ok-totals-in-None+in_ok-totals-in-None-2}
 use Rattle.past_rows.proofs.shift_figures.ShiftFigures.totals.Goals as goal
@@ -33,3 +33,8 @@ returns-clause-figures c = λ met.
           between = w.totals-is ∙ w.in_ok-totals-in-None-2.ensures;
         }
     ]
+
+pub returns-clause-products : goal.returns-clause-products
+returns-clause-products c = λ met.
+    products_of_shifts c.args.self.now.shifts c.args.book.now c.match-self-2.totals
+    (returns-clause-figures c met)
