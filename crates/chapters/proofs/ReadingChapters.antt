@@ -391,8 +391,7 @@ whole_parts text rest n few is whole within more =
     let front : take (at + n) text ≡ take at text ++ take n rest =
     ap (take (at + n)) parts
     ∙ ap (λ (m : ℕ). take (m + n) (take at text ++ rest)) (sym size)
-    ∙ take-append-add (take at text) rest n in
-    (
+    ∙ take-append-add (take at text) rest n in (
       sym (ap (λ (m : ℕ). drop m text) here
           ∙ ap (drop (at + n)) parts
           ∙ ap (λ (m : ℕ). drop (m + n) (take at text ++ rest)) (sym size)

@@ -10,9 +10,7 @@ use offline_commands::{
     run_check, run_explain, run_replay, run_replay_here, run_report, run_sales, run_spell,
 };
 use program_io::{COMMAND_LINE, exit_no_memory, exit_unwritten, exit_with, is_folder};
-use row_commands::{
-    run_explain_folder, run_replay_folder, run_report_folder, run_sales_folder,
-};
+use row_commands::{run_explain_folder, run_replay_folder, run_report_folder, run_sales_folder};
 use shift_commands::{run_next, run_shifts};
 use station_command::run_station;
 use std::env;

@@ -117,8 +117,7 @@ stays_taken n earlier b None some so next = absurd (some refl)
 stays_taken n earlier b (Some totals) some so next =
     let less = count_less earlier.rows (next.row ∷ []) in
     let rows : until_shift n b.rows ≡ until_shift n earlier.rows =
-    ap (until_shift n) next.rows ∙ rows_stay n 1 earlier.rows (next.row ∷ []) so.0 in
-    (
+    ap (until_shift n) next.rows ∙ rows_stay n 1 earlier.rows (next.row ∷ []) so.0 in (
       subst (λ (xs : List Row). n ≤ open_after xs) (sym next.rows) (omega (arith, less, so.0)),
       subst (λ (c : Configured). AreFiguresOf (whole_book c (until_shift n b.rows)) totals)
           (sym next.config)

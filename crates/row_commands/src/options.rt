@@ -18,7 +18,9 @@ pub fn read_shifts(rt: &impl Eprint, word: Option<&str>) -> Result<Option<ShiftR
     match ShiftRange::parse(word) {
         Some(shifts) => Ok(Some(shifts)),
         None => Err(exit_with(
-            eprintln!(rt; "error: '--shift {word}' says no shifts: give one, as 3, or several, as 3..5"),
+            eprintln!(rt;
+                "error: '--shift {word}' says no shifts: give one, as 3, or several, as 3..5"
+            ),
             COMMAND_LINE,
         )),
     }
@@ -52,11 +54,7 @@ pub fn check_shifts(
 }
 
 /// How the program ends where this shift isn't there yet.
-pub fn check_there(
-    rt: &impl Eprint,
-    shift: ShiftNo,
-    open_shift: ShiftNo,
-) -> Result<(), ExitCode>
+pub fn check_there(rt: &impl Eprint, shift: ShiftNo, open_shift: ShiftNo) -> Result<(), ExitCode>
     ensures there { OnOk result (shift ≤ open_shift) }
     ensures failed { IfErr result (λ status. exit_status status ≡ FAULT) }
 {

@@ -47,7 +47,10 @@ fn print_sales<R: Files + Print + Eprint + AllocGlobal>(
     let mut sold = SoldList::new(rt.alloc());
     read_sales(rt, folder, shifts, &mut walk, &mut sold)?;
     check_shifts(rt, shifts, walk.book().open_shift())?;
-    print_table(rt, sold_table(rt.alloc(), walk.book(), sold.as_slice(), form))
+    print_table(
+        rt,
+        sold_table(rt.alloc(), walk.book(), sold.as_slice(), form),
+    )
 }
 
 /// Reads the names of the sales that the rows of these shifts made.

@@ -75,10 +75,12 @@ fn sale_named(row: &Row, shift: ShiftNo) -> Option<SaleName>
         ≡ option_map name_of_key (key_sold earlier (point_named row.now.event)
         (number_sold row.now.reply)) }
 {
-    let Ok(Answer::Sold {
-        seq: number,
-        growth: _,
-    }) = row.reply
+    let Ok(
+        Answer::Sold {
+            seq: number,
+            growth: _,
+        },
+    ) = row.reply
     else {
         return None;
     };

@@ -37,8 +37,12 @@ loop-end-preserved c =
     → AreRead n x (line ∷ []) c.read_line.new.self) c.split_at.ensures.front
     (c.in_ok-read_line.ensures.right (ap is_right c.in-NoRow.is)))
     (λ small. c.read_line.ensures.number
-    ∙ omega (arith, small, c.saturating_add-self-inside.ensures,
-    ap (λ (s : ReaderState). s.line) c.self.view_is)) in
+    ∙ omega (
+      arith,
+      small,
+      c.saturating_add-self-inside.ensures,
+      ap (λ (s : ReaderState). s.line) c.self.view_is,
+    )) in
     rw (c.split_at.ensures.back, others)
     (reads_more c.args.text.now rest (drop (suc c.in-Some.end) rest) c.args.self.now c.loop-end.self
     c.read_line.new.self c.loop-end.invariant one
@@ -74,8 +78,12 @@ returns-in-Row-clause-reads c = λ texts whole i.
     → AreRead n x (line ∷ []) c.read_line.new.self) c.split_at.ensures.front
     (c.in_ok-read_line.ensures.right (ap is_right c.in-Row.is)))
     (λ small. c.read_line.ensures.number
-    ∙ omega (arith, small, c.saturating_add-self-inside.ensures,
-    ap (λ (s : ReaderState). s.line) c.self.view_is)) in
+    ∙ omega (
+      arith,
+      small,
+      c.saturating_add-self-inside.ensures,
+      ap (λ (s : ReaderState). s.line) c.self.view_is,
+    )) in
     rw (c.split_at.ensures.back, others)
     (reading_line texts whole c.args.text.now (drop (suc c.in-Some.end) rest) c.args.self.now
     c.read_line.new.self i
@@ -104,8 +112,12 @@ returns-in-Row-clause-whole c =
     → AreRead n x (line ∷ []) c.read_line.new.self) c.split_at.ensures.front
     (c.in_ok-read_line.ensures.right (ap is_right c.in-Row.is)))
     (λ small. c.read_line.ensures.number
-    ∙ omega (arith, small, c.saturating_add-self-inside.ensures,
-    ap (λ (s : ReaderState). s.line) c.self.view_is)) in
+    ∙ omega (
+      arith,
+      small,
+      c.saturating_add-self-inside.ensures,
+      ap (λ (s : ReaderState). s.line) c.self.view_is,
+    )) in
     rw (c.split_at.ensures.back, others)
     (ap unfinished (ahead_of c.args.text.now one.done (drop (suc c.in-Some.end) rest) one.parts)
     ∙ one.whole)
@@ -138,8 +150,12 @@ returns-in-Wrong-clause-refused c = λ of_text texts whole i.
     (keeps_same n x c.loop-end.self mid (ap (λ (s : ReaderState). s.book) c.self.view_is)
     (ap (λ (s : ReaderState). s.end) c.self.view_is) keeps)))
     (λ small. ap (λ (s : ReaderState). s.line) c.self-in-Some.view_is ∙ c.read_line.ensures.number
-    ∙ omega (arith, small, c.saturating_add-self-inside.ensures,
-    ap (λ (s : ReaderState). s.line) c.self.view_is))
+    ∙ omega (
+      arith,
+      small,
+      c.saturating_add-self-inside.ensures,
+      ap (λ (s : ReaderState). s.line) c.self.view_is,
+    ))
     (ap (λ (n : ℕ). Line n c.self-in-Some.inside.line)
     (c.chapters.ensures.count ∙ ap (λ (s : ReaderState). s.end.chapters) c.self-in-Some.view_is
     ∙ c.read_line.ensures.chapters ∙ ap (λ (s : ReaderState). s.end.chapters) c.self.view_is)))
@@ -172,8 +188,12 @@ returns-in-Wrong-clause-named c = λ of_text texts whole i.
     (keeps_same n x c.loop-end.self mid (ap (λ (s : ReaderState). s.book) c.self.view_is)
     (ap (λ (s : ReaderState). s.end) c.self.view_is) keeps)))
     (λ small. ap (λ (s : ReaderState). s.line) c.self-in-Some.view_is ∙ c.read_line.ensures.number
-    ∙ omega (arith, small, c.saturating_add-self-inside.ensures,
-    ap (λ (s : ReaderState). s.line) c.self.view_is))
+    ∙ omega (
+      arith,
+      small,
+      c.saturating_add-self-inside.ensures,
+      ap (λ (s : ReaderState). s.line) c.self.view_is,
+    ))
     (ap (λ (n : ℕ). Line n c.self-in-Some.inside.line)
     (c.chapters.ensures.count ∙ ap (λ (s : ReaderState). s.end.chapters) c.self-in-Some.view_is
     ∙ c.read_line.ensures.chapters ∙ ap (λ (s : ReaderState). s.end.chapters) c.self.view_is)))

@@ -14,24 +14,24 @@ returns-clause-figures c = λ met.
     (sym (ap (λ (f : FiguresState). f.before) c.self.view_is) ∙ c.in-Some.is) met.before in
     elim c.match-self-2.branch [
       | in-Some-after+in_ok-totals-in-Some-after w ↦ record {
-          before = c.in-Some.before;
-          after = w.in-Some-after.after;
-          begins = before.1;
-          ends = (subst (λ (o : Option Totals). IsTaken (shifts.last + 1) b o)
-              (sym (ap (λ (f : FiguresState). f.after) c.self.view_is) ∙ w.in-Some-after.is)
-              met.after).1;
-          between = w.totals-is ∙ w.in_ok-totals-in-Some-after.ensures;
-        }
+        before = c.in-Some.before;
+        after = w.in-Some-after.after;
+        begins = before.1;
+        ends = (subst (λ (o : Option Totals). IsTaken (shifts.last + 1) b o)
+            (sym (ap (λ (f : FiguresState). f.after) c.self.view_is) ∙ w.in-Some-after.is)
+            met.after).1;
+        between = w.totals-is ∙ w.in_ok-totals-in-Some-after.ensures;
+      }
       | in-None+in_ok-totals-in-None+in_ok-totals-in-None-2 w ↦ record {
-          before = c.in-Some.before;
-          after = w.in_ok-totals-in-None.field-0;
-          begins = before.1;
-          ends = ends_taken (shifts.last + 1) b w.in_ok-totals-in-None.field-0
-              (subst (λ (o : Option Totals). IsTaken (shifts.last + 1) b o)
-              (sym (ap (λ (f : FiguresState). f.after) c.self.view_is) ∙ w.in-None.is) met.after)
-              w.in_ok-totals-in-None.ensures.figures;
-          between = w.totals-is ∙ w.in_ok-totals-in-None-2.ensures;
-        }
+        before = c.in-Some.before;
+        after = w.in_ok-totals-in-None.field-0;
+        begins = before.1;
+        ends = ends_taken (shifts.last + 1) b w.in_ok-totals-in-None.field-0
+            (subst (λ (o : Option Totals). IsTaken (shifts.last + 1) b o)
+            (sym (ap (λ (f : FiguresState). f.after) c.self.view_is) ∙ w.in-None.is) met.after)
+            w.in_ok-totals-in-None.ensures.figures;
+        between = w.totals-is ∙ w.in_ok-totals-in-None-2.ensures;
+      }
     ]
 
 pub returns-clause-products : goal.returns-clause-products
