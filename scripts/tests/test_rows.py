@@ -86,8 +86,7 @@ def end(day):
 
 
 def spell_rows(chance, count):
-    """The lines of so many random requests whose rows are kept. They come from few tills and points,
-    so that some are accepted."""
+    """The lines of the rows that are kept of so many random requests."""
     words = ["t1 SignOn", "t1 Open 1"]
     while len(words) < count:
         words.append(random_words.choose_event(chance))
@@ -224,10 +223,9 @@ def expect_shifts(folder, word, shifts, sales, draws, told, reports):
     expect(f"{word}: replies", print_of(folder, "replay", "--shift", word).decode(), replies)
     words = print_of(folder, "explain", "--shift", word).decode().splitlines()
     expect(f"{word}: words", len(words), len(rows))
-    is_last_unpaid = {(3, 3)}
     lines = list(csv.DictReader(print_of(folder, "sales", "--shift", word).decode().splitlines()))
     wanted = [
-        (str(at), str(number), str(volume), "payable" if (at, number) in is_last_unpaid else "cleared")
+        (str(at), str(number), str(volume), "payable" if (at, number) == (3, 3) else "cleared")
         for at, number, volume in sales if at in shifts
     ]  # fmt: skip
     got = [(one["shift"], one["number"], one["millilitres"], one["status"]) for one in lines]

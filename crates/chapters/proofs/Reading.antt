@@ -1,5 +1,6 @@
 -- Lines that a reader has read, one after another.
-use Rattle.std.proofs.Common.{◌≡◌, ℕ, ◌+◌, ◌-◌, ◌<◌, ◌≤◌, ◌^◌, Bool, true, false, List, [], ◌∷◌, ◌++◌}
+use Rattle.std.proofs.Common.{◌≡◌, ℕ, ◌+◌, ◌-◌, ◌<◌, ◌≤◌, ◌^◌, Bool, true, false, List, [], ◌∷◌}
+use Rattle.std.proofs.Common.{◌++◌}
 use Rattle.std.proofs.Common.{length, drop, take, Option, Some, None, refl, sym, ap, ◌∙◌}
 use Rattle.std.proofs.Common.{subst, append-nil, append_assoc, arith, Result, Ok, Err}
 use Rattle.std.specs.Prelude.{OnErr, OnOk, if◌then◌else◌}
@@ -177,14 +178,16 @@ keeps_same n r a b book end keeps = record {
 pub behind_done : (text done rest : List ℕ) → text ≡ done ++ rest
     → drop (length text - length rest) text ≡ rest
 behind_done text done rest parts =
-    let size : length text ≡ length done + length rest = ap length parts ∙ length-append done rest in
+    let size : length text ≡ length done + length rest =
+    ap length parts ∙ length-append done rest in
     let here : length text - length rest ≡ length done = omega (arith, size) in
     ap (λ (n : ℕ). drop n text) here ∙ ap (drop (length done)) parts ∙ drop-append_seam done rest
 
 pub ahead_of : (text done rest : List ℕ) → text ≡ done ++ rest
     → take (length text - length rest) text ≡ done
 ahead_of text done rest parts =
-    let size : length text ≡ length done + length rest = ap length parts ∙ length-append done rest in
+    let size : length text ≡ length done + length rest =
+    ap length parts ∙ length-append done rest in
     let here : length text - length rest ≡ length done = omega (arith, size) in
     ap (λ (n : ℕ). take n text) here ∙ ap (take (length done)) parts ∙ take-append_seam done rest
 
@@ -285,7 +288,8 @@ reads_line text rest line others old now mid new r parts plain book end next num
           number (omega (arith, before, small, size)) ∙ omega (arith, before, size);
       read = λ n first keeps.
           let before = r.read n first keeps in
-          let one = next n before.reading (keeps_same n before.reading now mid book end before.keeps) in
+          let one = next n before.reading
+          (keeps_same n before.reading now mid book end before.keeps) in
           record {
             reading = one.reading;
             read =

@@ -237,7 +237,8 @@ reading_goes texts text rest others s new i site to = record {
       i.read;
   ended = i.ended;
   begins = subst (λ (name : List ℕ).
-      begins_so text (first_lines name (length texts + 1) i.before.seal) ≡ true) (sym site) i.begins;
+      begins_so text (first_lines name (length texts + 1) i.before.seal) ≡ true) (sym site)
+      i.begins;
   lines = subst (λ (name : List ℕ). AreReadTo (length texts + 1)
       (with_chapter (first_lines name (length texts + 1) i.before.seal) text i.before)
       (behind_lines (first_lines name (length texts + 1) i.before.seal) text) others new)

@@ -1,6 +1,7 @@
 -- Walks over a folder's rows.
 use Rattle.std.proofs.Common.{◌≡◌, ◌∙◌, ◌+◌, ◌-◌, ◌<◌, ◌≤◌, ℕ, List, [], ◌∷◌, ◌++◌, Option, Some}
-use Rattle.std.proofs.Common.{None, Bool, true, false, not, ap, arith, drop, length, refl, subst, sym}
+use Rattle.std.proofs.Common.{None, Bool, true, false, not, ap, arith, drop, length, refl, subst}
+use Rattle.std.proofs.Common.{sym}
 use Rattle.std.proofs.Common.{take}
 use Rattle.std.specs.Prelude.{IfSome, is_some}
 use Rattle.std.specs.List.{cons_option}

@@ -1,6 +1,7 @@
 -- The rows before a shift.
 use Rattle.std.proofs.Common.{◌≡◌, ◌≢◌, ◌∙◌, ◌≤◌, ◌<◌, ◌+◌, ℕ, Bool, true, false, not, List, []}
-use Rattle.std.proofs.Common.{◌∷◌, ◌++◌, Option, Some, None, Result, Ok, Err, ap, arith, nat_le, refl}
+use Rattle.std.proofs.Common.{◌∷◌, ◌++◌, Option, Some, None, Result, Ok, Err, ap, arith, nat_le}
+use Rattle.std.proofs.Common.{refl}
 use Rattle.std.proofs.Common.{length, subst, sym}
 use Rattle.std.specs.Prelude.{OnOk, if◌then◌else◌, is_some}
 use Rattle.std.specs.List.{cons_option}

@@ -37,4 +37,5 @@ sold_text form b names = head_text form sale_titles ++ flat_map (sold_line form 
 
 -- the table of these draws
 abbrev pub drawn_text : Form → List ProductEntry → List Draw → List ℕ
-drawn_text form products draws = head_text form draw_titles ++ flat_map (draw_text form products) draws
+drawn_text form products draws =
+    head_text form draw_titles ++ flat_map (draw_text form products) draws

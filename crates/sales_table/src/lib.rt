@@ -1,6 +1,6 @@
 //! The tables of a day: its sales and the draws of its tests, as comma-separated values or as JSON,
-//! each line that of one sale or draw of the book in the order in which they were made. The same of a
-//! history whose book forgets its rows: a `SoldList` and a `DrawReader` read them as they come.
+//! each line that of one sale or draw of the book in the order in which they were made. The same of
+//! a history whose book forgets its rows: a `SoldList` and a `DrawReader` read them as they come.
 #![tactic(auto)]
 
 mod csv_line;

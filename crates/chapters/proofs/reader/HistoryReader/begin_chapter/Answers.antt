@@ -1,4 +1,5 @@
-use Rattle.std.proofs.Common.{◌≡◌, ◌≢◌, ◌∙◌, ◌+◌, ◌∷◌, [], ap, arith, length, refl, sym, subst, List}
+use Rattle.std.proofs.Common.{◌≡◌, ◌≢◌, ◌∙◌, ◌+◌, ◌∷◌, [], ap, arith, length, refl, sym, subst}
+use Rattle.std.proofs.Common.{List}
 use Rattle.std.proofs.Common.{ℕ, string_bytes}
 use Rattle.std.proofs.lemmas.List.{length-drop}
 use Rattle.chapters.specs.ChapterText.{text_of_lines}

@@ -1,4 +1,5 @@
-use Rattle.std.proofs.Common.{◌≡◌, ◌∙◌, ◌+◌, ◌-◌, ◌<◌, ◌^◌, ◌∷◌, ◌++◌, [], List, None, ap, append-nil}
+use Rattle.std.proofs.Common.{◌≡◌, ◌∙◌, ◌+◌, ◌-◌, ◌<◌, ◌^◌, ◌∷◌, ◌++◌, [], List, None, ap}
+use Rattle.std.proofs.Common.{append-nil}
 use Rattle.std.proofs.Common.{arith, drop, length, subst, not, suc, sym, take, string_bytes, ℕ}
 use Rattle.std.specs.List.{cons_option}
 use Rattle.hex_lines.proofs.Bytes.{absent, behind_byte, found}

@@ -11,7 +11,8 @@ invariant_of-self g c =
     c.in_ok-text.text.items c.self.invariant.most
     (subst (λ (w : WalkState). w.reader.end.chapters < w.count) (sym is) c.requires.more)
     (c.self.invariant.between (ap (λ (w : WalkState). w.place) is ∙ c.requires.between))
-    (subst (λ (xs : List ℕ). c.in-Ok.octets ≤ length xs) c.deref.ensures.value c.in-Ok.ensures.within)
+    (subst (λ (xs : List ℕ). c.in-Ok.octets ≤ length xs) c.deref.ensures.value
+    c.in-Ok.ensures.within)
     (subst (λ (xs : List ℕ). (texts : List (List ℕ)) → HasRead texts c.self.inside.reader
     → IsReading texts xs (drop c.in-Ok.octets xs) c.begin_chapter.new.self) c.deref.ensures.value
     c.in-Ok.ensures.begun)

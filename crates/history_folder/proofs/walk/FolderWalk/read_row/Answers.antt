@@ -21,7 +21,8 @@ invariant_of-self-else-is_none g c =
     let within = ap (λ (w : WalkState). w.place) c.self.view_is ∙ c.requires in
     row_within c.self.inside.reader c.next_row.new.self c.self.inside.count c.self.inside.octets
     c.in-Ok.read.octets c.self.inside.text.items c.deref.result.now c.self.inside.place
-    c.self.invariant within c.deref.ensures.value c.in-Ok.ensures.within c.in-Ok.ensures.reads c.next_row.ensures.chapters
+    c.self.invariant within c.deref.ensures.value c.in-Ok.ensures.within c.in-Ok.ensures.reads
+    c.next_row.ensures.chapters
 
 pub returns-after-is_none-clause-read : goal.returns-after-is_none-clause-read
 returns-after-is_none-clause-read g c = λ none.

@@ -13,7 +13,8 @@ returns-clause-next c =
     record {
       before = subst (λ n. IsTaken n c.args.book.now c.take_totals.new.taken) c.get.ensures.value
           (c.in_ok-take_totals.ensures.next earlier
-          (subst (λ n. IsTaken n earlier c.self.inside.before) (sym c.get.ensures.value) so.0) next);
+          (subst (λ n. IsTaken n earlier c.self.inside.before) (sym c.get.ensures.value) so.0)
+          next);
       after = subst (λ n. IsTaken (n + 1) c.args.book.now c.take_totals-2.new.taken)
           c.get-2.ensures.value
           (after earlier
