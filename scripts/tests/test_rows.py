@@ -6,6 +6,7 @@ the folder's site file; that of some shifts is compared with what was worked in 
 
 import csv
 import json
+import os
 import shutil
 import subprocess
 
@@ -361,3 +362,19 @@ def no_histories():
         print_of(good, word, *words)
     expect("nothing is changed", {path.name: path.read_bytes() for path in good.iterdir()}, before)
     expect("nothing is locked", (good / LOCK_FILE).exists(), False)
+
+
+@test
+def files_that_are_none():
+    """A chapter or a site file that is a pipe, a device or a folder isn't read."""
+    bodies = [write_rows(sign_on(1), CLOSE_IT)]
+    texts = write_chapters(KNOWN_SITE, *bodies)
+    for name in (SITE_FILE, "000001.journal"):
+        for make in (os.mkfifo, os.mkdir, lambda path: os.symlink("/dev/zero", path)):
+            folder = write_history(HERE / "none", KNOWN_SITE, *texts)
+            (folder / name).unlink()
+            make(folder / name)
+            for command in ("replay", "explain", "sales", "report", "shifts", "next"):
+                ended = run(PROGRAM, command, folder)
+                got = (ended.status, ended.out, ended.err)
+                expect(f"{command} {name}", got, (1, b"", f"cannot read {folder}/{name}\n"))
