@@ -1,7 +1,7 @@
 //! The forecourt site controller's program: it reads the words of the command line, and runs the
-//! command that they name. The words are parsed in `command_line`; the commands stand in
-//! `offline_commands`, `desk_commands`, `station_command` and `shift_commands`, their files, texts
-//! and exit statuses in `program_io`.
+//! command that they name. The words are parsed in `command_line`; the commands are in
+//! `offline_commands`, `row_commands`, `shift_commands`, `desk_commands` and `station_command`, their
+//! files, texts and exit statuses in `program_io`.
 #![tactic(auto)]
 
 use command_line::{Command, ExplainOptions, NoCommand, parse};
@@ -71,7 +71,9 @@ fn run<T: Threads + Wait + Sync>(rt: &HostRuntime, threads: &T, command: Command
 /// The folder whose rows are to be explained. A number is none.
 fn find_folder<'a>(rt: &HostRuntime, options: ExplainOptions<'a>) -> Option<&'a str> {
     let word = options.what?;
-    if word.parse::<u8>().is_ok() || !is_folder(rt, word) {
+    // `parse` takes a plus before the digits.
+    let is_number = !word.starts_with('+') && word.parse::<u8>().is_ok();
+    if is_number || !is_folder(rt, word) {
         return None;
     }
     Some(word)

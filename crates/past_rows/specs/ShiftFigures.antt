@@ -40,8 +40,8 @@ pub record FiguresState : Type 0 where
   pub before : Option Totals
   pub after : Option Totals
 
--- the book was met as it stands, and at each moment before
-pub record HasMet (f : FiguresState) (b : Book) : Type 0 where
+-- the book was looked at as it stands, and at each moment before
+pub record HasTaken (f : FiguresState) (b : Book) : Type 0 where
   pub before : IsTaken f.shifts.first b f.before
   pub after : IsTaken (f.shifts.last + 1) b f.after
 

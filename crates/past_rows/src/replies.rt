@@ -40,7 +40,7 @@ impl ReplyLines {
             ≡ text.old.items ++ reply_lines self.old.changes row.now) }
         ensures same { self.new.changes ≡ self.old.changes }
     {
-        let request = request_of(self.alloc, row)?;
+        let request = make_request(self.alloc, row)?;
         let reply = self.writer.write_reply(&request.as_spelled(), &row.reply)?;
         put_line(text, &reply)?;
         self.writer.give_back(reply);
@@ -52,7 +52,7 @@ impl ReplyLines {
 }
 
 /// The request of a row's actor and event, with token 0.
-fn request_of(alloc: Global, row: &Row) -> Result<Message, NoMemory>
+fn make_request(alloc: Global, row: &Row) -> Result<Message, NoMemory>
     requires { IsSent row.now }
     ensures { IfOk result (λ message. message ≡ row_request row.now) }
 {

@@ -4,7 +4,7 @@ ghost use Rattle.std.specs.Prelude.{◌≡◌, ◌+◌, ◌∷◌, ◌++◌, [],
 ghost use Rattle.std.specs.Prelude.{length};
 ghost use Rattle.site_base.specs.declared.row.Row.{Row as RowFacts};
 ghost use Rattle.site_book.specs.Book.{Book};
-ghost use Rattle.past_rows.specs.ShiftFigures.{AreOfShifts, HasMet, IsBefore, IsNextBook, IsTaken};
+ghost use Rattle.past_rows.specs.ShiftFigures.{AreOfShifts, HasTaken, IsBefore, IsNextBook, IsTaken};
 
 use crate::figures::figures_between;
 use crate::shifts::ShiftRange;
@@ -14,7 +14,7 @@ use std::alloc::Global;
 use std::marker::Model;
 
 /// The figures of some shifts of a history. They are taken while its rows are read: before the
-/// first row, and behind each, it meets the book.
+/// first row, and after each, it looks at the book.
 #[derive(Drop)]
 pub struct ShiftFigures {
     shifts: ShiftRange,
@@ -33,7 +33,7 @@ impl Model for ShiftFigures {
 }
 
 impl ShiftFigures {
-    /// Of these shifts, before it has met a book.
+    /// Of these shifts, before it has looked at a book.
     pub fn new(shifts: ShiftRange) -> ShiftFigures
         ensures { result ≡ record { shifts = shifts; before = None; after = None } }
     {
@@ -44,12 +44,12 @@ impl ShiftFigures {
         }
     }
 
-    /// Meets the book as it stands, and takes its totals where one of the two moments has come.
-    pub fn meet(&mut self, alloc: Global, book: &SiteBook) -> Result<(), NoMemory>
+    /// Looks at the book as it stands, and takes its totals if one of the two moments has come.
+    pub fn take_moment(&mut self, alloc: Global, book: &SiteBook) -> Result<(), NoMemory>
         ensures first { OnOk result (book.now.rows ≡ [] → self.old.before ≡ None
-            → self.old.after ≡ None → HasMet self.new book.now) }
-        ensures next { OnOk result ((earlier : Book) → HasMet self.old earlier
-            → IsNextBook earlier book.now → HasMet self.new book.now) }
+            → self.old.after ≡ None → HasTaken self.new book.now) }
+        ensures next { OnOk result ((earlier : Book) → HasTaken self.old earlier
+            → IsNextBook earlier book.now → HasTaken self.new book.now) }
         ensures shifts { self.new.shifts ≡ self.old.shifts }
     {
         take_totals(alloc, book, self.shifts.first.get(), &mut self.before)?;
@@ -59,11 +59,11 @@ impl ShiftFigures {
     /// The figures of the shifts, of a history that ends with this book; if the last shift is open,
     /// they go up to its end. None where the first one isn't there yet.
     pub fn totals(&self, alloc: Global, book: &SiteBook) -> Result<Option<Totals>, NoMemory>
-        ensures figures { IfOk result (λ found. HasMet self.now book.now
+        ensures figures { IfOk result (λ found. HasTaken self.now book.now
             → IfSome found (AreOfShifts self.now.shifts book.now)) }
-        ensures products { IfOk result (λ found. HasMet self.now book.now → IfSome found
+        ensures products { IfOk result (λ found. HasTaken self.now book.now → IfSome found
             (λ totals. length totals.products ≡ length book.now.config.products)) }
-        ensures none { IfOk result (λ found. HasMet self.now book.now
+        ensures none { IfOk result (λ found. HasTaken self.now book.now
             → IfNone found (IsBefore self.now.shifts book.now)) }
     {
         let Some(before) = &self.before else {

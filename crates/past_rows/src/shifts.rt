@@ -9,13 +9,15 @@ use site_base::ShiftNo;
 pub struct ShiftRange {
     /// The first of them.
     pub first: ShiftNo,
-    /// The last one.
+    /// The last one, which isn't before the first.
     pub last: ShiftNo,
 }
 
 impl ShiftRange {
     /// The shifts that this word says: one, `3`, or several, `3..5`. None where it says no shifts.
-    pub fn parse(word: &str) -> Option<ShiftRange> {
+    pub fn parse(word: &str) -> Option<ShiftRange>
+        ensures order { IfSome result (λ shifts. shifts.first ≤ shifts.last) }
+    {
         match word.split_once("..") {
             None => {
                 let shift = parse_shift(word)?;

@@ -1,6 +1,7 @@
 //! The shifts that a command is asked for.
 
-ghost use Rattle.std.specs.Prelude.{◌≡◌, ◌≤◌, ◌&&◌, IfErr, IfSome, None, OnOk, nat_le, true};
+ghost use Rattle.std.specs.Prelude.{◌≡◌, ◌≤◌, ◌<◌, ◌&&◌, IfErr, IfOk, IfSome, IsSome, None, OnErr};
+ghost use Rattle.std.specs.Prelude.{OnOk, nat_le, true};
 ghost use Rattle.std.specs.Process.{exit_status};
 
 use past_rows::ShiftRange;
@@ -10,7 +11,9 @@ use std::process::ExitCode;
 
 /// The shifts that the value of `--shift` says, all without one; or how the program ends.
 pub fn read_shifts(rt: &impl Eprint, word: Option<&str>) -> Result<Option<ShiftRange>, ExitCode>
-    ensures { IfErr result (λ status. exit_status status ≡ COMMAND_LINE) }
+    ensures all { word ≡ None → IfOk result (λ shifts. shifts ≡ None) }
+    ensures some { IsSome word → IfOk result IsSome }
+    ensures failed { IfErr result (λ status. exit_status status ≡ COMMAND_LINE) }
 {
     let Some(word) = word else {
         return Ok(None);
@@ -45,6 +48,7 @@ pub fn check_shifts(
     open_shift: ShiftNo,
 ) -> Result<(), ExitCode>
     ensures there { OnOk result (IfSome shifts.now (λ asked. asked.last ≤ open_shift)) }
+    ensures missing { OnErr result (IfSome shifts.now (λ asked. open_shift < asked.last)) }
     ensures failed { IfErr result (λ status. exit_status status ≡ FAULT) }
 {
     match shifts {
@@ -56,6 +60,7 @@ pub fn check_shifts(
 /// How the program ends where this shift isn't there yet.
 pub fn check_there(rt: &impl Eprint, shift: ShiftNo, open_shift: ShiftNo) -> Result<(), ExitCode>
     ensures there { OnOk result (shift ≤ open_shift) }
+    ensures missing { OnErr result (open_shift < shift) }
     ensures failed { IfErr result (λ status. exit_status status ≡ FAULT) }
 {
     let (shift, open_shift) = (shift.get(), open_shift.get());

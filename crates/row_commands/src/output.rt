@@ -1,24 +1,35 @@
 //! Text on standard output, which is printed in pieces.
 
+ghost use Rattle.std.specs.Prelude.{◌≡◌, ◌≤◌, ◌<◌, [], IfErr, length};
+ghost use Rattle.std.specs.Process.{exit_status};
+ghost use Rattle.program_io.specs.declared.exit.TheConstants.{FAULT};
+
 use devices::{Counted, PIECE_OCTETS, write_whole};
 use program_io::{TURNS, exit_unwritten};
 use std::io;
 use std::process::ExitCode;
 
-/// Prints a text, and empties it; or says that standard output takes no more.
-pub fn print_text(rt: &(impl Print + Eprint), text: &mut Vec<u8>) -> Result<(), ExitCode> {
+/// Prints a text, and empties it, so that nothing is written again; or says that standard output
+/// takes no more.
+pub fn print_text(rt: &(impl Print + Eprint), text: &mut Vec<u8>) -> Result<(), ExitCode>
+    ensures empty { text.new.items ≡ [] }
+    ensures failed { IfErr result (λ status. exit_status status ≡ FAULT) }
+{
     let (mut writer, mut turns) = (Counted::new(io::writer(rt)), TURNS);
-    match write_whole(&mut writer, text, &mut turns) {
-        Ok(()) => {
-            text.clear();
-            Ok(())
-        }
+    let written = write_whole(&mut writer, text, &mut turns);
+    text.clear();
+    match written {
+        Ok(()) => Ok(()),
         Err(_) => Err(exit_unwritten(rt)),
     }
 }
 
 /// Prints a text where it has grown to a piece.
-pub fn print_piece(rt: &(impl Print + Eprint), text: &mut Vec<u8>) -> Result<(), ExitCode> {
+pub fn print_piece(rt: &(impl Print + Eprint), text: &mut Vec<u8>) -> Result<(), ExitCode>
+    ensures kept { length text.old.items < PIECE_OCTETS → text.new.items ≡ text.old.items }
+    ensures empty { PIECE_OCTETS ≤ length text.old.items → text.new.items ≡ [] }
+    ensures failed { IfErr result (λ status. exit_status status ≡ FAULT) }
+{
     if text.len() < PIECE_OCTETS {
         return Ok(());
     }

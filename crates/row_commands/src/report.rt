@@ -2,15 +2,17 @@
 
 ghost use Rattle.std.specs.Prelude.{◌≡◌, [], None, OnOk, length};
 ghost use Rattle.history_folder.specs.Reading.{IsWhole};
-ghost use Rattle.past_rows.specs.ShiftFigures.{HasMet};
+ghost use Rattle.past_rows.specs.ShiftFigures.{HasTaken};
 
 use crate::options::{check_there, read_shifts};
 use crate::output::print_text;
 use command_line::{ReportForm, ReportOptions};
 use day_report::{report_as_json, report_as_text, report_for_people};
+use devices::ReadFault;
+use forecourt_engines::ReplayFault;
 use history_folder::{FolderWalk, read_folder};
 use past_rows::{ShiftFigures, ShiftRange};
-use program_io::{FAULT, exit_no_memory};
+use program_io::{exit_no_memory, exit_replay};
 use site_base::{NoMemory, SiteConfig, Totals};
 use std::alloc::Global;
 use std::process::ExitCode;
@@ -58,7 +60,7 @@ fn report_shifts<R: Files + Print + Eprint + AllocGlobal>(
     let mut walk = FolderWalk::open(rt, folder)?;
     let last = shifts.last;
     let mut figures = ShiftFigures::new(shifts);
-    meet_rows(rt, folder, &mut walk, &mut figures)?;
+    take_moments(rt, folder, &mut walk, &mut figures)?;
     let book = walk.book();
     check_there(rt, last, book.open_shift())?;
     match figures.totals(rt.alloc(), book) {
@@ -69,8 +71,8 @@ fn report_shifts<R: Files + Print + Eprint + AllocGlobal>(
     }
 }
 
-/// Has the figures meet each moment of a folder's history.
-fn meet_rows<R: Files + Eprint + AllocGlobal>(
+/// Has the figures look at each moment of a folder's history.
+fn take_moments<R: Files + Eprint + AllocGlobal>(
     rt: &R,
     folder: &str,
     walk: &mut FolderWalk,
@@ -80,10 +82,10 @@ fn meet_rows<R: Files + Eprint + AllocGlobal>(
     requires before { figures.old.before ≡ None }
     requires after { figures.old.after ≡ None }
     ensures whole { OnOk result (IsWhole walk.new) }
-    ensures met { OnOk result (HasMet figures.new walk.new.reader.book) }
+    ensures met { OnOk result (HasTaken figures.new walk.new.reader.book) }
     ensures shifts { figures.new.shifts ≡ figures.old.shifts }
 {
-    match figures.meet(rt.alloc(), walk.book()) {
+    match figures.take_moment(rt.alloc(), walk.book()) {
         Ok(()) => {}
         Err(NoMemory) => return Err(exit_no_memory(rt)),
     }
@@ -91,13 +93,13 @@ fn meet_rows<R: Files + Eprint + AllocGlobal>(
         if walk.next(rt, folder)?.is_none() {
             return Ok(());
         }
-        match figures.meet(rt.alloc(), walk.book()) {
+        match figures.take_moment(rt.alloc(), walk.book()) {
             Ok(()) => {}
             Err(NoMemory) => return Err(exit_no_memory(rt)),
         }
     }
     // No history has so many rows.
-    Err(ExitCode::from(FAULT))
+    Err(exit_replay(rt, Some(ReplayFault::Read(ReadFault::TurnLimit))))
 }
 
 /// Prints the report of these figures.

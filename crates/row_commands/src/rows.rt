@@ -8,9 +8,11 @@ ghost use Rattle.history_folder.specs.Reading.{IsWhole};
 use crate::options::{check_shifts, is_asked, read_shifts};
 use crate::output::{print_piece, print_text};
 use command_line::ReplayOptions;
+use devices::ReadFault;
+use forecourt_engines::ReplayFault;
 use history_folder::FolderWalk;
 use past_rows::{ReplyLines, ShiftRange, put_words};
-use program_io::{FAULT, exit_no_memory};
+use program_io::{exit_no_memory, exit_replay};
 use site_base::{NoMemory, Row};
 use std::alloc::Global;
 use std::process::ExitCode;
@@ -26,7 +28,7 @@ enum RowForm {
 }
 
 impl RowForm {
-    /// Appends what is printed of a row.
+    /// Appends what is printed of a row. After `NoMemory` there may be a part of it.
     fn put(&mut self, alloc: Global, row: &Row, text: &mut Vec<u8>) -> Result<(), NoMemory>
         requires { IsSent row.now }
     {
@@ -107,11 +109,16 @@ fn put_all<R: Files + Print + Eprint + AllocGlobal>(
         let Some(row) = walk.next(rt, folder)? else {
             return Ok(());
         };
-        if is_asked(shifts, shift) && form.put(rt.alloc(), &row, text).is_err() {
-            return Err(exit_no_memory(rt));
+        if is_asked(shifts, shift) {
+            let whole = text.len();
+            if form.put(rt.alloc(), &row, text).is_err() {
+                // What there is of this row isn't printed.
+                text.truncate(whole);
+                return Err(exit_no_memory(rt));
+            }
         }
         print_piece(rt, text)?;
     }
     // No history has so many rows.
-    Err(ExitCode::from(FAULT))
+    Err(exit_replay(rt, Some(ReplayFault::Read(ReadFault::TurnLimit))))
 }

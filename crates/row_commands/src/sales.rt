@@ -6,9 +6,11 @@ ghost use Rattle.history_folder.specs.Reading.{IsWhole};
 use crate::options::{check_shifts, is_asked, read_shifts};
 use crate::output::print_text;
 use command_line::SalesOptions;
+use devices::ReadFault;
+use forecourt_engines::ReplayFault;
 use history_folder::FolderWalk;
 use past_rows::ShiftRange;
-use program_io::{FAULT, exit_no_memory};
+use program_io::{exit_no_memory, exit_replay};
 use sales_table::{DrawReader, Form, SoldList, drawn_table, sold_table};
 use site_base::NoMemory;
 use site_book::Draw;
@@ -76,7 +78,7 @@ fn read_sales<R: Files + Eprint + AllocGlobal>(
         }
     }
     // No history has so many rows.
-    Err(ExitCode::from(FAULT))
+    Err(exit_replay(rt, Some(ReplayFault::Read(ReadFault::TurnLimit))))
 }
 
 /// Prints what the tests of these shifts drew.
@@ -121,7 +123,7 @@ fn read_draws<R: Files + Eprint + AllocGlobal>(
         }
     }
     // No history has so many rows.
-    Err(ExitCode::from(FAULT))
+    Err(exit_replay(rt, Some(ReplayFault::Read(ReadFault::TurnLimit))))
 }
 
 /// Adds a draw, if there is one and its shift is asked for.

@@ -2,7 +2,7 @@ use Rattle.std.proofs.Common.{◌≡◌, ◌∙◌, ◌+◌, Option, ap, subst, 
 use Rattle.site_base.specs.declared.totals.Totals.{Totals}
 use Rattle.past_rows.specs.ShiftFigures.{FiguresState, IsTaken}
 use Rattle.past_rows.proofs.RowsBefore.{on_ok_then}
-use Rattle.past_rows.proofs.shift_figures.ShiftFigures.meet.Goals as goal
+use Rattle.past_rows.proofs.shift_figures.ShiftFigures.take_moment.Goals as goal
 
 pub returns-clause-next : goal.returns-clause-next
 returns-clause-next c =

@@ -1,8 +1,8 @@
 use Rattle.std.proofs.Common.{◌≡◌, ◌∙◌, ap, not, subst, sym}
 use Rattle.site_book.specs.Book.{Book}
-use Rattle.past_rows.specs.ShiftFigures.{HasMet, IsNextBook}
+use Rattle.past_rows.specs.ShiftFigures.{HasTaken, IsNextBook}
 use Rattle.past_rows.proofs.RowsBefore.{next_book}
-use Rattle.row_commands.proofs.report.meet_rows.Goals as goal
+use Rattle.row_commands.proofs.report.take_moments.Goals as goal
 
 pub loop-preserved : goal.loop-preserved
 loop-preserved g c =
@@ -12,8 +12,8 @@ loop-preserved g c =
     (c.is_none.ensures ∙ ap not c.if-is_none.false) c.next.ensures.config
     c.in_ok-next.ensures.row in
     record {
-      met = subst (λ (x : Book). HasMet c.meet-in-loop.new.self x) c.book-in-loop.ensures
-          (c.in-Ok-meet.ensures.next earlier c.loop.invariant.met
+      taken = subst (λ (x : Book). HasTaken c.take_moment-in-loop.new.self x) c.book-in-loop.ensures
+          (c.in-Ok-take_moment.ensures.next earlier c.loop.invariant.taken
           (subst (λ (x : Book). IsNextBook earlier x) (sym c.book-in-loop.ensures) next));
-      shifts = c.meet-in-loop.ensures.shifts ∙ c.loop.invariant.shifts;
+      shifts = c.take_moment-in-loop.ensures.shifts ∙ c.loop.invariant.shifts;
     }

@@ -1,7 +1,7 @@
 use Rattle.std.proofs.Common.{rules}
 use Rattle.device_map.specs.Laws.{AsksFor}
 use Rattle.device_map.proofs.OneRequest.{alone}
-use Rattle.past_rows.proofs.replies.request_of.Goals as goal
+use Rattle.past_rows.proofs.replies.make_request.Goals as goal
 
 pub returns : goal.returns
 returns c =
