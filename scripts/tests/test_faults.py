@@ -62,7 +62,7 @@ from shared.page_day import PageDay
 from shared.running import CRATES, EXAMPLES, PATIENCE, compile_c, run
 from shared.serving import UNKEPT, Found, read_found
 from shared.station import (
-    ACKNOWLEDGE, ANSWER, CLOSE_SHIFT, DISPENSER, FIVE_POINTS, HANG_UP, KNOWN_SITE, LIFT, OPEN,
+    ACKNOWLEDGE, ANSWER, CLOSE, CLOSE_SHIFT, DISPENSER, FIVE_POINTS, HANG_UP, KNOWN_SITE, LIFT, OPEN,
     RELEASE, SITES, TILL, ask_site, command_point, connect, decode, parse, read_point, read_product,
     read_sale, read_site,
     receive_all, receive_message, report, sign_off, sign_on,
@@ -317,30 +317,40 @@ def list_days():
     yield ["report", FIVE_POINTS, "--human"], EXAMPLES / "paying_day.hex"
 
 
-@functools.cache
-def make_read_history():
-    """The folder of a history of two chapters, with sales and a draw, for the commands that read
-    one."""
-    bodies = []
-    for name in ("paying_day.hex", "fuelling_day.hex"):
-        lines = (EXAMPLES / name).read_text().splitlines()
-        octets = bytes.fromhex("".join(line for line in lines if not line.startswith("#")))
-        bodies.append(write_rows(*(one for one in split_messages(octets) if not is_read(one))))
-    texts = write_chapters(FIVE_POINTS, *bodies)
-    folder = write_history(make_folder() / "read", FIVE_POINTS, *texts)
+def read_day(name):
+    """The lines of a day's rows, without its reads."""
+    lines = (EXAMPLES / name).read_text().splitlines()
+    octets = bytes.fromhex("".join(line for line in lines if not line.startswith("#")))
+    return write_rows(*(one for one in split_messages(octets) if not is_read(one)))
+
+
+def make_history(name, *bodies):
+    folder = write_history(
+        make_folder() / name, FIVE_POINTS, *write_chapters(FIVE_POINTS, *bodies)
+    )
     folder.parent.chmod(0o755)
     return folder
 
 
+@functools.cache
+def make_read_histories():
+    """The folders of two histories, for the commands that read one: with a draw and sales, and more
+    rows than are printed at once; and with nothing in the way of the next one."""
+    more = write_rows(*[command_point(1, 0, 2, one) for one in (OPEN, CLOSE)] * 150)
+    busy = make_history("busy", read_day("fuelling_day.hex") + more, read_day("paying_day.hex"))
+    return busy, make_history("ended", read_day("paying_day.hex"), b"")
+
+
 def list_readings():
     """The commands that read a history's folder."""
-    folder = make_read_history()
+    busy, ended = make_read_histories()
     for word, *words in (
         ["replay"], ["replay", "--changes", "--shift", "1"], ["explain"], ["sales"],
         ["sales", "--json"], ["sales", "--draws"], ["report"], ["report", "--human"],
-        ["report", "--json", "--shift", "1"], ["shifts"], ["shifts", "--json"], ["next"],
+        ["report", "--json", "--shift", "1"], ["shifts"], ["shifts", "--json"],
     ):  # fmt: skip
-        yield [word, folder, *words], NOTHING
+        yield [word, busy, *words], NOTHING
+    yield ["next", ended], NOTHING
 
 
 def list_commands():
@@ -479,7 +489,7 @@ def fail_devices_of_readings():
         command = Command(words, source)
         folder = words[1]
         files = [folder / "site.toml", *(folder / f"{n:06d}.journal" for n in (1, 2))]
-        wanted = {f"cannot read {file}" for file in [folder, *files]}
+        wanted = {f"cannot read {file}" for file in files}
 
         def one(k):
             end, met = command.run(FAIL_FILE_READ=k)
@@ -490,9 +500,12 @@ def fail_devices_of_readings():
             return met
 
         runs += count_some_in_turn(command.name, one)
-        if command.whole.out:
-            runs += command.fail_calls("FAIL_WRITE", "fault 62")
-            runs += command.expect_same(INTERRUPT=1)
+        if not command.whole.out:
+            raise Failed(f"{command.name} prints nothing")
+        runs += command.fail_calls("FAIL_WRITE", "fault 62")
+        runs += command.expect_same(INTERRUPT=1)
+        runs += command.expect_same(SHORT_WRITE=100)
+        runs += sum(map(command.limit_output, (0, 1, 100)))
     return runs
 
 

@@ -222,8 +222,10 @@ def expect_shifts(folder, word, shifts, sales, draws, told, reports):
     rows = [row for shift in shifts for row in told[shift - 1]]
     replies = "".join(f"{reply.hex()}\n" for _, reply in rows)
     expect(f"{word}: replies", print_of(folder, "replay", "--shift", word).decode(), replies)
-    words = print_of(folder, "explain", "--shift", word).decode().splitlines()
-    expect(f"{word}: words", len(words), len(rows))
+    begin = sum(len(one) for one in told[: shifts[0] - 1])
+    words = explain_text(folder).splitlines()[begin : begin + len(rows)]
+    got = print_of(folder, "explain", "--shift", word).decode().splitlines()
+    expect(f"{word}: words", got, words)
     lines = list(csv.DictReader(print_of(folder, "sales", "--shift", word).decode().splitlines()))
     wanted = [
         (str(at), str(number), str(volume), "payable" if (at, number) == (3, 3) else "cleared")
@@ -312,6 +314,8 @@ def faulty_histories():
     lines = [text.splitlines(keepends=True) for text in texts]
     edited = b"".join([*lines[1][:3], write_rows(sign_on(2)), *lines[1][4:]])
     read = b"".join([*lines[1][:3], write_rows(read_site(1, 0)), *lines[1][3:]])
+    good = write_history(HERE / "faulty", KNOWN_SITE, *texts)
+    whole = {one: print_of(good, one) for one in ("replay", "explain", "sales", "report")}
     for what, given, fault, rows in (
         ("a line more", [texts[0], texts[1] + b"x\n"], "chapter 2 line 6", 3),
         ("another row", [texts[0], edited], "chapter 2 line 5", 3),
@@ -326,7 +330,10 @@ def faulty_histories():
             ended = run(PROGRAM, command, folder)
             expect(f"{what}: {command}", (ended.status, ended.err), (1, f"{fault}\n"))
             wanted = rows if command in ("replay", "explain") else 0
-            expect(f"{what}: {command}", len(ended.out.splitlines()), wanted)
+            lines = ended.out.splitlines()
+            same = min(wanted, 2)  # rows that stay as they are
+            got = lines[:same], len(lines)
+            expect(f"{what}: {command}", got, (whole[command].splitlines()[:same], wanted))
     folder = write_history(HERE / "faulty", KNOWN_SITE, *texts)
     chapter_path(folder, 2).unlink()
     for command in ("replay", "explain", "sales", "report"):
@@ -342,7 +349,7 @@ def no_histories():
     nothing.mkdir()
     faulty = write_history(HERE / "no_site", KNOWN_SITE)
     (faulty / SITE_FILE).write_bytes(b"")
-    bodies = [write_rows(sign_on(1), CLOSE_IT)]
+    bodies = [write_rows(sign_on(1), *[CLOSE_IT] * 300)]
     good = write_history(HERE / "good", KNOWN_SITE, *write_chapters(KNOWN_SITE, *bodies))
     for command in ("replay", "explain", "sales", "report"):
         for folder, fault in (
