@@ -504,7 +504,7 @@ def fail_devices_of_readings():
             raise Failed(f"{command.name} prints nothing")
         runs += command.fail_calls("FAIL_WRITE", "fault 62")
         runs += command.expect_same(INTERRUPT=1)
-        runs += command.expect_same(SHORT_WRITE=100)
+        runs += command.expect_same(len(command.whole.out) > 100, SHORT_WRITE=100)
         runs += sum(map(command.limit_output, (0, 1, 100)))
     return runs
 
