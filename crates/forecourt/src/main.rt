@@ -1,7 +1,7 @@
 //! The forecourt site controller's program: it reads the words of the command line, and runs the
 //! command that they name. The words are parsed in `command_line`; the commands are in
-//! `offline_commands`, `row_commands`, `shift_commands`, `desk_commands` and `station_command`, their
-//! files, texts and exit statuses in `program_io`.
+//! `offline_commands`, `row_commands`, `shift_commands`, `desk_commands` and `station_command`,
+//! their files, texts and exit statuses in `program_io`.
 #![tactic(auto)]
 
 use command_line::{Command, ExplainOptions, NoCommand, parse};

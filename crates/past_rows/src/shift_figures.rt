@@ -4,7 +4,8 @@ ghost use Rattle.std.specs.Prelude.{◌≡◌, ◌+◌, ◌∷◌, ◌++◌, [],
 ghost use Rattle.std.specs.Prelude.{length};
 ghost use Rattle.site_base.specs.declared.row.Row.{Row as RowFacts};
 ghost use Rattle.site_book.specs.Book.{Book};
-ghost use Rattle.past_rows.specs.ShiftFigures.{AreOfShifts, HasTaken, IsBefore, IsNextBook, IsTaken};
+ghost use Rattle.past_rows.specs.ShiftFigures.{AreOfShifts, HasTaken, IsBefore, IsNextBook};
+ghost use Rattle.past_rows.specs.ShiftFigures.{IsTaken};
 
 use crate::figures::figures_between;
 use crate::shifts::ShiftRange;
