@@ -63,9 +63,8 @@ from shared.running import CRATES, EXAMPLES, PATIENCE, compile_c, run
 from shared.serving import UNKEPT, Found, read_found
 from shared.station import (
     ACKNOWLEDGE, ANSWER, CLOSE, CLOSE_SHIFT, DISPENSER, FIVE_POINTS, HANG_UP, KNOWN_SITE, LIFT,
-    OPEN, RELEASE, SITES, TILL, ask_site, command_point, connect, decode, parse, read_point, read_product,
-    read_sale, read_site,
-    receive_all, receive_message, report, sign_off, sign_on,
+    OPEN, RELEASE, SITES, TILL, ask_site, command_point, connect, decode, parse, read_point,
+    read_product, read_sale, read_site, receive_all, receive_message, report, sign_off, sign_on,
 )  # fmt: skip
 from tests.built import PROGRAM, TABLES, find_tests_program, list_tests
 from tests.suite import make_folder, test
