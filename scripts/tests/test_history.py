@@ -146,8 +146,7 @@ def expect_line(what, text, number, site=KNOWN_SITE):
 
 @test
 def nothing_yet():
-    """An empty file, and one that isn't there, are begun; so is each beginning of the first
-    line."""
+    """An empty file, one that isn't there, and one with the first lines alone are begun."""
     expect_opened("no file", None, FIRST, 0)
     expect_opened("an empty file", b"", FIRST, 0)
     expect_opened("the first lines", FIRST, FIRST, 0)
@@ -346,7 +345,7 @@ def other_first_lines():
 @test
 def seals_and_times():
     """A seal has to be the SHA-256 of the seal before it and of what stands between them; a time is
-    a comment, and is sealed too. One digit of a seal, or one octet of what it covers, is enough."""
+    a comment, and is sealed too. One digit of a seal, or one line of what it covers, is enough."""
     text, seal, covered = FIRST, b"0" * 64, FIRST
     for at, row in enumerate(DAY):
         line = b"# at 2026-11-27T08:00:%02d.000Z\n" % at + write_rows(row)
@@ -1074,8 +1073,8 @@ def chapters_end_with_shifts():
 
 @test
 def rows_at_once_with_a_close():
-    """Rows that come with the close of a shift by one message are rows of the same round: they are
-    above the seal, and the chapter ends after them."""
+    """Rows that come with the close of a shift in one send: they are above the seal, and the chapter
+    ends after them."""
     folder = new_folder("rounds")
     more = [command_point(1, 0, 1, one) for one in (OPEN, CLOSE, OPEN)]
     with start_station(folder) as day, day.connect() as till:
@@ -1089,7 +1088,7 @@ def rows_at_once_with_a_close():
     kept = [line + b"\n" for text in texts for line in text.splitlines() if line[:1] != b"#"]
     wanted = write_rows(sign_on(1), CLOSE_IT, *more, sign_off(1))
     expect("the rows, in order", b"".join(kept), wanted)
-    expect("where the close is", write_rows(CLOSE_IT) in texts[0], True)
+    expect("where they are", write_rows(CLOSE_IT, *more) in texts[0], True)
 
 
 @contextlib.contextmanager
@@ -1145,8 +1144,7 @@ def chapters_that_go_on():
 
 @test
 def what_hinders_a_chapter():
-    """Whatever has the name of the next chapter, or of its copy, stays, and the open one goes on;
-    so it does where the folder takes no new file."""
+    """Whatever has the name of the next chapter, or of its copy, stays, and the open one goes on."""
     def take(path, make):
         make(path)
         return lambda: path.rmdir() if path.is_dir() and not path.is_symlink() else path.unlink()
@@ -1686,6 +1684,8 @@ def killed_for_real(seed):
 # ---- a month
 
 MONTH_PATIENCE = 1_200  # seconds
+IS_WHOLE_MONTH = SALES_OF_SHIFT >= 300
+LEAST_KILLS, LEAST_KILLS_OF_ENDS = (200, 10) if IS_WHOLE_MONTH else (10, 0)
 
 
 def run_month(folder, site, runs, tills, seed):
@@ -1781,6 +1781,8 @@ def a_month(seed):
     shifts = expect_shifts(folder, rows)
     expect("shifts", shifts, MONTH_SHIFTS + 1)
     expect("a chapter a shift", len(texts), shifts)
+    expect("killed", kills >= LEAST_KILLS, True)
+    expect("killed while a chapter ended", ends >= LEAST_KILLS_OF_ENDS, True)
     came = sum(len(session.came) for peer in peers for _, session in peer.sessions)
     print(
         f"history: a month of {shifts} shifts in {took:.0f} seconds, {kills} kills, {ends} while a"
