@@ -1073,8 +1073,8 @@ def chapters_end_with_shifts():
 
 @test
 def rows_at_once_with_a_close():
-    """Rows that come with the close of a shift in one send: they are above the seal, and the chapter
-    ends after them."""
+    """Rows that come with the close of a shift in one send: they are above the seal, and the
+    chapter ends after them."""
     folder = new_folder("rounds")
     more = [command_point(1, 0, 1, one) for one in (OPEN, CLOSE, OPEN)]
     with start_station(folder) as day, day.connect() as till:
@@ -1144,7 +1144,8 @@ def chapters_that_go_on():
 
 @test
 def what_hinders_a_chapter():
-    """Whatever has the name of the next chapter, or of its copy, stays, and the open one goes on."""
+    """Whatever has the name of the next chapter, or of its copy, stays, and the open chapter goes
+    on."""
     def take(path, make):
         make(path)
         return lambda: path.rmdir() if path.is_dir() and not path.is_symlink() else path.unlink()
