@@ -11,8 +11,8 @@ use std::process::ExitCode;
 
 /// The shifts that the value of `--shift` says, all without one; or how the program ends.
 pub fn read_shifts(rt: &impl Eprint, word: Option<&str>) -> Result<Option<ShiftRange>, ExitCode>
-    ensures all { word ≡ None → IfOk result (λ shifts. shifts ≡ None) }
-    ensures some { IsSome word → IfOk result IsSome }
+    ensures all { word.entry ≡ None → IfOk result (λ shifts. shifts ≡ None) }
+    ensures some { IsSome word.entry → IfOk result (λ shifts. IsSome shifts) }
     ensures failed { IfErr result (λ status. exit_status status ≡ COMMAND_LINE) }
 {
     let Some(word) = word else {

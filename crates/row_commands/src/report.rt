@@ -14,6 +14,7 @@ use history_folder::{FolderWalk, read_folder};
 use past_rows::{ShiftFigures, ShiftRange};
 use program_io::{exit_no_memory, exit_replay};
 use site_base::{NoMemory, SiteConfig, Totals};
+use site_book::SiteBook;
 use std::alloc::Global;
 use std::process::ExitCode;
 use std::rt::Files;
@@ -43,9 +44,20 @@ fn report_all<R: Files + Print + Eprint + AllocGlobal>(
     folder: &str,
     form: ReportForm,
 ) -> Result<(), ExitCode> {
-    let history = read_folder(rt, folder)?;
-    match history.book.totals(rt.alloc()) {
-        Ok(totals) => print_report(rt, history.book.config(), &totals, form),
+    match read_folder(rt, folder) {
+        Ok(history) => report_book(rt, &history.book, form),
+        Err(status) => Err(status),
+    }
+}
+
+/// Prints the report of all rows of a book.
+fn report_book<R: Print + Eprint + AllocGlobal>(
+    rt: &R,
+    book: &SiteBook,
+    form: ReportForm,
+) -> Result<(), ExitCode> {
+    match book.totals(rt.alloc()) {
+        Ok(totals) => print_report(rt, book.config(), &totals, form),
         Err(NoMemory) => Err(exit_no_memory(rt)),
     }
 }
@@ -61,8 +73,19 @@ fn report_shifts<R: Files + Print + Eprint + AllocGlobal>(
     let last = shifts.last;
     let mut figures = ShiftFigures::new(shifts);
     take_moments(rt, folder, &mut walk, &mut figures)?;
-    let book = walk.book();
-    check_there(rt, last, book.open_shift())?;
+    check_there(rt, last, walk.book().open_shift())?;
+    report_figures(rt, walk.book(), &figures, form)
+}
+
+/// Prints the report of shifts that are there, of a history that ends with this book.
+fn report_figures<R: Print + Eprint + AllocGlobal>(
+    rt: &R,
+    book: &SiteBook,
+    figures: &ShiftFigures,
+    form: ReportForm,
+) -> Result<(), ExitCode>
+    requires { HasTaken figures.now book.now }
+{
     match figures.totals(rt.alloc(), book) {
         Ok(Some(totals)) => print_report(rt, book.config(), &totals, form),
         // The last of the shifts is there, and so is the first.
