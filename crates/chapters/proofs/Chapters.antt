@@ -111,7 +111,7 @@ digits_ask (x ∷ xs) all some = elim (cases_eq x 35) [
       (rw no refl, rw no refl)
 ]
 
-row_asks : (r : Row) → IsTold r
+pub row_asks : (r : Row) → IsTold r
     → (is_of_seal (row_digits r) ≡ false) × (is_comment (row_digits r) ≡ false)
 row_asks r told =
     let m : Telegram = row_request r in

@@ -14,4 +14,5 @@ pub mod Reading
 pub mod ReadingChapters
 pub mod Histories
 pub mod Chapters
+pub mod Rounds
 pub mod Named

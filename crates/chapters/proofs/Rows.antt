@@ -1,4 +1,4 @@
--- Rows by their places, and the lines of more and more of them.
+-- Rows by their places, and more and more of them.
 use Rattle.std.proofs.Common.{◌≡◌, ℕ, zero, suc, ◌+◌, ◌<◌, List, [], ◌∷◌, ◌++◌, length, take}
 use Rattle.std.proofs.Common.{drop, Some, None, refl, sym, ap, ◌∙◌}
 use Rattle.std.proofs.Common.{subst, arith}
@@ -9,11 +9,10 @@ use Rattle.std.proofs.lemmas.Option.{none-some, same_Some}
 use Rattle.site_base.specs.declared.row.Row.{Row}
 use Rattle.device_map.specs.Laws.{AsksFor}
 use Rattle.kept_history.specs.KeptRows.{kept_rows}
-use Rattle.chapters.specs.RowText.{CanBeSpelled, row_request, rows_text}
+use Rattle.chapters.specs.RowText.{CanBeSpelled, row_request}
 use Rattle.chapters.specs.RowText.{kept_behind}
 use Rattle.chapters.proofs.Lists.{all_both}
 use Rattle.chapters.proofs.Kept.{kept_both}
-use Rattle.chapters.proofs.Requests.{texts_both}
 
 pub take_more : {X : Type 0} (xs : List X) (n : ℕ) (x : X) → slice_get xs n ≡ Some x
     → take (suc n) xs ≡ take n xs ++ x ∷ []
@@ -39,9 +38,9 @@ none_behind [] (suc n) = refl
 none_behind (x ∷ xs) zero = refl
 none_behind (x ∷ xs) (suc n) = none_behind xs n
 
--- no rows, no lines
-pub none_yet : (rows : List Row) (from : ℕ) → [] ≡ rows_text (kept_behind from (take from rows))
-none_yet rows from = ap (λ (rs : List Row). rows_text (kept_rows rs)) (sym (none_behind rows from))
+-- none so far
+pub none_yet : (rows : List Row) (from : ℕ) → kept_behind from (take from rows) ≡ []
+none_yet rows from = ap kept_rows (none_behind rows from)
 
 pub none_spelled : (rows : List Row) (from : ℕ) → CanBeSpelled (kept_behind from (take from rows))
 none_spelled rows from =
@@ -56,7 +55,7 @@ one_behind rows from n r high within is =
     ap (drop from) (ap (λ (m : ℕ). take m rows) next ∙ take_more rows n r is)
     ∙ drop-append-le from (take n rows) (r ∷ []) (omega (arith, size, high))
 
-kept_more : (rows : List Row) (from n : ℕ) (r : Row) → from ≤ n → n < length rows
+pub kept_more : (rows : List Row) (from n : ℕ) (r : Row) → from ≤ n → n < length rows
     → slice_get rows n ≡ Some r
     → kept_behind from (take (n + 1) rows)
     ≡ kept_behind from (take n rows) ++ kept_rows (r ∷ [])
@@ -65,15 +64,6 @@ kept_more rows from n r high within is =
     ∙ kept_both (drop from (take n rows)) (r ∷ [])
 
 -- one row more
-pub line_behind : (rows : List Row) (from n : ℕ) (r : Row) (text : List ℕ) → from ≤ n
-    → n < length rows → slice_get rows n ≡ Some r
-    → text ≡ rows_text (kept_behind from (take n rows))
-    → text ++ rows_text (kept_rows (r ∷ [])) ≡ rows_text (kept_behind from (take (n + 1) rows))
-line_behind rows from n r text high within is lines =
-    ap (λ (xs : List ℕ). xs ++ rows_text (kept_rows (r ∷ []))) lines
-    ∙ sym (texts_both (kept_behind from (take n rows)) (kept_rows (r ∷ [])))
-    ∙ ap rows_text (sym (kept_more rows from n r high within is))
-
 pub spelled_behind : (rows : List Row) (from n : ℕ) (r : Row) → from ≤ n → n < length rows
     → slice_get rows n ≡ Some r → CanBeSpelled (kept_behind from (take n rows))
     → CanBeSpelled (kept_rows (r ∷ [])) → CanBeSpelled (kept_behind from (take (n + 1) rows))
@@ -83,11 +73,9 @@ spelled_behind rows from n r high within is spelled one =
     (kept_behind from (take n rows)) (kept_rows (r ∷ [])) spelled one)
 
 -- all of them
-pub all_lines : (rows : List Row) (from n : ℕ) (text : List ℕ) → length rows ≤ n
-    → text ≡ rows_text (kept_behind from (take n rows))
-    → text ≡ rows_text (kept_behind from rows)
-all_lines rows from n text long lines =
-    lines ∙ ap (λ (rs : List Row). rows_text (kept_behind from rs)) (take_all n rows long)
+pub all_kept : (rows : List Row) (from n : ℕ) → length rows ≤ n
+    → kept_behind from (take n rows) ≡ kept_behind from rows
+all_kept rows from n long = ap (kept_behind from) (take_all n rows long)
 
 pub all_spelled : (rows : List Row) (from n : ℕ) → length rows ≤ n
     → CanBeSpelled (kept_behind from (take n rows)) → CanBeSpelled (kept_behind from rows)

@@ -6,5 +6,6 @@ pub mod Seals
 pub mod HistoryEnds
 pub mod ChapterBegins
 pub mod ChapterReading
+pub mod Rounds
 pub mod Readers
 pub mod Laws

@@ -1,20 +1,26 @@
 //! Where the text of a history ends, as far as it is read or written.
 
 ghost use Rattle.std.specs.Prelude.{◌≡◌, ◌≢◌, ◌++◌, ◌≤◌, ◌<◌, ◌+◌, ℕ, [], ◌∷◌, IfOk, List};
-ghost use Rattle.std.specs.Prelude.{OnOk, string_bytes, true};
+ghost use Rattle.std.specs.Prelude.{None, OnOk, Some, string_bytes, true};
+ghost use Rattle.stamps.specs.Stamps.{time_after};
 ghost use Rattle.chapters.specs.ChapterReading.{is_same_line};
 ghost use Rattle.chapters.specs.ChapterText.{first_lines, no_seal, seal_line, seal_of};
 ghost use Rattle.chapters.specs.ChapterText.{text_of_lines};
-ghost use Rattle.chapters.specs.HistoryEnds.{EndsAt};
+ghost use Rattle.chapters.specs.HistoryEnds.{EndsAt, one_more_row, rows_with};
 
 use crate::first_lines::{put_after, put_site, put_title};
+use crate::line_read::is_comment;
 use crate::seal::Unsealed;
 use site_base::NoMemory;
+use stamps::{Stamp, time_after};
 use std::alloc::Global;
 use std::marker::Model;
 
 /// A history has so many chapters at most: the names of their files have six digits.
 pub const MOST_CHAPTERS: u64 = 999_999;
+
+/// A seal stands behind so many lines of rows at most.
+pub const SEAL_ROWS: u64 = 256;
 
 /// What a seal's line begins with.
 pub(crate) const SEAL_MARK: &[u8] = b"# seal ";
@@ -31,6 +37,10 @@ pub struct HistoryEnd {
     unsealed: Unsealed,
     /// Nothing stands behind the last seal.
     is_sealed: bool,
+    /// So many lines of rows stand behind the last seal, counted up to 256.
+    rows: u64,
+    /// The last time that was told.
+    time: Option<Stamp>,
 }
 
 impl Model for HistoryEnd {
@@ -45,6 +55,8 @@ impl Model for HistoryEnd {
       seal = string_bytes e.seal;
       hasher = e.unsealed;
       sealed = e.is_sealed;
+      rows = e.rows;
+      time = e.time;
     } };
 
     ghost invariant = { λ e. e.chapters ≤ MOST_CHAPTERS };
@@ -53,7 +65,8 @@ impl Model for HistoryEnd {
 impl HistoryEnd {
     /// The end of a history without chapters.
     pub fn new(alloc: Global) -> Result<HistoryEnd, NoMemory>
-        ensures { IfOk result (EndsAt 0 no_seal []) }
+        ensures ends { IfOk result (EndsAt 0 no_seal []) }
+        ensures time { IfOk result (λ end. end.time ≡ None) }
     {
         let seal = String::from_str(alloc, NO_SEAL)?;
         let unsealed = Unsealed::behind(NO_SEAL.as_bytes());
@@ -62,6 +75,8 @@ impl HistoryEnd {
             seal,
             unsealed,
             is_sealed: true,
+            rows: 0,
+            time: None,
         })
     }
 
@@ -80,8 +95,22 @@ impl HistoryEnd {
         self.is_sealed
     }
 
+    /// So many lines of rows stand behind the last seal, counted up to 256.
+    pub(crate) fn rows(&self) -> u64
+        ensures { result ≡ self.now.rows }
+    {
+        self.rows
+    }
+
+    /// The last time that was told, if one was.
+    pub fn time(&self) -> Option<Stamp>
+        ensures { result ≡ self.now.time }
+    {
+        self.time
+    }
+
     /// The last seal; 64 zeros where there is none.
-    pub(crate) fn last_seal(&self) -> &str
+    pub fn last_seal(&self) -> &str
         ensures { result.now ≡ self.now.seal }
     {
         self.seal.as_str()
@@ -107,17 +136,35 @@ impl HistoryEnd {
             → EndsAt chapters seal [] self.old → octets.now ≡ text_of_lines lines → lines ≢ []
             → EndsAt (chapters + 1) seal lines self.new }
         ensures count { self.new.chapters ≡ self.old.chapters + 1 }
+        ensures time { self.new.time ≡ self.old.time }
     {
         self.chapters += 1;
         self.cover(octets);
     }
 
+    /// This time is told.
+    pub(crate) fn tell_time(&mut self, time: Stamp)
+        ensures { self.new ≡ record self.old { time = Some time } }
+    {
+        self.time = Some(time);
+    }
+
+    /// The line of one more row stands behind the last seal.
+    pub(crate) fn count_row(&mut self)
+        ensures { self.new ≡ record self.old { rows = one_more_row self.old.rows } }
+    {
+        if self.rows < SEAL_ROWS {
+            self.rows += 1;
+        }
+    }
+
     /// Behind the others stand these octets: lines.
-    pub fn cover(&mut self, octets: &[u8])
+    pub(crate) fn cover(&mut self, octets: &[u8])
         ensures covers { (chapters : ℕ) (seal : List ℕ) (unsealed lines : List (List ℕ))
             → EndsAt chapters seal unsealed self.old → octets.now ≡ text_of_lines lines
             → lines ≢ [] → EndsAt chapters seal (unsealed ++ lines) self.new }
         ensures count { self.new.chapters ≡ self.old.chapters }
+        ensures time { self.new.time ≡ self.old.time }
     {
         self.unsealed.cover(octets);
         self.is_sealed = false;
@@ -129,10 +176,16 @@ impl HistoryEnd {
             → EndsAt chapters seal unsealed self.old
             → EndsAt chapters seal (unsealed ++ line.now ∷ []) self.new }
         ensures count { self.new.chapters ≡ self.old.chapters }
+        ensures rows { self.new.rows ≡ rows_with line.now self.old.rows }
+        ensures time { self.new.time ≡ time_after line.now self.old.time }
     {
         self.unsealed.cover(line);
         self.unsealed.cover(b"\n");
         self.is_sealed = false;
+        self.time = time_after(line, self.time);
+        if !is_comment(line) {
+            self.count_row();
+        }
     }
 
     /// Reads the line of a seal; says whether it is the next one. Behind it there is nothing yet.
@@ -144,6 +197,7 @@ impl HistoryEnd {
             (unsealed : List (List ℕ)) → EndsAt chapters seal unsealed self.old
             → EndsAt chapters (seal_of seal unsealed) [] self.new) }
         ensures count { self.new.chapters ≡ self.old.chapters }
+        ensures time { self.new.time ≡ self.old.time }
     {
         let seal = self.seal(alloc)?;
         Ok(is_same(&seal, line))
@@ -158,7 +212,9 @@ impl HistoryEnd {
             (unsealed : List (List ℕ)) → EndsAt chapters seal unsealed self.old
             → EndsAt chapters (seal_of seal unsealed) [] self.new) }
         ensures sealed { OnOk result (self.new.sealed ≡ true) }
+        ensures rows { OnOk result (self.new.rows ≡ 0) }
         ensures count { self.new.chapters ≡ self.old.chapters }
+        ensures time { self.new.time ≡ self.old.time }
     {
         let mut line = self.seal(alloc)?;
         line.push(b'\n')?;
@@ -174,10 +230,13 @@ impl HistoryEnd {
             (unsealed : List (List ℕ)) → EndsAt chapters seal unsealed self.old
             → EndsAt chapters (seal_of seal unsealed) [] self.new) }
         ensures sealed { OnOk result (self.new.sealed ≡ true) }
+        ensures rows { OnOk result (self.new.rows ≡ 0) }
         ensures count { self.new.chapters ≡ self.old.chapters }
+        ensures time { self.new.time ≡ self.old.time }
     {
         self.seal = self.unsealed.seal(alloc)?;
         self.is_sealed = true;
+        self.rows = 0;
         let mut line = Vec::from_slice(alloc, SEAL_MARK)?;
         line.extend_from_slice(self.seal.as_bytes())?;
         Ok(line)

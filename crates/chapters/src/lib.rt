@@ -10,13 +10,13 @@ mod laws;
 mod line_read;
 mod reader;
 mod request_line;
-mod row_lines;
+mod round;
+mod row_line;
 mod seal;
 
 pub use chapter_begin::{CHAPTER_ROWS, ChapterBegin};
 pub use fault::HistoryFault;
 pub use first_lines::site_name;
-pub use history_end::{HistoryEnd, MOST_CHAPTERS};
+pub use history_end::{HistoryEnd, MOST_CHAPTERS, SEAL_ROWS};
 pub use laws::chapters_tell_their_history;
 pub use reader::{HistoryReader, ROWS_IN_MEMORY, ReadHistory, RowRead};
-pub use row_lines::put_rows;

@@ -1,6 +1,7 @@
 //! What a line of a chapter is read as.
 
 ghost use Rattle.std.specs.Prelude.{◌≡◌, None};
+ghost use Rattle.chapters.specs.ChapterReading.{is_comment};
 ghost use Rattle.chapters.specs.Readers.{is_right, row_read};
 
 use site_base::Row;
@@ -28,4 +29,11 @@ impl LineRead {
             LineRead::Wrong
         }
     }
+}
+
+/// Is the line a comment?
+pub(crate) fn is_comment(line: &[u8]) -> bool
+    ensures { result ≡ is_comment line.now }
+{
+    line.starts_with(b"#")
 }

@@ -8,7 +8,7 @@ ghost use Rattle.site_book.specs.Book.{next_row};
 ghost use Rattle.site_book.specs.Unpaid.{GoesBy};
 ghost use Rattle.chapters.specs.declared.history_end.TheConstants.{MOST_CHAPTERS};
 ghost use Rattle.chapters.specs.ChapterBegins.{begin_of};
-ghost use Rattle.chapters.specs.ChapterReading.{HistoryRead, is_comment, read_line, read_text};
+ghost use Rattle.chapters.specs.ChapterReading.{HistoryRead, read_line, read_text};
 ghost use Rattle.chapters.specs.ChapterText.{first_lines, text_of_lines};
 ghost use Rattle.chapters.specs.History.{IsMadeOf};
 ghost use Rattle.chapters.specs.Lines.{unfinished, whole_lines};
@@ -21,7 +21,7 @@ use crate::chapter_begin::ChapterBegin;
 use crate::fault::HistoryFault;
 use crate::first_lines::meet_first_lines;
 use crate::history_end::{HistoryEnd, SEAL_MARK};
-use crate::line_read::LineRead;
+use crate::line_read::{LineRead, is_comment};
 use crate::request_line::LineReader;
 use memchr::memchr;
 use site_base::{Actor, Event, NoMemory, Placed, Row, SiteConfig};
@@ -386,11 +386,4 @@ impl HistoryReader {
             begin: self.begin,
         }
     }
-}
-
-/// Is the line a comment?
-fn is_comment(line: &[u8]) -> bool
-    ensures { result ≡ is_comment line.now }
-{
-    line.starts_with(b"#")
 }

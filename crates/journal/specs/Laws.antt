@@ -9,7 +9,7 @@ use Rattle.kept_history.specs.KeptRows.{kept_rows}
 use Rattle.site_book.specs.Book.{Book}
 use Rattle.station.specs.Runs.{Move, after, opening_station}
 use Rattle.chapters.specs.History.{rows_asked}
-use Rattle.chapters.specs.RowText.{CanBeSpelled, IsSent, rows_text}
+use Rattle.chapters.specs.RowText.{IsSent}
 use Rattle.journal.specs.Disks.{DiskFile, GoesOn, Moment, moment_of}
 use Rattle.journal.specs.Lives.{IsLife, end_of}
 use Rattle.journal.specs.Readings.{IsRead, TellsNothing, TellsWhole}
@@ -38,12 +38,14 @@ ToldRowsAreFoundAgain = (s : StoredState) (j : JournalState) (f : DiskFile) (key
     → b.config ≡ s.station.book.config → IsRead j.site (end_of (moment_of f) life) b
     → BeginsWithRows (kept_rows s.station.book.rows) b
 
--- A beginning of the lines that a store writes is never refused: take chapters that tell rows, and
--- a beginning of the lines of more rows behind them.
+-- A beginning of what a store writes is never refused, lines of times and of seals included: take
+-- chapters that tell rows, and also do with a text behind them. With a beginning of it they tell
+-- something.
 abbrev pub BeginningsAreRead : Type 0
-BeginningsAreRead = (site : List ℕ) (m : Moment) (told more : List Row) (n : ℕ)
-    → TellsWhole site m (events_of told) → CanBeSpelled more → kept_rows more ≡ more
-    → TellsNothing site (record m { front = m.front ++ take n (rows_text more) }) → ⊥
+BeginningsAreRead = (site : List ℕ) (m : Moment) (told more : List Row) (text : List ℕ) (n : ℕ)
+    → TellsWhole site m (events_of told)
+    → TellsWhole site (record m { front = m.front ++ text }) (events_of more)
+    → TellsNothing site (record m { front = m.front ++ take n text }) → ⊥
 
 -- A legal history, however long it is, is made again of its requests, replies included.
 abbrev pub HistoriesAreMadeAgain : Type 0

@@ -6,10 +6,10 @@ use Rattle.written_site.specs.SiteState.{is_signed_on}
 use Rattle.site_book.specs.Book.{Book, site_of_book}
 use Rattle.station.specs.Runs.{opening_station}
 use Rattle.station.specs.Sessions.{without_till}
-use Rattle.journal.specs.Disks.{DiskFile, Grows, Keeps, OfFile, OfFiles}
-use Rattle.chapters.specs.RowText.{kept_behind, rows_text}
+use Rattle.journal.specs.Disks.{DiskFile, Keeps, OfFile, OfFiles}
+use Rattle.chapters.specs.RowText.{kept_behind}
 use Rattle.journal.specs.Recovering.{IsReadIn, KeepsWholeLines}
-use Rattle.journal.specs.Stored.{JournalState, StoredState, is_all_stored}
+use Rattle.journal.specs.Stored.{GrowsByRound, JournalState, StoredState, is_all_stored}
 
 -- no till is signed on
 abbrev pub HasNobodyOn : Book → Type 0
@@ -25,9 +25,10 @@ abbrev pub all_off : Book → Book
 all_off b = tills_off TILLS b
 
 -- a station without peers, at the recovered book with the sign-offs of those that are signed on
--- behind it; each row is stored in the journal, which goes on from this disk by their lines
-pub record Resumes (site : List ℕ) (recovered : Book) (file : Option DiskFile) (s : StoredState)
-    : Type 0 where
+-- behind it; each row is stored in the journal, which goes on from this disk by their lines, at this
+-- time behind the last one
+pub record Resumes (site : List ℕ) (recovered : Book) (last now : Option (List ℕ))
+    (file : Option DiskFile) (s : StoredState) : Type 0 where
   pub alone : s.station ≡ opening_station s.station.book
   pub rows : s.station.book ≡ all_off recovered
   pub off : HasNobodyOn s.station.book
@@ -36,7 +37,7 @@ pub record Resumes (site : List ℕ) (recovered : Book) (file : Option DiskFile)
   pub there : s.journal ≡ Some journal
   pub named : journal.site ≡ site
   pub lines : OfFiles
-      (Grows (rows_text (kept_behind (length recovered.rows) s.station.book.rows))) file
+      (GrowsByRound last now (kept_behind (length recovered.rows) s.station.book.rows)) file
       journal.file
   pub moments : OfFiles Keeps file journal.file
 

@@ -14,12 +14,13 @@ use Rattle.chapters.specs.declared.chapter_begin.ChapterBegin.{ChapterBegin}
 use Rattle.chapters.specs.ChapterReading.{HistoryRead}
 use Rattle.chapters.specs.History.{IsHistory}
 use Rattle.chapters.specs.HistoryEnds.{EndState, EndsAt}
-use Rattle.chapters.specs.RowText.{CanBeSpelled, IsSent, kept_behind, kept_first, rows_text}
+use Rattle.chapters.specs.Rounds.{IsRound}
+use Rattle.chapters.specs.RowText.{CanBeSpelled, IsSent, kept_behind, kept_first}
 use Rattle.journal.specs.Readings.{TellsWhole}
 
 -- the name of its site, how many rows a journal has stored, whether a write or a flush has failed,
 -- where its text ends, where its open chapter began, at how many kept rows the next one was refused
--- last, and its disk, where that is known
+-- last, the time of this round, whether a seal is due at its end, and its disk, where that is known
 pub record JournalState : Type 0 where
   pub site : List ℕ
   pub stored : ℕ
@@ -27,6 +28,8 @@ pub record JournalState : Type 0 where
   pub end : EndState
   pub begin : ChapterBegin
   pub refused : Option ℕ
+  pub now : Option (List ℕ)
+  pub due : Bool
   pub file : Option DiskFile
 
 -- a station, the unpaid transactions as far as they were read, and its journal if it has one
@@ -84,9 +87,17 @@ JournalGoesOn None None = ⊤
 JournalGoesOn (Some a) (Some b) = (b.site ≡ a.site) × OfFiles Keeps a.file b.file
 JournalGoesOn a b = ⊥
 
--- behind what the journal's file had stand the lines of the rows that it hadn't stored
+-- behind what a file had stand the lines of a round at this time: of these rows, and seals
+pub record GrowsByRound (last now : Option (List ℕ)) (rows : List Row) (old new : DiskFile)
+    : Type 0 where
+  pub text : List ℕ
+  pub round : IsRound last now rows text
+  pub grows : Grows text old new
+
+-- .. of the rows that a journal hadn't stored
 abbrev pub GrowsByLines : List Row → JournalState → JournalState → Type 0
-GrowsByLines rows a b = OfFiles (Grows (rows_text (kept_behind a.stored rows))) a.file b.file
+GrowsByLines rows a b =
+    OfFiles (GrowsByRound a.end.time a.now (kept_behind a.stored rows)) a.file b.file
 
 abbrev pub WritesLines : List Row → Option JournalState → Option JournalState → Type 0
 WritesLines rows None None = ⊤

@@ -11,13 +11,18 @@ ghost use Rattle.journal.specs.Disks.{Keeps, OfFiles};
 ghost use Rattle.journal.specs.Stored.{GrowsByLines, HasBegun, IsJournalOf};
 
 use crate::disk::{Disk, DiskFault};
-use chapters::{ChapterBegin, HistoryEnd, MOST_CHAPTERS, put_rows};
+use chapters::{ChapterBegin, HistoryEnd, MOST_CHAPTERS};
 use site_book::SiteBook;
+use stamps::Stamp;
 use std::alloc::Global;
 use std::marker::Model;
+use std::time::{Duration, Instant};
 
 /// Where the next chapter was refused, it is tried again so many kept rows later.
 pub const RETRY_ROWS: u64 = 1_024;
+
+/// A round that begins longer than this after the last seal ends with one.
+const SEAL_INTERVAL: Duration = Duration::from_secs(1);
 
 /// What became of a chapter that may be over.
 #[derive(Clone, Copy, Debug, PartialEq, Eq)]
@@ -44,7 +49,15 @@ pub struct Journal<D: Disk> {
     /// So many rows are stored.
     stored: u64,
     has_failed: bool,
-    /// The lines of the rows that are stored next.
+    /// The time of this round, if it is known.
+    now: Option<Stamp>,
+    /// When this round began.
+    round_at: Option<Instant>,
+    /// When the round began that ended with the last seal.
+    sealed_at: Option<Instant>,
+    /// A seal is due at the end of this round.
+    is_due: bool,
+    /// The lines of this round.
     text: Vec<u8>,
 }
 
@@ -61,13 +74,15 @@ impl<D: Disk> Model for Journal<D> {
       end = j.end;
       begin = j.begin;
       refused = j.refused;
+      now = j.now;
+      due = j.is_due;
       file = D.file j.disk;
     } };
 }
 
 impl<D: Disk> Journal<D> {
     /// The journal of a site on this disk, whose chapters end so, the last of which began so, and
-    /// which have so many rows.
+    /// which have so many rows; the first round is at this time.
     pub(crate) fn new(
         alloc: Global,
         disk: D,
@@ -75,6 +90,7 @@ impl<D: Disk> Journal<D> {
         end: HistoryEnd,
         begin: ChapterBegin,
         stored: u64,
+        now: Option<Stamp>,
     ) -> Journal<D>
         ensures { result ≡ record {
           site = string_bytes site;
@@ -83,6 +99,8 @@ impl<D: Disk> Journal<D> {
           end = end;
           begin = begin;
           refused = None;
+          now = now;
+          due = true;
           file = D.file disk;
         } }
     {
@@ -95,6 +113,10 @@ impl<D: Disk> Journal<D> {
             refused: None,
             stored,
             has_failed: false,
+            now,
+            round_at: None,
+            sealed_at: None,
+            is_due: true,
             text: Vec::new(alloc),
         }
     }
@@ -113,10 +135,28 @@ impl<D: Disk> Journal<D> {
         self.stored
     }
 
-    /// Stores the rows of the book that aren't stored yet, but for those of reads: they are written
-    /// behind the others by one call, and synced by another. Where there are only reads, nothing is
-    /// written or synced. Where the disk fails the journal takes no more; where there is no memory
-    /// for the lines nothing is written, and it may be asked again.
+    /// A round begins at this time, if it is known. Where it stores rows, it ends with a seal if it
+    /// begins more than a second after the last one. It says whether the time is before the last one that the
+    /// journal tells: that one is repeated then.
+    pub(crate) fn begin_round(&mut self, now: Option<Stamp>, at: Instant) -> bool
+        ensures { self.new ≡ record self.old { now = now; due = self.new.due } }
+    {
+        self.now = now;
+        self.round_at = Some(at);
+        self.is_due = match self.sealed_at {
+            None => true,
+            Some(sealed) => at.duration_since(sealed) > SEAL_INTERVAL,
+        };
+        match (now, self.end.time()) {
+            (Some(now), Some(last)) => now.is_before(&last),
+            _ => false,
+        }
+    }
+
+    /// Stores the rows of the book that aren't stored yet, but for those of reads: their lines,
+    /// with the round's time and seals, are written behind the others by one call, and synced by
+    /// another. Where there are only reads, nothing is written or synced. Where the disk fails, or
+    /// there is no memory for the lines, the journal takes no more.
     pub(crate) fn store(&mut self, book: &SiteBook) -> Result<(), DiskFault>
         requires journal { IsJournalOf book.now.rows self.old }
         requires sent { AllByRecursion IsSent book.now.rows }
@@ -137,16 +177,21 @@ impl<D: Disk> Journal<D> {
         if count == self.stored {
             return Ok(());
         }
-        put_rows(self.alloc, book, self.stored, &mut self.text)?;
+        self.has_failed = true;
+        self.end
+            .put_round(self.alloc, book, self.stored, self.now, &mut self.text)?;
         if self.text.is_empty() {
+            self.has_failed = false;
             self.stored = count;
             return Ok(());
         }
-        self.has_failed = true;
+        if self.is_due {
+            self.end.put_seal(self.alloc, &mut self.text)?;
+            self.sealed_at = self.round_at;
+        }
         self.disk.append(&self.text)?;
         self.disk.sync()?;
         self.has_failed = false;
-        self.end.cover(&self.text);
         self.stored = count;
         Ok(())
     }
@@ -200,21 +245,19 @@ impl<D: Disk> Journal<D> {
         ensures site { self.new.site ≡ self.old.site }
         ensures moments { OfFiles Keeps self.old.file self.new.file }
     {
-        if self.has_failed {
-            return Err(DiskFault::Failed);
+        match self.seal() {
+            Ok(()) => {}
+            Err(fault) => return Err(fault),
         }
         if self.end.chapters() >= MOST_CHAPTERS {
             return Ok(false);
         }
-        match self.seal() {
-            Ok(()) => self.begin_chapter(),
-            Err(fault) => Err(fault),
-        }
+        self.begin_chapter()
     }
 
-    /// Puts a seal behind the last row, if there is none.
-    fn seal(&mut self) -> Result<(), DiskFault>
-        requires { self.old.failed ≡ false }
+    /// Puts a seal behind the last row, if there is none. Where the disk fails, or memory is
+    /// wanting, the journal takes no more.
+    pub(crate) fn seal(&mut self) -> Result<(), DiskFault>
         ensures journal { (rows : List RowFacts) → IsJournalOf rows self.old
             → IsJournalOf rows self.new }
         ensures whole { OnOk result (self.new.failed ≡ false) }
@@ -226,6 +269,9 @@ impl<D: Disk> Journal<D> {
         ensures site { self.new.site ≡ self.old.site }
         ensures moments { OfFiles Keeps self.old.file self.new.file }
     {
+        if self.has_failed {
+            return Err(DiskFault::Failed);
+        }
         if self.end.is_sealed() {
             return Ok(());
         }
@@ -234,6 +280,7 @@ impl<D: Disk> Journal<D> {
         let target = &mut self.disk;
         target.append(&line)?;
         target.sync()?;
+        self.sealed_at = self.round_at;
         self.has_failed = false;
         Ok(())
     }

@@ -22,6 +22,7 @@ use crate::stored_station::StoredStation;
 use chapters::ReadHistory;
 use site_base::{SiteConfig, TILLS, TillNo};
 use site_book::SiteBook;
+use stamps::Stamp;
 use std::alloc::Global;
 
 /// A station that goes on where its journal ended.
@@ -44,7 +45,7 @@ pub struct Unopened<D: Disk> {
 
 /// Opens the station of the history of the site of this name, whatever a crash has left of it: its
 /// rows are made again, and the session of each till that is signed on is gone, so that it is
-/// signed off. Where nothing is written yet there are no rows.
+/// signed off, at this time. Where nothing is written yet there are no rows.
 ///
 /// `Unread` comes where a chapter can't be read, and `Refused` where one is wrong, or doesn't go on
 /// from the one before: these leave the chapters as they are. `Unwritten` comes where
@@ -54,6 +55,7 @@ pub fn open_journal<D: Disk>(
     config: &SiteConfig,
     site: String,
     disk: D,
+    now: Option<Stamp>,
 ) -> Result<Opened<D>, Unopened<D>>
     requires { LEAST_ROWS ≤ config.now.rows }
     ensures alone { IfOk result
@@ -81,18 +83,19 @@ pub fn open_journal<D: Disk>(
         Err(fault) => return Err(Unopened { fault, disk }),
     };
     let rows = recovered.book.len();
-    match resume(alloc, recovered, disk) {
+    match resume(alloc, recovered, disk, now) {
         Ok(station) => Ok(Opened { station, rows }),
         Err(unopened) => Err(unopened),
     }
 }
 
 /// The station of what was recovered from this disk. Each till that is signed on is signed off, and
-/// that is stored. The faults are `NoMemory` and `Unwritten`.
+/// that is stored at this time. The faults are `NoMemory` and `Unwritten`.
 pub fn resume<D: Disk>(
     alloc: Global,
     recovered: ReadHistory,
     disk: D,
+    now: Option<Stamp>,
 ) -> Result<StoredStation<D>, Unopened<D>>
     requires sent { AllByRecursion IsSent recovered.book.rows }
     requires kept { kept_rows recovered.book.rows ≡ recovered.book.rows }
@@ -102,7 +105,8 @@ pub fn resume<D: Disk>(
     requires settled { OfFile (HoldsRows (string_bytes recovered.site) recovered.book.rows false
         recovered.end) (D.file disk) }
     ensures resumed { IfOk result
-        (λ s. Resumes (string_bytes recovered.site) recovered.book (D.file disk) s) }
+        (λ s. Resumes (string_bytes recovered.site) recovered.book recovered.end.time now
+        (D.file disk) s) }
     ensures fault { IfErr result (λ u. IsRefusal u.fault → ⊥) }
     ensures moments { IfErr result (λ u. OfFiles Keeps (D.file disk) (D.file u.disk)) }
 {
@@ -116,6 +120,7 @@ pub fn resume<D: Disk>(
         recovered.end,
         recovered.begin,
         rows,
+        now,
     );
     match journal.store(&book) {
         Ok(()) => Ok(StoredStation::with_journal(alloc, book, recovered.unpaid, journal)),

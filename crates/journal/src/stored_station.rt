@@ -26,9 +26,11 @@ use crate::journal::{ChapterEnd, Journal};
 use crate::memory::most_in_memory;
 use site_base::{NoMemory, SiteConfig};
 use site_book::{NamedSale, SiteBook, UnpaidSales};
+use stamps::Stamp;
 use station::{PeerEnd, Station};
 use std::alloc::Global;
 use std::marker::Model;
+use std::time::Instant;
 
 /// A station, and its journal if it has one. Its moves are the station's own; what a peer is owed
 /// is handed out only while each row is stored. The rows in memory are forgotten once they are
@@ -162,6 +164,32 @@ impl<D: Disk> StoredStation<D> {
         ensures journal { self.new.journal ≡ self.old.journal }
     {
         self.station.hear(key, octets);
+    }
+
+    /// A round begins at this time, if it is known. It says whether that is before the last time
+    /// that the history tells, which is repeated then.
+    pub fn begin_round(&mut self, now: Option<Stamp>, at: Instant) -> bool
+        ensures station { self.new.station ≡ self.old.station }
+        ensures stored { is_all_stored self.new ≡ is_all_stored self.old }
+        ensures journal { JournalGoesOn self.old.journal self.new.journal }
+    {
+        match &mut self.journal {
+            None => false,
+            Some(journal) => journal.begin_round(now, at),
+        }
+    }
+
+    /// Puts a seal behind the last row of the journal, if it has one that isn't sealed: at the day's
+    /// end. After an error the journal takes no more.
+    pub fn seal(&mut self) -> Result<(), DiskFault>
+        ensures station { self.new.station ≡ self.old.station }
+        ensures stored { is_all_stored self.new ≡ is_all_stored self.old }
+        ensures journal { JournalGoesOn self.old.journal self.new.journal }
+    {
+        match &mut self.journal {
+            None => Ok(()),
+            Some(journal) => journal.seal(),
+        }
     }
 
     /// Stores each row that isn't stored yet: what peers are owed may be told then. Where that

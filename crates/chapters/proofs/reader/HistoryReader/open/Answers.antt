@@ -8,7 +8,7 @@ returns-clause-nothing c = record {
   reading = nothing_read;
   read = refl;
   keeps = record {
-    ends = c.in_ok-new.ensures;
+    ends = c.in_ok-new.ensures.ends;
     made = ap (λ (b : Book). b.rows) c.in_ok-book.ensures;
   };
   torn = refl;

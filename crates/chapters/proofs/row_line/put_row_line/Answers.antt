@@ -2,7 +2,7 @@ use Rattle.std.proofs.Common.{◌++◌, ◌∙◌, ap, rules, subst}
 use Rattle.device_map.specs.Laws.{AsksFor}
 use Rattle.device_map.proofs.OneRequest.{alone}
 use Rattle.hex_lines.specs.Lines.{line_of}
-use Rattle.chapters.proofs.row_lines.put_row_line.Goals as goal
+use Rattle.chapters.proofs.row_line.put_row_line.Goals as goal
 
 pub returns-clause-line : goal.returns-clause-line
 returns-clause-line c =

@@ -1,0 +1,228 @@
+-- What is written of a round, part by part.
+use Rattle.std.proofs.Common.{◌≡◌, ℕ, Bool, true, false, List, [], ◌∷◌, ◌++◌, Option, Some, None}
+use Rattle.std.proofs.Common.{refl, sym, ap, ◌∙◌, append-nil, append_assoc, arith, drop, inl, inr}
+use Rattle.std.proofs.Common.{length, subst}
+use Rattle.std.specs.Prelude.{◌≢◌, ◌&&◌, ◌==◌, filter, not, if◌then◌else◌}
+use Rattle.std.specs.List.{AllByRecursion, list_all}
+use Rattle.std.proofs.Math.Seq.{drop-append_seam}
+use Rattle.std.proofs.lemmas.Bool.{cases_eq, ne_eqb}
+use Rattle.std.proofs.lemmas.Bool.Decides.{nat_tests}
+use Rattle.std.proofs.lemmas.Grind.{common_steps}
+use Rattle.std.proofs.lemmas.List.Elements.{filter-append}
+use Rattle.site_base.specs.declared.actor.Actor.{Actor}
+use Rattle.site_base.specs.declared.event.Event.{Event}
+use Rattle.site_base.specs.declared.row.Row.{Row}
+use Rattle.hex_lines.specs.Lines.{IsLine}
+use Rattle.stamps.specs.Stamps.{are_formed, at_line, is_formed, is_later, is_stamp, later_of}
+use Rattle.stamps.specs.Stamps.{stamp_form}
+use Rattle.written_site.specs.SiteRun.{events_of}
+use Rattle.chapters.specs.ChapterReading.{HistoryRead, and_then, is_of_seal, read_line, read_lines}
+use Rattle.chapters.specs.ChapterReading.{with_line, with_seal}
+use Rattle.chapters.specs.ChapterText.{row_digits, seal_line, seal_mark, seal_of, text_of_lines}
+use Rattle.chapters.specs.HistoryEnds.{EndState, EndsAt}
+use Rattle.chapters.specs.Rounds.{Writes, round_lines, stamp_lines, time_behind, without_seals}
+use Rattle.chapters.specs.RowText.{row_line}
+use Rattle.chapters.proofs.Chapters.{IsTold, row_asks, rows_plain, rows_read, seal_plain, seal_read}
+use Rattle.chapters.proofs.Chapters.{with_rows}
+use Rattle.chapters.proofs.FirstLines.{begins_itself, texts_both}
+use Rattle.chapters.proofs.Lists.{all_both}
+use Rattle.chapters.proofs.Octets.{plain_both}
+use Rattle.chapters.proofs.Reading.{read_both}
+use Rattle.chapters.proofs.Requests.{events_both}
+
+-- nothing more
+pub writes_nothing : (chapters : ℕ) (r : HistoryRead) (e : EndState) (text : List ℕ)
+    → EndsAt chapters r.seal r.unsealed e → Writes [] [] chapters r e text text
+writes_nothing chapters r e text ends = record {
+  lines = [];
+  grows = sym (append-nil text);
+  plain = tt;
+  says = refl;
+  reading = r;
+  read = refl;
+  told = sym (append-nil r.events);
+  ends = ends;
+}
+
+-- one part, and then another
+pub writes_then : (said more : List (List ℕ)) (rows others : List Row) (chapters : ℕ)
+    (r : HistoryRead) (mid new : EndState) (a b c : List ℕ)
+    → (one : Writes said rows chapters r mid a b)
+    → Writes more others chapters one.reading new b c
+    → Writes (said ++ more) (rows ++ others) chapters r new a c
+writes_then said more rows others chapters r mid new a b c one two = record {
+  lines = one.lines ++ two.lines;
+  grows =
+      two.grows ∙ ap (λ (xs : List ℕ). xs ++ text_of_lines two.lines) one.grows
+      ∙ append_assoc a (text_of_lines one.lines) (text_of_lines two.lines)
+      ∙ ap (λ (xs : List ℕ). a ++ xs) (sym (texts_both one.lines two.lines));
+  plain = all_both IsLine one.lines two.lines one.plain two.plain;
+  says =
+      filter-append (λ line. not (is_of_seal line)) one.lines two.lines
+      ∙ ap (λ (ls : List (List ℕ)). ls ++ without_seals two.lines) one.says
+      ∙ ap (λ (ls : List (List ℕ)). said ++ ls) two.says;
+  reading = two.reading;
+  read =
+      read_both one.lines two.lines r
+      ∙ ap (λ (o : Option HistoryRead). and_then o (read_lines two.lines)) one.read ∙ two.read;
+  told =
+      two.told ∙ ap (λ (es : List (Actor × Event)). es ++ events_of others) one.told
+      ∙ append_assoc r.events (events_of rows) (events_of others)
+      ∙ ap (λ (es : List (Actor × Event)). r.events ++ es) (sym (events_both rows others));
+  ends = two.ends;
+}
+
+-- ---- a stamp
+
+and_left : (a b : Bool) → (a && b) ≡ true → a ≡ true
+and_left true b both = refl
+and_left false b both = absurd cc
+
+and_right : (a b : Bool) → (a && b) ≡ true → b ≡ true
+and_right true b both = both
+and_right false b both = absurd cc
+
+not_feed : (form octet : ℕ) → not (form == 10) ≡ true → is_formed form octet ≡ true
+    → not (octet == 10) ≡ true
+not_feed form octet plain formed = elim (cases_eq octet 10) [
+  | inl is ↦ absurd (feed_fits form plain
+      (subst (λ (x : ℕ). is_formed form x ≡ true) is formed))
+  | inr other ↦ ap not (ne_eqb octet 10 other)
+]
+  where
+    feed_fits : (f : ℕ) → not (f == 10) ≡ true → is_formed f 10 ≡ true → ⊥
+    feed_fits f plain fits = elim (cases_eq f 48) [
+      | inl is ↦ cc (subst (λ (x : ℕ). is_formed x 10 ≡ true) is fits)
+      | inr other ↦ grind (arith, nat_tests, common_steps)
+    ]
+
+-- octets of a form without a line feed have none
+formed_plain : (form octets : List ℕ) → IsLine form → are_formed form octets ≡ true
+    → IsLine octets
+formed_plain [] [] plain formed = refl
+formed_plain [] (b ∷ bs) plain formed = absurd cc
+formed_plain (f ∷ form) [] plain formed = refl
+formed_plain (f ∷ form) (b ∷ bs) plain formed =
+    let no = not_feed f b (and_left _ _ plain) (and_left _ _ formed) in
+    rw no (formed_plain form bs (and_right _ _ plain) (and_right _ _ formed))
+
+pub writes_stamp : (time : List ℕ) (chapters : ℕ) (r : HistoryRead) (new : EndState)
+    (text longer : List ℕ) → is_stamp time ≡ true
+    → longer ≡ text ++ text_of_lines (at_line time ∷ [])
+    → EndsAt chapters r.seal (r.unsealed ++ at_line time ∷ []) new
+    → Writes (at_line time ∷ []) [] chapters r new text longer
+writes_stamp time chapters r new text longer formed grows ends = record {
+  lines = at_line time ∷ [];
+  grows = grows;
+  plain = (plain_both (at_line []) time refl (formed_plain stamp_form time refl formed), tt);
+  says = refl;
+  reading = with_line (at_line time) r;
+  read = refl;
+  told = sym (append-nil r.events);
+  ends = ends;
+}
+
+-- ---- a row
+
+pub writes_row : (row : Row) (chapters : ℕ) (r : HistoryRead) (new : EndState)
+    (text longer : List ℕ) → IsTold row → longer ≡ text ++ row_line row
+    → EndsAt chapters r.seal (r.unsealed ++ row_digits row ∷ []) new
+    → Writes (row_digits row ∷ []) (row ∷ []) chapters r new text longer
+writes_row row chapters r new text longer told grows ends = record {
+  lines = row_digits row ∷ [];
+  grows = grows ∙ ap (λ (xs : List ℕ). text ++ xs) (sym (append-nil (row_line row)));
+  plain = rows_plain (row ∷ []) (told, tt);
+  says = rw (row_asks row told).0 refl;
+  reading = with_rows (row ∷ []) r;
+  read = rows_read (row ∷ []) r (told, tt);
+  told = refl;
+  ends = ends;
+}
+
+-- ---- a seal
+
+pub writes_seal : (chapters : ℕ) (r : HistoryRead) (new : EndState) (line text longer : List ℕ)
+    → line ≡ text_of_lines (seal_line (seal_of r.seal r.unsealed) ∷ []) → longer ≡ text ++ line
+    → EndsAt chapters (seal_of r.seal r.unsealed) [] new
+    → Writes [] [] chapters r new text longer
+writes_seal chapters r new line text longer is grows ends =
+    let seal : List ℕ = seal_of r.seal r.unsealed in
+    record {
+      lines = seal_line seal ∷ [];
+      grows = grows ∙ ap (λ (xs : List ℕ). text ++ xs) is;
+      plain = (seal_plain r.seal r.unsealed, tt);
+      says = ap (λ (t : Bool). if not t then seal_line seal ∷ [] else []) (begins_itself seal_mark seal);
+      reading = with_seal r;
+      read = ap (λ (o : Option HistoryRead). and_then o (read_lines [])) (seal_read r);
+      told = sym (append-nil r.events);
+      ends = ends;
+    }
+
+-- ---- row after row
+
+pub time_more : (last now : Option (List ℕ)) (a b : List Row)
+    → time_behind last now (a ++ b) ≡ time_behind (time_behind last now a) now b
+time_more last now [] b = refl
+time_more last now (r ∷ a) b = time_more (later_of last now) now a b
+
+pub lines_more : (last now : Option (List ℕ)) (a b : List Row)
+    → round_lines last now (a ++ b)
+    ≡ round_lines last now a ++ round_lines (time_behind last now a) now b
+lines_more last now [] b = refl
+lines_more last now (r ∷ a) b =
+    ap (λ (ls : List (List ℕ)). stamp_lines last now ++ (row_digits r ∷ ls))
+    (lines_more (later_of last now) now a b)
+    ∙ sym (append_assoc (stamp_lines last now)
+    (row_digits r ∷ round_lines (later_of last now) now a)
+    (round_lines (time_behind (later_of last now) now a) now b))
+
+-- two lists of which one is behind the other have nothing only if neither has
+pub none_both : {X : Type 0} (a b : List X) → a ++ b ≡ [] → (a ≡ []) × (b ≡ [])
+none_both [] b none = (refl, none)
+none_both (x ∷ a) b none = absurd cc
+
+-- ---- a place in a text
+
+pub behind_start : (text more whole : List ℕ) (n : ℕ) → n ≡ length text → whole ≡ text ++ more
+    → drop n whole ≡ more
+behind_start text more whole n at is =
+    ap (λ (k : ℕ). drop k whole) at ∙ ap (drop (length text)) is ∙ drop-append_seam text more
+
+pub some_line : (line : List ℕ) → line ∷ [] ≢ []
+some_line line none = absurd (cc none)
+
+-- how many rows are counted says nothing of where a text ends
+pub counted_ends : (chapters : ℕ) (seal : List ℕ) (unsealed : List (List ℕ)) (e new : EndState)
+    (rows : ℕ) → new ≡ record e { rows = rows } → EndsAt chapters seal unsealed e
+    → EndsAt chapters seal unsealed new
+counted_ends chapters seal unsealed e new rows is ends =
+    subst (EndsAt chapters seal unsealed) (sym is)
+    (record { count = ends.count; last = ends.last; covers = ends.covers; sealed = ends.sealed })
+
+-- nor does the last time
+pub told_ends : (chapters : ℕ) (seal : List ℕ) (unsealed : List (List ℕ)) (e new : EndState)
+    (time : Option (List ℕ)) → new ≡ record e { time = time } → EndsAt chapters seal unsealed e
+    → EndsAt chapters seal unsealed new
+told_ends chapters seal unsealed e new time is ends =
+    subst (EndsAt chapters seal unsealed) (sym is)
+    (record { count = ends.count; last = ends.last; covers = ends.covers; sealed = ends.sealed })
+
+-- ---- whether a stamp is due
+
+pub is_none : {X : Type 0} (o : Option X) → ((x : X) → o ≡ Some x → ⊥) → o ≡ None
+is_none None some = refl
+is_none (Some x) some = absurd (some x refl)
+
+pub no_stamp : (last was now : Option (List ℕ)) (time : List ℕ) → now ≡ Some time → was ≡ last
+    → is_later was time ≡ false → stamp_lines last now ≡ []
+no_stamp last was now time some same later =
+    ap (stamp_lines last) some
+    ∙ ap (λ (t : Bool). if t then at_line time ∷ [] else [])
+    (ap (λ (l : Option (List ℕ)). is_later l time) (sym same) ∙ later)
+
+pub one_stamp : (last was now : Option (List ℕ)) (time : List ℕ) → now ≡ Some time → was ≡ last
+    → is_later was time ≡ true → stamp_lines last now ≡ at_line time ∷ []
+one_stamp last was now time some same later =
+    ap (stamp_lines last) some
+    ∙ ap (λ (t : Bool). if t then at_line time ∷ [] else [])
+    (ap (λ (l : Option (List ℕ)). is_later l time) (sym same) ∙ later)

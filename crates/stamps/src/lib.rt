@@ -1,0 +1,6 @@
+//! The times of a history: a stamp is the line of one, and times never fall.
+#![tactic(auto)]
+
+mod stamp;
+
+pub use stamp::{AT_MARK, Stamp, is_later, later, stamp_in, time_after};
