@@ -178,16 +178,17 @@ module _ {P : Turn → Type 0} (keeps : Keeps P) where
 
   -- whatever comes of its peer
   pub heard_keeps : (input : Input) (t : Turn) → t.session.end ≡ None
-      → ((h : Held) → P (holding h t)) → P (after_input input t)
-  heard_keeps (Piece g piece) t lasts holds =
+      → P t → ((piece : List ℕ) → P (holding (held_part (fed_by t.session.held piece)) t))
+      → P (after_input input t)
+  heard_keeps (Piece g piece) t lasts p holds =
       let fed = fed_by t.session.held piece in
       let start = holding (held_part fed) t in
       by_memory P g piece t
       (refused_keeps g.refusal fed.fault (answer_all g.messages fed.messages start)
-      (all_keep g.messages fed.messages start (holds (held_part fed))))
-      (keeps.ends no_memory t lasts (holds t.session.held))
-  heard_keeps NoMore t lasts holds =
-      keeps.ends (end_by (left_over t.session.held.rest)) t lasts (holds t.session.held)
+      (all_keep g.messages fed.messages start (holds piece)))
+      (keeps.ends no_memory t lasts p)
+  heard_keeps NoMore t lasts p holds =
+      keeps.ends (end_by (left_over t.session.held.rest)) t lasts p
 
 -- ---- where a move leads
 
@@ -353,7 +354,7 @@ module _ {B : Book → Type 0} (rows : RowsKeep B) where
     stays = kept;
     comes = λ none. kept;
     turns = λ input x there lasts.
-        heard_keeps rows_keep input (turn_at s x) lasts (λ h. kept);
+        heard_keeps rows_keep input (turn_at s x) lasts kept (λ piece. kept);
     takes = λ n x there. kept;
     leaves = λ later x there over still. still;
   }
@@ -383,7 +384,8 @@ EachHolds S s = (k : ℕ) → HoldsAt S (peer_at s.peers k)
 -- S holds of a session that has heard nothing, and of every later one
 pub record EachKeeps (S : Session → Type 0) : Type 0 where
   pub opens : S opening_session
-  pub holds : (h : Held) (x : Session) → S x → S (record x { held = h })
+  pub holds : (piece : List ℕ) (x : Session) → S x
+      → S (record x { held = held_part (fed_by x.held piece) })
   pub turns : Keeps (λ t. S t.session)
   pub takes : (n : ℕ) (x : Session) → S x → S (record x { owed = drop n x.owed })
 
@@ -426,10 +428,10 @@ module _ {S : Session → Type 0} (keeps : EachKeeps S) where
     turns = λ input x there lasts j.
         let t = after_input input (turn_at s x) in
         let rows = rows_since s.book t.book in
+        let kept : S x = subst (HoldsAt S) there (each k) in
         at_slot (HoldsAt S) k j (Some t.session) (with_notices rows s.peers)
         (λ same.
-        heard_keeps keeps.turns input (turn_at s x) lasts
-        (λ h. keeps.holds h x (subst (HoldsAt S) there (each k))))
+        heard_keeps keeps.turns input (turn_at s x) lasts kept (λ piece. keeps.holds piece x kept))
         (λ other.
         subst (HoldsAt S) (sym (peer_at-map (option_map (tell_rows rows)) j s.peers refl))
         (slot_noticed s.book rows (peer_at s.peers j) (each j)));

@@ -33,7 +33,7 @@ use Rattle.station.specs.Sessions.{Session, Turn, ask, end_session, finish, open
 use Rattle.conversation.specs.Books.{outcome_at}
 use Rattle.station.specs.Sessions.{serve, with_text, without_till}
 use Rattle.station.proofs.Keeping.{EachHolds, EachKeeps, HoldsAt, Keeps, Leads, after_input}
-use Rattle.station.proofs.Keeping.{each_keep, holding, heard_keeps, key_of, moved_keeps, turn_at}
+use Rattle.station.proofs.Keeping.{each_keep, heard_keeps, key_of, moved_keeps, turn_at}
 use Rattle.station.proofs.Notices.{nobody_noticed}
 use Rattle.station.proofs.Peers.{at_slot, peer_at-map}
 use Rattle.station.proofs.Quiet.{other_subnet, where_goes}
@@ -107,7 +107,7 @@ own_kept = record {
 pub each_own : EachKeeps IsOwnSession
 each_own = record {
   opens = tt;
-  holds = λ h x own. own;
+  holds = λ piece x own. own;
   turns = own_kept;
   takes = λ n x own. own;
 }
@@ -202,12 +202,13 @@ ends_lead j k s x there own lasts = record {
       at_slot (HaveLeft s.book) k j (Some opening_session) s.peers
       (λ same. lasting_left (turn_at s opening_session) refl) (λ other. before);
   turns = λ input z it ongoing.
-      let t = after_input input (turn_at s z) in
+      let start = turn_at s z in
+      let t = after_input input start in
       let rows = rows_since s.book t.book in
       at_slot (HaveLeft t.book) k j (Some t.session) (with_notices rows s.peers)
       (λ same.
-      heard_keeps till_is_left input (turn_at s z) ongoing
-      (λ h. lasting_left (holding h (turn_at s z)) ongoing))
+      heard_keeps till_is_left input start ongoing (lasting_left start ongoing)
+      (λ piece. lasting_left start ongoing))
       (λ other.
       subst (HaveLeft t.book)
       (sym (peer_at-map (option_map (tell_rows rows)) j s.peers refl

@@ -1,5 +1,6 @@
 pub mod Peers
 pub mod NeverFull
+pub mod Held
 pub mod Notices
 pub mod Keeping
 pub mod Turns

@@ -1,18 +1,16 @@
 -- A book that has room for the rows of one read isn't full while its messages are answered.
-use Rattle.std.proofs.Common.{◌≡◌, ℕ, zero, suc, ◌+◌, ◌*◌, ◌≤◌, Bool, true, false, List, [], ◌∷◌}
-use Rattle.std.proofs.Common.{◌++◌, append-nil, length, take, Option, Some, None}
-use Rattle.std.proofs.Common.{Result, Ok, Err, ap, arith, refl}
+use Rattle.std.proofs.Common.{◌≡◌, ℕ, zero, suc, ◌+◌, ◌*◌, ◌<◌, ◌≤◌, Bool, true, false, List, []}
+use Rattle.std.proofs.Common.{◌∷◌, ◌++◌, append-nil, length, take, Option, Some, None}
+use Rattle.std.proofs.Common.{ap, arith, refl}
 use Rattle.std.proofs.lemmas.Bool.{lt-leb}
 use Rattle.std.proofs.lemmas.List.{length-append, length-take-le}
 use Rattle.site_base.specs.declared.actor.Actor.{Actor}
 use Rattle.site_base.specs.declared.event.Event.{Event}
 use Rattle.site_base.specs.declared.row.Row.{Row}
 use Rattle.app_message.specs.declared.fault.StreamFault.{StreamFault}
-use Rattle.app_message.specs.Grammar.{Halt, fault, front_at, short}
-use Rattle.app_message.specs.Stream.{Held, IsHeld, fed_by, fed_from, held_part, stream_on, walk}
+use Rattle.app_message.specs.Stream.{Held, fed_by, fed_from, held_part, walk}
 use Rattle.app_message.specs.Telegram.{Telegram}
-use Rattle.app_message.proofs.Cutting.{front_taken}
-use Rattle.site_book.specs.Book.{Book, next_row}
+use Rattle.site_book.specs.Book.{Book, is_full, next_row}
 use Rattle.peer_talk.specs.declared.talk.Meaning.{Meaning}
 use Rattle.peer_talk.specs.declared.talk.Meaning.TheVariants as meanings
 use Rattle.peer_talk.specs.Text.{meaning_at}
@@ -21,31 +19,26 @@ use Rattle.station.specs.declared.peer_end.PeerEnd.{PeerEnd}
 use Rattle.station.specs.declared.sizes.TheConstants.{HEARD_OCTETS, PIECE_ROWS}
 use Rattle.station.specs.Laws.{StationsAreNeverFull}
 use Rattle.station.specs.Room.{HasRoomFor, with_answers}
-use Rattle.station.specs.Sessions.{Granted, Turn, answer, answer_meaning, ask, end_session}
+use Rattle.station.specs.Runs.{after, opening_station}
+use Rattle.station.specs.Sessions.{Granted, Grants, Turn, answer, answer_meaning, ask, end_session}
 use Rattle.station.specs.Sessions.{no_memory, serve, tell, tell_last, with_text}
-use Rattle.station.proofs.Keeping.{by_lasting, by_message, ended_lasts, holding}
+use Rattle.station.proofs.Held.{always_few, front_eight}
+use Rattle.station.proofs.Keeping.{by_lasting, by_message, ended_lasts, holding, turn_at}
 
 -- ---- messages
 
 walk_few : (n : ℕ) (s : List ℕ) → length (walk n s).messages * 8 ≤ length s
 unfolding walk
 walk_few zero s = omega arith
-walk_few (suc n) s = by (front_at s) refl (λ rest. walk_few n rest)
-  where
-    by : (r : Result (Telegram × List ℕ) Halt) → front_at s ≡ r
-        → ((rest : List ℕ) → length (walk n rest).messages * 8 ≤ length rest)
-        → length (stream_on s (walk n) r).messages * 8 ≤ length s
-    by (Ok x) is few = omega (arith, (front_taken s x is).eight, few x.1)
-    by (Err short) is few = omega arith
-    by (Err (fault f)) is few = omega arith
+walk_few (suc n) s = grind (arith, front_eight, walk_few n)
 
 -- a piece brings no more messages than have room
-fed_few : (h : Held) (piece : List ℕ) → IsHeld h → length piece ≤ HEARD_OCTETS
+fed_few : (h : Held) (piece : List ℕ) → length h.rest ≤ 1031 → length piece ≤ HEARD_OCTETS
     → length (fed_by h piece).messages ≤ PIECE_ROWS
 fed_few h piece held few = by h.fault
   where
     all : length (h.rest ++ piece) ≤ 1031 + HEARD_OCTETS
-    all = omega (arith, length-append h.rest piece, held.few, few)
+    all = omega (arith, length-append h.rest piece, held, few)
 
     by : (f : Option StreamFault) → length (fed_from f (h.rest ++ piece)).messages ≤ PIECE_ROWS
     by None = omega (arith, walk_few (length (h.rest ++ piece)) (h.rest ++ piece), all)
@@ -101,9 +94,14 @@ answer_within g m ms t has =
     (λ lasts. meant_within g m ms (meaning_at t.session.talk.peer m) t (has lasts))
     (λ end over lasts. absurd (ended_lasts t.session end over lasts))
 
-pub stations_are_never_full : StationsAreNeverFull
+-- a turn of a session that holds few octets
+turn_finds_room : (t : Turn) (memory : Grants) (octets : List ℕ) (n : ℕ)
+    → length t.session.held.rest ≤ 1031 → length octets ≤ HEARD_OCTETS
+    → HasRoomFor PIECE_ROWS t.book → n < length (fed_by t.session.held octets).messages
+    → (with_answers n memory octets t).session.end ≡ None
+    → is_full (with_answers n memory octets t).book ≡ false
 unfolding HasMoreRoom
-stations_are_never_full t memory octets n held few has within lasts =
+turn_finds_room t memory octets n held few has within lasts =
     let fed = fed_by t.session.held octets in
     let size : length (take n fed.messages) ≡ n =
     length-take-le n fed.messages (omega (arith, within)) in
@@ -112,3 +110,8 @@ stations_are_never_full t memory octets n held few has within lasts =
     (holding (held_part fed) t)
     (λ lasts. omega (arith, has, size, within, fed_few t.session.held octets held few)) lasts in
     lt-leb _ _ (omega (arith, room))
+
+pub stations_are_never_full : StationsAreNeverFull
+stations_are_never_full = λ b ms k x memory octets n there.
+    turn_finds_room (turn_at (after ms (opening_station b)) x) memory octets n
+    (always_few b ms k x there)

@@ -276,8 +276,10 @@ have_lead k s own all = record {
       sym none ∙ ap (peer_at s.peers) same ∙ h.there in cc));
   turns = λ input x there lasts.
       let t = turn_at s x in
-      let signed = heard_keeps (signed_for s.book x.talk.on) input t lasts
-      (λ h. (own_at s k x own there, start_for t lasts)) in
+      let start : IsOwnSession x × AreSignedFor s.book x.talk.on t =
+      (own_at s k x own there, start_for t lasts) in
+      let signed = heard_keeps (signed_for s.book x.talk.on) input t lasts start (λ piece. start)
+      in
       turn_have k (after_input input t) s x there own signed.1 all;
   takes = λ n x there u signed.
       let h = all u signed in

@@ -134,7 +134,8 @@ refused-grows memory fault t =
 pub input-grows : (input : Input) (t : Turn) → t.session.end ≡ None
     → Grows t.book (after_input input t).book
 input-grows input t lasts =
-    heard_keeps (turns_grow t.book) input t lasts (λ h. grows_none t.book)
+    let none = grows_none t.book in
+    heard_keeps (turns_grow t.book) input t lasts none (λ piece. none)
 
 -- ---- messages one after another
 

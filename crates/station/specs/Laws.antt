@@ -7,7 +7,7 @@ use Rattle.site_base.specs.declared.row.Row.{Row}
 use Rattle.site_base.specs.declared.view.PointView.{PointView}
 use Rattle.site_base.specs.Configured.{Configured}
 use Rattle.site_base.specs.Events.{has_change, point_named}
-use Rattle.app_message.specs.Stream.{IsHeld, fed_by}
+use Rattle.app_message.specs.Stream.{fed_by}
 use Rattle.written_site.specs.SiteRun.{IsLegal, site_of_rows}
 use Rattle.written_site.specs.SiteState.{is_signed_on, opening, view_point}
 use Rattle.site_book.specs.Book.{Book, is_full, site_of_book}
@@ -20,7 +20,7 @@ use Rattle.station.specs.Peers.{peer_at}
 use Rattle.station.specs.Reads.{is_read_at}
 use Rattle.station.specs.Room.{HasRoomFor, with_answers}
 use Rattle.station.specs.Runs.{Move, Stays, after, after_move, heard_of, opening_station, text_to}
-use Rattle.station.specs.Sessions.{Grants, Session, Turn, is_read}
+use Rattle.station.specs.Sessions.{Grants, Session, is_read}
 use Rattle.station.specs.Standing.{standing_events}
 use Rattle.station.specs.Stories.{IsTold}
 
@@ -98,15 +98,18 @@ pub record AreAskedInOrder (s : StationState) : Type 0 where
 abbrev pub RequestsAreAskedInOrder : Type 0
 RequestsAreAskedInOrder = (s : StationState) → AreAskedInOrder s
 
--- No request is answered that the book is full, where it had room for the rows of one read: each
--- message that a read brings to a session that lasts finds room for its row, whatever the octets
--- are. At most 1,031 octets are held of a message to come, and a message takes eight at least.
+-- No request is answered that the book is full, whatever moves came before, where the book has room
+-- for the rows of one read: each message that a read brings to a session that lasts finds room for
+-- its row, whatever the octets are. For at most 1,031 octets are held of a message to come, and a
+-- message takes eight at least.
 abbrev pub StationsAreNeverFull : Type 0
-StationsAreNeverFull = (t : Turn) (memory : Grants) (octets : List ℕ) (n : ℕ)
-    → IsHeld t.session.held → length octets ≤ HEARD_OCTETS → HasRoomFor PIECE_ROWS t.book
-    → n < length (fed_by t.session.held octets).messages
-    → (with_answers n memory octets t).session.end ≡ None
-    → is_full (with_answers n memory octets t).book ≡ false
+StationsAreNeverFull = (b : Book) (ms : List Move) (k : ℕ) (x : Session) (memory : Grants)
+    (octets : List ℕ) (n : ℕ)
+    → let s = after ms (opening_station b) in
+    let later = with_answers n memory octets (record { book = s.book; session = x }) in
+    peer_at s.peers k ≡ Some x → length octets ≤ HEARD_OCTETS → HasRoomFor PIECE_ROWS s.book
+    → n < length (fed_by x.held octets).messages → later.session.end ≡ None
+    → is_full later.book ≡ false
 
 -- a change of point p, that its dispenser is told of
 abbrev pub IsChangeOf : ℕ → Event → Type 0

@@ -37,8 +37,8 @@ pub fn requests_are_asked_in_order()
     ensures { RequestsAreAskedInOrder }
 {}
 
-/// A station whose book has room for the rows of one read answers none of its requests that the
-/// book is full.
+/// Whatever moves came before, a station whose book has room for the rows of one read answers none
+/// of its requests that the book is full.
 pub fn stations_are_never_full()
     ensures { StationsAreNeverFull }
 {}
