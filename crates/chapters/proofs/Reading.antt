@@ -13,6 +13,7 @@ use Rattle.site_base.specs.declared.event.Event.{Event}
 use Rattle.site_book.specs.Book.{Book, next_row, with_row_of}
 use Rattle.site_book.specs.Unpaid.{GoesBy, Kept}
 use Rattle.site_book.proofs.Growing.{goes_on}
+use Rattle.stamps.specs.Stamps.{time_after, time_of_lines}
 use Rattle.chapters.specs.declared.fault.HistoryFault.{HistoryFault}
 use Rattle.chapters.specs.declared.fault.HistoryFault.TheVariants.{Line}
 use Rattle.chapters.specs.ChapterReading.{HistoryRead, add_request, and_then, is_comment}
@@ -220,6 +221,7 @@ pub record ReadsOn (text rest : List ℕ) (old now : ReaderState) : Type 0 where
       → now.line ≡ old.line + length (whole_lines done)
   pub read : (chapters : ℕ) (r : HistoryRead) → KeepsLines chapters r old
       → AreRead chapters r (whole_lines done) now
+  pub time : now.end.time ≡ time_of_lines (whole_lines done) old.end.time
   pub rows : now.book.rows ≡ old.book.rows
   pub site : now.site ≡ old.site
   pub config : now.book.config ≡ old.book.config
@@ -235,6 +237,7 @@ begins_reading text s = record {
   few = omega arith;
   count = λ short. omega arith;
   read = λ chapters r keeps. record { reading = r; read = refl; keeps = keeps };
+  time = refl;
   rows = refl;
   site = refl;
   config = refl;
@@ -254,6 +257,13 @@ pub record ReadsLine (text rest : List ℕ) (old now : ReaderState) : Type 0 whe
       → now.line ≡ old.line + length (whole_lines done)
   pub read : (chapters : ℕ) (r : HistoryRead) → KeepsLines chapters r old
       → AreRead chapters r (whole_lines done) now
+  pub time : now.end.time ≡ time_of_lines (whole_lines done) old.end.time
+
+-- the time behind lines, and one more
+times_both : (lines : List (List ℕ)) (line : List ℕ) (last : Option (List ℕ))
+    → time_of_lines (lines ++ line ∷ []) last ≡ time_after line (time_of_lines lines last)
+times_both [] line last = refl
+times_both (l ∷ lines) line last = times_both lines line (time_after l last)
 
 pub reads_line : (text rest line others : List ℕ) (old now mid new : ReaderState)
     → ReadsOn text rest old now → rest ≡ (line ++ 10 ∷ []) ++ others → IsLine line
@@ -261,8 +271,9 @@ pub reads_line : (text rest line others : List ℕ) (old now mid new : ReaderSta
     → ((chapters : ℕ) (r : HistoryRead) → KeepsLines chapters r mid
     → AreRead chapters r (line ∷ []) new)
     → (now.line + 1 < 2 ^ 64 → new.line ≡ now.line + 1)
+    → new.end.time ≡ time_after line now.end.time
     → ReadsLine text others old new
-reads_line text rest line others old now mid new r parts plain book end next number =
+reads_line text rest line others old now mid new r parts plain book end next number time =
     let done : List ℕ = r.done ++ (line ++ 10 ∷ []) in
     let lines : whole_lines done ≡ whole_lines r.done ++ line ∷ [] =
     lines_behind done r.done (line ++ 10 ∷ []) refl r.whole
@@ -299,6 +310,10 @@ reads_line text rest line others old now mid new r parts plain book end next num
                 ∙ one.read;
             keeps = one.keeps;
           };
+      time =
+          time ∙ ap (time_after line) r.time
+          ∙ sym (times_both (whole_lines r.done) line old.end.time)
+          ∙ ap (λ (ls : List (List ℕ)). time_of_lines ls old.end.time) (sym lines);
     }
 
 -- .. and made no row
@@ -315,6 +330,7 @@ reads_more text rest others old now new r line rows site config chapters begins 
   few = line.few;
   count = line.count;
   read = line.read;
+  time = line.time;
   rows = rows ∙ r.rows;
   site = site ∙ r.site;
   config = config ∙ r.config;

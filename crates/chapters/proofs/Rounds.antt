@@ -1,27 +1,30 @@
 -- What is written of a round, part by part.
 use Rattle.std.proofs.Common.{◌≡◌, ℕ, Bool, true, false, List, [], ◌∷◌, ◌++◌, Option, Some, None}
 use Rattle.std.proofs.Common.{refl, sym, ap, ◌∙◌, append-nil, append_assoc, arith, drop, inl, inr}
-use Rattle.std.proofs.Common.{length, subst}
-use Rattle.std.specs.Prelude.{◌≢◌, ◌&&◌, ◌==◌, filter, not, if◌then◌else◌}
-use Rattle.std.specs.List.{AllByRecursion, list_all}
+use Rattle.std.proofs.Common.{◌+◌, ◌-◌, length, subst, take}
+use Rattle.std.specs.Prelude.{◌≢◌, ◌≤◌, ◌&&◌, ◌==◌, not, if◌then◌else◌}
 use Rattle.std.proofs.Math.Seq.{drop-append_seam}
 use Rattle.std.proofs.lemmas.Bool.{cases_eq, ne_eqb}
 use Rattle.std.proofs.lemmas.Bool.Decides.{nat_tests}
 use Rattle.std.proofs.lemmas.Grind.{common_steps}
+use Rattle.std.proofs.lemmas.List.{length-append, take_all}
 use Rattle.std.proofs.lemmas.List.Elements.{filter-append}
 use Rattle.site_base.specs.declared.actor.Actor.{Actor}
 use Rattle.site_base.specs.declared.event.Event.{Event}
 use Rattle.site_base.specs.declared.row.Row.{Row}
+use Rattle.device_map.specs.Laws.{AsksFor}
 use Rattle.hex_lines.specs.Lines.{IsLine}
+use Rattle.kept_history.specs.KeptRows.{is_kept, kept_rows}
 use Rattle.stamps.specs.Stamps.{are_formed, at_line, is_formed, is_later, is_stamp, later_of}
 use Rattle.stamps.specs.Stamps.{stamp_form}
 use Rattle.written_site.specs.SiteRun.{events_of}
-use Rattle.chapters.specs.ChapterReading.{HistoryRead, and_then, is_of_seal, read_line, read_lines}
+use Rattle.chapters.specs.ChapterReading.{HistoryRead, and_then, is_of_seal, read_lines}
 use Rattle.chapters.specs.ChapterReading.{with_line, with_seal}
 use Rattle.chapters.specs.ChapterText.{row_digits, seal_line, seal_mark, seal_of, text_of_lines}
 use Rattle.chapters.specs.HistoryEnds.{EndState, EndsAt}
-use Rattle.chapters.specs.Rounds.{Writes, round_lines, stamp_lines, time_behind, without_seals}
-use Rattle.chapters.specs.RowText.{row_line}
+use Rattle.chapters.specs.Rounds.{Writes, WritesRound, round_lines, stamp_lines}
+use Rattle.chapters.specs.Rounds.{time_behind, without_seals}
+use Rattle.chapters.specs.RowText.{CanBeSpelled, row_line, row_request}
 use Rattle.chapters.proofs.Chapters.{IsTold, row_asks, rows_plain, rows_read, seal_plain, seal_read}
 use Rattle.chapters.proofs.Chapters.{with_rows}
 use Rattle.chapters.proofs.FirstLines.{begins_itself, texts_both}
@@ -158,6 +161,37 @@ writes_seal chapters r new line text longer is grows ends =
       ends = ends;
     }
 
+-- ---- one row, if it is kept
+
+pub keeps_nothing : (row : Row) (last now : Option (List ℕ)) (chapters : ℕ) (r : HistoryRead)
+    (e : EndState) (text : List ℕ) → is_kept row ≡ false → EndsAt chapters r.seal r.unsealed e
+    → Writes (round_lines last now (kept_rows (row ∷ []))) (kept_rows (row ∷ [])) chapters r e text
+    text
+keeps_nothing row last now chapters r e text left ends =
+    subst (λ (rows : List Row). Writes (round_lines last now rows) rows chapters r e text text)
+    (sym (ap (λ (t : Bool). if t then row ∷ [] else []) left))
+    (writes_nothing chapters r e text ends)
+
+pub keeps_row : (row : Row) (last now : Option (List ℕ)) (chapters : ℕ) (r : HistoryRead)
+    (mid new : EndState) (a b c : List ℕ) → is_kept row ≡ true
+    → (one : Writes (stamp_lines last now) [] chapters r mid a b)
+    → Writes (row_digits row ∷ []) (row ∷ []) chapters one.reading new b c
+    → Writes (round_lines last now (kept_rows (row ∷ []))) (kept_rows (row ∷ [])) chapters r new a c
+keeps_row row last now chapters r mid new a b c kept one two =
+    subst (λ (rows : List Row). Writes (round_lines last now rows) rows chapters r new a c)
+    (sym (ap (λ (t : Bool). if t then row ∷ [] else []) kept))
+    (writes_then (stamp_lines last now) (row_digits row ∷ []) [] (row ∷ []) chapters r mid new a b c
+    one two)
+
+-- .. and then a seal
+pub then_sealed : (said : List (List ℕ)) (rows : List Row) (chapters : ℕ) (r : HistoryRead)
+    (mid new : EndState) (a b c : List ℕ) → (one : Writes said rows chapters r mid a b)
+    → Writes [] [] chapters one.reading new b c → Writes said rows chapters r new a c
+then_sealed said rows chapters r mid new a b c one two =
+    subst (λ (ls : List (List ℕ)). Writes ls rows chapters r new a c) (append-nil said)
+    (subst (λ (rs : List Row). Writes (said ++ []) rs chapters r new a c) (append-nil rows)
+    (writes_then said [] rows [] chapters r mid new a b c one two))
+
 -- ---- row after row
 
 pub time_more : (last now : Option (List ℕ)) (a b : List Row)
@@ -184,9 +218,12 @@ none_both (x ∷ a) b none = absurd cc
 -- ---- a place in a text
 
 pub behind_start : (text more whole : List ℕ) (n : ℕ) → n ≡ length text → whole ≡ text ++ more
-    → drop n whole ≡ more
+    → take (length whole - n) (drop n whole) ≡ more
 behind_start text more whole n at is =
-    ap (λ (k : ℕ). drop k whole) at ∙ ap (drop (length text)) is ∙ drop-append_seam text more
+    let rest : drop n whole ≡ more =
+    ap (λ (k : ℕ). drop k whole) at ∙ ap (drop (length text)) is ∙ drop-append_seam text more in
+    let size : length whole ≡ length text + length more = ap length is ∙ length-append text more in
+    take_all (length whole - n) (drop n whole) (omega (arith, ap length rest, size, at)) ∙ rest
 
 pub some_line : (line : List ℕ) → line ∷ [] ≢ []
 some_line line none = absurd (cc none)
@@ -226,3 +263,57 @@ one_stamp last was now time some same later =
     ap (stamp_lines last) some
     ∙ ap (λ (t : Bool). if t then at_line time ∷ [] else [])
     (ap (λ (l : Option (List ℕ)). is_later l time) (sym same) ∙ later)
+
+-- ---- the loop
+
+-- of the first rows, so many lines are written
+pub record WritesFirst (now : Option (List ℕ)) (rows : List Row) (old new : EndState)
+    (text : List ℕ) : Type 0 where
+  pub written : WritesRound now rows old new [] text
+  pub spelled : CanBeSpelled rows
+  pub time : new.time ≡ time_behind old.time now rows
+  pub size : length rows ≤ length text
+  pub none : rows ≡ [] → new ≡ old
+  pub count : new.chapters ≡ old.chapters
+
+-- nothing yet
+pub first_none : (now : Option (List ℕ)) (rows : List Row) (e : EndState) (text : List ℕ)
+    → rows ≡ [] → text ≡ [] → WritesFirst now rows e e text
+first_none now rows e text none empty =
+    subst (λ (rs : List Row). WritesFirst now rs e e text) (sym none)
+    (subst (WritesFirst now [] e e) (sym empty) (record {
+      written = λ chapters r ends. writes_nothing chapters r e [] ends;
+      spelled = tt;
+      time = refl;
+      size = omega arith;
+      none = λ is. refl;
+      count = refl;
+    }))
+
+-- more rows
+pub first_more : (now : Option (List ℕ)) (rows more all : List Row) (old mid new : EndState)
+    (text longer : List ℕ) → WritesFirst now rows old mid text
+    → WritesRound now more mid new text longer → CanBeSpelled more
+    → new.time ≡ time_behind mid.time now more
+    → length text + length more ≤ length longer → (more ≡ [] → new ≡ mid)
+    → new.chapters ≡ mid.chapters → all ≡ rows ++ more → WritesFirst now all old new longer
+first_more now rows more all old mid new text longer first writes spelled time size none count is =
+    subst (λ (rs : List Row). WritesFirst now rs old new longer) (sym is) (record {
+      written = λ chapters r ends.
+          let one = first.written chapters r ends in
+          subst (λ (ls : List (List ℕ)). Writes ls (rows ++ more) chapters r new [] longer)
+          (ap (λ (t : Option (List ℕ)). round_lines old.time now rows ++ round_lines t now more)
+          first.time ∙ sym (lines_more old.time now rows more))
+          (writes_then (round_lines old.time now rows) (round_lines mid.time now more) rows more
+          chapters r mid new [] text longer one (writes chapters one.reading one.ends));
+      spelled =
+          all_both (λ (r : Row). AsksFor 0 r.actor r.event (row_request r)) rows more
+          first.spelled spelled;
+      time =
+          time ∙ ap (λ (t : Option (List ℕ)). time_behind t now more) first.time
+          ∙ sym (time_more old.time now rows more);
+      size = omega (arith, length-append rows more, first.size, size);
+      none = λ nothing.
+          let both = none_both rows more nothing in none both.1 ∙ first.none both.0;
+      count = count ∙ first.count;
+    })

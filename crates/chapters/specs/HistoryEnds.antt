@@ -8,7 +8,8 @@ use Rattle.chapters.specs.ChapterText.{text_of_lines}
 use Rattle.chapters.specs.Seals.{Covers}
 
 -- so many chapters; the last seal; the hasher of the next one; whether nothing stands behind the
--- last one; how many lines of rows do, counted up to the limit; and the last time that was told
+-- last one; how many lines of rows do, counted up to the limit; the last time that was told; and how
+-- many seals there are
 pub record EndState : Type 0 where
   pub chapters : ℕ
   pub seal : List ℕ
@@ -16,6 +17,7 @@ pub record EndState : Type 0 where
   pub sealed : Bool
   pub rows : ℕ
   pub time : Option (List ℕ)
+  pub seals : ℕ
 
 -- a text of so many chapters ends so, whose last seal is this one, with these lines behind it
 pub record EndsAt (chapters : ℕ) (seal : List ℕ) (unsealed : List (List ℕ)) (e : EndState)

@@ -1,7 +1,7 @@
 //! Where the text of a history ends, as far as it is read or written.
 
 ghost use Rattle.std.specs.Prelude.{◌≡◌, ◌≢◌, ◌++◌, ◌≤◌, ◌<◌, ◌+◌, ℕ, [], ◌∷◌, IfOk, List};
-ghost use Rattle.std.specs.Prelude.{None, OnOk, Some, string_bytes, true};
+ghost use Rattle.std.specs.Prelude.{◌^◌, None, OnOk, Some, string_bytes, true};
 ghost use Rattle.stamps.specs.Stamps.{time_after};
 ghost use Rattle.chapters.specs.ChapterReading.{is_same_line};
 ghost use Rattle.chapters.specs.ChapterText.{first_lines, no_seal, seal_line, seal_of};
@@ -41,6 +41,8 @@ pub struct HistoryEnd {
     rows: u64,
     /// The last time that was told.
     time: Option<Stamp>,
+    /// So many seals there are.
+    seals: u64,
 }
 
 impl Model for HistoryEnd {
@@ -57,6 +59,7 @@ impl Model for HistoryEnd {
       sealed = e.is_sealed;
       rows = e.rows;
       time = e.time;
+      seals = e.seals;
     } };
 
     ghost invariant = { λ e. e.chapters ≤ MOST_CHAPTERS };
@@ -77,6 +80,7 @@ impl HistoryEnd {
             is_sealed: true,
             rows: 0,
             time: None,
+            seals: 0,
         })
     }
 
@@ -107,6 +111,13 @@ impl HistoryEnd {
         ensures { result ≡ self.now.time }
     {
         self.time
+    }
+
+    /// So many seals there are.
+    pub fn seals(&self) -> u64
+        ensures { result ≡ self.now.seals }
+    {
+        self.seals
     }
 
     /// The last seal; 64 zeros where there is none.
@@ -231,12 +242,15 @@ impl HistoryEnd {
             → EndsAt chapters (seal_of seal unsealed) [] self.new) }
         ensures sealed { OnOk result (self.new.sealed ≡ true) }
         ensures rows { OnOk result (self.new.rows ≡ 0) }
+        ensures seals { self.old.seals + 1 < 2 ^ 64
+            → OnOk result (self.new.seals ≡ self.old.seals + 1) }
         ensures count { self.new.chapters ≡ self.old.chapters }
         ensures time { self.new.time ≡ self.old.time }
     {
         self.seal = self.unsealed.seal(alloc)?;
         self.is_sealed = true;
         self.rows = 0;
+        self.seals = self.seals.saturating_add(1);
         let mut line = Vec::from_slice(alloc, SEAL_MARK)?;
         line.extend_from_slice(self.seal.as_bytes())?;
         Ok(line)

@@ -6,6 +6,7 @@ ghost use Rattle.std.specs.Prelude.{string_bytes, take, true};
 ghost use Rattle.std.specs.List.{cons_option};
 ghost use Rattle.site_book.specs.Book.{next_row};
 ghost use Rattle.site_book.specs.Unpaid.{GoesBy};
+ghost use Rattle.stamps.specs.Stamps.{time_after, time_of_lines};
 ghost use Rattle.chapters.specs.declared.history_end.TheConstants.{MOST_CHAPTERS};
 ghost use Rattle.chapters.specs.ChapterBegins.{begin_of};
 ghost use Rattle.chapters.specs.ChapterReading.{HistoryRead, read_line, read_text};
@@ -141,6 +142,13 @@ impl HistoryReader {
         &self.book
     }
 
+    /// Where the text ends that is read: its last time, its seals.
+    pub fn end(&self) -> &HistoryEnd
+        ensures { result.now ≡ self.now.end }
+    {
+        &self.end
+    }
+
     /// Reads the text of the next chapter. It says how many of its octets are whole lines.
     ///
     /// `NotAfter` comes where the chapters before don't end with a seal, or this one's third line
@@ -235,6 +243,8 @@ impl HistoryReader {
         ensures last { IfOk result (λ read. read.row ≡ None
             → whole_lines (drop read.octets text.now) ≡ []) }
         ensures more { IfOk result (λ read. read.row ≢ None → 0 < read.octets) }
+        ensures time { IfOk result (λ read. self.new.end.time
+            ≡ time_of_lines (whole_lines (take read.octets text.now)) self.old.end.time) }
         ensures refused { IfErr result (λ fault. IsOfText fault → (texts : List (List ℕ))
             (whole : List ℕ) → IsReading texts whole text.now self.old
             → IsRefused texts whole self.old) }
@@ -288,6 +298,7 @@ impl HistoryReader {
         ensures row { IfOk result (λ read. self.new.book.rows
             ≡ self.old.book.rows ++ cons_option (row_read read) []) }
         ensures sent { IfOk result (λ read. IfSome (row_read read) IsSent) }
+        ensures time { OnOk result (self.new.end.time ≡ time_after line.now self.old.end.time) }
         ensures site { self.new.site ≡ self.old.site }
         ensures config { self.new.book.config ≡ self.old.book.config }
         ensures chapters { self.new.end.chapters ≡ self.old.end.chapters }

@@ -142,7 +142,7 @@ impl HistoryEnd {
 fn put_stamp_line(time: &Stamp, text: &mut Vec<u8>) -> Result<(), NoMemory>
     ensures line { OnOk result
         (text.new.items ≡ text.old.items ++ text_of_lines (at_line time.now ∷ [])) }
-    ensures form { is_stamp time.now ≡ true }
+    ensures form { OnOk result (is_stamp time.now ≡ true) }
 {
     text.extend_from_slice(AT_MARK)?;
     text.extend_from_slice(time.as_octets())?;

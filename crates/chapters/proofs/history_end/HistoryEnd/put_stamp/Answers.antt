@@ -1,4 +1,4 @@
-use Rattle.std.proofs.Common.{◌≡◌, ◌++◌, ◌∙◌, ◌∷◌, [], Option, List, Some, None, ap, subst, sym, ℕ}
+use Rattle.std.proofs.Common.{arith, ◌++◌, ◌∙◌, ◌∷◌, [], Option, List, subst, sym, ℕ}
 use Rattle.stamps.specs.Stamps.{at_line}
 use Rattle.chapters.specs.ChapterText.{text_of_lines}
 use Rattle.chapters.specs.Rounds.{Writes, stamp_lines}
@@ -32,5 +32,6 @@ returns-clause-written c = λ chapters r ends.
     c.in_ok-put_stamp_line.ensures.form c.in_ok-put_stamp_line.ensures.line
     (told_ends chapters r.seal (r.unsealed ++ line ∷ []) _ _ _ c.tell_time.ensures
     (c.cover.ensures.covers chapters r.seal r.unsealed (line ∷ []) ends
-    (behind_start c.args.text.now.items (text_of_lines (line ∷ [])) _ _ c.len-start.ensures
+    (behind_start c.args.text.now.items (text_of_lines (line ∷ [])) _ _
+    (omega (arith, c.len-start.ensures, c.args.text.now.ok))
     (c.deref.ensures.value ∙ c.in_ok-put_stamp_line.ensures.line)) (some_line line))))

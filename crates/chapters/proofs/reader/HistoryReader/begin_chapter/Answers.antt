@@ -1,6 +1,6 @@
-use Rattle.std.proofs.Common.{◌≡◌, ◌≢◌, ◌∙◌, ◌+◌, ◌∷◌, [], ap, arith, length, refl, sym, subst}
+use Rattle.std.proofs.Common.{◌≡◌, ◌≢◌, ◌∙◌, ◌+◌, [], ap, arith, length, refl, sym, subst}
 use Rattle.std.proofs.Common.{List}
-use Rattle.std.proofs.Common.{ℕ, string_bytes}
+use Rattle.std.proofs.Common.{ℕ}
 use Rattle.std.proofs.lemmas.List.{length-drop}
 use Rattle.chapters.specs.ChapterText.{text_of_lines}
 use Rattle.chapters.specs.HistoryEnds.{EndState, EndsAt}

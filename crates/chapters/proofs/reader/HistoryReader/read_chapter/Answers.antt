@@ -1,4 +1,4 @@
-use Rattle.std.proofs.Common.{◌≡◌, subst}
+use Rattle.std.proofs.Common.{subst}
 use Rattle.chapters.proofs.ReadingChapters.{ReadsChapter, named_behind, reads_next}
 use Rattle.chapters.proofs.reader.HistoryReader.read_chapter.Goals as goal
 

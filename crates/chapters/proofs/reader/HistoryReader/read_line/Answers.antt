@@ -1,7 +1,7 @@
 use Rattle.std.proofs.Common.{◌≡◌, ◌∙◌, ap, refl, subst, sym}
 use Rattle.chapters.specs.HistoryEnds.{EndsAt}
 use Rattle.chapters.specs.Readers.{KeepsLines, ReaderState}
-use Rattle.chapters.proofs.Reading.{seal_right, seal_wrong, text_right, text_wrong}
+use Rattle.chapters.proofs.Reading.{seal_right, seal_wrong, text_right}
 use Rattle.chapters.proofs.reader.HistoryReader.read_line.Goals as goal
 
 pub returns-then-starts_with-clause-right : goal.returns-then-starts_with-clause-right
