@@ -240,7 +240,7 @@ line_torn line torn r s is = one (is_of_seal line) is
     one true is = by_seal (is_right_seal line r) is
     one false is = by_text (is_comment line) is
 
-lines_torn : (lines : List (List ℕ)) (torn : List ℕ) (r s : HistoryRead)
+pub lines_torn : (lines : List (List ℕ)) (torn : List ℕ) (r s : HistoryRead)
     → read_lines lines r ≡ Some s
     → read_lines lines (with_torn torn r) ≡ Some (with_torn torn s)
 lines_torn [] torn r s is =

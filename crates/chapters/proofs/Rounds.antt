@@ -22,7 +22,7 @@ use Rattle.chapters.specs.ChapterReading.{HistoryRead, and_then, is_of_seal, rea
 use Rattle.chapters.specs.ChapterReading.{with_line, with_seal}
 use Rattle.chapters.specs.ChapterText.{row_digits, seal_line, seal_mark, seal_of, text_of_lines}
 use Rattle.chapters.specs.HistoryEnds.{EndState, EndsAt}
-use Rattle.chapters.specs.Rounds.{Writes, WritesRound, round_lines, stamp_lines}
+use Rattle.chapters.specs.Rounds.{Writes, WritesFirst, WritesRound, round_lines, stamp_lines}
 use Rattle.chapters.specs.Rounds.{time_behind, without_seals}
 use Rattle.chapters.specs.RowText.{CanBeSpelled, row_line, row_request}
 use Rattle.chapters.proofs.Chapters.{IsTold, row_asks, rows_plain, rows_read, seal_plain, seal_read}
@@ -266,16 +266,6 @@ one_stamp last was now time some same later =
 
 -- ---- the loop
 
--- of the first rows, so many lines are written
-pub record WritesFirst (now : Option (List ℕ)) (rows : List Row) (old new : EndState)
-    (text : List ℕ) : Type 0 where
-  pub written : WritesRound now rows old new [] text
-  pub spelled : CanBeSpelled rows
-  pub time : new.time ≡ time_behind old.time now rows
-  pub size : length rows ≤ length text
-  pub none : rows ≡ [] → new ≡ old
-  pub count : new.chapters ≡ old.chapters
-
 -- nothing yet
 pub first_none : (now : Option (List ℕ)) (rows : List Row) (e : EndState) (text : List ℕ)
     → rows ≡ [] → text ≡ [] → WritesFirst now rows e e text
@@ -287,6 +277,7 @@ first_none now rows e text none empty =
       time = refl;
       size = omega arith;
       none = λ is. refl;
+      still = λ is. refl;
       count = refl;
     }))
 
@@ -296,8 +287,9 @@ pub first_more : (now : Option (List ℕ)) (rows more all : List Row) (old mid n
     → WritesRound now more mid new text longer → CanBeSpelled more
     → new.time ≡ time_behind mid.time now more
     → length text + length more ≤ length longer → (more ≡ [] → new ≡ mid)
-    → new.chapters ≡ mid.chapters → all ≡ rows ++ more → WritesFirst now all old new longer
-first_more now rows more all old mid new text longer first writes spelled time size none count is =
+    → (more ≡ [] → longer ≡ text) → new.chapters ≡ mid.chapters → all ≡ rows ++ more → WritesFirst now all old new longer
+first_more now rows more all old mid new text longer first writes spelled time size none still
+    count is =
     subst (λ (rs : List Row). WritesFirst now rs old new longer) (sym is) (record {
       written = λ chapters r ends.
           let one = first.written chapters r ends in
@@ -315,5 +307,7 @@ first_more now rows more all old mid new text longer first writes spelled time s
       size = omega (arith, length-append rows more, first.size, size);
       none = λ nothing.
           let both = none_both rows more nothing in none both.1 ∙ first.none both.0;
+      still = λ nothing.
+          let both = none_both rows more nothing in still both.1 ∙ first.still both.0;
       count = count ∙ first.count;
     })

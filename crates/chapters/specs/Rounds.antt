@@ -1,5 +1,5 @@
 -- What is written of a round: a stamp, lines of rows, and seals.
-use Rattle.std.specs.Prelude.{◌≡◌, ℕ, List, [], ◌∷◌, ◌++◌, Option, Some, None, filter, not}
+use Rattle.std.specs.Prelude.{◌≡◌, ◌≤◌, ℕ, List, [], ◌∷◌, ◌++◌, Option, Some, None, filter, length, not}
 use Rattle.std.specs.Prelude.{if◌then◌else◌}
 use Rattle.std.specs.List.{AllByRecursion}
 use Rattle.site_base.specs.declared.row.Row.{Row}
@@ -9,6 +9,7 @@ use Rattle.written_site.specs.SiteRun.{events_of}
 use Rattle.chapters.specs.ChapterReading.{HistoryRead, is_of_seal, read_lines}
 use Rattle.chapters.specs.ChapterText.{row_digits, text_of_lines}
 use Rattle.chapters.specs.HistoryEnds.{EndState, EndsAt}
+use Rattle.chapters.specs.RowText.{CanBeSpelled}
 
 -- the stamp of this time, where it is later than the last one
 abbrev pub stamp_lines : Option (List ℕ) → Option (List ℕ) → List (List ℕ)
@@ -55,6 +56,17 @@ abbrev pub WritesRound : Option (List ℕ) → List Row → EndState → EndStat
     → Type 0
 WritesRound now rows old new text longer =
     WritesOn (round_lines old.time now rows) rows old new text longer
+
+-- the lines of these rows stand alone in a text, with seals among them
+pub record WritesFirst (now : Option (List ℕ)) (rows : List Row) (old new : EndState)
+    (text : List ℕ) : Type 0 where
+  pub written : WritesRound now rows old new [] text
+  pub spelled : CanBeSpelled rows
+  pub time : new.time ≡ time_behind old.time now rows
+  pub size : length rows ≤ length text
+  pub none : rows ≡ [] → new ≡ old
+  pub still : rows ≡ [] → text ≡ []
+  pub count : new.chapters ≡ old.chapters
 
 -- a text of whole lines: those of a round at this time with these rows, and seals
 pub record IsRound (last now : Option (List ℕ)) (rows : List Row) (text : List ℕ) : Type 0 where

@@ -1,11 +1,12 @@
 //! The lines of a round.
 
-ghost use Rattle.std.specs.Prelude.{◌≡◌, ◌≤◌, ◌+◌, ◌++◌, ◌∷◌, [], OnOk, length, true};
+ghost use Rattle.std.specs.Prelude.{◌≡◌, ◌≢◌, ◌≤◌, ◌+◌, ◌++◌, ◌∷◌, [], OnOk, length, true};
 ghost use Rattle.std.specs.List.{AllByRecursion};
 ghost use Rattle.kept_history.specs.KeptRows.{is_kept, kept_rows};
 ghost use Rattle.stamps.specs.Stamps.{at_line, is_stamp, later_of};
 ghost use Rattle.chapters.specs.ChapterText.{row_digits, text_of_lines};
-ghost use Rattle.chapters.specs.Rounds.{WritesOn, WritesRound, stamp_lines, time_behind};
+ghost use Rattle.chapters.specs.Rounds.{WritesFirst, WritesOn, WritesRound, stamp_lines};
+ghost use Rattle.chapters.specs.Rounds.{time_behind};
 ghost use Rattle.chapters.specs.RowText.{CanBeSpelled, IsSent, kept_behind};
 
 use crate::history_end::{HistoryEnd, SEAL_ROWS};
@@ -18,7 +19,8 @@ use std::alloc::Global;
 impl HistoryEnd {
     /// Puts the lines of a round in place of what the text holds: of the book's rows from a place
     /// on, but for those of reads. Ahead of the first one stands this time, where it is later than
-    /// the last one, and a seal stands behind each 256th. Without such rows there are no lines.
+    /// the last one. A seal stands behind each 256th row, and at the end, if it is due there.
+    /// Without such rows there are no lines.
     ///
     /// Behind an error nothing is known of where the text ends.
     pub fn put_round(
@@ -27,6 +29,7 @@ impl HistoryEnd {
         book: &SiteBook,
         from: u64,
         now: Option<Stamp>,
+        is_due: bool,
         text: &mut Vec<u8>,
     ) -> Result<(), NoMemory>
         requires place { from ≤ length book.now.rows }
@@ -40,6 +43,33 @@ impl HistoryEnd {
         ensures size { OnOk result
             (length (kept_behind from book.now.rows) ≤ length text.new.items) }
         ensures none { OnOk result (kept_behind from book.now.rows ≡ [] → self.new ≡ self.old) }
+        ensures still { OnOk result (kept_behind from book.now.rows ≡ [] → text.new.items ≡ []) }
+        ensures sealed { is_due ≡ true → OnOk result
+            (kept_behind from book.now.rows ≢ [] → self.new.sealed ≡ true) }
+        ensures count { self.new.chapters ≡ self.old.chapters }
+    {
+        self.put_rows(alloc, book, from, now, text)?;
+        if is_due && !text.is_empty() {
+            self.put_seal(alloc, text)?;
+        }
+        Ok(())
+    }
+
+    /// Puts the lines of rows at this time, with the seals among them, in place of what the text
+    /// holds.
+    fn put_rows(
+        &mut self,
+        alloc: Global,
+        book: &SiteBook,
+        from: u64,
+        now: Option<Stamp>,
+        text: &mut Vec<u8>,
+    ) -> Result<(), NoMemory>
+        requires place { from ≤ length book.now.rows }
+        requires memory { book.now.forgotten ≤ from }
+        requires sent { AllByRecursion IsSent book.now.rows }
+        ensures first { OnOk result (WritesFirst now (kept_behind from book.now.rows) self.old
+            self.new text.new.items) }
         ensures count { self.new.chapters ≡ self.old.chapters }
     {
         let now = &now;
@@ -70,6 +100,7 @@ impl HistoryEnd {
         ensures size { OnOk result (length text.old.items + length (kept_rows (row.now ∷ []))
             ≤ length text.new.items) }
         ensures none { kept_rows (row.now ∷ []) ≡ [] → self.new ≡ self.old }
+        ensures still { kept_rows (row.now ∷ []) ≡ [] → text.new.items ≡ text.old.items }
         ensures count { self.new.chapters ≡ self.old.chapters }
     {
         if !is_kept(row) {

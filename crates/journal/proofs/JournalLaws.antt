@@ -18,14 +18,11 @@ use Rattle.station.specs.Reads.{owed_at}
 use Rattle.station.specs.Runs.{opening_station}
 use Rattle.station.proofs.Keeping.{books_keep}
 use Rattle.chapters.specs.ChapterReading.{HistoryRead, nothing_read, read_from, read_lines}
-use Rattle.chapters.specs.ChapterText.{row_lines}
 use Rattle.chapters.specs.History.{IsMadeOf, rows_asked}
 use Rattle.chapters.specs.Lines.{unfinished, whole_lines}
-use Rattle.chapters.specs.RowText.{kept_first, rows_text}
-use Rattle.chapters.proofs.Chapters.{lines_again, rows_plain, rows_read, text_is, told_rows}
-use Rattle.chapters.proofs.Chapters.{with_rows}
+use Rattle.chapters.specs.RowText.{kept_first}
 use Rattle.chapters.proofs.Histories.{Grows, from_grows, grows_then, history_on, lines_front}
-use Rattle.chapters.proofs.Histories.{lines_grow, texts_front}
+use Rattle.chapters.proofs.Histories.{lines_grow, lines_torn, texts_front}
 use Rattle.chapters.proofs.Lines.{lines_both}
 use Rattle.chapters.proofs.Made.{asked_again, asked_both}
 use Rattle.journal.specs.Disks.{BeginsWith, DiskFile, GoesOn, Moment, OfFile, moment_of}
@@ -171,20 +168,20 @@ told_rows_are_found_again s j f key life b stored has there some lives same read
 -- ---- beginnings
 
 pub beginnings_are_read : BeginningsAreRead
-beginnings_are_read site m told more n t spelled kept nothing =
-    let told_more = told_rows more kept spelled in
+beginnings_are_read site m told more text n t whole nothing =
     let r = t.tells.reading in
-    let text : List ℕ = take n (rows_text more) in
-    let begun : HistoryRead = record r { torn = unfinished text } in
-    let all : whole_lines (rows_text more) ≡ row_lines more =
-    ap whole_lines (text_is more) ∙ lines_again (row_lines more) (rows_plain more told_more) in
-    let cut : row_lines more ≡ whole_lines text ++ _ =
-    sym all ∙ ap whole_lines (sym (take-append-drop n (rows_text more)))
-    ∙ lines_both [] text (drop n (rows_text more)) in
-    let some = lines_front (whole_lines text) _ begun (with_rows more begun)
-    (ap (λ (ls : List (List ℕ)). read_lines ls begun) (sym cut) ∙ rows_read more begun told_more) in
+    let front : List ℕ = take n text in
+    let begun : HistoryRead = record r { torn = unfinished front } in
+    let cut : whole_lines text ≡ whole_lines front ++ _ =
+    ap whole_lines (sym (take-append-drop n text)) ∙ lines_both [] front (drop n text) in
+    let all : read_lines (whole_lines text) (record r { torn = unfinished text })
+    ≡ Some whole.tells.reading =
+    sym (history_on site m.closed m.front text r t.tells.read t.whole) ∙ whole.tells.read in
+    let some = lines_front (whole_lines front) _ begun _
+    (ap (λ (ls : List (List ℕ)). read_lines ls begun) (sym cut)
+    ∙ lines_torn (whole_lines text) (unfinished front) _ _ all) in
     nothing.untold some.0.events (record {
       reading = some.0;
-      read = history_on site m.closed m.front text r t.tells.read t.whole ∙ some.1;
+      read = history_on site m.closed m.front front r t.tells.read t.whole ∙ some.1;
       told = refl;
     })

@@ -1,9 +1,9 @@
 -- What is told stays through a history's life.
-use Rattle.std.proofs.Common.{◌≡◌, ◌∙◌, ◌⊎◌, ℕ, suc, Bool, true, false, List, [], ◌∷◌, ◌++◌}
+use Rattle.std.proofs.Common.{◌≡◌, ◌∙◌, ℕ, suc, Bool, true, false, List, [], ◌∷◌, ◌++◌}
 use Rattle.std.proofs.Common.{Option, Some, None, refl, sym, ap, inl, inr, drop, length, subst}
 use Rattle.std.specs.Prelude.{◌==◌, ◌&&◌, if◌then◌else◌}
 use Rattle.std.specs.List.{AllByRecursion, starts_with}
-use Rattle.std.proofs.lemmas.Option.{none-some, same_Some}
+use Rattle.std.proofs.lemmas.Option.{none-some}
 use Rattle.site_base.specs.declared.actor.Actor.{Actor}
 use Rattle.site_base.specs.declared.event.Event.{Event}
 use Rattle.chapters.specs.ChapterReading.{HistoryRead, and_then, is_none_left, nothing_read}
@@ -14,10 +14,9 @@ use Rattle.chapters.proofs.FirstLines.{begins_parts}
 use Rattle.chapters.proofs.Lines.{unfinished_both}
 use Rattle.chapters.proofs.Reading.{lines_keep_torn}
 use Rattle.chapters.proofs.ReadingChapters.{none_torn}
-use Rattle.journal.specs.Disks.{BeginsWith, DiskFile, GoesOn, Keeps, Moment, moment_of}
-use Rattle.journal.specs.Lives.{CallsAreSteps, IsLife, KeepsLines, StepsKeepLines, end_of}
+use Rattle.journal.specs.Disks.{BeginsWith, GoesOn, Moment, moment_of}
+use Rattle.journal.specs.Lives.{CallsAreSteps, IsLife, KeepsLines, end_of}
 use Rattle.journal.specs.Readings.{TellsWhole}
-use Rattle.journal.specs.Recovering.{KeepsWholeLines}
 use Rattle.journal.proofs.Fronts.{begins_all, goes_then}
 
 -- ---- what is told whole ends with a line

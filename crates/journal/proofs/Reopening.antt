@@ -9,11 +9,12 @@ use Rattle.journal.specs.Stored.{StoredState}
 use Rattle.journal.proofs.Recovering.{lines_then}
 
 pub reopens : (site first : List ℕ) (config : Configured) (recovered : Book)
-    (old settled : Option DiskFile) (rows : ℕ) (s : StoredState) → first ≡ site
+    (last clock : Option (List ℕ)) (old settled : Option DiskFile) (rows : ℕ) (s : StoredState)
+    → first ≡ site
     → recovered.config ≡ config → OfFile (IsReadIn site recovered) old
     → OfFiles KeepsWholeLines old settled → rows ≡ length recovered.rows
-    → Resumes first recovered settled s → Reopens site config old rows s
-reopens site first config recovered old settled rows s named same read stays count r = record {
+    → Resumes first recovered last clock settled s → Reopens site config old rows s
+reopens site first config recovered last clock old settled rows s named same read stays count r = record {
   recovered = recovered;
   same = same;
   read = read;

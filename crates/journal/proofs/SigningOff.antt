@@ -32,14 +32,14 @@ use Rattle.station.specs.Runs.{opening_station}
 use Rattle.station.specs.Sessions.{without_till}
 use Rattle.station.proofs.Leaving.{signed_off}
 use Rattle.station.proofs.TillSessions.{still_on}
-use Rattle.journal.specs.Disks.{DiskFile, Grows, Keeps, OfFile, OfFiles}
+use Rattle.journal.specs.Disks.{DiskFile, Keeps, OfFile, OfFiles}
 use Rattle.chapters.specs.History.{empty_book}
 use Rattle.journal.specs.Opening.{HasNobodyOn, Resumes, all_off, tills_off}
 use Rattle.chapters.specs.declared.chapter_begin.ChapterBegin.{ChapterBegin}
 use Rattle.chapters.specs.HistoryEnds.{EndState}
-use Rattle.chapters.specs.RowText.{CanBeSpelled, IsSent, kept_behind, kept_first, rows_text}
+use Rattle.chapters.specs.RowText.{CanBeSpelled, IsSent, kept_behind, kept_first}
 use Rattle.chapters.proofs.Lists.{all_both}
-use Rattle.journal.specs.Stored.{HoldsRows, IsJournalOf, JournalState, StoredState}
+use Rattle.journal.specs.Stored.{GrowsByRound, HoldsRows, IsJournalOf, JournalState, StoredState}
 use Rattle.journal.proofs.Made.{Adds, adds_same, adds_then}
 use Rattle.journal.proofs.Moves.{adds_leaving}
 
@@ -108,7 +108,7 @@ nobody_yet config = λ t. set.contains-empty nat_cmp t
 
 -- each row that was recovered is kept, and stored
 pub journal_begun : (site : List ℕ) (recovered b : Book) (e : EndState) (begin : ChapterBegin)
-    (file : Option DiskFile) (stored : ℕ) → OfFile (HoldsRows site recovered.rows false e) file
+    (clock : Option (List ℕ)) (file : Option DiskFile) (stored : ℕ) → OfFile (HoldsRows site recovered.rows false e) file
     → kept_rows recovered.rows ≡ recovered.rows → CanBeSpelled recovered.rows
     → stored ≡ length recovered.rows → b ≡ all_off recovered
     → IsJournalOf b.rows
@@ -119,9 +119,11 @@ pub journal_begun : (site : List ℕ) (recovered b : Book) (e : EndState) (begin
       end = e;
       begin = begin;
       refused = None;
+      clock = clock;
+      due = true;
       file = file;
     })
-journal_begun site recovered b e begin file stored holds kept spelled size off =
+journal_begun site recovered b e begin clock file stored holds kept spelled size off =
     let adds = subst (Adds recovered) (sym off) (off_adds TILLS recovered) in
     let front : kept_first stored b.rows ≡ recovered.rows =
     ap kept_rows (ap (take stored) adds.rows
@@ -164,15 +166,14 @@ allowed_off recovered b off =
     adds.same
 
 -- a station that begins with it, each row of which is stored
-pub resumes : (site : List ℕ) (recovered b : Book) (unpaid : Kept) (file : Option DiskFile)
-    (j : JournalState)
-    (s : StoredState)
+pub resumes : (site : List ℕ) (recovered b : Book) (last clock : Option (List ℕ)) (unpaid : Kept)
+    (file : Option DiskFile) (j : JournalState) (s : StoredState)
     → s ≡ record { station = opening_station b; unpaid = unpaid; journal = Some j }
     → b ≡ all_off recovered → HasNobodyOn b → j.stored ≡ length b.rows → j.site ≡ site
-    → OfFiles (Grows (rows_text (kept_behind (length recovered.rows) b.rows))) file j.file
-    → OfFiles Keeps file j.file → Resumes site recovered file s
-resumes site recovered b unpaid file j s is signed off all named lines keeps =
-    subst (Resumes site recovered file) (sym is) (record {
+    → OfFiles (GrowsByRound last clock (kept_behind (length recovered.rows) b.rows)) file j.file
+    → OfFiles Keeps file j.file → Resumes site recovered last clock file s
+resumes site recovered b last clock unpaid file j s is signed off all named lines keeps =
+    subst (Resumes site recovered last clock file) (sym is) (record {
       alone = refl;
       rows = signed;
       off = off;

@@ -1,9 +1,8 @@
 -- What storing rows makes of a journal's disk.
-use Rattle.std.proofs.Common.{◌≡◌, ℕ, ◌+◌, true, false, List, [], ◌∷◌, ◌++◌, length, drop, Option}
+use Rattle.std.proofs.Common.{◌≡◌, ℕ, ◌+◌, true, false, List, [], ◌++◌, length, drop, Option}
 use Rattle.std.proofs.Common.{Some, None, refl, sym, ap, ◌∙◌, append-nil, arith, subst, inl}
-use Rattle.std.specs.Prelude.{Bool, ◌≢◌, ◌≤◌}
-use Rattle.std.specs.List.{AllByRecursion}
-use Rattle.std.proofs.lemmas.List.{length-append, take_all}
+use Rattle.std.specs.Prelude.{Bool, ◌≤◌}
+use Rattle.std.proofs.lemmas.List.{take_all}
 use Rattle.std.proofs.Math.Seq.{drop-length}
 use Rattle.site_base.specs.declared.actor.Actor.{Actor}
 use Rattle.site_base.specs.declared.event.Event.{Event}
@@ -96,13 +95,14 @@ grown_file site text rows more now e d (Some a) (Some b) None holds writes wrote
     absurd synced
 
 -- the rows that weren't stored were written and synced
-pub lines_written : (rows : List Row) (j k : JournalState) (text : List ℕ) (d : EndState)
-    (b : Option DiskFile) → IsJournalOf rows j → j.failed ≡ false
-    → WritesRound j.now (kept_behind j.stored rows) j.end d [] text
-    → OfFiles (Appends text) j.file b → OfFiles Syncs b k.file → GrowsByLines rows j k
-lines_written rows j k text d b is whole writes wrote synced =
-    grown_file j.site text (kept_first j.stored rows) (kept_behind j.stored rows) j.now j.end d
-    j.file b k.file
+pub lines_written : (rows : List Row) (j : JournalState) (text : List ℕ) (d : EndState)
+    (b c : Option DiskFile) → IsJournalOf rows j → j.failed ≡ false
+    → WritesRound j.clock (kept_behind j.stored rows) j.end d [] text
+    → OfFiles (Appends text) j.file b → OfFiles Syncs b c
+    → OfFiles (GrowsByRound j.end.time j.clock (kept_behind j.stored rows)) j.file c
+lines_written rows j text d b c is whole writes wrote synced =
+    grown_file j.site text (kept_first j.stored rows) (kept_behind j.stored rows) j.clock j.end d
+    j.file b c
     (subst (λ (failed : Bool).
     OfFile (HoldsRows j.site (kept_first j.stored rows) failed j.end) j.file) whole is.holds)
     writes wrote synced
@@ -121,8 +121,8 @@ pub lines_none : (rows : List Row) (j k : JournalState) → kept_behind j.stored
     → k.file ≡ j.file → GrowsByLines rows j k
 lines_none rows j k none is =
     subst (λ (f : Option DiskFile).
-    OfFiles (GrowsByRound j.end.time j.now (kept_behind j.stored rows)) j.file f) (sym is)
-    (grown_none j.end.time j.now (kept_behind j.stored rows) j.file none)
+    OfFiles (GrowsByRound j.end.time j.clock (kept_behind j.stored rows)) j.file f) (sym is)
+    (grown_none j.end.time j.clock (kept_behind j.stored rows) j.file none)
 
 -- behind the last row there are none
 pub none_left : (rows : List Row) (j : JournalState) → j.stored ≡ length rows
@@ -273,3 +273,16 @@ journal_quiet rows j count is none all =
           subst (λ (rs : List Row). OfFile (HoldsRows j.site rs j.failed j.end) j.file) same
           is.holds;
     }
+
+-- .. also where its end was looked at
+pub journal_kept : (rows : List Row) (j : JournalState) (count : ℕ) (d : EndState)
+    → IsJournalOf rows j → j.failed ≡ false → d ≡ j.end → kept_behind j.stored rows ≡ []
+    → count ≡ length rows → IsJournalOf rows (record j { stored = count; failed = false; end = d })
+journal_kept rows j count d is whole same none all =
+    subst (λ (e : EndState). IsJournalOf rows (record j { stored = count; failed = false; end = e }))
+    (sym same)
+    (subst (λ (failed : Bool). IsJournalOf rows (record j { stored = count; failed = failed }))
+    whole (journal_quiet rows j count is none all))
+
+pub some_text : (text : List ℕ) → 1 ≤ length text → text ≡ [] → ⊥
+some_text text some none = let size = ap length none in omega (arith, some, size)

@@ -28,7 +28,7 @@ pub record JournalState : Type 0 where
   pub end : EndState
   pub begin : ChapterBegin
   pub refused : Option ℕ
-  pub now : Option (List ℕ)
+  pub clock : Option (List ℕ)
   pub due : Bool
   pub file : Option DiskFile
 
@@ -97,7 +97,7 @@ pub record GrowsByRound (last now : Option (List ℕ)) (rows : List Row) (old ne
 -- .. of the rows that a journal hadn't stored
 abbrev pub GrowsByLines : List Row → JournalState → JournalState → Type 0
 GrowsByLines rows a b =
-    OfFiles (GrowsByRound a.end.time a.now (kept_behind a.stored rows)) a.file b.file
+    OfFiles (GrowsByRound a.end.time a.clock (kept_behind a.stored rows)) a.file b.file
 
 abbrev pub WritesLines : List Row → Option JournalState → Option JournalState → Type 0
 WritesLines rows None None = ⊤

@@ -16,13 +16,13 @@ use site_book::SiteBook;
 use stamps::Stamp;
 use std::alloc::Global;
 use std::marker::Model;
-use std::time::{Duration, Instant};
+use std::time::Instant;
 
 /// Where the next chapter was refused, it is tried again so many kept rows later.
 pub const RETRY_ROWS: u64 = 1_024;
 
-/// A round that begins longer than this after the last seal ends with one.
-const SEAL_INTERVAL: Duration = Duration::from_secs(1);
+/// A round that begins so many seconds after the last seal, or more, ends with one.
+const SEAL_SECONDS: u64 = 1;
 
 /// What became of a chapter that may be over.
 #[derive(Clone, Copy, Debug, PartialEq, Eq)]
@@ -50,7 +50,7 @@ pub struct Journal<D: Disk> {
     stored: u64,
     has_failed: bool,
     /// The time of this round, if it is known.
-    now: Option<Stamp>,
+    clock: Option<Stamp>,
     /// When this round began.
     round_at: Option<Instant>,
     /// When the round began that ended with the last seal.
@@ -74,7 +74,7 @@ impl<D: Disk> Model for Journal<D> {
       end = j.end;
       begin = j.begin;
       refused = j.refused;
-      now = j.now;
+      clock = j.clock;
       due = j.is_due;
       file = D.file j.disk;
     } };
@@ -90,7 +90,7 @@ impl<D: Disk> Journal<D> {
         end: HistoryEnd,
         begin: ChapterBegin,
         stored: u64,
-        now: Option<Stamp>,
+        clock: Option<Stamp>,
     ) -> Journal<D>
         ensures { result ≡ record {
           site = string_bytes site;
@@ -99,7 +99,7 @@ impl<D: Disk> Journal<D> {
           end = end;
           begin = begin;
           refused = None;
-          now = now;
+          clock = clock;
           due = true;
           file = D.file disk;
         } }
@@ -113,7 +113,7 @@ impl<D: Disk> Journal<D> {
             refused: None,
             stored,
             has_failed: false,
-            now,
+            clock,
             round_at: None,
             sealed_at: None,
             is_due: true,
@@ -136,21 +136,19 @@ impl<D: Disk> Journal<D> {
     }
 
     /// A round begins at this time, if it is known. Where it stores rows, it ends with a seal if it
-    /// begins more than a second after the last one. It says whether the time is before the last one that the
-    /// journal tells: that one is repeated then.
-    pub(crate) fn begin_round(&mut self, now: Option<Stamp>, at: Instant) -> bool
-        ensures { self.new ≡ record self.old { now = now; due = self.new.due } }
+    /// begins a second or more after the last one. It says whether the time is before the last one
+    /// that the journal tells: that one is repeated then.
+    pub(crate) fn begin_round(&mut self, clock: Option<Stamp>, at: Instant) -> bool
+        ensures { self.new ≡ record self.old { clock = clock; due = self.new.due } }
     {
-        self.now = now;
-        self.round_at = Some(at);
+        let is_behind = is_behind(&clock, &self.end.time());
         self.is_due = match self.sealed_at {
             None => true,
-            Some(sealed) => at.duration_since(sealed) > SEAL_INTERVAL,
+            Some(sealed) => at.duration_since(sealed).as_secs() >= SEAL_SECONDS,
         };
-        match (now, self.end.time()) {
-            (Some(now), Some(last)) => now.is_before(&last),
-            _ => false,
-        }
+        self.clock = clock;
+        self.round_at = Some(at);
+        is_behind
     }
 
     /// Stores the rows of the book that aren't stored yet, but for those of reads: their lines,
@@ -178,22 +176,30 @@ impl<D: Disk> Journal<D> {
             return Ok(());
         }
         self.has_failed = true;
+        let (alloc, clock, is_due) = (self.alloc, self.clock, self.is_due);
+        let text = &mut self.text;
         self.end
-            .put_round(self.alloc, book, self.stored, self.now, &mut self.text)?;
+            .put_round(alloc, book, self.stored, clock, is_due, text)?;
         if self.text.is_empty() {
             self.has_failed = false;
             self.stored = count;
             return Ok(());
         }
-        if self.is_due {
-            self.end.put_seal(self.alloc, &mut self.text)?;
-            self.sealed_at = self.round_at;
-        }
         self.disk.append(&self.text)?;
         self.disk.sync()?;
         self.has_failed = false;
         self.stored = count;
+        self.note_seal();
         Ok(())
+    }
+
+    /// If a seal was due at the end of this round, it is there.
+    fn note_seal(&mut self)
+        ensures { self.new ≡ self.old }
+    {
+        if self.is_due {
+            self.sealed_at = self.round_at;
+        }
     }
 
     /// Ends the chapter if it is over: a shift was closed in it, or it has 1,000,000 rows. Where
@@ -309,5 +315,13 @@ impl<D: Disk> Journal<D> {
         self.end.begin_chapter(lines.as_bytes());
         self.has_failed = false;
         Ok(true)
+    }
+}
+
+/// Is this time before the last one?
+fn is_behind(time: &Option<Stamp>, last: &Option<Stamp>) -> bool {
+    match (time, last) {
+        (Some(time), Some(last)) => time.is_before(last),
+        _ => false,
     }
 }

@@ -55,7 +55,7 @@ pub fn open_journal<D: Disk>(
     config: &SiteConfig,
     site: String,
     disk: D,
-    now: Option<Stamp>,
+    clock: Option<Stamp>,
 ) -> Result<Opened<D>, Unopened<D>>
     requires { LEAST_ROWS ≤ config.now.rows }
     ensures alone { IfOk result
@@ -83,7 +83,7 @@ pub fn open_journal<D: Disk>(
         Err(fault) => return Err(Unopened { fault, disk }),
     };
     let rows = recovered.book.len();
-    match resume(alloc, recovered, disk, now) {
+    match resume(alloc, recovered, disk, clock) {
         Ok(station) => Ok(Opened { station, rows }),
         Err(unopened) => Err(unopened),
     }
@@ -95,7 +95,7 @@ pub fn resume<D: Disk>(
     alloc: Global,
     recovered: ReadHistory,
     disk: D,
-    now: Option<Stamp>,
+    clock: Option<Stamp>,
 ) -> Result<StoredStation<D>, Unopened<D>>
     requires sent { AllByRecursion IsSent recovered.book.rows }
     requires kept { kept_rows recovered.book.rows ≡ recovered.book.rows }
@@ -105,7 +105,7 @@ pub fn resume<D: Disk>(
     requires settled { OfFile (HoldsRows (string_bytes recovered.site) recovered.book.rows false
         recovered.end) (D.file disk) }
     ensures resumed { IfOk result
-        (λ s. Resumes (string_bytes recovered.site) recovered.book recovered.end.time now
+        (λ s. Resumes (string_bytes recovered.site) recovered.book recovered.end.time clock
         (D.file disk) s) }
     ensures fault { IfErr result (λ u. IsRefusal u.fault → ⊥) }
     ensures moments { IfErr result (λ u. OfFiles Keeps (D.file disk) (D.file u.disk)) }
@@ -120,7 +120,7 @@ pub fn resume<D: Disk>(
         recovered.end,
         recovered.begin,
         rows,
-        now,
+        clock,
     );
     match journal.store(&book) {
         Ok(()) => Ok(StoredStation::with_journal(alloc, book, recovered.unpaid, journal)),

@@ -168,14 +168,14 @@ impl<D: Disk> StoredStation<D> {
 
     /// A round begins at this time, if it is known. It says whether that is before the last time
     /// that the history tells, which is repeated then.
-    pub fn begin_round(&mut self, now: Option<Stamp>, at: Instant) -> bool
+    pub fn begin_round(&mut self, clock: Option<Stamp>, at: Instant) -> bool
         ensures station { self.new.station ≡ self.old.station }
         ensures stored { is_all_stored self.new ≡ is_all_stored self.old }
         ensures journal { JournalGoesOn self.old.journal self.new.journal }
     {
         match &mut self.journal {
             None => false,
-            Some(journal) => journal.begin_round(now, at),
+            Some(journal) => journal.begin_round(clock, at),
         }
     }
 

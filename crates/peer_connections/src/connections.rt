@@ -20,6 +20,7 @@ use mio::net::TcpStream;
 use mio::{Registry, Token};
 use site_base::NoMemory;
 use site_book::{NamedSale, SiteBook};
+use stamps::Stamp;
 use station::{HEARD_OCTETS, PEERS, PeerEnd};
 use std::alloc::Global;
 use std::time::Instant;
@@ -38,6 +39,8 @@ pub struct Connections<D: Disk> {
     changes: ChangeWatch,
     /// That the history's chapter goes on, since there can't be a next one, was said.
     has_told_refused: bool,
+    /// That the clock went back was said.
+    has_told_clock: bool,
     ghost size: { length piece.items ≡ HEARD_OCTETS },
 }
 
@@ -59,6 +62,7 @@ impl<D: Disk> Connections<D> {
             closing: 0,
             changes,
             has_told_refused: false,
+            has_told_clock: false,
         })
     }
 
@@ -142,6 +146,21 @@ impl<D: Disk> Connections<D> {
         }
         warn_of_last_shifts(rt, self.stored.book().open_shift());
         Ok(())
+    }
+
+    /// A round begins at this time, if it is known. Once it is said that the clock went back: then
+    /// the last time stands for those before it.
+    #[tactic(auto, using(crate::proofs::Reaching::moved))]
+    pub fn begin_round<E: Eprint>(&mut self, rt: &E, clock: Option<Stamp>, now: Instant)
+        ensures moves { Reaches self.old.stored.station self.new.stored.station }
+        ensures station { self.new.stored.station ≡ self.old.stored.station }
+        ensures stored { is_all_stored self.new.stored ≡ is_all_stored self.old.stored }
+    {
+        let is_behind = self.stored.begin_round(clock, now);
+        if is_behind && !self.has_told_clock {
+            self.has_told_clock = true;
+            let _ = eprintln!(rt; "the clock went back: rows have the last time until it is later");
+        }
     }
 
     /// Are there sessions that have ended, and connections that haven't?
@@ -443,7 +462,7 @@ impl<D: Disk> Connections<D> {
 
     /// The day ends: each session ends, and what it is owed is sent as far as its connection takes
     /// it, where each row is stored. Then each connection is closed: nobody is left. The history's
-    /// chapter ends, if it is over.
+    /// chapter ends, if it is over, and its last row is sealed.
     #[tactic(auto, using(crate::proofs::Reaching::moved))]
     pub fn end_all<E: Eprint>(&mut self, rt: &E, now: Instant) -> Result<(), DiskFault>
         ensures moves { Reaches self.old.stored.station self.new.stored.station }
@@ -455,7 +474,8 @@ impl<D: Disk> Connections<D> {
         self.send_last_to_all(now);
         self.remove_all();
         stored?;
-        self.store_and_end(rt)
+        self.store_and_end(rt)?;
+        self.stored.seal()
     }
 
     /// Each session ends.

@@ -8,7 +8,6 @@ ghost use Rattle.stamps.specs.Stamps.{later, stamp_in, time_after};
 use jiff::Timestamp;
 use std::alloc::Global;
 use std::marker::Model;
-use std::time::{Clock, SystemTime};
 
 /// The form of a stamp; 0 stands for any digit.
 const STAMP_FORM: &[u8; 24] = b"0000-00-00T00:00:00.000Z";
@@ -49,14 +48,8 @@ impl Stamp {
         }
     }
 
-    /// What time it is by this clock; None where it doesn't tell, or a year isn't one of four digits.
-    pub fn now<C: Clock>(alloc: Global, clock: &C) -> Option<Stamp> {
-        let time = SystemTime::now(clock).ok()?;
-        Stamp::of_time(alloc, Timestamp::try_from(time).ok()?)
-    }
-
     /// This time, its milliseconds cut.
-    fn of_time(alloc: Global, time: Timestamp) -> Option<Stamp> {
+    pub(crate) fn of_time(alloc: Global, time: Timestamp) -> Option<Stamp> {
         let text = time.strftime(alloc, "%Y-%m-%dT%H:%M:%S.%3fZ").ok()?;
         Stamp::parse(text.as_bytes())
     }

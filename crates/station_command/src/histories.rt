@@ -18,13 +18,14 @@ use history_folder::{FolderFault, exit_folder, exit_history, path_in};
 use journal::{OpenFault, Opened, StoredStation, open_journal};
 use program_io::{COMMAND_LINE, FAULT, exit_no_memory, exit_unwritten, exit_with};
 use site_base::SiteConfig;
+use stamps::StampClock;
 use std::fs::File;
 use std::process::ExitCode;
-use std::rt::Files;
+use std::rt::{Clock, Files};
 
 /// The station that a command opens, and what was found of its history, or how the program ends:
 /// that of the history in this folder, or one without a history on the site of this file.
-pub fn open_station<'a, R: Files<File = File> + Eprint + AllocGlobal>(
+pub fn open_station<'a, R: Files<File = File> + Clock + Eprint + AllocGlobal>(
     rt: &'a R,
     site: Option<&str>,
     history: Option<&str>,
@@ -83,7 +84,7 @@ fn open_without<'a, R: Files<File = File> + Eprint + AllocGlobal>(
 
 /// The station of the history in the folder of this name, and what was found there, or how the
 /// program ends. The first start needs the site file of this name; later ones compare it.
-fn open_kept<'a, R: Files<File = File> + Eprint + AllocGlobal>(
+fn open_kept<'a, R: Files<File = File> + Clock + Eprint + AllocGlobal>(
     rt: &'a R,
     name: &str,
     site: Option<&str>,
@@ -110,7 +111,7 @@ fn open_kept<'a, R: Files<File = File> + Eprint + AllocGlobal>(
 }
 
 /// The station of this site with the history in this folder, which has this name.
-fn open_with<'a, R: Files<File = File> + Eprint + AllocGlobal>(
+fn open_with<'a, R: Files<File = File> + Clock + Eprint + AllocGlobal>(
     rt: &'a R,
     config: &SiteConfig,
     site_file: &[u8],
@@ -133,7 +134,8 @@ fn open_with<'a, R: Files<File = File> + Eprint + AllocGlobal>(
         Ok(site) => site,
         Err(_) => return Err(exit_no_memory(rt)),
     };
-    match open_journal(rt.alloc(), config, site, disk) {
+    let clock = StampClock::new().read(rt.alloc(), rt);
+    match open_journal(rt.alloc(), config, site, disk, clock) {
         Ok(opened) => Ok(opened),
         Err(unopened) => Err(exit_unopened(rt, name, unopened.fault)),
     }

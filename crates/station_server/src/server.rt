@@ -14,6 +14,7 @@ use mio::net::TcpListener;
 use mio::{Events, Interest, Poll, Token, Waker};
 use page_connections::Pages;
 use peer_connections::Connections;
+use stamps::StampClock;
 use station::PEERS;
 use std::alloc::Global;
 use std::hash::RandomState;
@@ -47,6 +48,7 @@ pub struct StationServer {
     has_ended: bool,
     swept_at: Instant,
     time: Instant,
+    clock: StampClock,
 }
 
 /// Whether connections wait to be accepted.
@@ -175,9 +177,9 @@ impl StationServer {
 
     /// Waits until connections are ready, but no longer than this, and each of them has its turn.
     #[tactic(auto, using(crate::proofs::Rounds::moved))]
-    fn hear_round<C: Clock, D: Disk>(
+    fn hear_round<R: Clock + Eprint, D: Disk>(
         &mut self,
-        rt: &C,
+        rt: &R,
         connections: &mut Connections<D>,
         timeout: Option<Duration>,
     ) -> Result<(), ServerFault>
@@ -186,6 +188,8 @@ impl StationServer {
         match self.poll.poll(&mut self.events, timeout) {
             Ok(()) => {
                 self.look_at_clock(rt);
+                let clock = self.clock.read(self.alloc, rt);
+                connections.begin_round(rt, clock, self.time);
                 self.take_turns(connections)
             }
             Err(_) => Err(ServerFault::NoConnection),
@@ -195,9 +199,9 @@ impl StationServer {
     /// Where idle sessions are about to be ended, first of all whoever has sent something is heard:
     /// the wait may have been interrupted, or more are ready than a round looks at.
     #[tactic(auto, using(crate::proofs::Rounds::moved))]
-    fn hear_before_sweep<C: Clock, D: Disk>(
+    fn hear_before_sweep<R: Clock + Eprint, D: Disk>(
         &mut self,
-        rt: &C,
+        rt: &R,
         connections: &mut Connections<D>,
         idle: Option<u64>,
     ) -> Result<(), ServerFault>
@@ -475,5 +479,6 @@ fn listen<N: Net, C: Clock>(
         has_ended: false,
         swept_at: now,
         time: now,
+        clock: StampClock::new(),
     })
 }

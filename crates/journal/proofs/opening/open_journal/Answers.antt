@@ -6,7 +6,8 @@ use Rattle.journal.proofs.opening.open_journal.Goals as goal
 pub returns-in-Ok-resume-clause-opened : goal.returns-in-Ok-resume-clause-opened
 returns-in-Ok-resume-clause-opened g c =
     reopens _ (string_bytes c.in-Ok.recovered.site) c.args.config.now c.in-Ok.recovered.book
-    (g.D.Disk.file c.args.disk) (g.D.Disk.file c.recover.new.disk) c.len-rows.result
+    c.in-Ok.recovered.end.time c.args.clock (g.D.Disk.file c.args.disk)
+    (g.D.Disk.file c.recover.new.disk) c.len-rows.result
     c.in-Ok-resume.station c.in-Ok.ensures.site c.in-Ok.ensures.config c.in-Ok.ensures.read
     c.in-Ok.ensures.moments c.len-rows.ensures.rows c.in-Ok-resume.ensures.resumed
 

@@ -1,9 +1,9 @@
 use Rattle.std.proofs.Common.{◌∙◌, ◌≤◌, ℕ, Option, ap, arith, string_bytes, subst, sym}
 use Rattle.site_base.specs.Configured.{Configured}
 use Rattle.journal.specs.declared.memory.TheConstants.{LEAST_ROWS}
-use Rattle.journal.specs.Disks.{DiskFile, Grows, Keeps, OfFiles}
-use Rattle.chapters.specs.RowText.{kept_behind, rows_text}
-use Rattle.journal.specs.Stored.{GrowsByLines, IsJournalOf, JournalState}
+use Rattle.journal.specs.Disks.{DiskFile, Keeps, OfFiles}
+use Rattle.chapters.specs.RowText.{kept_behind}
+use Rattle.journal.specs.Stored.{GrowsByLines, GrowsByRound, IsJournalOf, JournalState}
 use Rattle.journal.proofs.SigningOff.{allowed_off, behind_off, journal_begun, resumes, sent_off}
 use Rattle.journal.proofs.SigningOff.{unpaid_off}
 use Rattle.journal.proofs.opening.resume.Goals as goal
@@ -12,7 +12,7 @@ pub store-requires-clause-journal : goal.store-requires-clause-journal
 store-requires-clause-journal g c =
     subst (IsJournalOf c.sign_off_all.new.book.rows) (sym c.new-journal.ensures)
     (journal_begun (string_bytes c.args.recovered.site) c.args.recovered.book
-    c.sign_off_all.new.book c.args.recovered.end c.args.recovered.begin
+    c.sign_off_all.new.book c.args.recovered.end c.args.recovered.begin c.args.clock
     (g.D.Disk.file c.args.disk) c.len-rows.result c.requires.settled c.requires.kept c.requires.spelled c.len-rows.ensures.rows
     c.sign_off_all.ensures.rows)
 
@@ -59,11 +59,12 @@ returns-in-Ok-clause-resumed g c =
     let written = subst (λ (j : JournalState). GrowsByLines rows j c.store.new.self)
     c.new-journal.ensures c.in-Ok.ensures.lines in
     resumes (string_bytes c.args.recovered.site) c.args.recovered.book c.sign_off_all.new.book
-    c.args.recovered.unpaid
+    c.args.recovered.end.time c.args.clock c.args.recovered.unpaid
     (g.D.Disk.file c.args.disk) c.store.new.self c.with_journal.result c.with_journal.ensures
     c.sign_off_all.ensures.rows c.sign_off_all.ensures.off c.in-Ok.ensures.stored
     (c.store.ensures.site ∙ ap (λ (j : JournalState). j.site) c.new-journal.ensures)
     (subst (λ (n : ℕ).
-    OfFiles (Grows (rows_text (kept_behind n rows))) (g.D.Disk.file c.args.disk) file)
+    OfFiles (GrowsByRound c.args.recovered.end.time c.args.clock (kept_behind n rows))
+    (g.D.Disk.file c.args.disk) file)
     c.len-rows.ensures.rows written)
     (subst (λ (f : Option DiskFile). OfFiles Keeps f file) was c.store.ensures.moments)

@@ -1,4 +1,4 @@
-use Rattle.std.proofs.Common.{◌∙◌, ap, subst, sym}
+use Rattle.std.proofs.Common.{subst, sym}
 use Rattle.journal.specs.Disks.{Keeps, OfFiles}
 use Rattle.journal.specs.Stored.{IsJournalOf, JournalState}
 use Rattle.journal.proofs.Ending.{journal_sealed}
@@ -20,7 +20,7 @@ pub returns-clause-journal : goal.returns-clause-journal
 returns-clause-journal g c = λ rows is.
     journal_sealed rows _ c.in_ok-line.line.items c.seal_text.new.self _ _
     (subst (IsJournalOf rows) (sym c.self.view_is) is)
-    (ap (λ (j : JournalState). j.failed) c.self.view_is ∙ c.requires)
+    c.if-self.false
     (λ chapters seal unsealed ends. (
       c.in_ok-line.ensures.line chapters seal unsealed ends,
       c.in_ok-line.ensures.behind chapters seal unsealed ends,

@@ -1,8 +1,8 @@
 use Rattle.std.proofs.Common.{take}
 use Rattle.std.specs.Prelude.{◌≤◌}
 use Rattle.chapters.specs.RowText.{kept_behind}
-use Rattle.chapters.proofs.Rounds.{WritesFirst}
-use Rattle.chapters.proofs.history_end.HistoryEnd.put_round.Given as goal
+use Rattle.chapters.specs.Rounds.{WritesFirst}
+use Rattle.chapters.proofs.history_end.HistoryEnd.put_rows.Given as goal
 
 -- the text has what is written of the rows up to this place
 abbrev pub invariant-loop-place : goal.invariant-loop-place
