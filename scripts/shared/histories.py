@@ -94,6 +94,12 @@ def write_chapters(site, *bodies):
     return texts
 
 
+def without_marks(text):
+    """A text of chapters without the lines of times and of seals."""
+    lines = text.splitlines(keepends=True)
+    return b"".join(line for line in lines if not line.startswith((b"# at ", b"# seal ")))
+
+
 class Seals(typing.NamedTuple):
     """What is found in sealed chapters: how many seals, and the last one."""
 

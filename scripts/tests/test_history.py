@@ -24,8 +24,8 @@ from shared.checks import Failed, Skipped, expect
 from shared.histories import (
     FIRST_LINES, LOCK_FILE, NO_SEAL, SITE_FILE, Told, chapter_path, check_chapters, count_rows,
     expect_looks, find_untold, first_lines, is_notice, is_read, is_sign_off, list_chapters,
-    read_rows, retitle, seal_line, split_messages, whole_lines, without_token, write_chapters,
-    write_history, write_rows,
+    read_rows, retitle, seal_line, split_messages, whole_lines, without_marks, without_token,
+    write_chapters, write_history, write_rows,
 )  # fmt: skip
 from shared.running import run
 from shared.serving import WAIT, Found, read_status, send_reset, start_day, wait_until
@@ -70,6 +70,14 @@ def write_chapter(text, name="history", site=KNOWN_SITE):
     return chapter_path(write_history(HERE / name, site, text))
 
 
+def read_plain(path):
+    """The text of a history's only chapter without the lines of times and of seals, which are
+    right."""
+    text = path.read_bytes()
+    check_chapters(KNOWN_SITE, [text])
+    return without_marks(text)
+
+
 def command(folder, *words, site=KNOWN_SITE):
     """A station of this site file, or None for the folder's own, with its history in this folder,
     or in that of this chapter."""
@@ -111,7 +119,9 @@ def expect_opened(what, text, whole, rows, signed_off=b"", site=KNOWN_SITE, repo
     ended = run(*command(path, site=site))
     told = LISTENING.sub(b"listening\n", ended.out)
     after = path.read_bytes()
-    expect(f"{what}: the file", after, whole + signed_off)
+    expect(f"{what}: what was there", after[: len(whole)], whole)
+    expect(f"{what}: the file", without_marks(after[len(whole) :]), signed_off)
+    check_chapters(site, [after])
     said = b"history new\n" if text is None else say_found(rows)
     wanted = said + b"listening\n" + (reported or report_of(after, site))
     expect(what, (ended.status, ended.err, told), (0, "", wanted))
@@ -178,7 +188,7 @@ def it_goes_on():
         got = b"".join(without_token(receive_message(till)) for _ in more)
         told = end(day)
         expect("no more is told", receive_all(till), b"")
-    after, kept = path.read_bytes(), [one for one in more if not is_read(one)]
+    after, kept = read_plain(path), [one for one in more if not is_read(one)]
     expect("the chapter", after, DAY_TEXT + OFF_1 + write_rows(*kept) + OFF_1)
     all_rows = read_rows(PROGRAM, KNOWN_SITE, DAY_TEXT + OFF_1 + write_rows(*more))
     expect("the replies", got, b"".join(row.reply for row in all_rows[len(DAY) + 1 :]))
@@ -197,7 +207,7 @@ def lines_are_rows():
         for sent in (stranger, empty, b"\xff" * 8, b"", read[:5], empty + read + refused + empty):
             day.ask(sent)
         told = end(day, None)
-    expect("the chapter", path.read_bytes(), FIRST + write_rows(refused))
+    expect("the chapter", read_plain(path), FIRST + write_rows(refused))
     expect("the report", told, write_report(1, 0))
 
 
@@ -218,9 +228,9 @@ def ends_are_stored():
             till = day.connect()
             till.sendall(sign_on(1))
             expect("a reply", len(receive_message(till)), 16)
-            expect(f"{what}: signed on", path.read_bytes(), FIRST + on)
+            expect(f"{what}: signed on", read_plain(path), FIRST + on)
             leave(till)
-            wait_until(f"{what}: its sign-off", lambda: path.read_bytes() == FIRST + on + off)
+            wait_until(f"{what}: its sign-off", lambda: read_plain(path) == FIRST + on + off)
             till.close()
 
 
@@ -423,7 +433,7 @@ def reads_are_not_stored():
             receive_message(till)
         expect("the chapter", (path.read_bytes(), path.stat().st_mtime_ns), (before, changed))
         expect("the report", end(day).splitlines()[0], "rows 2")
-    expect("the chapter", path.read_bytes(), before + OFF_1)
+    expect("the chapter", read_plain(path), without_marks(before) + OFF_1)
     for one in reads:
         expect_line("a read", FIRST + write_rows(sign_on(1), one), FIRST_LINES + 2)
 
@@ -481,7 +491,7 @@ def in_use():
     with start_station(path) as day:
         expect("its rows", day.rows, 1)
         end(day)
-    expect("the file", path.read_bytes(), FIRST + write_rows(sign_on(1), sign_off(1)))
+    expect("the file", read_plain(path), FIRST + write_rows(sign_on(1), sign_off(1)))
 
 
 @test
@@ -510,7 +520,7 @@ def starts_at_once():
                     ends.append((one.returncode, err))
             refused = [(1, b"history in use\n")] * (AT_ONCE - 1)
             expect("how they end", sorted(ends), [(0, b""), *refused])
-            expect("the file", path.read_bytes(), text + OFF_1 if text else FIRST)
+            expect("the file", read_plain(path), text + OFF_1 if text else FIRST)
             expect_files("at once", path.parent, KNOWN_SITE, 1)
 
 
@@ -524,7 +534,7 @@ def own_sites():
     ended = run(*command(folder, site=None))
     expect("without a site file", (ended.status, ended.err), (0, ""))
     text = path.read_bytes()
-    expect("its chapter", text, DAY_TEXT + OFF_1)
+    expect("its chapter", read_plain(path), DAY_TEXT + OFF_1)
     site = HERE / "named.toml"
     same = {
         "a comment": f"# {'x' * 100}\n{told}# the end\n",
@@ -671,7 +681,7 @@ def without_leave():
     expect("no folder is made", folder.exists(), False)
     folder = theirs / "history"
     ended = run(*command(folder), **how)
-    text = chapter_path(folder).read_bytes()
+    text = read_plain(chapter_path(folder))
     expect("their own", (ended.status, ended.err, text), (0, "", FIRST))
 
 
@@ -691,7 +701,7 @@ def what_a_start_puts_in_its_place():
     copy_of(path).write_bytes(DAY_TEXT[:100])
     expect("its end", run(*command(path)).status, 0)
     after = path.stat()
-    expect("the file", path.read_bytes(), DAY_TEXT + OFF_1)
+    expect("the file", read_plain(path), DAY_TEXT + OFF_1)
     expect("another one", after.st_ino != before.st_ino, True)
     for what in ("st_mode", "st_uid", "st_gid"):
         expect(what, getattr(after, what), getattr(before, what))
@@ -720,7 +730,7 @@ def what_isnt_a_chapter():
     expect("its end", (ended.status, ended.err), (0, ""))
     expect("what it found", ended.out.startswith(say_found(len(DAY))), True)
     expect("how many files", len(list(path.parent.iterdir())), len(names) + 4)
-    expect("the chapter", path.read_bytes(), DAY_TEXT + OFF_1)
+    expect("the chapter", read_plain(path), DAY_TEXT + OFF_1)
 
 
 def write_told():
@@ -766,7 +776,8 @@ def outputs_into_a_history_in_use():
             expect("output", start_into(folder, path, "stdout"), (b"", b"history in use\n"))
             expect("errors", start_into(folder, path, "stderr"), (b"", b""))
         end(day, None)
-    expect("the file", read_texts(folder)[1].endswith(write_rows(*DAY) + OFF_1), True)
+    text = without_marks(read_texts(folder)[1])
+    expect("the file", text.endswith(write_rows(*DAY) + OFF_1), True)
 
 
 @test
@@ -785,7 +796,7 @@ def what_others_have_left():
     except OSError as why:
         raise Skipped(f"nobody can't run the program: {why}") from None
     expect("its end", (ended.status, ended.err), (0, ""))
-    expect("the file", path.read_bytes(), DAY_TEXT + OFF_1)
+    expect("the file", read_plain(path), DAY_TEXT + OFF_1)
     expect("nothing is left", copy_of(path).exists(), False)
 
 
@@ -816,7 +827,7 @@ def no_place_for_a_copy():
         expect_unopened("a file that somebody has locked")
     expect("its octets", copy.read_bytes(), FIRST)
     expect("its end", run(*command(path)).status, 0)
-    expect("the chapter", path.read_bytes(), DAY_TEXT + OFF_1)
+    expect("the chapter", read_plain(path), DAY_TEXT + OFF_1)
 
 
 @test
@@ -844,7 +855,7 @@ def mistaken_words():
         path = write_chapter(DAY_TEXT)
         ended = run(PROGRAM, "station", KNOWN_SITE, "--port", str(day.port), "--history", folder)
         expect("listening", (ended.status, ended.out, ended.err), (1, b"", "fault 63\n"))
-        expect("its file", path.read_bytes(), DAY_TEXT + OFF_1)
+        expect("its file", read_plain(path), DAY_TEXT + OFF_1)
 
 
 # ---- closed standard streams
@@ -870,7 +881,7 @@ def closed_streams():
                 got = (ended.status, ended.err, ended.out != b"")
                 why = "" if is_told or 2 in closed else "fault 62\n"
                 expect(f"{closed} closed", got, (0 if is_told else 1, why, is_told))
-                expect(f"{closed} closed: the file", path.read_bytes(), whole)
+                expect(f"{closed} closed: the file", read_plain(path), whole)
 
 
 @test
@@ -879,8 +890,8 @@ def full_output():
     path = write_chapter(DAY_TEXT)
     ended = run(*command(path), sink="/dev/full")
     expect("its end", (ended.status, ended.err), (1, "fault 62\n"))
-    text = DAY_TEXT + OFF_1
-    expect("its file", path.read_bytes(), text)
+    text = path.read_bytes()
+    expect("its file", read_plain(path), DAY_TEXT + OFF_1)
     expect_opened("the next start", text, text, len(DAY) + 1)
 
 
@@ -903,7 +914,7 @@ def closed_error():
                     told += receive_all(other)
             text = path.read_bytes()
             rows = [*asked, sign_off(1), sign_on(2)]
-            expect(f"{closed} closed {words}: the file", text, FIRST + write_rows(*rows))
+            expect(f"{closed} closed {words}: the file", without_marks(text), FIRST + write_rows(*rows))
             made = [row.reply for row in read_rows(PROGRAM, KNOWN_SITE, text)]
             fault = parse("FF FF 01 01 00 FF 00 05 01 01 01 01 28")
             told = decode(told)
@@ -1026,6 +1037,12 @@ def read_texts(folder):
     return [path.read_bytes() for path in list_chapters(folder)]
 
 
+def read_body(text):
+    """The lines of rows of a chapter."""
+    lines = text.splitlines(keepends=True)
+    return b"".join(line for line in lines if not line.startswith(b"#"))
+
+
 def wait_for_chapter(folder, number):
     path = chapter_path(folder, number)
     wait_until(f"chapter {number}", path.exists)
@@ -1058,8 +1075,8 @@ def chapters_end_with_shifts():
         told = end(day)
     texts, bodies = read_texts(folder), work.bodies
     bodies[-1] += OFF_1
-    expect("the chapters", texts, write_chapters(KNOWN_SITE, *bodies))
-    expect("seals", check_chapters(KNOWN_SITE, texts).count, SHIFTS)
+    expect("the chapters", [read_body(text) for text in texts], bodies)
+    check_chapters(KNOWN_SITE, texts)
     text = b"".join(texts)
     rows = read_rows(PROGRAM, KNOWN_SITE, text)
     expect_replies("what was answered", rows, work)
@@ -1130,7 +1147,6 @@ def chapters_that_go_on():
         told = end(day, NO_NEW_CHAPTER)
     texts = read_texts(folder)
     check_chapters(KNOWN_SITE, texts)
-    expect("seals of chapter 1", texts[0].count(b"# seal "), 3)
     expect("where it ended", count_rows(texts[0]), refused + RETRY_ROWS)
     text = b"".join(texts)
     rows = read_rows(PROGRAM, KNOWN_SITE, text)
@@ -1169,7 +1185,7 @@ def what_hinders_a_chapter():
             leave()
             text = chapter_path(folder).read_bytes()
             expect_replies(f"{what}{ending}", read_rows(PROGRAM, KNOWN_SITE, text), work)
-            expect("seals", text.count(b"# seal "), 1)
+            check_chapters(KNOWN_SITE, [text])
 
 
 @test
@@ -1225,10 +1241,10 @@ def a_chapter_that_is_over():
         texts = read_texts(folder)
         check_chapters(KNOWN_SITE, texts)
         expect(f"{what}: how many", len(texts), 2)
-        expect(f"{what}: chapter 1", texts[0].startswith(whole + OFF_1 + b"# seal "), True)
+        expect(f"{what}: what was there", texts[0][: len(whole)], whole)
+        expect(f"{what}: chapter 1", without_marks(texts[0]), without_marks(whole) + OFF_1)
         rows = write_rows(sign_on(1), command_point(1, 0, 2, OPEN)) + OFF_1
-        first = len(first_lines(KNOWN_SITE, 2))
-        expect(f"{what}: the rows of chapter 2", texts[1][first:], rows)
+        expect(f"{what}: the rows of chapter 2", read_body(texts[1]), rows)
         expect(f"{what}: the report", told.encode(), report_of(b"".join(texts)))
 
 
