@@ -398,7 +398,7 @@ chapter_cut site n whole text r s lines is =
 
 -- ---- with more lines
 
-both_some : (o : Option HistoryRead) (next : HistoryRead → Option HistoryRead) (s : HistoryRead)
+pub both_some : (o : Option HistoryRead) (next : HistoryRead → Option HistoryRead) (s : HistoryRead)
     → and_then o next ≡ Some s
     → (mid : HistoryRead) × (o ≡ Some mid) × (next mid ≡ Some s)
 both_some None next s is = absurd (none-some s is)

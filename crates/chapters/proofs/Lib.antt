@@ -15,4 +15,6 @@ pub mod ReadingChapters
 pub mod Histories
 pub mod Chapters
 pub mod Rounds
+pub mod Binding
+pub mod Comments
 pub mod Named

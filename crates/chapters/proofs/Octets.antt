@@ -11,14 +11,14 @@ use Rattle.app_message.specs.declared.kind.Kind.TheVariants as kinds
 use Rattle.app_message.specs.Telegram.{AreOctets, Entry, Rises, Telegram}
 use Rattle.app_message.specs.Spelling.{IsMessage, body, head_text, item_text, kind_code, spelling}
 
-no_octets : AreOctets []
+pub no_octets : AreOctets []
 no_octets i = omega arith
 
-one_more_octet : (b : ℕ) (xs : List ℕ) → b < 256 → AreOctets xs → AreOctets (b ∷ xs)
+pub one_more_octet : (b : ℕ) (xs : List ℕ) → b < 256 → AreOctets xs → AreOctets (b ∷ xs)
 one_more_octet b xs one others zero = one
 one_more_octet b xs one others (suc i) = others i
 
-both_octets : (a b : List ℕ) → AreOctets a → AreOctets b → AreOctets (a ++ b)
+pub both_octets : (a b : List ℕ) → AreOctets a → AreOctets b → AreOctets (a ++ b)
 both_octets [] b first second = second
 both_octets (x ∷ a) b first second =
     one_more_octet x (a ++ b) (first zero) (both_octets a b (λ i. first (suc i)) second)

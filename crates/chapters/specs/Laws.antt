@@ -1,15 +1,21 @@
--- The law of a history in chapters.
-use Rattle.std.specs.Prelude.{◌≡◌, ◌≢◌, ℕ, List, [], Some}
-use Rattle.std.specs.List.{AllByRecursion}
+-- The laws of a history in chapters, and of its seals.
+use Rattle.std.specs.Prelude.{◌≡◌, ◌≢◌, ◌⊎◌, ◌++◌, ℕ, true, List, [], Some, filter, not}
+use Rattle.std.specs.List.{AllByRecursion, filter_map, flat_map}
+use Rattle.hex.specs.Hex.{encode_lower}
+use Rattle.sha2.specs.Sha256.{sha256}
+use Rattle.site_base.specs.declared.actor.Actor.{Actor}
+use Rattle.site_base.specs.declared.event.Event.{Event}
 use Rattle.site_base.specs.declared.row.Row.{Row}
 use Rattle.site_base.specs.Configured.{Configured}
 use Rattle.kept_history.specs.KeptRows.{kept_rows}
 use Rattle.written_site.specs.SiteRun.{IsLegal}
 use Rattle.written_site.specs.SiteState.{opening}
 use Rattle.chapters.specs.History.{rows_asked}
+use Rattle.chapters.specs.Lines.{request_in}
 use Rattle.chapters.specs.RowText.{CanBeSpelled}
-use Rattle.chapters.specs.ChapterReading.{HistoryRead, read_history}
-use Rattle.chapters.specs.ChapterText.{history_texts, rows_of_chapters}
+use Rattle.chapters.specs.ChapterReading.{HistoryRead, is_comment, is_none_left, read_history}
+use Rattle.chapters.specs.ChapterReading.{read_lines}
+use Rattle.chapters.specs.ChapterText.{history_texts, no_seal, rows_of_chapters}
 
 -- the chapters are read, and what is read makes just these rows, replies included
 pub record TellsRows (site : List ℕ) (config : Configured) (texts : List (List ℕ))
@@ -28,3 +34,47 @@ ChaptersTellTheirHistory = (site : List ℕ) (config : Configured) (rows : List 
     → AllByRecursion (λ c. c ≢ []) closed
     → rows_of_chapters closed sealed behind ≡ kept_rows rows
     → TellsRows site config (history_texts site closed sealed behind) (kept_rows rows)
+
+-- ---- comments
+
+-- the requests of lines that are no comments
+abbrev pub requests_in : List (List ℕ) → List (Actor × Event)
+requests_in lines = filter_map request_in (filter (λ line. not (is_comment line)) lines)
+
+-- Comments say nothing: what is read of lines, times and seals among them, are the requests of the
+-- others.
+abbrev pub CommentsSayNothing : Type 0
+CommentsSayNothing = (lines : List (List ℕ)) (r s : HistoryRead) → read_lines lines r ≡ Some s
+    → s.events ≡ r.events ++ requests_in lines
+
+-- ---- seals
+
+-- the octets of chapters, one after another
+abbrev pub octets_of : List (List ℕ) → List ℕ
+octets_of texts = flat_map (λ text. text) texts
+
+-- the chapters are read, so that each seal in them is right, and their last line is this seal
+pub record AreSealed (site : List ℕ) (texts : List (List ℕ)) (seal : List ℕ) : Type 0 where
+  pub reading : HistoryRead
+  pub read : read_history site texts ≡ Some reading
+  pub ended : is_none_left reading ≡ true
+  pub last : reading.seal ≡ seal
+
+-- two lists of octets that differ, and have one SHA-256
+pub record Collision : Type 0 where
+  pub one : List ℕ
+  pub other : List ℕ
+  pub differ : one ≢ other
+  pub same : sha256 one ≡ sha256 other
+
+-- octets whose SHA-256 is 32 zeros: what stands for a seal before the first chapter
+pub record ZeroDigest : Type 0 where
+  pub octets : List ℕ
+  pub zero : encode_lower (sha256 octets) ≡ no_seal
+
+-- A seal is a seal. Of two histories that differ and end with one seal, two lists of octets that
+-- differ and have one SHA-256 can be computed; or octets whose SHA-256 is zero.
+abbrev pub SealsBindTheirTexts : Type 0
+SealsBindTheirTexts = (site another : List ℕ) (texts others : List (List ℕ)) (seal : List ℕ)
+    → AreSealed site texts seal → AreSealed another others seal
+    → octets_of texts ≢ octets_of others → Collision ⊎ ZeroDigest

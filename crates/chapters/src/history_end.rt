@@ -175,6 +175,7 @@ impl HistoryEnd {
             → EndsAt chapters seal unsealed self.old → octets.now ≡ text_of_lines lines
             → lines ≢ [] → EndsAt chapters seal (unsealed ++ lines) self.new }
         ensures count { self.new.chapters ≡ self.old.chapters }
+        ensures rows { self.new.rows ≡ self.old.rows }
         ensures time { self.new.time ≡ self.old.time }
     {
         self.unsealed.cover(octets);

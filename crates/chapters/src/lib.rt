@@ -1,5 +1,6 @@
-//! A history as chapters: the lines of their rows, the lines that name a chapter, its seals; what
-//! is read of them; and the law that they tell the history.
+//! A history as chapters: the lines of their rows, the lines that name a chapter, its times and its
+//! seals; what is read of them; and the laws that they tell the history, and that its seals bind
+//! it.
 #![tactic(auto)]
 
 mod chapter_begin;
@@ -18,5 +19,5 @@ pub use chapter_begin::{CHAPTER_ROWS, ChapterBegin};
 pub use fault::HistoryFault;
 pub use first_lines::site_name;
 pub use history_end::{HistoryEnd, MOST_CHAPTERS, SEAL_ROWS};
-pub use laws::chapters_tell_their_history;
+pub use laws::{chapters_tell_their_history, comments_say_nothing, seals_bind_their_texts};
 pub use reader::{HistoryReader, ROWS_IN_MEMORY, ReadHistory, RowRead};

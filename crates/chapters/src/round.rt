@@ -1,9 +1,11 @@
 //! The lines of a round.
 
-ghost use Rattle.std.specs.Prelude.{◌≡◌, ◌≢◌, ◌≤◌, ◌+◌, ◌++◌, ◌∷◌, [], OnOk, length, true};
+ghost use Rattle.std.specs.Prelude.{◌≡◌, ◌≢◌, ◌≤◌, ◌<◌, ◌+◌, ◌++◌, ◌∷◌, [], OnOk, length, true};
 ghost use Rattle.std.specs.List.{AllByRecursion};
 ghost use Rattle.kept_history.specs.KeptRows.{is_kept, kept_rows};
 ghost use Rattle.stamps.specs.Stamps.{at_line, is_stamp, later_of};
+ghost use Rattle.chapters.specs.declared.history_end.TheConstants.{SEAL_ROWS};
+ghost use Rattle.chapters.specs.HistoryEnds.{one_more_row};
 ghost use Rattle.chapters.specs.ChapterText.{row_digits, text_of_lines};
 ghost use Rattle.chapters.specs.Rounds.{WritesFirst, WritesOn, WritesRound, stamp_lines};
 ghost use Rattle.chapters.specs.Rounds.{time_behind};
@@ -44,6 +46,7 @@ impl HistoryEnd {
             (length (kept_behind from book.now.rows) ≤ length text.new.items) }
         ensures none { OnOk result (kept_behind from book.now.rows ≡ [] → self.new ≡ self.old) }
         ensures still { OnOk result (kept_behind from book.now.rows ≡ [] → text.new.items ≡ []) }
+        ensures few { self.old.rows < SEAL_ROWS → OnOk result (self.new.rows < SEAL_ROWS) }
         ensures sealed { is_due ≡ true → OnOk result
             (kept_behind from book.now.rows ≢ [] → self.new.sealed ≡ true) }
         ensures count { self.new.chapters ≡ self.old.chapters }
@@ -70,6 +73,7 @@ impl HistoryEnd {
         requires sent { AllByRecursion IsSent book.now.rows }
         ensures first { OnOk result (WritesFirst now (kept_behind from book.now.rows) self.old
             self.new text.new.items) }
+        ensures few { self.old.rows < SEAL_ROWS → OnOk result (self.new.rows < SEAL_ROWS) }
         ensures count { self.new.chapters ≡ self.old.chapters }
     {
         let now = &now;
@@ -101,6 +105,7 @@ impl HistoryEnd {
             ≤ length text.new.items) }
         ensures none { kept_rows (row.now ∷ []) ≡ [] → self.new ≡ self.old }
         ensures still { kept_rows (row.now ∷ []) ≡ [] → text.new.items ≡ text.old.items }
+        ensures few { self.old.rows < SEAL_ROWS → OnOk result (self.new.rows < SEAL_ROWS) }
         ensures count { self.new.chapters ≡ self.old.chapters }
     {
         if !is_kept(row) {
@@ -120,6 +125,7 @@ impl HistoryEnd {
             text.old.items text.new.items) }
         ensures size { OnOk result (length text.old.items ≤ length text.new.items) }
         ensures time { OnOk result (self.new.time ≡ later_of self.old.time now.now) }
+        ensures rows { OnOk result (self.new.rows ≡ self.old.rows) }
         ensures count { self.new.chapters ≡ self.old.chapters }
     {
         let Some(now) = now else {
@@ -143,6 +149,7 @@ impl HistoryEnd {
             self.new text.old.items text.new.items) }
         ensures spelled { OnOk result (CanBeSpelled (row.now ∷ [])) }
         ensures size { OnOk result (length text.old.items + 1 ≤ length text.new.items) }
+        ensures rows { OnOk result (self.new.rows ≡ one_more_row self.old.rows) }
         ensures time { OnOk result (self.new.time ≡ self.old.time) }
         ensures count { self.new.chapters ≡ self.old.chapters }
     {

@@ -1,9 +1,9 @@
 //! A journal that is written.
 
-ghost use Rattle.std.specs.Prelude.{◌≡◌, ◌≤◌, ◌<◌, [], IfOk, List, None, OnOk, false, length};
+ghost use Rattle.std.specs.Prelude.{◌≡◌, ◌≢◌, ◌≤◌, ◌<◌, [], IfOk, List, None, OnOk, false, length};
 ghost use Rattle.std.specs.Prelude.{string_bytes, true};
 ghost use Rattle.site_base.specs.declared.row.Row.{Row as RowFacts};
-ghost use Rattle.chapters.specs.declared.history_end.TheConstants.{MOST_CHAPTERS};
+ghost use Rattle.chapters.specs.declared.history_end.TheConstants.{MOST_CHAPTERS, SEAL_ROWS};
 ghost use Rattle.std.specs.List.{AllByRecursion};
 ghost use Rattle.chapters.specs.RowText.{IsSent, kept_behind};
 ghost use Rattle.journal.specs.ChapterEnds.{IsEnd, may_try, rows_kept};
@@ -166,6 +166,10 @@ impl<D: Disk> Journal<D> {
         ensures lines { OnOk result (GrowsByLines book.now.rows self.old self.new) }
         ensures quiet { kept_behind self.old.stored book.now.rows ≡ []
             → self.new.file ≡ self.old.file }
+        ensures sealed { self.old.due ≡ true → OnOk result
+            (kept_behind self.old.stored book.now.rows ≢ [] → self.new.end.sealed ≡ true) }
+        ensures few { self.old.end.rows < SEAL_ROWS
+            → OnOk result (self.new.end.rows < SEAL_ROWS) }
         ensures moments { OfFiles Keeps self.old.file self.new.file }
     {
         if self.has_failed {

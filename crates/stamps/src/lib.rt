@@ -2,7 +2,9 @@
 #![tactic(auto)]
 
 mod clock;
+mod laws;
 mod stamp;
 
 pub use clock::StampClock;
+pub use laws::times_never_fall;
 pub use stamp::{AT_MARK, Stamp, is_later, later, stamp_in, time_after};

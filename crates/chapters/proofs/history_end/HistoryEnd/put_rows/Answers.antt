@@ -11,6 +11,7 @@ loop-place-init c = record {
   high = omega arith;
   first = first_none c.args.now _ c.args.self.now c.clear.new.self.items
       (none_yet c.args.book.now.rows c.args.from) c.clear.ensures.items;
+  few = λ few. few;
 }
 
 pub unreachable-requires : goal.unreachable-requires
@@ -43,4 +44,5 @@ loop-place-preserved c =
           more.time more.size more.none more.still c.put_kept.ensures.count
           (kept_more c.args.book.now.rows c.args.from c.loop-place.place c.in-Some.row
           c.loop-place.invariant.high within there);
+      few = λ few. more.few (c.loop-place.invariant.few few);
     }
