@@ -30,11 +30,11 @@ impl Model for SaleStory {
 
 impl SaleStory {
     /// The story of this sale, before the first row. It takes no memory.
-    pub fn new(alloc: Global, sale: SaleName) -> SaleStory
-        ensures { result ≡ record { sale = sale; rows = []; sold = false } }
+    pub fn new(alloc: Global, sale: &SaleName) -> SaleStory
+        ensures { result ≡ record { sale = sale.now; rows = []; sold = false } }
     {
         SaleStory {
-            sale,
+            sale: *sale,
             rows: Vec::new(alloc),
             is_sold: false,
         }

@@ -27,7 +27,7 @@ pub fn run_story<R: Files + Print + Eprint + AllocGlobal>(
     options: StoryOptions<'_>,
 ) -> ExitCode {
     let told = match read_sale(rt, options.sale) {
-        Ok(sale) => tell_story(rt, options.history, sale),
+        Ok(sale) => tell_story(rt, options.history, &sale),
         Err(status) => Err(status),
     };
     match told {
@@ -40,7 +40,7 @@ pub fn run_story<R: Files + Print + Eprint + AllocGlobal>(
 fn tell_story<R: Files + Print + Eprint + AllocGlobal>(
     rt: &R,
     folder: &str,
-    sale: SaleName,
+    sale: &SaleName,
 ) -> Result<(), ExitCode> {
     let mut walk = FolderWalk::open(rt, folder)?;
     let mut story = SaleStory::new(rt.alloc(), sale);
@@ -54,7 +54,7 @@ fn tell_story<R: Files + Print + Eprint + AllocGlobal>(
 }
 
 /// How the program ends where the sale wasn't sold.
-fn check_sold(rt: &impl Eprint, story: &SaleStory, sale: SaleName) -> Result<(), ExitCode>
+fn check_sold(rt: &impl Eprint, story: &SaleStory, sale: &SaleName) -> Result<(), ExitCode>
     ensures sold { OnOk result (story.now.sold ≡ true) }
     ensures missing { OnErr result (story.now.sold ≡ false) }
     ensures failed { IfErr result (λ status. exit_status status ≡ FAULT) }
