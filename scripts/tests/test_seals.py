@@ -5,6 +5,7 @@ judged here by what docs/PROFILE.md says of a chapter's text; a start has to ref
 fault."""
 
 import re
+import subprocess
 import typing
 
 from shared.checks import expect
@@ -13,13 +14,16 @@ from shared.histories import (
     write_history, write_rows,
 )  # fmt: skip
 from shared.running import run
+from shared.serving import start_day, wait_until
 from shared.station import KNOWN_SITE
 from tests.built import PROGRAM
+from tests.shifts_worked import work_at
 from tests.suite import make_folder, start_chance, test
 
 HERE = make_folder()
 SEAL, SITE_LINE = b"# seal ", 2
 NO_TIME = "-".ljust(24)
+VERIFIED = r"chapters \d+ rows {rows} seals \d+ last [0-9a-f]{{64}} from \S+ to \S+"
 HEXADECIMAL = re.compile(rb"([0-9A-Fa-f]{2}){8,}")
 
 
@@ -350,6 +354,45 @@ def cut_tails():
         told = verify(folder, "--seal", seal).out.decode().splitlines()[1]
         wanted = f"seal {seal} is that of chapter {chapter} line {line}"
         expect(f"{size} octets: an earlier seal", told, wanted)
+
+
+@test
+def running_station():
+    """A station's folder while it runs, and after its end: a seal that was noted in its first shift
+    stays there."""
+    folder = HERE / "station"
+    command = [PROGRAM, "station", KNOWN_SITE, "--port", 0, "--history", folder]
+    with start_day([*map(str, command)], stdin=subprocess.PIPE) as day, work_at(day) as work:
+        work.come()
+        for number in range(1, 4):
+            work.fuel(1_000 * number)
+            work.collect(1)
+            expect_verified(folder, len(work.told))
+            work.close_shift()
+            wait_until("a chapter's end", chapter_path(folder, number + 1).exists)
+            noted = read_last_seal(chapter_path(folder, 1))
+            expect_verified(folder, len(work.told), noted)
+        day.process.stdin.close()
+        day.process.stdin = None
+        day.report()
+    expect_verified(folder, len(work.told) + 1, noted)  # and the till's sign-off
+
+
+def read_last_seal(path):
+    """The seal that is the last line of a closed chapter."""
+    lines = path.read_text().splitlines()
+    return Place(lines[-1].removeprefix("# seal "), 1, len(lines))
+
+
+def expect_verified(folder, rows, noted=None):
+    """So many rows are verified in a folder of a station, which has a seal that was noted."""
+    ended = verify(folder, *(["--seal", noted.seal] if noted else []))
+    expect("a status", ended.status, 0)
+    first, *others = ended.out.decode().splitlines()
+    is_told = re.fullmatch(VERIFIED.format(rows=rows), first) is not None
+    expect(f"{rows} rows: {first}", is_told, True)
+    said = f"seal {noted.seal} is that of chapter 1 line {noted.line}" if noted else ""
+    expect("the seal", others, [said] if noted else [])
 
 
 # ---- times and stories

@@ -75,8 +75,7 @@ impl FolderWalk {
         Ok(())
     }
 
-    /// Where the first line is that is the seal that it was to look for, in the chapters that it has
-    /// begun.
+    /// Where the seal stands that it looks for, if a chapter that it has begun has it.
     pub fn seal_place(&self) -> Option<LinePlace> {
         match &self.search {
             Some(search) => search.place(),
@@ -99,8 +98,8 @@ impl FolderWalk {
         self.reader.end()
     }
 
-    /// So many octets of the chapter that is being read aren't read. Once there is no row left, they
-    /// are those of its last line, which has no line feed.
+    /// How many octets of the current chapter aren't read yet. Once no row is left, they are those of
+    /// its last line, which has no line feed.
     pub fn unread(&self) -> usize {
         self.text.len() - self.octets
     }

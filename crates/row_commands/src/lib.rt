@@ -1,6 +1,6 @@
 //! The commands that print of a history's rows: `replay`, `explain`, `sales` and `report` of a
-//! folder, of all its shifts or of some; `story` of one sale (`specs/Stories.antt`); `verify`, which
-//! reads each row and says where the history ends.
+//! folder, of all its shifts or of some; `story` of one sale (`specs/Stories.antt`); and `verify`,
+//! which reads each row and says where the history ends.
 #![tactic(auto)]
 
 mod options;

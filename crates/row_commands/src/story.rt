@@ -91,8 +91,8 @@ fn put_story<R: Files + Print + Eprint + AllocGlobal>(
     Err(exit_replay(rt, Some(ReplayFault::Read(ReadFault::TurnLimit))))
 }
 
-/// Has the story take a row. Once the sale is sold, the rows that are kept are put into the text and
-/// forgotten. After `NoMemory` no part of a row is in the text.
+/// Has the story take a row. Once the sale is sold, the rows that are kept are put into the text
+/// and forgotten. After `NoMemory` no part of a row is in the text.
 fn take_row(
     alloc: Global,
     story: &mut SaleStory,
@@ -108,8 +108,8 @@ fn take_row(
     Ok(())
 }
 
-/// Appends rows with their times, in words, a line for each. After `NoMemory` no part of a row is in
-/// the text.
+/// Appends rows with their times, in words, a line for each. After `NoMemory` no part of a row is
+/// in the text.
 fn put_rows(alloc: Global, rows: &[PastRow], text: &mut Vec<u8>) -> Result<(), NoMemory> {
     for row in rows {
         let whole = text.len();

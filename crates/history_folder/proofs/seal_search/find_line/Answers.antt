@@ -1,4 +1,4 @@
-use Rattle.std.proofs.Common.{◌≡◌, ◌+◌, ◌∙◌, ap, arith, drop, length, subst, suc, sym, take, ℕ, List}
+use Rattle.std.proofs.Common.{◌≡◌, ◌+◌, ◌∙◌, arith, drop, length, suc, sym, take}
 use Rattle.std.proofs.lemmas.List.{length-drop}
 use Rattle.hex_lines.proofs.Bytes.{absent, behind_byte, found}
 use Rattle.chapters.specs.Lines.{whole_lines}
@@ -16,7 +16,12 @@ loop-end-preserved c =
     (rw (sym c.split_at.ensures.front) (sym c.if-is_same.ensures)) in
     rw (c.split_at.ensures.back, others) (record {
       search = c.loop-end.invariant.search ∙ next;
-      few = omega (arith, c.loop-end.invariant.few, at.within, length-drop (suc c.in-Some.end) rest);
+      few = omega (
+        arith,
+        c.loop-end.invariant.few,
+        at.within,
+        length-drop (suc c.in-Some.end) rest,
+      );
     })
 
 pub returns-then-is_same : goal.returns-then-is_same
