@@ -10,7 +10,10 @@ use offline_commands::{
     run_check, run_explain, run_replay, run_replay_here, run_report, run_sales, run_spell,
 };
 use program_io::{COMMAND_LINE, exit_no_memory, exit_unwritten, exit_with, is_folder};
-use row_commands::{run_explain_folder, run_replay_folder, run_report_folder, run_sales_folder};
+use row_commands::{
+    run_explain_folder, run_replay_folder, run_report_folder, run_sales_folder, run_story,
+    run_verify,
+};
 use shift_commands::{run_next, run_shifts};
 use station_command::run_station;
 use std::env;
@@ -60,8 +63,10 @@ fn run<T: Threads + Wait + Sync>(rt: &HostRuntime, threads: &T, command: Command
         Command::Demo(options) => run_demo(rt, threads, options),
         Command::Shifts(options) => run_shifts(rt, options.history, options.json),
         Command::Next(history) => run_next(rt, history),
+        Command::Verify(options) => run_verify(rt, options),
+        Command::Story(options) => run_story(rt, options),
         Command::Explain(options) => match find_folder(rt, options) {
-            Some(folder) => run_explain_folder(rt, folder, options.shift),
+            Some(folder) => run_explain_folder(rt, folder, options),
             None => run_explain(rt, input, options),
         },
         Command::Spell => run_spell(rt, input),

@@ -1,3 +1,4 @@
 pub mod Counting
 pub mod HistoryRead
+pub mod Lines
 pub mod Walking

@@ -10,9 +10,10 @@ ghost use Rattle.program_io.specs.Statuses.{IsFailed};
 use crate::exit::exit_history;
 use crate::place::WalkPlace;
 use crate::reading::{open_folder, read_chapter};
-use chapters::HistoryReader;
+use crate::seal_search::{LinePlace, SealSearch};
+use chapters::{HistoryEnd, HistoryReader};
 use program_io::FAULT;
-use site_base::Row;
+use site_base::{NoMemory, Row};
 use site_book::SiteBook;
 use std::alloc::Global;
 use std::marker::Model;
@@ -31,6 +32,8 @@ pub struct FolderWalk {
     /// So many octets of it are read.
     octets: usize,
     place: WalkPlace,
+    /// The seal that is looked for, if one is.
+    search: Option<SealSearch>,
 }
 
 impl Model for FolderWalk {
@@ -60,7 +63,24 @@ impl FolderWalk {
             text: Vec::new(rt.alloc()),
             octets: 0,
             place: WalkPlace::Between,
+            search: None,
         })
+    }
+
+    /// Has the walk look for this seal, in 64 digits, in each chapter that it begins from now on.
+    pub fn seek_seal(&mut self, alloc: Global, seal: &str) -> Result<(), NoMemory>
+        ensures { self.new ≡ self.old }
+    {
+        self.search = Some(SealSearch::new(alloc, seal)?);
+        Ok(())
+    }
+
+    /// Where the seal stands that it looks for, if a chapter that it has begun has it.
+    pub fn seal_place(&self) -> Option<LinePlace> {
+        match &self.search {
+            Some(search) => search.place(),
+            None => None,
+        }
     }
 
     /// The book of the rows that were given.
@@ -68,6 +88,20 @@ impl FolderWalk {
         ensures { result.now ≡ self.now.reader.book }
     {
         self.reader.book()
+    }
+
+    /// Where the text ends that is read: right behind the line of the row that was given last, or
+    /// behind all lines once there is none. Its time is the last that was told up to there.
+    pub fn end(&self) -> &HistoryEnd
+        ensures { result.now ≡ self.now.reader.end }
+    {
+        self.reader.end()
+    }
+
+    /// How many octets of the current chapter aren't read yet. Once no row is left, they are those of
+    /// its last line, which has no line feed.
+    pub fn unread(&self) -> usize {
+        self.text.len() - self.octets
     }
 
     /// The next row; None behind the last one, once each chapter is read. Or how the program ends:
@@ -109,6 +143,7 @@ impl FolderWalk {
         let text = read_chapter(rt, folder, self.reader.chapters() + 1)?;
         match self.reader.begin_chapter(&text) {
             Ok(octets) => {
+                look_in(&mut self.search, self.reader.chapters(), &text);
                 self.text = text;
                 self.octets = octets;
                 self.place = WalkPlace::Within;
@@ -163,5 +198,12 @@ impl FolderWalk {
                 Err(exit_history(rt, fault))
             }
         }
+    }
+}
+
+/// Looks for the seal that is looked for, if one is, in the text of the chapter of this number.
+fn look_in(search: &mut Option<SealSearch>, chapter: u64, text: &[u8]) {
+    if let Some(search) = search {
+        search.look(chapter, text);
     }
 }

@@ -1,6 +1,10 @@
 //! `forecourt explain`, of a trace, and `forecourt explain NUMBER`, of a number.
 
-use crate::shift_option::refuse_shifts;
+ghost use Rattle.std.specs.Prelude.{◌≡◌, IfErr, None, OnOk, false};
+ghost use Rattle.std.specs.Process.{exit_status};
+ghost use Rattle.program_io.specs.declared.exit.TheConstants.{COMMAND_LINE};
+
+use crate::history_option::refuse_option;
 use command_line::ExplainOptions;
 use devices::ReadFault;
 use forecourt_engines::explain::explain;
@@ -16,13 +20,23 @@ pub fn run_explain<R: Print + Eprint + AllocGlobal, I: Read + Drop>(
     input: I,
     options: ExplainOptions<'_>,
 ) -> ExitCode {
-    if let Err(status) = refuse_shifts(rt, options.shift) {
+    if let Err(status) = refuse_history_options(rt, &options) {
         return status;
     }
     match options.what {
         Some(word) => explain_number(rt, word),
         None => explain_trace(rt, input),
     }
+}
+
+/// How the program ends where shifts or times of a history are asked for.
+fn refuse_history_options(rt: &impl Eprint, options: &ExplainOptions<'_>) -> Result<(), ExitCode>
+    ensures shift { OnOk result (options.now.shift ≡ None) }
+    ensures times { OnOk result (options.now.times ≡ false) }
+    ensures failed { IfErr result (λ status. exit_status status ≡ COMMAND_LINE) }
+{
+    refuse_option(rt, "shift", options.shift.is_some())?;
+    refuse_option(rt, "times", options.times)
 }
 
 /// Prints what a refusal's or fault's number means. Another word is a mistake.

@@ -7,11 +7,11 @@
 
 mod check;
 mod explain;
+mod history_option;
 mod named_site;
 mod replay;
 mod report;
 mod sales;
-mod shift_option;
 mod silent;
 mod spell;
 

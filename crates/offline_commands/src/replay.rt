@@ -1,7 +1,7 @@
 //! `forecourt replay FILE`, and the program without words.
 
+use crate::history_option::refuse_option;
 use crate::named_site::open_input;
-use crate::shift_option::refuse_shifts;
 use command_line::ReplayOptions;
 use devices::Counted;
 use forecourt_engines::known_site;
@@ -19,7 +19,7 @@ pub fn run_replay<R: Files + Print + Eprint + AllocGlobal, I: Read + Drop>(
     input: I,
     options: ReplayOptions<'_>,
 ) -> ExitCode {
-    if let Err(status) = refuse_shifts(rt, options.shift) {
+    if let Err(status) = refuse_option(rt, "shift", options.shift.is_some()) {
         return status;
     }
     match open_input(rt, options.site, input) {

@@ -2,8 +2,8 @@
 
 ghost use Rattle.std.specs.Prelude.{◌≡◌};
 
+use crate::history_option::refuse_option;
 use crate::named_site::open_input;
-use crate::shift_option::refuse_shifts;
 use crate::silent::{ends_its_text, replay_silently};
 use command_line::{ReportForm, ReportOptions};
 use day_report::{report_as_json, report_for_people};
@@ -25,7 +25,7 @@ pub fn run_report<R: Files + Print + Eprint + AllocGlobal, I: Read + Drop>(
     input: I,
     options: ReportOptions<'_>,
 ) -> ExitCode {
-    if let Err(status) = refuse_shifts(rt, options.shift) {
+    if let Err(status) = refuse_option(rt, "shift", options.shift.is_some()) {
         return status;
     }
     let (config, input, turns) = match open_input(rt, options.site, input) {

@@ -1,9 +1,11 @@
 //! `forecourt sales FILE`.
 
-ghost use Rattle.std.specs.Prelude.{◌≡◌};
+ghost use Rattle.std.specs.Prelude.{◌≡◌, IfErr, None, OnOk};
+ghost use Rattle.std.specs.Process.{exit_status};
+ghost use Rattle.program_io.specs.declared.exit.TheConstants.{COMMAND_LINE};
 
+use crate::history_option::refuse_option;
 use crate::named_site::open_input;
-use crate::shift_option::refuse_shifts;
 use crate::silent::{ends_its_text, replay_silently};
 use command_line::SalesOptions;
 use devices::Counted;
@@ -22,13 +24,25 @@ pub fn run_sales<R: Files + Print + Eprint + AllocGlobal, I: Read + Drop>(
     input: I,
     options: SalesOptions<'_>,
 ) -> ExitCode {
-    if let Err(status) = refuse_shifts(rt, options.shift) {
+    if let Err(status) = refuse_history_options(rt, &options) {
         return status;
     }
     match open_input(rt, options.site, input) {
         Ok((config, input, turns)) => print_sold(rt, input, turns, &config, options),
         Err(status) => status,
     }
+}
+
+/// How the program ends where shifts or times of a history are asked for.
+fn refuse_history_options(rt: &impl Eprint, options: &SalesOptions<'_>) -> Result<(), ExitCode>
+    ensures shift { OnOk result (options.now.shift ≡ None) }
+    ensures from { OnOk result (options.now.from ≡ None) }
+    ensures to { OnOk result (options.now.to ≡ None) }
+    ensures failed { IfErr result (λ status. exit_status status ≡ COMMAND_LINE) }
+{
+    refuse_option(rt, "shift", options.shift.is_some())?;
+    refuse_option(rt, "from", options.from.is_some())?;
+    refuse_option(rt, "to", options.to.is_some())
 }
 
 /// Prints the table of what this input sells on this site, up to a fault of its text, which is

@@ -1,3 +1,4 @@
 pub mod ReplyLines
 pub mod FiguresBetween
 pub mod ShiftFigures
+pub mod TimeColumns

@@ -1,5 +1,5 @@
 //! What is told of the rows of a history, row after row: their replies, as lines of hexadecimal,
-//! and their words; the figures of some of its shifts.
+//! and their words, with their times or without; the figures of some of its shifts.
 #![tactic(auto)]
 
 mod figures;
@@ -11,4 +11,4 @@ mod words;
 pub use replies::ReplyLines;
 pub use shift_figures::ShiftFigures;
 pub use shifts::ShiftRange;
-pub use words::put_words;
+pub use words::{put_timed_words, put_words};

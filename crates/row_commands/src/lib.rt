@@ -1,13 +1,23 @@
 //! The commands that print of a history's rows: `replay`, `explain`, `sales` and `report` of a
-//! folder, of all its shifts or of some.
+//! folder, of all its shifts or of some; `story` of one sale (`specs/Stories.antt`); and `verify`,
+//! which reads each row and says where the history ends.
 #![tactic(auto)]
 
 mod options;
 mod output;
+mod past_row;
 mod report;
+mod row_count;
 mod rows;
+mod sale_story;
+mod sale_word;
 mod sales;
+mod seal_word;
+mod story;
+mod verify;
 
 pub use report::run_report_folder;
 pub use rows::{run_explain_folder, run_replay_folder};
 pub use sales::run_sales_folder;
+pub use story::run_story;
+pub use verify::run_verify;

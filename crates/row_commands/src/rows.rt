@@ -1,5 +1,5 @@
 //! `forecourt replay FOLDER [--changes] [--shift A[..B]]` and `forecourt explain FOLDER
-//! [--shift A[..B]]`.
+//! [--shift A[..B]] [--times]`.
 
 ghost use Rattle.std.specs.Prelude.{OnOk};
 ghost use Rattle.chapters.specs.RowText.{IsSent};
@@ -7,13 +7,14 @@ ghost use Rattle.history_folder.specs.Reading.{IsWhole};
 
 use crate::options::{check_shifts, is_asked, read_shifts};
 use crate::output::{print_piece, print_text};
-use command_line::ReplayOptions;
+use command_line::{ExplainOptions, ReplayOptions};
 use devices::ReadFault;
 use forecourt_engines::ReplayFault;
 use history_folder::FolderWalk;
-use past_rows::{ReplyLines, ShiftRange, put_words};
+use past_rows::{ReplyLines, ShiftRange, put_timed_words, put_words};
 use program_io::{exit_no_memory, exit_replay};
 use site_base::{NoMemory, Row};
+use stamps::Stamp;
 use std::alloc::Global;
 use std::process::ExitCode;
 use std::rt::Files;
@@ -25,16 +26,25 @@ enum RowForm {
     Reply(ReplyLines),
     /// Its words.
     Words,
+    /// Its time, and its words.
+    TimedWords,
 }
 
 impl RowForm {
     /// Appends what is printed of a row. After `NoMemory` there may be a part of it.
-    fn put(&mut self, alloc: Global, row: &Row, text: &mut Vec<u8>) -> Result<(), NoMemory>
+    fn put(
+        &mut self,
+        alloc: Global,
+        time: Option<Stamp>,
+        row: &Row,
+        text: &mut Vec<u8>,
+    ) -> Result<(), NoMemory>
         requires { IsSent row.now }
     {
         match self {
             RowForm::Reply(lines) => lines.put(row, text),
             RowForm::Words => put_words(alloc, row, text),
+            RowForm::TimedWords => put_timed_words(alloc, time, row, text),
         }
     }
 }
@@ -48,13 +58,19 @@ pub fn run_replay_folder<R: Files + Print + Eprint + AllocGlobal>(
     run_rows(rt, options.site, options.shift, form)
 }
 
-/// Prints the rows of the history in a folder in words, a line for each.
+/// Prints the rows of the history in a folder in words, a line for each, with its time ahead of it
+/// if that is asked for.
 pub fn run_explain_folder<R: Files + Print + Eprint + AllocGlobal>(
     rt: &R,
     folder: &str,
-    shift: Option<&str>,
+    options: ExplainOptions<'_>,
 ) -> ExitCode {
-    run_rows(rt, folder, shift, RowForm::Words)
+    let form = if options.times {
+        RowForm::TimedWords
+    } else {
+        RowForm::Words
+    };
+    run_rows(rt, folder, options.shift, form)
 }
 
 /// Prints the rows of a folder in this form, of all shifts or of those that a word says.
@@ -111,7 +127,8 @@ fn put_all<R: Files + Print + Eprint + AllocGlobal>(
         };
         if is_asked(shifts, shift) {
             let whole = text.len();
-            if form.put(rt.alloc(), &row, text).is_err() {
+            let time = walk.end().time();
+            if form.put(rt.alloc(), time, &row, text).is_err() {
                 // What there is of this row isn't printed.
                 text.truncate(whole);
                 return Err(exit_no_memory(rt));

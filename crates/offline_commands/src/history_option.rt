@@ -1,0 +1,23 @@
+//! The options that are for the folder of a history alone.
+
+ghost use Rattle.std.specs.Prelude.{◌≡◌, IfErr, OnErr, OnOk, false, true};
+ghost use Rattle.std.specs.Process.{exit_status};
+ghost use Rattle.program_io.specs.declared.exit.TheConstants.{COMMAND_LINE};
+
+use program_io::{COMMAND_LINE, exit_with};
+use std::process::ExitCode;
+
+/// How the program ends where this option is given for what is no history.
+pub fn refuse_option(rt: &impl Eprint, option: &str, is_given: bool) -> Result<(), ExitCode>
+    ensures ok { OnOk result (is_given ≡ false) }
+    ensures refused { OnErr result (is_given ≡ true) }
+    ensures failed { IfErr result (λ status. exit_status status ≡ COMMAND_LINE) }
+{
+    if !is_given {
+        return Ok(());
+    }
+    Err(exit_with(
+        eprintln!(rt; "error: '--{option}' is for the folder of a history"),
+        COMMAND_LINE,
+    ))
+}

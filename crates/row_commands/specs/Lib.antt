@@ -1,0 +1,3 @@
+pub mod RowCounts
+pub mod SealWords
+pub mod Stories

@@ -1,0 +1,44 @@
+//! A seal that a command is asked for.
+
+ghost use Rattle.std.specs.Prelude.{◌≡◌, IfOk, None, option_map, string_bytes};
+ghost use Rattle.row_commands.specs.SealWords.{seal_said};
+
+use program_io::{COMMAND_LINE, exit_no_memory, exit_with};
+use site_base::NoMemory;
+use std::alloc::Global;
+use std::process::ExitCode;
+
+/// The octets of a seal.
+const SEAL_OCTETS: usize = 32;
+
+/// The seal that the value of `--seal` says, in 64 digits of lower case; None without one. Or how
+/// the program ends.
+pub fn read_seal<R: Eprint + AllocGlobal>(
+    rt: &R,
+    word: Option<&str>,
+) -> Result<Option<String>, ExitCode>
+    ensures none { word.entry ≡ None → IfOk result (λ seal. seal ≡ None) }
+{
+    let Some(word) = word else {
+        return Ok(None);
+    };
+    match parse_seal(rt.alloc(), word) {
+        Ok(Some(seal)) => Ok(Some(seal)),
+        Ok(None) => Err(exit_with(
+            eprintln!(rt; "error: '--seal {word}' says no seal: give 64 hexadecimal digits"),
+            COMMAND_LINE,
+        )),
+        Err(NoMemory) => Err(exit_no_memory(rt)),
+    }
+}
+
+/// The seal that a word says, in lower case. None where it isn't 64 hexadecimal digits.
+fn parse_seal(alloc: Global, word: &str) -> Result<Option<String>, NoMemory>
+    ensures { IfOk result (λ seal. option_map string_bytes seal ≡ seal_said word.now) }
+{
+    let mut octets = [0u8; SEAL_OCTETS];
+    match hex::decode_to_slice(word, &mut octets) {
+        Ok(()) => Ok(Some(hex::encode(alloc, octets)?)),
+        Err(_) => Ok(None),
+    }
+}
