@@ -14,6 +14,7 @@ use chapters::HistoryReader;
 use program_io::FAULT;
 use site_base::Row;
 use site_book::SiteBook;
+use stamps::Stamp;
 use std::alloc::Global;
 use std::marker::Model;
 use std::process::ExitCode;
@@ -68,6 +69,13 @@ impl FolderWalk {
         ensures { result.now ≡ self.now.reader.book }
     {
         self.reader.book()
+    }
+
+    /// The time of the row that was given last, if one is known.
+    pub fn time(&self) -> Option<Stamp>
+        ensures { result ≡ self.now.reader.end.time }
+    {
+        self.reader.end().time()
     }
 
     /// The next row; None behind the last one, once each chapter is read. Or how the program ends:
