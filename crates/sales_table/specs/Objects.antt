@@ -6,7 +6,13 @@ use Rattle.site_base.specs.declared.config.ProductEntry.{ProductEntry}
 use Rattle.transaction_buffer.specs.Sales.{status_of, till_of}
 use Rattle.site_book.specs.declared.draw.Draw.{Draw}
 use Rattle.site_book.specs.declared.named_sale.NamedSale.{NamedSale}
+use Rattle.sales_table.specs.declared.timed_sale.TimedSale.{TimedSale}
 use Rattle.sales_table.specs.Tables.{cleared_in, name_of, status_word}
+
+-- a time, or null
+abbrev pub time_if : Option (List ℕ) → Data
+time_if None = null
+time_if (Some time) = string time
 
 -- a number, or null
 abbrev pub number_if : Option ℕ → Data
@@ -29,6 +35,26 @@ sale_data products x =
     (member (codes "status") (string (status_word (status_of x.sale.standing)))
     (member (codes "till") (number_if (till_of x.sale.standing))
     no_members))))))))))))
+
+-- a sale of a history, with these times
+abbrev pub timed_data : List ProductEntry → TimedSale → NamedSale → Data
+timed_data products t x =
+    object
+    (member (codes "cents") (number (unsigned x.sale.cents))
+    (member (codes "cleared in shift") (number_if (cleared_in x.sale.standing))
+    (member (codes "cleared_at") (time_if t.cleared_at)
+    (member (codes "millilitres") (number (unsigned x.sale.volume))
+    (member (codes "mills") (number (unsigned x.sale.price))
+    (member (codes "name") (string (name_of x.sale.product products))
+    (member (codes "number") (number (unsigned x.number))
+    (member (codes "point") (number (unsigned x.point))
+    (member (codes "prepaid") (number_if x.sale.prepaid)
+    (member (codes "product") (number (unsigned x.sale.product))
+    (member (codes "shift") (number (unsigned x.shift))
+    (member (codes "sold_at") (time_if t.sold_at)
+    (member (codes "status") (string (status_word (status_of x.sale.standing)))
+    (member (codes "till") (number_if (till_of x.sale.standing))
+    no_members))))))))))))))
 
 abbrev pub draw_data : List ProductEntry → Draw → Data
 draw_data products x =

@@ -3,13 +3,16 @@
 ghost use Rattle.std.specs.Prelude.{◌≡◌, IfOk, string_bytes};
 ghost use Rattle.serde_json.specs.View.{view};
 ghost use Rattle.serde_json.specs.Written.{compact_text};
-ghost use Rattle.sales_table.specs.Objects.{draw_data, number_if, sale_data};
+ghost use Rattle.sales_table.specs.Objects.{draw_data, number_if, sale_data, time_if};
+ghost use Rattle.sales_table.specs.Objects.{timed_data};
 
 use crate::names::name_of;
 use crate::status_words::{cleared_in, status_word, till_of};
+use crate::timed_sale::TimedSale;
 use serde_json::{Value, json};
 use site_base::{NoMemory, ProductEntry};
 use site_book::{Draw, NamedSale};
+use stamps::Stamp;
 use std::alloc::{AllocError, Global};
 
 /// A sale as a JSON object.
@@ -22,6 +25,19 @@ pub fn sale_object(
         string_bytes text ≡ compact_text (sale_data products.now sold.now)) }
 {
     Ok(sale_value(alloc, products, sold)?.to_string(alloc)?)
+}
+
+/// A sale with its times as a JSON object.
+pub fn timed_object(
+    alloc: Global,
+    products: &[ProductEntry],
+    times: &TimedSale,
+    sold: &NamedSale,
+) -> Result<String, NoMemory>
+    ensures { IfOk result (λ text.
+        string_bytes text ≡ compact_text (timed_data products.now times.now sold.now)) }
+{
+    Ok(timed_value(alloc, products, times, sold)?.to_string(alloc)?)
 }
 
 /// A draw as a JSON object.
@@ -65,6 +81,41 @@ fn sale_value(
     })
 }
 
+fn timed_value(
+    alloc: Global,
+    products: &[ProductEntry],
+    times: &TimedSale,
+    sold: &NamedSale,
+) -> Result<Value, AllocError>
+    ensures { IfOk result (λ value.
+        view value ≡ timed_data products.now times.now sold.now) }
+{
+    let sale = &sold.sale;
+    let standing = sale.standing;
+    let name = name_of(products, sale.product);
+    let prepaid = number_if(sale.prepaid);
+    let till = number_if(till_of(&standing));
+    let cleared = number_if(cleared_in(&standing));
+    let sold_at = time_if(alloc, &times.sold_at)?;
+    let cleared_at = time_if(alloc, &times.cleared_at)?;
+    json!(in alloc; {
+        "shift": sold.shift.get(),
+        "point": sold.point.get(),
+        "number": sold.number.get(),
+        "product": sale.product.get(),
+        "name": name,
+        "millilitres": sale.volume.get(),
+        "mills": sale.price.get(),
+        "cents": sale.cents.get(),
+        "prepaid": prepaid,
+        "status": status_word(&standing),
+        "till": till,
+        "cleared in shift": cleared,
+        "sold_at": sold_at,
+        "cleared_at": cleared_at
+    })
+}
+
 fn draw_value(alloc: Global, products: &[ProductEntry], draw: &Draw) -> Result<Value, AllocError>
     ensures { IfOk result (λ value. view value ≡ draw_data products.now draw.now) }
 {
@@ -76,6 +127,16 @@ fn draw_value(alloc: Global, products: &[ProductEntry], draw: &Draw) -> Result<V
         "name": name,
         "millilitres": draw.volume.get()
     })
+}
+
+/// A time; without one null.
+fn time_if(alloc: Global, time: &Option<Stamp>) -> Result<Value, AllocError>
+    ensures { IfOk result (λ value. view value ≡ time_if time.now) }
+{
+    match time {
+        Some(time) => Ok(Value::String(String::from_str(alloc, time.as_str())?)),
+        None => Ok(Value::Null),
+    }
 }
 
 /// A number; without one null.
