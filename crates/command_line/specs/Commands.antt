@@ -36,8 +36,8 @@ HasForm rows Lines = HasFlag (codes "human") rows false × HasFlag (codes "json"
 abbrev pub command_names : List Text
 command_names =
     codes "check" ∷ codes "replay" ∷ codes "report" ∷ codes "sales" ∷ codes "serve"
-    ∷ codes "station" ∷ codes "demo" ∷ codes "shifts" ∷ codes "next" ∷ codes "explain"
-    ∷ codes "spell" ∷ []
+    ∷ codes "station" ∷ codes "demo" ∷ codes "shifts" ∷ codes "next" ∷ codes "verify"
+    ∷ codes "story" ∷ codes "explain" ∷ codes "spell" ∷ []
 
 -- this name with these rows says this command; any other name the replay on the known site
 abbrev pub IsSaid : Text → List Row → Command → Type 0
@@ -52,7 +52,8 @@ IsSaid name rows (commands.Report o) =
 IsSaid name rows (commands.Sales o) =
     (name ≡ codes "sales") × (o.site.now ≡ text_in (codes "FILE") rows)
     × HasFlag (codes "draws") rows o.draws × HasFlag (codes "json") rows o.json
-    × IsOption (codes "shift") rows o.shift
+    × IsOption (codes "shift") rows o.shift × IsOption (codes "from") rows o.from
+    × IsOption (codes "to") rows o.to
 IsSaid name rows (commands.Serve o) =
     (name ≡ codes "serve") × (o.site.now ≡ text_in (codes "FILE") rows)
     × (o.port.now ≡ text_in (codes "port") rows) × (o.workers.now ≡ text_in (codes "workers") rows)
@@ -70,9 +71,15 @@ IsSaid name rows (commands.Shifts o) =
     × HasFlag (codes "json") rows o.json
 IsSaid name rows (commands.Next history) =
     (name ≡ codes "next") × (history.now ≡ text_in (codes "FOLDER") rows)
+IsSaid name rows (commands.Verify o) =
+    (name ≡ codes "verify") × (o.history.now ≡ text_in (codes "FOLDER") rows)
+    × IsOption (codes "seal") rows o.seal
+IsSaid name rows (commands.Story o) =
+    (name ≡ codes "story") × (o.history.now ≡ text_in (codes "FOLDER") rows)
+    × (o.sale.now ≡ text_in (codes "SALE") rows)
 IsSaid name rows (commands.Explain o) =
     (name ≡ codes "explain") × IsOption (codes "WHAT") rows o.what
-    × IsOption (codes "shift") rows o.shift
+    × IsOption (codes "shift") rows o.shift × HasFlag (codes "times") rows o.times
 IsSaid name rows commands.Spell = name ≡ codes "spell"
 IsSaid name rows commands.ReplayHere = All (λ n. name ≢ n) command_names
 

@@ -20,6 +20,10 @@ site_file_rule = word_rule (codes "FILE")
 abbrev pub folder_rule : Rule
 folder_rule = word_rule (codes "FOLDER")
 
+-- a sale: its point, shift and number
+abbrev pub sale_rule : Rule
+sale_rule = word_rule (codes "SALE")
+
 abbrev pub script_rule : Rule
 script_rule = word_rule (codes "SCRIPT")
 
@@ -60,7 +64,7 @@ replay_shapes =
     ∷ option_rule (codes "shift") ∷ [])
     ∷ command (codes "sales")
     (site_file_rule ∷ flag_rule (codes "draws") ∷ flag_rule (codes "json")
-    ∷ option_rule (codes "shift") ∷ [])
+    ∷ option_rule (codes "shift") ∷ option_rule (codes "from") ∷ option_rule (codes "to") ∷ [])
     ∷ []
 
 abbrev pub day_shapes : List Shape
@@ -79,11 +83,14 @@ day_shapes =
 abbrev pub history_shapes : List Shape
 history_shapes =
     command (codes "shifts") (folder_rule ∷ flag_rule (codes "json") ∷ [])
-    ∷ command (codes "next") (folder_rule ∷ []) ∷ []
+    ∷ command (codes "next") (folder_rule ∷ [])
+    ∷ command (codes "verify") (folder_rule ∷ option_rule (codes "seal") ∷ [])
+    ∷ command (codes "story") (folder_rule ∷ sale_rule ∷ []) ∷ []
 
 abbrev pub word_shapes : List Shape
 word_shapes =
-    command (codes "explain") (new_rule (codes "WHAT") ∷ option_rule (codes "shift") ∷ [])
+    command (codes "explain")
+    (new_rule (codes "WHAT") ∷ option_rule (codes "shift") ∷ flag_rule (codes "times") ∷ [])
     ∷ command (codes "spell") [] ∷ []
 
 -- ---- the program

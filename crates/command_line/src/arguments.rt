@@ -3,7 +3,7 @@
 ghost use Rattle.std.specs.Prelude.{◌≡◌, codes, false};
 ghost use Rattle.clap.specs.Words.{new_rule, rule_of};
 ghost use Rattle.command_line.specs.Program.{flag_rule, folder_rule, option_rule, required_rule};
-ghost use Rattle.command_line.specs.Program.{script_rule, site_file_rule};
+ghost use Rattle.command_line.specs.Program.{sale_rule, script_rule, site_file_rule};
 
 use clap::{Arg, ArgAction};
 use std::alloc::Global;
@@ -39,6 +39,29 @@ pub fn shift<'a>(alloc: Global) -> Arg<'a>
     )
 }
 
+/// The time from which a command reads sales of a history.
+pub fn from<'a>(alloc: Global) -> Arg<'a>
+    ensures rule { rule_of result ≡ option_rule (codes "from") }
+    ensures local { result.global ≡ false }
+{
+    let help = "Only sales of the history at this time or later, as 2026-11-27 or \
+                2026-11-27T08:00Z";
+    option(alloc, "from", "T", help)
+}
+
+/// The time up to which a command reads sales of a history.
+pub fn to<'a>(alloc: Global) -> Arg<'a>
+    ensures rule { rule_of result ≡ option_rule (codes "to") }
+    ensures local { result.global ≡ false }
+{
+    option(
+        alloc,
+        "to",
+        "T",
+        "Only sales of the history up to this time",
+    )
+}
+
 /// The site file that a command may be given.
 pub fn optional_site_file<'a>(alloc: Global) -> Arg<'a>
     ensures rule { rule_of result ≡ new_rule (codes "FILE") }
@@ -54,6 +77,16 @@ pub fn history_folder<'a>(alloc: Global) -> Arg<'a>
 {
     Arg::new(alloc, "FOLDER")
         .help("The folder of a station's history")
+        .required(true)
+}
+
+/// The sale whose story a command tells.
+pub fn sale<'a>(alloc: Global) -> Arg<'a>
+    ensures rule { rule_of result ≡ sale_rule }
+    ensures local { result.global ≡ false }
+{
+    Arg::new(alloc, "SALE")
+        .help("The sale: its POINT/SHIFT/NUMBER, as 3/2/17")
         .required(true)
 }
 

@@ -11,7 +11,7 @@ pub enum Command<'a> {
     Replay(ReplayOptions<'a>),
     /// `report FILE [--human | --json] [--shift A[..B]]`
     Report(ReportOptions<'a>),
-    /// `sales FILE [--draws] [--json] [--shift A[..B]]`
+    /// `sales FILE [--draws] [--json] [--shift A[..B]] [--from T] [--to T]`
     Sales(SalesOptions<'a>),
     /// `serve FILE --port N --workers N --sessions N`
     Serve(ServeOptions<'a>),
@@ -24,7 +24,11 @@ pub enum Command<'a> {
     Shifts(ShiftsOptions<'a>),
     /// `next FOLDER`: the site file with which another history can go on from this folder's.
     Next(&'a str),
-    /// `explain [WHAT] [--shift A[..B]]`
+    /// `verify FOLDER [--seal HEX]`
+    Verify(VerifyOptions<'a>),
+    /// `story FOLDER SALE`
+    Story(StoryOptions<'a>),
+    /// `explain [WHAT] [--shift A[..B]] [--times]`
     Explain(ExplainOptions<'a>),
     /// `spell`
     Spell,
@@ -74,6 +78,10 @@ pub struct SalesOptions<'a> {
     pub json: bool,
     /// The shifts of the history.
     pub shift: Option<&'a str>,
+    /// Since when, for sales of a history.
+    pub from: Option<&'a str>,
+    /// Until when, for sales of a history.
+    pub to: Option<&'a str>,
 }
 
 /// What `serve` is given.
@@ -128,6 +136,24 @@ pub struct ShiftsOptions<'a> {
     pub json: bool,
 }
 
+/// What `verify` is given.
+#[derive(Clone, Copy, Debug, PartialEq, Eq)]
+pub struct VerifyOptions<'a> {
+    /// The folder of the history.
+    pub history: &'a str,
+    /// A seal that is looked for in it.
+    pub seal: Option<&'a str>,
+}
+
+/// What `story` is given.
+#[derive(Clone, Copy, Debug, PartialEq, Eq)]
+pub struct StoryOptions<'a> {
+    /// The folder of the history.
+    pub history: &'a str,
+    /// The sale: its point, shift and number, as 3/2/17.
+    pub sale: &'a str,
+}
+
 /// What `explain` is given.
 #[derive(Clone, Copy, Debug, PartialEq, Eq)]
 pub struct ExplainOptions<'a> {
@@ -135,4 +161,6 @@ pub struct ExplainOptions<'a> {
     pub what: Option<&'a str>,
     /// The shifts of the history.
     pub shift: Option<&'a str>,
+    /// Prints the time of each row of the history ahead of it.
+    pub times: bool,
 }

@@ -3,9 +3,10 @@
 ghost use Rattle.std.specs.Prelude.{◌≡◌, ◌∷◌, [], IfOk, codes};
 ghost use Rattle.clap.specs.Words.{app_of};
 ghost use Rattle.command_line.specs.Program.{HasShape, command, flag_rule, folder_rule};
-ghost use Rattle.command_line.specs.Program.{history_shapes, with_commands};
+ghost use Rattle.command_line.specs.Program.{history_shapes, option_rule, sale_rule};
+ghost use Rattle.command_line.specs.Program.{with_commands};
 
-use crate::arguments::{flag, history_folder};
+use crate::arguments::{flag, history_folder, option, sale};
 use crate::building::{add_argument, add_command, start};
 use clap::Command;
 use std::alloc::{AllocError, Global};
@@ -15,7 +16,9 @@ pub fn add_commands<'a>(alloc: Global, program: Command<'a>) -> Result<Command<'
     ensures { IfOk result (λ p. app_of p ≡ with_commands (app_of program.entry) history_shapes) }
 {
     let program = add_command(program, shifts(alloc)?)?;
-    add_command(program, next(alloc)?)
+    let program = add_command(program, next(alloc)?)?;
+    let program = add_command(program, verify(alloc)?)?;
+    add_command(program, story(alloc)?)
 }
 
 fn shifts<'a>(alloc: Global) -> Result<Command<'a>, AllocError>
@@ -38,4 +41,27 @@ fn next<'a>(alloc: Global) -> Result<Command<'a>, AllocError>
     let example = "Example: forecourt next history > site.toml\n";
     let command = start(alloc, "next", about, example);
     add_argument(command, history_folder(alloc))
+}
+
+fn verify<'a>(alloc: Global) -> Result<Command<'a>, AllocError>
+    ensures { IfOk result (HasShape (command (codes "verify")
+        (folder_rule ∷ option_rule (codes "seal") ∷ []))) }
+{
+    let about = "Reads a whole history, and prints its last seal, or the first fault in it";
+    let example = "Example: forecourt verify history\n";
+    let seal = "A seal that was noted earlier: also prints where it stands in the history";
+    let command = start(alloc, "verify", about, example);
+    let command = add_argument(command, history_folder(alloc))?;
+    add_argument(command, option(alloc, "seal", "HEX", seal))
+}
+
+fn story<'a>(alloc: Global) -> Result<Command<'a>, AllocError>
+    ensures { IfOk result (HasShape (command (codes "story")
+        (folder_rule ∷ sale_rule ∷ []))) }
+{
+    let about = "Prints the rows of one sale of a history in words, from its release to its clear";
+    let example = "Example: forecourt story history 3/2/17\n";
+    let command = start(alloc, "story", about, example);
+    let command = add_argument(command, history_folder(alloc))?;
+    add_argument(command, sale(alloc))
 }

@@ -24,7 +24,7 @@ mod word_commands;
 
 pub use command::{
     Command, DemoOptions, ExplainOptions, ReplayOptions, ReportForm, ReportOptions, SalesOptions,
-    ServeOptions, ShiftsOptions, StationOptions,
+    ServeOptions, ShiftsOptions, StationOptions, StoryOptions, VerifyOptions,
 };
 pub use no_command::NoCommand;
 pub use parsing::parse;

@@ -6,7 +6,7 @@ ghost use Rattle.command_line.specs.Commands.{HasFlag, IsOption, IsSaid, IsSaidB
 
 use crate::command::{
     Command, DemoOptions, ExplainOptions, ReplayOptions, ReportForm, ReportOptions, SalesOptions,
-    ServeOptions, ShiftsOptions, StationOptions,
+    ServeOptions, ShiftsOptions, StationOptions, StoryOptions, VerifyOptions,
 };
 use clap::ArgMatches;
 
@@ -34,6 +34,8 @@ fn read_named<'a>(name: &str, words: &ArgMatches<'a>) -> Command<'a>
         "demo" => Command::Demo(read_demo(words)),
         "shifts" => Command::Shifts(read_shifts(words)),
         "next" => Command::Next(read_text(words, "FOLDER")),
+        "verify" => Command::Verify(read_verify(words)),
+        "story" => Command::Story(read_story(words)),
         "explain" => Command::Explain(read_explain(words)),
         "spell" => Command::Spell,
         _ => Command::ReplayHere,
@@ -75,6 +77,8 @@ fn read_sales<'a>(words: &ArgMatches<'a>) -> SalesOptions<'a>
         draws: is_given(words, "draws"),
         json: is_given(words, "json"),
         shift: find_text(words, "shift"),
+        from: find_text(words, "from"),
+        to: find_text(words, "to"),
     }
 }
 
@@ -122,12 +126,31 @@ fn read_shifts<'a>(words: &ArgMatches<'a>) -> ShiftsOptions<'a>
     }
 }
 
+fn read_verify<'a>(words: &ArgMatches<'a>) -> VerifyOptions<'a>
+    ensures { IsSaid (codes "verify") (rows_of (found_of words.now)) (Command.Verify result) }
+{
+    VerifyOptions {
+        history: read_text(words, "FOLDER"),
+        seal: find_text(words, "seal"),
+    }
+}
+
+fn read_story<'a>(words: &ArgMatches<'a>) -> StoryOptions<'a>
+    ensures { IsSaid (codes "story") (rows_of (found_of words.now)) (Command.Story result) }
+{
+    StoryOptions {
+        history: read_text(words, "FOLDER"),
+        sale: read_text(words, "SALE"),
+    }
+}
+
 fn read_explain<'a>(words: &ArgMatches<'a>) -> ExplainOptions<'a>
     ensures { IsSaid (codes "explain") (rows_of (found_of words.now)) (Command.Explain result) }
 {
     ExplainOptions {
         what: find_text(words, "WHAT"),
         shift: find_text(words, "shift"),
+        times: is_given(words, "times"),
     }
 }
 

@@ -5,7 +5,7 @@ ghost use Rattle.clap.specs.Words.{app_of};
 ghost use Rattle.command_line.specs.Program.{HasShape, command, flag_rule, option_rule};
 ghost use Rattle.command_line.specs.Program.{replay_shapes, site_file_rule, with_commands};
 
-use crate::arguments::{flag, shift, site_file, site_or_history};
+use crate::arguments::{flag, from, shift, site_file, site_or_history, to};
 use crate::building::{add_argument, add_command, start};
 use clap::Command;
 use std::alloc::{AllocError, Global};
@@ -63,7 +63,8 @@ fn report<'a>(alloc: Global) -> Result<Command<'a>, AllocError>
 fn sales<'a>(alloc: Global) -> Result<Command<'a>, AllocError>
     ensures { IfOk result (HasShape (command (codes "sales")
         (site_file_rule ∷ flag_rule (codes "draws") ∷ flag_rule (codes "json")
-        ∷ option_rule (codes "shift") ∷ []))) }
+        ∷ option_rule (codes "shift") ∷ option_rule (codes "from") ∷ option_rule (codes "to")
+        ∷ []))) }
 {
     let about = "Prints the sales of what standard input records on the site of a file, or of a \
                  history, as CSV";
@@ -75,5 +76,7 @@ fn sales<'a>(alloc: Global) -> Result<Command<'a>, AllocError>
     let command = add_argument(command, site_or_history(alloc))?;
     let command = add_argument(command, flag(alloc, "draws", draws))?;
     let command = add_argument(command, flag(alloc, "json", json))?;
-    add_argument(command, shift(alloc))
+    let command = add_argument(command, shift(alloc))?;
+    let command = add_argument(command, from(alloc))?;
+    add_argument(command, to(alloc))
 }

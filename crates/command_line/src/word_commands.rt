@@ -2,10 +2,10 @@
 
 ghost use Rattle.std.specs.Prelude.{◌≡◌, ◌∷◌, [], IfOk, codes};
 ghost use Rattle.clap.specs.Words.{app_of, new_rule};
-ghost use Rattle.command_line.specs.Program.{HasShape, command, option_rule, with_commands};
-ghost use Rattle.command_line.specs.Program.{word_shapes};
+ghost use Rattle.command_line.specs.Program.{HasShape, command, flag_rule, option_rule};
+ghost use Rattle.command_line.specs.Program.{with_commands, word_shapes};
 
-use crate::arguments::{shift, what};
+use crate::arguments::{flag, shift, what};
 use crate::building::{add_argument, add_command, start};
 use clap::Command;
 use std::alloc::{AllocError, Global};
@@ -20,15 +20,18 @@ pub fn add_commands<'a>(alloc: Global, program: Command<'a>) -> Result<Command<'
 
 fn explain<'a>(alloc: Global) -> Result<Command<'a>, AllocError>
     ensures { IfOk result (HasShape (command (codes "explain")
-        (new_rule (codes "WHAT") ∷ option_rule (codes "shift") ∷ []))) }
+        (new_rule (codes "WHAT") ∷ option_rule (codes "shift") ∷ flag_rule (codes "times")
+        ∷ []))) }
 {
     let about = "Prints the messages of standard input in words, or the rows of a history, or \
                  what a number means";
     let example = "Examples: forecourt explain < examples/day.hex; forecourt explain history; \
                    forecourt explain 20\n";
+    let times = "Prints the time of each row of the history ahead of it";
     let command = start(alloc, "explain", about, example);
     let command = add_argument(command, what(alloc))?;
-    add_argument(command, shift(alloc))
+    let command = add_argument(command, shift(alloc))?;
+    add_argument(command, flag(alloc, "times", times))
 }
 
 fn spell<'a>(alloc: Global) -> Command<'a>

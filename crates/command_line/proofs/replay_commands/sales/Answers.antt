@@ -5,4 +5,6 @@ returns c =
     let one = c.in_ok-command.ensures _ _ c.start-command.ensures c.site_or_history.ensures.rule in
     let two = c.in_ok-command-2.ensures _ _ one c.flag.ensures.rule in
     let three = c.in_ok-command-3.ensures _ _ two c.flag-2.ensures.rule in
-    c.add_argument-4.ensures _ _ three c.shift.ensures.rule
+    let four = c.in_ok-command-4.ensures _ _ three c.shift.ensures.rule in
+    let five = c.in_ok-command-5.ensures _ _ four c.from.ensures.rule in
+    c.add_argument-6.ensures _ _ five c.to.ensures.rule
