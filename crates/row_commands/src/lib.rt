@@ -7,6 +7,7 @@ mod output;
 mod report;
 mod rows;
 mod sales;
+mod times;
 
 pub use report::run_report_folder;
 pub use rows::{run_explain_folder, run_replay_folder};

@@ -7,9 +7,13 @@ use csv::WriterBuilder;
 use site_base::NoMemory;
 use std::alloc::Global;
 
-/// The line of these fields, with its line feed, as the default writer of the crate `csv` spells
+/// The line of these fields and these more, with its line feed, as the default writer of the crate `csv` spells
 /// it. The writer is told to write into memory, so what it fails for is memory.
-pub fn csv_line(alloc: Global, fields: &[&[u8]], more: &[&[u8]]) -> Result<Vec<u8>, NoMemory>
+pub fn csv_line<'a>(
+    alloc: Global,
+    fields: &'a [&'a [u8]],
+    more: &'a [&'a [u8]],
+) -> Result<Vec<u8>, NoMemory>
     ensures { IfOk result (λ line. line.items
         ≡ row_text default_writer (map (λ f. f.now) (fields.now ++ more.now))) }
 {

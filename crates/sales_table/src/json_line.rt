@@ -1,7 +1,8 @@
 //! The lines of sales and draws as JSON.
 
-ghost use Rattle.std.specs.Prelude.{◌≡◌, IfOk, string_bytes};
-ghost use Rattle.serde_json.specs.View.{view};
+ghost use Rattle.std.specs.Prelude.{◌≡◌, IfOk, OnOk, string_bytes};
+ghost use Rattle.serde_json.specs.Data.{put};
+ghost use Rattle.serde_json.specs.View.{members_view, view};
 ghost use Rattle.serde_json.specs.Written.{compact_text};
 ghost use Rattle.sales_table.specs.Objects.{draw_data, number_if, sale_data, time_if};
 ghost use Rattle.sales_table.specs.Objects.{timed_data};
@@ -9,7 +10,7 @@ ghost use Rattle.sales_table.specs.Objects.{timed_data};
 use crate::names::name_of;
 use crate::status_words::{cleared_in, status_word, till_of};
 use crate::timed_sale::TimedSale;
-use serde_json::{Value, json};
+use serde_json::{Map, Value, json};
 use site_base::{NoMemory, ProductEntry};
 use site_book::{Draw, NamedSale};
 use stamps::Stamp;
@@ -90,30 +91,26 @@ fn timed_value(
     ensures { IfOk result (λ value.
         view value ≡ timed_data products.now times.now sold.now) }
 {
-    let sale = &sold.sale;
-    let standing = sale.standing;
-    let name = name_of(products, sale.product);
-    let prepaid = number_if(sale.prepaid);
-    let till = number_if(till_of(&standing));
-    let cleared = number_if(cleared_in(&standing));
-    let sold_at = time_if(alloc, &times.sold_at)?;
-    let cleared_at = time_if(alloc, &times.cleared_at)?;
-    json!(in alloc; {
-        "shift": sold.shift.get(),
-        "point": sold.point.get(),
-        "number": sold.number.get(),
-        "product": sale.product.get(),
-        "name": name,
-        "millilitres": sale.volume.get(),
-        "mills": sale.price.get(),
-        "cents": sale.cents.get(),
-        "prepaid": prepaid,
-        "status": status_word(&standing),
-        "till": till,
-        "cleared in shift": cleared,
-        "sold_at": sold_at,
-        "cleared_at": cleared_at
-    })
+    let Value::Object(mut members) = sale_value(alloc, products, sold)? else {
+        unreachable!();
+    };
+    put_time(alloc, &mut members, "cleared_at", &times.cleared_at)?;
+    put_time(alloc, &mut members, "sold_at", &times.sold_at)?;
+    Ok(Value::Object(members))
+}
+
+/// Puts a time among the members of an object, at its place.
+fn put_time(
+    alloc: Global,
+    members: &mut Map<String, Value>,
+    name: &str,
+    time: &Option<Stamp>,
+) -> Result<(), AllocError>
+    ensures { OnOk result (members_view members.new.entries
+        ≡ put name.now (time_if time.now) (members_view members.old.entries)) }
+{
+    let value = time_if(alloc, time)?;
+    serde_json::put(members, alloc, name, value)
 }
 
 fn draw_value(alloc: Global, products: &[ProductEntry], draw: &Draw) -> Result<Value, AllocError>

@@ -48,7 +48,9 @@ fn shift_value(
     let products = products_value(alloc, products, row)?;
     let tills = tills_value(alloc, row)?;
     let (clears, cents) = (clears_value(&row.tills), cents_value(&row.tills));
-    Ok(whole_value(alloc, number, is_open, times, clears, cents, products, tills)?)
+    Ok(whole_value(
+        alloc, number, is_open, times, clears, cents, products, tills,
+    )?)
 }
 
 /// The shift of this number, with these times, and these values of its other members.

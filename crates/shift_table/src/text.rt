@@ -38,7 +38,11 @@ fn put_takings(
 {
     let (opened, closed) = (time_word(&times.opened), time_word(&times.closed));
     let (clears, cents) = (count_clears(&row.tills), sum_cents(&row.tills));
-    write!(text, "shift {} opened {opened} closed {closed}", number.get())?;
+    write!(
+        text,
+        "shift {} opened {opened} closed {closed}",
+        number.get()
+    )?;
     write!(text, " clears {clears} cents {cents}")?;
     Ok(())
 }

@@ -47,19 +47,17 @@ impl TimesReader {
     }
 
     /// Reads the next row, which was at this time, if it is known.
-    pub fn read(&mut self, row: &Row, time: Option<Stamp>) -> Result<(), NoMemory>
-        ensures read { OnOk result (self.new ≡ times_after row.now time self.old) }
+    pub fn read(&mut self, row: &Row, time: &Option<Stamp>) -> Result<(), NoMemory>
+        ensures read { OnOk result (self.new ≡ times_after row.now time.now self.old) }
         ensures err { OnErr result (self.new ≡ self.old) }
     {
-        let times = self.current.unwrap_or(ShiftTimes {
-            opened: time,
+        let mut times = self.current.unwrap_or(ShiftTimes {
+            opened: *time,
             closed: None,
         });
         if is_close(row) {
-            self.closed.push(ShiftTimes {
-                opened: times.opened,
-                closed: time,
-            })?;
+            times.closed = *time;
+            self.closed.push(times)?;
             self.current = None;
         } else {
             self.current = Some(times);
