@@ -131,6 +131,11 @@ def check_chapters(site, texts):
 
 # ---- rows
 
+def time_line(time):
+    """The line that says at what time the rows below it were."""
+    return f"# at {time}\n".encode()
+
+
 def write_rows(*requests):
     """The lines of a chapter for these requests, whatever their tokens are."""
     return b"".join(without_token(one).hex().encode() + b"\n" for one in requests)

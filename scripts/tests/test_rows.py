@@ -14,7 +14,7 @@ from shared import random_words
 from shared.checks import expect
 from shared.histories import (
     LOCK_FILE, SITE_FILE, chapter_path, is_read, list_chapters, read_chapters, retitle, seal_line,
-    write_chapters, write_history, write_rows,
+    time_line, write_chapters, write_history, write_rows,
 )  # fmt: skip
 from shared.running import run
 from shared.serving import start_day
@@ -28,6 +28,7 @@ from tests.shifts_worked import CLOSE_IT, cents_of, work_at
 from tests.suite import make_folder, start_chance, test
 
 HERE = make_folder()
+TIME_TITLES = ",sold at,cleared at"
 PRINTS = (  # the commands, with their words
     ["replay"], ["replay", "--changes"], ["sales"], ["sales", "--json"], ["sales", "--draws"],
     ["sales", "--draws", "--json"], ["report"], ["report", "--human"], ["report", "--json"],
@@ -41,11 +42,27 @@ def print_of(folder, word, *words, given=b""):
     return end.out
 
 
+def with_unknown_times(word, words, told):
+    """What a command prints of a folder without times, by what it prints of a text: a table of
+    sales has two columns more."""
+    lines = told.decode().splitlines()
+    if word != "sales" or "--draws" in words:
+        return told
+    if "--json" in words:
+        sales = [{**json.loads(line), "sold_at": None, "cleared_at": None} for line in lines]
+        lines = [json.dumps(one, sort_keys=True, separators=(",", ":")) for one in sales]
+    else:
+        lines = [line + more for line, more in zip(lines, [TIME_TITLES] + [",,"] * len(lines))]
+    return "".join(f"{line}\n" for line in lines).encode()
+
+
 def expect_as_text(what, folder):
-    """Each command prints of the folder what it prints of its chapters on standard input."""
+    """Each command prints of the folder, which has no times, what it prints of its chapters on
+    standard input."""
     text = read_chapters(folder)
     for word, *words in PRINTS:
-        wanted = print_of(folder / SITE_FILE, word, *words, given=text)
+        told = print_of(folder / SITE_FILE, word, *words, given=text)
+        wanted = with_unknown_times(word, words, told)
         expect(f"{what}: {word} {words}", print_of(folder, word, *words), wanted)
 
 
@@ -158,7 +175,7 @@ def many_rows():
     folder = write_history(HERE / "many", few, *write_chapters(few, *bodies))
     text = retitle(read_chapters(folder), FIVE_POINTS)
     for word, *words in PRINTS:
-        wanted = print_of(FIVE_POINTS, word, *words, given=text)
+        wanted = with_unknown_times(word, words, print_of(FIVE_POINTS, word, *words, given=text))
         expect(f"{word} {words}", print_of(folder, word, *words), wanted)
 
 
@@ -300,6 +317,169 @@ def expect_end(command, folder, shift, status, said):
     """Of rows that are printed before it is known that a shift isn't there nothing is judged."""
     ended = run(PROGRAM, command, folder, f"--shift={shift}")
     expect(f"{command} --shift {shift!r}", (ended.status, ended.err), (status, said))
+
+
+# ---- times
+
+
+class TimedHistory:
+    """The bodies of chapters in which sales of point 1 are sold and cleared at these times."""
+
+    def __init__(self):
+        self.bodies, self.reading = [b""], 0
+        self.add(sign_on(1), command_point(1, 0, 1, OPEN))
+
+    def add(self, *requests):
+        self.bodies[-1] += write_rows(*requests)
+
+    def at(self, time):
+        self.bodies[-1] += time_line(time)
+
+    def sell(self):
+        self.add(command_point(1, 0, 1, RELEASE), report(1, 0, LIFT, self.reading))
+        self.reading += 1_000
+        self.add(report(1, 0, HANG_UP, self.reading))
+
+    def clear(self, shift, number):
+        address = address_named_sale(1, shift, number)
+        self.add(*(ask(1, WRITE, 0, address, (one, b"")) for one in (LOCK, CLEAR)))
+
+    def draw(self):
+        self.add(command_point(1, 0, 1, TEST_RELEASE), report(1, 0, LIFT, self.reading))
+        self.reading += 500
+        self.add(report(1, 0, HANG_UP, self.reading))
+
+    def close_shift(self):
+        self.add(CLOSE_IT)
+        self.bodies.append(b"")
+
+    def write(self, name):
+        return write_history(HERE / name, KNOWN_SITE, *write_chapters(KNOWN_SITE, *self.bodies))
+
+
+EIGHT, FIVE_PAST = "2026-11-27T08:00:00.000Z", "2026-11-27T08:05:00.250Z"
+TWENTY_PAST, LAST_OF_DAY = "2026-11-27T08:20:00.000Z", "2026-11-27T23:59:59.999Z"
+NEXT_DAY, LATER = "2026-11-28T00:00:00.000Z", "2026-11-29T12:34:56.789Z"
+SALES_TIMES = {  # of each sale, by its shift and number, when it was sold and cleared
+    (1, 1): (None, FIVE_PAST), (1, 2): (EIGHT, LAST_OF_DAY), (2, 1): (TWENTY_PAST, NEXT_DAY),
+    (2, 2): (NEXT_DAY, None), (2, 3): (LATER, LATER),
+}  # fmt: skip
+
+
+def write_times():
+    """A history with the sales of `SALES_TIMES`, and draws before the first time and at the last.
+    A time that falls is none; the first rows of a chapter are at the last time of the one before."""
+    made = TimedHistory()
+    made.sell()
+    made.draw()
+    made.at(EIGHT)
+    made.sell()
+    made.at(FIVE_PAST)
+    made.clear(1, 1)
+    made.at(TWENTY_PAST)
+    made.clear(1, 1)  # refused: it is cleared
+    made.close_shift()
+    made.sell()
+    made.at(LAST_OF_DAY)
+    made.clear(1, 2)
+    made.at(NEXT_DAY)
+    made.clear(2, 1)
+    made.at(EIGHT)
+    made.sell()
+    made.at(LATER)
+    made.sell()
+    made.clear(2, 3)
+    made.draw()
+    return made.write("times")
+
+
+def read_sales(folder, *words):
+    """The sales that are printed, by their names, with their times; as CSV and as JSON the same."""
+    lines = print_of(folder, "sales", *words).decode().splitlines()
+    expect("the titles", lines[0].endswith(TIME_TITLES), True)
+    sales = {
+        (int(one["shift"]), int(one["number"])): (one["sold at"] or None, one["cleared at"] or None)
+        for one in csv.DictReader(lines)
+    }  # fmt: skip
+    objects = list(map(json.loads, print_of(folder, "sales", "--json", *words).splitlines()))
+    expect("as JSON", [(one["shift"], one["number"]) for one in objects], list(sales))
+    times = [(one["sold_at"], one["cleared_at"]) for one in objects]
+    expect("the times as JSON", times, list(sales.values()))
+    return sales
+
+
+@test
+def times_of_sales():
+    """When each sale was sold and cleared."""
+    folder = write_times()
+    expect("all", read_sales(folder), SALES_TIMES)
+    for shift in (1, 2):
+        wanted = {name: times for name, times in SALES_TIMES.items() if name[0] == shift}
+        expect(f"shift {shift}", read_sales(folder, "--shift", shift), wanted)
+    line, = [
+        line for line in print_of(folder, "sales").decode().splitlines() if line.startswith("1,1,2,")
+    ]
+    expect("a line's end", line.endswith(f",cleared,1,2,{EIGHT},{LAST_OF_DAY}"), True)
+
+
+@test
+def sales_between():
+    """Just those sales are printed whose clear lies between `--from` and `--to`, both included,
+    whenever they were sold. One that isn't cleared is none of them."""
+    folder = write_times()
+    first, second, third, last = (1, 1), (1, 2), (2, 1), (2, 3)
+    for words, wanted in (
+        (["--from", FIVE_PAST], [first, second, third, last]),
+        (["--from", "2026-11-27T08:05:00.251Z"], [second, third, last]),
+        (["--to", FIVE_PAST], [first]),
+        (["--to", "2026-11-27T08:05:00.249Z"], []),
+        (["--from", FIVE_PAST, "--to", FIVE_PAST], [first]),
+        (["--from", EIGHT, "--to", EIGHT], []),
+        (["--from", TWENTY_PAST, "--to", LAST_OF_DAY], [second]),
+        (["--from", LAST_OF_DAY, "--to", NEXT_DAY], [second, third]),
+        (["--from", "2026-11-27"], [first, second, third, last]),
+        (["--from", "2026-11-27", "--to", "2026-11-27"], [first, second]),
+        (["--to", "2026-11-26"], []),
+        (["--from", "2026-11-28"], [third, last]),
+        (["--from", "2026-11-28", "--to", "2026-11-28"], [third]),
+        (["--from", "2026-11-30"], []),
+        (["--from", "2026-11-28", "--to", "2026-11-27"], []),
+        (["--from", LATER], [last]),
+        (["--from", "2026-11-29T12:34:56.790Z"], []),
+        (["--from", "2026-11-27T09:05:00.25+01:00", "--to", "2026-11-27T03:05:00.250-05:00"],
+         [first]),
+        (["--from", "2026-11-27T09:05:00.251+01:00"], [second, third, last]),
+        (["--from", "2026-11-27 08:05", "--to", "2026-11-27 08:06"], [first]),
+        (["--from", "2026-11-27T08:05:01"], [second, third, last]),
+        (["--from", "2026-11-28T00:00", "--to", "2026-11-28T00:00"], [third]),
+        (["--from", "2026-11-28T01:00+01:00", "--to", "2026-11-28T00:00:00.000"], [third]),
+        (["--to", LATER, "--shift", "2"], [third, last]),
+        (["--from", "2026-11-28", "--shift", "1"], []),
+    ):  # fmt: skip
+        sales = read_sales(folder, *words)
+        expect(f"{words}", sales, {name: SALES_TIMES[name] for name in wanted})
+    for words, wanted in (
+        ([], [1, 2]), (["--from", LATER], [2]), (["--to", LATER], [2]), (["--to", NEXT_DAY], []),
+    ):  # fmt: skip
+        lines = print_of(folder, "sales", "--draws", *words).decode().splitlines()
+        expect(f"draws {words}", [int(line.split(",")[0]) for line in lines[1:]], wanted)
+
+
+@test
+def no_times():
+    """Words that say no time."""
+    folder = write_times()
+    for option in ("--from", "--to"):
+        for typed in ("", "x", "2026", "2026-11", "2026-13-01", "2026-11-31", "27.11.2026", "08:00",
+                      "2026-11-27T", "2026-11-27T25:00", "2026-11-27T08:00+99:00",
+                      "2026-11-27+01:00", "2026-11-27Z", "2026-11-27T08:00[Europe/Berlin]",
+                      "2026-11-27T08:00 x", "12026-11-27"):  # fmt: skip
+            ended = run(PROGRAM, "sales", folder, f"{option}={typed}")
+            said = (
+                f"error: '{option} {typed}' says no time: give a date, as 2026-11-27, or a date "
+                "and a time, as 2026-11-27T08:00Z\n"
+            )
+            expect(f"{option} {typed!r}", (ended.status, ended.out, ended.err), (2, b"", said))
 
 
 # ---- no histories

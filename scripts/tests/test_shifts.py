@@ -9,7 +9,10 @@ import subprocess
 import tomllib
 
 from shared.checks import expect
-from shared.histories import LOCK_FILE, SITE_FILE, write_chapters, write_history, write_rows
+from shared.histories import (
+    LOCK_FILE, SITE_FILE, list_chapters, time_line, whole_lines, write_chapters, write_history,
+    write_rows,
+)  # fmt: skip
 from shared.running import run
 from shared.serving import start_day
 from shared.station import (
@@ -66,17 +69,23 @@ class Figures:
     def sums(self):
         return tuple(map(sum, zip(*self.tills.values()))) if self.tills else (0, 0)
 
-    def line(self, number):
+    def line(self, number, times):
         clears, cents = self.sums
+        opened, closed = (time or "-" for time in times)
         products = "".join(
             f" product {q} cleared {self.cleared[q]} drawn {self.drawn[q]}" for q in PRODUCTS
         )
-        return f"shift {number} clears {clears} cents {cents}{products}\n"
+        return (
+            f"shift {number} opened {opened} closed {closed} clears {clears} cents {cents}"
+            f"{products}\n"
+        )
 
-    def data(self, number, is_open):
+    def data(self, number, is_open, times):
         clears, cents = self.sums
+        opened, closed = times
         return {
-            "shift": number, "open": is_open, "clears": clears, "cents": cents,
+            "shift": number, "open": is_open, "opened": opened, "closed": closed,
+            "clears": clears, "cents": cents,
             "products": [
                 {"number": q, "cleared": self.cleared[q], "drawn": self.drawn[q]} for q in PRODUCTS
             ],
@@ -87,12 +96,34 @@ class Figures:
         }  # fmt: skip
 
 
-def expect_shifts(what, folder, figures):
-    """`shifts` prints these figures, as text and as JSON."""
-    lines = [one.line(number) for number, one in enumerate(figures, 1)]
+def find_times(folder):
+    """Of each shift the time of its first row, and that of the CloseShift of till 1, by the lines
+    of the chapters. A time never falls."""
+    time, times, is_new = None, [(None, None)], True
+    for path in list_chapters(folder):
+        for line in whole_lines(path.read_bytes()).splitlines(keepends=True):
+            if line.startswith(b"# at "):
+                time = max(time or "", line[5:-1].decode())
+            if line.startswith(b"#"):
+                continue
+            if is_new:
+                times[-1] = (time, None)
+            is_new = line == write_rows(CLOSE_IT)
+            if is_new:
+                times[-1] = (times[-1][0], time)
+                times.append((None, None))
+    return times
+
+
+def expect_shifts(what, folder, figures, times=None):
+    """`shifts` prints these figures and times, as text and as JSON."""
+    times = times or find_times(folder)
+    expect(f"{what}: shifts", len(times), len(figures))
+    shifts = list(enumerate(zip(figures, times), 1))
+    lines = [one.line(number, at) for number, (one, at) in shifts]
     expect(f"{what}: text", run_on("shifts", folder), "".join(lines))
     told = run_on("shifts", folder, "--json")
-    wanted = [one.data(number, number == len(figures)) for number, one in enumerate(figures, 1)]
+    wanted = [one.data(number, number == len(figures), at) for number, (one, at) in shifts]
     expect(f"{what}: JSON", [json.loads(line) for line in told.splitlines()], wanted)
     compact = [json.dumps(one, sort_keys=True, separators=(",", ":")) for one in wanted]
     expect(f"{what}: the lines of JSON", told.splitlines(), compact)
@@ -170,6 +201,32 @@ def yesterdays_sales():
     second.add(1, 1, 3_333, cents_of(3_333))
     second.add(1, 1, 1_000, cents_of(1_000, 2_000))
     expect_shifts("two shifts", folder, [first, second])
+
+
+@test
+def times_of_shifts():
+    """When each shift was opened and closed: the times of its first row and of its accepted
+    CloseShift."""
+    early, later, last = (f"2026-11-27T0{hour}:00:00.001Z" for hour in (6, 7, 8))
+    come, close = write_rows(sign_on(1)), write_rows(CLOSE_IT)
+    refused = write_rows(command_point(1, 0, 9, OPEN), sign_on(1))
+    for what, bodies, times in (
+        ("no times", [come + close, close], [(None, None)] * 3),
+        ("a time", [time_line(early) + come + close, close],
+         [(early, early), (early, early), (None, None)]),
+        ("a time within", [come + time_line(early) + close, time_line(later) + close],
+         [(None, early), (later, later), (None, None)]),
+        ("an open shift", [time_line(early) + come + time_line(later) + close,
+                           time_line(last) + refused + time_line(later) + refused],
+         [(early, later), (last, None)]),
+        ("a close that is refused", [close + time_line(early) + come + time_line(later) + close],
+         [(None, later), (None, None)]),
+        ("one chapter", [time_line(early) + come + close + time_line(later) + close
+                         + time_line(last) + refused], [(early, early), (later, later), (last, None)]),
+    ):  # fmt: skip
+        texts = write_chapters(KNOWN_SITE, *bodies)
+        folder = write_history(HERE / "times", KNOWN_SITE, *texts)
+        expect_shifts(what, folder, [Figures() for _ in times], times)
 
 
 @test

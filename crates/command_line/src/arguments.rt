@@ -39,17 +39,17 @@ pub fn shift<'a>(alloc: Global) -> Arg<'a>
     )
 }
 
-/// The time from which a command reads sales of a history.
+/// The time from which the sales of a history were cleared that a command prints.
 pub fn from<'a>(alloc: Global) -> Arg<'a>
     ensures rule { rule_of result ≡ option_rule (codes "from") }
     ensures local { result.global ≡ false }
 {
-    let help = "Only sales of the history at this time or later, as 2026-11-27 or \
-                2026-11-27T08:00Z";
+    let help = "Only the history's sales that were cleared at this time or later, as 2026-11-27 or \
+                2026-11-27T08:00+01:00 (UTC without an offset)";
     option(alloc, "from", "T", help)
 }
 
-/// The time up to which a command reads sales of a history.
+/// The time up to which the sales of a history were cleared that a command prints.
 pub fn to<'a>(alloc: Global) -> Arg<'a>
     ensures rule { rule_of result ≡ option_rule (codes "to") }
     ensures local { result.global ≡ false }
@@ -58,7 +58,7 @@ pub fn to<'a>(alloc: Global) -> Arg<'a>
         alloc,
         "to",
         "T",
-        "Only sales of the history up to this time",
+        "Only the history's sales that were cleared up to this time; a date alone is its whole day",
     )
 }
 

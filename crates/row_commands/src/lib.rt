@@ -15,6 +15,7 @@ mod sales;
 mod seal_word;
 mod story;
 mod verify;
+mod times;
 
 pub use report::run_report_folder;
 pub use rows::{run_explain_folder, run_replay_folder};

@@ -1,4 +1,5 @@
 pub mod Tables
 pub mod Objects
 pub mod Texts
+pub mod TimedSales
 pub mod SoldLists

@@ -1,7 +1,7 @@
 -- The lines of a day's tables as comma-separated values: of its sales, and of the draws of its
 -- tests.
-use Rattle.std.specs.Prelude.{ℕ, ◌==◌, if◌then◌else◌, List, [], ◌∷◌, codes, decimal, Option, Some}
-use Rattle.std.specs.Prelude.{None}
+use Rattle.std.specs.Prelude.{ℕ, ◌==◌, if◌then◌else◌, List, [], ◌∷◌, ◌++◌, codes, decimal, Option}
+use Rattle.std.specs.Prelude.{Some, None}
 use Rattle.csv.specs.Writing.{default_writer, row_text}
 use Rattle.site_base.specs.declared.config.ProductEntry.{ProductEntry}
 use Rattle.site_base.specs.declared.state.Status.{Status}
@@ -50,8 +50,9 @@ sale_fields products x =
     ∷ decimal_if x.sale.prepaid ∷ status_word (status_of x.sale.standing)
     ∷ decimal_if (till_of x.sale.standing) ∷ decimal_if (cleared_in x.sale.standing) ∷ []
 
-abbrev pub sale_line : List ProductEntry → NamedSale → List ℕ
-sale_line products x = row_text default_writer (sale_fields products x)
+-- the line of a sale, with these fields more
+abbrev pub sale_line : List ProductEntry → List (List ℕ) → NamedSale → List ℕ
+sale_line products more x = row_text default_writer (sale_fields products x ++ more)
 
 -- ---- draws
 

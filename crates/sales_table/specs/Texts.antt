@@ -20,7 +20,7 @@ head_text Json titles = []
 
 -- the line of a sale
 abbrev pub sale_text : Form → List ProductEntry → NamedSale → List ℕ
-sale_text Csv products x = sale_line products x
+sale_text Csv products x = sale_line products [] x
 sale_text Json products x = compact_text (sale_data products x) ++ codes "\n"
 
 -- the table of a book's sales: a line for each, in the order in which they were sold

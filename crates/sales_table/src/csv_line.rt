@@ -1,20 +1,26 @@
 //! One line of comma-separated values.
 
-ghost use Rattle.std.specs.Prelude.{◌≡◌, map, IfOk};
+ghost use Rattle.std.specs.Prelude.{◌≡◌, ◌++◌, map, IfOk};
 ghost use Rattle.csv.specs.Writing.{default_writer, row_text};
 
 use csv::WriterBuilder;
 use site_base::NoMemory;
 use std::alloc::Global;
 
-/// The line of these fields, with its line feed, as the default writer of the crate `csv` spells
+/// The line of these fields and these more, with its line feed, as the default writer of the crate `csv` spells
 /// it. The writer is told to write into memory, so what it fails for is memory.
-pub fn csv_line(alloc: Global, fields: &[&[u8]]) -> Result<Vec<u8>, NoMemory>
-    ensures { IfOk result (λ line.
-        line.items ≡ row_text default_writer (map (λ f. f.now) fields.now)) }
+pub fn csv_line<'a>(
+    alloc: Global,
+    fields: &'a [&'a [u8]],
+    more: &'a [&'a [u8]],
+) -> Result<Vec<u8>, NoMemory>
+    ensures { IfOk result (λ line. line.items
+        ≡ row_text default_writer (map (λ f. f.now) (fields.now ++ more.now))) }
 {
+    let mut all = Vec::from_slice(alloc, fields)?;
+    all.extend_from_slice(more)?;
     let mut writer = WriterBuilder::new().from_writer(Vec::new(alloc));
-    if writer.write_fields(fields).is_err() {
+    if writer.write_fields(&all).is_err() {
         return Err(NoMemory);
     }
     match writer.into_inner() {

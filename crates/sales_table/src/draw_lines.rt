@@ -18,6 +18,7 @@ pub fn draw_titles(alloc: Global) -> Result<Vec<u8>, NoMemory>
     csv_line(
         alloc,
         &[b"shift", b"point", b"product", b"name", b"millilitres"],
+        &[],
     )
 }
 
@@ -36,5 +37,6 @@ pub fn draw_line(alloc: Global, products: &[ProductEntry], draw: &Draw) -> Resul
             name_of(products, draw.product).as_bytes(),
             volume.format(draw.volume.get()).as_bytes(),
         ],
+        &[],
     )
 }

@@ -1,6 +1,7 @@
 //! The tables of a day: its sales and the draws of its tests, as comma-separated values or as JSON,
 //! each line that of one sale or draw of the book in the order in which they were made. The same of
-//! a history whose book forgets its rows: a `SoldList` and a `DrawReader` read them as they come.
+//! a history whose book forgets its rows: a `SoldList` and a `DrawReader` read them as they come. A
+//! history's sales have their times, and those cleared in a span of time can be asked for.
 #![tactic(auto)]
 
 mod csv_line;
@@ -15,6 +16,7 @@ mod sold_list;
 mod sold_tables;
 mod status_words;
 mod tables;
+mod timed_sale;
 
 pub use draw_lines::{draw_line, draw_titles};
 pub use draw_reader::DrawReader;
@@ -22,6 +24,7 @@ pub use fault::TableFault;
 pub use form::Form;
 pub use json_line::{draw_object, sale_object};
 pub use sale_lines::{sale_line, sale_titles};
-pub use sold_list::{SaleName, SoldList};
+pub use sold_list::SoldList;
 pub use sold_tables::{drawn_table, sold_table};
 pub use tables::{write_draws, write_sales};
+pub use timed_sale::{SaleName, TimedSale};

@@ -1,6 +1,6 @@
 //! The lines of sales.
 
-ghost use Rattle.std.specs.Prelude.{◌≡◌, IfOk};
+ghost use Rattle.std.specs.Prelude.{◌≡◌, ◌++◌, IfOk, map};
 ghost use Rattle.csv.specs.Writing.{default_writer, row_text};
 ghost use Rattle.sales_table.specs.Tables.{decimal_if, sale_line, sale_titles};
 
@@ -12,9 +12,10 @@ use site_base::{NoMemory, ProductEntry};
 use site_book::NamedSale;
 use std::alloc::Global;
 
-/// The titles of a table of sales, as a line.
-pub fn sale_titles(alloc: Global) -> Result<Vec<u8>, NoMemory>
-    ensures { IfOk result (λ line. line.items ≡ row_text default_writer sale_titles) }
+/// The titles of a table of sales, with these more, as a line.
+pub fn sale_titles(alloc: Global, more: &[&[u8]]) -> Result<Vec<u8>, NoMemory>
+    ensures { IfOk result (λ line. line.items
+        ≡ row_text default_writer (sale_titles ++ map (λ f. f.now) more.now)) }
 {
     csv_line(
         alloc,
@@ -32,16 +33,20 @@ pub fn sale_titles(alloc: Global) -> Result<Vec<u8>, NoMemory>
             b"till",
             b"cleared in shift",
         ],
+        more,
     )
 }
 
-/// The line of a sale, in the order of the titles. A number that isn't there is an empty field.
+/// The line of a sale, in the order of the titles, with these fields more. A number that isn't there
+/// is an empty field.
 pub fn sale_line(
     alloc: Global,
     products: &[ProductEntry],
     sold: &NamedSale,
+    more: &[&[u8]],
 ) -> Result<Vec<u8>, NoMemory>
-    ensures { IfOk result (λ line. line.items ≡ sale_line products.now sold.now) }
+    ensures { IfOk result (λ line. line.items
+        ≡ sale_line products.now (map (λ f. f.now) more.now) sold.now) }
 {
     let sale = &sold.sale;
     let standing = sale.standing;
@@ -65,6 +70,7 @@ pub fn sale_line(
             format_if(&mut till, till_of(&standing)).as_bytes(),
             format_if(&mut cleared, cleared_in(&standing)).as_bytes(),
         ],
+        more,
     )
 }
 

@@ -1,4 +1,4 @@
-//! Which sales the rows of a history made.
+//! Which sales the rows of a history made, and when they were cleared.
 
 ghost use Rattle.std.specs.Prelude.{◌≡◌, ◌++◌, [], List, OnErr, OnOk, option_map};
 ghost use Rattle.std.specs.List.{cons_option};
@@ -6,36 +6,28 @@ ghost use Rattle.site_base.specs.declared.row.Row.{Row as RowFacts};
 ghost use Rattle.site_base.specs.Events.{point_named};
 ghost use Rattle.written_site.specs.RowWords.{open_after};
 ghost use Rattle.written_site.specs.SaleWords.{key_sold, number_sold};
-ghost use Rattle.sales_table.specs.SoldLists.{name_of_key};
+ghost use Rattle.sales_table.specs.TimedSales.{just_sold, key_cleared, name_of_key, with_clear};
+ghost use Rattle.sales_table.specs.TimedSales.{with_clear_of};
 
-use site_base::{Answer, FpNo, NoMemory, Row, Seq, ShiftNo};
+use crate::timed_sale::{SaleName, TimedSale};
+use site_base::{Actor, Answer, Event, NoMemory, Row, ShiftNo};
+use stamps::Stamp;
 use std::alloc::Global;
 use std::marker::Model;
 
-/// The name of a sale.
-#[derive(Clone, Copy, Debug, PartialEq, Eq)]
-pub struct SaleName {
-    /// The shift in which it was sold.
-    pub shift: ShiftNo,
-    /// Its fuelling point.
-    pub point: FpNo,
-    /// Its number there in that shift.
-    pub number: Seq,
-}
-
-/// The names of sales, in the order in which they were sold. Contracts see their list.
+/// Sales with their times, in the order in which they were sold. Contracts see their list.
 #[derive(Drop)]
 pub struct SoldList {
-    names: Vec<SaleName>,
+    sales: Vec<TimedSale>,
 }
 
 impl Model for SoldList {
     ghost use Rattle.std.specs.Prelude.{List};
-    ghost use Rattle.sales_table.specs.declared.sold_list.SaleName.{SaleName as NameFacts};
+    ghost use Rattle.sales_table.specs.declared.timed_sale.TimedSale.{TimedSale as SaleFacts};
 
-    ghost Value = { List NameFacts };
+    ghost Value = { List SaleFacts };
 
-    ghost view = { λ l. l.names.items };
+    ghost view = { λ l. l.sales.items };
 }
 
 impl SoldList {
@@ -44,33 +36,63 @@ impl SoldList {
         ensures { result ≡ [] }
     {
         SoldList {
-            names: Vec::new(alloc),
+            sales: Vec::new(alloc),
         }
     }
 
-    /// Adds the sale that a row made, if it made one, where this shift was open before it.
-    pub fn add(&mut self, row: &Row, shift: ShiftNo) -> Result<(), NoMemory>
+    /// Adds the sale that a row made at this time, if it made one, where this shift was open before
+    /// it.
+    pub fn add(&mut self, row: &Row, shift: ShiftNo, time: Option<Stamp>) -> Result<(), NoMemory>
         ensures added { (earlier : List RowFacts) → shift ≡ open_after earlier → OnOk result
-            (self.new ≡ self.old ++ cons_option (option_map name_of_key (key_sold earlier
+            (self.new ≡ self.old ++ cons_option (option_map (just_sold time) (key_sold earlier
             (point_named row.now.event) (number_sold row.now.reply))) []) }
         ensures err { OnErr result (self.new ≡ self.old) }
     {
-        if let Some(name) = sale_named(row, shift) {
-            self.names.push(name)?;
+        if let Some(name) = sale_made(row, shift) {
+            self.sales.push(TimedSale {
+                name,
+                sold_at: time,
+                cleared_at: None,
+            })?;
         }
         Ok(())
     }
 
-    /// The names.
-    pub fn as_slice(&self) -> &[SaleName]
+    /// Notes when a sale was cleared, if the row cleared one, where this shift was open before it.
+    pub fn note_clear(&mut self, row: &Row, shift: ShiftNo, time: Option<Stamp>)
+        ensures { (earlier : List RowFacts) → shift ≡ open_after earlier
+            → self.new ≡ with_clear (key_cleared earlier row.now) time self.old }
+    {
+        if let Some(name) = sale_cleared(row, shift) {
+            self.clear(&name, time);
+        }
+    }
+
+    /// The last sale of this name was cleared at this time. It is sought from the end: at most two
+    /// sales of a point are unpaid, so it was sold not long before.
+    fn clear(&mut self, name: &SaleName, time: Option<Stamp>)
+        ensures { self.new ≡ with_clear_of name.now time self.old }
+    {
+        let mut at = self.sales.len();
+        while at > 0 {
+            at -= 1;
+            if self.sales[at].is_named(name) {
+                self.sales[at].cleared_at = time;
+                return;
+            }
+        }
+    }
+
+    /// The sales.
+    pub fn as_slice(&self) -> &[TimedSale]
         ensures { result.now ≡ self.now }
     {
-        &self.names
+        &self.sales
     }
 }
 
 /// The name of the sale that a row made, where this shift was open before it.
-fn sale_named(row: &Row, shift: ShiftNo) -> Option<SaleName>
+fn sale_made(row: &Row, shift: ShiftNo) -> Option<SaleName>
     ensures { (earlier : List RowFacts) → shift ≡ open_after earlier → result
         ≡ option_map name_of_key (key_sold earlier (point_named row.now.event)
         (number_sold row.now.reply)) }
@@ -89,5 +111,23 @@ fn sale_named(row: &Row, shift: ShiftNo) -> Option<SaleName>
         shift,
         point,
         number,
+    })
+}
+
+/// The name of the sale that a row cleared, where this shift was open before it.
+fn sale_cleared(row: &Row, shift: ShiftNo) -> Option<SaleName>
+    ensures { (earlier : List RowFacts) → shift ≡ open_after earlier
+        → result ≡ option_map name_of_key (key_cleared earlier row.now) }
+{
+    let (Actor::Till(_), Event::Clear(point, id)) = (row.actor, row.event) else {
+        return None;
+    };
+    if row.reply.is_err() {
+        return None;
+    }
+    Some(SaleName {
+        shift: id.shift.unwrap_or(shift),
+        point,
+        number: id.seq,
     })
 }

@@ -3,45 +3,50 @@
 ghost use Rattle.std.specs.Prelude.{◌≡◌, ◌++◌, IfOk, OnOk};
 ghost use Rattle.site_book.specs.Book.{site_of_book};
 ghost use Rattle.site_book.specs.BookSales.{sale_named};
-ghost use Rattle.sales_table.specs.SoldLists.{drawn_text, key_of, sold_line, sold_text};
+ghost use Rattle.sales_table.specs.SoldLists.{drawn_text, sold_line, table_of_span};
+ghost use Rattle.sales_table.specs.TimedSales.{key_of};
 
 use crate::form::Form;
-use crate::sold_list::SaleName;
-use crate::tables::{draw_head, put_draw, put_sale, sale_head};
+use crate::tables::{draw_head, put_draw, put_timed, timed_head};
+use crate::timed_sale::{SaleName, TimedSale};
 use site_base::{NoMemory, ProductEntry};
 use site_book::{Draw, NamedSale, SiteBook};
+use stamps::TimeSpan;
 use std::alloc::Global;
 
-/// The table of the sales of these names, in this order: a line for each that the book's site has,
-/// as it stands there.
+/// The table of these sales with their times, in this order: a line for each that the book's site
+/// has, as it stands there. With a span, of just those of them that were cleared in it.
 pub fn sold_table(
     alloc: Global,
     book: &SiteBook,
-    names: &[SaleName],
+    sales: &[TimedSale],
+    span: &Option<TimeSpan>,
     form: Form,
 ) -> Result<Vec<u8>, NoMemory>
-    ensures { IfOk result (λ text. text.items ≡ sold_text form book.now names.now) }
+    ensures { IfOk result (λ text. text.items ≡ table_of_span form book.now span.now sales.now) }
 {
-    let mut text = sale_head(alloc, form)?;
-    for name in names {
-        put_sold(alloc, book, name, form, &mut text)?;
+    let mut text = timed_head(alloc, form)?;
+    for sale in sales {
+        if sale.is_asked(span) {
+            put_sold(alloc, book, sale, form, &mut text)?;
+        }
     }
     Ok(text)
 }
 
-/// Appends the line of the sale of this name, if the book's site has it.
+/// Appends the line of a sale, if the book's site has it.
 fn put_sold(
     alloc: Global,
     book: &SiteBook,
-    name: &SaleName,
+    sale: &TimedSale,
     form: Form,
     text: &mut Vec<u8>,
 ) -> Result<(), NoMemory>
     ensures { OnOk result
-        (text.new.items ≡ text.old.items ++ sold_line form book.now name.now) }
+        (text.new.items ≡ text.old.items ++ sold_line form book.now sale.now) }
 {
-    match &find_sale(book, name) {
-        Some(sold) => put_sale(alloc, form, book.config().products(), sold, text),
+    match &find_sale(book, &sale.name) {
+        Some(sold) => put_timed(alloc, form, book.config().products(), sale, sold, text),
         None => Ok(()),
     }
 }

@@ -4,14 +4,16 @@ ghost use Rattle.std.specs.Prelude.{◌≡◌, [], ◌++◌, IfOk, OnOk, codes, 
 ghost use Rattle.std.specs.Io.KnownBytes.{Appends};
 ghost use Rattle.devices.specs.Counted.{device_of};
 ghost use Rattle.devices.specs.Devices.{AppendsFront};
-ghost use Rattle.sales_table.specs.Tables.{draw_titles, sale_titles};
+ghost use Rattle.sales_table.specs.Tables.{draw_titles, sale_line, sale_titles};
 ghost use Rattle.sales_table.specs.Texts.{draw_text, draws_text, head_text, sale_text, sales_text};
+ghost use Rattle.sales_table.specs.TimedSales.{time_fields, time_titles, timed_text};
 
 use crate::draw_lines::{draw_line, draw_titles};
 use crate::fault::TableFault;
 use crate::form::Form;
-use crate::json_line::{draw_object, sale_object};
+use crate::json_line::{draw_object, sale_object, timed_object};
 use crate::sale_lines::{sale_line, sale_titles};
+use crate::timed_sale::{TimedSale, time_field};
 use devices::{Counted, PIECE_OCTETS, WriteFault, write_whole};
 use site_base::{NoMemory, ProductEntry};
 use site_book::{Draw, NamedSale, SiteBook};
@@ -100,7 +102,17 @@ pub(crate) fn sale_head(alloc: Global, form: Form) -> Result<Vec<u8>, NoMemory>
     ensures { IfOk result (λ text. text.items ≡ head_text form sale_titles) }
 {
     match form {
-        Form::Csv => sale_titles(alloc),
+        Form::Csv => sale_titles(alloc, &[]),
+        Form::Json => Ok(Vec::new(alloc)),
+    }
+}
+
+/// What stands above the lines of sales with their times.
+pub(crate) fn timed_head(alloc: Global, form: Form) -> Result<Vec<u8>, NoMemory>
+    ensures { IfOk result (λ text. text.items ≡ head_text form (sale_titles ++ time_titles)) }
+{
+    match form {
+        Form::Csv => sale_titles(alloc, &[b"sold at", b"cleared at"]),
         Form::Json => Ok(Vec::new(alloc)),
     }
 }
@@ -127,10 +139,44 @@ pub(crate) fn put_sale(
         (text.new.items ≡ text.old.items ++ sale_text form products.now sold.now) }
 {
     match form {
-        Form::Csv => text.extend_from_slice(&sale_line(alloc, products, sold)?)?,
+        Form::Csv => text.extend_from_slice(&sale_line(alloc, products, sold, &[])?)?,
         Form::Json => put_object(text, &sale_object(alloc, products, sold)?)?,
     }
     Ok(())
+}
+
+/// Appends the line of a sale with its times.
+pub(crate) fn put_timed(
+    alloc: Global,
+    form: Form,
+    products: &[ProductEntry],
+    times: &TimedSale,
+    sold: &NamedSale,
+    text: &mut Vec<u8>,
+) -> Result<(), NoMemory>
+    ensures { OnOk result (text.new.items
+        ≡ text.old.items ++ timed_text form products.now times.now sold.now) }
+{
+    match form {
+        Form::Csv => text.extend_from_slice(&timed_line(alloc, products, times, sold)?)?,
+        Form::Json => put_object(text, &timed_object(alloc, products, times, sold)?)?,
+    }
+    Ok(())
+}
+
+/// The line of a sale with its times, as comma-separated values. A time that isn't known is an empty
+/// field.
+fn timed_line(
+    alloc: Global,
+    products: &[ProductEntry],
+    times: &TimedSale,
+    sold: &NamedSale,
+) -> Result<Vec<u8>, NoMemory>
+    ensures { IfOk result (λ line.
+        line.items ≡ sale_line products.now (time_fields times.now) sold.now) }
+{
+    let (sold_at, cleared_at) = (time_field(&times.sold_at), time_field(&times.cleared_at));
+    sale_line(alloc, products, sold, &[sold_at, cleared_at])
 }
 
 /// Appends the line of a draw.

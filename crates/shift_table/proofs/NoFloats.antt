@@ -1,12 +1,13 @@
 -- No number of a shift is a float.
 use Rattle.std.proofs.Common.{◌≡◌, ℕ, ◌+◌, ◌^◌, Bool, true, false, List, [], ◌∷◌, map, nat_lt, refl}
-use Rattle.std.specs.Prelude.{if◌then◌else◌}
+use Rattle.std.specs.Prelude.{Option, Some, None, if◌then◌else◌}
 use Rattle.serde_json.specs.Data.{null, number, unsigned}
 use Rattle.serde_json.specs.View.{items_of}
 use Rattle.serde_json.specs.Written.{has_float, items_have_float}
 use Rattle.site_base.specs.declared.config.ProductEntry.{ProductEntry}
 use Rattle.shift_ledger.specs.declared.row.ShiftRow.{ShiftRow}
-use Rattle.shift_table.specs.ShiftObjects.{product_data, shift_data, sum_data}
+use Rattle.shift_table.specs.declared.times.ShiftTimes.{ShiftTimes}
+use Rattle.shift_table.specs.ShiftObjects.{product_data, shift_data, sum_data, time_data}
 use Rattle.shift_table.specs.ShiftObjects.{tills_data}
 use Rattle.shift_table.specs.ShiftSums.{all_cents, all_clears}
 
@@ -35,12 +36,18 @@ no_float_tills t (figures ∷ more) =
     by_test true is rest = rw is rest
     by_test false is rest = rw is rest
 
-pub no_float_shift : (ps : List ProductEntry) (n : ℕ) (is_open : Bool) (row : ShiftRow)
-    → has_float (shift_data ps n is_open row) ≡ false
-no_float_shift ps n is_open row =
+no_float_time : (time : Option (List ℕ)) → has_float (time_data time) ≡ false
+no_float_time None = refl
+no_float_time (Some time) = refl
+
+pub no_float_shift : (ps : List ProductEntry) (n : ℕ) (is_open : Bool) (times : ShiftTimes)
+    (row : ShiftRow) → has_float (shift_data ps n is_open times row) ≡ false
+no_float_shift ps n is_open times row =
     rw (
       no_float_sum (all_cents row.tills),
       no_float_sum (all_clears row.tills),
+      no_float_time times.closed,
+      no_float_time times.opened,
       no_float_products row ps,
       no_float_tills 1 row.tills,
     ) refl

@@ -1,4 +1,5 @@
 pub mod ShiftSums
+pub mod ShiftTimes
 pub mod ShiftLines
 pub mod ShiftObjects
 pub mod ShiftTable

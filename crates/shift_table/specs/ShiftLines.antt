@@ -3,12 +3,16 @@ use Rattle.std.specs.Prelude.{ℕ, List, ◌++◌, codes, decimal, flat_map}
 use Rattle.site_base.specs.declared.config.ProductEntry.{ProductEntry}
 use Rattle.shift_ledger.specs.declared.row.ShiftRow.{ShiftRow}
 use Rattle.shift_ledger.specs.Figures.{adjusted_figure, product_figure}
+use Rattle.shift_table.specs.declared.times.ShiftTimes.{ShiftTimes}
 use Rattle.shift_table.specs.ShiftSums.{all_cents, all_clears}
+use Rattle.shift_table.specs.ShiftTimes.{time_word}
 
--- the number of a shift, and what all tills cleared in it
-abbrev pub takings_words : ℕ → ShiftRow → List ℕ
-takings_words n row =
-    codes "shift " ++ decimal n ++ codes " clears " ++ decimal (all_clears row.tills)
+-- the number of a shift, when it was opened and closed, and what all tills cleared in it
+abbrev pub takings_words : ℕ → ShiftTimes → ShiftRow → List ℕ
+takings_words n times row =
+    codes "shift " ++ decimal n ++ codes " opened " ++ time_word times.opened
+    ++ codes " closed " ++ time_word times.closed
+    ++ codes " clears " ++ decimal (all_clears row.tills)
     ++ codes " cents " ++ decimal (all_cents row.tills)
 
 -- the millilitres of a product that were cleared in the shift, and those that tests drew
@@ -18,8 +22,8 @@ product_words row p =
     ++ codes " cleared " ++ decimal (product_figure p.number row)
     ++ codes " drawn " ++ decimal (adjusted_figure p.number row)
 
--- the line of a shift: what was cleared in it, and its millilitres of each product, in configured
--- order
-abbrev pub shift_line : List ProductEntry → ℕ → ShiftRow → List ℕ
-shift_line products n row =
-    takings_words n row ++ flat_map (product_words row) products ++ codes "\n"
+-- the line of a shift: its times, what was cleared in it, and its millilitres of each product, in
+-- configured order
+abbrev pub shift_line : List ProductEntry → ℕ → ShiftTimes → ShiftRow → List ℕ
+shift_line products n times row =
+    takings_words n times row ++ flat_map (product_words row) products ++ codes "\n"

@@ -8,8 +8,10 @@ use Rattle.site_core.specs.Accounts.{shift_row}
 use Rattle.written_site.specs.SiteState.{open_shift}
 use Rattle.shift_table.specs.declared.form.Form.{Form}
 use Rattle.shift_table.specs.declared.form.Form.TheVariants.{Text, Json}
+use Rattle.shift_table.specs.declared.times.ShiftTimes.{ShiftTimes}
 use Rattle.shift_table.specs.ShiftLines.{shift_line}
 use Rattle.shift_table.specs.ShiftObjects.{shift_data}
+use Rattle.shift_table.specs.ShiftTimes.{TimesRead, times_of_shift}
 
 -- the figures of shift n of a book, if it is open or closed
 abbrev pub figures_of : Book → ℕ → Option ShiftRow
@@ -19,17 +21,17 @@ figures_of b n = shift_row n (site_of_book b).sales (site_of_book b).drawn
 abbrev pub open_of : Book → ℕ
 open_of b = open_shift (site_of_book b)
 
--- the line of shift n of a book, with these figures
-abbrev pub line_of : Form → Book → ℕ → Option ShiftRow → List ℕ
-line_of form b n None = []
-line_of Text b n (Some row) = shift_line b.config.products n row
-line_of Json b n (Some row) =
-    compact_text (shift_data b.config.products n (n == open_of b) row) ++ codes "\n"
+-- the line of shift n of a book, with these times and figures
+abbrev pub line_of : Form → Book → ℕ → ShiftTimes → Option ShiftRow → List ℕ
+line_of form b n times None = []
+line_of Text b n times (Some row) = shift_line b.config.products n times row
+line_of Json b n times (Some row) =
+    compact_text (shift_data b.config.products n (n == open_of b) times row) ++ codes "\n"
 
--- the line of shift n of a book
-abbrev pub line_at : Form → Book → ℕ → List ℕ
-line_at form b n = line_of form b n (figures_of b n)
+-- the line of shift n of a book, with the times that were read
+abbrev pub line_at : Form → Book → TimesRead → ℕ → List ℕ
+line_at form b read n = line_of form b n (times_of_shift n read) (figures_of b n)
 
 -- the table of a book's shifts: a line for each, from shift 1 to the open one
-abbrev pub shifts_text : Form → Book → List ℕ
-shifts_text form b = flat_map (line_at form b) (range_with_len 1 (open_of b))
+abbrev pub shifts_text : Form → Book → TimesRead → List ℕ
+shifts_text form b read = flat_map (line_at form b read) (range_with_len 1 (open_of b))

@@ -4,16 +4,19 @@ ghost use Rattle.std.specs.Prelude.{◌≡◌, ◌++◌, map, IfOk, OnOk, string
 ghost use Rattle.serde_json.specs.View.{view};
 ghost use Rattle.serde_json.specs.Written.{compact_text};
 ghost use Rattle.shift_table.specs.ShiftObjects.{listed, product_data, shift_data, sum_data};
-ghost use Rattle.shift_table.specs.ShiftObjects.{till_data, till_if, tills_data, whole_data};
+ghost use Rattle.shift_table.specs.ShiftObjects.{till_data, till_if, tills_data, time_data};
+ghost use Rattle.shift_table.specs.ShiftObjects.{whole_data};
 ghost use Rattle.shift_table.specs.ShiftSums.{all_cents, all_clears};
 
 use crate::sums::{cleared_volume, count_clears, sum_cents};
+use crate::times::ShiftTimes;
 use serde_json::{Number, Value, json};
 use shift_ledger::ShiftRow;
 use site_base::{NoMemory, ProductEntry, ShiftNo, TILL_CELLS, TillNo};
+use stamps::Stamp;
 use std::alloc::{AllocError, Global};
 
-/// A shift as a JSON object: its number and whether it is open, what all tills cleared in it, of
+/// A shift as a JSON object: its number, its times and whether it is open, what all tills cleared in it, of
 /// each of these products the millilitres that were cleared and those that tests drew, and each
 /// till that cleared anything with its clears and their cents.
 pub fn shift_object(
@@ -21,12 +24,13 @@ pub fn shift_object(
     products: &[ProductEntry],
     number: ShiftNo,
     is_open: bool,
+    times: &ShiftTimes,
     row: &ShiftRow,
 ) -> Result<String, NoMemory>
     ensures { IfOk result (λ text. string_bytes text
-        ≡ compact_text (shift_data products.now number is_open row.now)) }
+        ≡ compact_text (shift_data products.now number is_open times.now row.now)) }
 {
-    let text = shift_value(alloc, products, number, is_open, row)?.to_string(alloc)?;
+    let text = shift_value(alloc, products, number, is_open, times, row)?.to_string(alloc)?;
     Ok(text)
 }
 
@@ -35,38 +39,56 @@ fn shift_value(
     products: &[ProductEntry],
     number: ShiftNo,
     is_open: bool,
+    times: &ShiftTimes,
     row: &ShiftRow,
 ) -> Result<Value, NoMemory>
     ensures { IfOk result (λ value.
-        view value ≡ shift_data products.now number is_open row.now) }
+        view value ≡ shift_data products.now number is_open times.now row.now) }
 {
     let products = products_value(alloc, products, row)?;
     let tills = tills_value(alloc, row)?;
     let (clears, cents) = (clears_value(&row.tills), cents_value(&row.tills));
-    Ok(whole_value(alloc, number, is_open, clears, cents, products, tills)?)
+    Ok(whole_value(
+        alloc, number, is_open, times, clears, cents, products, tills,
+    )?)
 }
 
-/// The shift of this number, with these values of its members.
+/// The shift of this number, with these times, and these values of its other members.
 fn whole_value(
     alloc: Global,
     number: ShiftNo,
     is_open: bool,
+    times: &ShiftTimes,
     clears: Value,
     cents: Value,
     products: Value,
     tills: Value,
 ) -> Result<Value, AllocError>
-    ensures { IfOk result (λ value. view value ≡ whole_data number is_open
+    ensures { IfOk result (λ value. view value ≡ whole_data number is_open times.now
         (view clears) (view cents) (view products) (view tills)) }
 {
+    let opened = time_value(alloc, &times.opened)?;
+    let closed = time_value(alloc, &times.closed)?;
     json!(in alloc; {
         "shift": number.get(),
         "open": is_open,
+        "opened": opened,
+        "closed": closed,
         "clears": clears,
         "cents": cents,
         "products": products,
         "tills": tills
     })
+}
+
+/// A time; without one null.
+fn time_value(alloc: Global, time: &Option<Stamp>) -> Result<Value, AllocError>
+    ensures { IfOk result (λ value. view value ≡ time_data time.now) }
+{
+    match time {
+        Some(time) => Ok(Value::String(String::from_str(alloc, time.as_str())?)),
+        None => Ok(Value::Null),
+    }
 }
 
 /// The products, each with its millilitres.

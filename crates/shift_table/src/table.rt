@@ -9,14 +9,21 @@ ghost use Rattle.shift_table.specs.ShiftTable.{line_at, line_of, shifts_text};
 use crate::form::Form;
 use crate::json::shift_object;
 use crate::text::put_shift_line;
+use crate::times::{ShiftTimes, TimesReader};
 use shift_ledger::ShiftRow;
 use site_base::{NoMemory, ProductEntry, ShiftNo};
 use site_book::SiteBook;
 use std::alloc::Global;
 
-/// The table of a book's shifts: a line for each, from shift 1 to the open one, in order.
-pub fn shifts_text(alloc: Global, book: &SiteBook, form: Form) -> Result<String, NoMemory>
-    ensures { IfOk result (λ text. string_bytes text ≡ shifts_text form book.now) }
+/// The table of a book's shifts, with the times that were read: a line for each, from shift 1 to the
+/// open one, in order.
+pub fn shifts_text(
+    alloc: Global,
+    book: &SiteBook,
+    read: &TimesReader,
+    form: Form,
+) -> Result<String, NoMemory>
+    ensures { IfOk result (λ text. string_bytes text ≡ shifts_text form book.now read.now) }
 {
     let mut text = String::new(alloc);
     let open = book.open_shift().get();
@@ -24,7 +31,7 @@ pub fn shifts_text(alloc: Global, book: &SiteBook, form: Form) -> Result<String,
         let Some(number) = ShiftNo::new(closed + 1) else {
             unreachable!();
         };
-        put_shift(alloc, book, form, number, &mut text)?;
+        put_shift(alloc, book, read, form, number, &mut text)?;
     }
     Ok(text)
 }
@@ -33,36 +40,39 @@ pub fn shifts_text(alloc: Global, book: &SiteBook, form: Form) -> Result<String,
 fn put_shift(
     alloc: Global,
     book: &SiteBook,
+    read: &TimesReader,
     form: Form,
     number: ShiftNo,
     text: &mut String,
 ) -> Result<(), NoMemory>
     ensures { OnOk result
-        (string_bytes text.new ≡ string_bytes text.old ++ line_at form book.now number) }
+        (string_bytes text.new ≡ string_bytes text.old ++ line_at form book.now read.now number) }
 {
     if let Some(row) = &book.shift(number) {
-        put_row(alloc, book, form, number, row, text)?;
+        let times = read.times(number);
+        put_row(alloc, book, form, number, &times, row, text)?;
     }
     Ok(())
 }
 
-/// Appends the line of a shift with these figures.
+/// Appends the line of a shift with these times and figures.
 fn put_row(
     alloc: Global,
     book: &SiteBook,
     form: Form,
     number: ShiftNo,
+    times: &ShiftTimes,
     row: &ShiftRow,
     text: &mut String,
 ) -> Result<(), NoMemory>
     ensures { OnOk result (string_bytes text.new
-        ≡ string_bytes text.old ++ line_of form book.now number (Some row.now)) }
+        ≡ string_bytes text.old ++ line_of form book.now number times.now (Some row.now)) }
 {
     let products = book.config().products();
     let is_open = number.get() == book.open_shift().get();
     match form {
-        Form::Text => put_shift_line(text, products, number, row)?,
-        Form::Json => put_object(alloc, products, number, is_open, row, text)?,
+        Form::Text => put_shift_line(text, products, number, times, row)?,
+        Form::Json => put_object(alloc, products, number, is_open, times, row, text)?,
     }
     Ok(())
 }
@@ -73,13 +83,15 @@ fn put_object(
     products: &[ProductEntry],
     number: ShiftNo,
     is_open: bool,
+    times: &ShiftTimes,
     row: &ShiftRow,
     text: &mut String,
 ) -> Result<(), NoMemory>
     ensures { OnOk result (string_bytes text.new ≡ string_bytes text.old
-        ++ (compact_text (shift_data products.now number is_open row.now) ++ codes "\n")) }
+        ++ (compact_text (shift_data products.now number is_open times.now row.now)
+        ++ codes "\n")) }
 {
-    let object = shift_object(alloc, products, number, is_open, row)?;
+    let object = shift_object(alloc, products, number, is_open, times, row)?;
     text.push_str(object.as_str())?;
     text.push_str("\n")?;
     Ok(())

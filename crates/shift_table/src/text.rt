@@ -4,33 +4,46 @@ ghost use Rattle.std.specs.Prelude.{◌≡◌, ◌++◌, flat_map, string_bytes,
 ghost use Rattle.shift_table.specs.ShiftLines.{product_words, shift_line, takings_words};
 
 use crate::sums::{cleared_volume, count_clears, sum_cents};
+use crate::times::{ShiftTimes, time_word};
 use shift_ledger::ShiftRow;
 use site_base::{NoMemory, ProductEntry, ShiftNo};
 
-/// Appends the line of a shift: its number, what all tills cleared in it, and of each of these
-/// products the millilitres that were cleared and those that tests drew.
+/// Appends the line of a shift: its number, its times, what all tills cleared in it, and of each of
+/// these products the millilitres that were cleared and those that tests drew.
 pub fn put_shift_line(
     text: &mut String,
     products: &[ProductEntry],
     number: ShiftNo,
+    times: &ShiftTimes,
     row: &ShiftRow,
 ) -> Result<(), NoMemory>
-    ensures { OnOk result
-        (string_bytes text.new ≡ string_bytes text.old ++ shift_line products.now number row.now) }
+    ensures { OnOk result (string_bytes text.new
+        ≡ string_bytes text.old ++ shift_line products.now number times.now row.now) }
 {
-    put_takings(text, number, row)?;
+    put_takings(text, number, times, row)?;
     put_products(text, products, row)?;
     text.push_str("\n")?;
     Ok(())
 }
 
-/// Appends the number of a shift, and what all tills cleared in it.
-fn put_takings(text: &mut String, number: ShiftNo, row: &ShiftRow) -> Result<(), NoMemory>
-    ensures { OnOk result
-        (string_bytes text.new ≡ string_bytes text.old ++ takings_words number row.now) }
+/// Appends the number of a shift, its times, and what all tills cleared in it.
+fn put_takings(
+    text: &mut String,
+    number: ShiftNo,
+    times: &ShiftTimes,
+    row: &ShiftRow,
+) -> Result<(), NoMemory>
+    ensures { OnOk result (string_bytes text.new
+        ≡ string_bytes text.old ++ takings_words number times.now row.now) }
 {
+    let (opened, closed) = (time_word(&times.opened), time_word(&times.closed));
     let (clears, cents) = (count_clears(&row.tills), sum_cents(&row.tills));
-    write!(text, "shift {} clears {clears} cents {cents}", number.get())?;
+    write!(
+        text,
+        "shift {} opened {opened} closed {closed}",
+        number.get()
+    )?;
+    write!(text, " clears {clears} cents {cents}")?;
     Ok(())
 }
 

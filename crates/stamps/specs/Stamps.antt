@@ -1,6 +1,6 @@
 -- Times: the stamps of a history.
 use Rattle.std.specs.Prelude.{ℕ, Bool, true, false, ◌&&◌, ◌==◌, List, [], ◌∷◌, ◌++◌, codes, drop}
-use Rattle.std.specs.Prelude.{nat_le, nat_lt, Option, Some, None, if◌then◌else◌}
+use Rattle.std.specs.Prelude.{nat_le, nat_lt, not, Option, Some, None, if◌then◌else◌}
 use Rattle.std.specs.List.{starts_with}
 
 -- the form of a time, UTC in milliseconds; 0 stands for any digit
@@ -67,3 +67,19 @@ time_after line last = later_of last (stamp_in line)
 abbrev pub time_of_lines : List (List ℕ) → Option (List ℕ) → Option (List ℕ)
 time_of_lines [] last = last
 time_of_lines (line ∷ lines) last = time_of_lines lines (time_after line last)
+
+-- ---- spans of time
+
+-- a time isn't before the first one, if there is one
+abbrev pub is_not_before : Option (List ℕ) → List ℕ → Bool
+is_not_before None time = true
+is_not_before (Some first) time = not (is_before time first)
+
+-- a time isn't after the last one, if there is one
+abbrev pub is_not_after : Option (List ℕ) → List ℕ → Bool
+is_not_after None time = true
+is_not_after (Some last) time = not (is_before last time)
+
+-- a time lies between these two, both included; one that isn't there leaves that end open
+abbrev pub is_between : Option (List ℕ) → Option (List ℕ) → List ℕ → Bool
+is_between first last time = is_not_before first time && is_not_after last time

@@ -28,7 +28,7 @@ impl StampClock {
         let time = Timestamp::try_from(now).ok()?;
         let millisecond = time.as_millisecond();
         if self.millisecond != Some(millisecond) {
-            self.stamp = Stamp::of_time(alloc, time);
+            self.stamp = Stamp::of_time(alloc, time).ok()?;
             self.millisecond = Some(millisecond);
         }
         self.stamp

@@ -6,7 +6,7 @@ ghost use Rattle.stamps.specs.Stamps.{is_stamp};
 ghost use Rattle.stamps.specs.Stamps.{later, stamp_in, time_after};
 
 use jiff::Timestamp;
-use std::alloc::Global;
+use std::alloc::{AllocError, Global};
 use std::marker::Model;
 
 /// The form of a stamp; 0 stands for any digit.
@@ -48,10 +48,13 @@ impl Stamp {
         }
     }
 
-    /// This time, its milliseconds cut.
-    pub(crate) fn of_time(alloc: Global, time: Timestamp) -> Option<Stamp> {
-        let text = time.strftime(alloc, "%Y-%m-%dT%H:%M:%S.%3fZ").ok()?;
-        Stamp::parse(text.as_bytes())
+    /// This time, its milliseconds cut; None where its year isn't one of four digits.
+    pub(crate) fn of_time(alloc: Global, time: Timestamp) -> Result<Option<Stamp>, AllocError> {
+        match time.strftime(alloc, "%Y-%m-%dT%H:%M:%S.%3fZ") {
+            Ok(text) => Ok(Stamp::parse(text.as_bytes())),
+            // The form is right.
+            Err(_) => Err(AllocError),
+        }
     }
 
     /// Its octets.
@@ -60,6 +63,17 @@ impl Stamp {
         ensures form { is_stamp self.now ≡ true }
     {
         &self.octets
+    }
+
+    /// Its octets as text.
+    pub fn as_str(&self) -> &str
+        ensures text { result.now ≡ self.now }
+        ensures form { is_stamp self.now ≡ true }
+    {
+        match str::from_utf8(&self.octets) {
+            Ok(text) => text,
+            Err(_) => unreachable!(),
+        }
     }
 
     /// Is it before the other one?

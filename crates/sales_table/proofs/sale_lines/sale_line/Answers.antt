@@ -1,4 +1,4 @@
-use Rattle.std.proofs.Common.{◌≡◌, ℕ, List, [], ◌∷◌, ap, ◌∙◌, refl, rules}
+use Rattle.std.proofs.Common.{◌≡◌, ℕ, List, ◌∷◌, ◌++◌, Bor, ap, map, ◌∙◌, refl, rules}
 use Rattle.std.proofs.lemmas.Result.{IfOk-weaker}
 use Rattle.csv.specs.Writing.{default_writer, row_text}
 use Rattle.sales_table.specs.Tables.{sale_fields}
@@ -11,8 +11,10 @@ returns c =
     c.as_bytes.result.now ∷ c.as_bytes-2.result.now ∷ c.as_bytes-3.result.now
     ∷ c.as_bytes-4.result.now ∷ c.as_bytes-5.result.now ∷ c.as_bytes-6.result.now
     ∷ c.as_bytes-7.result.now ∷ c.as_bytes-8.result.now ∷ c.as_bytes-9.result.now
-    ∷ c.as_bytes-10.result.now ∷ c.as_bytes-11.result.now ∷ c.as_bytes-12.result.now ∷ [] in
-    let same : fields ≡ sale_fields c.args.products.now c.args.sold.now =
+    ∷ c.as_bytes-10.result.now ∷ c.as_bytes-11.result.now ∷ c.as_bytes-12.result.now
+    ∷ map (λ (f : Bor (List ℕ)). f.now) c.args.more.now in
+    let same : fields ≡ sale_fields c.args.products.now c.args.sold.now
+    ++ map (λ (f : Bor (List ℕ)). f.now) c.args.more.now =
     (cons_same _ _ _ _ (search rules)
     (cons_same _ _ _ _ (search rules)
     (cons_same _ _ _ _ (search rules)

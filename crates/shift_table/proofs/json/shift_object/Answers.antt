@@ -7,5 +7,6 @@ pub returns : goal.returns
 returns c =
     c.in_ok-text.ensures.text
     (ap has_float c.in_ok-shift_value.ensures
-    ∙ no_float_shift c.args.products.now c.args.number c.args.is_open c.args.row.now)
+    ∙ no_float_shift c.args.products.now c.args.number c.args.is_open c.args.times.now
+    c.args.row.now)
     ∙ ap compact_text c.in_ok-shift_value.ensures

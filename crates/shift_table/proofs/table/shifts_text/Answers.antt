@@ -7,7 +7,7 @@ use Rattle.shift_table.proofs.table.shifts_text.Goals as goal
 
 pub loop-closed-preserved : goal.loop-closed-preserved
 loop-closed-preserved c =
-    let line : ℕ → List ℕ = line_at c.args.form c.args.book.now in
+    let line : ℕ → List ℕ = line_at c.args.form c.args.book.now c.args.read.now in
     c.in_ok-put_shift.ensures
     ∙ ap (λ (t : List ℕ). t ++ line c.in-Some.number) c.loop-closed.invariant
     ∙ ap (λ (n : ℕ). flat_map line (range_with_len 1 c.loop-closed.closed) ++ line n)

@@ -6,4 +6,4 @@ use Rattle.shift_table.proofs.table.shifts_text.Given as goal
 
 abbrev pub invariant-loop-closed : goal.invariant-loop-closed
 invariant-loop-closed l =
-    string_bytes l.text ≡ flat_map (line_at l.form l.book) (range_with_len 1 l.closed)
+    string_bytes l.text ≡ flat_map (line_at l.form l.book l.read) (range_with_len 1 l.closed)
