@@ -135,6 +135,13 @@ impl<D: Disk> Journal<D> {
         self.stored
     }
 
+    /// The last seal; 64 zeros where there is none.
+    pub(crate) fn last_seal(&self) -> &str
+        ensures { result.now ≡ self.now.end.seal }
+    {
+        self.end.last_seal()
+    }
+
     /// A round begins at this time, if it is known. Where it stores rows, it ends with a seal if it
     /// begins a second or more after the last one. It says whether the time is before the last one
     /// that the journal tells: that one is repeated then.

@@ -1,7 +1,7 @@
 //! A station with its journal.
 
 ghost use Rattle.std.specs.Prelude.{◌≡◌, ◌==◌, ◌≤◌, ℕ, IfNone, IfOk, IfSome, None, OnErr, OnOk};
-ghost use Rattle.std.specs.Prelude.{Some, length, not, true};
+ghost use Rattle.std.specs.Prelude.{Some, is_some, length, not, true};
 ghost use Rattle.station.specs.declared.sizes.TheConstants.{PEERS};
 ghost use Rattle.station.specs.Peers.{peer_at};
 ghost use Rattle.station.specs.Moves.{with_end, with_octets, with_taken, without_peer};
@@ -164,6 +164,18 @@ impl<D: Disk> StoredStation<D> {
         ensures journal { self.new.journal ≡ self.old.journal }
     {
         self.station.hear(key, octets);
+    }
+
+    /// The last seal of the history, 64 zeros where it has none; None without a history.
+    pub fn last_seal(&self) -> Option<&str>
+        ensures seal { IfSome result (λ seal. IfSome self.now.journal
+            (λ j. seal.now ≡ j.end.seal)) }
+        ensures there { is_some result ≡ is_some self.now.journal }
+    {
+        match &self.journal {
+            None => None,
+            Some(journal) => Some(journal.last_seal()),
+        }
     }
 
     /// A round begins at this time, if it is known. It says whether that is before the last time

@@ -1,6 +1,6 @@
 //! The connections of all peers, and the station that they speak with.
 
-ghost use Rattle.std.specs.Prelude.{◌≡◌, length, IfOk, OnOk, true};
+ghost use Rattle.std.specs.Prelude.{◌≡◌, length, IfOk, IfSome, OnOk, true};
 ghost use Rattle.site_book.specs.Unpaid.{unpaid_sales};
 ghost use Rattle.station.specs.declared.sizes.TheConstants.{HEARD_OCTETS};
 ghost use Rattle.station.specs.Moves.{without_peer};
@@ -96,6 +96,14 @@ impl<D: Disk> Connections<D> {
     /// How many connections there are.
     pub fn count(&self) -> usize {
         self.links.iter().filter(|link| link.is_some()).count()
+    }
+
+    /// The last seal of the history, as `StoredStation::last_seal` says.
+    pub fn last_seal(&self) -> Option<&str>
+        ensures { IfSome result (λ seal. IfSome self.now.stored.journal
+            (λ j. seal.now ≡ j.end.seal)) }
+    {
+        self.stored.last_seal()
     }
 
     /// Is each row stored?
