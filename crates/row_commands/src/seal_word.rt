@@ -1,6 +1,9 @@
 //! A seal that a command is asked for.
 
-ghost use Rattle.std.specs.Prelude.{◌≡◌, IfOk, None, option_map, string_bytes};
+ghost use Rattle.std.specs.Prelude.{◌≡◌, ◌⊎◌, IfErr, IfOk, IfSome, IsSome, None, option_map};
+ghost use Rattle.std.specs.Prelude.{string_bytes};
+ghost use Rattle.std.specs.Process.{exit_status};
+ghost use Rattle.program_io.specs.declared.exit.TheConstants.{COMMAND_LINE, NO_MEMORY};
 ghost use Rattle.row_commands.specs.SealWords.{seal_said};
 
 use program_io::{COMMAND_LINE, exit_no_memory, exit_with};
@@ -18,6 +21,10 @@ pub fn read_seal<R: Eprint + AllocGlobal>(
     word: Option<&str>,
 ) -> Result<Option<String>, ExitCode>
     ensures none { word.entry ≡ None → IfOk result (λ seal. seal ≡ None) }
+    ensures said { IfOk result (λ seal. IfSome word.entry
+        (λ w. IsSome seal × (option_map string_bytes seal ≡ seal_said w.now))) }
+    ensures failed { IfErr result (λ status. (exit_status status ≡ COMMAND_LINE)
+        ⊎ (exit_status status ≡ NO_MEMORY)) }
 {
     let Some(word) = word else {
         return Ok(None);
