@@ -13,7 +13,7 @@ use forecourt_engines::ReplayFault;
 use history_folder::FolderWalk;
 use past_rows::ShiftRange;
 use program_io::{exit_no_memory, exit_replay};
-use sales_table::{DrawReader, Form, SoldList, drawn_table, sold_table};
+use sales_table::{DrawReader, Form, SoldList, drawn_table, sale_cleared, sold_table};
 use site_base::NoMemory;
 use site_book::Draw;
 use stamps::{Stamp, TimeSpan};
@@ -85,7 +85,11 @@ fn read_sales<R: Files + Eprint + AllocGlobal>(
                 Err(NoMemory) => return Err(exit_no_memory(rt)),
             }
         }
-        sold.note_clear(&row, shift, walk.end().time());
+        if let Some(name) = sale_cleared(&row, shift) {
+            if is_asked(shifts, name.shift) {
+                sold.clear(&name, walk.end().time());
+            }
+        }
     }
     // No history has so many rows.
     Err(exit_replay(rt, Some(ReplayFault::Read(ReadFault::TurnLimit))))

@@ -56,11 +56,6 @@ with_clear_of name time (t ∷ sales) =
     if list_any (is_named name) sales then t ∷ with_clear_of name time sales
     else (if is_named name t then record t { cleared_at = time } else t) ∷ sales
 
--- .. once that one was, if there is a name
-abbrev pub with_clear : Option Key → Option (List ℕ) → List TimedSale → List TimedSale
-with_clear None time sales = sales
-with_clear (Some k) time sales = with_clear_of (name_of_key k) time sales
-
 -- ---- the filter
 
 -- a sale was cleared at a time in the span

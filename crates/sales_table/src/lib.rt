@@ -24,7 +24,7 @@ pub use fault::TableFault;
 pub use form::Form;
 pub use json_line::{draw_object, sale_object};
 pub use sale_lines::{sale_line, sale_titles};
-pub use sold_list::SoldList;
+pub use sold_list::{SoldList, sale_cleared};
 pub use sold_tables::{drawn_table, sold_table};
 pub use tables::{write_draws, write_sales};
 pub use timed_sale::{SaleName, TimedSale};

@@ -6,8 +6,7 @@ ghost use Rattle.site_base.specs.declared.row.Row.{Row as RowFacts};
 ghost use Rattle.site_base.specs.Events.{point_named};
 ghost use Rattle.written_site.specs.RowWords.{open_after};
 ghost use Rattle.written_site.specs.SaleWords.{key_sold, number_sold};
-ghost use Rattle.sales_table.specs.TimedSales.{just_sold, key_cleared, name_of_key, with_clear};
-ghost use Rattle.sales_table.specs.TimedSales.{with_clear_of};
+ghost use Rattle.sales_table.specs.TimedSales.{just_sold, key_cleared, name_of_key, with_clear_of};
 
 use crate::timed_sale::{SaleName, TimedSale};
 use site_base::{Actor, Answer, Event, NoMemory, Row, ShiftNo};
@@ -58,19 +57,10 @@ impl SoldList {
         Ok(())
     }
 
-    /// Notes when a sale was cleared, if the row cleared one, where this shift was open before it.
-    pub fn note_clear(&mut self, row: &Row, shift: ShiftNo, time: Option<Stamp>)
-        ensures { (earlier : List RowFacts) → shift ≡ open_after earlier
-            → self.new ≡ with_clear (key_cleared earlier row.now) time self.old }
-    {
-        if let Some(name) = sale_cleared(row, shift) {
-            self.clear(&name, time);
-        }
-    }
-
     /// The last sale of this name was cleared at this time. It is sought from the end: at most two
-    /// sales of a point are unpaid, so it was sold not long before.
-    fn clear(&mut self, name: &SaleName, time: Option<Stamp>)
+    /// sales of a point are unpaid, so it was sold not long before. A name that isn't there costs a
+    /// search of the whole list.
+    pub fn clear(&mut self, name: &SaleName, time: Option<Stamp>)
         ensures { self.new ≡ with_clear_of name.now time self.old }
     {
         let mut at = self.sales.len();
@@ -114,8 +104,8 @@ fn sale_made(row: &Row, shift: ShiftNo) -> Option<SaleName>
     })
 }
 
-/// The name of the sale that a row cleared, where this shift was open before it.
-fn sale_cleared(row: &Row, shift: ShiftNo) -> Option<SaleName>
+/// The name of the sale that a row cleared, if it cleared one, where this shift was open before it.
+pub fn sale_cleared(row: &Row, shift: ShiftNo) -> Option<SaleName>
     ensures { (earlier : List RowFacts) → shift ≡ open_after earlier
         → result ≡ option_map name_of_key (key_cleared earlier row.now) }
 {
