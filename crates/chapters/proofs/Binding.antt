@@ -23,7 +23,8 @@ use Rattle.chapters.specs.ChapterReading.{nothing_read, read_chapter, read_from}
 use Rattle.chapters.specs.ChapterReading.{read_line, read_lines, read_text, sealed_by, with_line}
 use Rattle.chapters.specs.ChapterReading.{with_seal}
 use Rattle.chapters.specs.ChapterText.{first_lines, no_seal, seal_line, seal_of, text_of_lines}
-use Rattle.chapters.specs.Laws.{AreSealed, Collision, SealsBindTheirTexts, ZeroDigest, octets_of}
+use Rattle.chapters.specs.Laws.{AreSealed, BreaksDigests, IsSealed, SealsBindTheirTexts}
+use Rattle.chapters.specs.Laws.{octets_of}
 use Rattle.chapters.specs.Lines.{lines_from, request_in, unfinished, unfinished_from, whole_lines}
 use Rattle.chapters.proofs.FirstLines.{begins_parts, texts_both}
 use Rattle.chapters.proofs.Histories.{both_some}
@@ -110,27 +111,94 @@ same_or_not (x ∷ xs) (y ∷ ys) = by_first (cases_eq x y) (same_or_not xs ys)
         inl (ap (λ (z : ℕ). z ∷ xs) same ∙ ap (λ (zs : List ℕ). y ∷ zs) rest)
     by_first (inl same) (inr others) = inr (λ is. others (ap (drop 1) is))
 
--- blocks with one last seal are the same, or there is a collision
+-- what the last block's seal is over is sealed in their text
+last_sealed : (b : List ℕ) (bs : List (List ℕ)) → IsSealed (last_of bs ++ b) (blocks_text (b ∷ bs))
+last_sealed b bs =
+    let line : List ℕ = text_of_lines (seal_line (last_of (b ∷ bs)) ∷ []) in
+    record {
+      before = blocks_text bs;
+      seal = last_of bs;
+      stretch = b;
+      rest = [];
+      octets_are = refl;
+      size = last_size bs;
+      text_is = ap (λ (xs : List ℕ). blocks_text bs ++ (b ++ xs)) (sym (append-nil line));
+    }
+
+-- what is sealed in a text is sealed in a longer one
+longer_sealed : (octets text more : List ℕ) → IsSealed octets text → IsSealed octets (text ++ more)
+longer_sealed octets text more is =
+    let line : List ℕ = text_of_lines (seal_line (encode_lower (sha256 octets)) ∷ []) in
+    record {
+      before = is.before;
+      seal = is.seal;
+      stretch = is.stretch;
+      rest = is.rest ++ more;
+      octets_are = is.octets_are;
+      size = is.size;
+      text_is =
+          ap (λ (xs : List ℕ). xs ++ more) is.text_is
+          ∙ append_assoc is.before (is.stretch ++ (line ++ is.rest)) more
+          ∙ ap (λ (xs : List ℕ). is.before ++ xs)
+          (append_assoc is.stretch (line ++ is.rest) more
+          ∙ ap (λ (xs : List ℕ). is.stretch ++ xs) (append_assoc line is.rest more));
+    }
+
+longer_both : (a b more others : List ℕ) → BreaksDigests a b
+    → BreaksDigests (a ++ more) (b ++ others)
+longer_both a b more others (inl x) =
+    inl (record {
+      one = x.one;
+      other = x.other;
+      sealed = longer_sealed x.one a more x.sealed;
+      sealed_too = longer_sealed x.other b others x.sealed_too;
+      differ = x.differ;
+      same = x.same;
+    })
+longer_both a b more others (inr (inl x)) =
+    inr (inl (record {
+      octets = x.octets;
+      sealed = longer_sealed x.octets a more x.sealed;
+      zero = x.zero;
+    }))
+longer_both a b more others (inr (inr x)) =
+    inr (inr (record {
+      octets = x.octets;
+      sealed = longer_sealed x.octets b others x.sealed;
+      zero = x.zero;
+    }))
+
+-- blocks with one last seal are the same, or they break the digests
 bound : (bs cs : List (List ℕ)) → last_of bs ≡ last_of cs
-    → (bs ≡ cs) ⊎ (Collision ⊎ ZeroDigest)
+    → (bs ≡ cs) ⊎ BreaksDigests (blocks_text bs) (blocks_text cs)
 bound [] [] is = inl refl
-bound [] (c ∷ cs) is = inr (inr (record { octets = last_of cs ++ c; zero = sym is }))
-bound (b ∷ bs) [] is = inr (inr (record { octets = last_of bs ++ b; zero = is }))
+bound [] (c ∷ cs) is =
+    inr (inr (inr (record {
+      octets = last_of cs ++ c;
+      sealed = last_sealed c cs;
+      zero = sym is;
+    })))
+bound (b ∷ bs) [] is =
+    inr (inr (inl (record { octets = last_of bs ++ b; sealed = last_sealed b bs; zero = is })))
 bound (b ∷ bs) (c ∷ cs) is =
     by_octets (same_or_not (last_of bs ++ b) (last_of cs ++ c)) (bound bs cs)
   where
     size : length (last_of bs) ≡ length (last_of cs)
     size = last_size bs ∙ sym (last_size cs)
 
-    by_rest : b ≡ c → (bs ≡ cs) ⊎ (Collision ⊎ ZeroDigest)
-        → (b ∷ bs ≡ c ∷ cs) ⊎ (Collision ⊎ ZeroDigest)
+    by_rest : b ≡ c → (bs ≡ cs) ⊎ BreaksDigests (blocks_text bs) (blocks_text cs)
+        → (b ∷ bs ≡ c ∷ cs) ⊎ BreaksDigests (blocks_text (b ∷ bs)) (blocks_text (c ∷ cs))
     by_rest same (inl rest) =
         inl (ap (λ (x : List ℕ). x ∷ bs) same ∙ ap (λ (xs : List (List ℕ)). c ∷ xs) rest)
-    by_rest same (inr found) = inr found
+    by_rest same (inr found) =
+        inr (longer_both (blocks_text bs) (blocks_text cs)
+        (b ++ text_of_lines (seal_line (last_of (b ∷ bs)) ∷ []))
+        (c ++ text_of_lines (seal_line (last_of (c ∷ cs)) ∷ [])) found)
 
     by_octets : (last_of bs ++ b ≡ last_of cs ++ c) ⊎ (last_of bs ++ b ≢ last_of cs ++ c)
-        → (last_of bs ≡ last_of cs → (bs ≡ cs) ⊎ (Collision ⊎ ZeroDigest))
-        → (b ∷ bs ≡ c ∷ cs) ⊎ (Collision ⊎ ZeroDigest)
+        → (last_of bs ≡ last_of cs
+        → (bs ≡ cs) ⊎ BreaksDigests (blocks_text bs) (blocks_text cs))
+        → (b ∷ bs ≡ c ∷ cs) ⊎ BreaksDigests (blocks_text (b ∷ bs)) (blocks_text (c ∷ cs))
     by_octets (inl same) rest =
         by_rest (rests (last_of bs) (last_of cs) b c same size)
         (rest (fronts (last_of bs) (last_of cs) b c same size))
@@ -138,6 +206,8 @@ bound (b ∷ bs) (c ∷ cs) is =
         inr (inl (record {
           one = last_of bs ++ b;
           other = last_of cs ++ c;
+          sealed = last_sealed b bs;
+          sealed_too = last_sealed c cs;
           differ = differ;
           same = same_digest (last_of bs ++ b) (last_of cs ++ c) is;
         }))
@@ -392,8 +462,11 @@ seals_bind_their_texts site another texts others seal one two differ =
     by_bound a.blocks b.blocks (a.text) (b.text) (bound a.blocks b.blocks (a.last ∙ sym b.last))
   where
     by_bound : (bs cs : List (List ℕ)) → octets_of texts ≡ blocks_text bs
-        → octets_of others ≡ blocks_text cs → (bs ≡ cs) ⊎ (Collision ⊎ ZeroDigest)
-        → Collision ⊎ ZeroDigest
+        → octets_of others ≡ blocks_text cs
+        → (bs ≡ cs) ⊎ BreaksDigests (blocks_text bs) (blocks_text cs)
+        → BreaksDigests (octets_of texts) (octets_of others)
     by_bound bs cs one two (inl same) =
         absurd (differ (one ∙ ap blocks_text same ∙ sym two))
-    by_bound bs cs one two (inr found) = found
+    by_bound bs cs one two (inr found) =
+        subst (λ (xs : List ℕ). BreaksDigests xs (octets_of others)) (sym one)
+        (subst (BreaksDigests (blocks_text bs)) (sym two) found)

@@ -1,7 +1,7 @@
 -- What is written of a round, part by part.
 use Rattle.std.proofs.Common.{◌≡◌, ℕ, Bool, true, false, List, [], ◌∷◌, ◌++◌, Option, Some, None}
 use Rattle.std.proofs.Common.{refl, sym, ap, ◌∙◌, append-nil, append_assoc, arith, drop, inl, inr}
-use Rattle.std.proofs.Common.{◌+◌, ◌-◌, length, subst, take}
+use Rattle.std.proofs.Common.{◌+◌, ◌-◌, length, nat_le, subst, take}
 use Rattle.std.specs.Prelude.{◌≢◌, ◌≤◌, ◌&&◌, ◌==◌, not, if◌then◌else◌}
 use Rattle.std.proofs.Math.Seq.{drop-append_seam}
 use Rattle.std.proofs.lemmas.Bool.{cases_eq, ne_eqb}
@@ -15,7 +15,7 @@ use Rattle.site_base.specs.declared.row.Row.{Row}
 use Rattle.device_map.specs.Laws.{AsksFor}
 use Rattle.hex_lines.specs.Lines.{IsLine}
 use Rattle.kept_history.specs.KeptRows.{is_kept, kept_rows}
-use Rattle.stamps.specs.Stamps.{are_formed, at_line, is_formed, is_later, is_stamp, later_of}
+use Rattle.stamps.specs.Stamps.{are_formed, at_line, is_digit, is_formed, is_later, is_stamp, later_of}
 use Rattle.stamps.specs.Stamps.{stamp_form}
 use Rattle.written_site.specs.SiteRun.{events_of}
 use Rattle.chapters.specs.ChapterReading.{HistoryRead, and_then, is_of_seal, read_lines}
@@ -94,10 +94,12 @@ not_feed form octet plain formed = elim (cases_eq octet 10) [
 ]
   where
     feed_fits : (f : ℕ) → not (f == 10) ≡ true → is_formed f 10 ≡ true → ⊥
-    feed_fits f plain fits = elim (cases_eq f 48) [
-      | inl is ↦ cc (subst (λ (x : ℕ). is_formed x 10 ≡ true) is fits)
-      | inr other ↦ grind (arith, nat_tests, common_steps)
-    ]
+    feed_fits f plain fits = by_test (is_digit f) fits
+      where
+        by_test : (digit : Bool)
+            → (if digit then nat_le 48 10 && nat_le 10 f else 10 == f) ≡ true → ⊥
+        by_test true fits = cc fits
+        by_test false fits = grind (arith, nat_tests, common_steps, plain, fits)
 
 -- octets of a form without a line feed have none
 formed_plain : (form octets : List ℕ) → IsLine form → are_formed form octets ≡ true

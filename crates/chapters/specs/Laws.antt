@@ -1,5 +1,5 @@
 -- The laws of a history in chapters, and of its seals.
-use Rattle.std.specs.Prelude.{◌≡◌, ◌≢◌, ◌⊎◌, ◌++◌, ℕ, true, List, [], Some, filter, not}
+use Rattle.std.specs.Prelude.{◌≡◌, ◌≢◌, ◌⊎◌, ◌++◌, ℕ, true, List, [], ◌∷◌, Some, filter, length, not}
 use Rattle.std.specs.List.{AllByRecursion, filter_map, flat_map}
 use Rattle.hex.specs.Hex.{encode_lower}
 use Rattle.sha2.specs.Sha256.{sha256}
@@ -15,7 +15,8 @@ use Rattle.chapters.specs.Lines.{request_in}
 use Rattle.chapters.specs.RowText.{CanBeSpelled}
 use Rattle.chapters.specs.ChapterReading.{HistoryRead, is_comment, is_none_left, read_history}
 use Rattle.chapters.specs.ChapterReading.{read_lines}
-use Rattle.chapters.specs.ChapterText.{history_texts, no_seal, rows_of_chapters}
+use Rattle.chapters.specs.ChapterText.{history_texts, no_seal, rows_of_chapters, seal_line}
+use Rattle.chapters.specs.ChapterText.{text_of_lines}
 
 -- the chapters are read, and what is read makes just these rows, replies included
 pub record TellsRows (site : List ℕ) (config : Configured) (texts : List (List ℕ))
@@ -60,21 +61,43 @@ pub record AreSealed (site : List ℕ) (texts : List (List ℕ)) (seal : List �
   pub ended : is_none_left reading ≡ true
   pub last : reading.seal ≡ seal
 
--- two lists of octets that differ, and have one SHA-256
-pub record Collision : Type 0 where
+-- These octets are a seal, or what stands for one, and a stretch of this text, behind which stands
+-- the line of their own seal: what the text has sealed.
+pub record IsSealed (octets text : List ℕ) : Type 0 where
+  pub before : List ℕ
+  pub seal : List ℕ
+  pub stretch : List ℕ
+  pub rest : List ℕ
+  pub octets_are : octets ≡ seal ++ stretch
+  pub size : length seal ≡ 64
+  pub text_is : text ≡ before
+      ++ (stretch ++ (text_of_lines (seal_line (encode_lower (sha256 octets)) ∷ []) ++ rest))
+
+-- one list of octets that the one text has sealed, and another one that the other has: they differ,
+-- and have one SHA-256
+pub record Collision (text another : List ℕ) : Type 0 where
   pub one : List ℕ
   pub other : List ℕ
+  pub sealed : IsSealed one text
+  pub sealed_too : IsSealed other another
   pub differ : one ≢ other
   pub same : sha256 one ≡ sha256 other
 
--- octets whose SHA-256 is 32 zeros: what stands for a seal before the first chapter
-pub record ZeroDigest : Type 0 where
+-- octets that this text has sealed, and whose SHA-256 is 32 zeros: what stands for a seal before the
+-- first chapter
+pub record ZeroDigest (text : List ℕ) : Type 0 where
   pub octets : List ℕ
+  pub sealed : IsSealed octets text
   pub zero : encode_lower (sha256 octets) ≡ no_seal
 
+-- what two texts with one last seal show of SHA-256
+abbrev pub BreaksDigests : List ℕ → List ℕ → Type 0
+BreaksDigests text another = Collision text another ⊎ (ZeroDigest text ⊎ ZeroDigest another)
+
 -- A seal is a seal. Of two histories that differ and end with one seal, two lists of octets that
--- differ and have one SHA-256 can be computed; or octets whose SHA-256 is zero.
+-- they have sealed, that differ and have one SHA-256, can be computed; or octets whose SHA-256 is
+-- zero.
 abbrev pub SealsBindTheirTexts : Type 0
 SealsBindTheirTexts = (site another : List ℕ) (texts others : List (List ℕ)) (seal : List ℕ)
     → AreSealed site texts seal → AreSealed another others seal
-    → octets_of texts ≢ octets_of others → Collision ⊎ ZeroDigest
+    → octets_of texts ≢ octets_of others → BreaksDigests (octets_of texts) (octets_of others)

@@ -204,6 +204,7 @@ impl HistoryReader {
             → Names self.old.site (length texts + 1) h.reading text.now fault) }
         ensures site { self.new.site ≡ self.old.site }
         ensures book { self.new.book ≡ self.old.book }
+        ensures time { self.new.end.time ≡ self.old.end.time }
         ensures chapters { OnOk result (self.new.end.chapters ≡ self.old.end.chapters + 1) }
         ensures begins { OnOk result (self.new.begin ≡ begin_of self.old.book) }
         ensures err { OnErr result (self.new ≡ self.old) }

@@ -52,7 +52,7 @@ impl HistoryEnd {
         ensures count { self.new.chapters ≡ self.old.chapters }
     {
         self.put_rows(alloc, book, from, now, text)?;
-        if is_due && !text.is_empty() {
+        if is_due && !text.is_empty() && !self.is_sealed() {
             self.put_seal(alloc, text)?;
         }
         Ok(())

@@ -5,6 +5,7 @@ use Rattle.std.specs.List.{AllByRecursion}
 use Rattle.site_base.specs.declared.row.Row.{Row}
 use Rattle.site_book.specs.Unpaid.{GoesBy, Kept}
 use Rattle.written_site.specs.SiteRun.{events_of}
+use Rattle.stamps.specs.Stamps.{is_before}
 use Rattle.station.specs.Moves.{StationState}
 use Rattle.station.specs.Reads.{owed_at}
 use Rattle.journal.specs.declared.memory.TheConstants.{LEAST_ROWS}
@@ -121,3 +122,8 @@ told_at s key = if is_all_stored s then owed_at s.station key else []
 -- the station has come so far, and its journal stays
 abbrev pub with_station : StationState → StoredState → StoredState
 with_station station s = record s { station = station }
+
+-- the clock is behind the last time that a history tells
+abbrev pub is_behind : Option (List ℕ) → Option (List ℕ) → Bool
+is_behind (Some time) (Some last) = is_before time last
+is_behind time last = false

@@ -8,7 +8,8 @@ ghost use Rattle.std.specs.List.{AllByRecursion};
 ghost use Rattle.chapters.specs.RowText.{IsSent, kept_behind};
 ghost use Rattle.journal.specs.ChapterEnds.{IsEnd, may_try, rows_kept};
 ghost use Rattle.journal.specs.Disks.{Keeps, OfFiles};
-ghost use Rattle.journal.specs.Stored.{GrowsByLines, HasBegun, IsJournalOf};
+ghost use Rattle.chapters.specs.Rounds.{time_behind};
+ghost use Rattle.journal.specs.Stored.{GrowsByLines, HasBegun, IsJournalOf, is_behind};
 
 use crate::disk::{Disk, DiskFault};
 use chapters::{ChapterBegin, HistoryEnd, MOST_CHAPTERS};
@@ -146,7 +147,8 @@ impl<D: Disk> Journal<D> {
     /// begins a second or more after the last one. It says whether the time is before the last one
     /// that the journal tells: that one is repeated then.
     pub(crate) fn begin_round(&mut self, clock: Option<Stamp>, at: Instant) -> bool
-        ensures { self.new ≡ record self.old { clock = clock; due = self.new.due } }
+        ensures round { self.new ≡ record self.old { clock = clock; due = self.new.due } }
+        ensures behind { result ≡ is_behind clock self.old.end.time }
     {
         let is_behind = is_behind(&clock, &self.end.time());
         self.is_due = match self.sealed_at {
@@ -173,6 +175,9 @@ impl<D: Disk> Journal<D> {
         ensures lines { OnOk result (GrowsByLines book.now.rows self.old self.new) }
         ensures quiet { kept_behind self.old.stored book.now.rows ≡ []
             → self.new.file ≡ self.old.file }
+        ensures time { OnOk result (self.new.end.time
+            ≡ time_behind self.old.end.time self.old.clock
+            (kept_behind self.old.stored book.now.rows)) }
         ensures sealed { self.old.due ≡ true → OnOk result
             (kept_behind self.old.stored book.now.rows ≢ [] → self.new.end.sealed ≡ true) }
         ensures few { self.old.end.rows < SEAL_ROWS
@@ -330,7 +335,9 @@ impl<D: Disk> Journal<D> {
 }
 
 /// Is this time before the last one?
-fn is_behind(time: &Option<Stamp>, last: &Option<Stamp>) -> bool {
+fn is_behind(time: &Option<Stamp>, last: &Option<Stamp>) -> bool
+    ensures { result ≡ is_behind time.now last.now }
+{
     match (time, last) {
         (Some(time), Some(last)) => time.is_before(last),
         _ => false,

@@ -183,6 +183,7 @@ impl<D: Disk> StoredStation<D> {
     pub fn begin_round(&mut self, clock: Option<Stamp>, at: Instant) -> bool
         ensures station { self.new.station ≡ self.old.station }
         ensures stored { is_all_stored self.new ≡ is_all_stored self.old }
+        ensures clock { IfSome self.new.journal (λ j. j.clock ≡ clock) }
         ensures journal { JournalGoesOn self.old.journal self.new.journal }
     {
         match &mut self.journal {
@@ -196,6 +197,7 @@ impl<D: Disk> StoredStation<D> {
     pub fn seal(&mut self) -> Result<(), DiskFault>
         ensures station { self.new.station ≡ self.old.station }
         ensures stored { is_all_stored self.new ≡ is_all_stored self.old }
+        ensures sealed { OnOk result (IfSome self.new.journal (λ j. j.end.sealed ≡ true)) }
         ensures journal { JournalGoesOn self.old.journal self.new.journal }
     {
         match &mut self.journal {

@@ -163,11 +163,12 @@ impl<D: Disk> Connections<D> {
         ensures moves { Reaches self.old.stored.station self.new.stored.station }
         ensures station { self.new.stored.station ≡ self.old.stored.station }
         ensures stored { is_all_stored self.new.stored ≡ is_all_stored self.old.stored }
+        ensures clock { IfSome self.new.stored.journal (λ j. j.clock ≡ clock) }
     {
         let is_behind = self.stored.begin_round(clock, now);
         if is_behind && !self.has_told_clock {
             self.has_told_clock = true;
-            let _ = eprintln!(rt; "the clock went back: rows have the last time until it is later");
+            let _ = eprintln!(rt; "the clock is behind the history: rows have its last time until it is ahead");
         }
     }
 
@@ -476,6 +477,8 @@ impl<D: Disk> Connections<D> {
         ensures moves { Reaches self.old.stored.station self.new.stored.station }
         ensures left { HasNoPeer self.new.stored.station }
         ensures stored { OnOk result (is_all_stored self.new.stored ≡ true) }
+        ensures sealed { OnOk result
+            (IfSome self.new.stored.journal (λ j. j.end.sealed ≡ true)) }
     {
         self.finish_all();
         let stored = self.store();

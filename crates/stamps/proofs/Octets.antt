@@ -6,16 +6,16 @@ use Rattle.std.proofs.lemmas.Bool.Decides.{nat_tests}
 use Rattle.std.proofs.lemmas.Str.Ascii.{IsAscii-cons, IsAscii-nil}
 use Rattle.std.specs.Prelude.{if◌then◌else◌, nat_le}
 use Rattle.std.specs.List.{list_all}
-use Rattle.stamps.specs.Stamps.{are_formed, is_formed, is_stamp, stamp_form}
+use Rattle.stamps.specs.Stamps.{are_formed, is_digit, is_formed, is_stamp, stamp_form}
 
 -- an octet that a form allows is ASCII, if the form is
 formed_low : (form octet : ℕ) → nat_lt form 128 ≡ true → is_formed form octet ≡ true → octet < 128
-formed_low form octet low formed = by_test (form == 48) refl formed
+formed_low form octet low formed = by_test (is_digit form) refl formed
   where
-    by_test : (digit : Bool) → form == 48 ≡ digit
-        → (if digit then nat_le 48 octet && nat_le octet 57 else octet == form) ≡ true
+    by_test : (digit : Bool) → is_digit form ≡ digit
+        → (if digit then nat_le 48 octet && nat_le octet form else octet == form) ≡ true
         → octet < 128
-    by_test true is formed = grind (arith, nat_tests, formed)
+    by_test true is formed = grind (arith, nat_tests, formed, low)
     by_test false is formed = grind (arith, nat_tests, formed, low)
 
 formed_ascii : (form octets : List ℕ) → list_all (λ b. nat_lt b 128) form ≡ true

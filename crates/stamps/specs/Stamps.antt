@@ -3,13 +3,17 @@ use Rattle.std.specs.Prelude.{ℕ, Bool, true, false, ◌&&◌, ◌==◌, List, 
 use Rattle.std.specs.Prelude.{nat_le, nat_lt, not, Option, Some, None, if◌then◌else◌}
 use Rattle.std.specs.List.{starts_with}
 
--- the form of a time, UTC in milliseconds; 0 stands for any digit
+-- the form of a time, UTC in milliseconds; a digit stands for any one up to it
 abbrev pub stamp_form : List ℕ
-stamp_form = codes "0000-00-00T00:00:00.000Z"
+stamp_form = codes "9999-19-39T29:59:59.999Z"
+
+abbrev pub is_digit : ℕ → Bool
+is_digit octet = nat_le 48 octet && nat_le octet 57
 
 -- the octet is one that the form allows here
 abbrev pub is_formed : ℕ → ℕ → Bool
-is_formed form octet = if form == 48 then nat_le 48 octet && nat_le octet 57 else octet == form
+is_formed form octet =
+    if is_digit form then nat_le 48 octet && nat_le octet form else octet == form
 
 -- octets have a form
 abbrev pub are_formed : List ℕ → List ℕ → Bool

@@ -9,8 +9,8 @@ use jiff::Timestamp;
 use std::alloc::{AllocError, Global};
 use std::marker::Model;
 
-/// The form of a stamp; 0 stands for any digit.
-const STAMP_FORM: &[u8; 24] = b"0000-00-00T00:00:00.000Z";
+/// The form of a stamp; a digit stands for any one up to it.
+const STAMP_FORM: &[u8; 24] = b"9999-19-39T29:59:59.999Z";
 
 /// What the line of a stamp begins with.
 pub const AT_MARK: &[u8] = b"# at ";
@@ -166,8 +166,8 @@ fn are_formed(form: &[u8], octets: &[u8]) -> bool
 fn is_formed(form: u8, octet: u8) -> bool
     ensures { result ≡ is_formed form octet }
 {
-    if form == b'0' {
-        octet.is_ascii_digit()
+    if form.is_ascii_digit() {
+        b'0' <= octet && octet <= form
     } else {
         octet == form
     }
