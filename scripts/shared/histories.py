@@ -61,6 +61,12 @@ def read_chapters(folder):
     return b"".join(path.read_bytes() for path in list_chapters(folder))
 
 
+def find_last_seal(folder):
+    """The last seal that a history's chapters have; without one what the first chapter is after."""
+    lines = whole_lines(read_chapters(folder)).decode().splitlines()
+    return [NO_SEAL, *(line[7:] for line in lines if line.startswith("# seal "))][-1]
+
+
 def write_history(folder, site, *texts):
     """Makes the folder of a history of this site file, whose chapters have these texts. What was
     in the folder before is removed."""

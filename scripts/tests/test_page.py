@@ -25,14 +25,14 @@ from shared.browser import (
     SCREEN, SOON, TELEPHONE, WIDE, expect_words, find_browser, open_page, read_tile, start_browser,
 )  # fmt: skip
 from shared.checks import Failed, Skipped, expect
-from shared.histories import count_rows, read_chapters, retitle
+from shared.histories import NO_SEAL, count_rows, find_last_seal, read_chapters, retitle
 from shared.page_day import connect, end_day, read_answer, write_request
 from shared.running import EXAMPLES, SCRIPTS, compile_c, run
 from shared.serving import list_addresses, wait_until
 from shared.station import (
-    CLEAR, CLOSE, FIVE_POINTS, FLOW, HANG_UP, KNOWN_SITE, LIFT, LOCK, OPEN, RELEASE, SITE,
-    TILL, WRITE, address_point, command_point, command_sale, decode, encode, is_accepted,
-    read_point, receive_all, report, sign_on, write_report,
+    CLEAR, CLOSE, CLOSE_SHIFT, FIVE_POINTS, FLOW, HANG_UP, KNOWN_SITE, LIFT, LOCK, OPEN, RELEASE,
+    SITE, TILL, WRITE, address_point, ask_site, command_point, command_sale, decode, encode,
+    is_accepted, read_point, receive_all, report, sign_on, write_report,
 )  # fmt: skip
 from tests.built import PROGRAM
 from tests.suite import make_folder, test, test_beside
@@ -48,6 +48,7 @@ MOST_PEERS = 64
 MOST_IN_BOOK = 1_024  # rows
 # Seconds after which a silent peer is left: 10 to 12, and one for a machine that is busy.
 LEFT_AFTER = (10, 13)
+SEALED_AFTER = 1.1  # seconds since the last seal, after which a row is sealed at once
 READS = 2_000  # of a till, beside which the page is asked
 SLOW = 0.02  # seconds: half of a till's replies come sooner
 STATES = (
@@ -85,6 +86,9 @@ def each_path_and_method():
         expect("with a query", page.get("/site.json?x=1")[2], body)
         for path in ("/nothing", "/site.json/", "/../site.json", "//"):
             expect(path, page.get(path)[0], 404)
+        for method in ("GET", "HEAD"):
+            answers = [page.get(path, method) for path in ("/seal", "/nothing")]
+            expect("no seal without a history", answers[0], answers[1])
         for method in ("POST", "PUT", "DELETE", "OPTIONS", "PATCH", "CONNECT"):
             status, fields, body = page.get("/", method)
             expect(method, (status, fields["allow"], body), (405, "GET, HEAD", b""))
@@ -458,6 +462,38 @@ def rows_of_the_history():
         expect("lines", count_rows(read_chapters(folder)), READS + 1)
         if told < 10:
             raise Failed(f"the page was asked {told} times")
+
+
+@test
+def the_last_seal():
+    """`/seal` is the last seal on the disk: of no row, of the first one, of a row more than a
+    second later, of a closed shift, and after a start. `verify` finds each of these."""
+    folder, seals = HERE / "sealed", []
+    with start_page("--history", str(folder), till=None) as page:
+        expect("of no row", read_seal(page, folder), NO_SEAL)
+        page.tell(sign_on(1))
+        read_seal(page, folder)
+        for asked in (command_point(1, 0, 1, OPEN), ask_site(1, CLOSE_SHIFT, 0)):
+            time.sleep(SEALED_AFTER)
+            expect("accepted", is_accepted(page.tell(asked)), True)
+            seals.append(read_seal(page, folder))
+    with start_page("--history", str(folder), till=None) as page:
+        seals.append(read_seal(page, folder))
+    expect("they differ", len({NO_SEAL, *seals}), 4)
+    for seal in seals:
+        found = run(PROGRAM, "verify", folder, "--seal", seal)
+        said = f"seal {seal} is that of chapter "
+        expect("verify", (found.status, said in found.out.decode()), (0, True))
+
+
+def read_seal(page, folder):
+    """What `/seal` is answered: the last seal on the disk, as a line of text."""
+    status, fields, body = page.get("/seal")
+    expect("the seal", (status, fields["content-type"]), (200, "text/plain; charset=utf-8"))
+    expect("not kept", fields["cache-control"], "no-store")
+    expect("on the disk", body.decode(), find_last_seal(folder) + "\n")
+    expect("its HEAD", page.get("/seal", "HEAD"), (200, fields, b""))
+    return body.decode().removesuffix("\n")
 
 
 def name_sale(point, product, mills, cents, **more):

@@ -68,7 +68,7 @@ impl PageLink {
     /// Has its turn: it sends what it owes, and answers what its peer asks by this page. After
     /// `NoMemory` it is to be closed.
     pub(crate) fn take_turn(&mut self, page: &Page, now: Instant) -> Result<Progress, NoMemory>
-        ensures { OnOk result (AreAnswered page.now.site (calls_of self.old) (calls_of self.new)) }
+        ensures { OnOk result (AreAnswered page.now (calls_of self.old) (calls_of self.new)) }
     {
         for _ in 0..CALLS_A_TURN {
             match self.go_on(page, now)? {
@@ -81,7 +81,7 @@ impl PageLink {
 
     /// Takes one step.
     fn go_on(&mut self, page: &Page, now: Instant) -> Result<Progress, NoMemory>
-        ensures { OnOk result (AreAnswered page.now.site (calls_of self.old) (calls_of self.new)) }
+        ensures { OnOk result (AreAnswered page.now (calls_of self.old) (calls_of self.new)) }
     {
         if self.connection.owes() {
             return Ok(self.send(now));

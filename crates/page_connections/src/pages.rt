@@ -1,9 +1,10 @@
 //! The page's listener, and its connections.
 
-ghost use Rattle.std.specs.Prelude.{◌≡◌, IfOk};
+ghost use Rattle.std.specs.Prelude.{◌≡◌, IfOk, option_map};
 ghost use Rattle.serde_json.specs.Written.{compact_text};
 ghost use Rattle.site_json.specs.SiteData.{site_data};
 ghost use Rattle.site_book.specs.Unpaid.{unpaid_sales};
+ghost use Rattle.site_page.specs.PageAnswers.{seal_line};
 
 use crate::page_link::{PageLink, Progress};
 use crate::sizes::PAGE_CONNECTIONS;
@@ -93,19 +94,21 @@ impl Pages {
     }
 
     /// Each connection that is ready has its turn with the page of the book, of which these are
-    /// the unpaid transactions. `connections` is how many peers the station has.
+    /// the unpaid transactions. `connections` is how many peers the station has, `seal` the last
+    /// seal of its history.
     pub fn answer_due(
         &mut self,
         registry: &Registry,
         book: &SiteBook,
         unpaid: &[NamedSale],
         connections: usize,
+        seal: Option<&str>,
         now: Instant,
     )
         requires { unpaid.now ≡ unpaid_sales book.now }
     {
         self.is_due = false;
-        match page_of(self.alloc, book, unpaid, connections) {
+        match page_of(self.alloc, book, unpaid, connections, seal) {
             Ok(page) => self.take_turns(registry, &page, now),
             Err(NoMemory) => self.close_due(),
         }
@@ -201,18 +204,21 @@ impl Pages {
     }
 }
 
-/// The page of a book with these unpaid transactions, and with so many connections.
+/// The page of a book with these unpaid transactions, so many connections and this last seal.
 fn page_of(
     alloc: Global,
     book: &SiteBook,
     unpaid: &[NamedSale],
     connections: usize,
+    seal: Option<&str>,
 ) -> Result<Page, NoMemory>
     requires { unpaid.now ≡ unpaid_sales book.now }
-    ensures { IfOk result (λ page. page.site
+    ensures site { IfOk result (λ page. page.site
         ≡ compact_text (site_data book.now (unpaid_sales book.now) connections)) }
+    ensures seal { IfOk result (λ page.
+        page.seal ≡ seal_line (option_map (λ s. s.now) seal.entry)) }
 {
-    Page::of_book(alloc, book, unpaid, connections)
+    Page::of_book(alloc, book, unpaid, connections, seal)
 }
 
 /// Closes a connection, if there is one.

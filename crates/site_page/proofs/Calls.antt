@@ -14,25 +14,25 @@ use Rattle.site_page.specs.PageAnswers.{IsPageAnswer}
 
 -- how a page answers: it stays as it was
 abbrev pub answers : Page → Request (List ℕ) → Response → Page → Type 0
-answers old request response new = IsPageAnswer old.site request response × (new ≡ old)
+answers old request response new = IsPageAnswer old request response × (new ≡ old)
 
 all_answered : (calls : List Call) (old new : Page) → Chain answers old calls new
-    → All (λ c. IsPageAnswer old.site c.0 c.1) calls
-all_answered [] old new chain = All-nil (λ (c : Call). IsPageAnswer old.site c.0 c.1)
+    → All (λ c. IsPageAnswer old c.0 c.1) calls
+all_answered [] old new chain = All-nil (λ (c : Call). IsPageAnswer old c.0 c.1)
 all_answered (c ∷ calls) old new chain =
-    All-cons (λ (k : Call). IsPageAnswer old.site k.0 k.1) c calls chain.1.0
-    (subst (λ (p : Page). All (λ (k : Call). IsPageAnswer p.site k.0 k.1) calls) chain.1.1
+    All-cons (λ (k : Call). IsPageAnswer old k.0 k.1) c calls chain.1.0
+    (subst (λ (p : Page). All (λ (k : Call). IsPageAnswer p k.0 k.1) calls) chain.1.1
     (all_answered calls chain.0 new chain.2))
 
 calls_answered : (old new : Page) (before after : List Call)
-    → Calls answers old new before after → AreAnswered old.site before after
+    → Calls answers old new before after → AreAnswered old before after
 calls_answered old new before after calls =
     (calls.0, calls.1, all_answered calls.0 old new calls.2)
 
 -- where there are no more calls, all are answered
-pub none_answered : (site : List ℕ) (calls : List Call) → AreAnswered site calls calls
-none_answered site calls =
-    ([], sym (append-nil calls), All-nil (λ (c : Call). IsPageAnswer site c.0 c.1))
+pub none_answered : (page : Page) (calls : List Call) → AreAnswered page calls calls
+none_answered page calls =
+    ([], sym (append-nil calls), All-nil (λ (c : Call). IsPageAnswer page c.0 c.1))
 
 -- where nothing came, nothing is heard
 pub none_heard : (octets : List ℕ) (h : History) → IsHeard octets 0 h h
@@ -55,9 +55,9 @@ read_heard octets rest more count old new parts long after = record {
       ∙ ap (take count) (sym parts));
 }
 
--- each call is answered by the page with this site, of which the page has a copy
-pub answered_by : (site : List ℕ) (old new : Page) (before after : List Call) → old.site ≡ site
-    → Calls answers old new before after → AreAnswered site before after
-answered_by site old new before after is calls =
-    subst (λ (s : List ℕ). AreAnswered s before after) is
+-- each call is answered by this page, of which the one that answers is a copy
+pub answered_by : (page old new : Page) (before after : List Call) → old ≡ page
+    → Calls answers old new before after → AreAnswered page before after
+answered_by page old new before after is calls =
+    subst (λ (p : Page). AreAnswered p before after) is
     (calls_answered old new before after calls)

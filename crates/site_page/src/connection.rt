@@ -48,7 +48,7 @@ impl PageConnection {
     pub fn hear(&mut self, octets: &[u8], page: &Page) -> Result<usize, NoMemory>
         ensures heard { IfOk result (λ count.
             IsHeard octets.now count (history self.old) (history self.new)) }
-        ensures answers { IfOk result (λ count. AreAnswered page.now.site
+        ensures answers { IfOk result (λ count. AreAnswered page.now
             (history self.old).calls (history self.new).calls) }
         ensures limits { limits_of self.new ≡ limits_of self.old }
     {
@@ -118,13 +118,11 @@ impl PageConnection {
     fn answer(&mut self, page: &Page) -> Result<(), NoMemory>
         ensures received { OnOk result
             ((history self.new).received ≡ (history self.old).received) }
-        ensures answers { OnOk result (AreAnswered page.now.site
+        ensures answers { OnOk result (AreAnswered page.now
             (history self.old).calls (history self.new).calls) }
         ensures limits { limits_of self.new ≡ limits_of self.old }
     {
-        let mut shared = Page {
-            site: page.site.clone()?,
-        };
+        let mut shared = page.share()?;
         self.connection.advance(&mut shared);
         Ok(())
     }

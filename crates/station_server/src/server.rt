@@ -236,6 +236,7 @@ impl StationServer {
                     connections.book(),
                     connections.unpaid(),
                     connections.count(),
+                    connections.last_seal(),
                     self.time,
                 ),
                 Err(_) => pages.close_due(),

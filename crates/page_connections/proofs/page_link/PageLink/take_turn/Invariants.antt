@@ -3,4 +3,4 @@ use Rattle.page_connections.specs.Pages.{calls_of}
 use Rattle.page_connections.proofs.page_link.PageLink.take_turn.Given as goal
 
 abbrev pub invariant-loop : goal.invariant-loop
-invariant-loop l = AreAnswered l.fn.page.site (calls_of l.fn.self) (calls_of l.self)
+invariant-loop l = AreAnswered l.fn.page (calls_of l.fn.self) (calls_of l.self)
