@@ -49,7 +49,7 @@ def with_unknown_times(word, words, told):
     if word != "sales" or "--draws" in words:
         return told
     if "--json" in words:
-        sales = [{**json.loads(line), "sold_at": None, "cleared_at": None} for line in lines]
+        sales = [{**json.loads(line), "sold at": None, "cleared at": None} for line in lines]
         lines = [json.dumps(one, sort_keys=True, separators=(",", ":")) for one in sales]
     else:
         lines = [line + more for line, more in zip(lines, [TIME_TITLES] + [",,"] * len(lines))]
@@ -403,7 +403,7 @@ def read_sales(folder, *words):
     }  # fmt: skip
     objects = list(map(json.loads, print_of(folder, "sales", "--json", *words).splitlines()))
     expect("as JSON", [(one["shift"], one["number"]) for one in objects], list(sales))
-    times = [(one["sold_at"], one["cleared_at"]) for one in objects]
+    times = [(one["sold at"], one["cleared at"]) for one in objects]
     expect("the times as JSON", times, list(sales.values()))
     return sales
 

@@ -168,7 +168,9 @@ impl<D: Disk> Connections<D> {
         let is_behind = self.stored.begin_round(clock, now);
         if is_behind && !self.has_told_clock {
             self.has_told_clock = true;
-            let _ = eprintln!(rt; "the clock is behind the history: rows have its last time until it is ahead");
+            let _ = eprintln!(rt;
+                "the clock is behind the history: rows have its last time until it is ahead"
+            );
         }
     }
 

@@ -42,8 +42,8 @@ sale_data products x = object (sale_members products x)
 abbrev pub timed_data : List ProductEntry → TimedSale → NamedSale → Data
 timed_data products t x =
     object
-    (put (codes "sold_at") (time_if t.sold_at)
-    (put (codes "cleared_at") (time_if t.cleared_at) (sale_members products x)))
+    (put (codes "sold at") (time_if t.sold_at)
+    (put (codes "cleared at") (time_if t.cleared_at) (sale_members products x)))
 
 abbrev pub draw_data : List ProductEntry → Draw → Data
 draw_data products x =

@@ -94,8 +94,8 @@ fn timed_value(
     let Value::Object(mut members) = sale_value(alloc, products, sold)? else {
         unreachable!();
     };
-    put_time(alloc, &mut members, "cleared_at", &times.cleared_at)?;
-    put_time(alloc, &mut members, "sold_at", &times.sold_at)?;
+    put_time(alloc, &mut members, "cleared at", &times.cleared_at)?;
+    put_time(alloc, &mut members, "sold at", &times.sold_at)?;
     Ok(Value::Object(members))
 }
 
