@@ -48,6 +48,7 @@ MOST_PEERS = 64
 MOST_IN_BOOK = 1_024  # rows
 # Seconds after which a silent peer is left: 10 to 12, and one for a machine that is busy.
 LEFT_AFTER = (10, 13)
+SEAL_SHOWN = 12  # digits of the last seal that the page says
 SEALED_AFTER = 1.1  # seconds since the last seal, after which a row is sealed at once
 READS = 2_000  # of a till, beside which the page is asked
 SLOW = 0.02  # seconds: half of a till's replies come sooner
@@ -116,7 +117,7 @@ def asks_nothing_of_others():
 
 
 # The members of site.json, and of what is in it.
-SITE_MEMBERS = ["connections", "points", "products", "rows", "shift", "tills",
+SITE_MEMBERS = ["connections", "points", "products", "rows", "seal", "shift", "tills",
                 "transactions"]  # fmt: skip
 POINT = ["fuelling", "holder", "nozzle", "number", "product", "state", "state name"]
 FUELLING = ["cents", "ending", "millilitres", "mills", "prepaid", "preset cents",
@@ -144,6 +145,7 @@ def members_of_the_site():
         expect("points", [point["number"] for point in site["points"]], list(range(1, 65)))
         expect("tills", [till["number"] for till in site["tills"]], list(range(1, 33)))
         expect("connections", site["connections"], 96)
+        expect("no seal without a history", site["seal"], None)
         for point in site["points"]:
             expect("fuelling", list(point["fuelling"]), FUELLING)
             expect("state", point["state name"], STATES[point["state"] - 1])
@@ -493,6 +495,7 @@ def read_seal(page, folder):
     expect("not kept", fields["cache-control"], "no-store")
     expect("on the disk", body.decode(), find_last_seal(folder) + "\n")
     expect("its HEAD", page.get("/seal", "HEAD"), (200, fields, b""))
+    expect("in site.json", page.site()["seal"] + "\n", body.decode())
     return body.decode().removesuffix("\n")
 
 
@@ -692,6 +695,22 @@ def a_day_at_a_point():
         till = browser.evaluate("document.querySelector('#tills span').textContent")
         expect("the till", till, "till 1 on, 1 for 15.00")
         expect("complaints of the browser", browser.complaints, [])
+
+
+@test
+@in_browser
+def the_last_seal_on_the_page():
+    """The page says the first digits of the last seal, and its title all of them; without a history
+    it says nothing of seals."""
+    said = "[document.getElementById('seal').textContent, document.getElementById('seal').title]"
+    for words in ([], ["--history", str(HERE / "sealed-page")]):
+        with start_page(*words) as page, start_browser() as browser:
+            browser.open(page.url, *SCREEN)
+            expect_words(browser, 1, "closed")
+            seal = page.site()["seal"]
+            wanted = [f"last seal {seal[:SEAL_SHOWN]}", seal] if words else ["", ""]
+            expect("the seal", browser.evaluate(said), wanted)
+            expect("complaints of the browser", browser.complaints, [])
 
 
 @test_beside

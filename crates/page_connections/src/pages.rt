@@ -1,6 +1,6 @@
 //! The page's listener, and its connections.
 
-ghost use Rattle.std.specs.Prelude.{◌≡◌, IfOk, option_map};
+ghost use Rattle.std.specs.Prelude.{◌≡◌, IfOk, option_copied};
 ghost use Rattle.serde_json.specs.Written.{compact_text};
 ghost use Rattle.site_json.specs.SiteData.{site_data};
 ghost use Rattle.site_book.specs.Unpaid.{unpaid_sales};
@@ -213,10 +213,9 @@ fn page_of(
     seal: Option<&str>,
 ) -> Result<Page, NoMemory>
     requires { unpaid.now ≡ unpaid_sales book.now }
-    ensures site { IfOk result (λ page. page.site
-        ≡ compact_text (site_data book.now (unpaid_sales book.now) connections)) }
-    ensures seal { IfOk result (λ page.
-        page.seal ≡ seal_line (option_map (λ s. s.now) seal.entry)) }
+    ensures site { IfOk result (λ page. page.site ≡ compact_text
+        (site_data book.now (unpaid_sales book.now) connections (option_copied seal.entry))) }
+    ensures seal { IfOk result (λ page. page.seal ≡ seal_line (option_copied seal.entry)) }
 {
     Page::of_book(alloc, book, unpaid, connections, seal)
 }

@@ -1,8 +1,6 @@
 -- No number of a site is a float.
-use Rattle.std.proofs.Common.{◌≡◌, ℕ, Bool, false, List, [], ◌∷◌, ◌++◌, Option, Some, None, map}
+use Rattle.std.proofs.Common.{◌≡◌, ℕ, false, List, [], ◌∷◌, Option, Some, None}
 use Rattle.std.proofs.Common.{refl}
-use Rattle.std.specs.Prelude.{flat_map}
-use Rattle.serde_json.specs.Data.{Data}
 use Rattle.serde_json.specs.View.{items_of}
 use Rattle.serde_json.specs.Written.{has_float, items_have_float}
 use Rattle.site_base.specs.declared.config.PointEntry.{PointEntry}
@@ -12,7 +10,7 @@ use Rattle.written_site.specs.ShiftFigures.{product_totals, tills}
 use Rattle.written_site.specs.SiteState.{SiteState, view_point}
 use Rattle.site_book.specs.declared.named_sale.NamedSale.{NamedSale}
 use Rattle.site_book.specs.Book.{Book, site_of_book}
-use Rattle.site_json.specs.Figures.{figure_if}
+use Rattle.site_json.specs.Figures.{figure_if, text_if}
 use Rattle.site_json.specs.Points.{cents_so_far, fuelling_data, point_data, points_data}
 use Rattle.site_json.specs.Points.{preset_cents, preset_millilitres, product_out}
 use Rattle.site_json.specs.SiteData.{site_data}
@@ -23,6 +21,10 @@ use Rattle.day_report.proofs.NoFloats.{no_float_mapped, no_float_products}
 no_float_if : (o : Option ℕ) → has_float (figure_if o) ≡ false
 no_float_if None = refl
 no_float_if (Some n) = refl
+
+no_float_text : (o : Option (List ℕ)) → has_float (text_if o) ≡ false
+no_float_text None = refl
+no_float_text (Some text) = refl
 
 no_float_fuelling : (v : PointView) → has_float (fuelling_data v) ≡ false
 no_float_fuelling v =
@@ -58,10 +60,11 @@ no_float_transaction x =
     rw (no_float_if x.sale.prepaid, no_float_if (till_of x.sale.standing)) refl
 
 pub no_float_site : (b : Book) (unpaid : List NamedSale) (connections : ℕ)
-    → has_float (site_data b unpaid connections) ≡ false
-no_float_site b unpaid connections =
+    (seal : Option (List ℕ)) → has_float (site_data b unpaid connections seal) ≡ false
+no_float_site b unpaid connections seal =
     let s : SiteState = site_of_book b in
     rw (
+      no_float_text seal,
       no_float_points s b.config.points,
       no_float_products b.config.products (product_totals s),
       no_float_mapped (till_data s) tills (λ t. refl),

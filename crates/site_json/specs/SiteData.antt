@@ -1,6 +1,6 @@
 -- A site as JSON: what stands at its points, in its products, at its tills and unpaid. Members
 -- stand in the order of their names.
-use Rattle.std.specs.Prelude.{ℕ, List, codes, length}
+use Rattle.std.specs.Prelude.{ℕ, List, Option, codes, length}
 use Rattle.serde_json.specs.Data.{Data, object, member, no_members}
 use Rattle.site_book.specs.declared.named_sale.NamedSale.{NamedSale}
 use Rattle.site_book.specs.Book.{Book, site_of_book}
@@ -8,28 +8,32 @@ use Rattle.written_site.specs.ShiftFigures.{product_totals}
 use Rattle.written_site.specs.SiteState.{open_shift}
 use Rattle.day_report.specs.Figures.{figure, listed}
 use Rattle.kept_history.specs.KeptRows.{kept_rows}
+use Rattle.site_json.specs.Figures.{text_if}
 use Rattle.site_json.specs.Points.{points_data}
 use Rattle.day_report.specs.Products.{products_data}
 use Rattle.site_json.specs.Tills.{tills_data}
 use Rattle.site_json.specs.Transactions.{transactions_data}
 
--- a book's figures, with so many connections, and with these lists of what stands at its site
-abbrev pub whole_data : Book → ℕ → Data → Data → Data → Data → Data
-whole_data b connections points products tills transactions =
+-- a book's figures, with so many connections, this last seal of its history, and with these lists
+-- of what stands at its site
+abbrev pub whole_data : Book → ℕ → Data → Data → Data → Data → Data → Data
+whole_data b connections seal points products tills transactions =
     object
     (member (codes "connections") (figure connections)
     (member (codes "points") points
     (member (codes "products") products
     (member (codes "rows") (figure (length (kept_rows b.rows)))
+    (member (codes "seal") seal
     (member (codes "shift") (figure (open_shift (site_of_book b)))
     (member (codes "tills") tills
     (member (codes "transactions") transactions
-    no_members)))))))
+    no_members))))))))
 
--- the site of a book, with these transactions and so many connections
-abbrev pub site_data : Book → List NamedSale → ℕ → Data
-site_data b unpaid connections =
-    whole_data b connections
+-- the site of a book, with these transactions, so many connections, and the last seal of its
+-- history, if there is one
+abbrev pub site_data : Book → List NamedSale → ℕ → Option (List ℕ) → Data
+site_data b unpaid connections seal =
+    whole_data b connections (text_if seal)
     (listed (points_data (site_of_book b) b.config.points))
     (listed (products_data b.config.products (product_totals (site_of_book b))))
     (listed (tills_data (site_of_book b)))

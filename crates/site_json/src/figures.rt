@@ -1,10 +1,11 @@
-//! Numbers that may be missing.
+//! Numbers and texts that may be missing.
 
-ghost use Rattle.std.specs.Prelude.{◌≡◌};
+ghost use Rattle.std.specs.Prelude.{◌≡◌, IfOk, option_copied};
 ghost use Rattle.serde_json.specs.View.{view};
-ghost use Rattle.site_json.specs.Figures.{figure_if};
+ghost use Rattle.site_json.specs.Figures.{figure_if, text_if};
 
 use serde_json::Value;
+use std::alloc::{AllocError, Global};
 
 /// A number; without one null.
 pub fn figure_if(figure: Option<u64>) -> Value
@@ -13,6 +14,16 @@ pub fn figure_if(figure: Option<u64>) -> Value
     match figure {
         Some(n) => Value::from(n),
         None => Value::Null,
+    }
+}
+
+/// A text; without one null.
+pub fn text_if(alloc: Global, text: Option<&str>) -> Result<Value, AllocError>
+    ensures { IfOk result (λ value. view value ≡ text_if (option_copied text.entry)) }
+{
+    match text {
+        Some(text) => Ok(Value::String(String::from_str(alloc, text)?)),
+        None => Ok(Value::Null),
     }
 }
 

@@ -1,6 +1,6 @@
 //! The site as JSON.
 
-ghost use Rattle.std.specs.Prelude.{◌≡◌, IfOk, string_bytes};
+ghost use Rattle.std.specs.Prelude.{◌≡◌, IfOk, option_copied, string_bytes};
 ghost use Rattle.serde_json.specs.View.{view};
 ghost use Rattle.serde_json.specs.Written.{compact_text};
 ghost use Rattle.site_book.specs.Book.{site_of_book};
@@ -10,6 +10,7 @@ ghost use Rattle.site_json.specs.Points.{points_data};
 ghost use Rattle.day_report.specs.Products.{products_data};
 ghost use Rattle.site_json.specs.SiteData.{site_data, whole_data};
 
+use crate::figures::text_if;
 use crate::points::point_values;
 use crate::tills::till_values;
 use crate::transactions::transaction_values;
@@ -20,16 +21,20 @@ use site_book::{NamedSale, SiteBook};
 use std::alloc::{AllocError, Global};
 
 /// The site of a book: its points, its products with the figures of a read, its tills with their
-/// clears in the open shift, that shift, how many rows there are and may be; with these
-/// transactions, which the caller has found unpaid, and so many connections.
+/// clears in the open shift, that shift, how many rows there are; with these transactions, which
+/// the caller has found unpaid, so many connections, and the last seal of its history, if there is
+/// one.
 pub fn site_value(
     alloc: Global,
     book: &SiteBook,
     unpaid: &[NamedSale],
     connections: usize,
+    seal: Option<&str>,
 ) -> Result<Value, NoMemory>
-    ensures { IfOk result (λ value. view value ≡ site_data book.now unpaid.now connections) }
+    ensures { IfOk result (λ value. view value
+        ≡ site_data book.now unpaid.now connections (option_copied seal.entry)) }
 {
+    let seal = text_if(alloc, seal)?;
     let points = points_value(alloc, book)?;
     let products = products_value(alloc, book)?;
     let tills = Value::Array(till_values(alloc, book)?);
@@ -38,6 +43,7 @@ pub fn site_value(
         alloc,
         book,
         connections,
+        seal,
         points,
         products,
         tills,
@@ -51,25 +57,28 @@ pub fn site_text(
     book: &SiteBook,
     unpaid: &[NamedSale],
     connections: usize,
+    seal: Option<&str>,
 ) -> Result<String, NoMemory>
-    ensures { IfOk result (λ text.
-        string_bytes text ≡ compact_text (site_data book.now unpaid.now connections)) }
+    ensures { IfOk result (λ text. string_bytes text ≡ compact_text
+        (site_data book.now unpaid.now connections (option_copied seal.entry))) }
 {
-    Ok(site_value(alloc, book, unpaid, connections)?.to_string(alloc)?)
+    Ok(site_value(alloc, book, unpaid, connections, seal)?.to_string(alloc)?)
 }
 
-/// The book's figures, with so many connections, and with these lists of what stands at its site.
+/// The book's figures, with so many connections, this last seal, and with these lists of what
+/// stands at its site.
 fn whole_value(
     alloc: Global,
     book: &SiteBook,
     connections: usize,
+    seal: Value,
     points: Value,
     products: Value,
     tills: Value,
     transactions: Value,
 ) -> Result<Value, AllocError>
     ensures { IfOk result (λ value. view value ≡ whole_data book.now connections
-        (view points) (view products) (view tills) (view transactions)) }
+        (view seal) (view points) (view products) (view tills) (view transactions)) }
 {
     let rows = book.kept_len();
     let shift = book.open_shift().get();
@@ -78,6 +87,7 @@ fn whole_value(
         "points": points,
         "products": products,
         "rows": rows,
+        "seal": seal,
         "shift": shift,
         "tills": tills,
         "transactions": transactions

@@ -97,6 +97,7 @@ main{display:block}article,.many article{margin:4px 0;padding:5px 8px}
 </head>
 <body>
 <header><h1>Forecourt</h1><span id="shift"></span><span id="rows"></span><span id="peers"></span>
+<span id="seal"></span>
 <span id="state" role="status">no answer yet</span></header>
 <noscript>This page needs JavaScript.</noscript>
 <main id="points" aria-label="fuelling points"></main>
@@ -105,7 +106,7 @@ main{display:block}article,.many article{margin:4px 0;padding:5px 8px}
 <script>
 'use strict';
 const PARTS = ['cleared', 'payable', 'locked', 'running', 'adjusted'];
-const MOST_WAIT = 3000, PAUSE = 1000;
+const MOST_WAIT = 3000, PAUSE = 1000, SEAL_SHOWN = 12;
 let heard = new Date();
 
 const at = id => document.getElementById(id);
@@ -218,6 +219,8 @@ function show(site) {
   put(at('shift'), 'shift ' + site.shift);
   put(at('rows'), site.rows + ' rows');
   put(at('peers'), site.connections + ' connections');
+  put(at('seal'), site.seal === null ? '' : 'last seal ' + site.seal.slice(0, SEAL_SHOWN));
+  at('seal').title = site.seal || '';
   const unpaid = site.transactions.length;
   put(at('state'), unpaid + ' unpaid');
   document.title = '(' + unpaid + ') Forecourt';

@@ -1,6 +1,6 @@
 //! What the page answers.
 
-ghost use Rattle.std.specs.Prelude.{◌≡◌, [], IfOk, OnOk, OnErr, option_map};
+ghost use Rattle.std.specs.Prelude.{◌≡◌, [], IfOk, OnOk, OnErr, option_copied};
 ghost use Rattle.http_server.specs.Response.{IsBlank, IsResponse};
 ghost use Rattle.serde_json.specs.Written.{compact_text};
 ghost use Rattle.site_json.specs.SiteData.{site_data};
@@ -37,12 +37,11 @@ impl Page {
         connections: usize,
         seal: Option<&str>,
     ) -> Result<Page, NoMemory>
-        ensures site { IfOk result (λ page.
-            page.site ≡ compact_text (site_data book.now unpaid.now connections)) }
-        ensures seal { IfOk result (λ page.
-            page.seal ≡ seal_line (option_map (λ s. s.now) seal.entry)) }
+        ensures site { IfOk result (λ page. page.site ≡ compact_text
+            (site_data book.now unpaid.now connections (option_copied seal.entry))) }
+        ensures seal { IfOk result (λ page. page.seal ≡ seal_line (option_copied seal.entry)) }
     {
-        let text = site_text(alloc, book, unpaid, connections)?;
+        let text = site_text(alloc, book, unpaid, connections, seal)?;
         Ok(Page {
             site: Bytes::from_string(text)?,
             seal: seal_line(alloc, seal)?,
@@ -93,7 +92,7 @@ impl Service for Page {
 
 /// The line of a seal, if there is one.
 fn seal_line(alloc: Global, seal: Option<&str>) -> Result<Option<Bytes>, NoMemory>
-    ensures { IfOk result (λ line. line ≡ seal_line (option_map (λ s. s.now) seal.entry)) }
+    ensures { IfOk result (λ line. line ≡ seal_line (option_copied seal.entry)) }
 {
     let Some(seal) = seal else {
         return Ok(None);

@@ -1,4 +1,5 @@
 use Rattle.std.proofs.Common.{ap, ◌∙◌}
+use Rattle.std.specs.Prelude.{option_copied}
 use Rattle.serde_json.specs.Written.{compact_text, has_float}
 use Rattle.site_json.proofs.NoFloats.{no_float_site}
 use Rattle.site_json.proofs.whole_site.site_text.Goals as goal
@@ -7,5 +8,6 @@ pub returns : goal.returns
 returns c =
     c.in_ok-to_string.ensures.text
     (ap has_float c.in_ok-site_value.ensures
-    ∙ no_float_site c.args.book.now c.args.unpaid.now c.args.connections)
+    ∙ no_float_site c.args.book.now c.args.unpaid.now c.args.connections
+    (option_copied c.args.seal))
     ∙ ap compact_text c.in_ok-site_value.ensures
