@@ -22,7 +22,7 @@ HERE = make_folder()
 AT, SEAL = b"# at ", b"# seal "
 MOST_ROWS = 256  # between two seals
 HOUR = 3_600
-CLOCK_WENT_BACK = "the clock went back: rows have the last time until it is later\n"
+CLOCK_IS_BEHIND = "the clock is behind the history: rows have its last time until it is ahead\n"
 UTC = datetime.timezone.utc
 
 
@@ -78,11 +78,11 @@ def now():
 
 
 @test
-def a_random_month(seed):
-    """Shifts with any number of sales, with pauses, in several days: each seal is that which
+def random_days(seed):
+    """Shifts with any number of sales, with pauses, in three days: each seal is that which
     hashlib computes, each time lies within its day's, and `date` parses it as Python does. The
     last line is a seal."""
-    chance, folder, reading = start_chance(seed, "month"), HERE / f"month{seed}", 0
+    chance, folder, reading = start_chance(seed, "days"), HERE / f"days{seed}", 0
     begun = now() - datetime.timedelta(milliseconds=1)
     for _ in range(3):
         with start_station(folder) as day, work_at(day) as work:
@@ -113,8 +113,8 @@ def a_random_month(seed):
 
 @test
 def many_rows_at_once():
-    """However many rows come at once, no more than 256 stand between two seals; those of one round
-    have one time."""
+    """However many rows come at once, no more than 256 stand between two seals, and there are far
+    fewer times than rows."""
     folder, count = HERE / "many", 1_500
     asked = [command_point(1, 0, 1, (OPEN, CLOSE)[n % 2]) for n in range(count)]
     with start_station(folder) as day, day.connect() as till:
@@ -152,8 +152,8 @@ def seals_of_a_quiet_station():
 @test
 def a_clock_that_jumps():
     """The clock jumps an hour to and fro while a day runs: times never fall, and rows have the last
-    one until the clock is ahead of it. That it went back is said once, in each run. Seals don't
-    wait for the clock."""
+    one until the clock is ahead of it. That it is behind is said once, in each run. Seals don't wait
+    for the clock: a row that comes a second after the last one is sealed where it stands still."""
     folder, file = HERE / "jumps", HERE / "offset"
     library = compile_c(HERE, "tests/clock.c", "-O1", "-shared", "-fPIC")
     env = {**os.environ, "LD_PRELOAD": str(library), "CLOCK_FILE": str(file)}
@@ -180,7 +180,14 @@ def a_clock_that_jumps():
                     behind = (told - latest).total_seconds()
                     expect(f"jump {offset}: the clock's time", 0 <= behind < 1, True)
                 wanted += is_ahead
-            expect("what it says", end(day), CLOCK_WENT_BACK)
+            file.write_text(str(-HOUR))
+            time.sleep(1.1)
+            before = read_texts(folder)
+            work.do(work.till, command_point(1, 0, 2, OPEN))
+            after = read_texts(folder)
+            expect("no time more", check_times(after), check_times(before))
+            expect("the row is sealed", after[-1].splitlines()[-1].startswith(SEAL), True)
+            expect("what it says", end(day), CLOCK_IS_BEHIND)
     texts = read_texts(folder)
     check_chapters(KNOWN_SITE, texts)
     expect("some times", wanted > 4, True)
