@@ -7,6 +7,7 @@ import datetime
 import itertools
 import os
 import subprocess
+import threading
 import time
 
 from shared.checks import expect
@@ -22,6 +23,7 @@ HERE = make_folder()
 AT, SEAL = b"# at ", b"# seal "
 MOST_ROWS = 256  # between two seals
 HOUR = 3_600
+SHIFTS = 150
 CLOCK_IS_BEHIND = "the clock is behind the history: rows have its last time until it is ahead\n"
 UTC = datetime.timezone.utc
 
@@ -187,7 +189,32 @@ def a_clock_that_jumps():
             after = read_texts(folder)
             expect("no time more", check_times(after), check_times(before))
             expect("the row is sealed", after[-1].splitlines()[-1].startswith(SEAL), True)
+            work.do(work.till, command_point(1, 0, 2, CLOSE))
             expect("what it says", end(day), CLOCK_IS_BEHIND)
     texts = read_texts(folder)
     check_chapters(KNOWN_SITE, texts)
     expect("some times", wanted > 4, True)
+
+
+@test
+def reads_beside_a_station():
+    """While shifts are closed, one after the other, the history is right for whoever reads it."""
+    folder, reads, is_over = HERE / "beside", [], threading.Event()
+
+    def read():
+        while not is_over.is_set():
+            reads.append(run(PROGRAM, "verify", folder))
+
+    with start_station(folder) as day, work_at(day) as work:
+        work.do(work.till, sign_on(1))
+        readers = [threading.Thread(target=read) for _ in range(2)]
+        for one in readers:
+            one.start()
+        for _ in range(SHIFTS):
+            work.close_shift()
+        is_over.set()
+        for one in readers:
+            one.join()
+        end(day)
+    expect("some reads", len(reads) > 10, True)
+    expect("each is right", {(one.status, one.out.split()[0]) for one in reads}, {(0, b"chapters")})
