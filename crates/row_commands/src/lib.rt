@@ -14,8 +14,8 @@ mod sale_word;
 mod sales;
 mod seal_word;
 mod story;
-mod verify;
 mod times;
+mod verify;
 
 pub use report::run_report_folder;
 pub use rows::{run_explain_folder, run_replay_folder};
