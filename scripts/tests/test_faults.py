@@ -55,8 +55,8 @@ import typing
 from shared.checks import Failed, expect
 from shared.histories import (
     LOCK_FILE, SITE_FILE, check_chapters, find_untold, first_lines, is_read, list_chapters,
-    read_chapters, read_rows, retitle, split_messages, whole_lines, write_chapters, write_history,
-    write_rows,
+    read_chapters, read_rows, retitle, split_messages, whole_lines, without_marks, write_chapters,
+    write_history, write_rows,
 )  # fmt: skip
 from shared.page_day import PageDay
 from shared.running import CRATES, EXAMPLES, PATIENCE, compile_c, run
@@ -202,6 +202,11 @@ class Opening(typing.NamedTuple):
     is_anew: bool
     beside: dict
 
+    @property
+    def plain(self):
+        """Its chapters without times and seals."""
+        return [*map(without_marks, self.texts)]
+
 
 class Again(typing.NamedTuple):
     """How the next start on a history ended, what its chapters have then, and which copies were
@@ -220,6 +225,11 @@ class Stored(typing.NamedTuple):
     found: object
     texts: list
     again: Again
+
+    @property
+    def plain(self):
+        """The chapters without times and seals."""
+        return [*map(without_marks, self.texts)]
 
 
 def read_texts(folder):
@@ -693,7 +703,7 @@ HISTORIES = (
 
 def is_whole(got, whole, text):
     """Whether the day ended as a whole one, whatever it met, and left this chapter."""
-    return got.end._replace(met=False) == whole and got.texts == [text]
+    return got.end._replace(met=False) == whole and got.plain == [text]
 
 
 def find_rows(texts):
@@ -730,7 +740,8 @@ def expect_stored(what, got, text):
     expect_told(what, rows, (((TILL, 1), got.end.till), ((DISPENSER, 1), got.end.pump)), begin)
     if got.found and len(rows) < got.found.rows:
         raise Failed(f"{what}: {got.found}, and {len(rows)} rows are there: {got}")
-    if text and not text.startswith(b"".join(map(whole_lines, got.texts))):
+    lines = without_marks(b"".join(map(whole_lines, got.texts)))
+    if text and not text.startswith(lines):
         raise Failed(f"{what}: the chapter isn't a front of a day's: {got}")
     whole = b"".join(map(whole_lines, got.texts))
     report = run(PROGRAM, "report", KNOWN_SITE, given=whole).out.decode()
@@ -750,7 +761,7 @@ def fail_histories_of_station():
     runs = 0
     for texts, whole, found, text in HISTORIES:
         got = PLACE.stored(texts)
-        expect("a history", (got.end, got.found, got.texts), (whole, found, [text]))
+        expect("a history", (got.end, got.found, got.plain), (whole, found, [text]))
         for kind in ("FAIL_JOURNAL_WRITE", "FAIL_SYNC", "STOP_AT_SYNC", "FAIL_OPEN"):
             for short in ({}, {"SHORT_JOURNAL_WRITE": 7}):
 
@@ -773,7 +784,7 @@ def fail_histories_of_station():
             {"SHORT_JOURNAL_WRITE": 1, "INTERRUPT": 1, "SHORT_SEND": 1},
         ):  # fmt: skip
             got = PLACE.stored(texts, **faults)
-            expect(faults, (got.end, got.texts), (whole._replace(met=True), [text]))
+            expect(faults, (got.end, got.plain), (whole._replace(met=True), [text]))
             runs += 1
     got = PLACE.stored(None, FAIL_SYNC=1)
     wanted = ([], 1, "fault 62\n", None)
@@ -926,7 +937,7 @@ def fail_sockets_of_stored_station():
         def one(k):
             got = PLACE.stored(None, **{kind: k})
             if not got.end.met:
-                expect("nothing", (got.end, got.texts), (WHOLE_STATION, [NEW_TEXT]))
+                expect("nothing", (got.end, got.plain), (WHOLE_STATION, [NEW_TEXT]))
                 return False
             what = f"the station with a history and {kind} {k}"
             expect_stored(what, got, None)
@@ -960,8 +971,8 @@ def fail_openings_of_histories():
         ([STORED_TEXT], [STORED_LINES + write_rows(sign_off(2))]),
         ([closed, second + b"01"], [closed, second + write_rows(sign_off(2))]),
     ):
-        whole = PLACE.open_history(*texts)
-        expect("a history", whole.texts, after)
+        whole, after = PLACE.open_history(*texts), [*map(without_marks, after)]
+        expect("a history", whole.plain, after)
         for kind, ends in wanted.items():
             said = []
 
@@ -969,7 +980,7 @@ def fail_openings_of_histories():
                 got = PLACE.open_history(*texts, **{kind: k})
                 expect(f"{kind} {k}: beside it", got.beside, {})
                 if not got.met:
-                    expect("nothing", (got.end, got.texts), (whole.end, after))
+                    expect("nothing", (got.end, got.plain), (whole.end, after))
                     return False
                 end = (got.end.status, got.end.out, got.texts, got.is_anew)
                 expect(f"{kind} {k}", end, (1, b"", texts, False))
@@ -1022,13 +1033,15 @@ def move_chapters_at_starts():
             return False
         if k < 1 + FLUSHES.index("the copy"):
             expect(f"flush {k}", (end.status, end.err), (0, ""))
-            expect(f"flush {k}: what has its name", texts, [first_lines(KNOWN_SITE)])
+            left = [*map(without_marks, texts)]
+            expect(f"flush {k}: what has its name", left, [first_lines(KNOWN_SITE)])
             expect(f"flush {k}: what was moved", beside, {MOVED: STORED_TEXT})
             return True
         expect(f"flush {k}", (end.status, end.out, end.err), (1, b"", "fault 62\n"))
         expect(f"flush {k}: what has its name", texts, [b""])
         moved = STORED_TEXT if k == 1 + FLUSHES.index("the copy") else gone_on
-        expect(f"flush {k}: what was moved", beside, {MOVED: moved})
+        beside = {name: without_marks(text) for name, text in beside.items()}
+        expect(f"flush {k}: what was moved", beside, {MOVED: without_marks(moved)})
         return True
 
     return count_some_in_turn("MOVE_AT_SYNC", one)
@@ -1050,7 +1063,8 @@ def swap_copies_of_chapters():
             expect(f"flush {k}", got, (1, b"", "fault 62\n", [STORED_TEXT], {COPY: b""}))
         else:
             left = {COPY: b""} if k > 1 + FLUSHES.index("the copy") else {}
-            expect(f"flush {k}", (end.status, end.err, texts, beside), (0, "", [gone_on], left))
+            lines = [*map(without_marks, texts)]
+            expect(f"flush {k}", (end.status, end.err, lines, beside), (0, "", [gone_on], left))
         return True
 
     return count_some_in_turn("SWAP_AT_SYNC", one)
@@ -1064,14 +1078,14 @@ def fail_allocations_of_histories():
 
     def one(n):
         got = PLACE.open_history(STORED_TEXT, FAIL_ALLOCATION=n)
-        end, text = got.end, got.texts[0]
+        end, text = got.end, got.plain[0]
         expect(f"allocation {n}: beside it", got.beside, {})
-        is_same = (end, got.texts) == (whole.end, whole.texts)
+        is_same = (end, got.plain) == (whole.end, whole.plain)
         if not got.met and not is_same:
             raise Failed("a history that is opened: not the same twice")
         is_ended = (end.status, end.err) in ((4, "fault 31\n"), (1, "fault 64\n"))
         is_front = whole.end.out.startswith(end.out)
-        is_front = is_front and text in (STORED_TEXT, STORED_LINES, whole.texts[0])
+        is_front = is_front and text in (STORED_TEXT, STORED_LINES, whole.plain[0])
         if not is_same and not (is_ended and is_front):
             raise Failed(f"a history that is opened, allocation {n} failed: {end}, {text}")
         return got.met
@@ -1087,7 +1101,7 @@ def fail_allocations_of_stored_station():
     def one(n):
         got = PLACE.stored(None, FAIL_ALLOCATION=n)
         if not got.end.met:
-            expect("nothing", (got.end, got.texts), (WHOLE_STATION, [NEW_TEXT]))
+            expect("nothing", (got.end, got.plain), (WHOLE_STATION, [NEW_TEXT]))
         expect_stored(f"the station with a history, allocation {n}", got, None)
         is_ended = (got.end.status, got.end.err) == (4, "fault 31\n")
         if not is_ended and not is_well_without_memory(got.end):
