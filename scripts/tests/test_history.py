@@ -914,7 +914,8 @@ def closed_error():
                     told += receive_all(other)
             text = path.read_bytes()
             rows = [*asked, sign_off(1), sign_on(2)]
-            expect(f"{closed} closed {words}: the file", without_marks(text), FIRST + write_rows(*rows))
+            wanted = FIRST + write_rows(*rows)
+            expect(f"{closed} closed {words}: the file", without_marks(text), wanted)
             made = [row.reply for row in read_rows(PROGRAM, KNOWN_SITE, text)]
             fault = parse("FF FF 01 01 00 FF 00 05 01 01 01 01 28")
             told = decode(told)

@@ -154,8 +154,8 @@ def seals_of_a_quiet_station():
 @test
 def a_clock_that_jumps():
     """The clock jumps an hour to and fro while a day runs: times never fall, and rows have the last
-    one until the clock is ahead of it. That it is behind is said once, in each run. Seals don't wait
-    for the clock: a row that comes a second after the last one is sealed where it stands still."""
+    one until the clock is ahead of it. That it is behind is said once, in each run. Seals don't
+    wait for it: a row that comes a second after the last one is sealed while times stand still."""
     folder, file = HERE / "jumps", HERE / "offset"
     library = compile_c(HERE, "tests/clock.c", "-O1", "-shared", "-fPIC")
     env = {**os.environ, "LD_PRELOAD": str(library), "CLOCK_FILE": str(file)}
