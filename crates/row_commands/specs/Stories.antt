@@ -9,7 +9,7 @@ use Rattle.site_base.specs.declared.row.Row.{Row}
 use Rattle.site_base.specs.declared.sale.SaleId.{SaleId}
 use Rattle.site_base.specs.Events.{point_named, sale_named}
 use Rattle.written_site.specs.SaleWords.{number_sold}
-use Rattle.sales_table.specs.declared.sold_list.SaleName.{SaleName}
+use Rattle.sales_table.specs.declared.timed_sale.SaleName.{SaleName}
 use Rattle.row_commands.specs.declared.past_row.PastRow.{PastRow}
 
 -- ---- a row
