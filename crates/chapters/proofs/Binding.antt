@@ -20,7 +20,8 @@ use Rattle.app_message.specs.Telegram.{AreOctets}
 use Rattle.chapters.specs.ChapterReading.{HistoryRead, add_request, is_comment}
 use Rattle.chapters.specs.ChapterReading.{is_none_left, is_of_seal, is_right_seal, is_same_line}
 use Rattle.chapters.specs.ChapterReading.{nothing_read, read_chapter, read_from}
-use Rattle.chapters.specs.ChapterReading.{read_line, read_lines, read_text, sealed_by, with_line}
+use Rattle.chapters.specs.ChapterReading.{read_line, read_lines, read_text, sealed_by}
+use Rattle.chapters.specs.ChapterReading.{with_comment}
 use Rattle.chapters.specs.ChapterReading.{with_seal}
 use Rattle.chapters.specs.ChapterText.{first_lines, no_seal, seal_line, seal_of, text_of_lines}
 use Rattle.chapters.specs.Laws.{AreSealed, BreaksDigests, IsSealed, SealsBindTheirTexts}
@@ -293,10 +294,10 @@ line_blocks octets line r s are is = by_mark (is_of_seal line) is
         (ap (λ (x : HistoryRead). x.unsealed) (sym same))
 
     by_comment : (t : Bool)
-        → (if t then Some (with_line line r) else add_request (request_in line) line r) ≡ Some s
+        → (if t then Some (with_comment line r) else add_request (request_in line) line r) ≡ Some s
         → AreBlocks (octets ++ text_of_lines (line ∷ [])) s
     by_comment true is =
-        let same = same_Some (with_line line r) s is in
+        let same = same_Some (with_comment line r) s is in
         one_more octets line r s are (ap (λ (x : HistoryRead). x.seal) (sym same))
         (ap (λ (x : HistoryRead). x.unsealed) (sym same))
     by_comment false is = by_request (request_in line) is

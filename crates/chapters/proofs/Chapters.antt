@@ -36,7 +36,8 @@ use Rattle.chapters.proofs.Requests.{events_both, request_read, spelled_plain}
 use Rattle.chapters.specs.ChapterReading.{HistoryRead, add_request, and_then, is_comment}
 use Rattle.chapters.specs.ChapterReading.{is_of_seal, is_right_seal, is_same_line, nothing_read}
 use Rattle.chapters.specs.ChapterReading.{read_chapter, read_from, read_history, read_line}
-use Rattle.chapters.specs.ChapterReading.{read_lines, read_text, sealed_by, with_line}
+use Rattle.chapters.specs.ChapterReading.{read_lines, read_text, sealed_by}
+use Rattle.chapters.specs.ChapterReading.{with_comment, with_seal}
 use Rattle.chapters.specs.ChapterText.{chapter_lines, chapter_text, first_lines, last_seal, no_seal}
 use Rattle.chapters.specs.ChapterText.{history_texts, row_digits, row_lines, rows_of_chapters}
 use Rattle.chapters.specs.ChapterText.{rows_of_parts}
@@ -136,7 +137,7 @@ row_read row r told =
     request_read (row_request row) row.actor row.event told.1.message told.1.asks
     (no_read row told.0) in
     ap (λ (t : Bool). if t then sealed_by (is_right_seal line r) r else read_text line r) asks.0
-    ∙ ap (λ (t : Bool). if t then Some (with_line line r)
+    ∙ ap (λ (t : Bool). if t then Some (with_comment line r)
     else add_request (request_in line) line r) asks.1
     ∙ ap (λ (o : Option (Actor × Event)). add_request o line r) request
 
@@ -165,13 +166,13 @@ rows_read (row ∷ rows) r told =
 
 -- ---- seals
 
--- read up to these lines behind a seal
+-- read up to these lines behind a seal, without a time
 abbrev read_to : List ℕ → List (List ℕ) → List ℕ → List (Actor × Event) → HistoryRead
 read_to seal lines torn events =
-    record { seal = seal; unsealed = lines; torn = torn; events = events }
+    record { seal = seal; unsealed = lines; torn = torn; time = None; events = events }
 
 pub seal_read : (r : HistoryRead) → read_line (seal_line (seal_of r.seal r.unsealed)) r
-    ≡ Some (read_to (seal_of r.seal r.unsealed) [] r.torn r.events)
+    ≡ Some (with_seal r)
 seal_read r =
     let seal : List ℕ = seal_of r.seal r.unsealed in
     let line : List ℕ = seal_line seal in

@@ -8,7 +8,7 @@ use Rattle.site_base.specs.declared.actor.Actor.{Actor}
 use Rattle.site_base.specs.declared.event.Event.{Event}
 use Rattle.chapters.specs.ChapterReading.{HistoryRead, add_request, is_comment, is_of_seal}
 use Rattle.chapters.specs.ChapterReading.{is_right_seal, read_line, read_lines, read_text}
-use Rattle.chapters.specs.ChapterReading.{sealed_by, with_line, with_seal}
+use Rattle.chapters.specs.ChapterReading.{sealed_by, with_comment, with_seal}
 use Rattle.chapters.specs.ChapterText.{seal_mark}
 use Rattle.chapters.specs.Laws.{CommentsSayNothing, requests_in}
 use Rattle.chapters.specs.Lines.{request_in}
@@ -50,10 +50,10 @@ line_says line r s is = by_mark (is_of_seal line) refl is
         ∙ rw (text, asks) refl
 
     by_text : (t : Bool) → is_comment line ≡ t
-        → (if t then Some (with_line line r) else add_request (request_in line) line r) ≡ Some s
+        → (if t then Some (with_comment line r) else add_request (request_in line) line r) ≡ Some s
         → s.events ≡ r.events ++ requests_in (line ∷ [])
     by_text true comment is =
-        nothing comment (ap (λ (x : HistoryRead). x.events) (sym (same_Some (with_line line r) s is)))
+        nothing comment (ap (λ (x : HistoryRead). x.events) (sym (same_Some (with_comment line r) s is)))
     by_text false text is = by_request (request_in line) refl text is
 
     by_mark : (t : Bool) → is_of_seal line ≡ t

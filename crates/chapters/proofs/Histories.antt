@@ -17,7 +17,7 @@ use Rattle.site_book.specs.Book.{Book}
 use Rattle.chapters.specs.ChapterReading.{HistoryRead, add_request, and_then, is_comment}
 use Rattle.chapters.specs.ChapterReading.{is_none_left, is_of_seal, is_right_seal, nothing_read}
 use Rattle.chapters.specs.ChapterReading.{read_chapter, read_from, read_line, read_lines, read_text}
-use Rattle.chapters.specs.ChapterReading.{sealed_by, with_line, with_seal}
+use Rattle.chapters.specs.ChapterReading.{sealed_by, with_comment, with_seal}
 use Rattle.chapters.specs.ChapterText.{first_lines, text_of_lines}
 use Rattle.chapters.specs.History.{IsMadeOf}
 use Rattle.chapters.specs.Lines.{lines_from, request_in, unfinished, unfinished_from, whole_lines}
@@ -104,11 +104,11 @@ line_grows line r s is = one (is_of_seal line) is
     }
 
     by_text : (t : Bool)
-        → (if t then Some (with_line line r) else add_request (request_in line) line r) ≡ Some s
+        → (if t then Some (with_comment line r) else add_request (request_in line) line r) ≡ Some s
         → Grows r s
     by_text true is =
         grows_same r s
-        (ap (λ (x : HistoryRead). x.events) (sym (same_Some (with_line line r) s is)))
+        (ap (λ (x : HistoryRead). x.events) (sym (same_Some (with_comment line r) s is)))
     by_text false is = by_request (request_in line) refl is
 
     one : (t : Bool)
@@ -226,11 +226,11 @@ line_torn line torn r s is = one (is_of_seal line) is
         ap (λ (x : HistoryRead). Some (with_torn torn x)) (same_Some _ s is)
 
     by_text : (t : Bool)
-        → (if t then Some (with_line line r) else add_request (request_in line) line r) ≡ Some s
-        → (if t then Some (with_line line (with_torn torn r))
+        → (if t then Some (with_comment line r) else add_request (request_in line) line r) ≡ Some s
+        → (if t then Some (with_comment line (with_torn torn r))
         else add_request (request_in line) line (with_torn torn r)) ≡ Some (with_torn torn s)
     by_text true is =
-        ap (λ (x : HistoryRead). Some (with_torn torn x)) (same_Some (with_line line r) s is)
+        ap (λ (x : HistoryRead). Some (with_torn torn x)) (same_Some (with_comment line r) s is)
     by_text false is = by_request (request_in line) is
 
     one : (t : Bool)

@@ -10,6 +10,7 @@ pub mod Made
 pub mod Asked
 pub mod Spelled
 pub mod FirstLines
+pub mod Times
 pub mod Reading
 pub mod ReadingChapters
 pub mod Histories

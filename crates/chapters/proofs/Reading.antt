@@ -18,16 +18,18 @@ use Rattle.chapters.specs.declared.fault.HistoryFault.{HistoryFault}
 use Rattle.chapters.specs.declared.fault.HistoryFault.TheVariants.{Line}
 use Rattle.chapters.specs.ChapterReading.{HistoryRead, add_request, and_then, is_comment}
 use Rattle.chapters.specs.ChapterReading.{is_of_seal, is_right_seal, is_same_line, read_line}
-use Rattle.chapters.specs.ChapterReading.{read_lines, read_text, sealed_by, with_line, with_seal}
+use Rattle.chapters.specs.ChapterReading.{read_lines, read_text, sealed_by, with_comment, with_line}
+use Rattle.chapters.specs.ChapterReading.{with_seal}
 use Rattle.chapters.specs.ChapterText.{seal_line, seal_of}
 use Rattle.chapters.specs.History.{IsMadeOf}
-use Rattle.chapters.specs.HistoryEnds.{EndsAt}
+use Rattle.chapters.specs.HistoryEnds.{EndState, EndsAt}
 use Rattle.chapters.specs.Lines.{lines_from, request_in, unfinished, unfinished_from, whole_lines}
 use Rattle.chapters.specs.Readers.{AddsText, AreRead, AreReadTo, KeepsLines, NamesRow}
 use Rattle.chapters.specs.Readers.{ReaderState}
 use Rattle.chapters.proofs.Lines.{all_unfinished, line_ends, lines_both, none_ends, one_line}
 use Rattle.chapters.proofs.Lines.{unfinished_both}
 use Rattle.chapters.proofs.Made.{made_more}
+use Rattle.chapters.proofs.Times.{none_after, request_tells_none}
 
 -- lines, and more lines
 pub read_both : (a b : List (List ℕ)) (r : HistoryRead)
@@ -58,10 +60,10 @@ lines_keep_torn (line ∷ lines) r s is = by_line (read_line line r) refl is
     by_request (Some e) mid is = ap (λ (x : HistoryRead). x.torn) (sym (same_Some _ mid is))
 
     by_text : (t : Bool) (mid : HistoryRead)
-        → (if t then Some (with_line line r) else add_request (request_in line) line r) ≡ Some mid
+        → (if t then Some (with_comment line r) else add_request (request_in line) line r) ≡ Some mid
         → mid.torn ≡ r.torn
     by_text true mid is =
-        ap (λ (x : HistoryRead). x.torn) (sym (same_Some (with_line line r) mid is))
+        ap (λ (x : HistoryRead). x.torn) (sym (same_Some (with_comment line r) mid is))
     by_text false mid is = by_request (request_in line) mid is
 
     one : (t : Bool) (mid : HistoryRead)
@@ -83,13 +85,14 @@ pub seal_right : (line : List ℕ) (chapters : ℕ) (r : HistoryRead) (old new :
     → is_of_seal line ≡ true
     → is_same_line (seal_line (seal_of r.seal r.unsealed)) line ≡ true
     → KeepsLines chapters r old → EndsAt chapters (seal_of r.seal r.unsealed) [] new.end
-    → new.book ≡ old.book → AreRead chapters r (line ∷ []) new
-seal_right line chapters r old new of_seal right keeps ends same = record {
+    → new.book ≡ old.book → new.end.time ≡ old.end.time → AreRead chapters r (line ∷ []) new
+seal_right line chapters r old new of_seal right keeps ends same time = record {
   reading = with_seal r;
   read = rw (of_seal, right) refl;
   keeps = record {
     ends = ends;
     made = subst (λ (b : Book). IsMadeOf b r.events) (sym same) keeps.made;
+    time = time ∙ keeps.time;
   };
 }
 
@@ -101,8 +104,8 @@ seal_wrong line r of_seal wrong = rw (of_seal, wrong) refl
 pub text_right : (line : List ℕ) (chapters : ℕ) (r : HistoryRead) (mid new : ReaderState)
     → is_of_seal line ≡ false → AddsText line r mid → new.book ≡ mid.book
     → EndsAt chapters r.seal (r.unsealed ++ line ∷ []) new.end
-    → AreRead chapters r (line ∷ []) new
-text_right line chapters r mid new of_seal adds same ends = record {
+    → new.end.time ≡ time_after line r.time → AreRead chapters r (line ∷ []) new
+text_right line chapters r mid new of_seal adds same ends time = record {
   reading = adds.reading;
   read =
       ap (λ (o : Option HistoryRead). and_then o (read_lines []))
@@ -111,6 +114,7 @@ text_right line chapters r mid new of_seal adds same ends = record {
   keeps = record {
     ends = rw (adds.seal, adds.unsealed) ends;
     made = subst (λ (b : Book). IsMadeOf b adds.reading.events) (sym same) adds.made;
+    time = time ∙ sym adds.time;
   };
 }
 
@@ -124,10 +128,11 @@ pub comment_added : (line : List ℕ) (r : HistoryRead) (old new : ReaderState)
     → is_comment line ≡ true → new.book ≡ old.book → IsMadeOf old.book r.events
     → AddsText line r new
 comment_added line r old new comment same made = record {
-  reading = with_line line r;
+  reading = with_comment line r;
   read = rw comment refl;
   seal = refl;
   unsealed = refl;
+  time = refl;
   made = subst (λ (b : Book). IsMadeOf b r.events) (sym same) made;
 }
 
@@ -139,18 +144,21 @@ pub request_added : (line : List ℕ) (r : HistoryRead) (old : Book) (new : Read
 request_added line r old new actor event comment request made same rows = record {
   reading = record (with_line line r) { events = r.events ++ (actor, event) ∷ [] };
   read =
-      ap (λ (t : Bool). if t then Some (with_line line r) else add_request (request_in line) line r)
+      ap (λ (t : Bool). if t then Some (with_comment line r)
+      else add_request (request_in line) line r)
       comment
       ∙ ap (λ (o : Option (Actor × Event)). add_request o line r) request;
   seal = refl;
   unsealed = refl;
+  time = sym (none_after line r.time (request_tells_none line comment));
   made = made_more old new.book r.events actor event made same rows;
 }
 
 pub request_wrong : (line : List ℕ) (r : HistoryRead) → is_comment line ≡ false
     → request_in line ≡ None → read_text line r ≡ None
 request_wrong line r comment none =
-    ap (λ (t : Bool). if t then Some (with_line line r) else add_request (request_in line) line r)
+    ap (λ (t : Bool). if t then Some (with_comment line r)
+    else add_request (request_in line) line r)
     comment
     ∙ ap (λ (o : Option (Actor × Event)). add_request o line r) none
 
@@ -173,6 +181,7 @@ pub keeps_same : (n : ℕ) (r : HistoryRead) (a b : ReaderState) → b.book ≡ 
 keeps_same n r a b book end keeps = record {
   ends = subst (EndsAt n r.seal r.unsealed) (sym end) keeps.ends;
   made = subst (λ (x : Book). IsMadeOf x r.events) (sym book) keeps.made;
+  time = ap (λ (e : EndState). e.time) end ∙ keeps.time;
 }
 
 -- what stands behind a front, and ahead of a rest
@@ -222,6 +231,7 @@ pub record ReadsOn (text rest : List ℕ) (old now : ReaderState) : Type 0 where
   pub read : (chapters : ℕ) (r : HistoryRead) → KeepsLines chapters r old
       → AreRead chapters r (whole_lines done) now
   pub time : now.end.time ≡ time_of_lines (whole_lines done) old.end.time
+  pub first : now.end.first ≡ old.end.first
   pub rows : now.book.rows ≡ old.book.rows
   pub site : now.site ≡ old.site
   pub config : now.book.config ≡ old.book.config
@@ -238,6 +248,7 @@ begins_reading text s = record {
   count = λ short. omega arith;
   read = λ chapters r keeps. record { reading = r; read = refl; keeps = keeps };
   time = refl;
+  first = refl;
   rows = refl;
   site = refl;
   config = refl;
@@ -319,11 +330,11 @@ reads_line text rest line others old now mid new r parts plain book end next num
 -- .. and made no row
 pub reads_more : (text rest others : List ℕ) (old now new : ReaderState)
     → ReadsOn text rest old now → ReadsLine text others old new
-    → new.book.rows ≡ now.book.rows
+    → new.end.first ≡ now.end.first → new.book.rows ≡ now.book.rows
     → new.site ≡ now.site → new.book.config ≡ now.book.config
     → new.end.chapters ≡ now.end.chapters → new.begin ≡ now.begin → new.torn ≡ now.torn
     → ReadsOn text others old new
-reads_more text rest others old now new r line rows site config chapters begins torn = record {
+reads_more text rest others old now new r line first rows site config chapters begins torn = record {
   done = line.done;
   parts = line.parts;
   whole = line.whole;
@@ -331,6 +342,7 @@ reads_more text rest others old now new r line rows site config chapters begins 
   count = line.count;
   read = line.read;
   time = line.time;
+  first = first ∙ r.first;
   rows = rows ∙ r.rows;
   site = site ∙ r.site;
   config = config ∙ r.config;

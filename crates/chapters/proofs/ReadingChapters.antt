@@ -177,9 +177,9 @@ pub chapter_begins : (texts : List (List ℕ)) (text first : List ℕ) (s new : 
     → begins_so text (next_first s) ≡ true
     → ((chapters : ℕ) (seal : List ℕ) (lines : List (List ℕ)) → EndsAt chapters seal [] s.end
     → first ≡ text_of_lines lines → lines ≢ [] → EndsAt (chapters + 1) seal lines new.end)
-    → new.book ≡ s.book → new.site ≡ s.site → new.line ≡ 3 → 3 + length (drop n text) < 2 ^ 64
-    → IsReading texts text (drop n text) new
-chapter_begins texts text first s new n h ended is size begins met book site line few =
+    → new.book ≡ s.book → new.end.time ≡ s.end.time → new.site ≡ s.site → new.line ≡ 3
+    → 3 + length (drop n text) < 2 ^ 64 → IsReading texts text (drop n text) new
+chapter_begins texts text first s new n h ended is size begins met book time site line few =
     let left = both_true (eqb (length h.reading.unsealed) 0) (eqb (length h.reading.torn) 0)
     (sym (ended_is texts s h) ∙ ended) in
     let none : h.reading.unsealed ≡ [] =
@@ -202,6 +202,7 @@ chapter_begins texts text first s new n h ended is size begins met book site lin
             h.keeps.ends)
             (is ∙ ap text_of_lines (next_is texts s h)) some;
         made = subst (λ b. IsMadeOf b h.reading.events) (sym book) h.keeps.made;
+        time = time ∙ h.keeps.time;
       };
       count = line;
       few = omega (arith, line, few);

@@ -8,6 +8,7 @@ use Rattle.std.proofs.lemmas.Bool.{cases_eq, ne_eqb}
 use Rattle.std.proofs.lemmas.Bool.Decides.{nat_tests}
 use Rattle.std.proofs.lemmas.Grind.{common_steps}
 use Rattle.std.proofs.lemmas.List.{length-append, take_all}
+use Rattle.std.specs.List.{cons_option}
 use Rattle.std.proofs.lemmas.List.Elements.{filter-append}
 use Rattle.site_base.specs.declared.actor.Actor.{Actor}
 use Rattle.site_base.specs.declared.event.Event.{Event}
@@ -19,12 +20,15 @@ use Rattle.stamps.specs.Stamps.{are_formed, at_line, is_digit, is_formed, is_lat
 use Rattle.stamps.specs.Stamps.{stamp_form}
 use Rattle.written_site.specs.SiteRun.{events_of}
 use Rattle.chapters.specs.ChapterReading.{HistoryRead, and_then, is_of_seal, read_lines}
-use Rattle.chapters.specs.ChapterReading.{with_line, with_seal}
+use Rattle.chapters.specs.ChapterReading.{with_comment, with_seal}
 use Rattle.chapters.specs.ChapterText.{row_digits, seal_line, seal_mark, seal_of, text_of_lines}
 use Rattle.chapters.specs.HistoryEnds.{EndState, EndsAt}
+use Rattle.chapters.specs.OpenShift.{first_after, first_behind}
+use Rattle.chapters.specs.declared.open_shift.FirstRow.{FirstRow}
 use Rattle.chapters.specs.Rounds.{Writes, WritesFirst, WritesRound, round_lines, stamp_lines}
 use Rattle.chapters.specs.Rounds.{time_behind, without_seals}
 use Rattle.chapters.specs.RowText.{CanBeSpelled, row_line, row_request}
+use Rattle.chapters.specs.Times.{Rise, times_in}
 use Rattle.chapters.proofs.Chapters.{IsTold, row_asks, rows_plain, rows_read, seal_plain, seal_read}
 use Rattle.chapters.proofs.Chapters.{with_rows}
 use Rattle.chapters.proofs.FirstLines.{begins_itself, texts_both}
@@ -32,10 +36,11 @@ use Rattle.chapters.proofs.Lists.{all_both}
 use Rattle.chapters.proofs.Octets.{plain_both}
 use Rattle.chapters.proofs.Reading.{read_both}
 use Rattle.chapters.proofs.Requests.{events_both}
+use Rattle.chapters.proofs.Times.{request_tells_none, rise_then, times_both}
 
 -- nothing more
 pub writes_nothing : (chapters : ℕ) (r : HistoryRead) (e : EndState) (text : List ℕ)
-    → EndsAt chapters r.seal r.unsealed e → Writes [] [] chapters r e text text
+    → EndsAt chapters r.seal r.unsealed e → Writes [] [] chapters r e e text text
 writes_nothing chapters r e text ends = record {
   lines = [];
   grows = sym (append-nil text);
@@ -45,15 +50,17 @@ writes_nothing chapters r e text ends = record {
   read = refl;
   told = sym (append-nil r.events);
   ends = ends;
+  time = λ known. known;
+  rises = refl;
 }
 
 -- one part, and then another
 pub writes_then : (said more : List (List ℕ)) (rows others : List Row) (chapters : ℕ)
-    (r : HistoryRead) (mid new : EndState) (a b c : List ℕ)
-    → (one : Writes said rows chapters r mid a b)
-    → Writes more others chapters one.reading new b c
-    → Writes (said ++ more) (rows ++ others) chapters r new a c
-writes_then said more rows others chapters r mid new a b c one two = record {
+    (r : HistoryRead) (old mid new : EndState) (a b c : List ℕ)
+    → (one : Writes said rows chapters r old mid a b)
+    → Writes more others chapters one.reading mid new b c
+    → Writes (said ++ more) (rows ++ others) chapters r old new a c
+writes_then said more rows others chapters r old mid new a b c one two = record {
   lines = one.lines ++ two.lines;
   grows =
       two.grows ∙ ap (λ (xs : List ℕ). xs ++ text_of_lines two.lines) one.grows
@@ -73,6 +80,12 @@ writes_then said more rows others chapters r mid new a b c one two = record {
       ∙ append_assoc r.events (events_of rows) (events_of others)
       ∙ ap (λ (es : List (Actor × Event)). r.events ++ es) (sym (events_both rows others));
   ends = two.ends;
+  time = λ known. two.time (one.time known);
+  rises =
+      subst (λ (times : List (List ℕ)). Rise old.time times new.time)
+      (sym (times_both one.lines two.lines))
+      (rise_then old.time mid.time new.time (times_in one.lines) (times_in two.lines) one.rises
+      two.rises);
 }
 
 -- ---- a stamp
@@ -111,29 +124,38 @@ formed_plain (f ∷ form) (b ∷ bs) plain formed =
     let no = not_feed f b (and_left _ _ plain) (and_left _ _ formed) in
     rw no (formed_plain form bs (and_right _ _ plain) (and_right _ _ formed))
 
-pub writes_stamp : (time : List ℕ) (chapters : ℕ) (r : HistoryRead) (new : EndState)
-    (text longer : List ℕ) → is_stamp time ≡ true
+pub writes_stamp : (time : List ℕ) (chapters : ℕ) (r : HistoryRead) (old new : EndState)
+    (text longer : List ℕ) → is_stamp time ≡ true → is_later old.time time ≡ true
     → longer ≡ text ++ text_of_lines (at_line time ∷ [])
-    → EndsAt chapters r.seal (r.unsealed ++ at_line time ∷ []) new
-    → Writes (at_line time ∷ []) [] chapters r new text longer
-writes_stamp time chapters r new text longer formed grows ends = record {
+    → EndsAt chapters r.seal (r.unsealed ++ at_line time ∷ []) new → new.time ≡ Some time
+    → Writes (at_line time ∷ []) [] chapters r old new text longer
+writes_stamp time chapters r old new text longer formed later grows ends is = record {
   lines = at_line time ∷ [];
   grows = grows;
   plain = (plain_both (at_line []) time refl (formed_plain stamp_form time refl formed), tt);
   says = refl;
-  reading = with_line (at_line time) r;
+  reading = with_comment (at_line time) r;
   read = refl;
   told = sym (append-nil r.events);
   ends = ends;
+  time = λ known.
+      is
+      ∙ sym (ap (λ (o : Option (List ℕ)). later_of r.time o)
+      (ap (λ (t : Bool). if t then Some time else None) formed)
+      ∙ ap (λ (t : Bool). if t then Some time else r.time)
+      (ap (λ (last : Option (List ℕ)). is_later last time) (sym known) ∙ later));
+  rises =
+      subst (λ (o : Option (List ℕ)). Rise old.time (cons_option o []) new.time)
+      (sym (ap (λ (t : Bool). if t then Some time else None) formed)) (later, is);
 }
 
 -- ---- a row
 
-pub writes_row : (row : Row) (chapters : ℕ) (r : HistoryRead) (new : EndState)
+pub writes_row : (row : Row) (chapters : ℕ) (r : HistoryRead) (old new : EndState)
     (text longer : List ℕ) → IsTold row → longer ≡ text ++ row_line row
-    → EndsAt chapters r.seal (r.unsealed ++ row_digits row ∷ []) new
-    → Writes (row_digits row ∷ []) (row ∷ []) chapters r new text longer
-writes_row row chapters r new text longer told grows ends = record {
+    → EndsAt chapters r.seal (r.unsealed ++ row_digits row ∷ []) new → new.time ≡ old.time
+    → Writes (row_digits row ∷ []) (row ∷ []) chapters r old new text longer
+writes_row row chapters r old new text longer told grows ends time = record {
   lines = row_digits row ∷ [];
   grows = grows ∙ ap (λ (xs : List ℕ). text ++ xs) (sym (append-nil (row_line row)));
   plain = rows_plain (row ∷ []) (told, tt);
@@ -142,57 +164,67 @@ writes_row row chapters r new text longer told grows ends = record {
   read = rows_read (row ∷ []) r (told, tt);
   told = refl;
   ends = ends;
+  time = λ known. time ∙ known;
+  rises =
+      subst (λ (o : Option (List ℕ)). Rise old.time (cons_option o []) new.time)
+      (sym (request_tells_none (row_digits row) (row_asks row told).1)) time;
 }
 
 -- ---- a seal
 
-pub writes_seal : (chapters : ℕ) (r : HistoryRead) (new : EndState) (line text longer : List ℕ)
+pub writes_seal : (chapters : ℕ) (r : HistoryRead) (old new : EndState)
+    (line text longer : List ℕ)
     → line ≡ text_of_lines (seal_line (seal_of r.seal r.unsealed) ∷ []) → longer ≡ text ++ line
-    → EndsAt chapters (seal_of r.seal r.unsealed) [] new
-    → Writes [] [] chapters r new text longer
-writes_seal chapters r new line text longer is grows ends =
+    → EndsAt chapters (seal_of r.seal r.unsealed) [] new → new.time ≡ old.time
+    → Writes [] [] chapters r old new text longer
+writes_seal chapters r old new line text longer is grows ends time =
     let seal : List ℕ = seal_of r.seal r.unsealed in
     record {
       lines = seal_line seal ∷ [];
       grows = grows ∙ ap (λ (xs : List ℕ). text ++ xs) is;
       plain = (seal_plain r.seal r.unsealed, tt);
-      says = ap (λ (t : Bool). if not t then seal_line seal ∷ [] else []) (begins_itself seal_mark seal);
+      says =
+          ap (λ (t : Bool). if not t then seal_line seal ∷ [] else [])
+          (begins_itself seal_mark seal);
       reading = with_seal r;
       read = ap (λ (o : Option HistoryRead). and_then o (read_lines [])) (seal_read r);
       told = sym (append-nil r.events);
       ends = ends;
+      time = λ known. time ∙ known;
+      rises = time;
     }
 
 -- ---- one row, if it is kept
 
 pub keeps_nothing : (row : Row) (last now : Option (List ℕ)) (chapters : ℕ) (r : HistoryRead)
     (e : EndState) (text : List ℕ) → is_kept row ≡ false → EndsAt chapters r.seal r.unsealed e
-    → Writes (round_lines last now (kept_rows (row ∷ []))) (kept_rows (row ∷ [])) chapters r e text
-    text
+    → Writes (round_lines last now (kept_rows (row ∷ []))) (kept_rows (row ∷ [])) chapters r e e
+    text text
 keeps_nothing row last now chapters r e text left ends =
-    subst (λ (rows : List Row). Writes (round_lines last now rows) rows chapters r e text text)
+    subst (λ (rows : List Row). Writes (round_lines last now rows) rows chapters r e e text text)
     (sym (ap (λ (t : Bool). if t then row ∷ [] else []) left))
     (writes_nothing chapters r e text ends)
 
 pub keeps_row : (row : Row) (last now : Option (List ℕ)) (chapters : ℕ) (r : HistoryRead)
-    (mid new : EndState) (a b c : List ℕ) → is_kept row ≡ true
-    → (one : Writes (stamp_lines last now) [] chapters r mid a b)
-    → Writes (row_digits row ∷ []) (row ∷ []) chapters one.reading new b c
-    → Writes (round_lines last now (kept_rows (row ∷ []))) (kept_rows (row ∷ [])) chapters r new a c
-keeps_row row last now chapters r mid new a b c kept one two =
-    subst (λ (rows : List Row). Writes (round_lines last now rows) rows chapters r new a c)
+    (old mid new : EndState) (a b c : List ℕ) → is_kept row ≡ true
+    → (one : Writes (stamp_lines last now) [] chapters r old mid a b)
+    → Writes (row_digits row ∷ []) (row ∷ []) chapters one.reading mid new b c
+    → Writes (round_lines last now (kept_rows (row ∷ []))) (kept_rows (row ∷ [])) chapters r old new
+    a c
+keeps_row row last now chapters r old mid new a b c kept one two =
+    subst (λ (rows : List Row). Writes (round_lines last now rows) rows chapters r old new a c)
     (sym (ap (λ (t : Bool). if t then row ∷ [] else []) kept))
-    (writes_then (stamp_lines last now) (row_digits row ∷ []) [] (row ∷ []) chapters r mid new a b c
-    one two)
+    (writes_then (stamp_lines last now) (row_digits row ∷ []) [] (row ∷ []) chapters r old mid new a
+    b c one two)
 
 -- .. and then a seal
 pub then_sealed : (said : List (List ℕ)) (rows : List Row) (chapters : ℕ) (r : HistoryRead)
-    (mid new : EndState) (a b c : List ℕ) → (one : Writes said rows chapters r mid a b)
-    → Writes [] [] chapters one.reading new b c → Writes said rows chapters r new a c
-then_sealed said rows chapters r mid new a b c one two =
-    subst (λ (ls : List (List ℕ)). Writes ls rows chapters r new a c) (append-nil said)
-    (subst (λ (rs : List Row). Writes (said ++ []) rs chapters r new a c) (append-nil rows)
-    (writes_then said [] rows [] chapters r mid new a b c one two))
+    (old mid new : EndState) (a b c : List ℕ) → (one : Writes said rows chapters r old mid a b)
+    → Writes [] [] chapters one.reading mid new b c → Writes said rows chapters r old new a c
+then_sealed said rows chapters r old mid new a b c one two =
+    subst (λ (ls : List (List ℕ)). Writes ls rows chapters r old new a c) (append-nil said)
+    (subst (λ (rs : List Row). Writes (said ++ []) rs chapters r old new a c) (append-nil rows)
+    (writes_then said [] rows [] chapters r old mid new a b c one two))
 
 -- ---- row after row
 
@@ -200,6 +232,13 @@ pub time_more : (last now : Option (List ℕ)) (a b : List Row)
     → time_behind last now (a ++ b) ≡ time_behind (time_behind last now a) now b
 time_more last now [] b = refl
 time_more last now (r ∷ a) b = time_more (later_of last now) now a b
+
+pub first_rows_more : (last now : Option (List ℕ)) (a b : List Row) (first : Option FirstRow)
+    → first_behind last now (a ++ b) first
+    ≡ first_behind (time_behind last now a) now b (first_behind last now a first)
+first_rows_more last now [] b first = refl
+first_rows_more last now (r ∷ a) b first =
+    first_rows_more (later_of last now) now a b (first_after r (later_of last now) first)
 
 pub lines_more : (last now : Option (List ℕ)) (a b : List Row)
     → round_lines last now (a ++ b)
@@ -230,19 +269,13 @@ behind_start text more whole n at is =
 pub some_line : (line : List ℕ) → line ∷ [] ≢ []
 some_line line none = absurd (cc none)
 
--- how many rows are counted says nothing of where a text ends
-pub counted_ends : (chapters : ℕ) (seal : List ℕ) (unsealed : List (List ℕ)) (e new : EndState)
-    (rows : ℕ) → new ≡ record e { rows = rows } → EndsAt chapters seal unsealed e
-    → EndsAt chapters seal unsealed new
-counted_ends chapters seal unsealed e new rows is ends =
-    subst (EndsAt chapters seal unsealed) (sym is)
-    (record { count = ends.count; last = ends.last; covers = ends.covers; sealed = ends.sealed })
-
--- nor does the last time
-pub told_ends : (chapters : ℕ) (seal : List ℕ) (unsealed : List (List ℕ)) (e new : EndState)
-    (time : Option (List ℕ)) → new ≡ record e { time = time } → EndsAt chapters seal unsealed e
-    → EndsAt chapters seal unsealed new
-told_ends chapters seal unsealed e new time is ends =
+-- how many rows are counted, the last time and the first row of the open shift say nothing of where
+-- a text ends
+pub same_ends : (chapters : ℕ) (seal : List ℕ) (unsealed : List (List ℕ)) (e new : EndState)
+    (rows : ℕ) (time : Option (List ℕ)) (first : Option FirstRow)
+    → new ≡ record e { rows = rows; time = time; first = first }
+    → EndsAt chapters seal unsealed e → EndsAt chapters seal unsealed new
+same_ends chapters seal unsealed e new rows time first is ends =
     subst (EndsAt chapters seal unsealed) (sym is)
     (record { count = ends.count; last = ends.last; covers = ends.covers; sealed = ends.sealed })
 
@@ -277,6 +310,7 @@ first_none now rows e text none empty =
       written = λ chapters r ends. writes_nothing chapters r e [] ends;
       spelled = tt;
       time = refl;
+      first = refl;
       size = omega arith;
       none = λ is. refl;
       still = λ is. refl;
@@ -288,24 +322,31 @@ pub first_more : (now : Option (List ℕ)) (rows more all : List Row) (old mid n
     (text longer : List ℕ) → WritesFirst now rows old mid text
     → WritesRound now more mid new text longer → CanBeSpelled more
     → new.time ≡ time_behind mid.time now more
+    → new.first ≡ first_behind mid.time now more mid.first
     → length text + length more ≤ length longer → (more ≡ [] → new ≡ mid)
-    → (more ≡ [] → longer ≡ text) → new.chapters ≡ mid.chapters → all ≡ rows ++ more → WritesFirst now all old new longer
-first_more now rows more all old mid new text longer first writes spelled time size none still
-    count is =
+    → (more ≡ [] → longer ≡ text) → new.chapters ≡ mid.chapters → all ≡ rows ++ more
+    → WritesFirst now all old new longer
+first_more now rows more all old mid new text longer first writes spelled time opens size none
+    still count is =
     subst (λ (rs : List Row). WritesFirst now rs old new longer) (sym is) (record {
       written = λ chapters r ends.
           let one = first.written chapters r ends in
-          subst (λ (ls : List (List ℕ)). Writes ls (rows ++ more) chapters r new [] longer)
+          subst (λ (ls : List (List ℕ)). Writes ls (rows ++ more) chapters r old new [] longer)
           (ap (λ (t : Option (List ℕ)). round_lines old.time now rows ++ round_lines t now more)
           first.time ∙ sym (lines_more old.time now rows more))
           (writes_then (round_lines old.time now rows) (round_lines mid.time now more) rows more
-          chapters r mid new [] text longer one (writes chapters one.reading one.ends));
+          chapters r old mid new [] text longer one (writes chapters one.reading one.ends));
       spelled =
           all_both (λ (r : Row). AsksFor 0 r.actor r.event (row_request r)) rows more
           first.spelled spelled;
       time =
           time ∙ ap (λ (t : Option (List ℕ)). time_behind t now more) first.time
           ∙ sym (time_more old.time now rows more);
+      first =
+          opens
+          ∙ ap (λ (t : Option (List ℕ)). first_behind t now more mid.first) first.time
+          ∙ ap (first_behind (time_behind old.time now rows) now more) first.first
+          ∙ sym (first_rows_more old.time now rows more old.first);
       size = omega (arith, length-append rows more, first.size, size);
       none = λ nothing.
           let both = none_both rows more nothing in none both.1 ∙ first.none both.0;

@@ -5,21 +5,23 @@ use Rattle.std.specs.Prelude.{length, Option, Some, None, codes, if◌then◌els
 use Rattle.std.specs.List.{starts_with}
 use Rattle.site_base.specs.declared.actor.Actor.{Actor}
 use Rattle.site_base.specs.declared.event.Event.{Event}
+use Rattle.stamps.specs.Stamps.{time_after}
 use Rattle.chapters.specs.Lines.{request_in, unfinished, whole_lines}
 use Rattle.chapters.specs.ChapterText.{first_lines, no_seal, seal_line, seal_mark, seal_of}
 use Rattle.chapters.specs.ChapterText.{text_of_lines}
 
 -- read so far: the last seal, the lines behind it, the octets behind the last line feed of the last
--- chapter, and the requests of all rows
+-- chapter, the last time that was told, and the requests of all rows
 pub record HistoryRead : Type 0 where
   pub seal : List ℕ
   pub unsealed : List (List ℕ)
   pub torn : List ℕ
+  pub time : Option (List ℕ)
   pub events : List (Actor × Event)
 
 -- nothing is read
 abbrev pub nothing_read : HistoryRead
-nothing_read = record { seal = no_seal; unsealed = []; torn = []; events = [] }
+nothing_read = record { seal = no_seal; unsealed = []; torn = []; time = None; events = [] }
 
 -- ---- a line
 
@@ -54,10 +56,15 @@ add_request (Some e) line r = Some (record (with_line line r) { events = r.event
 abbrev pub is_comment : List ℕ → Bool
 is_comment line = starts_with (λ a b. a == b) line (codes "#")
 
--- a line that is no seal: a comment says nothing, and any other is a request whose row is kept
+-- with a comment, which may tell a time
+abbrev pub with_comment : List ℕ → HistoryRead → HistoryRead
+with_comment line r = record (with_line line r) { time = time_after line r.time }
+
+-- a line that is no seal: a comment says nothing of rows, and any other is a request whose row is
+-- kept
 abbrev pub read_text : List ℕ → HistoryRead → Option HistoryRead
 read_text line r =
-    if is_comment line then Some (with_line line r) else add_request (request_in line) line r
+    if is_comment line then Some (with_comment line r) else add_request (request_in line) line r
 
 -- a line is read: a seal has to be right
 abbrev pub read_line : List ℕ → HistoryRead → Option HistoryRead

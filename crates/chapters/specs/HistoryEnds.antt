@@ -3,13 +3,14 @@ use Rattle.std.specs.Prelude.{◌≡◌, ◌==◌, ◌+◌, ℕ, Bool, List, ◌
 use Rattle.std.specs.Prelude.{if◌then◌else◌}
 use Rattle.sha2.specs.declared.Sha256.{Sha256}
 use Rattle.chapters.specs.declared.history_end.TheConstants.{SEAL_ROWS}
+use Rattle.chapters.specs.declared.open_shift.FirstRow.{FirstRow}
 use Rattle.chapters.specs.ChapterReading.{is_comment}
 use Rattle.chapters.specs.ChapterText.{text_of_lines}
 use Rattle.chapters.specs.Seals.{Covers}
 
 -- so many chapters; the last seal; the hasher of the next one; whether nothing stands behind the
--- last one; how many lines of rows do, counted up to the limit; the last time that was told; and how
--- many seals there are
+-- last one; how many lines of rows do, counted up to the limit; the last time that was told; the first
+-- row of the open shift, once it has one; and how many seals there are
 pub record EndState : Type 0 where
   pub chapters : ℕ
   pub seal : List ℕ
@@ -17,6 +18,7 @@ pub record EndState : Type 0 where
   pub sealed : Bool
   pub rows : ℕ
   pub time : Option (List ℕ)
+  pub first : Option FirstRow
   pub seals : ℕ
 
 -- a text of so many chapters ends so, whose last seal is this one, with these lines behind it

@@ -10,6 +10,7 @@ use Rattle.site_base.specs.Configured.{Configured}
 use Rattle.kept_history.specs.KeptRows.{kept_rows}
 use Rattle.written_site.specs.SiteRun.{IsLegal}
 use Rattle.written_site.specs.SiteState.{opening}
+use Rattle.stamps.specs.Stamps.{time_of_lines}
 use Rattle.chapters.specs.History.{rows_asked}
 use Rattle.chapters.specs.Lines.{request_in}
 use Rattle.chapters.specs.RowText.{CanBeSpelled}
@@ -47,6 +48,14 @@ requests_in lines = filter_map request_in (filter (λ line. not (is_comment line
 abbrev pub CommentsSayNothing : Type 0
 CommentsSayNothing = (lines : List (List ℕ)) (r s : HistoryRead) → read_lines lines r ≡ Some s
     → s.events ≡ r.events ++ requests_in lines
+
+-- ---- times
+
+-- Of the times that lines tell the last one is read, or a later one that was read before: it never
+-- falls.
+abbrev pub TimesAreRead : Type 0
+TimesAreRead = (lines : List (List ℕ)) (r s : HistoryRead) → read_lines lines r ≡ Some s
+    → s.time ≡ time_of_lines lines r.time
 
 -- ---- seals
 

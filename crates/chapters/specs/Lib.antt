@@ -1,8 +1,10 @@
 pub mod RowText
 pub mod Lines
+pub mod OpenShift
 pub mod History
 pub mod ChapterText
 pub mod Seals
+pub mod Times
 pub mod HistoryEnds
 pub mod ChapterBegins
 pub mod ChapterReading

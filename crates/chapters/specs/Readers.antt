@@ -6,6 +6,7 @@ use Rattle.std.specs.List.{starts_with}
 use Rattle.site_base.specs.declared.row.Row.{Row as RowFacts}
 use Rattle.site_book.specs.Book.{Book}
 use Rattle.site_book.specs.Unpaid.{Kept}
+use Rattle.stamps.specs.Stamps.{time_after}
 use Rattle.chapters.specs.declared.fault.HistoryFault.{HistoryFault}
 use Rattle.chapters.specs.declared.fault.HistoryFault.TheVariants.{Line, NotAfter}
 use Rattle.chapters.specs.declared.chapter_begin.ChapterBegin.{ChapterBegin}
@@ -34,6 +35,7 @@ pub record ReaderState : Type 0 where
 pub record KeepsLines (chapters : ℕ) (r : HistoryRead) (s : ReaderState) : Type 0 where
   pub ends : EndsAt chapters r.seal r.unsealed s.end
   pub made : IsMadeOf s.book r.events
+  pub time : s.end.time ≡ r.time
 
 -- the reader has read these chapters
 pub record HasRead (texts : List (List ℕ)) (s : ReaderState) : Type 0 where
@@ -48,6 +50,7 @@ pub record AddsText (line : List ℕ) (r : HistoryRead) (new : ReaderState) : Ty
   pub read : read_text line r ≡ Some reading
   pub seal : reading.seal ≡ r.seal
   pub unsealed : reading.unsealed ≡ r.unsealed ++ line ∷ []
+  pub time : reading.time ≡ time_after line r.time
   pub made : IsMadeOf new.book reading.events
 
 -- so many of the octets are whole lines; at most an unfinished one stands behind them

@@ -7,11 +7,14 @@ ghost use Rattle.chapters.specs.ChapterReading.{is_same_line};
 ghost use Rattle.chapters.specs.ChapterText.{first_lines, no_seal, seal_line, seal_of};
 ghost use Rattle.chapters.specs.ChapterText.{text_of_lines};
 ghost use Rattle.chapters.specs.HistoryEnds.{EndsAt, one_more_row, rows_with};
+ghost use Rattle.chapters.specs.OpenShift.{first_after, first_with, open_since};
+ghost use Rattle.chapters.specs.Readers.{row_read};
 
 use crate::first_lines::{put_after, put_site, put_title};
-use crate::line_read::is_comment;
+use crate::line_read::{LineRead, is_comment};
+use crate::open_shift::{FirstRow, first_after, open_since};
 use crate::seal::Unsealed;
-use site_base::NoMemory;
+use site_base::{NoMemory, Row};
 use stamps::{Stamp, time_after};
 use std::alloc::Global;
 use std::marker::Model;
@@ -41,6 +44,8 @@ pub struct HistoryEnd {
     rows: u64,
     /// The last time that was told.
     time: Option<Stamp>,
+    /// The first row of the open shift, once it has one.
+    first: Option<FirstRow>,
     /// So many seals there are.
     seals: u64,
 }
@@ -59,6 +64,7 @@ impl Model for HistoryEnd {
       sealed = e.is_sealed;
       rows = e.rows;
       time = e.time;
+      first = e.first;
       seals = e.seals;
     } };
 
@@ -70,6 +76,7 @@ impl HistoryEnd {
     pub fn new(alloc: Global) -> Result<HistoryEnd, NoMemory>
         ensures ends { IfOk result (EndsAt 0 no_seal []) }
         ensures time { IfOk result (λ end. end.time ≡ None) }
+        ensures first { IfOk result (λ end. end.first ≡ None) }
     {
         let seal = String::from_str(alloc, NO_SEAL)?;
         let unsealed = Unsealed::behind(NO_SEAL.as_bytes());
@@ -80,6 +87,7 @@ impl HistoryEnd {
             is_sealed: true,
             rows: 0,
             time: None,
+            first: None,
             seals: 0,
         })
     }
@@ -111,6 +119,13 @@ impl HistoryEnd {
         ensures { result ≡ self.now.time }
     {
         self.time
+    }
+
+    /// The time of the open shift's first row, if it has one and its time is known.
+    pub fn open_since(&self) -> Option<Stamp>
+        ensures { result ≡ open_since self.now.first }
+    {
+        open_since(self.first)
     }
 
     /// So many seals there are.
@@ -148,6 +163,7 @@ impl HistoryEnd {
             → EndsAt (chapters + 1) seal lines self.new }
         ensures count { self.new.chapters ≡ self.old.chapters + 1 }
         ensures time { self.new.time ≡ self.old.time }
+        ensures first { self.new.first ≡ self.old.first }
     {
         self.chapters += 1;
         self.cover(octets);
@@ -158,6 +174,26 @@ impl HistoryEnd {
         ensures { self.new ≡ record self.old { time = Some time } }
     {
         self.time = Some(time);
+    }
+
+    /// This row has come, at the last time that was told.
+    pub(crate) fn note_row(&mut self, row: &Row)
+        ensures { self.new ≡ record self.old {
+          first = first_after row.now self.old.time self.old.first;
+        } }
+    {
+        self.first = first_after(row, self.time, self.first);
+    }
+
+    /// A line was read as this, at the last time that was told.
+    pub(crate) fn note_read(&mut self, read: &LineRead)
+        ensures { self.new ≡ record self.old {
+          first = first_with (row_read read.now) self.old.time self.old.first;
+        } }
+    {
+        if let LineRead::Row(row) = read {
+            self.note_row(row);
+        }
     }
 
     /// The line of one more row stands behind the last seal.
@@ -177,6 +213,7 @@ impl HistoryEnd {
         ensures count { self.new.chapters ≡ self.old.chapters }
         ensures rows { self.new.rows ≡ self.old.rows }
         ensures time { self.new.time ≡ self.old.time }
+        ensures first { self.new.first ≡ self.old.first }
     {
         self.unsealed.cover(octets);
         self.is_sealed = false;
@@ -190,6 +227,7 @@ impl HistoryEnd {
         ensures count { self.new.chapters ≡ self.old.chapters }
         ensures rows { self.new.rows ≡ rows_with line.now self.old.rows }
         ensures time { self.new.time ≡ time_after line.now self.old.time }
+        ensures first { self.new.first ≡ self.old.first }
     {
         self.unsealed.cover(line);
         self.unsealed.cover(b"\n");
@@ -210,6 +248,7 @@ impl HistoryEnd {
             → EndsAt chapters (seal_of seal unsealed) [] self.new) }
         ensures count { self.new.chapters ≡ self.old.chapters }
         ensures time { self.new.time ≡ self.old.time }
+        ensures first { self.new.first ≡ self.old.first }
     {
         let seal = self.seal(alloc)?;
         Ok(is_same(&seal, line))
@@ -227,6 +266,7 @@ impl HistoryEnd {
         ensures rows { OnOk result (self.new.rows ≡ 0) }
         ensures count { self.new.chapters ≡ self.old.chapters }
         ensures time { self.new.time ≡ self.old.time }
+        ensures first { self.new.first ≡ self.old.first }
     {
         let mut line = self.seal(alloc)?;
         line.push(b'\n')?;
@@ -247,6 +287,7 @@ impl HistoryEnd {
             → OnOk result (self.new.seals ≡ self.old.seals + 1) }
         ensures count { self.new.chapters ≡ self.old.chapters }
         ensures time { self.new.time ≡ self.old.time }
+        ensures first { self.new.first ≡ self.old.first }
     {
         self.seal = self.unsealed.seal(alloc)?;
         self.is_sealed = true;

@@ -1,7 +1,7 @@
 //! The laws of a history in chapters, and of its seals.
 
 ghost use Rattle.chapters.specs.Laws.{ChaptersTellTheirHistory, CommentsSayNothing};
-ghost use Rattle.chapters.specs.Laws.{SealsBindTheirTexts};
+ghost use Rattle.chapters.specs.Laws.{SealsBindTheirTexts, TimesAreRead};
 
 /// The texts of chapters, wherever they end, tell just the kept rows of their history.
 pub fn chapters_tell_their_history()
@@ -12,6 +12,11 @@ pub fn chapters_tell_their_history()
 /// comments.
 pub fn comments_say_nothing()
     ensures { CommentsSayNothing }
+{}
+
+/// The time that is read of lines is the last one that they tell; it never falls.
+pub fn times_are_read()
+    ensures { TimesAreRead }
 {}
 
 /// Of two histories that differ and end with one seal, two lists of octets that differ and have one

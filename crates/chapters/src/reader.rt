@@ -13,6 +13,7 @@ ghost use Rattle.chapters.specs.ChapterReading.{HistoryRead, read_line, read_tex
 ghost use Rattle.chapters.specs.ChapterText.{first_lines, text_of_lines};
 ghost use Rattle.chapters.specs.History.{IsMadeOf};
 ghost use Rattle.chapters.specs.Lines.{unfinished, whole_lines};
+ghost use Rattle.chapters.specs.OpenShift.{first_with};
 ghost use Rattle.chapters.specs.Readers.{AddsText, AreRead, AreWholeLines, HasRead, IsOfText};
 ghost use Rattle.chapters.specs.Readers.{IsReading, IsRefused, KeepsLines, Names, NamesIn};
 ghost use Rattle.chapters.specs.Readers.{is_right, row_read};
@@ -205,6 +206,7 @@ impl HistoryReader {
         ensures site { self.new.site ≡ self.old.site }
         ensures book { self.new.book ≡ self.old.book }
         ensures time { self.new.end.time ≡ self.old.end.time }
+        ensures first { self.new.end.first ≡ self.old.end.first }
         ensures chapters { OnOk result (self.new.end.chapters ≡ self.old.end.chapters + 1) }
         ensures begins { OnOk result (self.new.begin ≡ begin_of self.old.book) }
         ensures err { OnErr result (self.new ≡ self.old) }
@@ -246,6 +248,8 @@ impl HistoryReader {
         ensures more { IfOk result (λ read. read.row ≢ None → 0 < read.octets) }
         ensures time { IfOk result (λ read. self.new.end.time
             ≡ time_of_lines (whole_lines (take read.octets text.now)) self.old.end.time) }
+        ensures first { IfOk result (λ read. self.new.end.first
+            ≡ first_with read.row self.new.end.time self.old.end.first) }
         ensures refused { IfErr result (λ fault. IsOfText fault → (texts : List (List ℕ))
             (whole : List ℕ) → IsReading texts whole text.now self.old
             → IsRefused texts whole self.old) }
@@ -300,6 +304,8 @@ impl HistoryReader {
             ≡ self.old.book.rows ++ cons_option (row_read read) []) }
         ensures sent { IfOk result (λ read. IfSome (row_read read) IsSent) }
         ensures time { OnOk result (self.new.end.time ≡ time_after line.now self.old.end.time) }
+        ensures first { IfOk result (λ read. self.new.end.first
+            ≡ first_with (row_read read) self.new.end.time self.old.end.first) }
         ensures site { self.new.site ≡ self.old.site }
         ensures config { self.new.book.config ≡ self.old.book.config }
         ensures chapters { self.new.end.chapters ≡ self.old.end.chapters }
@@ -312,6 +318,7 @@ impl HistoryReader {
         }
         let read = self.read_text(line)?;
         self.end.cover_line(line);
+        self.end.note_read(&read);
         Ok(read)
     }
 

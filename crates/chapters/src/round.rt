@@ -7,6 +7,7 @@ ghost use Rattle.stamps.specs.Stamps.{at_line, is_stamp, later_of};
 ghost use Rattle.chapters.specs.declared.history_end.TheConstants.{SEAL_ROWS};
 ghost use Rattle.chapters.specs.HistoryEnds.{one_more_row};
 ghost use Rattle.chapters.specs.ChapterText.{row_digits, text_of_lines};
+ghost use Rattle.chapters.specs.OpenShift.{first_after, first_behind};
 ghost use Rattle.chapters.specs.Rounds.{WritesFirst, WritesOn, WritesRound, stamp_lines};
 ghost use Rattle.chapters.specs.Rounds.{time_behind};
 ghost use Rattle.chapters.specs.RowText.{CanBeSpelled, IsSent, kept_behind};
@@ -42,6 +43,8 @@ impl HistoryEnd {
         ensures spelled { OnOk result (CanBeSpelled (kept_behind from book.now.rows)) }
         ensures time { OnOk result
             (self.new.time ≡ time_behind self.old.time now (kept_behind from book.now.rows)) }
+        ensures first { OnOk result (self.new.first ≡ first_behind self.old.time now
+            (kept_behind from book.now.rows) self.old.first) }
         ensures size { OnOk result
             (length (kept_behind from book.now.rows) ≤ length text.new.items) }
         ensures none { OnOk result (kept_behind from book.now.rows ≡ [] → self.new ≡ self.old) }
@@ -101,6 +104,8 @@ impl HistoryEnd {
         ensures spelled { OnOk result (CanBeSpelled (kept_rows (row.now ∷ []))) }
         ensures time { OnOk result
             (self.new.time ≡ time_behind self.old.time now.now (kept_rows (row.now ∷ []))) }
+        ensures first { OnOk result (self.new.first ≡ first_behind self.old.time now.now
+            (kept_rows (row.now ∷ [])) self.old.first) }
         ensures size { OnOk result (length text.old.items + length (kept_rows (row.now ∷ []))
             ≤ length text.new.items) }
         ensures none { kept_rows (row.now ∷ []) ≡ [] → self.new ≡ self.old }
@@ -125,6 +130,7 @@ impl HistoryEnd {
             text.old.items text.new.items) }
         ensures size { OnOk result (length text.old.items ≤ length text.new.items) }
         ensures time { OnOk result (self.new.time ≡ later_of self.old.time now.now) }
+        ensures first { OnOk result (self.new.first ≡ self.old.first) }
         ensures rows { OnOk result (self.new.rows ≡ self.old.rows) }
         ensures count { self.new.chapters ≡ self.old.chapters }
     {
@@ -151,12 +157,15 @@ impl HistoryEnd {
         ensures size { OnOk result (length text.old.items + 1 ≤ length text.new.items) }
         ensures rows { OnOk result (self.new.rows ≡ one_more_row self.old.rows) }
         ensures time { OnOk result (self.new.time ≡ self.old.time) }
+        ensures first { OnOk result (self.new.first
+            ≡ first_after row.now self.old.time self.old.first) }
         ensures count { self.new.chapters ≡ self.old.chapters }
     {
         let start = text.len();
         put_row_line(alloc, row, text)?;
         self.cover(&text[start..]);
         self.count_row();
+        self.note_row(row);
         Ok(())
     }
 
@@ -168,6 +177,7 @@ impl HistoryEnd {
         ensures sealed { OnOk result (self.new.sealed ≡ true) }
         ensures rows { OnOk result (self.new.rows ≡ 0) }
         ensures time { self.new.time ≡ self.old.time }
+        ensures first { self.new.first ≡ self.old.first }
         ensures count { self.new.chapters ≡ self.old.chapters }
     {
         let line = self.seal_text(alloc)?;

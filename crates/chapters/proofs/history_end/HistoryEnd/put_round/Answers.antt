@@ -8,5 +8,6 @@ pub returns-in_ok-put_seal-clause-written : goal.returns-in_ok-put_seal-clause-w
 returns-in_ok-put_seal-clause-written c = λ chapters r ends.
     let rows = kept_behind c.args.from c.args.book.now.rows in
     let one = c.in_ok-put_rows.ensures.first.written chapters r ends in
-    then_sealed (round_lines c.args.self.now.time c.args.now rows) rows chapters r _ _ [] _ _ one
+    then_sealed (round_lines c.args.self.now.time c.args.now rows) rows chapters r
+    c.args.self.now _ _ [] _ _ one
     (c.in_ok-put_seal.ensures.written chapters one.reading one.ends)

@@ -41,7 +41,7 @@ loop-place-preserved c =
       first = first_more c.args.now _ (kept_rows (c.in-Some.row ∷ [])) _ c.args.self.now
           c.loop-place.self c.put_kept.new.self c.loop-place.text.items
           c.put_kept.new.text.items c.loop-place.invariant.first more.written more.spelled
-          more.time more.size more.none more.still c.put_kept.ensures.count
+          more.time more.first more.size more.none more.still c.put_kept.ensures.count
           (kept_more c.args.book.now.rows c.args.from c.loop-place.place c.in-Some.row
           c.loop-place.invariant.high within there);
       few = λ few. more.few (c.loop-place.invariant.few few);

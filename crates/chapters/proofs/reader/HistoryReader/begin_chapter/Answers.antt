@@ -69,6 +69,7 @@ returns-clause-begun c = λ texts h.
     (ap (λ (x : ReaderState). x.end) c.self.view_is) c.begin_chapter.ensures.begun in
     chapter_begins texts c.args.text.now octets s _ (length octets) h ended first refl begins met
     (ap (λ (x : ReaderState). x.book) c.self.view_is)
+    (c.begin_chapter.ensures.time ∙ ap (λ (x : ReaderState). x.end.time) c.self.view_is)
     (ap (λ (x : ReaderState). x.site) c.self.view_is) refl
     (omega (arith, length-drop (length octets) c.args.text.now, c.type_inv.text))
 

@@ -1,4 +1,4 @@
-use Rattle.std.proofs.Common.{◌≡◌, ◌∙◌, ◌+◌, ◌∷◌, ◌++◌, [], List, None, ap}
+use Rattle.std.proofs.Common.{◌≡◌, ◌∙◌, ◌+◌, ◌∷◌, ◌++◌, [], List, None, Some, ap}
 use Rattle.std.proofs.Common.{append-nil}
 use Rattle.std.proofs.Common.{arith, drop, length, subst, not, suc, sym, take, string_bytes, ℕ}
 use Rattle.std.specs.List.{cons_option}
@@ -8,6 +8,7 @@ use Rattle.chapters.specs.ChapterReading.{HistoryRead, read_line}
 use Rattle.chapters.specs.declared.fault.HistoryFault.TheVariants.{Line}
 use Rattle.chapters.specs.declared.line_read.LineRead.{LineRead}
 use Rattle.chapters.specs.Lines.{unfinished, whole_lines}
+use Rattle.chapters.specs.OpenShift.{first_with}
 use Rattle.chapters.specs.Readers.{AreRead, KeepsLines, ReaderState, is_right, row_read, IsReading}
 use Rattle.chapters.specs.Readers.{behind_lines, with_chapter}
 use Rattle.chapters.proofs.Lines.{none_ends}
@@ -50,6 +51,10 @@ loop-end-preserved c =
     rw (c.split_at.ensures.back, others)
     (reads_more c.args.text.now rest (drop (suc c.in-Some.end) rest) c.args.self.now c.loop-end.self
     c.read_line.new.self c.loop-end.invariant one
+    (c.in_ok-read_line.ensures.first
+    ∙ ap (λ (read : LineRead). first_with (row_read read) c.read_line.new.self.end.time
+    c.self.inside.end.first) c.in-NoRow.is
+    ∙ ap (λ (s : ReaderState). s.end.first) c.self.view_is)
     (c.in_ok-read_line.ensures.row
     ∙ ap (λ (read : LineRead). c.self.inside.book.rows ++ cons_option (row_read read) [])
     c.in-NoRow.is
@@ -122,6 +127,18 @@ returns-in-Row-clause-time c =
     rw (c.split_at.ensures.back, others)
     (one.time ∙ ap (λ (xs : List ℕ). time_of_lines (whole_lines xs) c.args.self.now.end.time)
     (sym (ahead_of c.args.text.now one.done (drop (suc c.in-Some.end) rest) one.parts)))
+
+pub returns-in-Row-clause-first : goal.returns-in-Row-clause-first
+returns-in-Row-clause-first c =
+    c.in_ok-read_line.ensures.first
+    ∙ ap (λ (read : LineRead). first_with (row_read read) c.read_line.new.self.end.time
+    c.self.inside.end.first) c.in-Row.is
+    ∙ ap (first_with (Some c.in-Row.row) c.read_line.new.self.end.time)
+    (ap (λ (s : ReaderState). s.end.first) c.self.view_is ∙ c.loop-end.invariant.first)
+
+pub returns-clause-first : goal.returns-clause-first
+returns-clause-first c =
+    ap (λ (s : ReaderState). s.end.first) c.self-2.view_is ∙ c.loop-end.invariant.first
 
 pub returns-clause-time : goal.returns-clause-time
 returns-clause-time c =

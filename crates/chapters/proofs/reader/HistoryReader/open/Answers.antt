@@ -10,6 +10,7 @@ returns-clause-nothing c = record {
   keeps = record {
     ends = c.in_ok-new.ensures.ends;
     made = ap (λ (b : Book). b.rows) c.in_ok-book.ensures;
+    time = c.in_ok-new.ensures.time;
   };
   torn = refl;
 }

@@ -1,6 +1,8 @@
-use Rattle.std.proofs.Common.{◌≡◌, ◌∙◌, ap, refl, subst, sym}
-use Rattle.chapters.specs.HistoryEnds.{EndsAt}
+use Rattle.std.proofs.Common.{◌≡◌, ◌∙◌, ◌++◌, ◌∷◌, [], ap, refl, subst, sym}
+use Rattle.stamps.specs.Stamps.{time_after}
+use Rattle.chapters.specs.HistoryEnds.{EndState, EndsAt}
 use Rattle.chapters.specs.Readers.{KeepsLines, ReaderState}
+use Rattle.chapters.proofs.Rounds.{same_ends}
 use Rattle.chapters.proofs.Reading.{seal_right, seal_wrong, text_right}
 use Rattle.chapters.proofs.reader.HistoryReader.read_line.Goals as goal
 
@@ -12,6 +14,7 @@ returns-then-starts_with-clause-right c = λ yes chapters r keeps.
     (sym (c.in_ok-meet_seal.ensures.right chapters r.seal r.unsealed here.ends)
     ∙ sym c.of_seal.ensures.right ∙ yes) here
     (c.in_ok-meet_seal.ensures.behind chapters r.seal r.unsealed here.ends) refl
+    c.meet_seal.ensures.time
 
 pub returns-then-starts_with-clause-wrong : goal.returns-then-starts_with-clause-wrong
 returns-then-starts_with-clause-wrong c = λ no chapters r keeps.
@@ -28,5 +31,8 @@ returns-clause-right c = λ yes chapters r keeps.
     text_right c.args.line.now chapters r c.read_text.new.self _
     (sym c.starts_with.ensures.value ∙ c.if-starts_with.false) adds
     (ap (λ (s : ReaderState). s.book) c.self-2.view_is)
+    (same_ends chapters r.seal (r.unsealed ++ c.args.line.now ∷ []) _ _ _ _ _ c.note_read.ensures
     (c.cover_line.ensures.covers chapters r.seal r.unsealed
-    (subst (EndsAt chapters r.seal r.unsealed) (sym same) keeps.ends))
+    (subst (EndsAt chapters r.seal r.unsealed) (sym same) keeps.ends)))
+    (ap (λ (e : EndState). e.time) c.note_read.ensures ∙ c.cover_line.ensures.time
+    ∙ ap (time_after c.args.line.now) (ap (λ (e : EndState). e.time) same ∙ keeps.time))
