@@ -28,6 +28,7 @@ pub record TellsSealed (site : List ℕ) (m : Moment) (rows : List Row) (r : His
   pub tells : TellsWhole site m (events_of rows)
   pub seal : tells.tells.reading.seal ≡ seal_of r.seal r.unsealed
   pub unsealed : tells.tells.reading.unsealed ≡ []
+  pub time : tells.tells.reading.time ≡ r.time
 
 tells_sealed : (site : List ℕ) (m : Moment) (text : List ℕ) (rows : List Row)
     (t : TellsWhole site m (events_of rows))
@@ -55,6 +56,7 @@ tells_sealed site m text rows t is =
       };
       seal = refl;
       unsealed = refl;
+      time = refl;
     }
 
 -- the end of a text with the next seal
@@ -65,9 +67,9 @@ Sealed text e d =
     × EndsAt chapters (seal_of seal unsealed) [] d
 
 sealed_holds : (site text : List ℕ) (rows : List Row) (e d : EndState) (a b c : DiskFile)
-    → HoldsRows site rows false e a → Sealed text e d → Appends text a b → Syncs b c
-    → HoldsRows site rows false d c
-sealed_holds site text rows e d a b c holds sealed wrote synced =
+    → HoldsRows site rows false e a → Sealed text e d → d.time ≡ e.time → Appends text a b
+    → Syncs b c → HoldsRows site rows false d c
+sealed_holds site text rows e d a b c holds sealed time wrote synced =
     let settled = holds.settled refl in
     let is = sealed (length holds.at.closed + 1) holds.tells.tells.reading.seal
     holds.tells.tells.reading.unsealed settled.ends in
@@ -90,32 +92,33 @@ sealed_holds site text rows e d a b c holds sealed wrote synced =
         closed = closed;
         open_one = record { octets = octets; synced = all; sound = synced.sound ∙ sound };
         ends = rw (t.seal, t.unsealed) is.1;
+        time = time ∙ settled.time ∙ sym t.time;
       };
     }
 
 sealed_file : (site text : List ℕ) (rows : List Row) (e d : EndState) (a b c : Option DiskFile)
-    → OfFile (HoldsRows site rows false e) a → Sealed text e d → OfFiles (Appends text) a b
-    → OfFiles Syncs b c → OfFile (HoldsRows site rows false d) c
-sealed_file site text rows e d None None None holds sealed wrote synced = tt
-sealed_file site text rows e d (Some a) (Some b) (Some c) holds sealed wrote synced =
-    sealed_holds site text rows e d a b c holds sealed wrote synced
-sealed_file site text rows e d None None (Some c) holds sealed wrote synced = absurd synced
-sealed_file site text rows e d None (Some b) c holds sealed wrote synced = absurd wrote
-sealed_file site text rows e d (Some a) None c holds sealed wrote synced = absurd wrote
-sealed_file site text rows e d (Some a) (Some b) None holds sealed wrote synced = absurd synced
+    → OfFile (HoldsRows site rows false e) a → Sealed text e d → d.time ≡ e.time
+    → OfFiles (Appends text) a b → OfFiles Syncs b c → OfFile (HoldsRows site rows false d) c
+sealed_file site text rows e d None None None holds sealed time wrote synced = tt
+sealed_file site text rows e d (Some a) (Some b) (Some c) holds sealed time wrote synced =
+    sealed_holds site text rows e d a b c holds sealed time wrote synced
+sealed_file site text rows e d None None (Some c) holds sealed time wrote synced = absurd synced
+sealed_file site text rows e d None (Some b) c holds sealed time wrote synced = absurd wrote
+sealed_file site text rows e d (Some a) None c holds sealed time wrote synced = absurd wrote
+sealed_file site text rows e d (Some a) (Some b) None holds sealed time wrote synced = absurd synced
 
 pub journal_sealed : (rows : List Row) (j : JournalState) (text : List ℕ) (d : EndState)
     (b c : Option DiskFile) → IsJournalOf rows j → j.failed ≡ false → Sealed text j.end d
-    → OfFiles (Appends text) j.file b → OfFiles Syncs b c
+    → d.time ≡ j.end.time → OfFiles (Appends text) j.file b → OfFiles Syncs b c
     → IsJournalOf rows (record j { failed = false; end = d; file = c })
-journal_sealed rows j text d b c is whole sealed wrote synced = record {
+journal_sealed rows j text d b c is whole sealed time wrote synced = record {
   few = is.few;
   spelled = is.spelled;
   holds =
       sealed_file j.site text (kept_first j.stored rows) j.end d j.file b c
       (subst (λ (failed : Bool).
       OfFile (HoldsRows j.site (kept_first j.stored rows) failed j.end) j.file) whole is.holds)
-      sealed wrote synced;
+      sealed time wrote synced;
 }
 
 -- ---- the next chapter
@@ -129,8 +132,8 @@ Begun text e d =
 begun_holds : (site text : List ℕ) (rows : List Row) (e d : EndState) (a c : DiskFile)
     → HoldsRows site rows false e a → e.sealed ≡ true
     → text ≡ text_of_lines (first_lines site (e.chapters + 1) e.seal) → Begun text e d
-    → Begins text a c → HoldsRows site rows false d c
-begun_holds site text rows e d a c holds sealed is begun begins =
+    → d.time ≡ e.time → Begins text a c → HoldsRows site rows false d c
+begun_holds site text rows e d a c holds sealed is begun time begins =
     let settled = holds.settled refl in
     let r = holds.tells.tells.reading in
     let n : ℕ = length holds.at.closed + 1 in
@@ -168,6 +171,7 @@ begun_holds site text rows e d a c holds sealed is begun begins =
         ends = subst (λ (k : ℕ). EndsAt (k + 1) r.seal lines d) (sym size)
             (begun n r.seal lines
             (subst (λ (ls : List (List ℕ)). EndsAt n r.seal ls e) none settled.ends) same some);
+        time = time ∙ settled.time;
       };
     }
   where
@@ -177,26 +181,26 @@ begun_holds site text rows e d a c holds sealed is begun begins =
 begun_file : (site text : List ℕ) (rows : List Row) (e d : EndState) (a c : Option DiskFile)
     → OfFile (HoldsRows site rows false e) a → e.sealed ≡ true
     → text ≡ text_of_lines (first_lines site (e.chapters + 1) e.seal) → Begun text e d
-    → OfFiles (Begins text) a c → OfFile (HoldsRows site rows false d) c
-begun_file site text rows e d None None holds sealed is begun begins = tt
-begun_file site text rows e d (Some a) (Some c) holds sealed is begun begins =
-    begun_holds site text rows e d a c holds sealed is begun begins
-begun_file site text rows e d None (Some c) holds sealed is begun begins = absurd begins
-begun_file site text rows e d (Some a) None holds sealed is begun begins = absurd begins
+    → d.time ≡ e.time → OfFiles (Begins text) a c → OfFile (HoldsRows site rows false d) c
+begun_file site text rows e d None None holds sealed is begun time begins = tt
+begun_file site text rows e d (Some a) (Some c) holds sealed is begun time begins =
+    begun_holds site text rows e d a c holds sealed is begun time begins
+begun_file site text rows e d None (Some c) holds sealed is begun time begins = absurd begins
+begun_file site text rows e d (Some a) None holds sealed is begun time begins = absurd begins
 
 pub journal_begun_anew : (rows : List Row) (j : JournalState) (text : List ℕ) (d : EndState)
     (c : Option DiskFile) → IsJournalOf rows j → j.failed ≡ false → j.end.sealed ≡ true
     → text ≡ text_of_lines (first_lines j.site (j.end.chapters + 1) j.end.seal)
-    → Begun text j.end d → OfFiles (Begins text) j.file c
+    → Begun text j.end d → d.time ≡ j.end.time → OfFiles (Begins text) j.file c
     → IsJournalOf rows (record j { failed = false; end = d; file = c })
-journal_begun_anew rows j text d c is whole sealed same begun begins = record {
+journal_begun_anew rows j text d c is whole sealed same begun time begins = record {
   few = is.few;
   spelled = is.spelled;
   holds =
       begun_file j.site text (kept_first j.stored rows) j.end d j.file c
       (subst (λ (failed : Bool).
       OfFile (HoldsRows j.site (kept_first j.stored rows) failed j.end) j.file) whole is.holds)
-      sealed same begun begins;
+      sealed same begun time begins;
 }
 
 -- ---- the open chapter goes on
@@ -222,6 +226,7 @@ same_holds site rows e a c holds stays =
           sound = stays.sound ∙ settled.open_one.sound;
         };
         ends = settled.ends;
+        time = settled.time;
       };
     }
 

@@ -20,18 +20,21 @@ use Rattle.station.proofs.Keeping.{books_keep}
 use Rattle.chapters.specs.ChapterReading.{HistoryRead, nothing_read, read_from, read_lines}
 use Rattle.chapters.specs.History.{IsMadeOf, rows_asked}
 use Rattle.chapters.specs.Lines.{unfinished, whole_lines}
-use Rattle.chapters.specs.RowText.{kept_first}
+use Rattle.chapters.specs.HistoryEnds.{EndState}
+use Rattle.chapters.specs.RowText.{kept_behind, kept_first}
+use Rattle.chapters.specs.Times.{Rise, times_in}
+use Rattle.chapters.proofs.Chapters.{lines_again}
 use Rattle.chapters.proofs.Histories.{Grows, from_grows, grows_then, history_on, lines_front}
 use Rattle.chapters.proofs.Histories.{lines_grow, lines_torn, texts_front}
 use Rattle.chapters.proofs.Lines.{lines_both}
 use Rattle.chapters.proofs.Made.{asked_again, asked_both}
-use Rattle.journal.specs.Disks.{BeginsWith, DiskFile, GoesOn, Moment, OfFile, moment_of}
+use Rattle.journal.specs.Disks.{BeginsWith, DiskFile, GoesOn, Moment, OfFile, OfFiles, moment_of}
 use Rattle.journal.specs.Laws.{BeginningsAreRead, BeginsWithRows, HistoriesAreMadeAgain}
-use Rattle.journal.specs.Laws.{StationsRowsAreSent, StoredRowsAreFoundAgain}
-use Rattle.journal.specs.Laws.{ToldRowsAreFoundAgain}
+use Rattle.journal.specs.Laws.{StampsRise, StationsRowsAreSent, StoredRowsAreFoundAgain}
+use Rattle.journal.specs.Laws.{ToldRowsAreFoundAgain, WritesRising}
 use Rattle.journal.specs.Lives.{end_of}
 use Rattle.journal.specs.Readings.{TellsWhole, texts_of}
-use Rattle.journal.specs.Stored.{HoldsRows, IsJournalOf, JournalState, StoredState, has_stored}
+use Rattle.journal.specs.Stored.{GrowsByRound, HoldsRows, IsJournalOf, JournalState, StoredState, has_stored}
 use Rattle.journal.specs.Stored.{is_all_stored, told_at}
 use Rattle.journal.proofs.Lives.{goes_for_life, told_whole}
 use Rattle.journal.proofs.Moves.{forgotten_are_sent, rows_are_sent}
@@ -185,3 +188,44 @@ beginnings_are_read site m told more text n t whole nothing =
       read = history_on site m.closed m.front front r t.tells.read t.whole ∙ some.1;
       told = refl;
     })
+
+-- ---- times
+
+rising : (site : List ℕ) (rows more : List Row) (now : Option (List ℕ)) (e : EndState)
+    (old new : DiskFile) → HoldsRows site rows false e old
+    → GrowsByRound e.time now more old new → WritesRising site old new
+rising site rows more now e old new holds grown =
+    let settled = holds.settled refl in
+    let r = holds.tells.tells.reading in
+    let lines : whole_lines grown.text ≡ grown.round.lines =
+    ap whole_lines grown.round.is ∙ lines_again grown.round.lines grown.round.plain in
+    record {
+      text = grown.text;
+      grows = grown.grows;
+      rises = record {
+        reading = r;
+        read =
+            ap (λ (ts : List (List ℕ)). read_from site 1 (ts ++ old.octets ∷ []) nothing_read)
+            settled.closed
+            ∙ ap (λ (xs : List ℕ). read_from site 1 (holds.at.closed ++ xs ∷ []) nothing_read)
+            settled.open_one.octets
+            ∙ holds.tells.tells.read;
+        last = grown.round.behind;
+        rises =
+            subst (λ (ls : List (List ℕ)). Rise r.time (times_in ls) grown.round.behind)
+            (sym lines)
+            (subst (λ (t : Option (List ℕ)). Rise t (times_in grown.round.lines)
+            grown.round.behind) settled.time grown.round.rises);
+      };
+    }
+
+pub stamps_rise : StampsRise
+stamps_rise rows a b old new is whole before behind grown =
+    rising a.site (kept_first a.stored rows) (kept_behind a.stored rows) a.clock a.end old new
+    (subst (OfFile (HoldsRows a.site (kept_first a.stored rows) false a.end)) before
+    (subst (λ (failed : Bool).
+    OfFile (HoldsRows a.site (kept_first a.stored rows) failed a.end) a.file) whole is.holds))
+    (subst (λ (f : Option DiskFile). OfFiles
+    (GrowsByRound a.end.time a.clock (kept_behind a.stored rows)) f (Some new)) before
+    (subst (OfFiles (GrowsByRound a.end.time a.clock (kept_behind a.stored rows)) a.file) behind
+    grown))

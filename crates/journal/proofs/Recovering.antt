@@ -303,6 +303,7 @@ holds_read f mid g s new octets left whole h reads site lines cut stays renewed 
         };
         ends = subst (λ (n : ℕ). EndsAt n all.reading.seal all.reading.unsealed new.end)
             (length-append h.texts (octets ∷ [])) all.keeps.ends;
+        time = all.keeps.time;
       };
     }
 

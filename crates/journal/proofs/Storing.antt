@@ -15,6 +15,7 @@ use Rattle.chapters.specs.HistoryEnds.{EndState, EndsAt}
 use Rattle.chapters.specs.Lines.{unfinished, whole_lines}
 use Rattle.chapters.specs.Rounds.{Writes, WritesOn, WritesRound, round_lines}
 use Rattle.chapters.specs.RowText.{CanBeSpelled, kept_behind, kept_first, row_request}
+use Rattle.chapters.specs.Times.{Rise, times_in}
 use Rattle.chapters.proofs.Chapters.{lines_again}
 use Rattle.chapters.proofs.Histories.{history_on}
 use Rattle.chapters.proofs.Kept.{kept_parts}
@@ -32,12 +33,13 @@ pub record TellsMore (site : List ℕ) (m : Moment) (rows more : List Row) (r : 
     (n : ℕ) (e : EndState) : Type 0 where
   pub tells : TellsWhole site m (events_of (rows ++ more))
   pub ends : EndsAt n tells.tells.reading.seal tells.tells.reading.unsealed e
+  pub time : e.time ≡ tells.tells.reading.time
 
 pub tells_more : (site : List ℕ) (m : Moment) (text : List ℕ) (said : List (List ℕ))
-    (rows more : List Row) (n : ℕ) (e : EndState) (t : TellsWhole site m (events_of rows))
-    → Writes said more n t.tells.reading e [] text
-    → TellsMore site (record m { front = m.front ++ text }) rows more t.tells.reading n e
-tells_more site m text said rows more n e t w =
+    (rows more : List Row) (n : ℕ) (e d : EndState) (t : TellsWhole site m (events_of rows))
+    → Writes said more n t.tells.reading e d [] text → e.time ≡ t.tells.reading.time
+    → TellsMore site (record m { front = m.front ++ text }) rows more t.tells.reading n d
+tells_more site m text said rows more n e d t w known =
     let r = t.tells.reading in
     let lines : whole_lines text ≡ w.lines =
     ap whole_lines w.grows ∙ lines_again w.lines w.plain in
@@ -59,18 +61,26 @@ tells_more site m text said rows more n e t w =
         whole = lines_keep_torn w.lines r w.reading w.read ∙ t.whole;
       };
       ends = w.ends;
+      time = w.time known;
     }
 
 -- ---- the lines that are written
 
 -- a round was written, of these rows
 grown : (said : List (List ℕ)) (last now : Option (List ℕ)) (more : List Row) (n : ℕ)
-    (r : HistoryRead) (e : EndState) (text : List ℕ) (a b c : DiskFile)
-    → said ≡ round_lines last now more → Writes said more n r e [] text → Appends text a b
-    → Syncs b c → GrowsByRound last now more a c
-grown said last now more n r e text a b c is w wrote synced = record {
+    (r : HistoryRead) (e d : EndState) (text : List ℕ) (a b c : DiskFile)
+    → said ≡ round_lines last now more → e.time ≡ last → Writes said more n r e d [] text
+    → Appends text a b → Syncs b c → GrowsByRound last now more a c
+grown said last now more n r e d text a b c is same w wrote synced = record {
   text = text;
-  round = record { lines = w.lines; is = w.grows; plain = w.plain; says = w.says ∙ is };
+  round = record {
+    lines = w.lines;
+    is = w.grows;
+    plain = w.plain;
+    says = w.says ∙ is;
+    behind = d.time;
+    rises = subst (λ (t : Option (List ℕ)). Rise t (times_in w.lines) d.time) same w.rises;
+  };
   grows = record {
     closed = synced.closed ∙ wrote.0.closed;
     octets = synced.octets ∙ wrote.0.octets;
@@ -85,7 +95,7 @@ grown_file site text rows more now e d None None None holds writes wrote synced 
 grown_file site text rows more now e d (Some a) (Some b) (Some c) holds writes wrote synced =
     let settled = holds.settled refl in
     grown (round_lines e.time now more) e.time now more (length holds.at.closed + 1)
-    holds.tells.tells.reading d text a b c refl
+    holds.tells.tells.reading e d text a b c refl refl
     (writes (length holds.at.closed + 1) holds.tells.tells.reading settled.ends) wrote synced
 grown_file site text rows more now e d None None (Some c) holds writes wrote synced =
     absurd synced
@@ -113,7 +123,14 @@ grown_none : (last now : Option (List ℕ)) (more : List Row) (a : Option DiskFi
 grown_none last now more None is = tt
 grown_none last now more (Some a) is = record {
   text = [];
-  round = record { lines = []; is = refl; plain = tt; says = ap (round_lines last now) (sym is) };
+  round = record {
+    lines = [];
+    is = refl;
+    plain = tt;
+    says = ap (round_lines last now) (sym is);
+    behind = last;
+    rises = refl;
+  };
   grows = record { closed = refl; octets = sym (append-nil a.octets) };
 }
 
@@ -191,8 +208,8 @@ stored_holds : (site text : List ℕ) (said : List (List ℕ)) (rows more : List
 stored_holds site text said rows more e d a b c holds writes wrote synced =
     let settled = holds.settled refl in
     let n : ℕ = length holds.at.closed + 1 in
-    let t = tells_more site holds.at text said rows more n d holds.tells
-    (writes n holds.tells.tells.reading settled.ends) in
+    let t = tells_more site holds.at text said rows more n e d holds.tells
+    (writes n holds.tells.tells.reading settled.ends) settled.time in
     let octets : c.octets ≡ holds.at.front ++ text =
     synced.octets ∙ wrote.0.octets ∙ ap (λ (xs : List ℕ). xs ++ text) settled.open_one.octets in
     let sound : b.sound ≡ true = wrote.1 ∙ settled.open_one.sound in
@@ -211,6 +228,7 @@ stored_holds site text said rows more e d a b c holds writes wrote synced =
         closed = closed;
         open_one = record { octets = octets; synced = all; sound = synced.sound ∙ sound };
         ends = t.ends;
+        time = t.time;
       };
     }
 

@@ -1,5 +1,5 @@
 -- What holds of every journal: what is found again after a crash, and what is never refused.
-use Rattle.std.specs.Prelude.{◌≡◌, ℕ, List, [], ◌++◌, take, Some}
+use Rattle.std.specs.Prelude.{◌≡◌, ℕ, List, [], ◌++◌, Option, Some, false, take}
 use Rattle.std.specs.List.{AllByRecursion}
 use Rattle.site_base.specs.declared.row.Row.{Row}
 use Rattle.site_base.specs.Configured.{Configured}
@@ -8,12 +8,16 @@ use Rattle.written_site.specs.SiteState.{opening}
 use Rattle.kept_history.specs.KeptRows.{kept_rows}
 use Rattle.site_book.specs.Book.{Book}
 use Rattle.station.specs.Runs.{Move, after, opening_station}
+use Rattle.chapters.specs.ChapterReading.{HistoryRead, nothing_read, read_from}
 use Rattle.chapters.specs.History.{rows_asked}
+use Rattle.chapters.specs.Lines.{whole_lines}
 use Rattle.chapters.specs.RowText.{IsSent}
-use Rattle.journal.specs.Disks.{DiskFile, GoesOn, Moment, moment_of}
+use Rattle.chapters.specs.Times.{Rise, times_in}
+use Rattle.journal.specs.Disks.{DiskFile, GoesOn, Grows, Moment, moment_of, shown_of}
 use Rattle.journal.specs.Lives.{IsLife, end_of}
-use Rattle.journal.specs.Readings.{IsRead, TellsNothing, TellsWhole}
-use Rattle.journal.specs.Stored.{IsStored, JournalState, StoredState, told_at}
+use Rattle.journal.specs.Readings.{IsRead, TellsNothing, TellsWhole, texts_of}
+use Rattle.journal.specs.Stored.{GrowsByLines, IsJournalOf, IsStored, JournalState, StoredState}
+use Rattle.journal.specs.Stored.{told_at}
 
 -- a book begins with these rows, and has maybe more behind them
 pub record BeginsWithRows (rows : List Row) (b : Book) : Type 0 where
@@ -37,6 +41,26 @@ ToldRowsAreFoundAgain = (s : StoredState) (j : JournalState) (f : DiskFile) (key
     → (told_at s key ≡ [] → ⊥) → IsLife (moment_of f) life
     → b.config ≡ s.station.book.config → IsRead j.site (end_of (moment_of f) life) b
     → BeginsWithRows (kept_rows s.station.book.rows) b
+
+-- the times of this text rise behind the last one that the chapters tell
+pub record RisesBehind (site : List ℕ) (m : Moment) (text : List ℕ) : Type 0 where
+  pub reading : HistoryRead
+  pub read : read_from site 1 (texts_of m) nothing_read ≡ Some reading
+  pub last : Option (List ℕ)
+  pub rises : Rise reading.time (times_in (whole_lines text)) last
+
+-- such a text stands behind what a file had
+pub record WritesRising (site : List ℕ) (old new : DiskFile) : Type 0 where
+  pub text : List ℕ
+  pub grows : Grows text old new
+  pub rises : RisesBehind site (shown_of old) text
+
+-- The stamps of a history rise. Take a journal of which no write has failed, whatever its chapters
+-- told when it was opened. The times that a store writes rise behind the last one that they tell.
+abbrev pub StampsRise : Type 0
+StampsRise = (rows : List Row) (a b : JournalState) (old new : DiskFile) → IsJournalOf rows a
+    → a.failed ≡ false → a.file ≡ Some old → b.file ≡ Some new → GrowsByLines rows a b
+    → WritesRising a.site old new
 
 -- A beginning of what a store writes is never refused, lines of times and of seals included: take
 -- chapters that tell rows, and also do with a text behind them. With a beginning of it they tell

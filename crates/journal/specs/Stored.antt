@@ -15,6 +15,8 @@ use Rattle.chapters.specs.declared.chapter_begin.ChapterBegin.{ChapterBegin}
 use Rattle.chapters.specs.ChapterReading.{HistoryRead}
 use Rattle.chapters.specs.History.{IsHistory}
 use Rattle.chapters.specs.HistoryEnds.{EndState, EndsAt}
+use Rattle.chapters.specs.OpenShift.{first_behind, open_since}
+use Rattle.chapters.specs.declared.open_shift.FirstRow.{FirstRow}
 use Rattle.chapters.specs.Rounds.{IsRound}
 use Rattle.chapters.specs.RowText.{CanBeSpelled, IsSent, kept_behind, kept_first}
 use Rattle.journal.specs.Readings.{TellsWhole}
@@ -39,12 +41,14 @@ pub record StoredState : Type 0 where
   pub unpaid : Kept
   pub journal : Option JournalState
 
--- the disk has just these chapters, of which this was read, and their text ends so
+-- the disk has just these chapters, of which this was read, and their text ends so: with its last
+-- time, too
 pub record IsSettled (m : Moment) (r : HistoryRead) (e : EndState) (file : DiskFile)
     : Type 0 where
   pub closed : file.closed ≡ m.closed
   pub open_one : Holds m.front file
   pub ends : EndsAt (length m.closed + 1) r.seal r.unsealed e
+  pub time : e.time ≡ r.time
 
 -- what is on the disk goes on from chapters that tell just these rows; unless a write has failed,
 -- that is all
@@ -104,6 +108,20 @@ abbrev pub WritesLines : List Row → Option JournalState → Option JournalStat
 WritesLines rows None None = ⊤
 WritesLines rows (Some a) (Some b) = GrowsByLines rows a b
 WritesLines rows a b = ⊥
+
+-- the first row of the open shift, as a journal knows it once these rows are stored
+abbrev pub first_stored : List Row → JournalState → Option FirstRow
+first_stored rows j = first_behind j.end.time j.clock (kept_behind j.stored rows) j.end.first
+
+-- the time of that row, as the journal of a station knows it, if there is one
+abbrev pub since_of : Option JournalState → Option (List ℕ)
+since_of None = None
+since_of (Some j) = open_since j.end.first
+
+-- .. once these rows are stored
+abbrev pub since_stored : List Row → Option JournalState → Option (List ℕ)
+since_stored rows None = None
+since_stored rows (Some j) = open_since (first_stored rows j)
 
 -- where the rows that the journal hadn't stored are those of reads alone, nothing is done to its
 -- file

@@ -9,7 +9,9 @@ ghost use Rattle.chapters.specs.RowText.{IsSent, kept_behind};
 ghost use Rattle.journal.specs.ChapterEnds.{IsEnd, may_try, rows_kept};
 ghost use Rattle.journal.specs.Disks.{Keeps, OfFiles};
 ghost use Rattle.chapters.specs.Rounds.{time_behind};
-ghost use Rattle.journal.specs.Stored.{GrowsByLines, HasBegun, IsJournalOf, is_behind};
+ghost use Rattle.chapters.specs.OpenShift.{open_since};
+ghost use Rattle.journal.specs.Stored.{GrowsByLines, HasBegun, IsJournalOf, first_stored};
+ghost use Rattle.journal.specs.Stored.{is_behind};
 
 use crate::disk::{Disk, DiskFault};
 use chapters::{ChapterBegin, HistoryEnd, MOST_CHAPTERS};
@@ -143,6 +145,13 @@ impl<D: Disk> Journal<D> {
         self.end.last_seal()
     }
 
+    /// The time of the first row of the shift that is open, if it has one and its time is known.
+    pub(crate) fn open_since(&self) -> Option<Stamp>
+        ensures { result ≡ open_since self.now.end.first }
+    {
+        self.end.open_since()
+    }
+
     /// A round begins at this time, if it is known. Where it stores rows, it ends with a seal if it
     /// begins a second or more after the last one. It says whether the time is before the last one
     /// that the journal tells: that one is repeated then.
@@ -178,6 +187,8 @@ impl<D: Disk> Journal<D> {
         ensures time { OnOk result (self.new.end.time
             ≡ time_behind self.old.end.time self.old.clock
             (kept_behind self.old.stored book.now.rows)) }
+        ensures opened { OnOk result (self.new.end.first ≡ first_stored book.now.rows self.old) }
+        ensures whole { OnOk result (self.old.failed ≡ false) }
         ensures sealed { self.old.due ≡ true → OnOk result
             (kept_behind self.old.stored book.now.rows ≢ [] → self.new.end.sealed ≡ true) }
         ensures few { self.old.end.rows < SEAL_ROWS
@@ -229,6 +240,7 @@ impl<D: Disk> Journal<D> {
         ensures whole { self.old.failed ≡ false → OnOk result (self.new.failed ≡ false) }
         ensures stored { self.new.stored ≡ self.old.stored }
         ensures site { self.new.site ≡ self.old.site }
+        ensures opened { self.new.end.first ≡ self.old.end.first }
         ensures moments { OfFiles Keeps self.old.file self.new.file }
     {
         if !self.begin.is_over(book) || !self.may_try(book) {
@@ -265,6 +277,7 @@ impl<D: Disk> Journal<D> {
         ensures whole { OnOk result (self.new.failed ≡ false) }
         ensures stored { self.new.stored ≡ self.old.stored }
         ensures site { self.new.site ≡ self.old.site }
+        ensures opened { self.new.end.first ≡ self.old.end.first }
         ensures moments { OfFiles Keeps self.old.file self.new.file }
     {
         match self.seal() {
@@ -289,6 +302,7 @@ impl<D: Disk> Journal<D> {
         ensures refused { self.new.refused ≡ self.old.refused }
         ensures stored { self.new.stored ≡ self.old.stored }
         ensures site { self.new.site ≡ self.old.site }
+        ensures opened { self.new.end.first ≡ self.old.end.first }
         ensures moments { OfFiles Keeps self.old.file self.new.file }
     {
         if self.has_failed {
@@ -320,6 +334,7 @@ impl<D: Disk> Journal<D> {
         ensures whole { OnOk result (self.new.failed ≡ false) }
         ensures stored { self.new.stored ≡ self.old.stored }
         ensures site { self.new.site ≡ self.old.site }
+        ensures opened { self.new.end.first ≡ self.old.end.first }
         ensures moments { OfFiles Keeps self.old.file self.new.file }
     {
         let lines = self.end.next_lines(self.alloc, self.site.as_str())?;

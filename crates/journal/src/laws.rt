@@ -1,8 +1,8 @@
 //! The laws of a journal. Each is a function whose contract is the law.
 
 ghost use Rattle.journal.specs.Laws.{BeginningsAreRead, HistoriesAreMadeAgain};
-ghost use Rattle.journal.specs.Laws.{StationsRowsAreSent, StoredRowsAreFoundAgain};
-ghost use Rattle.journal.specs.Laws.{ToldRowsAreFoundAgain};
+ghost use Rattle.journal.specs.Laws.{StampsRise, StationsRowsAreSent};
+ghost use Rattle.journal.specs.Laws.{StoredRowsAreFoundAgain, ToldRowsAreFoundAgain};
 ghost use Rattle.journal.specs.Lives.{CallsAreSteps};
 
 /// If a book is read of chapters that go on from what is on the disk, it begins with the rows
@@ -21,6 +21,12 @@ pub fn told_rows_are_found_again()
 /// by a crash.
 pub fn calls_are_steps()
     ensures { CallsAreSteps }
+{}
+
+/// The times that a store writes rise behind the last one that the chapters tell, whatever stood in
+/// them when the history was opened.
+pub fn stamps_rise()
+    ensures { StampsRise }
 {}
 
 /// Chapters that tell rows, with a beginning of the lines of more rows behind them, are never

@@ -1,7 +1,7 @@
 //! A station with its journal.
 
 ghost use Rattle.std.specs.Prelude.{◌≡◌, ◌==◌, ◌≤◌, ℕ, IfNone, IfOk, IfSome, None, OnErr, OnOk};
-ghost use Rattle.std.specs.Prelude.{Some, is_some, length, not, true};
+ghost use Rattle.std.specs.Prelude.{Some, false, is_some, length, not, true};
 ghost use Rattle.station.specs.declared.sizes.TheConstants.{PEERS};
 ghost use Rattle.station.specs.Peers.{peer_at};
 ghost use Rattle.station.specs.Moves.{with_end, with_octets, with_taken, without_peer};
@@ -18,8 +18,8 @@ ghost use Rattle.journal.specs.ChapterEnds.{IsEndOf};
 ghost use Rattle.journal.specs.Memory.{HasRoomToHear, IsSameOrForgets};
 ghost use Rattle.journal.specs.Opening.{HasNobodyOn};
 ghost use Rattle.journal.specs.Stored.{IsJournalOf, JournalGoesOn, LeavesReadsOut};
-ghost use Rattle.journal.specs.Stored.{is_all_stored};
-ghost use Rattle.journal.specs.Stored.{WritesLines, told_at, with_station};
+ghost use Rattle.journal.specs.Stored.{WritesLines, is_all_stored, since_of, since_stored};
+ghost use Rattle.journal.specs.Stored.{told_at, with_station};
 
 use crate::disk::{Disk, DiskFault};
 use crate::journal::{ChapterEnd, Journal};
@@ -178,12 +178,24 @@ impl<D: Disk> StoredStation<D> {
         }
     }
 
+    /// The time of the first row of the shift that is open, if there is a history, the shift has a
+    /// row, and its time is known.
+    pub fn open_since(&self) -> Option<Stamp>
+        ensures { result ≡ since_of self.now.journal }
+    {
+        match &self.journal {
+            None => None,
+            Some(journal) => journal.open_since(),
+        }
+    }
+
     /// A round begins at this time, if it is known. It says whether that is before the last time
     /// that the history tells, which is repeated then.
     pub fn begin_round(&mut self, clock: Option<Stamp>, at: Instant) -> bool
         ensures station { self.new.station ≡ self.old.station }
         ensures stored { is_all_stored self.new ≡ is_all_stored self.old }
         ensures clock { IfSome self.new.journal (λ j. j.clock ≡ clock) }
+        ensures opened { since_of self.new.journal ≡ since_of self.old.journal }
         ensures journal { JournalGoesOn self.old.journal self.new.journal }
     {
         match &mut self.journal {
@@ -198,6 +210,7 @@ impl<D: Disk> StoredStation<D> {
         ensures station { self.new.station ≡ self.old.station }
         ensures stored { is_all_stored self.new ≡ is_all_stored self.old }
         ensures sealed { OnOk result (IfSome self.new.journal (λ j. j.end.sealed ≡ true)) }
+        ensures opened { since_of self.new.journal ≡ since_of self.old.journal }
         ensures journal { JournalGoesOn self.old.journal self.new.journal }
     {
         match &mut self.journal {
@@ -215,6 +228,9 @@ impl<D: Disk> StoredStation<D> {
         ensures journal { JournalGoesOn self.old.journal self.new.journal }
         ensures lines { OnOk result
             (WritesLines self.old.station.book.rows self.old.journal self.new.journal) }
+        ensures whole { OnOk result (IfSome self.old.journal (λ j. j.failed ≡ false)) }
+        ensures opened { OnOk result (since_of self.new.journal
+            ≡ since_stored self.old.station.book.rows self.old.journal) }
         ensures quiet { LeavesReadsOut self.old.station.book.rows self.old.journal
             self.new.journal }
     {
@@ -232,6 +248,7 @@ impl<D: Disk> StoredStation<D> {
         ensures station { self.new.station ≡ self.old.station }
         ensures end { IfOk result (λ end.
             IsEndOf end self.old.station.book self.old.journal self.new.journal) }
+        ensures opened { since_of self.new.journal ≡ since_of self.old.journal }
         ensures stored { is_all_stored self.new ≡ true }
         ensures journal { JournalGoesOn self.old.journal self.new.journal }
     {

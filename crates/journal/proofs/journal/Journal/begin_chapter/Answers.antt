@@ -23,4 +23,5 @@ returns-clause-journal g c = λ rows is.
     (λ chapters seal lines ends is some.
     c.begin_chapter.ensures.begun chapters seal lines ends
     (c.as_bytes-2.ensures.value ∙ sym c.as_bytes.ensures.value ∙ is) some)
+    c.begin_chapter.ensures.time
     (c.in_ok-begin.ensures.begun c.if-not-branch.false)

@@ -25,6 +25,7 @@ returns-clause-journal g c = λ rows is.
       c.in_ok-line.ensures.line chapters seal unsealed ends,
       c.in_ok-line.ensures.behind chapters seal unsealed ends,
     ))
+    c.seal_text.ensures.time
     (rw (sym c.deref.ensures.value) c.in_ok-append.ensures.ok) c.in_ok-sync.ensures.ok
 
 pub returns-clause-moments : goal.returns-clause-moments
