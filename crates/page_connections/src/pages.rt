@@ -14,6 +14,7 @@ use mio::{Registry, Token};
 use site_base::NoMemory;
 use site_book::{NamedSale, SiteBook};
 use site_page::Page;
+use stamps::Stamp;
 use std::alloc::Global;
 use std::hash::RandomState;
 use std::time::Instant;
@@ -94,21 +95,22 @@ impl Pages {
     }
 
     /// Each connection that is ready has its turn with the page of the book, of which these are
-    /// the unpaid transactions. `connections` is how many peers the station has, `seal` the last
-    /// seal of its history.
+    /// the unpaid transactions. `connections` is how many peers the station has; of its history,
+    /// `opened` is the time of the open shift's first row, and `seal` the last seal.
     pub fn answer_due(
         &mut self,
         registry: &Registry,
         book: &SiteBook,
         unpaid: &[NamedSale],
         connections: usize,
+        opened: Option<Stamp>,
         seal: Option<&str>,
         now: Instant,
     )
         requires { unpaid.now ≡ unpaid_sales book.now }
     {
         self.is_due = false;
-        match page_of(self.alloc, book, unpaid, connections, seal) {
+        match page_of(self.alloc, book, unpaid, connections, opened, seal) {
             Ok(page) => self.take_turns(registry, &page, now),
             Err(NoMemory) => self.close_due(),
         }
@@ -204,20 +206,22 @@ impl Pages {
     }
 }
 
-/// The page of a book with these unpaid transactions, so many connections and this last seal.
+/// The page of a book with these unpaid transactions, so many connections, this time of the open
+/// shift's first row and this last seal.
 fn page_of(
     alloc: Global,
     book: &SiteBook,
     unpaid: &[NamedSale],
     connections: usize,
+    opened: Option<Stamp>,
     seal: Option<&str>,
 ) -> Result<Page, NoMemory>
     requires { unpaid.now ≡ unpaid_sales book.now }
     ensures site { IfOk result (λ page. page.site ≡ compact_text
-        (site_data book.now (unpaid_sales book.now) connections (option_copied seal.entry))) }
+        (site_data book.now (unpaid_sales book.now) connections opened (option_copied seal.entry))) }
     ensures seal { IfOk result (λ page. page.seal ≡ seal_line (option_copied seal.entry)) }
 {
-    Page::of_book(alloc, book, unpaid, connections, seal)
+    Page::of_book(alloc, book, unpaid, connections, opened, seal)
 }
 
 /// Closes a connection, if there is one.

@@ -5,7 +5,7 @@ ghost use Rattle.site_book.specs.Unpaid.{unpaid_sales};
 ghost use Rattle.station.specs.declared.sizes.TheConstants.{HEARD_OCTETS};
 ghost use Rattle.station.specs.Moves.{without_peer};
 ghost use Rattle.station.specs.Reads.{HasNoPeer};
-ghost use Rattle.journal.specs.Stored.{is_all_stored};
+ghost use Rattle.journal.specs.Stored.{is_all_stored, since_of};
 ghost use Rattle.peer_connections.specs.Reaches.{Reaches};
 
 use crate::change_watch::ChangeWatch;
@@ -96,6 +96,13 @@ impl<D: Disk> Connections<D> {
     /// How many connections there are.
     pub fn count(&self) -> usize {
         self.links.iter().filter(|link| link.is_some()).count()
+    }
+
+    /// The time of the open shift's first row, as `StoredStation::open_since` says.
+    pub fn open_since(&self) -> Option<Stamp>
+        ensures { result ≡ since_of self.now.stored.journal }
+    {
+        self.stored.open_since()
     }
 
     /// The last seal of the history, as `StoredStation::last_seal` says.

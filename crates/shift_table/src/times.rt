@@ -1,10 +1,10 @@
 //! When the shifts of a history were opened and closed.
 
 ghost use Rattle.std.specs.Prelude.{◌≡◌, [], None, OnErr, OnOk};
-ghost use Rattle.written_site.specs.RowWords.{closes_shift};
 ghost use Rattle.shift_table.specs.ShiftTimes.{time_word, times_after, times_of_shift};
 
-use site_base::{Event, NoMemory, Row, ShiftNo};
+use chapters::closes_shift;
+use site_base::{NoMemory, Row, ShiftNo};
 use stamps::Stamp;
 use std::alloc::Global;
 use std::marker::Model;
@@ -55,7 +55,7 @@ impl TimesReader {
             opened: *time,
             closed: None,
         });
-        if is_close(row) {
+        if closes_shift(row) {
             times.closed = *time;
             self.closed.push(times)?;
             self.current = None;
@@ -78,13 +78,6 @@ impl TimesReader {
             None => self.current.unwrap_or(unknown),
         }
     }
-}
-
-/// Is it an accepted CloseShift?
-fn is_close(row: &Row) -> bool
-    ensures { result ≡ closes_shift row.now }
-{
-    row.reply.is_ok() && matches!(row.event, Event::CloseShift)
 }
 
 /// A time; where it isn't known, `-`.

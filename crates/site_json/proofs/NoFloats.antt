@@ -60,10 +60,11 @@ no_float_transaction x =
     rw (no_float_if x.sale.prepaid, no_float_if (till_of x.sale.standing)) refl
 
 pub no_float_site : (b : Book) (unpaid : List NamedSale) (connections : ℕ)
-    (seal : Option (List ℕ)) → has_float (site_data b unpaid connections seal) ≡ false
-no_float_site b unpaid connections seal =
+    (opened seal : Option (List ℕ)) → has_float (site_data b unpaid connections opened seal) ≡ false
+no_float_site b unpaid connections opened seal =
     let s : SiteState = site_of_book b in
     rw (
+      no_float_text opened,
       no_float_text seal,
       no_float_points s b.config.points,
       no_float_products b.config.products (product_totals s),

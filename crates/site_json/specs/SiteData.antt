@@ -14,12 +14,13 @@ use Rattle.day_report.specs.Products.{products_data}
 use Rattle.site_json.specs.Tills.{tills_data}
 use Rattle.site_json.specs.Transactions.{transactions_data}
 
--- a book's figures, with so many connections, this last seal of its history, and with these lists
--- of what stands at its site
-abbrev pub whole_data : Book → ℕ → Data → Data → Data → Data → Data → Data
-whole_data b connections seal points products tills transactions =
+-- a book's figures, with so many connections, of its history this time of the open shift's first row
+-- and this last seal, and with these lists of what stands at its site
+abbrev pub whole_data : Book → ℕ → Data → Data → Data → Data → Data → Data → Data
+whole_data b connections opened seal points products tills transactions =
     object
     (member (codes "connections") (figure connections)
+    (member (codes "opened") opened
     (member (codes "points") points
     (member (codes "products") products
     (member (codes "rows") (figure (length (kept_rows b.rows)))
@@ -27,13 +28,13 @@ whole_data b connections seal points products tills transactions =
     (member (codes "shift") (figure (open_shift (site_of_book b)))
     (member (codes "tills") tills
     (member (codes "transactions") transactions
-    no_members))))))))
+    no_members)))))))))
 
--- the site of a book, with these transactions, so many connections, and the last seal of its
--- history, if there is one
-abbrev pub site_data : Book → List NamedSale → ℕ → Option (List ℕ) → Data
-site_data b unpaid connections seal =
-    whole_data b connections (text_if seal)
+-- the site of a book, with these transactions, so many connections, and of its history, if there is
+-- one, the time of the open shift's first row and the last seal
+abbrev pub site_data : Book → List NamedSale → ℕ → Option (List ℕ) → Option (List ℕ) → Data
+site_data b unpaid connections opened seal =
+    whole_data b connections (text_if opened) (text_if seal)
     (listed (points_data (site_of_book b) b.config.points))
     (listed (products_data b.config.products (product_totals (site_of_book b))))
     (listed (tills_data (site_of_book b)))

@@ -5,6 +5,7 @@ ghost use Rattle.serde_json.specs.View.{view};
 ghost use Rattle.site_json.specs.Figures.{figure_if, text_if};
 
 use serde_json::Value;
+use stamps::Stamp;
 use std::alloc::{AllocError, Global};
 
 /// A number; without one null.
@@ -23,6 +24,16 @@ pub fn text_if(alloc: Global, text: Option<&str>) -> Result<Value, AllocError>
 {
     match text {
         Some(text) => Ok(Value::String(String::from_str(alloc, text)?)),
+        None => Ok(Value::Null),
+    }
+}
+
+/// A time as a text; without one null.
+pub fn time_if(alloc: Global, time: &Option<Stamp>) -> Result<Value, AllocError>
+    ensures { IfOk result (λ value. view value ≡ text_if time.now) }
+{
+    match time {
+        Some(time) => text_if(alloc, Some(time.as_str())),
         None => Ok(Value::Null),
     }
 }

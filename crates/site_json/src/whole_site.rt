@@ -9,8 +9,10 @@ ghost use Rattle.day_report.specs.Figures.{listed};
 ghost use Rattle.site_json.specs.Points.{points_data};
 ghost use Rattle.day_report.specs.Products.{products_data};
 ghost use Rattle.site_json.specs.SiteData.{site_data, whole_data};
+ghost use Rattle.site_json.specs.Tills.{tills_data};
+ghost use Rattle.site_json.specs.Transactions.{transactions_data};
 
-use crate::figures::text_if;
+use crate::figures::{text_if, time_if};
 use crate::points::point_values;
 use crate::tills::till_values;
 use crate::transactions::transaction_values;
@@ -18,31 +20,35 @@ use day_report::product_values;
 use serde_json::{Value, json};
 use site_base::NoMemory;
 use site_book::{NamedSale, SiteBook};
+use stamps::Stamp;
 use std::alloc::{AllocError, Global};
 
 /// The site of a book: its points, its products with the figures of a read, its tills with their
 /// clears in the open shift, that shift, how many rows there are; with these transactions, which
-/// the caller has found unpaid, so many connections, and the last seal of its history, if there is
-/// one.
+/// the caller has found unpaid, so many connections, and of its history, if there is one, the time
+/// of the open shift's first row and the last seal.
 pub fn site_value(
     alloc: Global,
     book: &SiteBook,
     unpaid: &[NamedSale],
     connections: usize,
+    opened: Option<Stamp>,
     seal: Option<&str>,
 ) -> Result<Value, NoMemory>
     ensures { IfOk result (λ value. view value
-        ≡ site_data book.now unpaid.now connections (option_copied seal.entry)) }
+        ≡ site_data book.now unpaid.now connections opened (option_copied seal.entry)) }
 {
+    let opened = time_if(alloc, &opened)?;
     let seal = text_if(alloc, seal)?;
     let points = points_value(alloc, book)?;
     let products = products_value(alloc, book)?;
-    let tills = Value::Array(till_values(alloc, book)?);
-    let transactions = Value::Array(transaction_values(alloc, unpaid)?);
+    let tills = tills_value(alloc, book)?;
+    let transactions = transactions_value(alloc, unpaid)?;
     Ok(whole_value(
         alloc,
         book,
         connections,
+        opened,
         seal,
         points,
         products,
@@ -57,20 +63,22 @@ pub fn site_text(
     book: &SiteBook,
     unpaid: &[NamedSale],
     connections: usize,
+    opened: Option<Stamp>,
     seal: Option<&str>,
 ) -> Result<String, NoMemory>
     ensures { IfOk result (λ text. string_bytes text ≡ compact_text
-        (site_data book.now unpaid.now connections (option_copied seal.entry))) }
+        (site_data book.now unpaid.now connections opened (option_copied seal.entry))) }
 {
-    Ok(site_value(alloc, book, unpaid, connections, seal)?.to_string(alloc)?)
+    Ok(site_value(alloc, book, unpaid, connections, opened, seal)?.to_string(alloc)?)
 }
 
-/// The book's figures, with so many connections, this last seal, and with these lists of what
-/// stands at its site.
+/// The book's figures, with so many connections, this time of the open shift's first row, this last
+/// seal, and with these lists of what stands at its site.
 fn whole_value(
     alloc: Global,
     book: &SiteBook,
     connections: usize,
+    opened: Value,
     seal: Value,
     points: Value,
     products: Value,
@@ -78,12 +86,13 @@ fn whole_value(
     transactions: Value,
 ) -> Result<Value, AllocError>
     ensures { IfOk result (λ value. view value ≡ whole_data book.now connections
-        (view seal) (view points) (view products) (view tills) (view transactions)) }
+        (view opened) (view seal) (view points) (view products) (view tills) (view transactions)) }
 {
     let rows = book.kept_len();
     let shift = book.open_shift().get();
     json!(in alloc; {
         "connections": connections,
+        "opened": opened,
         "points": points,
         "products": products,
         "rows": rows,
@@ -100,6 +109,20 @@ fn points_value(alloc: Global, book: &SiteBook) -> Result<Value, NoMemory>
         ≡ listed (points_data (site_of_book book.now) book.now.config.points)) }
 {
     Ok(Value::Array(point_values(alloc, book, book.config().points())?))
+}
+
+/// The tills that a site may have.
+fn tills_value(alloc: Global, book: &SiteBook) -> Result<Value, NoMemory>
+    ensures { IfOk result (λ value. view value ≡ listed (tills_data (site_of_book book.now))) }
+{
+    Ok(Value::Array(till_values(alloc, book)?))
+}
+
+/// These transactions.
+fn transactions_value(alloc: Global, unpaid: &[NamedSale]) -> Result<Value, NoMemory>
+    ensures { IfOk result (λ value. view value ≡ listed (transactions_data unpaid.now)) }
+{
+    Ok(Value::Array(transaction_values(alloc, unpaid)?))
 }
 
 /// The products with the figures of a read, in configured order.

@@ -115,6 +115,8 @@ const litres = (millilitres, digits) => (millilitres / 1000).toFixed(digits);
 const mills = price => (price / 1000).toFixed(3);
 const colour = part => 'var(--p' + (PARTS.indexOf(part) + 1) + ')';
 const clock = time => time.toTimeString().slice(0, 8);
+const moment = time => (time.toDateString() === new Date().toDateString() ? '' :
+  time.toLocaleDateString('sv') + ' ') + clock(time).slice(0, 5);
 
 function put(node, text) {
   if (node.textContent !== text) node.textContent = text;
@@ -216,7 +218,9 @@ function show(site) {
   fill(at('products'), 'section', site.products, showProduct);
   fill(at('tills'), 'span', site.tills.filter(till => till['signed on'] || till.clears > 0),
     showTill);
-  put(at('shift'), 'shift ' + site.shift);
+  put(at('shift'), 'shift ' + site.shift +
+    (site.opened === null ? '' : ' since ' + moment(new Date(site.opened))));
+  at('shift').title = site.opened || '';
   put(at('rows'), site.rows + ' rows');
   put(at('peers'), site.connections + ' connections');
   put(at('seal'), site.seal === null ? '' : 'last seal ' + site.seal.slice(0, SEAL_SHOWN));

@@ -16,6 +16,7 @@ use http_server::{Response, Service};
 use site_base::NoMemory;
 use site_book::{NamedSale, SiteBook};
 use site_json::site_text;
+use stamps::Stamp;
 use std::alloc::{AllocError, Global};
 
 /// What requests are answered by.
@@ -29,19 +30,21 @@ pub struct Page {
 
 impl Page {
     /// The page of a book's site, with these transactions, which the caller has found unpaid, so
-    /// many connections, and the last seal of its history. It stays as it is while the book goes on.
+    /// many connections, and of its history the time of the open shift's first row and the last
+    /// seal. It stays as it is while the book goes on.
     pub fn of_book(
         alloc: Global,
         book: &SiteBook,
         unpaid: &[NamedSale],
         connections: usize,
+        opened: Option<Stamp>,
         seal: Option<&str>,
     ) -> Result<Page, NoMemory>
         ensures site { IfOk result (λ page. page.site ≡ compact_text
-            (site_data book.now unpaid.now connections (option_copied seal.entry))) }
+            (site_data book.now unpaid.now connections opened (option_copied seal.entry))) }
         ensures seal { IfOk result (λ page. page.seal ≡ seal_line (option_copied seal.entry)) }
     {
-        let text = site_text(alloc, book, unpaid, connections, seal)?;
+        let text = site_text(alloc, book, unpaid, connections, opened, seal)?;
         Ok(Page {
             site: Bytes::from_string(text)?,
             seal: seal_line(alloc, seal)?,

@@ -6,5 +6,5 @@ pub const POLICY: &str = concat!(
     "default-src 'none'; base-uri 'none'; form-action 'none'; frame-ancestors 'none'; ",
     "connect-src 'self'; ",
     "style-src 'sha256-33Yay0cbrQwu1TZwBaJsKYBPMgO5dgfhjLanTIfB+Js='; ",
-    "script-src 'sha256-Ykt6jXaUvtDMfTIVP7FLTiVP7D0UWvvpgpqdpoPmbeI='",
+    "script-src 'sha256-qMnNBUry/sx1NYJYPqcFub1G/Eitat3DidkvF2jlVYk='",
 );

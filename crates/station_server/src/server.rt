@@ -236,6 +236,7 @@ impl StationServer {
                     connections.book(),
                     connections.unpaid(),
                     connections.count(),
+                    connections.open_since(),
                     connections.last_seal(),
                     self.time,
                 ),

@@ -9,5 +9,5 @@ returns c =
     c.in_ok-to_string.ensures.text
     (ap has_float c.in_ok-site_value.ensures
     ∙ no_float_site c.args.book.now c.args.unpaid.now c.args.connections
-    (option_copied c.args.seal))
+    c.args.opened (option_copied c.args.seal))
     ∙ ap compact_text c.in_ok-site_value.ensures

@@ -1,0 +1,14 @@
+use Rattle.std.proofs.Common.{◌∙◌, refl}
+use Rattle.site_json.proofs.whole_site.site_value.Goals as goal
+
+pub returns : goal.returns
+returns c =
+    c.in_ok-whole_value.ensures
+    ∙ rw (
+      c.in_ok-opened.ensures,
+      c.in_ok-seal.ensures,
+      c.in_ok-points.ensures,
+      c.in_ok-products.ensures,
+      c.in_ok-tills.ensures,
+      c.in_ok-transactions.ensures,
+    ) refl
