@@ -13,7 +13,7 @@ use crate::exit::{exit_folder, exit_history};
 use crate::listing::count_chapters;
 use crate::names::{chapter_name, path_in};
 use crate::site::read_folder_site;
-use crate::whole_file::read_whole_file;
+use crate::whole_file::{read_flushed_file, read_whole_file};
 use chapters::{HistoryReader, ReadHistory, site_name};
 use program_io::exit_no_memory;
 use site_base::{NoMemory, SiteConfig};
@@ -85,7 +85,7 @@ fn read_chapters<R: Files + Eprint + AllocGlobal>(
     ensures failed { IfErr result IsFailed }
 {
     for place in 0..count {
-        let text = read_chapter(rt, folder, place + 1)?;
+        let text = read_chapter(rt, folder, place + 1, count)?;
         match reader.read_chapter(&text) {
             Ok(_) => {}
             Err(fault) => return Err(exit_history(rt, fault)),
@@ -94,16 +94,19 @@ fn read_chapters<R: Files + Eprint + AllocGlobal>(
     Ok(())
 }
 
-/// The octets of the chapter of this number, or how the program ends.
+/// The octets of the chapter of this number, of so many, or how the program ends. Behind those of
+/// the last one a station may be writing: they are flushed.
 pub(crate) fn read_chapter<R: Files + Eprint + AllocGlobal>(
     rt: &R,
     folder: &str,
     number: u64,
+    count: u64,
 ) -> Result<Vec<u8>, ExitCode>
     requires { IsChapter number }
     ensures failed { IfErr result IsFailed }
 {
     match chapter_path(rt.alloc(), folder, number) {
+        Ok(path) if number == count => read_flushed_file(rt, path.as_str()),
         Ok(path) => read_whole_file(rt, path.as_str()),
         Err(_) => Err(exit_no_memory(rt)),
     }

@@ -140,7 +140,7 @@ impl FolderWalk {
         ensures count { self.new.count ≡ self.old.count }
         ensures failed { IfErr result IsFailed }
     {
-        let text = read_chapter(rt, folder, self.reader.chapters() + 1)?;
+        let text = read_chapter(rt, folder, self.reader.chapters() + 1, self.count)?;
         match self.reader.begin_chapter(&text) {
             Ok(octets) => {
                 look_in(&mut self.search, self.reader.chapters(), &text);

@@ -4,7 +4,8 @@ ghost use Rattle.std.specs.Prelude.{IfErr};
 ghost use Rattle.program_io.specs.Statuses.{IsFailed};
 
 use program_io::{FAULT, exit_with, read_file};
-use std::fs;
+use std::fs::{self, File, OpenFile};
+use std::io::{self, ErrorKind};
 use std::process::ExitCode;
 use std::rt::Files;
 
@@ -22,4 +23,35 @@ pub fn read_whole_file<R: Files + Eprint + AllocGlobal>(
         }
         _ => read_file(rt, name),
     }
+}
+
+/// The octets of the file of this name, once they are on the disk, or how the program ends, as
+/// `read_whole_file` says, or since they can't be flushed. Whoever writes behind them may not have
+/// flushed them yet: what is told of them could be lost by a power cut.
+pub(crate) fn read_flushed_file<R: Files + Eprint + AllocGlobal>(
+    rt: &R,
+    name: &str,
+) -> Result<Vec<u8>, ExitCode>
+    ensures failed { IfErr result IsFailed }
+{
+    let octets = read_whole_file(rt, name)?;
+    match flush_file(rt, name) {
+        Ok(()) => Ok(octets),
+        Err(error) if has_no_flush(error.kind()) => Ok(octets),
+        Err(_) => Err(exit_with(eprintln!(rt; "cannot read {name}"), FAULT)),
+    }
+}
+
+/// Has all octets of this file on the disk.
+fn flush_file(rt: &impl Files, name: &str) -> io::Result<()> {
+    File::open(rt, name)?.sync_data()
+}
+
+/// Does the error say that there is nothing to be flushed: that the file system can't be written,
+/// or has no flush?
+fn has_no_flush(kind: ErrorKind) -> bool {
+    matches!(
+        kind,
+        ErrorKind::InvalidInput | ErrorKind::ReadOnlyFilesystem | ErrorKind::Unsupported
+    )
 }

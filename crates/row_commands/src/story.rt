@@ -5,7 +5,7 @@ ghost use Rattle.std.specs.Process.{exit_status};
 ghost use Rattle.history_folder.specs.Reading.{IsWhole};
 ghost use Rattle.program_io.specs.declared.exit.TheConstants.{FAULT};
 
-use crate::output::{print_piece, print_text};
+use crate::output::print_text;
 use crate::past_row::PastRow;
 use crate::sale_story::SaleStory;
 use crate::sale_word::read_sale;
@@ -36,7 +36,8 @@ pub fn run_story<R: Files + Print + Eprint + AllocGlobal>(
     }
 }
 
-/// Prints the rows of this sale. Before a fault of the history, too, what there is is printed.
+/// Prints the rows of this sale. Where the history has a fault nothing is printed: what is shown in
+/// a dispute was read to its end.
 fn tell_story<R: Files + Print + Eprint + AllocGlobal>(
     rt: &R,
     folder: &str,
@@ -45,12 +46,9 @@ fn tell_story<R: Files + Print + Eprint + AllocGlobal>(
     let mut walk = FolderWalk::open(rt, folder)?;
     let mut story = SaleStory::new(rt.alloc(), sale);
     let mut text = Vec::new(rt.alloc());
-    let ended = put_story(rt, folder, &mut walk, &mut story, &mut text);
+    put_story(rt, folder, &mut walk, &mut story, &mut text)?;
     print_text(rt, &mut text)?;
-    match ended {
-        Ok(()) => check_sold(rt, &story, sale),
-        Err(status) => Err(status),
-    }
+    check_sold(rt, &story, sale)
 }
 
 /// How the program ends where the sale wasn't sold.
@@ -66,8 +64,8 @@ fn check_sold(rt: &impl Eprint, story: &SaleStory, sale: &SaleName) -> Result<()
     Err(exit_with(eprintln!(rt; "no sale {point}/{shift}/{number}"), FAULT))
 }
 
-/// Puts the rows of the story into the text, which is printed piece after piece.
-fn put_story<R: Files + Print + Eprint + AllocGlobal>(
+/// Puts the rows of the story into the text.
+fn put_story<R: Files + Eprint + AllocGlobal>(
     rt: &R,
     folder: &str,
     walk: &mut FolderWalk,
@@ -85,7 +83,6 @@ fn put_story<R: Files + Print + Eprint + AllocGlobal>(
         if take_row(rt.alloc(), story, &PastRow { time, shift, row }, text).is_err() {
             return Err(exit_no_memory(rt));
         }
-        print_piece(rt, text)?;
     }
     // No history has so many rows.
     Err(exit_replay(rt, Some(ReplayFault::Read(ReadFault::TurnLimit))))
