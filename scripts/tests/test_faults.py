@@ -795,6 +795,30 @@ def fail_histories_of_station():
     return runs + 1
 
 
+FOLDER_COMMANDS = (
+    ["verify"], ["shifts"], ["sales"], ["report"], ["replay"], ["explain"], ["story", "1/1/1"],
+)  # fmt: skip
+
+
+@test
+def flush_what_is_told_of_a_folder():
+    """A command flushes the last chapter before it tells anything of it, since a station may be
+    writing there. Where that fails it tells nothing; no other chapter is flushed."""
+    runs = 0
+    texts = write_chapters(KNOWN_SITE, write_rows(sign_on(1)), write_rows(sign_off(1)))
+    unread = (1, b"", f"cannot read {HISTORY}/000002.journal\n")
+    for word, *more in FOLDER_COMMANDS:
+        for k, is_last in ((1, True), (2, False)):
+            with PLACE.prepare({"FAIL_SYNC": k}) as (how, met):
+                write_history(pathlib.Path(how["cwd"]) / HISTORY, KNOWN_SITE, *texts)
+                end = run(PROGRAM, word, HISTORY, *more, given=NOTHING, **how)
+                expect(f"{word}: flush {k}", met.exists(), is_last)
+                if is_last:
+                    expect(word, (end.status, end.out, end.err), unread)
+                runs += 1
+    return runs
+
+
 UNOPENED = (
     "fault 62", f"cannot read {HISTORY}", f"cannot read {HISTORY}/site.toml",
 )  # fmt: skip

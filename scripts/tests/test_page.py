@@ -117,7 +117,7 @@ def asks_nothing_of_others():
 
 
 # The members of site.json, and of what is in it.
-SITE_MEMBERS = ["connections", "points", "products", "rows", "seal", "shift", "tills",
+SITE_MEMBERS = ["connections", "opened", "points", "products", "rows", "seal", "shift", "tills",
                 "transactions"]  # fmt: skip
 POINT = ["fuelling", "holder", "nozzle", "number", "product", "state", "state name"]
 FUELLING = ["cents", "ending", "millilitres", "mills", "prepaid", "preset cents",
@@ -146,6 +146,7 @@ def members_of_the_site():
         expect("tills", [till["number"] for till in site["tills"]], list(range(1, 33)))
         expect("connections", site["connections"], 96)
         expect("no seal without a history", site["seal"], None)
+        expect("nor a time", site["opened"], None)
         for point in site["points"]:
             expect("fuelling", list(point["fuelling"]), FUELLING)
             expect("state", point["state name"], STATES[point["state"] - 1])
@@ -486,6 +487,36 @@ def the_last_seal():
         found = run(PROGRAM, "verify", folder, "--seal", seal)
         said = f"seal {seal} is that of chapter "
         expect("verify", (found.status, said in found.out.decode()), (0, True))
+
+
+@test
+def when_the_shift_was_opened():
+    """`opened` is the time of the open shift's first row, refused ones too: none before it, nor
+    behind a closed shift; a start finds it again, also in a shift that began chapters ago."""
+    folder = HERE / "opened"
+    with start_page("--history", str(folder), till=None) as page:
+        expect("of no row", page.site()["opened"], None)
+        page.tell(ask_site(1, CLOSE_SHIFT, 0))
+        first = page.site()["opened"]
+        expect("of a refused row", first, told_times(folder)[0])
+        for asked in (sign_on(1), command_point(1, 0, 1, OPEN)):
+            page.tell(asked)
+            expect("of later rows", page.site()["opened"], first)
+        expect("closed", is_accepted(page.tell(ask_site(1, CLOSE_SHIFT, 0))), True)
+        expect("of a new shift", page.site()["opened"], None)
+        page.tell(command_point(1, 0, 1, OPEN))
+        second = page.site()["opened"]
+        expect("of its first row", second, told_times(folder)[-1])
+    with start_page("--history", str(folder), till=None) as page:
+        expect("after a start", page.site()["opened"], second)
+    lines = run(PROGRAM, "shifts", folder, "--json").out.decode().splitlines()
+    expect("as shifts says", [json.loads(line)["opened"] for line in lines], [first, second])
+
+
+def told_times(folder):
+    """The times that a history's chapters tell, in order."""
+    lines = read_chapters(folder).decode().splitlines()
+    return [line[5:] for line in lines if line.startswith("# at ")]
 
 
 def read_seal(page, folder):
