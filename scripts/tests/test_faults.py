@@ -803,20 +803,21 @@ FOLDER_COMMANDS = (
 @test
 def flush_what_is_told_of_a_folder():
     """A command flushes the last chapter before it tells anything of it, since a station may be
-    writing there. Where that fails it tells nothing; no other chapter is flushed."""
-    runs = 0
+    writing there. Where that fails it tells nothing of it; no other chapter is flushed."""
     texts = write_chapters(KNOWN_SITE, write_rows(sign_on(1)), write_rows(sign_off(1)))
-    unread = (1, b"", f"cannot read {HISTORY}/000002.journal\n")
+    unread = f"cannot read {HISTORY}/000002.journal\n"
     for word, *more in FOLDER_COMMANDS:
-        for k, is_last in ((1, True), (2, False)):
+
+        def tell(k, *texts):
             with PLACE.prepare({"FAIL_SYNC": k}) as (how, met):
                 write_history(pathlib.Path(how["cwd"]) / HISTORY, KNOWN_SITE, *texts)
-                end = run(PROGRAM, word, HISTORY, *more, given=NOTHING, **how)
-                expect(f"{word}: flush {k}", met.exists(), is_last)
-                if is_last:
-                    expect(word, (end.status, end.out, end.err), unread)
-                runs += 1
-    return runs
+                return run(PROGRAM, word, HISTORY, *more, given=NOTHING, **how), met.exists()
+
+        before = tell(2, texts[0])[0].out if word in ("replay", "explain") else b""
+        end, is_met = tell(1, *texts)
+        expect(word, (end.status, end.out, end.err), (1, before, unread))
+        expect(f"{word}: flushes", (is_met, tell(2, *texts)[1]), (True, False))
+    return 3 * len(FOLDER_COMMANDS)
 
 
 UNOPENED = (
