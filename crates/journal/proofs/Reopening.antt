@@ -13,7 +13,7 @@ pub reopens : (site first : List ℕ) (config : Configured) (recovered : Book)
     → first ≡ site
     → recovered.config ≡ config → OfFile (IsReadIn site recovered) old
     → OfFiles KeepsWholeLines old settled → rows ≡ length recovered.rows
-    → Resumes first recovered last clock settled s → Reopens site config old rows s
+    → Resumes first recovered last clock settled s → Reopens site config clock old rows s
 reopens site first config recovered last clock old settled rows s named same read stays count r = record {
   recovered = recovered;
   same = same;
@@ -24,5 +24,9 @@ reopens site first config recovered last clock old settled rows s named same rea
   journal = r.journal;
   there = r.there;
   named = r.named ∙ named;
+  clock = r.clock;
+  read_file = settled;
+  last = last;
+  lines = r.lines;
   moments = lines_then old settled r.journal.file stays r.moments;
 }

@@ -170,9 +170,9 @@ pub resumes : (site : List ℕ) (recovered b : Book) (last clock : Option (List 
     (file : Option DiskFile) (j : JournalState) (s : StoredState)
     → s ≡ record { station = opening_station b; unpaid = unpaid; journal = Some j }
     → b ≡ all_off recovered → HasNobodyOn b → j.stored ≡ length b.rows → j.site ≡ site
-    → OfFiles (GrowsByRound last clock (kept_behind (length recovered.rows) b.rows)) file j.file
+    → j.clock ≡ clock → OfFiles (GrowsByRound last clock (kept_behind (length recovered.rows) b.rows)) file j.file
     → OfFiles Keeps file j.file → Resumes site recovered last clock file s
-resumes site recovered b last clock unpaid file j s is signed off all named lines keeps =
+resumes site recovered b last clock unpaid file j s is signed off all named timed lines keeps =
     subst (Resumes site recovered last clock file) (sym is) (record {
       alone = refl;
       rows = signed;
@@ -181,6 +181,7 @@ resumes site recovered b last clock unpaid file j s is signed off all named line
       journal = j;
       there = refl;
       named = named;
+      clock = timed;
       lines = lines;
       moments = keeps;
     })

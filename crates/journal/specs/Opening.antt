@@ -36,15 +36,17 @@ pub record Resumes (site : List ℕ) (recovered : Book) (last now : Option (List
   pub journal : JournalState
   pub there : s.journal ≡ Some journal
   pub named : journal.site ≡ site
+  pub clock : journal.clock ≡ now
   pub lines : OfFiles
       (GrowsByRound last now (kept_behind (length recovered.rows) s.station.book.rows)) file
       journal.file
   pub moments : OfFiles Keeps file journal.file
 
--- .. of a disk from which this book is read: so many rows, and the sign-offs behind them. Whole
--- lines that were on the disk stay there, at each moment
-pub record Reopens (site : List ℕ) (config : Configured) (file : Option DiskFile) (rows : ℕ)
-    (s : StoredState) : Type 0 where
+-- .. of a disk from which this book is read: so many rows, and the sign-offs behind them, whose
+-- lines stand at this time behind what was read. Whole lines that were on the disk stay there, at
+-- each moment
+pub record Reopens (site : List ℕ) (config : Configured) (now : Option (List ℕ))
+    (file : Option DiskFile) (rows : ℕ) (s : StoredState) : Type 0 where
   pub recovered : Book
   pub same : recovered.config ≡ config
   pub read : OfFile (IsReadIn site recovered) file
@@ -54,4 +56,10 @@ pub record Reopens (site : List ℕ) (config : Configured) (file : Option DiskFi
   pub journal : JournalState
   pub there : s.journal ≡ Some journal
   pub named : journal.site ≡ site
+  pub clock : journal.clock ≡ now
+  pub read_file : Option DiskFile
+  pub last : Option (List ℕ)
+  pub lines : OfFiles
+      (GrowsByRound last now (kept_behind (length recovered.rows) s.station.book.rows)) read_file
+      journal.file
   pub moments : OfFiles KeepsWholeLines file journal.file

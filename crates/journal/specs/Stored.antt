@@ -123,6 +123,21 @@ abbrev pub since_stored : List Row → Option JournalState → Option (List ℕ)
 since_stored rows None = None
 since_stored rows (Some j) = open_since (first_stored rows j)
 
+-- the clock is behind the last time that a history tells
+abbrev pub is_behind : Option (List ℕ) → Option (List ℕ) → Bool
+is_behind (Some time) (Some last) = is_before time last
+is_behind time last = false
+
+-- the time of the round, as the journal of a station knows it, if there is one
+abbrev pub clock_of : Option JournalState → Option (List ℕ)
+clock_of None = None
+clock_of (Some j) = j.clock
+
+-- the round's time is before the last one that the journal tells, if there is one
+abbrev pub is_clock_behind : Option (List ℕ) → Option JournalState → Bool
+is_clock_behind time None = false
+is_clock_behind time (Some j) = is_behind time j.end.time
+
 -- where the rows that the journal hadn't stored are those of reads alone, nothing is done to its
 -- file
 abbrev pub LeavesReadsOut : List Row → Option JournalState → Option JournalState → Type 0
@@ -140,8 +155,3 @@ told_at s key = if is_all_stored s then owed_at s.station key else []
 -- the station has come so far, and its journal stays
 abbrev pub with_station : StationState → StoredState → StoredState
 with_station station s = record s { station = station }
-
--- the clock is behind the last time that a history tells
-abbrev pub is_behind : Option (List ℕ) → Option (List ℕ) → Bool
-is_behind (Some time) (Some last) = is_before time last
-is_behind time last = false

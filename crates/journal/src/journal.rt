@@ -187,6 +187,7 @@ impl<D: Disk> Journal<D> {
         ensures time { OnOk result (self.new.end.time
             ≡ time_behind self.old.end.time self.old.clock
             (kept_behind self.old.stored book.now.rows)) }
+        ensures clock { self.new.clock ≡ self.old.clock }
         ensures opened { OnOk result (self.new.end.first ≡ first_stored book.now.rows self.old) }
         ensures whole { OnOk result (self.old.failed ≡ false) }
         ensures sealed { self.old.due ≡ true → OnOk result

@@ -62,7 +62,7 @@ pub fn open_journal<D: Disk>(
         (λ o. o.station.station ≡ opening_station o.station.station.book) }
     ensures off { IfOk result (λ o. HasNobodyOn o.station.station.book) }
     ensures opened { IfOk result (λ o.
-        Reopens (string_bytes site) config.now (D.file disk) o.rows o.station) }
+        Reopens (string_bytes site) config.now clock (D.file disk) o.rows o.station) }
 
     // Refused chapters tell no book of this site, and the fault names what is wrong. Nothing is
     // done to them, nor to those that can't be read.

@@ -18,7 +18,8 @@ ghost use Rattle.journal.specs.ChapterEnds.{IsEndOf};
 ghost use Rattle.journal.specs.Memory.{HasRoomToHear, IsSameOrForgets};
 ghost use Rattle.journal.specs.Opening.{HasNobodyOn};
 ghost use Rattle.journal.specs.Stored.{IsJournalOf, JournalGoesOn, LeavesReadsOut};
-ghost use Rattle.journal.specs.Stored.{WritesLines, is_all_stored, since_of, since_stored};
+ghost use Rattle.journal.specs.Stored.{WritesLines, clock_of, is_all_stored};
+ghost use Rattle.journal.specs.Stored.{is_clock_behind, since_of, since_stored};
 ghost use Rattle.journal.specs.Stored.{told_at, with_station};
 
 use crate::disk::{Disk, DiskFault};
@@ -105,6 +106,7 @@ impl<D: Disk> StoredStation<D> {
         ensures moves { IsSameOrForgets self.old.station self.new.station }
         ensures journal { JournalGoesOn self.old.journal self.new.journal }
         ensures room { OnOk result (HasRoomToHear self.new.station.book) }
+        ensures clock { clock_of self.new.journal ≡ clock_of self.old.journal }
         ensures err { OnErr result (self.new.station ≡ self.old.station) }
     {
         if self.book().rows_in_memory() < most_in_memory(self.book().config()) {
@@ -195,6 +197,7 @@ impl<D: Disk> StoredStation<D> {
         ensures station { self.new.station ≡ self.old.station }
         ensures stored { is_all_stored self.new ≡ is_all_stored self.old }
         ensures clock { IfSome self.new.journal (λ j. j.clock ≡ clock) }
+        ensures behind { result ≡ is_clock_behind clock self.old.journal }
         ensures opened { since_of self.new.journal ≡ since_of self.old.journal }
         ensures journal { JournalGoesOn self.old.journal self.new.journal }
     {
@@ -229,6 +232,7 @@ impl<D: Disk> StoredStation<D> {
         ensures lines { OnOk result
             (WritesLines self.old.station.book.rows self.old.journal self.new.journal) }
         ensures whole { OnOk result (IfSome self.old.journal (λ j. j.failed ≡ false)) }
+        ensures clock { clock_of self.new.journal ≡ clock_of self.old.journal }
         ensures opened { OnOk result (since_of self.new.journal
             ≡ since_stored self.old.station.book.rows self.old.journal) }
         ensures quiet { LeavesReadsOut self.old.station.book.rows self.old.journal

@@ -1,6 +1,6 @@
 //! The connections of all peers, and the station that they speak with.
 
-ghost use Rattle.std.specs.Prelude.{◌≡◌, length, IfOk, IfSome, OnOk, true};
+ghost use Rattle.std.specs.Prelude.{◌≡◌, length, IfOk, IfSome, OnOk, is_some, true};
 ghost use Rattle.site_book.specs.Unpaid.{unpaid_sales};
 ghost use Rattle.station.specs.declared.sizes.TheConstants.{HEARD_OCTETS};
 ghost use Rattle.station.specs.Moves.{without_peer};
@@ -13,11 +13,11 @@ use crate::due_list::DueList;
 use crate::link::{Channel, Link};
 use crate::naming::{EndedSession, PeerName};
 use crate::shift_warning::warn_of_last_shifts;
-use crate::sizes::CLOSING_SECONDS;
+use crate::sizes::{CLOSING_SECONDS, TAKING_SECONDS};
 use connection_calls::both_ways;
 use journal::{ChapterEnd, Disk, DiskFault, StoredStation};
 use mio::net::TcpStream;
-use mio::{Registry, Token};
+use mio::{Interest, Registry, Token};
 use site_base::NoMemory;
 use site_book::{NamedSale, SiteBook};
 use stamps::Stamp;
@@ -37,6 +37,8 @@ pub struct Connections<D: Disk> {
     closing: usize,
     /// Whether a dispenser is told of a row, and those that are owed octets aren't sent them yet.
     changes: ChangeWatch,
+    /// A session may be read from no more, since its peer takes nothing.
+    may_be_stuck: bool,
     /// That the history's chapter goes on, since there can't be a next one, was said.
     has_told_refused: bool,
     /// That the clock went back was said.
@@ -61,6 +63,7 @@ impl<D: Disk> Connections<D> {
             due: DueList::new(alloc)?,
             closing: 0,
             changes,
+            may_be_stuck: false,
             has_told_refused: false,
             has_told_clock: false,
         })
@@ -109,6 +112,7 @@ impl<D: Disk> Connections<D> {
     pub fn last_seal(&self) -> Option<&str>
         ensures { IfSome result (λ seal. IfSome self.now.stored.journal
             (λ j. seal.now ≡ j.end.seal)) }
+        ensures there { is_some result ≡ is_some self.now.stored.journal }
     {
         self.stored.last_seal()
     }
@@ -181,6 +185,11 @@ impl<D: Disk> Connections<D> {
         }
     }
 
+    /// May there be a session that is read from no more, since its peer takes nothing?
+    pub fn may_be_stuck(&self) -> bool {
+        self.may_be_stuck
+    }
+
     /// Are there sessions that have ended, and connections that haven't?
     pub fn has_closing(&self) -> bool {
         self.closing > 0
@@ -207,7 +216,7 @@ impl<D: Disk> Connections<D> {
         };
         let _ = stream.set_nodelay(true);
         let is_watched = registry
-            .register(&mut stream, Token(key), both_ways())
+            .register(&mut stream, Token(key), peer_interest())
             .is_ok();
         if is_watched && key < self.links.len() {
             self.links[key] = Some(Link::new(stream, now));
@@ -216,10 +225,10 @@ impl<D: Disk> Connections<D> {
         }
     }
 
-    /// A peer has sent something, or hung up. With `to_end` it is known that it sends no more.
-    /// Where the station's book can't be given room for what it sent, it isn't read from.
+    /// A peer has sent something, or hung up. With `to_wait` it is read until its connection waits,
+    /// as `Link::hear` says. Where the station's book can't be given room for what it sent, it isn't read from.
     #[tactic(auto, using(crate::proofs::Reaching::moved))]
-    pub fn hear(&mut self, key: usize, to_end: bool, now: Instant) -> Result<(), DiskFault>
+    pub fn hear(&mut self, key: usize, to_wait: bool, now: Instant) -> Result<(), DiskFault>
         ensures { Reaches self.old.stored.station self.new.stored.station }
     {
         if let Some(Some(link)) = self.links.get_mut(key) {
@@ -227,7 +236,17 @@ impl<D: Disk> Connections<D> {
                 link.ignore(&mut self.piece);
             } else {
                 let changes = &mut self.changes;
-                link.hear(&mut self.stored, changes, key, &mut self.piece, to_end, now)?;
+                link.hear(
+                    &mut self.stored,
+                    changes,
+                    key,
+                    &mut self.piece,
+                    to_wait,
+                    now,
+                )?;
+                if !self.stored.is_read(key) {
+                    self.may_be_stuck = true;
+                }
             }
         }
         Ok(())
@@ -346,7 +365,7 @@ impl<D: Disk> Connections<D> {
         if let Some(Some(link)) = self.links.get_mut(key) {
             let is_left = link.is_unread && (is_read || link.closing_since.is_some());
             if is_left || is_owed && !link.is_full {
-                let _ = registry.reregister(&mut link.stream, Token(key), both_ways());
+                let _ = registry.reregister(&mut link.stream, Token(key), peer_interest());
             }
         }
     }
@@ -419,8 +438,8 @@ impl<D: Disk> Connections<D> {
         }
     }
 
-    /// Sessions of which nothing came for so many seconds end, and connections that don't close are
-    /// closed.
+    /// Sessions of which nothing came for so many seconds end, and so do those that are read from no
+    /// more, since their peers take nothing; connections that don't close are closed.
     #[tactic(auto, using(crate::proofs::Reaching::moved))]
     pub fn sweep<E: Eprint>(
         &mut self,
@@ -432,22 +451,39 @@ impl<D: Disk> Connections<D> {
         ensures moves { Reaches self.old.stored.station self.new.stored.station }
         ensures stored { OnOk result (is_all_stored self.new.stored ≡ true) }
     {
+        self.may_be_stuck = false;
         for key in 0..self.links.len() {
-            match self.find_timeout(key, idle, now) {
-                Timeout::NotYet => {}
-                Timeout::Idle(seconds) => {
-                    let name = PeerName {
-                        node: self.stored.node(key),
-                    };
-                    let _ = eprintln!(rt; "session of {name}: nothing came for {seconds} seconds");
-                    self.stored.finish(key);
-                    let _ = self.note_closing(key, now);
-                    self.make_due(key);
-                }
-                Timeout::Closing => self.remove(key),
-            }
+            self.end_if_late(rt, key, idle, now);
         }
         self.send_due(registry, rt, now)
+    }
+
+    /// The session of a peer ends, or its connection is closed, if the peer was waited for too long.
+    #[tactic(auto, using(crate::proofs::Reaching::moved))]
+    fn end_if_late<E: Eprint>(&mut self, rt: &E, key: usize, idle: Option<u64>, now: Instant)
+        ensures { Reaches self.old.stored.station self.new.stored.station }
+    {
+        match self.find_timeout(key, idle, now) {
+            Timeout::NotYet => {}
+            Timeout::Idle(seconds) => self.end_late(rt, key, "came", seconds, now),
+            Timeout::Stuck(seconds) => self.end_late(rt, key, "was taken", seconds, now),
+            Timeout::StuckSoon => self.may_be_stuck = true,
+            Timeout::Closing => self.remove(key),
+        }
+    }
+
+    /// The session of a peer ends, of which nothing came for so many seconds, or that took nothing.
+    #[tactic(auto, using(crate::proofs::Reaching::moved))]
+    fn end_late<E: Eprint>(&mut self, rt: &E, key: usize, what: &str, seconds: u64, now: Instant)
+        ensures { Reaches self.old.stored.station self.new.stored.station }
+    {
+        let name = PeerName {
+            node: self.stored.node(key),
+        };
+        let _ = eprintln!(rt; "session of {name}: nothing {what} for {seconds} seconds");
+        self.stored.finish(key);
+        let _ = self.note_closing(key, now);
+        self.make_due(key);
     }
 
     /// Time has passed in which the station heard nobody: no peer was silent then.
@@ -457,6 +493,7 @@ impl<D: Disk> Connections<D> {
         for slot in &mut self.links {
             if let Some(link) = slot {
                 link.heard_at = now;
+                link.taken_at = now;
             }
         }
     }
@@ -469,6 +506,14 @@ impl<D: Disk> Connections<D> {
         match (link.closing_since, idle) {
             (Some(since), _) if now.duration_since(since).as_secs() >= CLOSING_SECONDS => {
                 Timeout::Closing
+            }
+            (None, _) if !self.stored.is_read(key) => {
+                let seconds = idle.unwrap_or(TAKING_SECONDS);
+                if now.duration_since(link.still_since()).as_secs() >= seconds {
+                    Timeout::Stuck(seconds)
+                } else {
+                    Timeout::StuckSoon
+                }
             }
             (None, Some(seconds))
                 if !link.is_unread && now.duration_since(link.heard_at).as_secs() >= seconds => {
@@ -552,6 +597,15 @@ enum Timeout {
     NotYet,
     /// Nothing came of it for so many seconds.
     Idle(u64),
+    /// It took nothing for so many seconds, and isn't read from for that.
+    Stuck(u64),
+    /// It isn't read from, and may still take something.
+    StuckSoon,
     /// Its session has ended, and its connection doesn't.
     Closing,
+}
+
+/// The interest of a peer's connection: it is read from, written to, and may bring urgent data.
+fn peer_interest() -> Interest {
+    both_ways() | Interest::PRIORITY
 }

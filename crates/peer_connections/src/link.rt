@@ -18,6 +18,8 @@ pub(crate) struct Link {
     pub(crate) stream: TcpStream,
     /// When octets came last.
     pub(crate) heard_at: Instant,
+    /// When the peer last took octets.
+    pub(crate) taken_at: Instant,
     /// Since its session has ended: when the peer last took octets.
     pub(crate) closing_since: Option<Instant>,
     /// Reading stopped before the peer had no more.
@@ -47,6 +49,7 @@ impl Link {
         Link {
             stream,
             heard_at: now,
+            taken_at: now,
             closing_since: None,
             is_unread: false,
             is_full: false,
@@ -56,7 +59,9 @@ impl Link {
     }
 
     /// Reads from the peer, and has the station hear it: until there is no more for now, the peer
-    /// isn't read from, or its turn is over. With `to_end` it is known that the peer sends no more.
+    /// isn't read from, or its turn is over. With `to_wait` it reads on behind a short read, too,
+    /// until the connection waits: the peer sends no more, or has sent urgent data, ahead of which a
+    /// read ends.
     /// Where the station's book can't be given room for a read, nothing more is read.
     #[tactic(auto, using(crate::proofs::Reaching::moved))]
     pub(crate) fn hear<D: Disk>(
@@ -65,7 +70,7 @@ impl Link {
         changes: &mut ChangeWatch,
         key: usize,
         piece: &mut [u8],
-        to_end: bool,
+        to_wait: bool,
         now: Instant,
     ) -> Result<(), DiskFault>
         requires { length piece.old ≡ HEARD_OCTETS }
@@ -80,7 +85,7 @@ impl Link {
             match read_with_room(&mut self.stream, stored, changes, key, piece)? {
                 Call::Passed(n) => {
                     self.heard_at = now;
-                    if n < size && !to_end {
+                    if n < size && !to_wait {
                         self.is_unread = false;
                         return Ok(());
                     }
@@ -129,8 +134,18 @@ impl Link {
 
     /// The peer has taken octets.
     fn note_taken(&mut self, now: Instant) {
+        self.taken_at = now;
         if self.closing_since.is_some() {
             self.closing_since = Some(now);
+        }
+    }
+
+    /// Since when nothing has come from the peer, and it has taken nothing.
+    pub(crate) fn still_since(&self) -> Instant {
+        if self.taken_at > self.heard_at {
+            self.taken_at
+        } else {
+            self.heard_at
         }
     }
 

@@ -1,5 +1,9 @@
 //! How long a peer is waited for.
 
+/// Where sessions may be silent as long as they like, one that is read from no more, since its peer
+/// takes nothing, lasts so many seconds.
+pub const TAKING_SECONDS: u64 = 60;
+
 /// A peer whose session has ended gets so many seconds for each step in which it takes what it is
 /// owed, and then hangs up.
 pub const CLOSING_SECONDS: u64 = 5;

@@ -1,14 +1,16 @@
 -- A station that goes on with its history.
-use Rattle.std.specs.Prelude.{◌≡◌, ℕ, List, None, Ok}
+use Rattle.std.specs.Prelude.{◌≡◌, ℕ, List, None, Ok, Option}
 use Rattle.site_base.specs.Configured.{Configured}
 use Rattle.site_file.specs.SiteFile.{config_of}
 use Rattle.chapters.specs.ChapterText.{site_name}
 use Rattle.journal.specs.Opening.{Reopens}
 use Rattle.journal.specs.Stored.{StoredState}
 
--- it goes on where the history of the site that a site file says ended, which had so many rows
+-- it goes on where the history of the site that a site file says ended, which had so many rows, at
+-- the time that the clock told
 pub record GoesOn (rows : ℕ) (s : StoredState) : Type 0 where
   pub site_file : List ℕ
   pub config : Configured
   pub says : config_of site_file ≡ Ok config
-  pub reopens : Reopens (site_name site_file) config None rows s
+  pub clock : Option (List ℕ)
+  pub reopens : Reopens (site_name site_file) config clock None rows s

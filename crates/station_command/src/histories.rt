@@ -123,7 +123,8 @@ fn open_with<'a, R: Files<File = File> + Clock + Eprint + AllocGlobal>(
         (λ o. o.station.station ≡ opening_station o.station.station.book) }
     ensures off { IfOk result (λ o. HasNobodyOn o.station.station.book) }
     ensures opened { IfOk result (λ o.
-        Reopens (site_name site_file.now) config.now None o.rows o.station) }
+        (clock : Option (List ℕ))
+        × Reopens (site_name site_file.now) config.now clock None o.rows o.station) }
     ensures failed { IfErr result IsFailed }
 {
     let disk = match folder.into_disk() {

@@ -255,6 +255,7 @@ impl StationServer {
         let is_page_busy = self.pages.as_ref().is_some_and(|pages| pages.is_busy());
         if self.callers == Callers::Refused
             || connections.has_closing()
+            || connections.may_be_stuck()
             || idle.is_some()
             || is_page_busy
         {
@@ -390,7 +391,7 @@ impl StationServer {
     )
         ensures { connections.new.stored ≡ connections.old.stored }
     {
-        if idle.is_none() {
+        if idle.is_none() && !connections.may_be_stuck() {
             return;
         }
         let begun = self.time;
@@ -414,9 +415,9 @@ fn take_turn<D: Disk>(
     if event.is_writable() {
         connections.unblock(key);
     }
-    let to_end = event.is_read_closed();
-    if event.is_readable() || event.is_error() || to_end {
-        connections.hear(key, to_end, now)?;
+    let to_wait = event.is_read_closed() || event.is_priority();
+    if event.is_readable() || event.is_error() || to_wait {
+        connections.hear(key, to_wait, now)?;
     }
     connections.make_due(key);
     Ok(())

@@ -63,6 +63,7 @@ returns-in-Ok-clause-resumed g c =
     (g.D.Disk.file c.args.disk) c.store.new.self c.with_journal.result c.with_journal.ensures
     c.sign_off_all.ensures.rows c.sign_off_all.ensures.off c.in-Ok.ensures.stored
     (c.store.ensures.site ∙ ap (λ (j : JournalState). j.site) c.new-journal.ensures)
+    (c.store.ensures.clock ∙ ap (λ (j : JournalState). j.clock) c.new-journal.ensures)
     (subst (λ (n : ℕ).
     OfFiles (GrowsByRound c.args.recovered.end.time c.args.clock (kept_behind n rows))
     (g.D.Disk.file c.args.disk) file)
