@@ -110,7 +110,7 @@ impl<D: Disk> Connections<D> {
 
     /// The last seal of the history, as `StoredStation::last_seal` says.
     pub fn last_seal(&self) -> Option<&str>
-        ensures { IfSome result (λ seal. IfSome self.now.stored.journal
+        ensures seal { IfSome result (λ seal. IfSome self.now.stored.journal
             (λ j. seal.now ≡ j.end.seal)) }
         ensures there { is_some result ≡ is_some self.now.stored.journal }
     {
