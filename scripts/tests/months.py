@@ -4,7 +4,7 @@ moments at which it is killed."""
 import os
 import time
 
-from shared.histories import list_chapters
+from shared.histories import list_chapters, write_rows
 from shared.station import (
     CLEAR, CLOSE_SHIFT, LOCK, READ, WRITE, address_point, ask, ask_site, is_accepted, read_site,
 )  # fmt: skip
@@ -17,6 +17,7 @@ NAMED_SHIFT = 0x22  # in the address of a sale
 SHIFT, STATUS = 0x76, 0x78  # items
 NOT_SIGNED_ON, CLEARED = 1, 1
 WATCH = 0.0005  # seconds between two looks at a folder
+CLOSE_LINE = write_rows(ask_site(MANAGER, CLOSE_SHIFT, 0)).rstrip()
 
 
 def address_named_sale(point, shift, number):
@@ -88,14 +89,15 @@ class ShiftTill(Till):
 
 
 def wait_for_chapter_end(folder, seconds):
-    """Waits so long, or until a chapter is about to end: it gets a seal as its last line, or the
-    next one's copy. Returns whether one is. What an earlier run has left there doesn't count."""
+    """Waits so long, or until a chapter is about to end: it gets the seal behind a CloseShift as its
+    last line, or the next one's copy. Returns whether one is. What an earlier run has left there
+    doesn't count."""
     end = time.monotonic() + seconds
     size, had_copy = list_chapters(folder)[-1].stat().st_size, find_copies(folder)
     while time.monotonic() < end:
         last = list_chapters(folder)[-1]
         found = last.stat().st_size
-        if not had_copy and find_copies(folder) or found != size and is_sealed(last):
+        if not had_copy and find_copies(folder) or found != size and is_ended(last):
             return True
         size = found
         time.sleep(WATCH)
@@ -106,9 +108,9 @@ def find_copies(folder):
     return [path.name for path in folder.glob("*.starting")]
 
 
-def is_sealed(path):
-    """Whether the last line of a chapter is a seal, or begins as one."""
+def is_ended(path):
+    """Whether the last line of a chapter is the seal behind a CloseShift, or begins as one."""
     with open(path, "rb") as file:
         file.seek(max(0, path.stat().st_size - 200))
         lines = file.read().splitlines()
-    return bool(lines) and lines[-1].startswith(b"# se")
+    return len(lines) > 1 and lines[-1].startswith(b"# se") and lines[-2] == CLOSE_LINE

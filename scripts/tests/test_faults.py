@@ -359,7 +359,11 @@ def list_readings():
         ["report", "--json", "--shift", "1"], ["shifts"], ["shifts", "--json"],
     ):  # fmt: skip
         yield [word, busy, *words], NOTHING
-    yield ["next", ended], NOTHING
+    for word, *words in (
+        ["next"], ["verify"], ["verify", "--seal", "0" * 64], ["story", "1/1/1"],
+        ["explain", "--times"], ["sales", "--from", "2026-01-01", "--to", "2026-12-31"],
+    ):  # fmt: skip
+        yield [word, ended, *words], NOTHING
 
 
 def list_commands():
@@ -797,6 +801,7 @@ def fail_histories_of_station():
 
 FOLDER_COMMANDS = (
     ["verify"], ["shifts"], ["sales"], ["report"], ["replay"], ["explain"], ["story", "1/1/1"],
+    ["next"],
 )  # fmt: skip
 
 

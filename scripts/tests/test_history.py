@@ -24,8 +24,8 @@ from shared.checks import Failed, Skipped, expect
 from shared.histories import (
     FIRST_LINES, LOCK_FILE, NO_SEAL, SITE_FILE, Told, chapter_path, check_chapters, count_rows,
     expect_looks, find_untold, first_lines, is_notice, is_read, is_sign_off, list_chapters,
-    read_rows, retitle, seal_line, split_messages, whole_lines, without_marks, without_token,
-    write_chapters, write_history, write_rows,
+    read_rows, retitle, seal_line, split_messages, time_line, whole_lines, without_marks,
+    without_token, write_chapters, write_history, write_rows,
 )  # fmt: skip
 from shared.running import run
 from shared.serving import WAIT, Found, read_status, send_reset, start_day, wait_until
@@ -1479,7 +1479,7 @@ def power_cuts():
     """The power is cut at each octet that is written while a chapter ends: a start finds each row
     that was told, the chapters go on from each other, and the shift is closed just where its row
     is there."""
-    body, row = write_rows(*DAY), write_rows(CLOSE_IT)
+    body, row = write_rows(*DAY), time_line("2026-01-02T03:04:05.678Z") + write_rows(CLOSE_IT)
     sealed, following = write_chapters(KNOWN_SITE, body + row, b"")
     later = write_rows(command_point(1, 0, 2, OPEN))
     folder, count = HERE / "cut", 0

@@ -8,6 +8,7 @@ and on a telephone. Without a Chromium those tests are skipped."""
 import base64
 import concurrent.futures
 import contextlib
+import datetime
 import functools
 import hashlib
 import json
@@ -25,7 +26,10 @@ from shared.browser import (
     SCREEN, SOON, TELEPHONE, WIDE, expect_words, find_browser, open_page, read_tile, start_browser,
 )  # fmt: skip
 from shared.checks import Failed, Skipped, expect
-from shared.histories import NO_SEAL, count_rows, find_last_seal, read_chapters, retitle
+from shared.histories import (
+    NO_SEAL, count_rows, find_last_seal, read_chapters, retitle, time_line, write_chapters,
+    write_history, write_rows,
+)  # fmt: skip
 from shared.page_day import connect, end_day, read_answer, write_request
 from shared.running import EXAMPLES, SCRIPTS, compile_c, run
 from shared.serving import list_addresses, wait_until
@@ -492,7 +496,7 @@ def the_last_seal():
 @test
 def when_the_shift_was_opened():
     """`opened` is the time of the open shift's first row, refused ones too: none before it, nor
-    behind a closed shift; a start finds it again, also in a shift that began chapters ago."""
+    behind a closed shift; a start finds it again, also in a shift that began a chapter ago."""
     folder = HERE / "opened"
     with start_page("--history", str(folder), till=None) as page:
         expect("of no row", page.site()["opened"], None)
@@ -511,6 +515,11 @@ def when_the_shift_was_opened():
         expect("after a start", page.site()["opened"], second)
     lines = run(PROGRAM, "shifts", folder, "--json").out.decode().splitlines()
     expect("as shifts says", [json.loads(line)["opened"] for line in lines], [first, second])
+    times = [f"2026-01-02T0{hour}:00:00.000Z" for hour in (1, 2)]
+    bodies = [time_line(at) + write_rows(one) for at, one in zip(times, (sign_on(1), sign_on(2)))]
+    write_history(folder, KNOWN_SITE, *write_chapters(KNOWN_SITE, *bodies))
+    with start_page("--history", str(folder), till=None) as page:
+        expect("in an earlier chapter", page.site()["opened"], times[0])
 
 
 def told_times(folder):
@@ -742,6 +751,40 @@ def the_last_seal_on_the_page():
             wanted = [f"last seal {seal[:SEAL_SHOWN]}", seal] if words else ["", ""]
             expect("the seal", browser.evaluate(said), wanted)
             expect("complaints of the browser", browser.complaints, [])
+
+
+@test
+@in_browser
+def since_when_on_the_page():
+    """The page says since when the shift is open, in the time of the day here, of another day with
+    its date; the title has the whole time. Without a history it says nothing of it."""
+    said = "[document.getElementById('shift').textContent, document.getElementById('shift').title]"
+    old = HERE / "since-page"
+    times = ["2026-01-02T03:04:05.678Z", make_stamp(datetime.datetime.now(datetime.UTC))]
+    for opened in (None, *times):
+        words = []
+        if opened:
+            body = time_line(opened) + write_rows(sign_on(1))
+            write_history(old, KNOWN_SITE, *write_chapters(KNOWN_SITE, body))
+            words = ["--history", str(old)]
+        with start_page(*words, till=None) as page, start_browser() as browser:
+            browser.open(page.url, *SCREEN)
+            wait_until("the shift", lambda: browser.evaluate(said)[0] != "")
+            got = browser.evaluate(said)
+            expect("the title", got[1], opened or "")
+            expect("the shift", got[0], "shift 1" + (f" since {tell_moment(opened)}" if opened else ""))
+            expect("complaints of the browser", browser.complaints, [])
+
+
+def make_stamp(time):
+    return time.strftime("%Y-%m-%dT%H:%M:%S.000Z")
+
+
+def tell_moment(stamp):
+    """A time as the page tells it: of another day than today with its date."""
+    moment = datetime.datetime.fromisoformat(stamp).astimezone()
+    is_today = moment.date() == datetime.datetime.now().date()
+    return moment.strftime("%H:%M" if is_today else "%Y-%m-%d %H:%M")
 
 
 @test_beside

@@ -249,8 +249,9 @@ def times_never_fall():
 
 @test
 def changed_octets():
-    """Each octet of a chapter changed, to its neighbour, to a letter, to a line feed, and left out:
-    `verify` and a start name the chapter and the line."""
+    """Each octet of the second of three chapters changed, to its neighbour, to a letter, to a line
+    feed, and left out: `verify` names the chapter and the line, and so does a start, which is tried
+    with the neighbours."""
     chapters, rows = small_chapters()
     whole, count = chapters.texts[1], 0
     for place, octet in enumerate(whole):

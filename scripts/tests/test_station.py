@@ -65,6 +65,9 @@ FULL_KILOBYTES = 32_000  # of memory, with 1,024 peers that say nothing
 FLOODED_KILOBYTES = 64_000  # .. and with floods that aren't read
 STEPS = 150  # requests of each till and its dispensers
 SOON = 10  # seconds, for a connection that is closed at once if all is well
+URGENT = 200  # times that a till sends urgent data
+TAKING = 60  # seconds that a till has which takes nothing, without --idle
+LEAVING = 10  # seconds more, for the sweep, and for a connection that closes
 QUIET_TICKS = 2  # hundredths of a second, of fifty
 MOST_TIMES = 5  # as long as without the others, besides two milliseconds
 SLOW = 0.02  # seconds: half of the replies come sooner, whatever else the station does
@@ -523,6 +526,52 @@ def silent_peers():
         with day.connect() as again:
             ask(again, sign_on(1), SIGNED_ON[1])
             expect("report", end(day, told), write_report(6, 0))
+
+
+@test
+def urgent_data():
+    """Urgent data, at which a read ends short, stalls no session: the requests behind it are
+    answered, too. It is none of the session's octets."""
+    asked, wanted = read_point(1, 1, 3), replay(sign_on(1) + read_point(1, 1, 3))[16:]
+    with start_station() as day, day.connect() as till:
+        ask(till, sign_on(1), SIGNED_ON[1])
+        for _ in range(URGENT):
+            till.sendall(asked)
+            till.send(b"!", socket.MSG_OOB)
+            till.sendall(asked)
+            expect("both are answered", receive(till, 2 * len(wanted)), 2 * wanted)
+        port = till.getsockname()[1]
+        till.close()
+        day.wait_until_left(port)
+        expect("report", end(day), write_report(2 + 2 * URGENT, 0))
+
+
+@test
+def a_till_that_takes_nothing():
+    """A till whose output is full, since it takes nothing, is left after the seconds of --idle, and
+    without it after sixty, here one that sends no more. Its till isn't signed on then."""
+    for words, seconds in ((["--idle", "2"], 2), ([], TAKING)):
+        told = f"session of t1: nothing was taken for {seconds} seconds\n"
+        with start_station(*words) as day, day.connect() as deaf:
+            ask(deaf, sign_on(1), SIGNED_ON[1])
+            closing, port = threading.Event(), deaf.getsockname()[1]
+            deaf.setblocking(False)
+            sender = threading.Thread(target=send_until, args=(deaf, closing, 1))
+            sender.start()
+            try:
+                day.wait_until_full(deaf)
+            finally:
+                closing.set()
+                sender.join()
+            begun = time.monotonic()
+            if not words:
+                deaf.shutdown(socket.SHUT_WR)
+            day.wait_until_left(port)
+            took = time.monotonic() - begun
+            expect(f"left after {took:.1f} seconds", seconds - 1 <= took < seconds + LEAVING, True)
+            with day.connect() as again:
+                ask(again, sign_on(1), SIGNED_ON[1])
+            end(day, told)
 
 
 @test

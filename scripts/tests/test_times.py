@@ -82,8 +82,8 @@ def now():
 @test
 def random_days(seed):
     """Shifts with any number of sales, with pauses, in three days: each seal is that which
-    hashlib computes, each time lies within its day's, and `date` parses it as Python does. The
-    last line is a seal."""
+    hashlib computes; times lie between the first day's beginning and the last one's end, and
+    `date` parses each as Python does. The last line is a seal."""
     chance, folder, reading = start_chance(seed, "days"), HERE / f"days{seed}", 0
     begun = now() - datetime.timedelta(milliseconds=1)
     for _ in range(3):
