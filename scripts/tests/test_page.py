@@ -758,7 +758,7 @@ def the_last_seal_on_the_page():
 def since_when_on_the_page():
     """The page says since when the shift is open, in the time of the day here, of another day with
     its date; the title has the whole time. Without a history it says nothing of it."""
-    said = "[document.getElementById('shift').textContent, document.getElementById('shift').title]"
+    said = "['textContent', 'title'].map(one => document.getElementById('shift')?.[one] ?? '')"
     old = HERE / "since-page"
     times = ["2026-01-02T03:04:05.678Z", make_stamp(datetime.datetime.now(datetime.UTC))]
     for opened in (None, *times):
