@@ -1,6 +1,7 @@
 //! The station that a command opens, with its history or without one.
 
-ghost use Rattle.std.specs.Prelude.{◌≡◌, ◌≤◌, IfErr, IfNone, IfOk, IfSome, None, string_bytes};
+ghost use Rattle.std.specs.Prelude.{◌≡◌, ◌≤◌, ℕ, IfErr, IfNone, IfOk, IfSome, List, None, Option};
+ghost use Rattle.std.specs.Prelude.{string_bytes};
 ghost use Rattle.station.specs.Runs.{opening_station};
 ghost use Rattle.journal.specs.declared.memory.TheConstants.{LEAST_ROWS};
 ghost use Rattle.chapters.specs.ChapterText.{site_name};
