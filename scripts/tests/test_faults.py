@@ -805,23 +805,30 @@ FOLDER_COMMANDS = (
 )  # fmt: skip
 
 
+def tell_of_folder(word, *more, texts, **faults):
+    """How a command ends that reads a history of these chapters, and whether the fault was met."""
+    with PLACE.prepare(faults) as (how, met):
+        write_history(pathlib.Path(how["cwd"]) / HISTORY, KNOWN_SITE, *texts)
+        return run(PROGRAM, word, HISTORY, *more, given=NOTHING, **how), met.exists()
+
+
 @test
 def flush_what_is_told_of_a_folder():
-    """A command flushes the last chapter before it tells anything of it, since a station may be
-    writing there. Where that fails it tells nothing of it; no other chapter is flushed."""
+    """A command flushes the last chapter, and then the folder, before it tells anything of that
+    chapter, since a station may be writing there, and a start may have put a copy in its place.
+    Where one of the two fails it tells nothing of it; no other chapter is flushed."""
     texts = write_chapters(KNOWN_SITE, write_rows(sign_on(1)), write_rows(sign_off(1)))
-    unread = f"cannot read {HISTORY}/000002.journal\n"
     for word, *more in FOLDER_COMMANDS:
 
-        def tell(k, *texts):
-            with PLACE.prepare({"FAIL_SYNC": k}) as (how, met):
-                write_history(pathlib.Path(how["cwd"]) / HISTORY, KNOWN_SITE, *texts)
-                return run(PROGRAM, word, HISTORY, *more, given=NOTHING, **how), met.exists()
+        def tell(k, *chapters):
+            return tell_of_folder(word, *more, texts=chapters, FAIL_SYNC=k)
 
-        before = tell(2, texts[0])[0].out if word in ("replay", "explain") else b""
-        end, is_met = tell(1, *texts)
-        expect(word, (end.status, end.out, end.err), (1, before, unread))
-        expect(f"{word}: flushes", (is_met, tell(2, *texts)[1]), (True, False))
+        expect(f"{word}: two flushes", (tell(2, *texts)[1], tell(3, *texts)[1]), (True, False))
+        before = tell(3, texts[0])[0].out if word in ("replay", "explain") else b""
+        for k, name in enumerate((f"{HISTORY}/000002.journal", HISTORY), start=1):
+            end, is_met = tell(k, *texts)
+            wanted = (1, before, f"cannot read {name}\n", True)
+            expect(f"{word}, flush {k}", (end.status, end.out, end.err, is_met), wanted)
     return 3 * len(FOLDER_COMMANDS)
 
 

@@ -10,10 +10,11 @@ ghost use Rattle.history_folder.specs.Reading.{HasReadSome, IsRead};
 ghost use Rattle.program_io.specs.Statuses.{IsFailed};
 
 use crate::exit::{exit_folder, exit_history};
+use crate::fault::fault_of;
 use crate::listing::count_chapters;
 use crate::names::{chapter_name, path_in};
 use crate::site::read_folder_site;
-use crate::whole_file::{read_flushed_file, read_whole_file};
+use crate::whole_file::{flush_folder, read_flushed_file, read_whole_file};
 use chapters::{HistoryReader, ReadHistory, site_name};
 use program_io::exit_no_memory;
 use site_base::{NoMemory, SiteConfig};
@@ -94,8 +95,8 @@ fn read_chapters<R: Files + Eprint + AllocGlobal>(
     Ok(())
 }
 
-/// The octets of the chapter of this number, of so many, or how the program ends. Behind those of
-/// the last one a station may be writing: they are flushed.
+/// The octets of the chapter of this number, of so many, or how the program ends. Those of the last
+/// one are on the disk then, where its name is that of a file that has them.
 pub(crate) fn read_chapter<R: Files + Eprint + AllocGlobal>(
     rt: &R,
     folder: &str,
@@ -106,9 +107,32 @@ pub(crate) fn read_chapter<R: Files + Eprint + AllocGlobal>(
     ensures failed { IfErr result IsFailed }
 {
     match chapter_path(rt.alloc(), folder, number) {
-        Ok(path) if number == count => read_flushed_file(rt, path.as_str()),
+        Ok(path) if number == count => read_last_chapter(rt, folder, path.as_str()),
         Ok(path) => read_whole_file(rt, path.as_str()),
         Err(_) => Err(exit_no_memory(rt)),
+    }
+}
+
+/// The octets of the last chapter, which has this path, once a power cut can't take them back; or
+/// how the program ends.
+///
+/// A station may be writing behind them, and a start may put a copy in the file's place, which has
+/// each whole line of it and is on the disk before it takes the name. So the order matters: they
+/// are read, then the file that has the name is flushed, then the folder. Whichever file was
+/// flushed has what was read, and so has each copy of it: the folder's flush then has the name
+/// of one of them on the disk. If the folder were flushed first, a copy could take the name between
+/// the two flushes: a power cut would bring the old file back, whose last octets nobody flushed.
+fn read_last_chapter<R: Files + Eprint + AllocGlobal>(
+    rt: &R,
+    folder: &str,
+    path: &str,
+) -> Result<Vec<u8>, ExitCode>
+    ensures failed { IfErr result IsFailed }
+{
+    let octets = read_flushed_file(rt, path)?;
+    match flush_folder(rt, folder) {
+        Ok(()) => Ok(octets),
+        Err(error) => Err(exit_folder(rt, folder, fault_of(&error))),
     }
 }
 

@@ -35,16 +35,28 @@ pub(crate) fn read_flushed_file<R: Files + Eprint + AllocGlobal>(
     ensures failed { IfErr result IsFailed }
 {
     let octets = read_whole_file(rt, name)?;
-    match flush_file(rt, name) {
+    match flush_octets(rt, name) {
         Ok(()) => Ok(octets),
-        Err(error) if has_no_flush(error.kind()) => Ok(octets),
         Err(_) => Err(exit_with(eprintln!(rt; "cannot read {name}"), FAULT)),
     }
 }
 
-/// Has all octets of this file on the disk.
-fn flush_file(rt: &impl Files, name: &str) -> io::Result<()> {
-    File::open(rt, name)?.sync_data()
+/// Has all octets of this file on the disk, if there is something to be flushed.
+fn flush_octets(rt: &impl Files, name: &str) -> io::Result<()> {
+    settle_flush(File::open(rt, name)?.sync_data())
+}
+
+/// Has on the disk which files have the names of this folder, if there is something to be flushed.
+pub(crate) fn flush_folder(rt: &impl Files, folder: &str) -> io::Result<()> {
+    settle_flush(File::open(rt, folder)?.sync_all())
+}
+
+/// How a flush ended: well too if the file system can't be written, or has no flush.
+fn settle_flush(flushed: io::Result<()>) -> io::Result<()> {
+    match flushed {
+        Err(error) if has_no_flush(error.kind()) => Ok(()),
+        ended => ended,
+    }
 }
 
 /// Does the error say that there is nothing to be flushed: that the file system can't be written,
