@@ -31,5 +31,6 @@ pub use decoding::{decode_number, decode_reply};
 pub use encoding::encode_request;
 pub use fault::MapFault;
 pub use laws::{changes_are_told, changes_repeat_requests, one_request};
+pub use node::{dispenser, till};
 pub use reply::{refusal_in, refusal_of, reply_in, reply_of, stream_refusal};
 pub use request::{request_in, request_of};

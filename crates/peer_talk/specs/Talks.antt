@@ -1,6 +1,7 @@
 -- A talk in its course: what is known of a peer between two messages, and what some messages lead
 -- to.
 use Rattle.std.specs.Prelude.{◌≡◌, ℕ, true, List, ◌++◌, map, slice_index, Option, Some, None}
+use Rattle.std.specs.Prelude.{◌==◌, if◌then◌else◌}
 use Rattle.site_base.specs.declared.actor.Actor.{Actor}
 use Rattle.site_base.specs.declared.actor.Actor.TheVariants.{Till, Dispenser}
 use Rattle.site_base.specs.declared.event.Event.{Event}
@@ -20,6 +21,11 @@ pub record TalkState : Type 0 where
 -- before the first message
 abbrev pub opening_talk : TalkState
 opening_talk = record { peer = None; on = None; asked = 0 }
+
+-- the till that it signed on, unless it is this one, which somebody else has signed off
+abbrev pub without_on : ℕ → Option ℕ → Option ℕ
+without_on t None = None
+without_on t (Some on) = if on == t then None else Some on
 
 -- the till that it signed on is the one that it serves: it speaks from that till's node
 abbrev pub IsOwn : Option ℕ → Option (List ℕ) → Type 0

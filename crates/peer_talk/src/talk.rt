@@ -3,7 +3,7 @@
 ghost use Rattle.std.specs.Prelude.{◌≡◌};
 ghost use Rattle.devices.specs.Devices.{one_more};
 ghost use Rattle.peer_talk.specs.Exchanges.{signed_by};
-ghost use Rattle.peer_talk.specs.Talks.{opening_talk, IsOwn, IsRequestOf, IsSpokenBy};
+ghost use Rattle.peer_talk.specs.Talks.{opening_talk, IsOwn, IsRequestOf, IsSpokenBy, without_on};
 ghost use Rattle.peer_talk.specs.Text.{is_another, meaning_at, peer_after};
 
 use app_message::Message;
@@ -135,6 +135,18 @@ impl Talk {
             Some(SignChange::On(t)) => self.on = Some(*t),
             Some(SignChange::Off(_)) => self.on = None,
             None => {}
+        }
+    }
+
+    /// Somebody else has signed this till off: if it was the one that was signed on here, it isn't
+    /// any more.
+    pub fn forget_till(&mut self, till: TillNo)
+        ensures { self.new ≡ record self.old { on = without_on till self.old.on } }
+    {
+        if let Some(on) = self.on {
+            if on.get() == till.get() {
+                self.on = None;
+            }
         }
     }
 }
