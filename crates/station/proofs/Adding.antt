@@ -24,23 +24,28 @@ use Rattle.peer_talk.specs.Exchanges.{signed_by, signed_on_after}
 use Rattle.peer_talk.specs.Talks.{TalkState}
 use Rattle.peer_talk.specs.Text.{meaning_at, peer_after, requests_in}
 use Rattle.peer_talk.proofs.Speakers.{fault_meant, request_meant}
+use Rattle.station.specs.declared.gates.Admission.{Admission}
 use Rattle.station.specs.declared.peer_end.PeerEnd.{PeerEnd}
+use Rattle.station.specs.declared.peer_end.PeerEnd.TheVariants as ends
 use Rattle.station.specs.Adding.{AddsRequests, AddsSignOff, IsLeaving, is_silent, till_left}
 use Rattle.station.specs.Adding.{till_of}
 use Rattle.station.specs.Moves.{StationState, finish_at, hear_from, take_by, with_end, with_octets}
-use Rattle.station.specs.Moves.{with_turn}
+use Rattle.station.specs.Moves.{admits_at, with_turn}
 use Rattle.station.specs.Peers.{peer_at}
 use Rattle.station.specs.Reads.{is_read_at, is_read_of}
-use Rattle.station.specs.Runs.{Arrives, Finishes, Forgets, Leaves as Gone, Move, Says, Takes}
+use Rattle.station.specs.Runs.{Arrives, EndsRelease, Finishes, Forgets, Leaves as Gone, Loses}
+use Rattle.station.specs.Runs.{Move, Says, Takes}
 use Rattle.station.specs.Runs.{after_move}
 use Rattle.station.specs.Runs.{arrive}
 use Rattle.station.specs.Sessions.{Granted, Grants, Session, Turn, answer, answer_meaning, ask}
 use Rattle.conversation.specs.Books.{outcome_at}
 use Rattle.station.specs.Sessions.{end_session, finish, hear, is_read, no_memory}
 use Rattle.station.specs.Sessions.{refuse_by, serve, tell, tell_last, with_text, without_till}
-use Rattle.station.proofs.Keeping.{by_fault, by_lasting, by_memory, by_message, ended_lasts}
+use Rattle.station.proofs.Keeping.{by_admission, by_fault, by_lasting, by_memory, by_message}
+use Rattle.station.proofs.Keeping.{ended_lasts}
 use Rattle.station.proofs.Keeping.{holding, read_lasts}
-use Rattle.station.proofs.Leaving.{freed_book, may_sign_off}
+use Rattle.station.proofs.Leaving.{freed_book}
+use Rattle.station.proofs.SigningOff.{may_sign_off}
 use Rattle.station.proofs.Stories.{signed-append}
 
 -- ---- a till that is left
@@ -196,10 +201,11 @@ module _ (peer : Option (List ℕ)) (on : Option ℕ) (all : List Telegram) (old
 
 -- ---- a piece
 
-piece_asks : (g : Grants) (piece : List ℕ) (t : Turn) → t.session.end ≡ None
+piece_asks : (admits : List ℕ → Admission) (g : Grants) (piece : List ℕ) (t : Turn)
+    → t.session.end ≡ None
     → AddsRequests t.session.talk.peer t.session.talk.on (fed_by t.session.held piece).messages
-    t.book (hear g piece t).book
-piece_asks g piece t lasts =
+    t.book (hear admits g piece t).book
+piece_asks admits g piece t lasts =
     let fed = fed_by t.session.held piece in
     let peer = t.session.talk.peer in
     let on = t.session.talk.on in
@@ -209,11 +215,16 @@ piece_asks g piece t lasts =
       requests = refl;
       signed = refl;
     } in
-    by_memory (λ u. AddsRequests peer on fed.messages t.book u.book) g piece t
+    let start = holding (held_part fed) t in
+    by_memory (λ u. AddsRequests peer on fed.messages t.book u.book) admits g piece t
     (refused_asks peer on fed.messages t.book g.refusal fed.fault _
+    (by_admission (Asks peer on fed.messages t.book []) admits g.first g.messages fed.messages start
     (by_message (Asks peer on fed.messages t.book)
-    (next_asks peer on fed.messages t.book) g.messages fed.messages
-    (holding (held_part fed) t) (inl (lasts, begins))))
+    (next_asks peer on fed.messages t.book) g.messages fed.messages start (inl (lasts, begins)))
+    (λ m later is nobody.
+    inr (is_told_last peer on fed.messages t.book g.first _ _ fed.messages start begins))
+    (λ m later is nobody.
+    inr (ends_asking peer on fed.messages t.book (ends.Crowded m.from) fed.messages start begins))))
     (stops peer on fed.messages t.book fed.messages t.book _ t.session.talk begins
     (leaves_till on t.book))
 
@@ -227,8 +238,8 @@ octets_ask s memory k octets x there read =
     subst (λ y. AddsRequests x.talk.peer x.talk.on ms s.book (hear_from memory k octets y s).book)
     (sym there)
     (subst (λ b. AddsRequests x.talk.peer x.talk.on ms s.book
-    (if b then with_turn k (hear memory octets start) s else s).book)
-    (sym read) (piece_asks memory octets start (read_lasts x read)))
+    (if b then with_turn k (hear (admits_at k x.door s) memory octets start) s else s).book)
+    (sym read) (piece_asks (admits_at k x.door s) memory octets start (read_lasts x read)))
 
 -- octets for a key whose peer isn't read from, or that nobody has
 pub octets_unheard : (s : StationState) (memory : Grants) (k : ℕ) (octets : List ℕ)
@@ -239,14 +250,16 @@ octets_unheard s memory k octets unread = by_slot (peer_at s.peers k) unread
     by_slot None unread = refl
     by_slot (Some x) unread =
         ap (λ b. if b
-        then with_turn k (hear memory octets (record { book = s.book; session = x })) s
+        then with_turn k
+        (hear (admits_at k x.door s) memory octets (record { book = s.book; session = x })) s
         else s) unread
 
 -- ---- moves without octets
 
-arrived_book : (k : ℕ) (y : Option Session) (s : StationState) → (arrive k y s).book ≡ s.book
-arrived_book k None s = refl
-arrived_book k (Some x) s = refl
+arrived_book : (k : ℕ) (door : Option (List ℕ)) (y : Option Session) (s : StationState)
+    → (arrive k door y s).book ≡ s.book
+arrived_book k door None s = refl
+arrived_book k door (Some x) s = refl
 
 taken_book : (k n : ℕ) (y : Option Session) (s : StationState) → (take_by k n y s).book ≡ s.book
 taken_book k n None s = refl
@@ -273,10 +286,12 @@ ends_sign_off k (Some x) s = by_test (is_none x.end)
 
 pub silent_moves : (m : Move) (s : StationState) → is_silent m ≡ true
     → AddsSignOff (till_left m s) s.book (after_move m s).book
-silent_moves (Arrives k) s silent =
+silent_moves (Arrives k door) s silent =
     adds_none None s.book _
-    (ap (λ (b : Book). b.rows) (arrived_book k (peer_at s.peers k) s))
+    (ap (λ (b : Book). b.rows) (arrived_book k door (peer_at s.peers k) s))
 silent_moves (Says memory k octets) s silent = absurd cc
+silent_moves (EndsRelease on off p) s silent = absurd cc
+silent_moves (Loses memory p) s silent = absurd cc
 silent_moves (Takes k n) s silent =
     adds_none None s.book _ (ap (λ (b : Book). b.rows) (taken_book k n (peer_at s.peers k) s))
 silent_moves Forgets s silent = adds_none None s.book _ (forgets_alone s.book).rows

@@ -15,19 +15,22 @@ use Rattle.site_book.proofs.Books.{forgets_alone}
 use Rattle.station.specs.declared.peer_end.PeerEnd.{PeerEnd}
 use Rattle.station.specs.declared.sizes.TheConstants.{READ_LIMIT}
 use Rattle.station.specs.Moves.{StationState, finish_at, hear_from, rows_since, take_by}
-use Rattle.station.specs.Moves.{with_arrival, with_turn, without_old_rows}
+use Rattle.station.specs.Moves.{admits_at, with_arrival, with_book, with_turn, without_old_rows}
 use Rattle.station.specs.Peers.{tell_rows, peer_at, with_peer, with_notices}
-use Rattle.station.specs.Runs.{Arrives, Finishes, Forgets, Leaves, Move, Says, Stays, Takes, after}
+use Rattle.station.specs.Runs.{Arrives, EndsRelease, Finishes, Forgets, Leaves, Loses, Move, Says}
+use Rattle.station.specs.Runs.{Stays, Takes, after}
 use Rattle.station.specs.Runs.{after_move, heard_of, heard_with, stays_with, taken_with, text_to}
 use Rattle.station.specs.Reads.{is_read_at, owed_at}
 use Rattle.station.specs.Sessions.{Grants, Session, Turn, finish, hear, is_read, opening_session}
 use Rattle.station.specs.Stories.{IsTold, asked_in, is_all_answered, is_whole, messages_in}
-use Rattle.station.specs.Stories.{refusal_by, rows_in, said_in, told_in}
-use Rattle.station.proofs.Keeping.{Leads, after_input, key_of, moved_keeps, turn_at}
+use Rattle.station.specs.Stories.{refusal_by, refusal_in, rows_in, said_in, told_in}
+use Rattle.conversation.specs.Books.{outcome_at}
+use Rattle.station.proofs.Keeping.{Acts, Leads, after_input, key_of, lost, moved_keeps, own_acts}
+use Rattle.station.proofs.Keeping.{release_ended, turn_at}
 use Rattle.station.proofs.Lives.{InCourse, finishes, hears, rows_come, same_course}
 use Rattle.station.proofs.Peers.{other_key, peer_at-map, peer_at-other, peer_at-same}
 use Rattle.station.proofs.Stories.{notices_are_due}
-use Rattle.station.proofs.Turns.{Grows, input-grows, since}
+use Rattle.station.proofs.Turns.{Grows, input-grows, left-grows, outcome-grows, since}
 
 -- ---- the peer of a key in its course
 
@@ -93,15 +96,16 @@ own_says c before had sent k memory octets s seen = by_course seen.course
         by_test : (b : Bool)
             → IsSeen c before had (sent ++ (if b then octets else [])) k
             (if b
-            then with_turn k (hear memory octets (record {
+            then with_turn k (hear (admits_at k seen.session.door s) memory octets (record {
               book = s.book;
               session = seen.session;
             })) s
             else s)
         by_test true =
             let start : Turn = record { book = s.book; session = seen.session } in
-            own_turn c before had (sent ++ octets) k (hear memory octets start) s
-            (hears c before had sent octets memory start h)
+            let admits = admits_at k seen.session.door s in
+            own_turn c before had (sent ++ octets) k (hear admits memory octets start) s
+            (hears c before had sent octets admits memory start h)
         by_test false = rw (append-nil sent) seen
     by_course (inr d) =
         rw (not_read seen.session d.0 d.1.over, append-nil sent) seen
@@ -192,6 +196,34 @@ rows_forgotten_seen c before had sent k s seen =
           alone.config alone.rows seen.course;
     }
 
+-- ---- the station itself
+
+-- the book has come so far
+booked_seen : (c : Configured) (before : List Row) (had sent : List ℕ) (k : ℕ) (b : Book)
+    (s : StationState) → Grows s.book b → IsSeen c before had sent k s
+    → IsSeen c before had sent k (with_book b s)
+booked_seen c before had sent k b s g seen =
+    let more = rows_since s.book b in
+    record {
+      session = tell_rows more seen.session;
+      there =
+          peer_at-map (option_map (tell_rows more)) k s.peers refl
+          ∙ ap (option_map (tell_rows more)) seen.there;
+      course =
+          rows_come c before had sent more s.book b seen.session g.same
+          (g.rows ∙ ap (λ rs. s.book.rows ++ rs) (sym (since s.book b g))) seen.course;
+    }
+
+seen_acts : (c : Configured) (before : List Row) (had sent : List ℕ) (k : ℕ) (s : StationState)
+    → IsSeen c before had sent k s → Acts (IsSeen c before had sent k) s
+seen_acts c before had sent k s seen =
+    own_acts (IsSeen c before had sent k) (record {
+      asks = λ memory actor event s own seen.
+          booked_seen c before had sent k _ s
+          (outcome-grows actor event (outcome_at memory s.book actor event) s.book) seen;
+      leaves = λ t s seen. booked_seen c before had sent k _ s (left-grows (Some t) s.book) seen;
+    }) s seen
+
 -- ---- any move
 
 -- a move of another key
@@ -200,7 +232,7 @@ other_leads : (c : Configured) (before : List Row) (had sent : List ℕ) (k j : 
     → Leads (IsSeen c before had sent k) j s
 other_leads c before had sent k j s other seen = record {
   stays = seen;
-  comes = λ none. other_slot c before had sent k j (Some opening_session) s other seen;
+  comes = λ door none. other_slot c before had sent k j (Some (opening_session door)) s other seen;
   turns = λ input x there lasts.
       other_turn c before had sent k j (after_input input (turn_at s x)) s other
       (input-grows input (turn_at s x) lasts) seen;
@@ -224,7 +256,7 @@ own_moves : (c : Configured) (before : List Row) (had sent : List ℕ) (k : ℕ)
     (s : StationState) → (key_of m == k) ≡ true → stays_with k m ≡ true
     → IsSeen c before had sent k s
     → IsSeen c before (had ++ taken_with k m s) (sent ++ heard_with k m s) k (after_move m s)
-own_moves c before had sent k (Arrives j) s own stays seen =
+own_moves c before had sent k (Arrives j door) s own stays seen =
     rw (equal j k own, seen.there, append-nil had, append-nil sent) seen
 own_moves c before had sent k (Says memory j octets) s own stays seen =
     rw (own, equal j k own, seen.there, append-nil had)
@@ -236,6 +268,12 @@ own_moves c before had sent k (Finishes j) s own stays seen =
     (own_ends c before had sent k s seen)
 own_moves c before had sent k (Leaves j) s own stays seen =
     absurd (let no : false ≡ true = sym (ap (λ b. if b then false else true) own) ∙ stays in cc)
+own_moves c before had sent k (EndsRelease on off p) s own stays seen =
+    rw (append-nil had, append-nil sent)
+    (release_ended s seen (seen_acts c before had sent k s seen) on off p s.gates.house refl)
+own_moves c before had sent k (Loses memory p) s own stays seen =
+    rw (append-nil had, append-nil sent)
+    (lost s seen (seen_acts c before had sent k s seen) memory p)
 own_moves c before had sent k Forgets s own stays seen =
     rw (append-nil had, append-nil sent) (rows_forgotten_seen c before had sent k s seen)
 
@@ -251,7 +289,7 @@ moves c before had sent k m s stays seen = by_key (key_of m == k) refl
         let other = other_key (key_of m) k is in
         rw (untaken k m s is, unheard k m s is, append-nil had, append-nil sent)
         (moved_keeps (IsSeen c before had sent k) m s
-        (other_leads c before had sent k (key_of m) s other seen)
+        (other_leads c before had sent k (key_of m) s other seen) (seen_acts c before had sent k s seen)
         (λ is. rows_forgotten_seen c before had sent k s seen))
 
 -- ---- what it is told
@@ -283,7 +321,8 @@ is_told c before had sent b x (inl h) =
           h.sound
           ∙ (let whole = l.said.text [] [] [] in
           rw (append-nil ms, append-nil (map outcome_given (asked_in l.story))) at whole)
-          ∙ sym (append-nil (said_in None l.story ++ []));
+          ∙ sym (append-nil (said_in None l.story ++ []))
+          ∙ ap (λ e. (said_in None l.story ++ refusal_in e []) ++ []) (sym l.lasts);
       whole = λ is. (refl, refl);
       signed = λ is. l.signed;
       notices = notices_are_due c before l.story l.quiet;
@@ -306,7 +345,10 @@ is_told c before had sent b x (inr d) = record {
   lasts = λ none. absurd (let no : Some d.0 ≡ None = sym d.1.over ∙ none in cc);
   told = d.1.told;
   unsaid = d.1.unsaid;
-  text = d.1.text;
+  text =
+      d.1.text
+      ∙ ap (λ e. (said_in None d.1.story ++ refusal_in e d.1.refusal) ++ d.1.unsaid)
+      (sym d.1.over);
   whole = λ is. d.1.whole (ap is_whole (sym d.1.over) ∙ is);
   signed = λ is. d.1.signed (ap is_whole (sym d.1.over) ∙ is);
   notices = notices_are_due c before d.1.story d.1.quiet;
@@ -336,12 +378,12 @@ runs c before k (m ∷ ms) had sent s stays seen =
     )
 
 -- a peer that has just arrived
-pub arrives : (k : ℕ) (s : StationState)
-    → IsSeen s.book.config s.book.rows [] [] k (with_arrival k s)
+pub arrives : (k : ℕ) (door : Option (List ℕ)) (s : StationState)
+    → IsSeen s.book.config s.book.rows [] [] k (with_arrival k door s)
 unfolding walk
-arrives k s = record {
-  session = opening_session;
-  there = peer_at-same k (Some opening_session) s.peers;
+arrives k door s = record {
+  session = opening_session door;
+  there = peer_at-same k (Some (opening_session door)) s.peers;
   course = inl (record {
     living = record {
       story = [];

@@ -9,6 +9,7 @@ use Rattle.app_message.specs.Stream.{Held, fed_by, walk}
 use Rattle.app_message.specs.Telegram.{Telegram}
 use Rattle.app_message.proofs.Cutting.{front_taken}
 use Rattle.app_message.proofs.Taking.{header_takes}
+use Rattle.station.specs.Gates.{GateState}
 use Rattle.station.specs.Peers.{peer_at}
 use Rattle.station.specs.Runs.{Move, after, opening_station}
 use Rattle.station.specs.Sessions.{Session}
@@ -65,7 +66,8 @@ HoldsFew x = length x.held.rest ≤ 1031
 
 few_kept : EachKeeps HoldsFew
 few_kept = record {
-  opens = rest_few 0 [] (omega arith);
+  opens = λ door. rest_few 0 [] (omega arith);
+  forgets = λ t x few. few;
   holds = λ piece x few. left_few x.held piece;
   turns = record {
     serves = λ from t lasts few. few;
@@ -76,7 +78,7 @@ few_kept = record {
   takes = λ n x few. few;
 }
 
-pub always_few : (b : Book) (ms : List Move) (k : ℕ) (x : Session)
-    → peer_at (after ms (opening_station b)).peers k ≡ Some x → length x.held.rest ≤ 1031
-always_few b ms k x there =
-    subst (HoldsAt HoldsFew) there (each_keep few_kept ms (opening_station b) (λ j. tt) k)
+pub always_few : (g : GateState) (b : Book) (ms : List Move) (k : ℕ) (x : Session)
+    → peer_at (after ms (opening_station g b)).peers k ≡ Some x → length x.held.rest ≤ 1031
+always_few g b ms k x there =
+    subst (HoldsAt HoldsFew) there (each_keep few_kept ms (opening_station g b) (λ j. tt) k)

@@ -11,6 +11,7 @@ use Rattle.written_site.specs.SiteState.{opening}
 use Rattle.written_site.proofs.Histories.{IsLegal-push}
 use Rattle.site_book.specs.Book.{Book, next_row, with_row_of, with_rows_forgotten}
 use Rattle.site_book.proofs.Books.{forgets_alone}
+use Rattle.station.specs.Gates.{GateState}
 use Rattle.station.specs.Moves.{StationState}
 use Rattle.station.specs.Runs.{Move, after, opening_station}
 use Rattle.station.proofs.Keeping.{ForgetsKeep, RowsKeep, books_keep}
@@ -30,6 +31,7 @@ row_goes_on b actor event legal =
 rows_go_on : RowsKeep IsHistory
 rows_go_on = record {
   asked = λ b m actor event is room. row_goes_on b actor event;
+  own = λ b actor event own room. row_goes_on b actor event;
   left = λ b t on. row_goes_on b (Till t) SignOff;
 }
 
@@ -39,9 +41,9 @@ forgets_go_on b legal =
     subst (λ (c : Configured). IsLegal (opening c) (with_rows_forgotten b).rows) (sym alone.config)
     (subst (IsLegal (opening b.config)) (sym alone.rows) legal)
 
-pub always_legal : (b : Book) (ms : List Move) → IsHistory b
-    → IsLegal (opening b.config) (after ms (opening_station b)).book.rows
-always_legal b ms legal =
-    let s = opening_station b in
+pub always_legal : (g : GateState) (b : Book) (ms : List Move) → IsHistory b
+    → IsLegal (opening b.config) (after ms (opening_station g b)).book.rows
+always_legal g b ms legal =
+    let s = opening_station g b in
     subst (λ (c : Configured). IsLegal (opening c) (after ms s).book.rows) (books_grow ms s).same
     (books_keep rows_go_on forgets_go_on ms s legal)

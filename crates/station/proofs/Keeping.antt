@@ -6,17 +6,18 @@
 -- `moved_keeps`).
 use Rattle.std.proofs.Common.{◌≡◌, ℕ, Bool, true, false, List, [], ◌∷◌, ◌++◌, Option, Some, None}
 use Rattle.std.proofs.Common.{Ok, Err, drop, refl, ap, sym, subst, ◌∙◌, append-nil}
-use Rattle.std.specs.Prelude.{◌&&◌, if◌then◌else◌, is_none, length, nat_lt, option_map}
+use Rattle.std.specs.Prelude.{◌&&◌, ◌==◌, if◌then◌else◌, is_none, length, nat_lt, option_map}
 use Rattle.site_base.specs.declared.actor.Actor.{Actor}
-use Rattle.site_base.specs.declared.actor.Actor.TheVariants.{Till}
+use Rattle.site_base.specs.declared.actor.Actor.TheVariants.{Dispenser, Till}
 use Rattle.site_base.specs.declared.event.Event.{Event}
-use Rattle.site_base.specs.declared.event.Event.TheVariants.{SignOff}
+use Rattle.site_base.specs.declared.event.Event.TheVariants.{Offline, SignOff, SignOn, Terminate}
 use Rattle.site_base.specs.declared.refusal.NoRow.TheVariants as norow
 use Rattle.site_base.specs.declared.row.Row.{Row}
 use Rattle.app_message.specs.declared.fault.StreamFault.{StreamFault}
 use Rattle.app_message.specs.Spelling.{spelling}
 use Rattle.app_message.specs.Stream.{Held, fed_by, held_part}
 use Rattle.app_message.specs.Telegram.{Telegram}
+use Rattle.device_map.specs.declared.ids.TheConstants.{DISPENSER_SUBNET}
 use Rattle.device_map.specs.Replies.{fault_message}
 use Rattle.device_map.specs.Requests.{request_at}
 use Rattle.site_book.specs.Book.{Book, book_reply, is_full, site_of_book, with_row_of}
@@ -26,23 +27,32 @@ use Rattle.peer_talk.specs.declared.fault.TalkFault.TheVariants as talk
 use Rattle.peer_talk.specs.declared.talk.Meaning.{Meaning}
 use Rattle.peer_talk.specs.declared.talk.Meaning.TheVariants as meanings
 use Rattle.peer_talk.specs.Talks.{IsSpokenBy}
-use Rattle.peer_talk.specs.Text.{left_over, meaning_at}
+use Rattle.peer_talk.specs.declared.fault.TheConstants.{ORIGINATOR_CHANGED}
+use Rattle.peer_talk.specs.Talks.{without_on}
+use Rattle.peer_talk.specs.Text.{left_over, meaning_at, number_text}
+use Rattle.station.specs.declared.gates.Admission.{Admission}
+use Rattle.station.specs.declared.gates.Admission.TheVariants as admissions
+use Rattle.station.specs.Gates.{count_at}
 use Rattle.peer_talk.proofs.Speakers.{request_meant, spoken_by}
 use Rattle.station.specs.declared.peer_end.PeerEnd.{PeerEnd}
 use Rattle.station.specs.declared.peer_end.PeerEnd.TheVariants as ends
 use Rattle.station.specs.declared.sizes.TheConstants.{NOTICE_LIMIT, READ_LIMIT}
 use Rattle.station.specs.Moves.{StationState, finish_at, free, hear_from, rows_since, take_by}
-use Rattle.station.specs.Moves.{with_arrival, with_end, with_turn, without_old_rows}
+use Rattle.station.specs.Moves.{IsOwnEvent, admits_at, end_release_by, is_released_at, lose}
+use Rattle.station.specs.Moves.{with_arrival, with_book, with_end, with_own_row}
+use Rattle.station.specs.Moves.{with_release_ended, with_turn, without_old_rows}
 use Rattle.station.specs.Notices.{row_notice}
-use Rattle.station.specs.Peers.{listener, peer_at, tell_notice, tell_row, tell_rows, with_notices}
+use Rattle.station.specs.Listening.{listener}
+use Rattle.station.specs.Peers.{forget_till, peer_at, row_off, tell_notice, tell_row, tell_rows}
+use Rattle.station.specs.Peers.{with_notices}
 use Rattle.station.specs.Peers.{with_peer}
-use Rattle.station.specs.Runs.{Arrives, Finishes, Forgets, Leaves, Move, Says, Takes, after}
-use Rattle.station.specs.Runs.{after_move}
+use Rattle.station.specs.Runs.{Arrives, EndsRelease, Finishes, Forgets, Leaves, Loses, Move, Says}
+use Rattle.station.specs.Runs.{Takes, after, after_move}
 use Rattle.station.specs.Runs.{arrive}
 use Rattle.station.specs.Sessions.{Granted, Grants, Session, Turn, answer, answer_all}
 use Rattle.station.specs.Sessions.{answer_meaning, ask, end_by, end_session, finish, full_grant}
 use Rattle.conversation.specs.Books.{outcome_at, with_outcome}
-use Rattle.station.specs.Sessions.{hear, is_read, no_memory, opening_session}
+use Rattle.station.specs.Sessions.{admit, admit_first, hear, is_read, no_memory, opening_session}
 use Rattle.station.specs.Sessions.{refuse_by, serve, take_messages, tell, tell_last}
 use Rattle.station.specs.Sessions.{with_text, without_till}
 use Rattle.station.proofs.Notices.{nobody_noticed}
@@ -95,14 +105,38 @@ by_fault P memory (Some f) t sound faulty ended = by_end t.session.end refl
     by_end None lasts = faulty f refl lasts
     by_end (Some end) over = ended end over
 
+-- messages are answered, if the originator of a first one is admitted
+pub by_admission : (P : Turn → Type 0) (admits : List ℕ → Admission) (memory : Bool)
+    (gs : List Granted) (ms : List Telegram) (t : Turn)
+    → P (answer_all gs ms t)
+    → ((m : Telegram) (later : List Telegram) → ms ≡ m ∷ later → t.session.talk.peer ≡ None
+    → P (tell_last memory (number_text m ORIGINATOR_CHANGED) (ends.Barred m.from) t))
+    → ((m : Telegram) (later : List Telegram) → ms ≡ m ∷ later → t.session.talk.peer ≡ None
+    → P (end_session (ends.Crowded m.from) t))
+    → P (admit admits memory gs ms t)
+by_admission P admits memory gs [] t all barred crowded = all
+by_admission P admits memory gs (m ∷ ms) t all barred crowded = by_peer t.session.talk.peer refl
+  where
+    by_first : t.session.talk.peer ≡ None → (a : Admission) → P (admit_first a memory gs m ms t)
+    by_first nobody admissions.Welcome = all
+    by_first nobody admissions.Barred = barred m ms refl nobody
+    by_first nobody admissions.Crowded = crowded m ms refl nobody
+
+    by_peer : (p : Option (List ℕ)) → t.session.talk.peer ≡ p
+        → P (if is_none p then admit_first (admits m.from) memory gs m ms t
+        else answer_all gs (m ∷ ms) t)
+    by_peer None nobody = by_first nobody (admits m.from)
+    by_peer (Some peer) served = all
+
 -- a piece is heard, if there is memory for it
-pub by_memory : (P : Turn → Type 0) (g : Grants) (piece : List ℕ) (t : Turn)
-    → P (take_messages g (fed_by t.session.held piece) t) → P (end_session no_memory t)
-    → P (hear g piece t)
-by_memory P g piece t taken lost = by_piece g.piece
+pub by_memory : (P : Turn → Type 0) (admits : List ℕ → Admission) (g : Grants) (piece : List ℕ)
+    (t : Turn)
+    → P (take_messages admits g (fed_by t.session.held piece) t) → P (end_session no_memory t)
+    → P (hear admits g piece t)
+by_memory P admits g piece t taken lost = by_piece g.piece
   where
     by_piece : (b : Bool)
-        → P (if b then take_messages g (fed_by t.session.held piece) t
+        → P (if b then take_messages admits g (fed_by t.session.held piece) t
         else end_session no_memory t)
     by_piece true = taken
     by_piece false = lost
@@ -122,12 +156,12 @@ pub record Keeps (P : Turn → Type 0) : Type 0 where
 
 -- what comes of a peer: a piece of octets, or their end
 pub data Input : Type 0 where
-  Piece : (memory : Grants) (octets : List ℕ) → Input
+  Piece : (admits : List ℕ → Admission) (memory : Grants) (octets : List ℕ) → Input
   NoMore : Input
 
 -- a session has heard it
 abbrev pub after_input : Input → Turn → Turn
-after_input (Piece memory octets) t = hear memory octets t
+after_input (Piece admits memory octets) t = hear admits memory octets t
 after_input NoMore t = finish t
 
 -- a session that holds these octets of a message to come
@@ -170,6 +204,14 @@ module _ {P : Turn → Type 0} (keeps : Keeps P) where
       → P (answer_all gs ms t)
   all_keep gs ms t p = by_message (λ to_come. P) (λ g m to_come. answered_keeps g m) gs ms t p
 
+  pub admitted_keeps : (admits : List ℕ → Admission) (memory : Bool) (gs : List Granted)
+      (ms : List Telegram) (t : Turn)
+      → t.session.end ≡ None → P t → P (admit admits memory gs ms t)
+  admitted_keeps admits memory gs ms t lasts p =
+      by_admission P admits memory gs ms t (all_keep gs ms t p)
+      (λ m later is nobody. last_keeps memory _ _ t lasts p)
+      (λ m later is nobody. keeps.ends (ends.Crowded m.from) t lasts p)
+
   pub refused_keeps : (memory : Bool) (fault : Option StreamFault) (t : Turn) → P t
       → P (refuse_by memory fault t)
   refused_keeps memory fault t p =
@@ -180,12 +222,12 @@ module _ {P : Turn → Type 0} (keeps : Keeps P) where
   pub heard_keeps : (input : Input) (t : Turn) → t.session.end ≡ None
       → P t → ((piece : List ℕ) → P (holding (held_part (fed_by t.session.held piece)) t))
       → P (after_input input t)
-  heard_keeps (Piece g piece) t lasts p holds =
+  heard_keeps (Piece admits g piece) t lasts p holds =
       let fed = fed_by t.session.held piece in
       let start = holding (held_part fed) t in
-      by_memory P g piece t
-      (refused_keeps g.refusal fed.fault (answer_all g.messages fed.messages start)
-      (all_keep g.messages fed.messages start (holds piece)))
+      by_memory P admits g piece t
+      (refused_keeps g.refusal fed.fault (admit admits g.first g.messages fed.messages start)
+      (admitted_keeps admits g.first g.messages fed.messages start lasts (holds piece)))
       (keeps.ends no_memory t lasts p)
   heard_keeps NoMore t lasts p holds =
       keeps.ends (end_by (left_over t.session.held.rest)) t lasts p
@@ -194,11 +236,13 @@ module _ {P : Turn → Type 0} (keeps : Keeps P) where
 
 -- whose move it is; nobody's is the first key's, which has no part in it
 abbrev pub key_of : Move → ℕ
-key_of (Arrives k) = k
+key_of (Arrives k door) = k
 key_of (Says memory k octets) = k
 key_of (Takes k n) = k
 key_of (Finishes k) = k
 key_of (Leaves k) = k
+key_of (EndsRelease on off p) = 0
+key_of (Loses memory p) = 0
 key_of Forgets = 0
 
 -- a session at the station's book
@@ -213,7 +257,7 @@ with_slot k y s = record s { peers = with_peer k y s.peers }
 -- of a session that lasts, where octets are taken, and where a session that has ended is gone.
 pub record Leads (Q : StationState → Type 0) (k : ℕ) (s : StationState) : Type 0 where
   pub stays : Q s
-  pub comes : peer_at s.peers k ≡ None → Q (with_arrival k s)
+  pub comes : (door : Option (List ℕ)) → peer_at s.peers k ≡ None → Q (with_arrival k door s)
   pub turns : (input : Input) (x : Session) → peer_at s.peers k ≡ Some x → x.end ≡ None
       → Q (with_turn k (after_input input (turn_at s x)) s)
   pub takes : (n : ℕ) (x : Session) → peer_at s.peers k ≡ Some x
@@ -246,9 +290,10 @@ finished_over k (Some x) s there = by_test (is_none x.end) refl
     by_test false is = ap lasts_at there ∙ is
 
 module _ {Q : StationState → Type 0} (k : ℕ) (s : StationState) (leads : Leads Q k s) where
-  come : (y : Option Session) → peer_at s.peers k ≡ y → Q (arrive k y s)
-  come None there = leads.comes there
-  come (Some x) there = leads.stays
+  come : (door : Option (List ℕ)) (y : Option Session) → peer_at s.peers k ≡ y
+      → Q (arrive k door y s)
+  come door None there = leads.comes door there
+  come door (Some x) there = leads.stays
 
   say : (g : Grants) (piece : List ℕ) (y : Option Session) → peer_at s.peers k ≡ y
       → Q (hear_from g k piece y s)
@@ -256,8 +301,9 @@ module _ {Q : StationState → Type 0} (k : ℕ) (s : StationState) (leads : Lea
   say g piece (Some x) there = by_test (is_read x) refl
     where
       by_test : (b : Bool) → is_read x ≡ b
-          → Q (if b then with_turn k (hear g piece (turn_at s x)) s else s)
-      by_test true read = leads.turns (Piece g piece) x there (read_lasts x read)
+          → Q (if b then with_turn k (hear (admits_at k x.door s) g piece (turn_at s x)) s else s)
+      by_test true read =
+          leads.turns (Piece (admits_at k x.door s) g piece) x there (read_lasts x read)
       by_test false read = leads.stays
 
   take : (n : ℕ) (y : Option Session) → peer_at s.peers k ≡ y → Q (take_by k n y s)
@@ -278,36 +324,85 @@ module _ {Q : StationState → Type 0} (k : ℕ) (s : StationState) (leads : Lea
   leave None later there over q = q
   leave (Some x) later there over q = leads.leaves later x there over q
 
--- .. and where rows are forgotten, if they are
+-- Q holds behind what the station itself does: where the house till ends a release, which is
+-- authorised, and where a dispenser is gone that has no session.
+pub record Acts (Q : StationState → Type 0) (s : StationState) : Type 0 where
+  pub ends_release : (on off : Bool) (t p : ℕ) → s.gates.house ≡ Some t
+      → is_released_at s.book p ≡ true → Q (with_release_ended on off t p s)
+  pub loses : (memory : Bool) (p : ℕ) → (count_at (DISPENSER_SUBNET ∷ p ∷ []) s.peers == 0) ≡ true
+      → Q (with_own_row memory (Dispenser p) (Offline p) s)
+
+module _ {Q : StationState → Type 0} (s : StationState) (q : Q s) (acts : Acts Q s) where
+  pub release_ended : (on off : Bool) (p : ℕ) (house : Option ℕ) → s.gates.house ≡ house
+      → Q (end_release_by on off p house s)
+  release_ended on off p None is = q
+  release_ended on off p (Some t) is = by_test (is_released_at s.book p) refl
+    where
+      by_test : (b : Bool) → is_released_at s.book p ≡ b
+          → Q (if b then with_release_ended on off t p s else s)
+      by_test true released = acts.ends_release on off t p is released
+      by_test false other = q
+
+  pub lost : (memory : Bool) (p : ℕ) → Q (lose memory p s)
+  lost memory p = by_test (count_at (DISPENSER_SUBNET ∷ p ∷ []) s.peers == 0) refl
+    where
+      by_test : (b : Bool) → (count_at (DISPENSER_SUBNET ∷ p ∷ []) s.peers == 0) ≡ b
+          → Q (if b then with_own_row memory (Dispenser p) (Offline p) s else s)
+      by_test true gone = acts.loses memory p gone
+      by_test false there = q
+
+-- .. where the station itself acts, and where rows are forgotten, if they are
 pub moved_keeps : (Q : StationState → Type 0) (m : Move) (s : StationState) → Leads Q (key_of m) s
-    → (m ≡ Forgets → Q (without_old_rows s)) → Q (after_move m s)
-moved_keeps Q (Arrives k) s leads forgets = come k s leads (peer_at s.peers k) refl
-moved_keeps Q (Says memory k octets) s leads forgets =
+    → Acts Q s → (m ≡ Forgets → Q (without_old_rows s)) → Q (after_move m s)
+moved_keeps Q (Arrives k door) s leads acts forgets =
+    come k s leads door (peer_at s.peers k) refl
+moved_keeps Q (Says memory k octets) s leads acts forgets =
     say k s leads memory octets (peer_at s.peers k) refl
-moved_keeps Q (Takes k n) s leads forgets = take k s leads n (peer_at s.peers k) refl
-moved_keeps Q (Finishes k) s leads forgets = end k s leads (peer_at s.peers k) refl
-moved_keeps Q (Leaves k) s leads forgets =
+moved_keeps Q (Takes k n) s leads acts forgets = take k s leads n (peer_at s.peers k) refl
+moved_keeps Q (Finishes k) s leads acts forgets = end k s leads (peer_at s.peers k) refl
+moved_keeps Q (Leaves k) s leads acts forgets =
     leave k s leads (peer_at (with_end k s).peers k) (with_end k s) refl
     (finished_over k (peer_at s.peers k) s refl) (end k s leads (peer_at s.peers k) refl)
-moved_keeps Q Forgets s leads forgets = forgets refl
+moved_keeps Q (EndsRelease on off p) s leads acts forgets =
+    release_ended s leads.stays acts on off p s.gates.house refl
+moved_keeps Q (Loses memory p) s leads acts forgets = lost s leads.stays acts memory p
+moved_keeps Q Forgets s leads acts forgets = forgets refl
 
 -- what any move keeps
 pub moves_keep : (Q : StationState → Type 0)
     → ((k : ℕ) (s : StationState) → Q s → Leads Q k s)
+    → ((s : StationState) → Q s → Acts Q s)
     → ((s : StationState) → Q s → Q (without_old_rows s))
     → (ms : List Move) (s : StationState) → Q s → Q (after ms s)
-moves_keep Q leads forgets [] s q = q
-moves_keep Q leads forgets (m ∷ ms) s q =
-    moves_keep Q leads forgets ms (after_move m s)
-    (moved_keeps Q m s (leads (key_of m) s q) (λ is. forgets s q))
+moves_keep Q leads acts forgets [] s q = q
+moves_keep Q leads acts forgets (m ∷ ms) s q =
+    moves_keep Q leads acts forgets ms (after_move m s)
+    (moved_keeps Q m s (leads (key_of m) s q) (acts s q) (λ is. forgets s q))
+
+-- what each row of the station's own keeps, and the sign-off of a till, keep all of these
+pub record KeepsOwn (Q : StationState → Type 0) : Type 0 where
+  pub asks : (memory : Bool) (actor : Actor) (event : Event) (s : StationState)
+      → IsOwnEvent actor event → Q s → Q (with_own_row memory actor event s)
+  pub leaves : (t : ℕ) (s : StationState) → Q s → Q (with_book (without_till (Some t) s.book) s)
+
+pub own_acts : (Q : StationState → Type 0) → KeepsOwn Q → (s : StationState) → Q s → Acts Q s
+own_acts Q keeps s q = record {
+  ends_release = λ on off t p house released.
+      let first = with_own_row on (Till t) SignOn s in
+      keeps.leaves t _
+      (keeps.asks off (Till t) (Terminate p) first tt (keeps.asks on (Till t) SignOn s tt q));
+  loses = λ memory p gone. keeps.asks memory (Dispenser p) (Offline p) s refl q;
+}
 
 -- ---- a law of the book
 
--- A book gets rows, and each keeps B: that of a request, where there is room, and that of a till
--- that is left.
+-- A book gets rows, and each keeps B: that of a request, or of what the station itself asks, where
+-- there is room, and that of a till that is left.
 pub record RowsKeep (B : Book → Type 0) : Type 0 where
   pub asked : (b : Book) (m : Telegram) (actor : Actor) (event : Event)
       → request_at m ≡ Ok (actor, event) → is_full b ≡ false → B b → B (with_row_of b actor event)
+  pub own : (b : Book) (actor : Actor) (event : Event) → IsOwnEvent actor event
+      → is_full b ≡ false → B b → B (with_row_of b actor event)
   pub left : (b : Book) (t : ℕ) → is_signed_on (site_of_book b) t ≡ true → B b
       → B (with_row_of b (Till t) SignOff)
 
@@ -328,23 +423,24 @@ module _ {B : Book → Type 0} (rows : RowsKeep B) where
   none_keeps : (b : Book) → B b → B (record b { rows = b.rows ++ [] })
   none_keeps b kept = subst (λ rs. B (record b { rows = rs })) (sym (append-nil b.rows)) kept
 
-  outcome_keeps : (memory : Bool) (m : Telegram) (actor : Actor) (event : Event) (b : Book)
-      → request_at m ≡ Ok (actor, event) → B b
+  outcome_keeps : (memory : Bool) (actor : Actor) (event : Event) (b : Book)
+      → (is_full b ≡ false → B (with_row_of b actor event)) → B b
       → B (with_outcome actor event (outcome_at memory b actor event) b)
-  outcome_keeps false m actor event b is kept = none_keeps b kept
-  outcome_keeps true m actor event b is kept = by_full (is_full b) refl
+  outcome_keeps false actor event b with_row kept = none_keeps b kept
+  outcome_keeps true actor event b with_row kept = by_full (is_full b) refl
     where
       by_full : (full : Bool) → is_full b ≡ full
           → B (with_outcome actor event (if full then Err norow.BookFull
           else Ok (book_reply b actor event)) b)
       by_full true no_room = none_keeps b kept
-      by_full false room = rows.asked b m actor event is room kept
+      by_full false room = with_row room
 
   pub rows_keep : Keeps (λ t. B t.book)
   rows_keep = record {
     serves = λ from t lasts kept. kept;
     asks = λ memory m actor event t lasts is spoken kept.
-        outcome_keeps memory m actor event t.book is kept;
+        outcome_keeps memory actor event t.book
+        (λ room. rows.asked t.book m actor event is room kept) kept;
     tells = λ text t lasts kept. kept;
     ends = λ end t lasts kept. left_keeps t.session.talk.on t.book kept;
   }
@@ -352,23 +448,32 @@ module _ {B : Book → Type 0} (rows : RowsKeep B) where
   book_leads : (k : ℕ) (s : StationState) → B s.book → Leads (λ later. B later.book) k s
   book_leads k s kept = record {
     stays = kept;
-    comes = λ none. kept;
+    comes = λ door none. kept;
     turns = λ input x there lasts.
         heard_keeps rows_keep input (turn_at s x) lasts kept (λ piece. kept);
     takes = λ n x there. kept;
     leaves = λ later x there over still. still;
   }
 
+  book_acts : (s : StationState) → B s.book → Acts (λ later. B later.book) s
+  book_acts = own_acts (λ later. B later.book) (record {
+    asks = λ memory actor event s own kept.
+        outcome_keeps memory actor event s.book
+        (λ room. rows.own s.book actor event own room kept) kept;
+    leaves = λ t s kept. left_keeps (Some t) s.book kept;
+  })
+
   -- a move that forgets nothing
   pub book_moved : (m : Move) (s : StationState) → (m ≡ Forgets → ⊥) → B s.book
       → B (after_move m s).book
   book_moved m s other kept =
-      moved_keeps (λ later. B later.book) m s (book_leads (key_of m) s kept)
+      moved_keeps (λ later. B later.book) m s (book_leads (key_of m) s kept) (book_acts s kept)
       (λ is. absurd (other is))
 
   pub books_keep : ForgetsKeep B → (ms : List Move) (s : StationState) → B s.book
       → B (after ms s).book
-  books_keep forgets = moves_keep (λ s. B s.book) book_leads (λ s kept. forgets s.book kept)
+  books_keep forgets =
+      moves_keep (λ s. B s.book) book_leads book_acts (λ s kept. forgets s.book kept)
 
 -- ---- a law of each session
 
@@ -383,16 +488,28 @@ EachHolds S s = (k : ℕ) → HoldsAt S (peer_at s.peers k)
 
 -- S holds of a session that has heard nothing, and of every later one
 pub record EachKeeps (S : Session → Type 0) : Type 0 where
-  pub opens : S opening_session
+  pub opens : (door : Option (List ℕ)) → S (opening_session door)
+  pub forgets : (t : ℕ) (x : Session) → S x
+      → S (record x { talk = record x.talk { on = without_on t x.talk.on } })
   pub holds : (piece : List ℕ) (x : Session) → S x
       → S (record x { held = held_part (fed_by x.held piece) })
   pub turns : Keeps (λ t. S t.session)
   pub takes : (n : ℕ) (x : Session) → S x → S (record x { owed = drop n x.owed })
 
 module _ {S : Session → Type 0} (keeps : EachKeeps S) where
+  till_forgotten : (off : Option ℕ) (x : Session) → S x → S (forget_till off x)
+  till_forgotten None x kept = kept
+  till_forgotten (Some t) x kept = by_test (is_none x.end)
+    where
+      by_test : (lasts : Bool)
+          → S (if lasts then record x { talk = record x.talk { on = without_on t x.talk.on } }
+          else x)
+      by_test true = keeps.forgets t x kept
+      by_test false = kept
+
   -- a notice is octets, or the session's end
   row_noticed : (b : Book) (r : Row) (x : Session) → S x → S (tell_row r x)
-  row_noticed b r x kept = by_end x.end refl
+  row_noticed b r x kept = till_forgotten (row_off r) _ (by_end x.end refl)
     where
       by_notice : x.end ≡ None → (n : Option (List ℕ)) → S (tell_notice n x)
       by_notice lasts None = kept
@@ -410,7 +527,7 @@ module _ {S : Session → Type 0} (keeps : EachKeeps S) where
       by_end (Some end) over =
           subst (λ n. S (tell_notice n x)) (sym (nobody_noticed r)) kept
 
-  rows_noticed : (b : Book) (rows : List Row) (x : Session) → S x → S (tell_rows rows x)
+  pub rows_noticed : (b : Book) (rows : List Row) (x : Session) → S x → S (tell_rows rows x)
   rows_noticed b [] x kept = kept
   rows_noticed b (r ∷ rows) x kept = rows_noticed b rows (tell_row r x) (row_noticed b r x kept)
 
@@ -422,8 +539,8 @@ module _ {S : Session → Type 0} (keeps : EachKeeps S) where
   each_leads : (k : ℕ) (s : StationState) → EachHolds S s → Leads (EachHolds S) k s
   each_leads k s each = record {
     stays = each;
-    comes = λ none j.
-        at_slot (HoldsAt S) k j (Some opening_session) s.peers (λ same. keeps.opens)
+    comes = λ door none j.
+        at_slot (HoldsAt S) k j (Some (opening_session door)) s.peers (λ same. keeps.opens door)
         (λ other. each j);
     turns = λ input x there lasts j.
         let t = after_input input (turn_at s x) in
@@ -442,9 +559,23 @@ module _ {S : Session → Type 0} (keeps : EachKeeps S) where
         at_slot (HoldsAt S) k j None later.peers (λ same. tt) (λ other. kept j);
   }
 
+  -- everybody is told of rows
+  pub booked_keeps : (b : Book) (s : StationState) → EachHolds S s → EachHolds S (with_book b s)
+  booked_keeps b s each j =
+      let rows = rows_since s.book b in
+      subst (HoldsAt S) (sym (peer_at-map (option_map (tell_rows rows)) j s.peers refl))
+      (slot_noticed s.book rows (peer_at s.peers j) (each j))
+
+  each_acts : (s : StationState) → EachHolds S s → Acts (EachHolds S) s
+  each_acts = own_acts (EachHolds S) (record {
+    asks = λ memory actor event s own each.
+        booked_keeps (with_outcome actor event (outcome_at memory s.book actor event) s.book) s each;
+    leaves = λ t s each. booked_keeps (without_till (Some t) s.book) s each;
+  })
+
   pub each_moved : (m : Move) (s : StationState) → EachHolds S s → EachHolds S (after_move m s)
   each_moved m s each =
-      moved_keeps (EachHolds S) m s (each_leads (key_of m) s each) (λ is. each)
+      moved_keeps (EachHolds S) m s (each_leads (key_of m) s each) (each_acts s each) (λ is. each)
 
   pub each_keep : (ms : List Move) (s : StationState) → EachHolds S s → EachHolds S (after ms s)
-  each_keep = moves_keep (EachHolds S) each_leads (λ s each. each)
+  each_keep = moves_keep (EachHolds S) each_leads each_acts (λ s each. each)

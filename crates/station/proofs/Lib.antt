@@ -3,6 +3,7 @@ pub mod NeverFull
 pub mod Held
 pub mod Notices
 pub mod Keeping
+pub mod SigningOff
 pub mod Turns
 pub mod Stories
 pub mod Quiet

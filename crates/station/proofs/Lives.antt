@@ -2,7 +2,8 @@
 use Rattle.std.proofs.Common.{◌≡◌, ◌⊎◌, inl, inr, ℕ, Bool, true, false, List, [], ◌∷◌, ◌++◌, map}
 use Rattle.std.proofs.Common.{Option, Some, None, Ok, Err, refl, ap, sym, subst, ◌∙◌, append_assoc}
 use Rattle.std.proofs.Common.{append-nil}
-use Rattle.std.specs.Prelude.{if◌then◌else◌, length, nat_lt}
+use Rattle.std.specs.Prelude.{if◌then◌else◌, is_none, length, nat_lt}
+use Rattle.std.proofs.lemmas.Bool.{false≢true}
 use Rattle.site_base.specs.declared.actor.Actor.{Actor}
 use Rattle.site_base.specs.declared.event.Event.{Event}
 use Rattle.site_base.specs.declared.row.Row.{Row}
@@ -23,8 +24,7 @@ use Rattle.peer_talk.specs.declared.fault.TheConstants.{ORIGINATOR_CHANGED}
 use Rattle.peer_talk.specs.declared.talk.Meaning.{Meaning}
 use Rattle.peer_talk.specs.declared.talk.Meaning.TheVariants as meanings
 use Rattle.peer_talk.specs.Exchanges.{Asked, outcome_given, request_asked, row_made, rows_made}
-use Rattle.peer_talk.specs.Exchanges.{signed_on_after}
-use Rattle.peer_talk.specs.Talks.{TalkState}
+use Rattle.peer_talk.specs.Talks.{TalkState, without_on}
 use Rattle.peer_talk.specs.Text.{is_another, left_over, meaning_at, messages_text, number_text}
 use Rattle.peer_talk.specs.Text.{outcome_text, peer_after, refusal_text, requests_in}
 use Rattle.peer_talk.proofs.Speakers.{another_meant, fault_meant, request_meant, spoken_by}
@@ -33,17 +33,20 @@ use Rattle.station.specs.declared.peer_end.PeerEnd.{PeerEnd}
 use Rattle.station.specs.declared.peer_end.PeerEnd.TheVariants as ends
 use Rattle.station.specs.declared.sizes.TheConstants.{NOTICE_LIMIT}
 use Rattle.station.specs.Notices.{notices_of, octets_of, row_notice}
-use Rattle.station.specs.Peers.{listener, tell_row, tell_rows, tell_notice}
+use Rattle.station.specs.declared.gates.Admission.{Admission}
+use Rattle.station.specs.Listening.{listener}
+use Rattle.station.specs.Peers.{forget_till, row_off, tell_row, tell_rows, tell_notice}
 use Rattle.station.specs.Sessions.{Granted, Grants, Session, Turn, answer, answer_all}
 use Rattle.station.specs.Sessions.{answer_meaning, answer_so, end_by, end_session, finish, hear}
 use Rattle.conversation.specs.Books.{outcome_at}
 use Rattle.station.specs.Sessions.{no_memory, opening_text, refuse_by, serve}
 use Rattle.conversation.specs.Books.{with_outcome}
-use Rattle.station.specs.Sessions.{take_messages, tell, tell_last}
+use Rattle.station.specs.Sessions.{admit, take_messages, tell, tell_last}
 use Rattle.station.specs.Stories.{AreAsked, Happening, asked_in, is_all_answered}
-use Rattle.station.specs.Stories.{is_whole, messages_in, refusal_by, rows_in, said_in, told_in}
-use Rattle.station.proofs.Keeping.{Keeps, all_keep, by_fault, by_lasting, by_memory, by_message}
-use Rattle.station.proofs.Keeping.{ended_lasts}
+use Rattle.station.specs.Stories.{is_whole, messages_in, on_behind, refusal_by, refusal_in, rows_in}
+use Rattle.station.specs.Stories.{said_in, signed_in, told_in}
+use Rattle.station.proofs.Keeping.{Keeps, admitted_keeps, by_admission, by_fault, by_lasting}
+use Rattle.station.proofs.Keeping.{by_memory, by_message, ended_lasts}
 use Rattle.station.proofs.Notices.{nobody_noticed}
 use Rattle.station.proofs.Quiet.{own_quiet}
 use Rattle.station.proofs.Stories.{AreOwnQuiet, IsLiving, passes, speaks}
@@ -65,11 +68,11 @@ pub record IsDone (c : Configured) (before : List Row) (had : List ℕ) (all : L
   pub quiet : AreOwnQuiet None story
   pub unsaid : List ℕ
   pub text : messages_text last None all (map outcome_given (asked_in story))
-      ≡ (said_in None story ++ refusal) ++ unsaid
+      ≡ (said_in None story ++ refusal_in (Some end) refusal) ++ unsaid
   pub unasked : List (Actor × Event)
   pub requests : requests_in None all ≡ map request_asked (asked_in story) ++ unasked
   pub whole : is_whole (Some end) ≡ true → (unsaid ≡ []) × (unasked ≡ [])
-  pub signed : is_whole (Some end) ≡ true → x.talk.on ≡ signed_on_after None (asked_in story)
+  pub signed : is_whole (Some end) ≡ true → x.talk.on ≡ signed_in None story
   pub over : x.end ≡ Some end
 
 -- a session that lasts in these messages, or has ended
@@ -117,9 +120,9 @@ stops c before had done later last b b' x x' l g owed over = record {
 pub closes : (c : Configured) (before : List Row) (had : List ℕ) (done : List Telegram)
     (last : List ℕ) (end : PeerEnd) (b b' : Book) (x x' : Session)
     → IsLiving c before had done b x → Grows b b' → x'.owed ≡ x.owed ++ last → x'.end ≡ Some end
-    → last ≡ refusal_by (Some end) last [] → x'.talk.on ≡ x.talk.on
-    → IsDone c before had done last end b' x'
-closes c before had done last end b b' x x' l g owed over refused on = record {
+    → last ≡ refusal_by (Some end) last [] → refusal_in (Some end) last ≡ last
+    → x'.talk.on ≡ x.talk.on → IsDone c before had done last end b' x'
+closes c before had done last end b b' x x' l g owed over refused whole_refusal on = record {
   story = l.story;
   refusal = last;
   late = g.more;
@@ -139,7 +142,8 @@ closes c before had done last end b b' x x' l g owed over refused on = record {
   text =
       (let whole = l.said.text last [] [] in
       rw (append-nil done, append-nil (map outcome_given (asked_in l.story))) at whole)
-      ∙ sym (append-nil (said_in None l.story ++ last));
+      ∙ ap (λ r. said_in None l.story ++ r) (sym whole_refusal)
+      ∙ sym (append-nil (said_in None l.story ++ refusal_in (Some end) last));
   whole = λ is. (refl, refl);
   signed = λ is. on ∙ l.signed;
   over = over;
@@ -191,6 +195,73 @@ another_closes c before had done later m last b b' x x' l other g owed over on =
       signed = λ is. on ∙ l.signed;
       over = over;
     }
+
+-- the first message isn't heard, and is told this
+unheard_closes : (c : Configured) (before : List Row) (had : List ℕ) (done later : List Telegram)
+    (m : Telegram) (last text : List ℕ) (end : PeerEnd) (b b' : Book) (x x' : Session)
+    → IsLiving c before had done b x → Grows b b' → x'.owed ≡ x.owed ++ text
+    → x'.end ≡ Some end → is_all_answered (Some end) ≡ false → is_whole (Some end) ≡ false
+    → text ≡ refusal_by (Some end) last (m ∷ later) → refusal_in (Some end) text ≡ []
+    → IsDone c before had (done ++ m ∷ later) last end b' x'
+unheard_closes c before had done later m last text end b b' x x' l g owed over unanswered unsaid
+    refused none = record {
+      story = l.story;
+      refusal = text;
+      late = g.more;
+      rows = g.rows ∙ ap (λ rs. rs ++ g.more) l.rows;
+      told =
+          ap (λ o. had ++ o) owed ∙ sym (append_assoc had x.owed text)
+          ∙ ap (λ t. t ++ text) l.told;
+      unanswered = m ∷ later;
+      messages = ap (λ ms. ms ++ m ∷ later) (sym l.messages);
+      answered = λ is. absurd (false≢true (sym unanswered ∙ is));
+      refused = refused;
+      asked = l.asked;
+      quiet = l.quiet;
+      unasked = requests_in x.talk.peer (m ∷ later);
+      requests = l.said.requests (m ∷ later);
+      unsaid = messages_text last x.talk.peer (m ∷ later) [];
+      text =
+          ap (messages_text last None (done ++ m ∷ later))
+          (sym (append-nil (map outcome_given (asked_in l.story))))
+          ∙ l.said.text last (m ∷ later) []
+          ∙ ap (λ s. s ++ messages_text last x.talk.peer (m ∷ later) [])
+          (sym (append-nil (said_in None l.story)))
+          ∙ ap (λ r. (said_in None l.story ++ r) ++ messages_text last x.talk.peer (m ∷ later) [])
+          (sym none);
+      whole = λ is. absurd (false≢true (sym unsaid ∙ is));
+      signed = λ is. absurd (false≢true (sym unsaid ∙ is));
+      over = over;
+    }
+
+-- its originator may not speak there
+barred_closes : (c : Configured) (before : List Row) (had : List ℕ) (done later : List Telegram)
+    (m : Telegram) (last : List ℕ) (memory : Bool) (t : Turn)
+    → IsLiving c before had done t.book t.session
+    → (end : PeerEnd) × IsDone c before had (done ++ m ∷ later) last end
+    (tell_last memory (number_text m ORIGINATOR_CHANGED) (ends.Barred m.from) t).book
+    (tell_last memory (number_text m ORIGINATOR_CHANGED) (ends.Barred m.from) t).session
+barred_closes c before had done later m last true t l = (
+  ends.Barred m.from,
+  unheard_closes c before had done later m last (number_text m ORIGINATOR_CHANGED)
+      (ends.Barred m.from) t.book _ t.session _ l (left-grows t.session.talk.on t.book) refl refl
+      refl refl refl refl,
+)
+barred_closes c before had done later m last false t l = (
+  no_memory,
+  stops c before had done (m ∷ later) last t.book _ t.session _ l
+      (left-grows t.session.talk.on t.book) refl refl,
+)
+
+-- it has as many sessions as it may
+crowded_closes : (c : Configured) (before : List Row) (had : List ℕ) (done later : List Telegram)
+    (m : Telegram) (last : List ℕ) (t : Turn) → IsLiving c before had done t.book t.session
+    → IsDone c before had (done ++ m ∷ later) last (ends.Crowded m.from)
+    (end_session (ends.Crowded m.from) t).book (end_session (ends.Crowded m.from) t).session
+crowded_closes c before had done later m last t l =
+    unheard_closes c before had done later m last [] (ends.Crowded m.from) t.book _ t.session _ l
+    (left-grows t.session.talk.on t.book) (sym (append-nil t.session.owed)) refl refl refl refl
+    refl
 
 -- ---- a message
 
@@ -334,6 +405,20 @@ all_answered c before had done last gs ms t l =
         (answer_all gs ms t).session)
         (sym (append-nil on.0) ∙ on.1) on.2)
 
+-- .. the first one if its originator is admitted
+all_admitted : (c : Configured) (before : List Row) (had : List ℕ) (done : List Telegram)
+    (last : List ℕ) (admits : List ℕ → Admission) (memory : Bool) (gs : List Granted)
+    (ms : List Telegram) (t : Turn) → IsLiving c before had done t.book t.session
+    → Came c before had (done ++ ms) (done ++ ms) last (admit admits memory gs ms t).book
+    (admit admits memory gs ms t).session
+all_admitted c before had done last admits memory gs ms t l =
+    by_admission (λ u. Came c before had (done ++ ms) (done ++ ms) last u.book u.session) admits
+    memory gs ms t (all_answered c before had done last gs ms t l)
+    (λ m later is nobody. let closed = barred_closes c before had done later m last memory t l in
+    inr (closed.0, rw (sym is) at closed.1))
+    (λ m later is nobody.
+    inr (ends.Crowded m.from, rw (sym is) at (crowded_closes c before had done later m last t l)))
+
 -- ---- a piece
 
 -- no answer changes what is held of a message to come
@@ -389,14 +474,14 @@ fed_is h sent piece holds =
 fault_told : (c : Configured) (before : List Row) (had : List ℕ) (done : List Telegram)
     (memory : Bool) (text : List ℕ) (end : PeerEnd) (t : Turn)
     → IsLiving c before had done t.book t.session → text ≡ refusal_by (Some end) text []
-    → (e : PeerEnd) × IsDone c before had done text e (tell_last memory text end t).book
+    → refusal_in (Some end) text ≡ text → (e : PeerEnd) × IsDone c before had done text e (tell_last memory text end t).book
     (tell_last memory text end t).session
-fault_told c before had done true text end t l refused = (
+fault_told c before had done true text end t l refused whole = (
   end,
   closes c before had done text end t.book _ t.session _ l (left-grows t.session.talk.on t.book)
-      refl refl refused refl,
+      refl refl refused whole refl,
 )
-fault_told c before had done false text end t l refused = (
+fault_told c before had done false text end t l refused whole = (
   no_memory,
   (let stopped = stops c before had done [] text t.book (end_session no_memory t).book t.session
       (end_session no_memory t).session l (left-grows t.session.talk.on t.book) refl refl in
@@ -416,7 +501,7 @@ refused c before had sent memory fault t is holds (inl l) =
     (λ none. inl (record { living = l; holds = holds; sound = is ∙ none }))
     (λ f some lasts.
     let told = fault_told c before had (stream_of sent).messages memory
-    (spelling (fault_message f)) (ends.Talk (talk.Stream f.fault)) t l refl in
+    (spelling (fault_message f)) (ends.Talk (talk.Stream f.fault)) t l refl refl in
     inr (told.0, rw (is ∙ some) told.1))
     (λ end over. absurd (ended_lasts t.session end over l.lasts))
 refused c before had sent memory fault t is holds (inr d) =
@@ -424,22 +509,25 @@ refused c before had sent memory fault t is holds (inr d) =
     by_fault (λ u. InCourse c before had sent u.book u.session) memory fault t (λ none. inr over)
     (λ f some lasts. absurd (ended_lasts t.session d.0 d.1.over lasts)) (λ end is. inr over)
 
-piece_taken : (c : Configured) (before : List Row) (had sent piece : List ℕ) (g : Grants) (t : Turn)
+piece_taken : (c : Configured) (before : List Row) (had sent piece : List ℕ)
+    (admits : List ℕ → Admission) (g : Grants) (t : Turn)
     → IsHearing c before had sent t.book t.session
-    → InCourse c before had (sent ++ piece) (take_messages g (fed_by t.session.held piece) t).book
-    (take_messages g (fed_by t.session.held piece) t).session
-piece_taken c before had sent piece g t h =
+    → InCourse c before had (sent ++ piece)
+    (take_messages admits g (fed_by t.session.held piece) t).book
+    (take_messages admits g (fed_by t.session.held piece) t).session
+piece_taken c before had sent piece admits g t h =
     let fed = fed_by t.session.held piece in
     let is = fed_is t.session.held sent piece h.holds in
     let start : Turn = record t { session = record t.session { held = held_part fed } } in
     let living = same_living c before had (stream_of sent).messages t.book t.session start.session
     h.living refl refl refl in
-    let came = all_answered c before had (stream_of sent).messages (refusal_text fed.fault)
-    g.messages fed.messages start living in
-    let after = answer_all g.messages fed.messages start in
+    let came = all_admitted c before had (stream_of sent).messages (refusal_text fed.fault)
+    admits g.first g.messages fed.messages start living in
+    let after = admit admits g.first g.messages fed.messages start in
     refused c before had (sent ++ piece) g.refusal fed.fault after
     (ap (λ (s : Stream). s.fault) is)
-    (all_keep (still_held start.session.held) g.messages fed.messages start refl
+    (admitted_keeps (still_held start.session.held) admits g.first g.messages fed.messages start
+    living.lasts refl
     ∙ sym (ap held_part is))
     (subst (λ all. Came c before had all all (refusal_text fed.fault) after.book after.session)
     (sym (ap (λ (s : Stream). s.messages) is)) came)
@@ -459,12 +547,14 @@ piece_lost c before had sent piece t h =
           (left-grows t.session.talk.on t.book) refl refl),
     )
 
-pub hears : (c : Configured) (before : List Row) (had sent piece : List ℕ) (g : Grants) (t : Turn)
+pub hears : (c : Configured) (before : List Row) (had sent piece : List ℕ)
+    (admits : List ℕ → Admission) (g : Grants) (t : Turn)
     → IsHearing c before had sent t.book t.session
-    → InCourse c before had (sent ++ piece) (hear g piece t).book (hear g piece t).session
-hears c before had sent piece g t h =
-    by_memory (λ u. InCourse c before had (sent ++ piece) u.book u.session) g piece t
-    (piece_taken c before had sent piece g t h)
+    → InCourse c before had (sent ++ piece) (hear admits g piece t).book
+    (hear admits g piece t).session
+hears c before had sent piece admits g t h =
+    by_memory (λ u. InCourse c before had (sent ++ piece) u.book u.session) admits g piece t
+    (piece_taken c before had sent piece admits g t h)
     (inr (piece_lost c before had sent piece t h))
 
 -- ---- the end of its octets
@@ -477,6 +567,12 @@ none_refused (ends.Talk talk.OriginatorChanged) = refl
 none_refused (ends.Talk (talk.Stream f)) = refl
 none_refused (ends.Talk talk.Truncated) = refl
 none_refused ends.NoMemory = refl
+none_refused (ends.Barred node) = refl
+none_refused (ends.Crowded node) = refl
+
+none_whole : (end : PeerEnd) → refusal_in (Some end) [] ≡ []
+none_whole (ends.Barred node) = refl
+none_whole end = refl
 
 -- a session that lasts closes, and nothing more is told
 closed : (c : Configured) (before : List Row) (had sent : List ℕ) (end : PeerEnd) (b b' : Book)
@@ -486,7 +582,7 @@ closed c before had sent end b b' x x' h g owed over on = (
   end,
   rw h.sound
       (closes c before had (stream_of sent).messages [] end b b' x x' h.living g
-      (owed ∙ sym (append-nil x.owed)) over (none_refused end) on),
+      (owed ∙ sym (append-nil x.owed)) over (none_refused end) (none_whole end) on),
 )
 
 pub finishes : (c : Configured) (before : List Row) (had sent : List ℕ) (t : Turn)
@@ -498,10 +594,38 @@ finishes c before had sent t h =
 
 -- ---- rows of others
 
+-- a session that has ended forgets nothing
+over_forgotten : (off : Option ℕ) (x : Session) (end : PeerEnd) → x.end ≡ Some end
+    → forget_till off x ≡ x
+over_forgotten None x end over = refl
+over_forgotten (Some t) x end over =
+    ap (λ e. if is_none e
+    then record x { talk = record x.talk { on = without_on t x.talk.on } }
+    else x) over
+
 over_unnoticed : (r : Row) (x : Session) (end : PeerEnd) → x.end ≡ Some end → tell_row r x ≡ x
 over_unnoticed r x end over =
-    ap (λ e. tell_notice (row_notice (listener e x.talk.peer) r) x) over
-    ∙ ap (λ n. tell_notice n x) (nobody_noticed r)
+    ap (λ e. forget_till (row_off r) (tell_notice (row_notice (listener e x.talk.peer) r) x)) over
+    ∙ ap (λ n. forget_till (row_off r) (tell_notice n x)) (nobody_noticed r)
+    ∙ over_forgotten (row_off r) x end over
+
+-- one that lasts forgets the till that was signed off, and nothing else
+record Forgets (off : Option ℕ) (x y : Session) : Type 0 where
+  held : y.held ≡ x.held
+  peer : y.talk.peer ≡ x.talk.peer
+  on : y.talk.on ≡ on_behind off x.talk.on
+  owed : y.owed ≡ x.owed
+  end : y.end ≡ x.end
+
+lasting_forgets : (off : Option ℕ) (x : Session) → x.end ≡ None
+    → Forgets off x (forget_till off x)
+lasting_forgets None x lasts =
+    record { held = refl; peer = refl; on = refl; owed = refl; end = refl }
+lasting_forgets (Some t) x lasts =
+    subst (λ b. Forgets (Some t) x (if b
+    then record x { talk = record x.talk { on = without_on t x.talk.on } }
+    else x)) (sym (ap (λ e. is_none e) lasts))
+    (record { held = refl; peer = refl; on = refl; owed = refl; end = refl })
 
 later_rows : (c : Configured) (before : List Row) (had : List ℕ) (all : List Telegram)
     (last : List ℕ) (end : PeerEnd) (b b' : Book) (x : Session)
@@ -533,34 +657,53 @@ row_passes : (c : Configured) (before : List Row) (had sent : List ℕ) (b : Boo
     (r : Row) → IsHearing c before had sent b x
     → InCourse c before had sent (record b { rows = b.rows ++ r ∷ [] }) (tell_row r x)
 row_passes c before had sent b x r h =
-    subst (InCourse c before had sent (record b { rows = b.rows ++ r ∷ [] }))
-    (sym (ap (λ e. tell_notice (row_notice (listener e x.talk.peer) r) x) h.living.lasts))
+    subst (InCourse c before had sent after)
+    (sym (ap (λ e. forget_till off (tell_notice (row_notice (listener e x.talk.peer) r) x))
+    h.living.lasts))
     (by_notice (row_notice x.talk.peer r) refl)
   where
+    after : Book
+    after = record b { rows = b.rows ++ r ∷ [] }
+
+    off : Option ℕ
+    off = row_off r
+
+    -- told this, and the session lasts
+    goes_on : (y : Session) → y.held ≡ x.held → y.talk ≡ x.talk → y.end ≡ None
+        → y.owed ≡ x.owed ++ octets_of (row_notice x.talk.peer r)
+        → InCourse c before had sent after (forget_till off y)
+    goes_on y held talk lasts owed =
+        let f = lasting_forgets off y lasts in
+        inl (record {
+          living = passes c before had (stream_of sent).messages b after x (forget_till off y) r
+              h.living refl refl (f.peer ∙ ap (λ (t : TalkState). t.peer) talk)
+              (f.on ∙ ap (λ (t : TalkState). on_behind off t.on) talk) (f.end ∙ lasts)
+              (f.owed ∙ owed);
+          holds = f.held ∙ held ∙ h.holds;
+          sound = h.sound;
+        })
+
     by_notice : (n : Option (List ℕ)) → row_notice x.talk.peer r ≡ n
-        → InCourse c before had sent (record b { rows = b.rows ++ r ∷ [] }) (tell_notice n x)
-    by_notice None is = inl (record {
-      living = passes c before had (stream_of sent).messages b _ x x r h.living refl refl refl
-          h.living.lasts (sym (append-nil x.owed) ∙ ap (λ n. x.owed ++ octets_of n) (sym is));
-      holds = h.holds;
-      sound = h.sound;
-    })
+        → InCourse c before had sent after (forget_till off (tell_notice n x))
+    by_notice None is =
+        goes_on x refl refl h.living.lasts
+        (sym (append-nil x.owed) ∙ ap (λ n. x.owed ++ octets_of n) (sym is))
     by_notice (Some octets) is = by_test (nat_lt NOTICE_LIMIT (length x.owed))
       where
         by_test : (behind : Bool)
-            → InCourse c before had sent (record b { rows = b.rows ++ r ∷ [] })
+            → InCourse c before had sent after (forget_till off
             (if behind then record x { end = Some ends.Behind }
-            else record x { owed = x.owed ++ octets })
+            else record x { owed = x.owed ++ octets }))
         by_test true =
-            inr (closed c before had sent ends.Behind b (record b { rows = b.rows ++ r ∷ [] }) x
-            (record x { end = Some ends.Behind }) h
-            (record { more = r ∷ []; rows = refl; same = refl }) refl refl refl)
-        by_test false = inl (record {
-          living = passes c before had (stream_of sent).messages b _ x _ r h.living refl refl refl
-              h.living.lasts (ap (λ n. x.owed ++ octets_of n) (sym is));
-          holds = h.holds;
-          sound = h.sound;
-        })
+            let behind : Session = record x { end = Some ends.Behind } in
+            let still = over_forgotten off behind ends.Behind refl in
+            inr (closed c before had sent ends.Behind b after x (forget_till off behind) h
+            (record { more = r ∷ []; rows = refl; same = refl })
+            (ap (λ (y : Session). y.owed) still) (ap (λ (y : Session). y.end) still)
+            (ap (λ (y : Session). y.talk.on) still))
+        by_test false =
+            goes_on (record x { owed = x.owed ++ octets }) refl refl h.living.lasts
+            (ap (λ n. x.owed ++ octets_of n) (sym is))
 
 row_comes : (c : Configured) (before : List Row) (had sent : List ℕ) (b : Book) (x : Session)
     (r : Row) → InCourse c before had sent b x

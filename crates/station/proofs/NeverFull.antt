@@ -112,6 +112,6 @@ turn_finds_room t memory octets n held few has within lasts =
     lt-leb _ _ (omega (arith, room))
 
 pub stations_are_never_full : StationsAreNeverFull
-stations_are_never_full = λ b ms k x memory octets n there.
-    turn_finds_room (turn_at (after ms (opening_station b)) x) memory octets n
-    (always_few b ms k x there)
+stations_are_never_full = λ g b ms k x memory octets n there.
+    turn_finds_room (turn_at (after ms (opening_station g b)) x) memory octets n
+    (always_few g b ms k x there)

@@ -3,16 +3,22 @@ use Rattle.std.proofs.Common.{◌≡◌, ℕ, Bool, true, false, List, [], ◌�
 use Rattle.std.proofs.Common.{None, Result, Ok, Err, refl, ap, sym, ◌∙◌}
 use Rattle.std.specs.Prelude.{if◌then◌else◌}
 use Rattle.site_base.specs.declared.answer.Answer.{Answer}
-use Rattle.site_base.specs.declared.event.Event.TheVariants.{SignOff}
+use Rattle.site_base.specs.declared.actor.Actor.{Actor}
+use Rattle.site_base.specs.declared.actor.Actor.TheVariants.{Till}
+use Rattle.site_base.specs.declared.event.Event.{Event}
+use Rattle.site_base.specs.declared.event.Event.TheVariants.{SignOff, SignOn}
 use Rattle.site_base.specs.declared.refusal.Refusal.{Refusal}
 use Rattle.site_base.specs.declared.row.Row.{Row}
+use Rattle.site_base.specs.SignChanges.{sign_change}
 use Rattle.app_message.specs.Spelling.{spelling}
 use Rattle.app_message.specs.Telegram.{Telegram}
 use Rattle.device_map.specs.Changes.{change_of, change_where}
 use Rattle.peer_talk.specs.Text.{is_same_node}
 use Rattle.station.specs.Notices.{notice_at, row_notice}
-use Rattle.station.specs.Peers.{listener, tell_row, tell_rows, tell_notice, with_notices}
-use Rattle.station.specs.PeerViews.{is_at, session_noticed, slot_noticed}
+use Rattle.station.specs.Listening.{is_at, listener}
+use Rattle.station.specs.Peers.{forget_till, row_off, tell_notice, tell_row, tell_rows, till_off}
+use Rattle.station.specs.Peers.{with_notices}
+use Rattle.station.specs.PeerViews.{session_noticed, slot_forgotten, slot_noticed}
 use Rattle.station.specs.Sessions.{Session}
 
 -- ---- rows one after another
@@ -38,21 +44,50 @@ with_notices-none (Some x ∷ peers) = ap (λ ps. Some x ∷ ps) (with_notices-n
 
 -- ---- a row without a change
 
-pub unnoticed : (r : Row) (x : Session) → change_of r ≡ None → tell_row r x ≡ x
-unnoticed r x none = ap (λ c. tell_notice (notice_at c (listener x.end x.talk.peer)) x) none
+-- all that it may do is sign a till off
+unnoticed : (r : Row) (x : Session) → change_of r ≡ None → tell_row r x ≡ forget_till (row_off r) x
+unnoticed r x none =
+    ap (λ c. forget_till (row_off r) (tell_notice (notice_at c (listener x.end x.talk.peer)) x)) none
 
 pub with_notices-unchanged : (r : Row) (peers : List (Option Session)) → change_of r ≡ None
-    → with_notices (r ∷ []) peers ≡ peers
-with_notices-unchanged r [] none = refl
-with_notices-unchanged r (None ∷ peers) none =
-    ap (λ ps. None ∷ ps) (with_notices-unchanged r peers none)
-with_notices-unchanged r (Some x ∷ peers) none =
-    ap (λ y. Some y ∷ with_notices (r ∷ []) peers) (unnoticed r x none)
-    ∙ ap (λ ps. Some x ∷ ps) (with_notices-unchanged r peers none)
+    → row_off r ≡ None → with_notices (r ∷ []) peers ≡ peers
+with_notices-unchanged r [] none off = refl
+with_notices-unchanged r (None ∷ peers) none off =
+    ap (λ ps. None ∷ ps) (with_notices-unchanged r peers none off)
+with_notices-unchanged r (Some x ∷ peers) none off =
+    ap (λ y. Some y ∷ with_notices (r ∷ []) peers)
+    (unnoticed r x none ∙ ap (λ o. forget_till o x) off)
+    ∙ ap (λ ps. Some x ∷ ps) (with_notices-unchanged r peers none off)
+
+-- a row that signs this till off
+pub all_forgotten : (r : Row) (t : ℕ) (peers : List (Option Session)) → change_of r ≡ None
+    → row_off r ≡ Some t → map (slot_forgotten t) peers ≡ with_notices (r ∷ []) peers
+all_forgotten r t [] none off = refl
+all_forgotten r t (None ∷ peers) none off =
+    ap (λ ps. None ∷ ps) (all_forgotten r t peers none off)
+all_forgotten r t (Some x ∷ peers) none off =
+    ap (λ y. Some y ∷ map (slot_forgotten t) peers)
+    (ap (λ o. forget_till o x) (sym off) ∙ sym (unnoticed r x none))
+    ∙ ap (λ ps. Some (tell_row r x) ∷ ps) (all_forgotten r t peers none off)
 
 pub no_sign_off_change : (reply : Result Answer Refusal) → change_where SignOff reply ≡ None
 no_sign_off_change (Ok answer) = refl
 no_sign_off_change (Err refusal) = refl
+
+-- a refused row signs nobody off
+pub refused_sign_off : (actor : Actor) (event : Event) (refusal : Refusal)
+    → till_off (sign_change actor event (Err refusal)) ≡ None
+refused_sign_off (Till t) SignOn refusal = refl
+refused_sign_off (Till t) SignOff refusal = refl
+refused_sign_off actor event refusal = refl
+
+-- a row with a change signs nobody off
+changes_sign_off : (actor : Actor) (event : Event) (reply : Result Answer Refusal) (m : Telegram)
+    → change_where event reply ≡ Some m → till_off (sign_change actor event reply) ≡ None
+changes_sign_off actor event (Err refusal) m is = absurd cc
+changes_sign_off (Till t) SignOn (Ok answer) m is = absurd cc
+changes_sign_off (Till t) SignOff (Ok answer) m is = absurd cc
+changes_sign_off actor event (Ok answer) m is = refl
 
 -- ---- nobody
 
@@ -81,6 +116,8 @@ pub session_told : (r : Row) (m : Telegram) (x : Session) → change_of r ≡ So
 session_told r m x is =
     one_noticed m (listener x.end x.talk.peer) x
     ∙ ap (λ c. tell_notice (notice_at c (listener x.end x.talk.peer)) x) (sym is)
+    ∙ ap (λ o. forget_till o (tell_notice (row_notice (listener x.end x.talk.peer) r) x))
+    (sym (changes_sign_off r.actor r.event r.reply m is))
 
 pub all_told : (r : Row) (m : Telegram) (peers : List (Option Session)) → change_of r ≡ Some m
     → map (slot_noticed m.to (spelling m)) peers ≡ with_notices (r ∷ []) peers

@@ -13,11 +13,12 @@ use Rattle.station.specs.Sessions.{Grants, Session, Turn, finish, hear, is_read}
 use Rattle.site_base.specs.declared.row.Row.{Row}
 use Rattle.site_book.specs.Book.{Book}
 use Rattle.station.specs.Hearing.{Hears, finish_if, turn_of}
-use Rattle.station.specs.Moves.{StationState, finish_at, hear_from, rows_since, take_by}
+use Rattle.station.specs.Gates.{GateState, admission}
+use Rattle.station.specs.Moves.{StationState, admits_at, finish_at, hear_from, rows_since, take_by}
 use Rattle.station.specs.Moves.{with_end, with_octets, with_taken, with_turn}
 use Rattle.station.specs.Peers.{tell_rows}
 use Rattle.station.specs.Reads.{owed_to}
-use Rattle.station.proofs.Turns.{left-told}
+use Rattle.station.proofs.Turns.{told_none}
 use Rattle.station.proofs.Peers.{map-with_peer, with_peer-twice}
 
 -- the slot at a place, with any default
@@ -69,11 +70,14 @@ pub sessions_size : (slots : List (Option Peer)) → length (sessions_of slots) 
 sessions_size [] = refl
 sessions_size (p ∷ slots) = omega (arith, sessions_size slots)
 
-pub sessions_next : (slots : List (Option Peer)) (p : Peer)
-    → sessions_of (slots ++ Some p ∷ [])
-    ≡ with_peer (length slots) (Some (session_of p)) (sessions_of slots)
-sessions_next [] p = refl
-sessions_next (q ∷ slots) p = ap (λ ps. option_map session_of q ∷ ps) (sessions_next slots p)
+-- an empty slot more, before the one of a key or at it
+pub alike_next : (k : ℕ) (x : Option Session) (slots : List (Option Peer)) → length slots ≤ k
+    → with_peer k x (sessions_of (slots ++ None ∷ [])) ≡ with_peer k x (sessions_of slots)
+alike_next zero x [] few = refl
+alike_next (suc k) x [] few = refl
+alike_next zero x (q ∷ slots) few = absurd (omega arith)
+alike_next (suc k) x (q ∷ slots) few =
+    ap (λ ps. option_map session_of q ∷ ps) (alike_next k x slots (omega arith))
 
 -- a peer that was taken out, and put back when the others were told
 pub put_back : (k : ℕ) (x : Option Session) (rows : List Row) (peers : List (Option Session))
@@ -113,8 +117,19 @@ put_again : (k : ℕ) (x : Session) (p : Peer) (peers out back : List (Option Se
 put_again k x p peers out back taken put =
     put ∙ ap (with_peer k (Some x)) taken ∙ with_peer-twice k (Some x) None peers
 
-abbrev pub state : Book → List (Option Session) → StationState
-state b peers = record { book = b; peers = peers }
+abbrev pub state : GateState → Book → List (Option Session) → StationState
+state g b peers = record { gates = g; book = b; peers = peers }
+
+-- a peer that is put back when the others were told of the rows of its turn
+put_told : (k : ℕ) (x : Session) (p : Peer) (b b' : Book)
+    (peers out told back : List (Option Session))
+    → out ≡ without_key k (Some p) peers → told ≡ with_notices (rows_since b b') out
+    → back ≡ with_peer k (Some x) told
+    → back ≡ with_peer k (Some x) (with_notices (rows_since b b') peers)
+put_told k x p b b' peers out told back taken tell put =
+    put
+    ∙ ap (with_peer k (Some x)) (tell ∙ ap (with_notices (rows_since b b')) taken)
+    ∙ put_back k (Some x) (rows_since b b') peers
 
 -- A peer is taken out of lent slots, and another one is put into its slot, where they are lent
 -- again.
@@ -140,63 +155,69 @@ moved_back k slots _ taken _ put p x first one kept later two placed there out b
   items = with_items_is (with_items slots taken) put (placed ∙ two);
 }
 
-pub took : (k n : ℕ) (b : Book) (peers out back : List (Option Session)) (p : Peer) (x : Session)
+pub took : (k n : ℕ) (g : GateState) (b : Book) (peers out back : List (Option Session)) (p : Peer) (x : Session)
     → Some (session_of p) ≡ peer_at peers k → out ≡ without_key k (Some p) peers
     → x ≡ record (session_of p) { owed = drop n p.outbox }
     → back ≡ with_peer k (Some x) out
-    → state b back ≡ with_taken k n (state b peers)
-took k n b peers out back p x there taken is put =
-    ap (λ ps. state b ps)
+    → state g b back ≡ with_taken k n (state g b peers)
+took k n g b peers out back p x there taken is put =
+    ap (λ ps. state g b ps)
     (put_again k x p peers out back taken put
     ∙ ap (λ y. with_peer k (Some y) peers) is)
-    ∙ ap (λ y. take_by k n y (state b peers)) there
+    ∙ ap (λ y. take_by k n y (state g b peers)) there
 
-pub finished_there : (k : ℕ) (b b' : Book) (peers out back : List (Option Session)) (p q : Peer)
+-- .. behind a turn
+turned : (k : ℕ) (g : GateState) (b : Book) (q : Peer) (b' : Book) (t : Turn)
+    (peers back : List (Option Session)) → turn_of b' q ≡ t
+    → back ≡ with_peer k (Some (session_of q)) (with_notices (rows_since b b') peers)
+    → state g b' back ≡ with_turn k t (state g b peers)
+turned k g b q b' t peers back is put =
+    ap (state g b') put
+    ∙ ap (λ (u : Turn). state g u.book
+    (with_peer k (Some u.session) (with_notices (rows_since b u.book) peers))) is
+
+pub finished_there : (k : ℕ) (g : GateState) (b b' : Book)
+    (peers out told back : List (Option Session)) (p q : Peer)
     → Some (session_of p) ≡ peer_at peers k → out ≡ without_key k (Some p) peers
     → turn_of b' q ≡ finish_if (turn_of b p)
-    → back ≡ with_peer k (Some (session_of q)) out
-    → state b' back ≡ with_end k (state b peers)
-finished_there k b b' peers out back p q there taken is put =
+    → told ≡ with_notices (rows_since b b') out
+    → back ≡ with_peer k (Some (session_of q)) told
+    → state g b' back ≡ with_end k (state g b peers)
+finished_there k g b b' peers out told back p q there taken is tell put =
     by_test (is_none p.end) is
-    ∙ ap (λ y. finish_at k y (state b peers)) there
+    ∙ ap (λ y. finish_at k y (state g b peers)) there
   where
+    placed : back ≡ with_peer k (Some (session_of q)) (with_notices (rows_since b b') peers)
+    placed = put_told k (session_of q) p b b' peers out told back taken tell put
+
     by_test : (lasts : Bool)
         → turn_of b' q ≡ (if lasts then finish (turn_of b p) else turn_of b p)
-        → state b' back
-        ≡ (if lasts then with_turn k (finish (turn_of b p)) (state b peers) else state b peers)
-    by_test true is =
-        let t = finish (turn_of b p) in
-        let told = left-told p.talk.on b peers in
-        ap (state b') (put_again k (session_of q) p peers out back taken put)
-        ∙ ap (λ (u : Turn). state u.book (with_peer k (Some u.session) peers)) is
-        ∙ ap (λ ps. state t.book (with_peer k (Some t.session) ps)) told
+        → state g b' back
+        ≡ (if lasts then with_turn k (finish (turn_of b p)) (state g b peers)
+        else state g b peers)
+    by_test true is = turned k g b q b' (finish (turn_of b p)) peers back is placed
     by_test false is =
-        ap (state b') (put_again k (session_of q) p peers out back taken put)
-        ∙ ap (λ (u : Turn). state u.book (with_peer k (Some u.session) peers)) is
-        ∙ ap (state b) (stays_there k (session_of p) peers (sym there))
+        turned k g b q b' (turn_of b p) peers back is placed
+        ∙ ap (λ ps. state g b (with_peer k (Some (session_of p)) ps)) (sym (told_none b peers))
+        ∙ ap (state g b) (stays_there k (session_of p) peers (sym there))
 
-pub heard_there : (k : ℕ) (piece : List ℕ) (b b' : Book)
+pub heard_there : (k : ℕ) (g : GateState) (piece : List ℕ) (b b' : Book)
     (peers out told back : List (Option Session)) (p q : Peer)
     → Some (session_of p) ≡ peer_at peers k → out ≡ without_key k (Some p) peers
     → is_read (session_of p) ≡ true
-    → Hears piece (turn_of b p) (turn_of b' q) out told
+    → Hears (admission g out p.door) piece (turn_of b p) (turn_of b' q) out told
     → back ≡ with_peer k (Some (session_of q)) told
-    → (memory : Grants) × (state b' back ≡ with_octets memory k piece (state b peers))
-heard_there k piece b b' peers out told back p q there taken read hears put = (
+    → (memory : Grants) × (state g b' back ≡ with_octets memory k piece (state g b peers))
+heard_there k g piece b b' peers out told back p q there taken read hears put = (
   hears.memory,
-  (let t = hear hears.memory piece (turn_of b p) in
-      let more = rows_since b t.book in
-      let rows : rows_since b b' ≡ more = ap (λ (u : Turn). rows_since b u.book) hears.turn in
-      let last : back ≡ with_peer k (Some (session_of q)) (with_notices more peers) =
-      put
-      ∙ ap (with_peer k (Some (session_of q)))
-      (hears.told ∙ ap (λ rs. with_notices rs out) rows ∙ ap (with_notices more) taken)
-      ∙ put_back k (Some (session_of q)) more peers in
-      ap (state b') last
-      ∙ ap (λ (u : Turn). state u.book (with_peer k (Some u.session) (with_notices more peers)))
+  (let t = hear (admits_at k p.door (state g b peers)) hears.memory piece (turn_of b p) in
+      let is : turn_of b' q ≡ t =
       hears.turn
-      ∙ sym (ap (λ r. if r then with_turn k t (state b peers) else state b peers) read)
-      ∙ ap (λ y. hear_from hears.memory k piece y (state b peers)) there),
+      ∙ ap (λ o. hear (admission g o p.door) hears.memory piece (turn_of b p)) taken in
+      turned k g b q b' t peers back is
+      (put_told k (session_of q) p b b' peers out told back taken hears.told put)
+      ∙ sym (ap (λ r. if r then with_turn k t (state g b peers) else state g b peers) read)
+      ∙ ap (λ y. hear_from hears.memory k piece y (state g b peers)) there),
 )
 
 pub heard_seen : (k : ℕ) (piece : List ℕ) (v w s s' : StationState) → v ≡ w → s ≡ s'

@@ -6,15 +6,16 @@ use Rattle.site_base.specs.Configured.{Configured}
 use Rattle.app_message.specs.Telegram.{Telegram}
 use Rattle.site_book.specs.Book.{Book, whole_book}
 use Rattle.peer_talk.specs.Exchanges.{Asked, outcome_given, rows_made, signed_by, signed_on_after}
-use Rattle.peer_talk.specs.Talks.{GoesOn, TalkState}
+use Rattle.peer_talk.specs.Talks.{GoesOn}
 use Rattle.peer_talk.specs.Text.{messages_text, peer_after}
 use Rattle.peer_talk.proofs.Courses.{on_then}
 use Rattle.station.specs.Notices.{notices_of, octets_of, row_notice}
+use Rattle.station.specs.Peers.{row_off}
 use Rattle.station.specs.Sessions.{Session, opening_text}
 use Rattle.station.specs.Stories.{AreAsked, Happening, IsAskedBy, Passes, Speaks, asked_in}
 use Rattle.station.specs.Stories.{messages_in}
 use Rattle.station.specs.Stories.{notices_due, notices_in, peer_in, reply_to_one, rows_in, said_in}
-use Rattle.station.specs.Stories.{told_in}
+use Rattle.station.specs.Stories.{on_behind, signed_in, told_in}
 use Rattle.station.proofs.Notices.{nobody_noticed}
 
 -- ---- one happening more
@@ -93,12 +94,11 @@ signed-append on [] b = refl
 signed-append on (x ∷ a) b = signed-append (signed_by x.actor x.event x.outcome on) a b
 
 -- the till that is signed on after one happening more
-signed-more : (story : List Happening) (h : Happening)
-    → signed_on_after None (asked_in (story ++ h ∷ []))
-    ≡ signed_on_after (signed_on_after None (asked_in story)) (asked_in (h ∷ []))
-signed-more story h =
-    ap (signed_on_after None) (asked-more story h)
-    ∙ signed-append None (asked_in story) (asked_in (h ∷ []))
+signed-more : (on : Option ℕ) (story : List Happening) (h : Happening)
+    → signed_in on (story ++ h ∷ []) ≡ signed_in (signed_in on story) (h ∷ [])
+signed-more on [] h = refl
+signed-more on (Speaks m asked ∷ story) h = signed-more (signed_on_after on asked) story h
+signed-more on (Passes r ∷ story) h = signed-more (on_behind (row_off r) on) story h
 
 -- ---- own rows are no news to a peer
 
@@ -159,7 +159,7 @@ pub record IsLiving (c : Configured) (before : List Row) (had : List ℕ) (answe
   pub rows : b.rows ≡ before ++ rows_in story
   pub told : had ++ x.owed ≡ told_in c before None story
   pub peer : x.talk.peer ≡ peer_in None story
-  pub signed : x.talk.on ≡ signed_on_after None (asked_in story)
+  pub signed : x.talk.on ≡ signed_in None story
   pub said : GoesOn None x.talk.peer answered (asked_in story) (said_in None story)
   pub messages : messages_in story ≡ answered
   pub asked : AreAsked story
@@ -183,9 +183,10 @@ pub passes : (c : Configured) (before : List Row) (had : List ℕ) (ms : List Te
     (b b' : Book) (x x' : Session) (r : Row)
     → (l : IsLiving c before had ms b x)
     → b'.config ≡ b.config → b'.rows ≡ b.rows ++ r ∷ []
-    → x'.talk ≡ x.talk → x'.end ≡ None → x'.owed ≡ x.owed ++ octets_of (row_notice x.talk.peer r)
+    → x'.talk.peer ≡ x.talk.peer → x'.talk.on ≡ on_behind (row_off r) x.talk.on
+    → x'.end ≡ None → x'.owed ≡ x.owed ++ octets_of (row_notice x.talk.peer r)
     → IsLiving c before had ms b' x'
-passes c before had ms b b' x x' r l same more talk lasts owed =
+passes c before had ms b b' x x' r l same more peer on lasts owed =
     let h = Passes r in
     record {
       story = l.story ++ h ∷ [];
@@ -199,14 +200,14 @@ passes c before had ms b b' x x' r l same more talk lasts owed =
           ∙ grown c before had x.owed (octets_of (row_notice x.talk.peer r)) l.story h l.told
           (ap (λ q. octets_of (row_notice q r)) l.peer
           ∙ sym (append-nil (octets_of (row_notice (peer_in None l.story) r))));
-      peer = ap (λ (t : TalkState). t.peer) talk ∙ l.peer ∙ sym (peer-more None l.story h);
-      signed = ap (λ (t : TalkState). t.on) talk ∙ l.signed ∙ sym (signed-more l.story h);
+      peer = peer ∙ l.peer ∙ sym (peer-more None l.story h);
+      signed = on ∙ ap (on_behind (row_off r)) l.signed ∙ sym (signed-more None l.story h);
       said =
           let asked : asked_in (l.story ++ h ∷ []) ≡ asked_in l.story =
           asked-more l.story h ∙ append-nil (asked_in l.story) in
           let said : said_in None (l.story ++ h ∷ []) ≡ said_in None l.story =
           said-more None l.story h ∙ append-nil (said_in None l.story) in
-          rw (asked, said, talk) l.said;
+          rw (asked, said, peer) l.said;
       messages = messages-more l.story h ∙ append-nil (messages_in l.story) ∙ l.messages;
       asked = are_asked-more l.story h l.asked tt;
       quiet = quiet-more None l.story h l.quiet tt;
@@ -269,9 +270,7 @@ speaks c before had ms b b' x x' m asked text l on same more peer lasts owed qui
           ∙ sym (peer-more None l.story h);
       signed =
           signed ∙ ap (λ o. signed_on_after o asked) l.signed
-          ∙ ap (signed_on_after (signed_on_after None (asked_in l.story)))
-          (sym (append-nil asked))
-          ∙ sym (signed-more l.story h);
+          ∙ sym (signed-more None l.story h);
       said =
           let all : asked_in (l.story ++ h ∷ []) ≡ asked_in l.story ++ asked =
           asked-more l.story h ∙ ap (λ a. asked_in l.story ++ a) (append-nil asked) in

@@ -1,13 +1,16 @@
 -- Rows that a turn of a session adds.
-use Rattle.std.proofs.Common.{◌≡◌, ℕ, Bool, true, false, List, [], ◌∷◌, ◌++◌, length, drop}
-use Rattle.std.proofs.Common.{Option, Some, None, refl, ap, sym, ◌∙◌, append_assoc, append-nil}
+use Rattle.std.proofs.Common.{◌≡◌, ℕ, Bool, true, List, [], ◌∷◌, ◌++◌, length, drop, map}
+use Rattle.std.proofs.Common.{Option, None, refl, ap, sym, ◌∙◌, append_assoc, append-nil}
 use Rattle.std.proofs.Common.{arith}
-use Rattle.std.specs.Prelude.{if◌then◌else◌}
 use Rattle.site_base.specs.declared.actor.Actor.{Actor}
 use Rattle.site_base.specs.declared.actor.Actor.TheVariants.{Till}
 use Rattle.site_base.specs.declared.event.Event.{Event}
 use Rattle.site_base.specs.declared.event.Event.TheVariants.{SignOff}
+use Rattle.site_base.specs.declared.answer.Answer.TheVariants.{Done}
+use Rattle.site_base.specs.declared.refusal.Refusal.{Refusal}
 use Rattle.site_base.specs.declared.row.Row.{Row}
+use Rattle.site_base.specs.Checks.{reply_or}
+use Rattle.site_base.specs.SignChanges.{sign_change}
 use Rattle.app_message.specs.declared.fault.StreamFault.{StreamFault}
 use Rattle.app_message.specs.Telegram.{Telegram}
 use Rattle.site_book.specs.Book.{Book, next_row, site_of_book, with_row_of, with_rows_forgotten}
@@ -15,15 +18,19 @@ use Rattle.site_book.proofs.Books.{forgets_alone}
 use Rattle.written_site.specs.SiteState.{is_signed_on}
 use Rattle.peer_talk.specs.Exchanges.{Outcome, row_made}
 use Rattle.station.specs.Moves.{rows_since}
-use Rattle.station.specs.Peers.{with_notices}
-use Rattle.station.specs.Sessions.{Granted, Session, Turn, answer, answer_all, refuse_by}
+use Rattle.station.specs.Peers.{till_off, with_notices}
+use Rattle.station.specs.PeerViews.{slot_forgotten}
+use Rattle.station.specs.declared.gates.Admission.{Admission}
+use Rattle.station.specs.Sessions.{Granted, Session, Turn, admit, answer, answer_all, refuse_by}
 use Rattle.conversation.specs.Books.{with_outcome}
 use Rattle.station.specs.Sessions.{without_till}
 use Rattle.station.proofs.Keeping.{ForgetsKeep}
-use Rattle.station.proofs.Keeping.{Input, Keeps, RowsKeep, after_input, all_keep, answered_keeps}
+use Rattle.station.proofs.Keeping.{Input, Keeps, RowsKeep, admitted_keeps, after_input, all_keep}
+use Rattle.station.proofs.Keeping.{answered_keeps}
 use Rattle.station.proofs.Keeping.{heard_keeps, left_keeps, refused_keeps, rows_keep}
-use Rattle.station.proofs.Notices.{no_sign_off_change, with_notices-append, with_notices-none}
-use Rattle.station.proofs.Notices.{with_notices-unchanged}
+use Rattle.station.proofs.Notices.{all_forgotten, no_sign_off_change, with_notices-append}
+use Rattle.station.proofs.Notices.{with_notices-none}
+use Rattle.station.proofs.SigningOff.{may_sign_off}
 
 -- a book with more rows
 pub record Grows (earlier later : Book) : Type 0 where
@@ -87,26 +94,24 @@ forgets_none b c g =
 pub more_rows : (b : Book) → RowsKeep (Grows b)
 more_rows b = record {
   asked = λ c m actor event is room g. grows_then b c _ g (with_row-grows c actor event);
+  own = λ c actor event own room g. grows_then b c _ g (with_row-grows c actor event);
   left = λ c t on g. grows_then b c _ g (with_row-grows c (Till t) SignOff);
 }
 
 pub left-grows : (on : Option ℕ) (b : Book) → Grows b (without_till on b)
 left-grows on b = left_keeps (more_rows b) on b (grows_none b)
 
--- nobody is told that a till is left
-pub left-told : (on : Option ℕ) (b : Book) (x : List (Option Session))
-    → x ≡ with_notices (rows_since b (without_till on b)) x
-left-told None b x = told_none b x
-left-told (Some t) b x = by_test (is_signed_on (site_of_book b) t)
-  where
-    by_test : (s : Bool)
-        → x ≡ with_notices (rows_since b (if s then with_row_of b (Till t) SignOff else b)) x
-    by_test true =
-        let row = next_row b (Till t) SignOff in
-        sym (ap (λ rs. with_notices rs x)
-        (since b (with_row_of b (Till t) SignOff) (with_row-grows b (Till t) SignOff))
-        ∙ with_notices-unchanged row x (no_sign_off_change row.reply))
-    by_test false = told_none b x
+-- those that had signed a till on that is left forget that
+pub signed_off-told : (t : ℕ) (b : Book) (x : List (Option Session))
+    → is_signed_on (site_of_book b) t ≡ true
+    → map (slot_forgotten t) x ≡ with_notices (rows_since b (with_row_of b (Till t) SignOff)) x
+signed_off-told t b x on =
+    let row = next_row b (Till t) SignOff in
+    all_forgotten row t x (no_sign_off_change row.reply)
+    (ap (λ (r : Option Refusal). till_off (sign_change (Till t) SignOff (reply_or r Done)))
+    (may_sign_off (site_of_book b) t on))
+    ∙ ap (λ rs. with_notices rs x)
+    (sym (since b (with_row_of b (Till t) SignOff) (with_row-grows b (Till t) SignOff)))
 
 -- ---- what a session does
 
@@ -125,6 +130,12 @@ answered-grows g m t = answered_keeps (turns_grow t.book) g m t (grows_none t.bo
 pub all-grows : (gs : List Granted) (ms : List Telegram) (t : Turn)
     → Grows t.book (answer_all gs ms t).book
 all-grows gs ms t = all_keep (turns_grow t.book) gs ms t (grows_none t.book)
+
+pub admitted-grows : (admits : List ℕ → Admission) (memory : Bool) (gs : List Granted)
+    (ms : List Telegram) (t : Turn) → t.session.end ≡ None
+    → Grows t.book (admit admits memory gs ms t).book
+admitted-grows admits memory gs ms t lasts =
+    admitted_keeps (turns_grow t.book) admits memory gs ms t lasts (grows_none t.book)
 
 pub refused-grows : (memory : Bool) (fault : Option StreamFault) (t : Turn)
     → Grows t.book (refuse_by memory fault t).book

@@ -11,7 +11,7 @@ use Rattle.peer_talk.specs.Exchanges.{signed_on_after}
 use Rattle.peer_talk.specs.Text.{requests_in}
 use Rattle.station.specs.Moves.{StationState}
 use Rattle.station.specs.Peers.{peer_at}
-use Rattle.station.specs.Runs.{Finishes, Leaves, Move, Says}
+use Rattle.station.specs.Runs.{EndsRelease, Finishes, Leaves, Loses, Move, Says}
 use Rattle.station.specs.Sessions.{Session}
 
 -- no row, or the sign-off of this till, if there is one
@@ -31,9 +31,11 @@ pub record AddsRequests (peer : Option (List ℕ)) (on : Option ℕ) (ms : List 
   pub rows : new.rows ≡ (old.rows ++ rows_made asked) ++ left
   pub requests : requests_in peer ms ≡ map request_asked asked ++ unasked
 
--- no octets are heard with a move
+-- no octets are heard with a move, and the station itself asks nothing
 abbrev pub is_silent : Move → Bool
 is_silent (Says memory k octets) = false
+is_silent (EndsRelease on off p) = false
+is_silent (Loses memory p) = false
 is_silent m = true
 
 -- the till that a session that lasts signed on and didn't sign off

@@ -1,5 +1,5 @@
 -- What is done while a session is heard: how far its turn has come, and whom its rows were told.
-use Rattle.std.specs.Prelude.{◌≡◌, ℕ, List, length, Option, is_none, if◌then◌else◌}
+use Rattle.std.specs.Prelude.{◌≡◌, ℕ, Bool, List, length, Option, is_none, if◌then◌else◌}
 use Rattle.site_base.specs.declared.actor.Actor.{Actor}
 use Rattle.site_base.specs.declared.event.Event.{Event}
 use Rattle.app_message.specs.Telegram.{Telegram}
@@ -14,7 +14,8 @@ use Rattle.station.specs.declared.peer_end.PeerEnd.TheVariants as ends
 use Rattle.station.specs.Moves.{rows_since}
 use Rattle.station.specs.Peers.{with_notices}
 use Rattle.station.specs.PeerViews.{session_of}
-use Rattle.station.specs.Sessions.{Granted, Grants, Session, Turn, answer, answer_all}
+use Rattle.station.specs.declared.gates.Admission.{Admission}
+use Rattle.station.specs.Sessions.{Granted, Grants, Session, Turn, admit, answer, answer_all}
 use Rattle.station.specs.Sessions.{end_session, finish, hear}
 
 abbrev pub turn_of : Book → Peer → Turn
@@ -43,6 +44,10 @@ abbrev pub end_behind : Said → Turn → Turn
 end_behind says.Another t = end_session (ends.Talk talk.OriginatorChanged) t
 end_behind said t = t
 
+-- the others are told of the rows that a book got
+abbrev pub AreTold : Book → Book → List (Option Session) → List (Option Session) → Type 0
+AreTold old new others others' = others' ≡ with_notices (rows_since old new) others
+
 -- a message is answered, and the others are told of the row
 pub record Answers (m : Telegram) (old new : Turn) (others others' : List (Option Session)) :
     Type 0 where
@@ -58,9 +63,18 @@ pub record AnswersAll (ms : List Telegram) (old new : Turn)
   pub turn : new ≡ answer_all memory ms old
   pub told : others' ≡ with_notices (rows_since old.book new.book) others
 
+-- messages are answered, the first one of a session if its originator is admitted, and the others
+-- are told of the rows
+pub record Admits (admits : List ℕ → Admission) (ms : List Telegram) (old new : Turn)
+    (others others' : List (Option Session)) : Type 0 where
+  pub first : Bool
+  pub memory : List Granted
+  pub turn : new ≡ admit admits first memory ms old
+  pub told : others' ≡ with_notices (rows_since old.book new.book) others
+
 -- a piece is heard, and the others are told of the rows
-pub record Hears (piece : List ℕ) (old new : Turn) (others others' : List (Option Session)) :
-    Type 0 where
+pub record Hears (admits : List ℕ → Admission) (piece : List ℕ) (old new : Turn)
+    (others others' : List (Option Session)) : Type 0 where
   pub memory : Grants
-  pub turn : new ≡ hear memory piece old
+  pub turn : new ≡ hear admits memory piece old
   pub told : others' ≡ with_notices (rows_since old.book new.book) others

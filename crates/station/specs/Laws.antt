@@ -1,6 +1,6 @@
 -- The laws of the station, over every list of moves, or over every legal history.
 use Rattle.std.specs.Prelude.{◌≡◌, ◌<◌, ◌≤◌, ℕ, true, false, List, ◌++◌, Some, None}
-use Rattle.std.specs.Prelude.{is_some, length}
+use Rattle.std.specs.Prelude.{Option, is_some, length}
 use Rattle.std.specs.List.{AllByRecursion}
 use Rattle.site_base.specs.declared.event.Event.{Event}
 use Rattle.site_base.specs.declared.row.Row.{Row}
@@ -17,6 +17,7 @@ use Rattle.station.specs.Adding.{AddsRequests, AddsSignOff, is_silent, till_left
 use Rattle.station.specs.Knowledge.{learn_all, learn_rows, only_nozzle}
 use Rattle.station.specs.Moves.{StationState, with_arrival, with_octets, without_peer}
 use Rattle.station.specs.Peers.{peer_at}
+use Rattle.station.specs.Gates.{GateState}
 use Rattle.station.specs.Reads.{is_read_at}
 use Rattle.station.specs.Room.{HasRoomFor, with_answers}
 use Rattle.station.specs.Runs.{Move, Stays, after, after_move, heard_of, opening_station, text_to}
@@ -27,9 +28,9 @@ use Rattle.station.specs.Stories.{IsTold}
 -- A peer that arrives, at whatever station, is told its story, whatever moves come until it leaves:
 -- its own, cut in any way, and those of any number of others.
 abbrev pub EachPeerIsToldItsStory : Type 0
-EachPeerIsToldItsStory = (s : StationState) (k : ℕ) (ms : List Move)
+EachPeerIsToldItsStory = (s : StationState) (k : ℕ) (door : Option (List ℕ)) (ms : List Move)
     → peer_at s.peers k ≡ None → Stays k ms
-    → let start = with_arrival k s in
+    → let start = with_arrival k door s in
     (x : Session) × (peer_at (after ms start).peers k ≡ Some x)
     × IsTold s.book.config s.book.rows (after ms start).book.rows (heard_of k ms start)
     (text_to k ms start) x.talk.on x.end
@@ -37,25 +38,25 @@ EachPeerIsToldItsStory = (s : StationState) (k : ℕ) (ms : List Move)
 -- The book's rows are one history, whatever moves come at a station of a book whose rows are one:
 -- moves only add rows, and each reply is the written step's at the site that the rows before it led
 -- to.
-pub record IsOneHistory (b : Book) (ms more : List Move) : Type 0 where
-  pub legal : IsLegal (opening b.config) (after ms (opening_station b)).book.rows
+pub record IsOneHistory (g : GateState) (b : Book) (ms more : List Move) : Type 0 where
+  pub legal : IsLegal (opening b.config) (after ms (opening_station g b)).book.rows
   pub later : List Row
-  pub grows : (after more (after ms (opening_station b))).book.rows
-      ≡ (after ms (opening_station b)).book.rows ++ later
+  pub grows : (after more (after ms (opening_station g b))).book.rows
+      ≡ (after ms (opening_station g b)).book.rows ++ later
 
 abbrev pub RowsAreOneHistory : Type 0
-RowsAreOneHistory = (b : Book) (ms more : List Move) → IsLegal (opening b.config) b.rows
-    → IsOneHistory b ms more
+RowsAreOneHistory = (g : GateState) (b : Book) (ms more : List Move) → IsLegal (opening b.config) b.rows
+    → IsOneHistory g b ms more
 
 -- Right behind the move with which a session ends, the till that it signed on and didn't sign off
 -- isn't signed on.
 abbrev pub EndsLeaveTheirTill : Type 0
-EndsLeaveTheirTill = (b : Book) (ms : List Move) (m : Move) (k : ℕ) (x y : Session)
+EndsLeaveTheirTill = (g : GateState) (b : Book) (ms : List Move) (m : Move) (k : ℕ) (x y : Session)
     (end : PeerEnd) (t : ℕ)
-    → peer_at (after ms (opening_station b)).peers k ≡ Some x → x.end ≡ None
-    → peer_at (after_move m (after ms (opening_station b))).peers k ≡ Some y → y.end ≡ Some end
+    → peer_at (after ms (opening_station g b)).peers k ≡ Some x → x.end ≡ None
+    → peer_at (after_move m (after ms (opening_station g b))).peers k ≡ Some y → y.end ≡ Some end
     → y.talk.on ≡ Some t
-    → is_signed_on (site_of_book (after_move m (after ms (opening_station b))).book) t ≡ false
+    → is_signed_on (site_of_book (after_move m (after ms (opening_station g b))).book) t ≡ false
 
 -- .. nor is it where a peer is gone whose session lasted.
 abbrev pub PeersLeaveTheirTill : Type 0
@@ -74,10 +75,10 @@ pub record HasSession (s : StationState) (t : ℕ) : Type 0 where
 -- Each till that is signed on has such a session, where none was signed on when the station opened.
 -- So where nobody is left, no till is signed on.
 abbrev pub TillsHaveSessions : Type 0
-TillsHaveSessions = (b : Book) (ms : List Move)
+TillsHaveSessions = (g : GateState) (b : Book) (ms : List Move)
     → ((t : ℕ) → is_signed_on (site_of_book b) t ≡ false)
-    → (t : ℕ) → is_signed_on (site_of_book (after ms (opening_station b)).book) t ≡ true
-    → HasSession (after ms (opening_station b)) t
+    → (t : ℕ) → is_signed_on (site_of_book (after ms (opening_station g b)).book) t ≡ true
+    → HasSession (after ms (opening_station g b)) t
 
 -- Requests are asked in the order in which they are heard: with the octets of a peer that is read
 -- from, the book gets the rows of the first of the requests among the messages that they bring, in
@@ -103,9 +104,9 @@ RequestsAreAskedInOrder = (s : StationState) → AreAskedInOrder s
 -- its row, whatever the octets are. For at most 1,031 octets are held of a message to come, and a
 -- message takes eight at least.
 abbrev pub StationsAreNeverFull : Type 0
-StationsAreNeverFull = (b : Book) (ms : List Move) (k : ℕ) (x : Session) (memory : Grants)
+StationsAreNeverFull = (g : GateState) (b : Book) (ms : List Move) (k : ℕ) (x : Session) (memory : Grants)
     (octets : List ℕ) (n : ℕ)
-    → let s = after ms (opening_station b) in
+    → let s = after ms (opening_station g b) in
     let later = with_answers n memory octets (record { book = s.book; session = x }) in
     peer_at s.peers k ≡ Some x → length octets ≤ HEARD_OCTETS → HasRoomFor PIECE_ROWS s.book
     → n < length (fed_by x.held octets).messages → later.session.end ≡ None

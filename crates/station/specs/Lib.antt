@@ -1,4 +1,6 @@
 pub mod Papers
+pub mod Listening
+pub mod Gates
 pub mod PeerViews
 pub mod Standing
 pub mod Knowledge

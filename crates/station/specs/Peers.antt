@@ -1,10 +1,14 @@
 -- The peers of a station by their keys, and what rows tell them.
 use Rattle.std.specs.Prelude.{ℕ, zero, suc, nat_lt, List, [], ◌∷◌, ◌++◌, length, map}
-use Rattle.std.specs.Prelude.{Option, Some, None, option_map, if◌then◌else◌}
+use Rattle.std.specs.Prelude.{Option, Some, None, option_map, is_none, if◌then◌else◌}
 use Rattle.site_base.specs.declared.row.Row.{Row}
-use Rattle.station.specs.declared.peer_end.PeerEnd.{PeerEnd}
+use Rattle.site_base.specs.declared.signing.SignChange.{SignChange}
+use Rattle.site_base.specs.declared.signing.SignChange.TheVariants as changes
+use Rattle.site_base.specs.SignChanges.{sign_change}
+use Rattle.peer_talk.specs.Talks.{without_on}
 use Rattle.station.specs.declared.peer_end.PeerEnd.TheVariants as ends
 use Rattle.station.specs.declared.sizes.TheConstants.{NOTICE_LIMIT}
+use Rattle.station.specs.Listening.{listener}
 use Rattle.station.specs.Notices.{row_notice}
 use Rattle.station.specs.Sessions.{Session}
 
@@ -21,11 +25,6 @@ with_peer zero x (p ∷ peers) = x ∷ peers
 with_peer (suc k) x [] = None ∷ with_peer k x []
 with_peer (suc k) x (p ∷ peers) = p ∷ with_peer k x peers
 
--- whom a session listens for: nobody, once it has ended
-abbrev pub listener : Option PeerEnd → Option (List ℕ) → Option (List ℕ)
-listener None peer = peer
-listener (Some end) peer = None
-
 -- a session is told a notice, if there is one; where it is owed too much, it ends instead
 abbrev pub tell_notice : Option (List ℕ) → Session → Session
 tell_notice None x = x
@@ -34,9 +33,28 @@ tell_notice (Some octets) x =
     then record x { end = Some ends.Behind }
     else record x { owed = x.owed ++ octets }
 
--- .. of a row
+-- the till that a row signs off, if it does
+abbrev pub till_off : Option SignChange → Option ℕ
+till_off (Some (changes.Off t)) = Some t
+till_off (Some (changes.On t)) = None
+till_off None = None
+
+abbrev pub row_off : Row → Option ℕ
+row_off r = till_off (sign_change r.actor r.event r.reply)
+
+-- a session that lasts forgets that it had signed this till on, if there is one
+abbrev pub forget_till : Option ℕ → Session → Session
+forget_till None x = x
+forget_till (Some t) x =
+    if is_none x.end
+    then record x { talk = record x.talk { on = without_on t x.talk.on } }
+    else x
+
+-- .. of a row: its notice, if there is one; and if it signs off a till that the session had signed
+-- on, the session forgets that
 abbrev pub tell_row : Row → Session → Session
-tell_row r x = tell_notice (row_notice (listener x.end x.talk.peer) r) x
+tell_row r x =
+    forget_till (row_off r) (tell_notice (row_notice (listener x.end x.talk.peer) r) x)
 
 -- .. of rows, in order
 abbrev pub tell_rows : List Row → Session → Session

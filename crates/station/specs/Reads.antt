@@ -1,8 +1,8 @@
 -- What the station shows of a peer.
 use Rattle.std.specs.Prelude.{◌≡◌, ◌≢◌, ◌<◌, ◌≤◌, ℕ, Bool, false, List, [], Option}
-use Rattle.std.specs.Prelude.{Some, None, IsSome}
+use Rattle.std.specs.Prelude.{Some, None, IsSome, ◌+◌, ◌*◌, slice_get}
 use Rattle.station.specs.declared.peer_end.PeerEnd.{PeerEnd}
-use Rattle.station.specs.declared.sizes.TheConstants.{PEERS}
+use Rattle.station.specs.declared.sizes.TheConstants.{FREE_PLACES, NODE_SESSIONS, PEERS}
 use Rattle.station.specs.Moves.{StationState, with_arrival}
 use Rattle.station.specs.Peers.{peer_at}
 use Rattle.station.specs.Sessions.{Session, is_read}
@@ -54,8 +54,28 @@ node_of (Some x) = x.talk.peer
 abbrev pub node_at : StationState → ℕ → Option (List ℕ)
 node_at s k = node_of (peer_at s.peers k)
 
--- a peer arrived and got this key, which nobody had; or nothing changed, since every key is taken
+-- A peer arrived at this door, or at none, and got a key of these places, from the first one and
+-- before the last, which nobody had; or nothing changed, since each of them is taken.
+abbrev pub ArrivesAmong : ℕ → ℕ → Option (List ℕ) → Option ℕ → StationState → StationState → Type 0
+ArrivesAmong first last door (Some key) old new =
+    (first ≤ key) × (key < last) × (peer_at old.peers key ≡ None)
+    × (new ≡ with_arrival key door old)
+ArrivesAmong first last door None old new =
+    (new ≡ old) × ((k : ℕ) → first ≤ k → k < last → IsSome (peer_at old.peers k))
+
+-- .. without a door
 abbrev pub Arrives : Option ℕ → StationState → StationState → Type 0
-Arrives (Some key) old new =
-    (key < PEERS) × (peer_at old.peers key ≡ None) × (new ≡ with_arrival key old)
-Arrives None old new = (new ≡ old) × ((k : ℕ) → k < PEERS → IsSome (peer_at old.peers k))
+Arrives key old new = ArrivesAmong 0 FREE_PLACES None key old new
+
+-- the first of a door's places; door after door, each has four
+abbrev pub first_place : ℕ → ℕ
+first_place door = FREE_PLACES + NODE_SESSIONS * door
+
+-- .. at a door, where the station has so many
+abbrev pub arrives_at : Option (List ℕ) → ℕ → Option ℕ → StationState → StationState → Type 0
+arrives_at None door key old new = (key ≡ None) × (new ≡ old)
+arrives_at (Some node) door key old new =
+    ArrivesAmong (first_place door) (first_place (door + 1)) (Some node) key old new
+
+abbrev pub ArrivesAt : ℕ → Option ℕ → StationState → StationState → Type 0
+ArrivesAt door key old new = arrives_at (slice_get old.gates.doors door) door key old new

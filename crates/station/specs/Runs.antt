@@ -3,32 +3,38 @@ use Rattle.std.specs.Prelude.{◌≡◌, ℕ, ◌==◌, Bool, true, false, List,
 use Rattle.std.specs.Prelude.{Option, Some, None, if◌then◌else◌}
 use Rattle.site_book.specs.Book.{Book}
 use Rattle.station.specs.Moves.{StationState, with_arrival, with_end, with_octets, with_taken}
-use Rattle.station.specs.Moves.{without_old_rows, without_peer}
+use Rattle.station.specs.Gates.{GateState}
+use Rattle.station.specs.Moves.{end_release, lose, without_old_rows, without_peer}
 use Rattle.station.specs.Peers.{peer_at}
 use Rattle.station.specs.Reads.{is_read_at, owed_at}
 use Rattle.station.specs.Sessions.{Grants, Session}
 
--- what may come next; where memory is wanting while octets are heard, the move says it
+-- What may come next; where memory is wanting while octets are heard, or for a row of the
+-- station's own, the move says it.
 pub data Move : Type 0 where
-  Arrives : (key : ℕ) → Move
+  Arrives : (key : ℕ) (door : Option (List ℕ)) → Move
   Says : (memory : Grants) (key : ℕ) (octets : List ℕ) → Move
   Takes : (key : ℕ) (n : ℕ) → Move
   Finishes : (key : ℕ) → Move
   Leaves : (key : ℕ) → Move
+  EndsRelease : (on off : Bool) (p : ℕ) → Move
+  Loses : (memory : Bool) (p : ℕ) → Move
   Forgets : Move
 
 -- a key that nobody has is given
-abbrev pub arrive : ℕ → Option Session → StationState → StationState
-arrive k None s = with_arrival k s
-arrive k (Some x) s = s
+abbrev pub arrive : ℕ → Option (List ℕ) → Option Session → StationState → StationState
+arrive k door None s = with_arrival k door s
+arrive k door (Some x) s = s
 
 -- the station after a move
 abbrev pub after_move : Move → StationState → StationState
-after_move (Arrives k) s = arrive k (peer_at s.peers k) s
+after_move (Arrives k door) s = arrive k door (peer_at s.peers k) s
 after_move (Says memory k octets) s = with_octets memory k octets s
 after_move (Takes k n) s = with_taken k n s
 after_move (Finishes k) s = with_end k s
 after_move (Leaves k) s = without_peer k s
+after_move (EndsRelease on off p) s = end_release on off p s
+after_move (Loses memory p) s = lose memory p s
 after_move Forgets s = without_old_rows s
 
 -- .. and after moves, one after another
@@ -36,9 +42,9 @@ abbrev pub after : List Move → StationState → StationState
 after [] s = s
 after (m ∷ ms) s = after ms (after_move m s)
 
--- a station at this book, without peers
-abbrev pub opening_station : Book → StationState
-opening_station b = record { book = b; peers = [] }
+-- a station with these gates at this book, without peers
+abbrev pub opening_station : GateState → Book → StationState
+opening_station g b = record { gates = g; book = b; peers = [] }
 
 -- ---- one peer, until it leaves
 

@@ -26,22 +26,31 @@ use Rattle.peer_talk.specs.Exchanges.{Outcome, signed_by}
 use Rattle.conversation.specs.Books.{outcome_at, with_outcome}
 use Rattle.peer_talk.specs.Talks.{TalkState, opening_talk}
 use Rattle.peer_talk.specs.Text.{left_over, meaning_at, number_text, outcome_text, peer_after}
+use Rattle.station.specs.declared.gates.Admission.{Admission}
+use Rattle.station.specs.declared.gates.Admission.TheVariants as admissions
 use Rattle.station.specs.declared.peer_end.PeerEnd.{PeerEnd}
 use Rattle.station.specs.declared.peer_end.PeerEnd.TheVariants as ends
 use Rattle.station.specs.declared.sizes.TheConstants.{READ_LIMIT}
 use Rattle.station.specs.Notices.{standing_text}
 
--- the octets of a message to come, the talk, the octets that the peer hasn't taken yet, and how the
--- session ended, if it did
+-- the node at whose door the peer came, if it came at one; the octets of a message to come, the
+-- talk, the octets that the peer hasn't taken yet, and how the session ended, if it did
 pub record Session : Type 0 where
+  pub door : Option (List ℕ)
   pub held : Held
   pub talk : TalkState
   pub owed : List ℕ
   pub end : Option PeerEnd
 
 -- of a peer that has said nothing
-abbrev pub opening_session : Session
-opening_session = record { held = held_after []; talk = opening_talk; owed = []; end = None }
+abbrev pub opening_session : Option (List ℕ) → Session
+opening_session door = record {
+  door = door;
+  held = held_after [];
+  talk = opening_talk;
+  owed = [];
+  end = None;
+}
 
 -- it lasts, and its peer takes what it is owed: it is read from
 abbrev pub is_read : Session → Bool
@@ -155,16 +164,37 @@ answer_all gs [] t = t
 answer_all [] (m ∷ ms) t = answer_all [] ms (answer full_grant m t)
 answer_all (g ∷ gs) (m ∷ ms) t = answer_all gs ms (answer g m t)
 
--- ---- what octets do
-
--- was there memory for a piece, for its messages, and for the refusal of its fault
+-- was there memory for a piece, for its messages, for what a first message is told that isn't
+-- heard, and for the refusal of the piece's fault
 pub record Grants : Type 0 where
   pub piece : Bool
   pub messages : List Granted
+  pub first : Bool
   pub refusal : Bool
 
 abbrev pub all_granted : Grants
-all_granted = record { piece = true; messages = []; refusal = true }
+all_granted = record { piece = true; messages = []; first = true; refusal = true }
+
+-- ---- a session's first message
+
+-- The first message of a session is answered, and those behind it; or its originator may not speak
+-- there, and is told so; or it has as many sessions as it may, and is told nothing. Then the session
+-- ends.
+abbrev pub admit_first : Admission → Bool → List Granted → Telegram → List Telegram → Turn → Turn
+admit_first admissions.Welcome memory gs m ms t = answer_all gs (m ∷ ms) t
+admit_first admissions.Barred memory gs m ms t =
+    tell_last memory (number_text m ORIGINATOR_CHANGED) (ends.Barred m.from) t
+admit_first admissions.Crowded memory gs m ms t = end_session (ends.Crowded m.from) t
+
+-- messages are answered; the first one of a session, if its originator is admitted
+abbrev pub admit : (List ℕ → Admission) → Bool → List Granted → List Telegram → Turn → Turn
+admit admits memory gs [] t = t
+admit admits memory gs (m ∷ ms) t =
+    if is_none t.session.talk.peer
+    then admit_first (admits m.from) memory gs m ms t
+    else answer_all gs (m ∷ ms) t
+
+-- ---- what octets do
 
 -- the stream's fault is refused, and the session ends with it, if it lasts
 abbrev pub refuse_by : Bool → Option StreamFault → Turn → Turn
@@ -176,13 +206,15 @@ refuse_by memory (Some f) t =
     else t
 
 -- the messages that a piece brings are answered, and then its fault is refused
-abbrev pub take_messages : Grants → Stream → Turn → Turn
-take_messages g fed t =
+abbrev pub take_messages : (List ℕ → Admission) → Grants → Stream → Turn → Turn
+take_messages admits g fed t =
     refuse_by g.refusal fed.fault
-    (answer_all g.messages fed.messages
+    (admit admits g.first g.messages fed.messages
     (record t { session = record t.session { held = held_part fed } }))
 
 -- a session that lasts hears a piece; where there is no memory for it, it ends
-abbrev pub hear : Grants → List ℕ → Turn → Turn
-hear g piece t =
-    if g.piece then take_messages g (fed_by t.session.held piece) t else end_session no_memory t
+abbrev pub hear : (List ℕ → Admission) → Grants → List ℕ → Turn → Turn
+hear admits g piece t =
+    if g.piece
+    then take_messages admits g (fed_by t.session.held piece) t
+    else end_session no_memory t

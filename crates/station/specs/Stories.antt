@@ -23,6 +23,8 @@ use Rattle.peer_talk.specs.Text.{session_requests, session_text}
 use Rattle.station.specs.declared.peer_end.PeerEnd.{PeerEnd}
 use Rattle.station.specs.declared.peer_end.PeerEnd.TheVariants as ends
 use Rattle.station.specs.Notices.{notices_of, octets_of, row_notice, standing_text}
+use Rattle.peer_talk.specs.Talks.{without_on}
+use Rattle.station.specs.Peers.{row_off}
 use Rattle.station.specs.Sessions.{opening_text}
 
 -- a message of the peer, with the request that it is and its answer, if it is one; or a row that
@@ -30,6 +32,11 @@ use Rattle.station.specs.Sessions.{opening_text}
 pub data Happening : Type 0 where
   Speaks : (message : Telegram) (asked : List Asked) → Happening
   Passes : (row : Row) → Happening
+
+-- the till that a session signed on, behind a row of somebody else that signs this one off
+abbrev pub on_behind : Option ℕ → Option ℕ → Option ℕ
+on_behind None on = on
+on_behind (Some t) on = without_on t on
 
 -- what is said to a message: its part of the session text
 abbrev pub reply_to_one : Option (List ℕ) → Telegram → List Asked → List ℕ
@@ -71,6 +78,12 @@ rows_in [] = []
 rows_in (Speaks m asked ∷ story) = rows_made asked ++ rows_in story
 rows_in (Passes r ∷ story) = r ∷ rows_in story
 
+-- the till that a session signed on and that nobody signed off, after a story
+abbrev pub signed_in : Option ℕ → List Happening → Option ℕ
+signed_in on [] = on
+signed_in on (Speaks m asked ∷ story) = signed_in (signed_on_after on asked) story
+signed_in on (Passes r ∷ story) = signed_in (on_behind (row_off r) on) story
+
 -- what is said to the messages of a story: the session text, as far as the story goes
 abbrev pub said_in : Option (List ℕ) → List Happening → List ℕ
 said_in peer [] = []
@@ -108,25 +121,38 @@ notices_due c rows (Speaks m asked ∷ story) =
     ++ notices_of (Some m.from) (rows_in story)
 notices_due c rows (Passes r ∷ story) = notices_due c (rows ++ r ∷ []) story
 
--- the session's text is whole: it isn't where memory was wanting
+-- the session's text is whole: it isn't where memory was wanting, nor where the first message
+-- wasn't heard
 abbrev pub is_whole : Option PeerEnd → Bool
 is_whole (Some (ends.NoMemory)) = false
+is_whole (Some (ends.Barred node)) = false
+is_whole (Some (ends.Crowded node)) = false
 is_whole end = true
 
--- Each message that was heard is answered, unless memory was wanting or another originator spoke.
+-- Each message that was heard is answered, unless memory was wanting, another originator spoke, or
+-- the first one wasn't admitted.
 abbrev pub is_all_answered : Option PeerEnd → Bool
 is_all_answered (Some (ends.NoMemory)) = false
 is_all_answered (Some (ends.Talk talk.OriginatorChanged)) = false
+is_all_answered (Some (ends.Barred node)) = false
+is_all_answered (Some (ends.Crowded node)) = false
 is_all_answered end = true
 
 -- What a session that ended so is told last, by the refusal of its stream and the messages that
--- weren't answered: another originator that it is another, a fault of the stream its refusal; else
--- nothing.
+-- weren't answered: another originator that it is another, and so one that may not speak there; a
+-- fault of the stream its refusal; else nothing.
 abbrev pub refusal_by : Option PeerEnd → List ℕ → List Telegram → List ℕ
 refusal_by (Some (ends.Talk talk.OriginatorChanged)) last (m ∷ unanswered) =
     number_text m ORIGINATOR_CHANGED
+refusal_by (Some (ends.Barred node)) last (m ∷ unanswered) = number_text m ORIGINATOR_CHANGED
 refusal_by (Some (ends.Talk (talk.Stream f))) last unanswered = last
 refusal_by end last unanswered = []
+
+-- .. as far as it is of the session's text: the refusal of a first message that wasn't heard stands
+-- in its place
+abbrev pub refusal_in : Option PeerEnd → List ℕ → List ℕ
+refusal_in (Some (ends.Barred node)) refusal = []
+refusal_in end refusal = refusal
 
 -- What the peer of a session is told that began behind these rows, where so much was heard of it.
 -- There is a story: its messages are the first of those that were heard, in order, each with the
@@ -135,8 +161,9 @@ refusal_by end last unanswered = []
 -- late rows. The peer is told the text of its story, and last the refusal of its session's end.
 -- What is said in the story is the session text of what was heard, with the answers that its
 -- requests were given, all its requests were asked, and the session is signed on as the till that
--- they leave signed on; where memory was wanting, a front of the text and of the requests. The
--- notices in the story are those that are due.
+-- they, and the rows of others, leave signed on; where memory was wanting, or the first message
+-- wasn't heard, a front of the text and of the requests. The notices in the story are those that
+-- are due.
 pub record IsTold (c : Configured) (before after : List Row) (heard octets : List ℕ)
     (on : Option ℕ) (end : Option PeerEnd) : Type 0 where
   pub story : List Happening
@@ -152,10 +179,10 @@ pub record IsTold (c : Configured) (before after : List Row) (heard octets : Lis
   pub told : octets ≡ told_in c before None story ++ refusal
   pub unsaid : List ℕ
   pub text : session_text (stream_of heard) (map outcome_given (asked_in story))
-      ≡ said_in None story ++ refusal ++ unsaid
+      ≡ said_in None story ++ refusal_in end refusal ++ unsaid
   pub unasked : List (Actor × Event)
   pub requests : session_requests (stream_of heard)
       ≡ map request_asked (asked_in story) ++ unasked
   pub whole : is_whole end ≡ true → (unsaid ≡ []) × (unasked ≡ [])
-  pub signed : is_whole end ≡ true → on ≡ signed_on_after None (asked_in story)
+  pub signed : is_whole end ≡ true → on ≡ signed_in None story
   pub notices : notices_in c before None story ≡ notices_due c before story

@@ -1,18 +1,19 @@
 //! A request at the station's book, and who is told of its row.
 
-ghost use Rattle.std.specs.Prelude.{◌≡◌, ◌≤◌, length, Some, map, option_map};
+ghost use Rattle.std.specs.Prelude.{◌≡◌, ◌≤◌, length, None, Some, map, option_map};
+ghost use Rattle.site_base.specs.Events.{point_named};
 ghost use Rattle.conversation.specs.Books.{IsAskedOf};
 ghost use Rattle.device_map.specs.Changes.{change_by};
-ghost use Rattle.peer_talk.specs.Exchanges.{row_made};
+ghost use Rattle.peer_talk.specs.Exchanges.{change_by as sign_change_by, row_made};
 ghost use Rattle.station.specs.Papers.{IsChangeTo};
 ghost use Rattle.station.specs.declared.sizes.TheConstants.{NOTICE_OCTETS};
-ghost use Rattle.station.specs.Peers.{with_notices};
-ghost use Rattle.station.specs.PeerViews.{session_of, sessions_of, slot_noticed};
+ghost use Rattle.station.specs.Peers.{till_off, with_notices};
+ghost use Rattle.station.specs.PeerViews.{session_of, sessions_of, slot_forgotten, slot_noticed};
 
 use crate::paper::Paper;
 use crate::peer::Peer;
 use conversation::{Asks, ask, fill};
-use site_base::{Actor, Event, FpNo, NoRow, Reply, Row};
+use site_base::{Actor, Event, FpNo, NoRow, Reply, Row, SignChange, TillNo, sign_change};
 use site_book::SiteBook;
 
 /// The book as one peer's messages ask it: the other peers are notified of its rows.
@@ -46,7 +47,7 @@ impl<'a> Asks for AtStation<'a> {
 
 /// Asks the book for a request. Where its row has a change, each of these peers that listens at the
 /// point is told it. The change is written first: without memory for that there is no row.
-fn ask_among(
+pub(crate) fn ask_among(
     book: &mut SiteBook,
     others: &mut [Option<Peer>],
     paper: &mut Paper,
@@ -58,8 +59,73 @@ fn ask_among(
         ≡ with_notices (row_made actor event result) (sessions_of others.old) }
 {
     match event.point() {
-        None => ask(book, actor, event),
+        None => ask_pointless(book, others, actor, event),
         Some(p) => ask_at(book, others, paper, &actor, &event, p),
+    }
+}
+
+/// Asks the book for a request at no point. The sessions that had signed on a till that it signs
+/// off forget that.
+fn ask_pointless(
+    book: &mut SiteBook,
+    others: &mut [Option<Peer>],
+    actor: Actor,
+    event: Event,
+) -> Result<Reply, NoRow>
+    requires pointless { point_named event ≡ None }
+    ensures asked { IsAskedOf book.old actor event result book.new }
+    ensures others { sessions_of others.new
+        ≡ with_notices (row_made actor event result) (sessions_of others.old) }
+{
+    let outcome = ask(book, actor, event);
+    forget_signed_off(others, &actor, &event, &outcome);
+    outcome
+}
+
+/// The sessions that had signed on a till that a request at no point signs off, if it does, forget
+/// that.
+fn forget_signed_off(
+    others: &mut [Option<Peer>],
+    actor: &Actor,
+    event: &Event,
+    outcome: &Result<Reply, NoRow>,
+)
+    requires pointless { point_named event.now ≡ None }
+    ensures { sessions_of others.new
+        ≡ with_notices (row_made actor.now event.now outcome.now) (sessions_of others.old) }
+{
+    if let Some(till) = till_off(actor, event, outcome) {
+        forget_till(others, till);
+    }
+}
+
+/// The till that a request signs off, if it does.
+fn till_off(actor: &Actor, event: &Event, outcome: &Result<Reply, NoRow>) -> Option<TillNo>
+    ensures { result ≡ till_off (sign_change_by actor.now event.now outcome.now) }
+{
+    let Ok(reply) = outcome else { return None };
+    match &sign_change(actor, event, reply) {
+        Some(SignChange::Off(till)) => Some(*till),
+        _ => None,
+    }
+}
+
+/// The sessions that had signed this till on forget that.
+pub(crate) fn forget_till(slots: &mut [Option<Peer>], till: TillNo)
+    ensures { sessions_of slots.new ≡ map (slot_forgotten till) (sessions_of slots.old) }
+{
+    for i in 0..slots.len() {
+        forget_at(&mut slots[i], till);
+    }
+}
+
+/// A session forgets that it had signed this till on, if it had.
+fn forget_at(slot: &mut Option<Peer>, till: TillNo)
+    ensures { option_map session_of slot.new
+        ≡ slot_forgotten till (option_map session_of slot.old) }
+{
+    if let Some(peer) = slot {
+        peer.forget_till(till);
     }
 }
 
@@ -72,6 +138,7 @@ fn ask_at(
     event: &Event,
     p: FpNo,
 ) -> Result<Reply, NoRow>
+    requires point { point_named event.now ≡ Some p }
     ensures asked { IsAskedOf book.old actor.now event.now result book.new }
     ensures others { sessions_of others.new
         ≡ with_notices (row_made actor.now event.now result) (sessions_of others.old) }

@@ -11,6 +11,7 @@
 #![tactic(auto)]
 
 mod asking;
+mod gates;
 mod hearing;
 mod laws;
 mod outbox;
@@ -21,11 +22,14 @@ mod sizes;
 mod slots;
 mod station;
 
+pub use gates::{Admission, Gates};
 pub use laws::{
     each_peer_is_told_its_story, ends_leave_their_till, peers_leave_their_till,
     requests_are_asked_in_order, rows_are_one_history, standing_notices_are_changes,
     standing_notices_tell_what_was_missed, stations_are_never_full, tills_have_sessions,
 };
 pub use peer_end::PeerEnd;
-pub use sizes::{HEARD_OCTETS, NOTICE_LIMIT, PEERS, PIECE_ROWS, READ_LIMIT};
+pub use sizes::{
+    DOORS, FREE_PLACES, HEARD_OCTETS, NODE_SESSIONS, NOTICE_LIMIT, PEERS, PIECE_ROWS, READ_LIMIT,
+};
 pub use station::Station;

@@ -2,8 +2,9 @@
 
 ghost use Rattle.std.specs.Prelude.{◌≡◌, ◌≤◌, None, Some, length, is_none, IfOk};
 ghost use Rattle.station.specs.declared.sizes.TheConstants.{NOTICE_OCTETS};
-ghost use Rattle.station.specs.PeerViews.{is_at, session_of};
-ghost use Rattle.station.specs.Peers.{listener, tell_notice};
+ghost use Rattle.station.specs.Listening.{is_at, listener};
+ghost use Rattle.station.specs.PeerViews.{session_of};
+ghost use Rattle.station.specs.Peers.{forget_till, tell_notice};
 ghost use Rattle.station.specs.Sessions.{is_read, opening_session};
 
 use crate::outbox::Outbox;
@@ -12,12 +13,14 @@ use crate::peer_end::PeerEnd;
 use crate::sizes::{NOTICE_LIMIT, READ_LIMIT};
 use app_message::Decoder;
 use peer_talk::Talk;
-use site_base::NoMemory;
+use site_base::{NoMemory, TillNo};
 use std::alloc::Global;
 
 /// A peer of the station.
 #[derive(Drop)]
 pub struct Peer {
+    /// The node at whose door it came, if it came at one.
+    pub(crate) door: Option<[u8; 2]>,
     pub(crate) decoder: Decoder,
     pub(crate) talk: Talk,
     pub(crate) outbox: Outbox,
@@ -27,10 +30,11 @@ pub struct Peer {
 
 impl Peer {
     /// A peer that has said nothing.
-    pub(crate) fn new(alloc: Global) -> Result<Peer, NoMemory>
-        ensures { IfOk result (λ peer. session_of peer ≡ opening_session) }
+    pub(crate) fn new(alloc: Global, door: Option<[u8; 2]>) -> Result<Peer, NoMemory>
+        ensures { IfOk result (λ peer. session_of peer ≡ opening_session door) }
     {
         Ok(Peer {
+            door,
             decoder: Decoder::new(alloc),
             talk: Talk::new(),
             outbox: Outbox::new(alloc)?,
@@ -59,6 +63,15 @@ impl Peer {
         match (self.end, self.talk.peer()) {
             (None, Some(peer)) => is_same_node(peer, node),
             _ => false,
+        }
+    }
+
+    /// Somebody else has signed this till off: its session forgets that it had signed it on.
+    pub(crate) fn forget_till(&mut self, till: TillNo)
+        ensures { session_of self.new ≡ forget_till (Some till) (session_of self.old) }
+    {
+        if self.lasts() {
+            self.talk.forget_till(till);
         }
     }
 

@@ -1,5 +1,6 @@
 //! How a session of the station ends.
 
+use crate::sizes::NODE_SESSIONS;
 use peer_talk::TalkFault;
 use std::fmt;
 
@@ -14,6 +15,10 @@ pub enum PeerEnd {
     NoMemory,
     /// The peer was owed too much to be told a notice.
     Behind,
+    /// Its first message came from this node, which may not speak there.
+    Barred([u8; 2]),
+    /// Its first message came from this node, which has as many sessions as it may.
+    Crowded([u8; 2]),
 }
 
 impl fmt::Display for PeerEnd {
@@ -23,6 +28,8 @@ impl fmt::Display for PeerEnd {
             PeerEnd::Talk(fault) => write!(f, "fault {}: {fault}", fault.number()),
             PeerEnd::NoMemory => write!(f, "fault 31: out of memory"),
             PeerEnd::Behind => write!(f, "the peer doesn't take what it is owed"),
+            PeerEnd::Barred(_) => write!(f, "it may not speak there"),
+            PeerEnd::Crowded(_) => write!(f, "it has {NODE_SESSIONS} sessions"),
         }
     }
 }

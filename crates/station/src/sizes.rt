@@ -1,9 +1,19 @@
 //! The station's sizes, each written once.
 
 use app_message::{HEADER, LONGEST_BODY};
+use site_base::{POINT_CELLS, TILL_CELLS};
 
-/// The most peers at once.
-pub const PEERS: usize = 1_024;
+/// So many places are for peers that come through no door.
+pub const FREE_PLACES: usize = 1_024;
+
+/// So many sessions a node has at once, at its door or without one.
+pub const NODE_SESSIONS: usize = 4;
+
+/// The most doors: one for each till and each dispenser.
+pub const DOORS: usize = TILL_CELLS + POINT_CELLS;
+
+/// The most peers at once. Behind the free places each door has its own.
+pub const PEERS: usize = FREE_PLACES + DOORS * NODE_SESSIONS;
 
 /// A peer that is owed this many octets, or more, isn't read from.
 pub const READ_LIMIT: usize = 65_536;

@@ -1,24 +1,29 @@
 //! The station: a book and its peers.
 
 ghost use Rattle.std.specs.Prelude.{◌≡◌, ◌<◌, ℕ, [], length, IfNone, IfOk, IfSome, OnErr, OnOk};
-ghost use Rattle.std.specs.Prelude.{◌≤◌, None, IsSome};
+ghost use Rattle.std.specs.Prelude.{◌≤◌, Bool, None, Some};
 ghost use Rattle.site_book.specs.Unpaid.{GoesBy};
-ghost use Rattle.station.specs.Moves.{with_end, with_octets, with_taken, without_old_rows};
-ghost use Rattle.station.specs.Moves.{without_peer};
+ghost use Rattle.station.specs.Gates.{count_at};
+ghost use Rattle.station.specs.Moves.{end_release, is_released_at, lose, with_end, with_octets};
+ghost use Rattle.station.specs.Moves.{with_book, with_own_row, with_release_ended, with_taken};
+ghost use Rattle.station.specs.Moves.{without_old_rows, without_peer};
 ghost use Rattle.station.specs.Peers.{peer_at};
-ghost use Rattle.station.specs.Reads.{Arrives, IsNextOwed, NoneIsOwed, end_at, is_read_at};
+ghost use Rattle.station.specs.Reads.{Arrives, ArrivesAmong, ArrivesAt, IsNextOwed, NoneIsOwed};
+ghost use Rattle.station.specs.Reads.{end_at, is_read_at};
 ghost use Rattle.station.specs.Reads.{node_at, owed_at};
 ghost use Rattle.station.specs.Runs.{opening_station};
-ghost use Rattle.station.specs.Sessions.{Grants};
+ghost use Rattle.station.specs.Sessions.{Grants, without_till};
 
-use crate::hearing::{finish, hear};
+use crate::asking::ask_among;
+use crate::gates::{Gates, count_sessions};
+use crate::hearing::{finish, hear, sign_off};
 use crate::paper::Paper;
 use crate::peer::Peer;
 use crate::peer_end::PeerEnd;
-use crate::sizes::PEERS;
-use crate::slots::{find_peer, free_key, next_owed, put_peer, take_peer};
+use crate::sizes::{FREE_PLACES, NODE_SESSIONS, PEERS};
+use crate::slots::{find_peer, free_key, next_owed, put_peer, reach_key, take_peer};
 use app_message::Messages;
-use site_base::NoMemory;
+use site_base::{Actor, Event, FpNo, NoMemory, PointState, TillNo};
 use site_book::{SiteBook, UnpaidSales};
 use std::alloc::Global;
 use std::marker::Model;
@@ -26,11 +31,13 @@ use std::marker::Model;
 /// A book, and the sessions of all peers at it. A peer has a key from its arrival until it leaves.
 ///
 /// Whoever has the connections makes the moves: a peer arrives, its octets are heard, however they
-/// are cut, what it is owed is taken, its octets end, it leaves. Each move is exact; where memory
-/// is wanting at a message, the request makes no row, or this one session ends, and no other.
+/// are cut, what it is owed is taken, its octets end, it leaves. And the station itself acts: the
+/// house till ends a release, or a dispenser is gone. Each move is exact; where memory is wanting at
+/// a message, the request makes no row, or this one session ends, and no other.
 #[derive(Drop)]
 pub struct Station {
     alloc: Global,
+    gates: Gates,
     book: SiteBook,
     slots: Vec<Option<Peer>>,
     paper: Paper,
@@ -45,18 +52,23 @@ impl Model for Station {
 
     ghost Value = { StationState };
 
-    ghost view = { λ s. record { book = s.book; peers = sessions_of s.slots.items } };
+    ghost view = { λ s. record {
+      gates = s.gates;
+      book = s.book;
+      peers = sessions_of s.slots.items;
+    } };
 
     ghost invariant = { λ s. length s.slots.items ≤ PEERS };
 }
 
 impl Station {
-    /// A station at this book, without peers. It takes no memory.
-    pub fn new(alloc: Global, book: SiteBook) -> Station
-        ensures { result ≡ opening_station book }
+    /// A station with these gates at this book, without peers. It takes no memory.
+    pub fn new(alloc: Global, gates: Gates, book: SiteBook) -> Station
+        ensures { result ≡ opening_station gates book }
     {
         Station {
             alloc,
+            gates,
             book,
             slots: Vec::new(alloc),
             paper: Paper::new(alloc),
@@ -64,7 +76,22 @@ impl Station {
         }
     }
 
-    /// The book. No key above 1,023 is given, by the station's type.
+    /// Who may speak where is said anew: before the first peer arrives, since sessions that have
+    /// begun go on.
+    pub fn set_gates(&mut self, gates: Gates)
+        ensures { self.new ≡ record self.old { gates = gates } }
+    {
+        self.gates = gates;
+    }
+
+    /// The doors and the house till.
+    pub fn gates(&self) -> &Gates
+        ensures { result.now ≡ self.now.gates }
+    {
+        &self.gates
+    }
+
+    /// The book. No key above 1,407 is given, by the station's type.
     pub fn book(&self) -> &SiteBook
         ensures book { result.now ≡ self.now.book }
         ensures keys { (k : ℕ) → PEERS ≤ k → peer_at self.now.peers k ≡ None }
@@ -82,35 +109,51 @@ impl Station {
         unpaid.forget_rows(self.alloc, &mut self.book)
     }
 
-    /// A peer arrives, and gets a key that no other has; None where 1,024 peers are there. Nothing
-    /// changes then, and where memory is wanting.
+    /// A peer arrives without a door, and gets a key below 1,024 that no other has; None where all of
+    /// these are taken. Nothing changes then, and where memory is wanting.
     pub fn arrive(&mut self) -> Result<Option<usize>, NoMemory>
         ensures ok { IfOk result (λ key. Arrives key self.old self.new) }
         ensures err { OnErr result (self.new ≡ self.old) }
     {
-        match free_key(&self.slots) {
-            Some(key) => {
-                let peer = Peer::new(self.alloc)?;
-                put_peer(&mut self.slots, key, peer);
-                Ok(Some(key))
+        self.arrive_among(0, FREE_PLACES, None)
+    }
+
+    /// A peer arrives at the door of this place among the doors, and gets one of its four keys; None
+    /// where each has a peer, and where there is no such door. Nothing changes then, and where
+    /// memory is wanting.
+    pub fn arrive_at(&mut self, door: usize) -> Result<Option<usize>, NoMemory>
+        ensures ok { IfOk result (λ key. ArrivesAt door key self.old self.new) }
+        ensures err { OnErr result (self.new ≡ self.old) }
+    {
+        match self.gates.door(door) {
+            None => Ok(None),
+            Some(node) => {
+                let first = FREE_PLACES + NODE_SESSIONS * door;
+                self.arrive_among(first, first + NODE_SESSIONS, Some(node))
             }
-            None => self.add_slot(),
         }
     }
 
-    /// A peer gets the next key, if there is one.
-    fn add_slot(&mut self) -> Result<Option<usize>, NoMemory>
-        requires { (k : ℕ) → k < length self.old.peers → IsSome (peer_at self.old.peers k) }
-        ensures ok { IfOk result (λ key. Arrives key self.old self.new) }
+    /// A peer arrives at this door, or at none, and gets one of these keys, if one is free.
+    fn arrive_among(
+        &mut self,
+        first: usize,
+        last: usize,
+        door: Option<[u8; 2]>,
+    ) -> Result<Option<usize>, NoMemory>
+        requires { last ≤ PEERS }
+        ensures ok { IfOk result (λ key. ArrivesAmong first last door key self.old self.new) }
         ensures err { OnErr result (self.new ≡ self.old) }
     {
-        let key = self.slots.len();
-        if key >= PEERS {
-            return Ok(None);
+        match free_key(&self.slots, first, last) {
+            None => Ok(None),
+            Some(key) => {
+                let peer = Peer::new(self.alloc, door)?;
+                reach_key(&mut self.slots, key)?;
+                put_peer(&mut self.slots, key, peer);
+                Ok(Some(key))
+            }
         }
-        let peer = Peer::new(self.alloc)?;
-        self.slots.push(Some(peer))?;
-        Ok(Some(key))
     }
 
     /// Is the peer of this key read from? Its session lasts, and it is owed less than 65,536
@@ -140,6 +183,7 @@ impl Station {
                 &mut self.slots,
                 &mut self.paper,
                 &mut self.messages,
+                &self.gates,
                 octets,
             );
             put_peer(&mut self.slots, key, peer);
@@ -182,7 +226,7 @@ impl Station {
         ensures { self.new ≡ with_end key self.old }
     {
         if let Some(mut peer) = take_peer(&mut self.slots, key) {
-            finish(&mut peer, &mut self.book);
+            finish(&mut peer, &mut self.book, &mut self.slots);
             put_peer(&mut self.slots, key, peer);
         }
     }
@@ -213,5 +257,75 @@ impl Station {
             Some(peer) => peer.talk.peer(),
             None => None,
         }
+    }
+
+    /// How many sessions of a node last.
+    pub fn session_count(&self, node: [u8; 2]) -> usize
+        ensures { result ≡ count_at node self.now.peers }
+    {
+        count_sessions(&self.slots, node)
+    }
+
+    /// The house till ends the release of a point, if there is a house till and the point is
+    /// released: the rows SignOn, Terminate, SignOff. A fuelling that has started stays. Where memory
+    /// is wanting for a row, there is none.
+    pub fn end_release(&mut self, p: FpNo)
+        ensures { (on : Bool) × (off : Bool) × (self.new ≡ end_release on off p self.old) }
+    {
+        if let Some(till) = self.gates.house() {
+            if is_released(&self.book, p) {
+                self.end_release_by(till, p);
+            }
+        }
+    }
+
+    /// A till ends the release of a point.
+    fn end_release_by(&mut self, till: TillNo, p: FpNo)
+        ensures { (on : Bool) × (off : Bool)
+            × (self.new ≡ with_release_ended on off till p self.old) }
+    {
+        self.ask(Actor::Till(till), Event::SignOn);
+        self.ask(Actor::Till(till), Event::Terminate(p));
+        self.sign_off(till);
+    }
+
+    /// A till is signed off, where it is signed on.
+    fn sign_off(&mut self, till: TillNo)
+        ensures { self.new ≡ with_book (without_till (Some till) self.old.book) self.old }
+    {
+        sign_off(&mut self.book, &mut self.slots, till);
+    }
+
+    /// The dispenser of a point is gone, if no session of it lasts: the row Offline. Where memory is
+    /// wanting, there is none.
+    pub fn lose_dispenser(&mut self, p: FpNo)
+        ensures { (memory : Bool) × (self.new ≡ lose memory p self.old) }
+    {
+        if self.session_count(device_map::dispenser(p)) == 0 {
+            self.ask(Actor::Dispenser(p), Event::Offline(p));
+        }
+    }
+
+    /// The station asks for the event of an actor, and everybody is told of its row.
+    fn ask(&mut self, actor: Actor, event: Event)
+        ensures { (memory : Bool) × (self.new ≡ with_own_row memory actor event self.old) }
+    {
+        let _ = ask_among(
+            &mut self.book,
+            &mut self.slots,
+            &mut self.paper,
+            actor,
+            event,
+        );
+    }
+}
+
+/// Is a point released, and no nozzle of it lifted?
+fn is_released(book: &SiteBook, p: FpNo) -> bool
+    ensures { result ≡ is_released_at book.now p }
+{
+    match book.point(p) {
+        Some(view) => view.state == PointState::Authorised,
+        None => false,
     }
 }

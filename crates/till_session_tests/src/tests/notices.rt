@@ -5,7 +5,7 @@ use device_map::{change_of, encode_request, reply_of};
 use forecourt_engines::known_site;
 use site_base::{Actor, Event, FpNo, NoMemory, Preset, TillNo};
 use site_book::SiteBook;
-use station::{PeerEnd, Station};
+use station::{Gates, PeerEnd, Station};
 use std::alloc::Global;
 use std::process::Abort;
 use std::test::Fail;
@@ -63,7 +63,8 @@ fn dispenser_hears_of_its_release(rt: HostRuntime) -> Result<(), Fail> {
     let alloc = rt.alloc();
     let till = Actor::Till(TillNo::new(1).expect(&rt, "till 1"));
     let point = FpNo::new(2).expect(&rt, "point 2");
-    let mut station = Station::new(alloc, SiteBook::try_open(alloc, &known_site(alloc)?)?);
+    let book = SiteBook::try_open(alloc, &known_site(alloc)?)?;
+    let mut station = Station::new(alloc, Gates::new(alloc), book);
     let t = station.arrive()?.expect(&rt, "a key");
     let d = station.arrive()?.expect(&rt, "a key");
     assert!(rt; t == 0 && d == 1);

@@ -1,7 +1,7 @@
 use Rattle.std.proofs.Common.{sym}
 use Rattle.std.proofs.lemmas.Result.{err_from_is_err_and}
 use Rattle.station.specs.PeerViews.{sessions_of}
-use Rattle.station.proofs.Answering.{no_change, untold}
+use Rattle.station.proofs.Answering.{no_change, stays_on, untold}
 use Rattle.station.proofs.Notices.{with_notices-none}
 use Rattle.station.proofs.asking.ask_at.Goals as goal
 
@@ -15,3 +15,4 @@ returns-in-None-clause-others c =
     let change = rw c.in-None.is at c.in_ok-write_change.ensures.change in
     untold c.args.actor.now c.args.event.now c.ask.result (sessions_of c.args.others.now)
     (no_change _ _ change)
+    (λ reply. stays_on c.args.actor.now c.args.event.now reply c.args.p c.requires.point)

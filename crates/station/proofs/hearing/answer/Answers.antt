@@ -13,12 +13,13 @@ returns-in-Err c =
     let p = c.args.peer.now in
     let b = c.hear_message.new.book in
     answers_said false m c.hear_message.result c.args.book.now b p _ (sessions_of c.args.others.now)
-    (sessions_of c.hear_message.new.others) c.requires c.hear_message.ensures.means
-    c.hear_message.ensures.asked
-    (c.end_session.ensures
+    (sessions_of c.hear_message.new.others) (sessions_of c.end_session.new.others) c.requires
+    c.hear_message.ensures.means c.hear_message.ensures.asked
+    (c.end_session.ensures.turn
     ∙ ap (λ (x : Session). end_session no_memory (record { book = b; session = x }))
     (c.in-Err.ensures.err ∙ c.hear_message.ensures.talk)
     ∙ said_lost m c.hear_message.result p.talk.peer (heard_turn b p m.from c.hear_message.result))
+    c.end_session.ensures.told
 
 pub returns-in-Ok : goal.returns-in-Ok
 returns-in-Ok c =
@@ -29,12 +30,13 @@ returns-in-Ok c =
     let text : Option (List ℕ) → List ℕ =
     λ q. spelling (said_message m said) ++ opening_text q m.from b in
     answers_said true m said c.args.book.now b p _ (sessions_of c.args.others.now)
-    (sessions_of c.hear_message.new.others) c.requires c.hear_message.ensures.means
-    c.hear_message.ensures.asked
-    (c.end_another.ensures
+    (sessions_of c.hear_message.new.others) (sessions_of c.end_another.new.others) c.requires
+    c.hear_message.ensures.means c.hear_message.ensures.asked
+    (c.end_another.ensures.turn
     ∙ ap (λ (x : Session). end_behind said (record { book = b; session = x })) c.in-Ok.ensures.ok
     ∙ ap (λ (x : Session). end_behind said (with_text (text c.peer-before.result)
     (record { book = b; session = x }))) c.hear_message.ensures.talk
     ∙ ap (λ q. end_behind said (with_text (text q) (heard_turn b p m.from said)))
     c.peer-before.ensures
     ∙ said_put m said p.talk.peer (heard_turn b p m.from said))
+    c.end_another.ensures.told

@@ -11,7 +11,7 @@ returns-in-Some c =
     c.deref_mut-in-Some.ensures.value c.deref_mut-in-Some.ensures.len c.put_peer.auto.slots
     c.in-Some.ensures.peer c.in-Some.ensures.slots c.put_peer.ensures in
     rw (moved.items, ← c.self.view_is)
-    (took c.args.key c.args.n c.self.inside.book (sessions_of slots.items)
+    (took c.args.key c.args.n c.self.inside.gates c.self.inside.book (sessions_of slots.items)
     (sessions_of c.take_peer.new.slots) (sessions_of c.put_peer.new.slots) c.in-Some.peer _
     moved.there moved.out
     (ap (λ o. record (session_of c.in-Some.peer) { owed = o }) c.take.ensures) moved.back)
